@@ -1,0 +1,142 @@
+//! A stream of frames that comes in any pieces.
+
+ghost use Rattle.std.specs.Prelude.{◌≡◌, ◌++◌, [], length, None, IfSome, IsErrOf, IsOkUnless, OnOk, OnErr};
+
+use crate::fault::FrameFault;
+use crate::frame::Frame;
+use crate::front::{Front, front_of};
+use std::alloc::Global;
+use std::marker::Model;
+
+/// The bytes of a stream that were fed and not yet taken in frames.
+///
+/// A life, of bytes in hexadecimal, where frames have a length of at most 100:
+///
+/// | Call | Answer | `rest` after it |
+/// |---|---|---|
+/// | `feed(00 00 00 02 09)` | `Ok` | 5 |
+/// | `take` | `None`: the body is still to come | 5 |
+/// | `feed(61 00 00 00 00 07)` | `Ok` | 11 |
+/// | `take` | the code 9 and the body `61` | 5 |
+/// | `take` | `Empty`: the next length is 0 | 5 |
+/// | `feed(01)`, `take` | `Empty`, from now on | 5 |
+#[derive(Drop)]
+pub struct Framer {
+    // Those before `start` were taken.
+    bytes: Vec<u8>,
+    start: usize,
+    limit: u32,
+    fault: Option<FrameFault>,
+}
+
+impl Model for Framer {
+    ghost use Rattle.std.specs.Prelude.{◌≤◌, drop, vec_len};
+    ghost use Rattle.pb_frame.specs.Stream.{Stream};
+    ghost use Rattle.std.specs.Option.{ForSome};
+    ghost use Rattle.pb_frame.specs.Message.{IsFaulty};
+
+    ghost Value = { Stream };
+
+    ghost view = { λ f. record {
+      limit = f.limit;
+      rest = drop f.start f.bytes.items;
+      fault = f.fault;
+    } };
+
+    // A fault that was told still stands at the front.
+    ghost invariant = { λ f. (f.start ≤ vec_len f.bytes)
+        × ForSome f.fault (IsFaulty f.limit (drop f.start f.bytes.items)) };
+}
+
+impl Framer {
+    ghost use Rattle.std.specs.Borrow.{sem};
+    ghost use Rattle.pb_frame.specs.Message.{IsPartial};
+    ghost use Rattle.pb_frame.specs.Taking.{TakesOnce};
+
+    /// No bytes yet, of frames whose length (the code and the body) is at most `limit` bytes. Takes no
+    /// memory; `alloc` is kept for what is fed.
+    pub fn new(alloc: Global, limit: u32) -> Framer
+        ensures stream { result ≡ record { limit = limit; rest = []; fault = None } }
+        ensures partial { IsPartial limit [] }
+    {
+        Framer {
+            bytes: Vec::new(alloc),
+            start: 0,
+            limit,
+            fault: None,
+        }
+    }
+
+    /// How many bytes were fed and not yet taken in frames: once [`Framer::take`] gave none, how many
+    /// stand behind the last whole frame. Takes no memory.
+    pub fn rest(&self) -> usize
+        ensures { result ≡ length self.now.rest }
+    {
+        self.bytes.len() - self.start
+    }
+
+    /// Adds a piece at the end of what was fed. An `Err` changes nothing: it is `NoMemory`, after which
+    /// the same piece may be fed again, or the bad length that [`Framer::take`] has told, which is
+    /// final.
+    pub fn feed(&mut self, piece: &[u8]) -> Result<(), FrameFault>
+        ensures ok { OnOk result (self.new ≡ record self.old { rest = self.old.rest ++ piece.now }) }
+        ensures err { OnErr result (self.new ≡ self.old) }
+
+        // Once a bad length was told, its fault comes, and no other. Before, only memory is refused.
+        ensures told { IfSome self.old.fault (λ e. IsErrOf result e) }
+        ensures memory { self.old.fault ≡ None → IsOkUnless result FrameFault.NoMemory }
+    {
+        if let Some(fault) = self.fault {
+            return Err(fault);
+        }
+        self.compact();
+        match self.bytes.extend_from_slice(piece) {
+            Ok(()) => Ok(()),
+            Err(_) => Err(FrameFault::NoMemory),
+        }
+    }
+
+    /// Moves what is left to the front, once at least as many bytes before it were taken. So over all
+    /// calls no more bytes are moved than were taken, and what is kept of bytes that were taken is
+    /// less than what is left.
+    fn compact(&mut self)
+        ensures { self.new ≡ self.old }
+    {
+        let left = self.rest();
+        if self.start >= left {
+            self.bytes.copy_within(self.start.., 0);
+            self.bytes.truncate(left);
+            self.start = 0;
+        }
+    }
+
+    /// The next whole frame. `None` where no whole frame is left and no bad length stands there: feed
+    /// more. An `Err` is `Empty` (a length of 0) or `TooLarge` (a length above the limit), once all
+    /// frames before it were taken and its four bytes are there. It is final, since nothing tells
+    /// where a next frame would begin: from then on this call and [`Framer::feed`] answer it, and
+    /// nothing changes. Takes no memory.
+    pub fn take(&mut self) -> Result<Option<Frame<'_>>, FrameFault>
+        ensures* { sem 𝓛 (TakesOnce self.entry result) }
+    {
+        if let Some(fault) = self.fault {
+            return Err(fault);
+        }
+        let start = self.start;
+        match front_of(self.limit, &self.bytes[start..]) {
+            Front::Part => Ok(None),
+            Front::Bad(fault) => {
+                self.fault = Some(fault);
+                Err(fault)
+            }
+            Front::Whole(length) => {
+                let end = start + length;
+                self.start = end;
+                let bytes = self.bytes.as_slice();
+                Ok(Some(Frame {
+                    code: bytes[start + 4],
+                    body: &bytes[start + 5..end],
+                }))
+            }
+        }
+    }
+}

@@ -1,0 +1,38 @@
+//! Messages in frames, on a stream of bytes that comes in any pieces.
+//!
+//! Riak's Protocol Buffers Client API puts each message into a frame: four bytes, the highest first,
+//! that say how long the code and the body are, then the code, then the body. A stream of bytes
+//! *splits* into the messages of its frames, each within a limit, and a rest that begins no whole
+//! frame (`Splits`, in `specs/Message.antt`); each stream does so in one way (`every_stream`,
+//! `one_split`). However the stream is cut, a [`Framer`] gives these messages, in their order
+//! (`any_pieces`), `None` just where all were given and nothing is wrong (`none_left`), and a fault
+//! just where a bad length follows (`bad_length`).
+//!
+//! **Cost.** Feeding and taking `n` bytes takes time in proportion to `n`, whatever the pieces and
+//! whenever frames are taken: a byte is copied once when it comes, and over all calls no more bytes
+//! are moved than were taken. Taking allocates nothing and copies nothing.
+//!
+//! **How it is built.** A buffer, and how much of it was taken: [`Framer::take`] moves that mark
+//! alone, and [`Framer::feed`] moves what is left to the front once it is at most half of the
+//! buffer. [`frame_of`] spells a message.
+#![tactic(auto)]
+
+mod fault;
+mod frame;
+mod framer;
+mod front;
+mod laws;
+mod limits;
+mod spelling;
+
+pub use fault::FrameFault;
+pub use frame::Frame;
+pub use framer::Framer;
+pub use laws::{
+    any_pieces, bad_length, every_stream, first_messages, none_left, one_split, request_limit,
+};
+pub use limits::{LONGEST_BODY, LONGEST_REQUEST};
+pub use spelling::frame_of;
+
+#[cfg(test)]
+mod tests;

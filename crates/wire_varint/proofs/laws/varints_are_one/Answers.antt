@@ -1,0 +1,5 @@
+use Rattle.wire_varint.proofs.Spelling.{IsVarint-unique}
+use Rattle.wire_varint.proofs.laws.varints_are_one.Goals as goal
+
+pub returns : goal.returns
+returns c = IsVarint-unique

@@ -1,0 +1,26 @@
+//! Base 128 varints, the integers of the Protocol Buffers wire encoding: seven bits a byte, the least
+//! significant group first, and the high bit set on every byte but the last.
+//!
+//! A varint's value is the sum of its groups, modulo 2 to the 64 (`value_of`). [`read`] tells the value of the
+//! varint that the bytes begin with (`IsVarint`), in any spelling of at most ten bytes; [`write`] gives
+//! the shortest spelling of a value (`spelling`), which `read` reads back whatever follows it.
+//!
+//! Nothing here takes memory. The numbers below 128, nearly all that stand on a wire, take one test each way.
+//!
+//! Source: the Protocol Buffers documentation, "Encoding", section "Base 128 Varints".
+#![tactic(auto)]
+
+mod fault;
+mod laws;
+mod reading;
+#[cfg(test)]
+mod tests;
+mod writing;
+
+pub use fault::VarintFault;
+pub use laws::{spelling_is_shortest, varints_are_one};
+pub use reading::read;
+pub use writing::{len, write};
+
+/// The most bytes that a varint has: ten groups of seven bits hold any 64-bit value.
+pub const LONGEST_VARINT: usize = 10;
