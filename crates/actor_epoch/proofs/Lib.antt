@@ -1,0 +1,6 @@
+pub mod Pairs
+pub mod Bytes
+pub mod Entries
+pub mod Rising
+pub mod Order
+pub mod Spellings

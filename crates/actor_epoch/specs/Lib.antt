@@ -1,0 +1,5 @@
+pub mod Dots
+pub mod Epochs
+pub mod Contexts
+pub mod Entries
+pub mod Laws

@@ -1,0 +1,142 @@
+//! A context: what a client has seen of a key, as the bytes that it gives back.
+
+ghost use Rattle.std.specs.Prelude.{◌≡◌, IsTrue, IfOk, ◌&&◌};
+ghost use Rattle.std.specs.List.{list_all};
+ghost use Rattle.actor_epoch.specs.Dots.{covers};
+ghost use Rattle.actor_epoch.specs.Entries.{entry_of, entries_of};
+ghost use Rattle.actor_epoch.specs.Contexts.{goes_on, ReadsAs, spelling, is_of_form, is_rising, is_within_limits, entry_bytes};
+
+use crate::actor::Actor;
+use crate::context_pairs::{ContextPairs, ENTRY_LEN};
+use crate::dot::Dot;
+use crate::limits::MOST_ACTORS;
+use byteorder::{BigEndian, ByteOrder};
+use std::alloc::{AllocError, Global};
+use std::marker::Model;
+
+/// The first byte of a context's bytes.
+const FORM: u8 = 1;
+
+/// What a client has seen of a key, as the node gave it: pairs (actor, n), 1 to 64, strictly rising by actor, borrowed
+/// from the bytes that spell them. It covers the dots 1 to n of each pair's actor. Contracts see the list of pairs.
+///
+/// The bytes are this project's own: the byte 1, then 16 bytes a pair, which are vnode id (8), epoch (4) and counter
+/// (4), big-endian, epoch and counter from 1 on. So a key that was written twice in the first life at vnode 65,536 has
+/// the context `01 0000000000010000 00000001 00000002`: the pair of that life's actor and 2, which covers its dots 1
+/// and 2, and not the dot 3 that a later write gets.
+#[derive(Drop)]
+pub struct Context<'a> {
+    count: usize,
+    entries: &'a [u8],
+}
+
+impl<'a> Model for Context<'a> {
+    ghost use Rattle.std.specs.Prelude.{◌≡◌, List, ◌*◌, length, IsTrue};
+    ghost use Rattle.actor_epoch.specs.declared.dot.Dot.{Dot};
+    ghost use Rattle.actor_epoch.specs.Entries.{entries_in};
+    ghost use Rattle.actor_epoch.specs.Contexts.{is_of_form};
+
+    ghost Value = { List Dot };
+
+    ghost view = { λ c. entries_in c.count c.entries.now };
+
+    ghost invariant = { λ c. (length c.entries.now ≡ 16 * c.count) × IsTrue (is_of_form (entries_in c.count c.entries.now)) };
+}
+
+impl<'a> Context<'a> {
+    /// Reads the bytes of a context; None exactly where they spell no 1 to 64 pairs that strictly rise by actor, with
+    /// epochs and counters from 1 on. Takes no memory.
+    pub fn read(bytes: &'a [u8]) -> Option<Context<'a>>
+        ensures { ReadsAs bytes.now result }
+    {
+        let (form, entries) = bytes.split_first()?;
+        let count = entries.len() / ENTRY_LEN;
+        if *form != FORM
+            || entries.len() % ENTRY_LEN != 0
+            || !are_of_form(ContextPairs { count, entries })
+        {
+            return None;
+        }
+        Some(Context { count, entries })
+    }
+
+    /// Its pairs (actor, n), by rising actor.
+    pub fn pairs(&self) -> ContextPairs<'a>
+        ensures { result ≡ self.now }
+    {
+        ContextPairs {
+            count: self.count,
+            entries: self.entries,
+        }
+    }
+
+    /// Whether it has seen a dot: whether the dot's counter is 1 to n in its actor's pair.
+    pub fn covers(&self, dot: &Dot) -> bool
+        ensures { result ≡ covers self.now dot.now }
+    {
+        for (actor, counter) in self.pairs() {
+            if actor == dot.actor && 1 <= dot.counter && dot.counter <= counter {
+                return true;
+            }
+        }
+        false
+    }
+
+    /// The bytes of a context of these pairs, which are 1 to 64, strictly rising by actor, with epochs and counters
+    /// from 1 on (a condition). Refused where there is no memory for the bytes.
+    pub fn write(alloc: Global, pairs: &[(Actor, u32)]) -> Result<Vec<u8>, AllocError>
+        requires { IsTrue (is_of_form (entries_of pairs.now)) }
+        ensures { IfOk result (λ bytes. bytes.items ≡ spelling (entries_of pairs.now)) }
+    {
+        let mut bytes = Vec::with_capacity(alloc, 1 + ENTRY_LEN * pairs.len())?;
+        bytes.push(FORM)?;
+        for pair in pairs {
+            bytes.extend_from_slice(&bytes_of(pair.0, pair.1))?;
+        }
+        Ok(bytes)
+    }
+}
+
+/// Whether pairs are 1 to 64, strictly rising by actor, with epochs and counters from 1 on.
+fn are_of_form(pairs: ContextPairs<'_>) -> bool
+    ensures { result ≡ is_of_form pairs.entry }
+{
+    let count = pairs.len();
+    1 <= count && count <= MOST_ACTORS && are_rising(pairs)
+}
+
+/// Whether pairs are strictly rising by actor, with epochs and counters from 1 on.
+fn are_rising(pairs: ContextPairs<'_>) -> bool
+    ensures { result ≡ (is_rising pairs.entry && list_all is_within_limits pairs.entry) }
+{
+    let mut last: Option<Actor> = None;
+    for (actor, counter) in pairs {
+        if !is_next(last, actor, counter) {
+            return false;
+        }
+        last = Some(actor);
+    }
+    true
+}
+
+/// Whether a pair may follow the last actor: it is above that, and its epoch and counter begin at 1.
+fn is_next(last: Option<Actor>, actor: Actor, counter: u32) -> bool
+    ensures { result ≡ (goes_on last actor && is_within_limits (entry_of (actor, counter))) }
+{
+    let is_above = match last {
+        None => true,
+        Some(last) => last < actor,
+    };
+    is_above && 1 <= actor.epoch && 1 <= counter
+}
+
+/// The 16 bytes of a pair.
+fn bytes_of(actor: Actor, counter: u32) -> [u8; 16]
+    ensures { result ≡ entry_bytes (entry_of (actor, counter)) }
+{
+    let mut bytes = [0; ENTRY_LEN];
+    BigEndian::write_u64(&mut bytes, actor.vnode);
+    BigEndian::write_u32(&mut bytes[8..], actor.epoch);
+    BigEndian::write_u32(&mut bytes[12..], counter);
+    bytes
+}

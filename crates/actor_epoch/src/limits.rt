@@ -1,0 +1,10 @@
+//! The limits of epochs, counters and contexts, each stated here alone.
+
+/// The greatest epoch of a vnode.
+pub const GREATEST_EPOCH: u32 = 4_294_967_295;
+
+/// The greatest counter of an actor.
+pub const GREATEST_COUNTER: u32 = 4_294_967_295;
+
+/// The most actors of a clock, and the most entries of a context.
+pub const MOST_ACTORS: usize = 64;

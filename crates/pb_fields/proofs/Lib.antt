@@ -1,0 +1,4 @@
+pub mod Cases
+pub mod Lists
+pub mod Parts
+pub mod Steps

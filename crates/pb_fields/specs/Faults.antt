@@ -1,0 +1,73 @@
+use Rattle.std.specs.Prelude.{◌≡◌, ◌⊎◌, ℕ, ◌%◌, ◌^◌, ◌<◌, ◌≤◌, List, ◌++◌, length}
+use Rattle.wire_varint.specs.Varint.{IsVarint, EndsWithin, RunsOn}
+use Rattle.pb_fields.specs.Field.{WireField, BeginsWithField}
+use Rattle.pb_fields.specs.declared.fault.FieldFault.{FieldFault}
+use Rattle.pb_fields.specs.declared.fault.FieldFault.TheVariants.{Short, BadVarint, BadKey, BadWire}
+
+-- the bytes begin with a varint of this value, and behind it come these
+abbrev pub BeginsWithVarint : List ℕ → ℕ → List ℕ → Type 0
+BeginsWithVarint bs number behind = (w : List ℕ) × IsVarint w number × (bs ≡ w ++ behind)
+
+-- the wire types behind whose key a varint stands: a value or a length
+abbrev pub WantsVarint : ℕ → Type 0
+WantsVarint wire = (wire ≡ 0) ⊎ (wire ≡ 2)
+
+-- the wire types of a value: varint, eight bytes, length and bytes, four bytes
+abbrev pub IsWireType : ℕ → Type 0
+IsWireType wire = WantsVarint wire ⊎ ((wire ≡ 1) ⊎ (wire ≡ 5))
+
+-- a key of a number that is none, being 0 or too great
+abbrev pub HasNoNumber : ℕ → Type 0
+HasNoNumber key = (2 ^ 32 ≤ key) ⊎ (key < 8)
+
+-- behind the key the value of this wire type goes past the end
+abbrev pub IsPastEnd : ℕ → List ℕ → Type 0
+IsPastEnd wire bs =
+    (WantsVarint wire × EndsWithin bs)
+    ⊎ (((wire ≡ 1) × (length bs < 8))
+    ⊎ (((wire ≡ 2) × (len : ℕ) × (behind : List ℕ) × BeginsWithVarint bs len behind × (length behind < len))
+    ⊎ ((wire ≡ 5) × (length bs < 4))))
+
+-- a varint of more than ten bytes stands in the key's place, or behind the key in a value's or length's
+abbrev pub HasBadVarint : List ℕ → Type 0
+HasBadVarint bs =
+    RunsOn bs ⊎ ((key : ℕ) × (behind : List ℕ) × BeginsWithVarint bs key behind × WantsVarint (key % 8) × RunsOn behind)
+
+-- the key has no number
+abbrev pub HasBadKey : List ℕ → Type 0
+HasBadKey bs = (key : ℕ) × (behind : List ℕ) × BeginsWithVarint bs key behind × HasNoNumber key
+
+-- the key has no known wire type
+abbrev pub HasBadWire : List ℕ → Type 0
+HasBadWire bs = (key : ℕ) × (behind : List ℕ) × BeginsWithVarint bs key behind × ¬ IsWireType (key % 8)
+
+-- the key is whole and its value isn't
+abbrev pub HasShortValue : List ℕ → Type 0
+HasShortValue bs = (key : ℕ) × (behind : List ℕ) × BeginsWithVarint bs key behind × IsPastEnd (key % 8) behind
+
+-- The fault is the first that holds: a bad varint, the end within the key, a bad key, a bad wire type, a value
+-- past the end.
+abbrev pub FirstFault : List ℕ → FieldFault → Type 0
+FirstFault bs BadVarint = HasBadVarint bs
+FirstFault bs BadKey = HasBadKey bs × ¬ HasBadVarint bs
+FirstFault bs BadWire = HasBadWire bs × ¬ HasBadVarint bs × ¬ HasBadKey bs
+FirstFault bs Short = ¬ HasBadVarint bs × (EndsWithin bs ⊎ (HasShortValue bs × ¬ HasBadKey bs × ¬ HasBadWire bs))
+
+-- there are bytes, and they begin with no field
+pub record BeginsNoField (bs : List ℕ) : Type 0 where
+  pub some : 1 ≤ length bs
+  pub none : (field : WireField) (rest : List ℕ) → BeginsWithField bs field rest → ⊥
+
+-- why no varint is at the front
+abbrev pub VarintFails : List ℕ → FieldFault → Type 0
+VarintFails bs Short = EndsWithin bs
+VarintFails bs BadVarint = RunsOn bs
+VarintFails bs BadKey = ⊥
+VarintFails bs BadWire = ⊥
+
+-- why no value of this wire type is at the front
+abbrev pub ValueFails : ℕ → List ℕ → FieldFault → Type 0
+ValueFails wire bs Short = IsPastEnd wire bs
+ValueFails wire bs BadVarint = WantsVarint wire × RunsOn bs
+ValueFails wire bs BadKey = ⊥
+ValueFails wire bs BadWire = ¬ IsWireType wire

@@ -1,0 +1,13 @@
+-- The bodies that are taken so far: of a get of its bucket and key alone, and of a put of a value alone.
+use Rattle.std.specs.Prelude.{◌≡◌, ◌≢◌, ℕ, List, [], ◌++◌}
+use Rattle.riak_msgs.specs.Spelling.{bytes_field}
+
+-- the body begins with a bucket and a key, and both have bytes
+pub record BeginsNamed (body bucket key rest : List ℕ) : Type 0 where
+  pub has_bucket : bucket ≢ []
+  pub has_key : key ≢ []
+  pub fields : body ≡ bytes_field 1 bucket ++ (bytes_field 2 key ++ rest)
+
+-- behind a put's bucket and key stands a content of a value alone
+abbrev pub value_field : List ℕ → List ℕ
+value_field value = bytes_field 4 (bytes_field 1 value)

@@ -1,0 +1,21 @@
+ghost use Rattle.std.specs.Prelude.{◌≡◌, IfOk};
+
+use crate::bytes::Bytes;
+use std::alloc::{AllocError, Global};
+
+/// What can be copied where memory lasts.
+pub trait Copying {
+    /// A copy.
+    fn copied(&self, alloc: Global) -> Result<Self, AllocError>
+        ensures { IfOk result (λ copy. copy ≡ self.now) };
+}
+
+/// A copy of bytes that may be absent.
+pub fn copied_option(bytes: &Option<Bytes>, alloc: Global) -> Result<Option<Bytes>, AllocError>
+    ensures { IfOk result (λ copy. copy ≡ bytes.now) }
+{
+    match bytes {
+        Some(bytes) => Ok(Some(bytes.clone(alloc)?)),
+        None => Ok(None),
+    }
+}

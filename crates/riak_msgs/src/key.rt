@@ -1,0 +1,49 @@
+ghost use Rattle.std.specs.Prelude.{◌≡◌, ◌↔◌, IsTrue, IfOk};
+ghost use Rattle.riak_msgs.specs.KeyOrder.{key_eq};
+ghost use Rattle.riak_msgs.specs.Requests.{default_key};
+
+use crate::bytes::Bytes;
+use std::alloc::{AllocError, Global};
+
+/// The bucket type of a key for which no type is given.
+pub const DEFAULT_TYPE: &[u8] = b"default";
+
+/// What names a value in the store, ordered by bucket type, then bucket, then key, each by its bytes.
+#[derive(Debug, Drop, PartialEq, Eq, PartialOrd, Ord)]
+pub struct Key {
+    pub bucket_type: Bytes,
+    pub bucket: Bytes,
+    pub key: Bytes,
+}
+
+impl Key {
+    /// A key of the default type.
+    pub fn of_default_type(alloc: Global, bucket: &[u8], key: &[u8]) -> Result<Key, AllocError>
+        ensures { IfOk result (λ named. named ≡ default_key bucket.now key.now) }
+    {
+        Ok(Key {
+            bucket_type: Bytes::from_slice(alloc, DEFAULT_TYPE)?,
+            bucket: Bytes::from_slice(alloc, bucket)?,
+            key: Bytes::from_slice(alloc, key)?,
+        })
+    }
+
+    /// A copy.
+    pub fn clone(&self, alloc: Global) -> Result<Key, AllocError>
+        ensures { IfOk result (λ copy. copy ≡ self.now) }
+    {
+        Ok(Key {
+            bucket_type: self.bucket_type.clone(alloc)?,
+            bucket: self.bucket.clone(alloc)?,
+            key: self.key.clone(alloc)?,
+        })
+    }
+
+    /// Whether two keys are one: what `==` answers, said by their bytes.
+    pub fn is_same(&self, other: &Key) -> bool
+        ensures value { result ≡ key_eq self.now other.now }
+        ensures same { IsTrue result ↔ (self.now ≡ other.now) }
+    {
+        self == other
+    }
+}

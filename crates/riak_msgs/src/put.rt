@@ -1,0 +1,76 @@
+ghost use Rattle.std.specs.Prelude.{◌≡◌, IfOk};
+ghost use Rattle.riak_msgs.specs.Replies.{put_reply_body};
+ghost use Rattle.riak_msgs.specs.Requests.{plain_put};
+
+use crate::bytes::Bytes;
+use crate::content::Content;
+use crate::fault::MsgFault;
+use crate::key::Key;
+use crate::message::{Message, put_context, put_each};
+use crate::sequence::Sequence;
+use crate::shown::Shown;
+use crate::sink::Sink;
+use std::alloc::{AllocError, Global};
+
+/// Asks to write a content under a key.
+///
+/// Source: `RpbPutReq` of Riak's Protocol Buffers client API, without the fields that have no effect here.
+#[derive(Debug, Drop)]
+pub struct PutAsk {
+    pub key: Key,
+    /// What the writer has seen. No bytes are no context.
+    pub context: Bytes,
+    pub content: Content,
+    /// The siblings after the put are shown.
+    pub return_body: bool,
+    /// The siblings after the put are shown with empty values.
+    pub return_head: bool,
+    /// Refused where the stored clock isn't that of the context.
+    pub if_not_modified: bool,
+    /// Refused where the key has a value.
+    pub if_none_match: bool,
+}
+
+impl PutAsk {
+    /// Asks to write a value of which nothing is said, under a key of the default type, without context and options.
+    pub fn plain(
+        alloc: Global,
+        bucket: &[u8],
+        key: &[u8],
+        value: &[u8],
+    ) -> Result<PutAsk, AllocError>
+        ensures { IfOk result (λ ask. ask ≡ plain_put bucket.now key.now value.now) }
+    {
+        let key = Key::of_default_type(alloc, bucket, key)?;
+        let mut content = Content::new(alloc);
+        content.value = Bytes::from_slice(alloc, value)?;
+        Ok(PutAsk {
+            key,
+            context: Bytes::new(alloc),
+            content,
+            return_body: false,
+            return_head: false,
+            if_not_modified: false,
+            if_none_match: false,
+        })
+    }
+}
+
+/// Answers a put: what `return_body` or `return_head` asked to be shown, else nothing.
+///
+/// Source: `RpbPutResp` of Riak's Protocol Buffers client API. Its key is never written.
+#[derive(Debug, Drop)]
+pub struct PutReply {
+    pub contents: Sequence<Shown>,
+    /// No bytes are no context.
+    pub context: Bytes,
+}
+
+impl Message for PutReply {
+    ghost spelled = { put_reply_body };
+
+    fn put_into<S: Sink>(&self, out: &mut S) -> Result<(), MsgFault> {
+        put_each(out, 1, self.contents.as_slice())?;
+        put_context(out, 2, &self.context)
+    }
+}

@@ -1,0 +1,10 @@
+use Rattle.std.proofs.Common.{◌≡◌, ◌≤◌, take}
+use Rattle.sibling_register.specs.History.{count_of}
+use Rattle.sibling_register.specs.Entries.{history_of}
+use Rattle.sibling_register.proofs.scans.count_in.Given as goal
+
+abbrev pub invariant-loop-entry : goal.invariant-loop-entry
+invariant-loop-entry g l = record {
+  count : l.count ≡ count_of (history_of (take l.entry-index l.entries)) l.key;
+  bound : l.count ≤ l.entry-index;
+}

@@ -1,0 +1,29 @@
+use Rattle.std.proofs.Common.{arith, ◌≡◌, ◌∙◌, ap, sym, ◌<◌, length, true, false, ◌+◌}
+use Rattle.riak_msgs.specs.KeyOrder.{key_eq}
+use Rattle.sibling_register.specs.Entries.{follow_of}
+use Rattle.sibling_register.proofs.Scanning.{count-own, count-other, siblings-scan_own, siblings-scan_other}
+use Rattle.sibling_register.proofs.scans.siblings_in.Goals as goal
+use Rattle.sibling_register.proofs.scans.siblings_in.Goals.{then-is_same+in_ok-follow, else-is_same}
+
+pub loop-entry-preserved : goal.loop-entry-preserved
+loop-entry-preserved g c =
+    let within : c.loop-entry.entry-index < length c.args.entries.now = omega arith in
+    elim c.if-is_same.branch [
+      | then-is_same+in_ok-follow w ↦
+          let own : key_eq c.entry-item.result.key c.args.key.now ≡ true = cc in
+          record {
+            count = w.count-is ∙ ap (λ n. n + 1) c.loop-entry.invariant.count ∙ sym (count-own _ _ _ _ within c.entry-item.is own);
+            bound = omega arith;
+            numbers = ap (λ v. v.items) w.numbers-is ∙ w.in_ok-follow.ensures.value
+                ∙ ap (λ n. follow_of c.entry-item.result (n + 1) c.loop-entry.numbers.items) c.loop-entry.invariant.count
+                ∙ ap (follow_of c.entry-item.result _) c.loop-entry.invariant.numbers
+                ∙ sym (siblings-scan_own _ _ _ _ within c.entry-item.is own);
+          }
+      | else-is_same w ↦
+          let other : key_eq c.entry-item.result.key c.args.key.now ≡ false = cc in
+          record {
+            count = w.count-is ∙ c.loop-entry.invariant.count ∙ sym (count-other _ _ _ _ within c.entry-item.is other);
+            bound = omega arith;
+            numbers = ap (λ v. v.items) w.numbers-is ∙ c.loop-entry.invariant.numbers ∙ sym (siblings-scan_other _ _ _ _ within c.entry-item.is other);
+          }
+    ]

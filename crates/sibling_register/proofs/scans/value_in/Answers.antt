@@ -1,0 +1,20 @@
+use Rattle.std.proofs.Common.{arith, ◌≡◌, ◌∙◌, ap, sym, ◌<◌, length, true, ◌+◌, take}
+use Rattle.std.proofs.lemmas.List.{take_all}
+use Rattle.riak_msgs.specs.KeyOrder.{key_eq}
+use Rattle.sibling_register.specs.History.{count_of}
+use Rattle.sibling_register.specs.Entries.{history_of}
+use Rattle.sibling_register.proofs.Scanning.{value-found, value-none}
+use Rattle.sibling_register.proofs.scans.value_in.Goals as goal
+
+pub returns-then-count-number : goal.returns-then-count-number
+returns-then-count-number g c =
+    let within : c.loop-entry.entry-index < length c.args.entries.now = omega arith in
+    let own : key_eq c.entry-item.result.key c.args.key.now ≡ true = cc in
+    let n : count_of (history_of (take c.loop-entry.entry-index c.args.entries.now)) c.args.key.now + 1 ≡ c.args.number =
+    ap (λ m. m + 1) (sym c.loop-entry.invariant.count) ∙ c.if-count-number.true in
+    record { value = c.written.ensures.value ∙ sym (value-found _ _ _ _ _ within c.entry-item.is own n) }
+
+pub returns : goal.returns
+returns g c =
+    let all = ap history_of (take_all c.loop-entry.entry-index c.args.entries.now c.loop-entry-test.false) in
+    record { value = sym (value-none c.args.entries.now c.args.key.now c.args.number (λ le. c.loop-entry.invariant.before (rw (c.loop-entry.invariant.count, ap (λ h. count_of h c.args.key.now) all) le))) }

@@ -1,0 +1,65 @@
+-- The plain register's list of accepted commands, oldest first, and the history that it stands for.
+use Rattle.std.specs.Prelude.{List, ◌∷◌, ℕ, map, reverse, filter, nat_lt, if◌then◌else◌, Option, Some, None}
+use Rattle.sibling_register.specs.declared.entry.Entry.{Entry}
+use Rattle.sibling_register.specs.declared.deed.Deed.{Deed as EntryDeed}
+use Rattle.sibling_register.specs.declared.deed.Deed.TheVariants.{Write as EntryWrite, Tombstone as EntryTombstone, Reap as EntryReap}
+use Rattle.sibling_register.specs.declared.planned.Planned.{Planned}
+use Rattle.sibling_register.specs.declared.get.Get.{Get}
+use Rattle.sibling_register.specs.declared.put.Put.{Put}
+use Rattle.sibling_register.specs.History.{Deed, Write, Tombstone, Reap, Event, numbers_to, is_update}
+use Rattle.sibling_register.specs.Answers.{Told, GetCommand, PutCommand, Outcome, Answers, Accepts}
+use Rattle.sibling_register.specs.Counting.{context_at}
+use Rattle.sibling_register.specs.Plain.{told_of}
+
+module _ {V : Type 0} where
+  -- the deed that an entry's stands for
+  abbrev pub deed_of : EntryDeed V → Deed V
+  deed_of (EntryWrite content) = Write content
+  deed_of EntryTombstone = Tombstone
+  deed_of EntryReap = Reap
+
+  -- an entry saw the sequence numbers up to one
+  abbrev pub event_of : Entry V → Event V ℕ
+  event_of entry = record { key = entry.key; deed = deed_of entry.deed; context = entry.context; saw = numbers_to entry.saw }
+
+  abbrev pub history_of : List (Entry V) → List (Event V ℕ)
+  history_of entries = reverse (map event_of entries)
+
+  -- the siblings after an entry more of the key, which has this sequence number
+  abbrev pub follow_of : Entry V → ℕ → List ℕ → List ℕ
+  follow_of entry number before =
+      let rest = filter (λ n. nat_lt entry.saw n) before in
+      if is_update (deed_of entry.deed) then number ∷ rest else rest
+
+  abbrev pub outcome_by : Told ℕ → Option (Entry V) → Outcome V ℕ
+  outcome_by told None = Answers told
+  outcome_by told (Some entry) = Accepts (event_of entry) told
+
+  -- what comes of what was planned
+  abbrev pub outcome_of : Planned V → Outcome V ℕ
+  outcome_of planned = outcome_by (told_of planned.told) planned.entry
+
+  -- the history with an entry more, where there is one
+  abbrev pub kept_of : List (Event V ℕ) → Option (Entry V) → List (Event V ℕ)
+  kept_of history None = history
+  kept_of history (Some entry) = event_of entry ∷ history
+
+  -- a get and a put, the position that each gives read as a context
+  abbrev pub get_of : List (Event V ℕ) → Get → GetCommand ℕ
+  get_of history get = record {
+    key = get.key;
+    if_modified = context_at history get.key get.if_modified;
+    head = get.head;
+    deletedvclock = get.deletedvclock;
+  }
+
+  abbrev pub put_of : List (Event V ℕ) → Put V → PutCommand V ℕ
+  put_of history put = record {
+    key = put.key;
+    context = context_at history put.key put.context;
+    value = put.value;
+    return_body = put.return_body;
+    return_head = put.return_head;
+    if_not_modified = put.if_not_modified;
+    if_none_match = put.if_none_match;
+  }

@@ -1,0 +1,11 @@
+pub mod History
+pub mod Siblings
+pub mod Naming
+pub mod Refusals
+pub mod Answers
+pub mod Legal
+pub mod Leaving
+pub mod Counting
+pub mod Plans
+pub mod Plain
+pub mod Entries

@@ -1,0 +1,54 @@
+ghost use Rattle.std.specs.Prelude.{◌≡◌, IfOk, is_none, ◌&&◌, ◌==◌, length};
+ghost use Rattle.sibling_register.specs.Answers.{AskDel};
+ghost use Rattle.sibling_register.specs.Counting.{context_at};
+ghost use Rattle.sibling_register.specs.Plain.{IsPosition};
+ghost use Rattle.sibling_register.specs.Plans.{plain_outcome};
+ghost use Rattle.sibling_register.specs.Entries.{history_of, outcome_of};
+
+use super::deed::Deed;
+use super::entry::Entry;
+use super::planned::Planned;
+use super::refusals::TOO_MANY_SIBLINGS;
+use super::scans::count_at;
+use super::standing::Standing;
+use super::told::Told;
+use riak_msgs::Key;
+use std::alloc::{AllocError, Global};
+
+/// Whether a delete does nothing: it gives no context, and its key is absent.
+fn is_idle(named: Option<u64>, standing: &Standing) -> bool
+    ensures value { result ≡ (is_none named && (length standing.now.siblings.items == 0)) }
+{
+    named.is_none() && standing.siblings.is_empty()
+}
+
+/// What comes of a delete.
+pub(crate) fn plan_del<V>(
+    alloc: Global,
+    entries: &[Entry<V>],
+    key: Key,
+    context: Option<u64>,
+) -> Result<Planned<V>, AllocError>
+    requires { IsPosition (history_of entries.now) context }
+    ensures value { IfOk result (λ planned. outcome_of planned ≡ plain_outcome (history_of entries.now) (AskDel (record { key = key; context = context_at (history_of entries.now) key context }))) }
+{
+    let standing = Standing::of(alloc, entries, &key)?;
+    let named = count_at(entries, &key, context);
+    if is_idle(named, &standing) {
+        return Ok(Planned::answer(Told::Done));
+    }
+    let saw = named.unwrap_or(standing.count);
+    if standing.has_too_many(saw) {
+        return Ok(Planned::answer(Told::Refused(TOO_MANY_SIBLINGS)));
+    }
+    let entry = Entry {
+        key,
+        deed: Deed::Tombstone,
+        context: named,
+        saw,
+    };
+    Ok(Planned {
+        told: Told::Done,
+        entry: Some(entry),
+    })
+}

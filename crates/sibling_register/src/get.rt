@@ -1,0 +1,68 @@
+ghost use Rattle.std.specs.Prelude.{◌≡◌, IfOk, [], false};
+ghost use Rattle.sibling_register.specs.Answers.{AskGet, Shown};
+ghost use Rattle.sibling_register.specs.Plain.{IsPosition, told_of};
+ghost use Rattle.sibling_register.specs.Plans.{plain_outcome};
+ghost use Rattle.sibling_register.specs.Entries.{history_of, outcome_of, get_of};
+
+use super::entry::Entry;
+use super::numbers::Numbers;
+use super::planned::Planned;
+use super::scans::count_at;
+use super::standing::Standing;
+use super::told::Told;
+use riak_msgs::Key;
+use std::alloc::{AllocError, Global};
+
+/// A get, as its command gives it.
+#[derive(Drop)]
+pub(crate) struct Get {
+    pub(crate) key: Key,
+    pub(crate) if_modified: Option<u64>,
+    pub(crate) head: bool,
+    pub(crate) deletedvclock: bool,
+}
+
+/// Shows no siblings.
+fn none_shown(alloc: Global, place: Option<u64>, unchanged: bool) -> Told
+    ensures value { told_of result ≡ Shown [] place unchanged false }
+{
+    Told::Shown {
+        siblings: Numbers::new(Vec::new(alloc)),
+        place,
+        unchanged,
+        bare: false,
+    }
+}
+
+/// What comes of a get.
+pub(crate) fn plan_get<V>(
+    alloc: Global,
+    entries: &[Entry<V>],
+    get: Get,
+) -> Result<Planned<V>, AllocError>
+    requires { IsPosition (history_of entries.now) get.if_modified }
+    ensures value { IfOk result (λ planned. outcome_of planned ≡ plain_outcome (history_of entries.now) (AskGet (get_of (history_of entries.now) get))) }
+{
+    let standing = Standing::of(alloc, entries, &get.key)?;
+    let is_name = count_at(entries, &get.key, get.if_modified) == Some(standing.count);
+    let position = Some(entries.len() as u64);
+    let told = if standing.siblings.is_empty() {
+        none_shown(alloc, None, false)
+    } else if !standing.is_present {
+        none_shown(
+            alloc,
+            if get.deletedvclock { position } else { None },
+            false,
+        )
+    } else if is_name {
+        none_shown(alloc, None, true)
+    } else {
+        Told::Shown {
+            siblings: Numbers::new(standing.siblings),
+            place: position,
+            unchanged: false,
+            bare: get.head,
+        }
+    };
+    Ok(Planned { told, entry: None })
+}

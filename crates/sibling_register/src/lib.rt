@@ -1,0 +1,39 @@
+//! The sibling register: what a store that keeps siblings answers, told by its whole history.
+//!
+//! A history lists what was accepted, newest first (`specs/History`). A key's siblings are its writes and tombstones
+//! that no later accepted command of it saw (`specs/Siblings`). A context names a position of a key, and a command saw
+//! the key's events up to there (`specs/Naming`). So each answer is told by the history alone, with no counters, epochs,
+//! locks or forgetting (`specs/Answers`), and a history is legal where each event may follow those before it
+//! (`specs/Legal`). Any naming will do: who shows other contexts says what they are, and is measured by the same words.
+//!
+//! [`PlainRegister`] is the register as a program, slow and short: a list of all accepted commands, which each call
+//! reads from its start. [`values_leave_only_seen`] and [`counting_is_a_naming`] are laws of the definitions.
+#![tactic(auto)]
+
+mod command;
+mod deed;
+mod del;
+mod entry;
+mod fault;
+mod get;
+mod laws;
+mod numbers;
+mod planned;
+mod put;
+mod reap;
+mod refusals;
+mod register;
+mod scans;
+mod standing;
+mod told;
+
+pub use command::Command;
+pub use fault::RegisterFault;
+pub use laws::{counting_is_a_naming, values_leave_only_seen};
+pub use numbers::Numbers;
+pub use refusals::{MATCH_FOUND, MODIFIED, MOST_SIBLINGS, NOT_FOUND, TOO_MANY_SIBLINGS};
+pub use register::PlainRegister;
+pub use told::Told;
+
+#[cfg(test)]
+mod tests;

@@ -1,0 +1,79 @@
+ghost use Rattle.std.specs.Prelude.{◌≡◌, IfOk};
+ghost use Rattle.sibling_register.specs.Answers.{Answers};
+ghost use Rattle.sibling_register.specs.Plain.{asked, told_of, GivesPositions};
+ghost use Rattle.sibling_register.specs.Plans.{plain_outcome};
+ghost use Rattle.sibling_register.specs.Entries.{history_of, outcome_of};
+
+use super::command::Command;
+use super::del::plan_del;
+use super::entry::Entry;
+use super::get::{Get, plan_get};
+use super::put::{Put, plan_put};
+use super::reap::plan_reap;
+use super::told::Told;
+use std::alloc::{AllocError, Global};
+
+/// What a command is answered, and the entry that is then kept of it.
+#[derive(Drop)]
+pub(crate) struct Planned<V> {
+    pub(crate) told: Told,
+    pub(crate) entry: Option<Entry<V>>,
+}
+
+impl<V> Planned<V> {
+    /// An answer of which nothing is kept.
+    pub(crate) fn answer(told: Told) -> Self
+        ensures value { outcome_of result ≡ Answers (told_of told) }
+    {
+        Planned { told, entry: None }
+    }
+}
+
+/// What comes of a command.
+pub(crate) fn plan<V: Drop>(
+    alloc: Global,
+    entries: &[Entry<V>],
+    command: Command<V>,
+) -> Result<Planned<V>, AllocError>
+    requires { GivesPositions (history_of entries.now) command }
+    ensures value { IfOk result (λ planned. outcome_of planned ≡ plain_outcome (history_of entries.now) (asked (history_of entries.now) command)) }
+{
+    match command {
+        Command::Get {
+            key,
+            if_modified,
+            head,
+            deletedvclock,
+        } => {
+            let get = Get {
+                key,
+                if_modified,
+                head,
+                deletedvclock,
+            };
+            plan_get(alloc, entries, get)
+        }
+        Command::Put {
+            key,
+            context,
+            value,
+            return_body,
+            return_head,
+            if_not_modified,
+            if_none_match,
+        } => {
+            let put = Put {
+                key,
+                context,
+                value,
+                return_body,
+                return_head,
+                if_not_modified,
+                if_none_match,
+            };
+            plan_put(alloc, entries, put)
+        }
+        Command::Del { key, context } => plan_del(alloc, entries, key, context),
+        Command::Reap { key } => plan_reap(alloc, entries, key),
+    }
+}

@@ -1,0 +1,101 @@
+ghost use Rattle.std.specs.Prelude.{◌≡◌, IfOk, Some, false, not, ◌||◌, if◌then◌else◌, count_by, nat_lt, nat_le, nat_eq, unwrap_or};
+ghost use Rattle.std.specs.Option.{option_eq};
+ghost use Rattle.sibling_register.specs.Answers.{AskPut, Shown, Done};
+ghost use Rattle.sibling_register.specs.Refusals.{most_siblings};
+ghost use Rattle.sibling_register.specs.Plain.{IsPosition, told_of};
+ghost use Rattle.sibling_register.specs.Plans.{plain_outcome, first_check_of};
+ghost use Rattle.sibling_register.specs.Entries.{history_of, outcome_of, put_of};
+
+use super::deed::Deed;
+use super::entry::Entry;
+use super::numbers::Numbers;
+use super::planned::Planned;
+use super::refusals::{MATCH_FOUND, MODIFIED, NOT_FOUND, TOO_MANY_SIBLINGS};
+use super::scans::{count_at, follow};
+use super::standing::Standing;
+use super::told::Told;
+use riak_msgs::Key;
+use std::alloc::{AllocError, Global};
+
+/// A put, as its command gives it.
+#[derive(Drop)]
+pub(crate) struct Put<V> {
+    pub(crate) key: Key,
+    pub(crate) context: Option<u64>,
+    pub(crate) value: V,
+    pub(crate) return_body: bool,
+    pub(crate) return_head: bool,
+    pub(crate) if_not_modified: bool,
+    pub(crate) if_none_match: bool,
+}
+
+/// The first check that holds, of a put whose context names the position with this count.
+fn first_check(
+    standing: &Standing,
+    named: Option<u64>,
+    if_not_modified: bool,
+    if_none_match: bool,
+) -> Option<u8>
+    ensures value { result ≡ first_check_of standing.now.is_present (option_eq nat_eq named (Some standing.now.count)) (nat_le most_siblings (count_by (λ n. nat_lt (unwrap_or named 0) n) standing.now.siblings.items)) if_not_modified if_none_match }
+{
+    let is_name = named == Some(standing.count);
+    let too_many = standing.has_too_many(named.unwrap_or(0));
+    if if_none_match && standing.is_present {
+        Some(MATCH_FOUND)
+    } else if if_not_modified && !if_none_match && !standing.is_present {
+        Some(NOT_FOUND)
+    } else if if_not_modified && !if_none_match && !is_name {
+        Some(MODIFIED)
+    } else if too_many {
+        Some(TOO_MANY_SIBLINGS)
+    } else {
+        None
+    }
+}
+
+/// The answer to an accepted put, after which the key has these siblings.
+fn put_told(siblings: Vec<u64>, position: u64, return_body: bool, return_head: bool) -> Told
+    ensures value { told_of result ≡ (if return_body || return_head then Shown siblings.items (Some position) false (not return_body) else Done) }
+{
+    if return_body || return_head {
+        Told::Shown {
+            siblings: Numbers::new(siblings),
+            place: Some(position),
+            unchanged: false,
+            bare: !return_body,
+        }
+    } else {
+        Told::Done
+    }
+}
+
+/// What comes of a put.
+pub(crate) fn plan_put<V: Drop>(
+    alloc: Global,
+    entries: &[Entry<V>],
+    put: Put<V>,
+) -> Result<Planned<V>, AllocError>
+    requires { IsPosition (history_of entries.now) put.context }
+    ensures value { IfOk result (λ planned. outcome_of planned ≡ plain_outcome (history_of entries.now) (AskPut (put_of (history_of entries.now) put))) }
+{
+    let standing = Standing::of(alloc, entries, &put.key)?;
+    let named = count_at(entries, &put.key, put.context);
+    if let Some(number) = first_check(&standing, named, put.if_not_modified, put.if_none_match) {
+        return Ok(Planned::answer(Told::Refused(number)));
+    }
+    let entry = Entry {
+        key: put.key,
+        deed: Deed::Write(put.value),
+        context: named,
+        saw: named.unwrap_or(0),
+    };
+    let number = standing.count + 1;
+    let position = entries.len() as u64 + 1;
+    let mut siblings = standing.siblings;
+    follow(&mut siblings, &entry, number)?;
+    let told = put_told(siblings, position, put.return_body, put.return_head);
+    Ok(Planned {
+        told,
+        entry: Some(entry),
+    })
+}

@@ -1,0 +1,36 @@
+ghost use Rattle.std.specs.Prelude.{◌≡◌, IfOk};
+ghost use Rattle.sibling_register.specs.Answers.{AskReap};
+ghost use Rattle.sibling_register.specs.Plans.{plain_outcome};
+ghost use Rattle.sibling_register.specs.Entries.{history_of, outcome_of};
+
+use super::deed::Deed;
+use super::entry::Entry;
+use super::planned::Planned;
+use super::standing::Standing;
+use super::told::Told;
+use riak_msgs::Key;
+use std::alloc::{AllocError, Global};
+
+/// What comes of a reap.
+pub(crate) fn plan_reap<V>(
+    alloc: Global,
+    entries: &[Entry<V>],
+    key: Key,
+) -> Result<Planned<V>, AllocError>
+    ensures value { IfOk result (λ planned. outcome_of planned ≡ plain_outcome (history_of entries.now) (AskReap key)) }
+{
+    let standing = Standing::of(alloc, entries, &key)?;
+    if standing.siblings.is_empty() || standing.is_present {
+        return Ok(Planned::answer(Told::Kept));
+    }
+    let entry = Entry {
+        key,
+        deed: Deed::Reap,
+        context: None,
+        saw: standing.count,
+    };
+    Ok(Planned {
+        told: Told::Reaped,
+        entry: Some(entry),
+    })
+}

@@ -1,0 +1,50 @@
+ghost use Rattle.std.specs.Prelude.{◌≡◌, ◌≤◌, IfOk, length, nat_le, nat_lt, count_by};
+ghost use Rattle.sibling_register.specs.History.{count_of};
+ghost use Rattle.sibling_register.specs.Siblings.{siblings, is_present};
+ghost use Rattle.sibling_register.specs.Refusals.{most_siblings};
+ghost use Rattle.sibling_register.specs.Entries.{history_of};
+
+use super::entry::Entry;
+use super::refusals::MOST_SIBLINGS;
+use super::scans::{count_in, has_write, siblings_in};
+use riak_msgs::Key;
+use std::alloc::{AllocError, Global};
+
+/// How a key stands at the end of the history: its siblings, newest first; how many events it has; and whether one of
+/// the siblings is a write.
+#[derive(Drop)]
+pub(crate) struct Standing {
+    pub(crate) siblings: Vec<u64>,
+    pub(crate) count: u64,
+    pub(crate) is_present: bool,
+}
+
+impl Standing {
+    /// How the key stands after these entries.
+    pub(crate) fn of<V>(
+        alloc: Global,
+        entries: &[Entry<V>],
+        key: &Key,
+    ) -> Result<Standing, AllocError>
+        ensures siblings { IfOk result (λ s. s.siblings.items ≡ siblings (history_of entries.now) key.now) }
+        ensures count { IfOk result (λ s. s.count ≡ count_of (history_of entries.now) key.now) }
+        ensures bound { IfOk result (λ s. s.count ≤ length entries.now) }
+        ensures present { IfOk result (λ s. s.is_present ≡ is_present (history_of entries.now) key.now) }
+    {
+        let siblings = siblings_in(alloc, entries, key)?;
+        let count = count_in(entries, key);
+        let is_present = has_write(entries, key, siblings.as_slice());
+        Ok(Standing {
+            siblings,
+            count,
+            is_present,
+        })
+    }
+
+    /// Whether as many siblings as the limit are past the number that was seen.
+    pub(crate) fn has_too_many(&self, saw: u64) -> bool
+        ensures value { result ≡ nat_le most_siblings (count_by (λ n. nat_lt saw n) self.now.siblings.items) }
+    {
+        self.siblings.iter().filter(|number| **number > saw).count() >= MOST_SIBLINGS
+    }
+}

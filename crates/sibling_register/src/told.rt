@@ -1,0 +1,24 @@
+use super::numbers::Numbers;
+
+/// What the register answers.
+#[derive(Drop)]
+pub enum Told {
+    /// A put or a delete was refused, and nothing changed: [`MATCH_FOUND`](super::MATCH_FOUND),
+    /// [`MODIFIED`](super::MODIFIED), [`NOT_FOUND`](super::NOT_FOUND) or
+    /// [`TOO_MANY_SIBLINGS`](super::TOO_MANY_SIBLINGS).
+    Refused(u8),
+    /// The siblings by their sequence numbers, newest first, where a tombstone's number has no value; the position whose
+    /// context is shown; whether it says only that nothing was modified; whether contents are shown bare.
+    Shown {
+        siblings: Numbers,
+        place: Option<u64>,
+        unchanged: bool,
+        bare: bool,
+    },
+    /// A put that shows nothing, or a delete.
+    Done,
+    /// The key was dead and is forgotten.
+    Reaped,
+    /// The key wasn't dead, and stays as it is.
+    Kept,
+}
