@@ -1,5 +1,5 @@
 -- The plain register answers as its definition may.
-use Rattle.std.proofs.Common.{◌≡◌, ℕ, Bool, true, false, not, ◌&&◌, cond, List, [], ◌∷◌, length, refl, sym, inr, subst}
+use Rattle.std.proofs.Common.{◌≡◌, ◌∙◌, ℕ, Bool, true, false, not, ◌&&◌, cond, List, [], ◌∷◌, length, refl, sym, ap, inr, subst}
 use Rattle.std.specs.Prelude.{Option, Some, None, IsTrue, MatchBool, ◌||◌}
 use Rattle.sibling_register.specs.declared.command.Command.{Command}
 use Rattle.sibling_register.specs.declared.command.Command.TheVariants.{Get, Put, Del, Reap}
@@ -8,10 +8,12 @@ use Rattle.sibling_register.specs.History.{Event, Write, Reap as Forgotten, coun
 use Rattle.sibling_register.specs.Siblings.{is_defined, is_present, is_dead}
 use Rattle.sibling_register.specs.Naming.{DelSees}
 use Rattle.sibling_register.specs.Answers.{Told, Refused, Shown, Done, Reaped, Kept, GetCommand, PutCommand, DelCommand, Outcome, Answers, Accepts, MayGive, PutGives, DelGives, get_told, all_shown, put_refusal, del_refusal, does_nothing, has_too_many, is_name, nothing_shown}
+use Rattle.sibling_register.specs.Legal.{IsAccepted, EachAccepted, IsLegal}
 use Rattle.sibling_register.specs.Counting.{by_count, context_at}
 use Rattle.sibling_register.specs.Plain.{asked, Follows, Gives, is_decided}
 use Rattle.sibling_register.specs.Plans.{saw_by, put_outcome_by, del_outcome_by, del_saw, plain_outcome}
 use Rattle.sibling_register.specs.Entries.{outcome_by, kept_of}
+use Rattle.sibling_register.proofs.Counts.{counting}
 use Rattle.sibling_register.proofs.Sights.{put_sees, del_sees}
 
 abbrev DecidedBy : Option ℕ → Type 0
@@ -125,7 +127,7 @@ module _ {V : Type 0} where
   follows_kept history told (Some entry) = (refl, refl)
 
   -- so its answer is by the definition
-  pub gives : (history : List (Event V ℕ)) (command : Command V) (told : Told ℕ) (entry : Option (Entry V)) (new : List (Event V ℕ))
+  gives : (history : List (Event V ℕ)) (command : Command V) (told : Told ℕ) (entry : Option (Entry V)) (new : List (Event V ℕ))
       → outcome_by told entry ≡ plain_outcome history (asked history command) → new ≡ kept_of history entry → Gives history command told new
   gives history command told entry new o n =
       let outcome : Outcome V ℕ = plain_outcome history (asked history command) in
@@ -140,3 +142,25 @@ module _ {V : Type 0} where
         follows = subst G (sym n) f;
         decided = subst D (sym (same_told history outcome told _ f)) (decided history command);
       }
+
+  -- the same, of the histories that the plan read and that its entry was kept in
+  pub gives_of : (seen kept history : List (Event V ℕ)) (command : Command V) (told : Told ℕ) (entry : Option (Entry V)) (new : List (Event V ℕ))
+      → seen ≡ history → kept ≡ history → outcome_by told entry ≡ plain_outcome seen (asked seen command) → new ≡ kept_of kept entry
+      → Gives history command told new
+  gives_of seen kept history command told entry new s k o n =
+      gives history command told entry new (o ∙ ap (λ h. plain_outcome h (asked h command)) s) (n ∙ ap (λ h. kept_of h entry) k)
+
+  -- what it accepts is accepted by the definition
+  each_accepted : (old : List (Event V ℕ)) (command : Command V) (told : Told ℕ) (new : List (Event V ℕ)) → Gives old command told new
+      → EachAccepted by_count old → EachAccepted by_count new
+  each_accepted old command told new gives each = by gives.outcome gives.may gives.follows
+    where
+      by : (outcome : Outcome V ℕ) → MayGive by_count old (asked old command) outcome → Follows old outcome told new → EachAccepted by_count new
+      by (Answers given) may follows = subst (EachAccepted by_count) (sym follows.1) each
+      by (Accepts event given) may follows =
+          let one_more : IsAccepted by_count old event = record { ask = asked old command; told = given; given = may } in
+          subst (EachAccepted by_count) (sym follows.1) (each, one_more)
+
+  pub stays_legal : (old : List (Event V ℕ)) (command : Command V) (told : Told ℕ) (new : List (Event V ℕ)) → Gives old command told new
+      → IsLegal by_count old → IsLegal by_count new
+  stays_legal old command told new gives legal = record { naming_law = counting new; accepted = each_accepted old command told new gives legal.accepted }

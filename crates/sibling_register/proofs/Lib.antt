@@ -1,6 +1,7 @@
-pub mod Rows
+pub mod Exchanges
 pub mod Following
 pub mod Counts
+pub mod NamingLaw
 pub mod LeavingLaw
 pub mod Scanning
 pub mod Sights

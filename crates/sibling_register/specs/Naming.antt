@@ -59,3 +59,11 @@ module _ {V C : Type 0} where
   abbrev pub DelSees : Naming V C → List (Event V C) → Key → Option C → List ℕ → Type 0
   DelSees naming history key None saw = saw ≡ numbers_to (count_of history key)
   DelSees naming history key (Some context) saw = SeesBy naming history key context saw
+
+  -- by the context of a position a command saw every number up to there, and nothing else, whichever position of that
+  -- name is found
+  abbrev pub NamesOneSight : Naming V C → (later position : List (Event V C)) → Type 0
+  NamesOneSight naming later position =
+      IsNamingOf naming (later ++ position) → (key : Key) (context : C) (saw : List ℕ)
+      → IsTrue (is_defined position key) → IsTrue (naming.same context (naming.name position key))
+      → SeesBy naming (later ++ position) key context saw ↔ (saw ≡ numbers_to (count_of position key))

@@ -21,19 +21,23 @@ bad_context = 4
 abbrev pub too_many_siblings : ℕ
 too_many_siblings = 5
 
--- the refusals that the register leaves to who implements it
+-- what the register leaves free, since it has neither clocks nor memory: the key's clock would have too many actors
 abbrev pub clock_full : ℕ
 clock_full = 6
 
+-- no epoch is left for a new life of the key
 abbrev pub epochs_used_up : ℕ
 epochs_used_up = 7
 
+-- no counter is left for the key's life
 abbrev pub counter_used_up : ℕ
 counter_used_up = 8
 
+-- a growth was refused
 abbrev pub no_memory : ℕ
 no_memory = 9
 
+-- whether a refusal is one of these four
 abbrev pub is_free : ℕ → Bool
 is_free number = nat_le clock_full number && nat_le number no_memory
 

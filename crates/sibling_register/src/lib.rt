@@ -29,7 +29,9 @@ mod told;
 
 pub use command::Command;
 pub use fault::RegisterFault;
-pub use laws::{counting_is_a_naming, values_leave_only_seen};
+pub use laws::{
+    a_context_names_one_sight, answers_stay_legal, counting_is_a_naming, values_leave_only_seen,
+};
 pub use numbers::Numbers;
 pub use refusals::{MATCH_FOUND, MODIFIED, MOST_SIBLINGS, NOT_FOUND, TOO_MANY_SIBLINGS};
 pub use register::PlainRegister;

@@ -1,0 +1,26 @@
+use Rattle.std.proofs.Common.{◌∷◌, [], length, refl, ap, sym}
+use Rattle.rw_gate.specs.declared.log.Entry.TheVariants.{Opened}
+use Rattle.rw_gate.specs.Logs.{events}
+use Rattle.rw_gate.specs.Views.{home_of}
+use Rattle.rw_gate.proofs.Logs.{opened_leads}
+use Rattle.rw_gate.proofs.gate.Gate.new.Goals as goal
+
+pub open_row-seen-requires : goal.open_row-seen-requires
+open_row-seen-requires g c =
+    let s = c.args.state in (
+      record {
+        counted = refl;
+        run = (g.S.Kept.content s, opened_leads g.S.Kept.content g.S.Kept.accepts s (Opened s ∷ []) refl);
+      },
+      (λ log. tt),
+      c.alone.ensures.1,
+    )
+
+pub put_back-requires : goal.put_back-requires
+put_back-requires g c =
+    let log = c.open_row-seen.ensures.1 in
+    record {
+      at_home = ap (λ s. home_of s.book s.log) (sym c.again.ensures);
+      counted = sym (ap (λ l. length (events l)) log);
+      leads = opened_leads g.S.Kept.content g.S.Kept.accepts c.args.state c.open_row-seen.result.0.log log;
+    }

@@ -1,0 +1,211 @@
+//! The gate: a slot with a counting word, beside the word of a log.
+ghost use Rattle.std.specs.Prelude.{◌≡◌, [], IfOk, IfErr, IfSome, Some};
+ghost use Rattle.rw_gate.specs.Histories.{IsLodged, IsReplay};
+
+use crate::kept::Kept;
+use crate::lodged::Lodged;
+use crate::log::{Law, Length, SeenLog};
+use crate::pass::Pass;
+use crate::read::ReadRight;
+use crate::write::WriteRight;
+use counted_slot::{Counted, FREE, MARKED, MOST_READERS, ONE_READER, PRESENT, TAKEN};
+use logbook::{Pens, Seen, Start, Word};
+use std::alloc::Global;
+use std::marker::Model;
+use std::sync::Wait;
+use std::thread;
+
+/// A state that many may read or one may write, with the history of its changes.
+///
+/// A life of a gate round a `Counter`, whose asks raise it:
+///
+/// | Call | Answer | State | History |
+/// |---|---|---|---|
+/// | `gate = Gate::new(alloc, Counter { value: 0 })` | a gate | 0, in place | none |
+/// | `ann = gate.pass()` | `ann.seen()` is 0 | | |
+/// | `right = gate.try_write()` | a right | 0, in hand | |
+/// | `gate.try_read()`, `gate.try_write()`, `gate.mark()` | `None`, `None`, `false` | | |
+/// | `right.look(&mut ann)` | 0 | | |
+/// | `right.prepare(alloc, 5)` | a change to 5 | 0, as before | |
+/// | `right.publish(&mut ann, change)` | 5; `ann.seen()` is 1 | 5, in hand | `+5 = 5` |
+/// | `right.release()` | | 5, in place | |
+/// | `bob = gate.pass()`, `right = gate.try_read()` | a right, beside which others may read | | |
+/// | `right.look(&mut bob)` | 5; `bob.seen()` is 1 | | |
+/// | `gate.mark()` | `true`: who reads stays, and no reader comes | 5, marked | |
+/// | `gate.try_read()`, `gate.try_write()` | `None`, `None`: `bob` is in | | |
+/// | `right.release()`, then `gate.try_write()` | a right, and so on | 5, in hand | |
+///
+/// A state that is put back is unmarked. At most `MOST_READERS`, 1,073,741,823, are in at once, and an entry past them is refused.
+/// The gate is `Send` and `Sync` where the state is.
+#[derive(Drop)]
+pub struct Gate<S: Kept> {
+    slot: Counted<Option<Lodged<S>>>,
+    pub(crate) word: Length<S>,
+    start: SeenLog<S>,
+}
+
+impl<S: Kept> Model for Gate<S> {
+    ghost use Rattle.std.specs.Prelude.{◌≡◌};
+    ghost use Rattle.rw_gate.specs.Logs.{IsNew};
+    ghost use Rattle.rw_gate.specs.Steps.{length_word};
+    ghost use Rattle.rw_gate.specs.Views.{Home, home_coded, home_of};
+
+    ghost Value = { Home S };
+
+    ghost coded = { home_coded S.code };
+
+    ghost view = { λ g. home_of g.start.book g.start.log };
+
+    ghost invariant = { λ g. (g.slot ≡ g.start) × (g.word ≡ length_word g.start.book) × IsNew g.start.log };
+}
+
+impl<S: Kept> Gate<S> {
+    /// A gate round a state that has no history yet. It takes no memory. The state comes back where no gate is made, which no path of today's
+    /// code leads to.
+    pub fn new(alloc: Global, state: S) -> Result<Gate<S>, S>
+        ensures ok { IfOk result (λ g. g.opening ≡ Some state) }
+        ensures err { IfErr result (λ s. s ≡ state) }
+    {
+        let _ = alloc;
+        let (seen, mut pens): (SeenLog<S>, Pens) = Seen::open_row::<S, Law<S>>(
+            &state,
+            Start::alone(),
+            1,
+        );
+        let mut pen = pens.take();
+        let gate = Gate {
+            slot: Counted::new(None, &seen),
+            word: Word::tracked(0, &mut pen),
+            start: seen.again(),
+        };
+        match gate.put_back(Lodged {
+            state,
+            seen,
+            count: 0,
+        }) {
+            Ok(()) => Ok(gate),
+            Err(lodged) => {
+                let Lodged {
+                    state,
+                    seen: _,
+                    count: _,
+                } = lodged;
+                Err(state)
+            }
+        }
+    }
+
+    /// A pass of this gate, whose holder has seen nothing yet.
+    pub fn pass(&self) -> Pass<S>
+        ensures home { result.home ≡ self.now }
+        ensures prefix { result.prefix ≡ [] }
+        ensures own { result.own ≡ [] }
+    {
+        Pass::new(&self.start)
+    }
+
+    /// One attempt to come in as a reader. `None` where a writer is in, where the state is marked, where `MOST_READERS` are in, and
+    /// where another call came between.
+    pub fn try_read(&self) -> Option<ReadRight<'_, S>>
+        ensures { IfSome result (λ r. r.home ≡ self.now) }
+    {
+        let word = self.slot.load();
+        if word % 4 != PRESENT || word % 0x1_0000_0000 / 4 == MOST_READERS {
+            return None;
+        }
+        let (found, claim) = self.slot.turn(word, word + ONE_READER);
+        if found != word {
+            claim.done();
+            return None;
+        }
+        ReadRight::new(self, claim)
+    }
+
+    /// One attempt to take the state in hand, marked or not. `None` where a reader or a writer is in, and where another call came between.
+    pub fn try_write(&self) -> Option<WriteRight<'_, S>>
+        ensures home { IfSome result (λ r. r.home ≡ self.now) }
+        ensures state { IfSome result (λ r. IsReplay S.content S.accepts r.home r.history r.state) }
+    {
+        let word = self.slot.load();
+        let is_in_place = word % 4 == PRESENT || word % 4 == MARKED;
+        let has_readers = word % 0x1_0000_0000 / 4 != 0;
+        if !is_in_place || has_readers {
+            return None;
+        }
+        let (found, claim) = self.slot.turn(word, TAKEN);
+        if found != word {
+            claim.done();
+            return None;
+        }
+        // the value goes into the hand, and the word says FREE until it is put back
+        let lodged = claim.put(None, FREE)?;
+        Some(WriteRight::new(self, lodged))
+    }
+
+    /// One attempt to mark the state, so that no further reader comes in, and whether it did. Who reads stays.
+    pub fn mark(&self) -> bool {
+        let word = self.slot.load();
+        if word % 4 != PRESENT {
+            return false;
+        }
+        let marked = word + (MARKED - PRESENT);
+        let (found, claim) = self.slot.turn(word, marked);
+        claim.done();
+        found == word
+    }
+
+    /// One attempt to take the mark away, and whether it did.
+    pub fn unmark(&self) -> bool {
+        let word = self.slot.load();
+        if word % 4 != MARKED {
+            return false;
+        }
+        let unmarked = word - (MARKED - PRESENT);
+        let (found, claim) = self.slot.turn(word, unmarked);
+        claim.done();
+        found == word
+    }
+
+    /// Waits until it may read: attempts, again and again.
+    pub fn read<R: Wait>(&self, rt: &R) -> ReadRight<'_, S>
+        ensures { result.home ≡ self.now }
+    {
+        for _ in rt.forever() {
+            if let Some(right) = self.try_read() {
+                return right;
+            }
+            thread::yield_now();
+        }
+        unreachable!()
+    }
+
+    /// Waits until it has the state in hand. While it waits it marks the state, at each turn at which it finds it unmarked, so that
+    /// readers leave and none comes.
+    pub fn write<R: Wait>(&self, rt: &R) -> WriteRight<'_, S>
+        ensures home { result.home ≡ self.now }
+        ensures state { IsReplay S.content S.accepts result.home result.history result.state }
+    {
+        for _ in rt.forever() {
+            if let Some(right) = self.try_write() {
+                return right;
+            }
+            self.mark();
+            thread::yield_now();
+        }
+        unreachable!()
+    }
+
+    /// Lays a state in place, unmarked. Only who has the state in hand finds the slot free, so it does not come back.
+    pub(crate) fn put_back(&self, lodged: Lodged<S>) -> Result<(), Lodged<S>>
+        requires { IsLodged S.content S.accepts self.now lodged.seen.book lodged.seen.log lodged.count lodged.state }
+        ensures { IfErr result (λ l. l ≡ lodged) }
+    {
+        let (found, claim) = self.slot.turn(FREE, TAKEN);
+        if found != FREE {
+            claim.done();
+            return Err(lodged);
+        }
+        claim.put(Some(lodged), PRESENT);
+        Ok(())
+    }
+}

@@ -1,0 +1,124 @@
+//! A list as a second state behind a gate: its asks put a number at its end, which takes memory.
+ghost use Rattle.std.specs.Prelude.{◌≡◌, length};
+
+use crate::{Gate, Kept, Pass, Plan, WriteRight};
+use std::alloc::{AllocError, Global};
+use std::mem;
+use std::process::Abort;
+use std::test::*;
+
+/// A list, and the list that is prepared to take its place.
+#[derive(Drop)]
+struct Listed {
+    now: Vec<u64>,
+    next: Vec<u64>,
+}
+
+/// A number at the end of the list, and the length that it makes: the change, which is its own event.
+#[derive(Drop)]
+struct Appended {
+    number: u64,
+    length: usize,
+}
+
+impl Kept for Listed {
+    type Ask = u64;
+
+    type Change = Appended;
+
+    type Reply = usize;
+
+    type Refusal = AllocError;
+
+    type Event = Appended;
+
+    ghost use Rattle.std.specs.Prelude.{◌≡◌, ℕ, List, [], ◌∷◌, ◌++◌, length, refl};
+
+    ghost State = { List ℕ };
+
+    ghost content = { λ l. l.now.items };
+
+    ghost accepts = { λ xs e ys. (ys ≡ xs ++ e.number ∷ []) × (e.length ≡ length ys) };
+
+    // each ask is an event, or is refused for want of memory
+    ghost answers = { λ xs ask reply. ⊥ };
+
+    ghost refuses = { λ xs ask refusal. Unit {0} };
+
+    ghost asks = { λ e ask. e.number ≡ ask };
+
+    ghost tells = { λ e reply. e.length ≡ reply };
+
+    ghost event = { λ c. c };
+
+    ghost ready = { λ l c. (l.next.items ≡ l.now.items ++ c.number ∷ []) × (c.length ≡ length l.next.items) };
+
+    fn prepare(&mut self, alloc: Global, ask: u64) -> Result<Plan<Appended, usize>, AllocError> {
+        let mut next = Vec::from_slice(alloc, self.now.as_slice())?;
+        next.push(ask)?;
+        let length = next.len();
+        self.next = next;
+        Ok(Plan::Change(Appended {
+            number: ask,
+            length,
+        }))
+    }
+
+    fn apply(&mut self, change: Appended) -> usize {
+        mem::swap(&mut self.now, &mut self.next);
+        change.length
+    }
+
+    ghost sound = { λ l c is. (l.next.items, (is.0, is.1)) };
+}
+
+fn put(
+    right: &mut WriteRight<'_, Listed>,
+    me: &mut Pass<Listed>,
+    alloc: Global,
+    number: u64,
+) -> Option<usize>
+    requires { me.old.home ≡ right.old.home }
+    ensures me { me.new.home ≡ me.old.home }
+    ensures right { right.new.home ≡ right.old.home }
+{
+    match right.prepare(alloc, number) {
+        Ok(Plan::Change(change)) => right.publish(me, change).ok(),
+        Ok(Plan::Nothing(reply)) => Some(reply),
+        Err(_) => None,
+    }
+}
+
+// Where memory is refused nothing was put, and the same ask is answered as it would have been.
+#[test]
+fn a_list_takes_numbers_in_order(rt: HostRuntime) -> Result<(), Fail> {
+    let gate = Gate::new(
+        rt.alloc(),
+        Listed {
+            now: Vec::new(rt.alloc()),
+            next: Vec::new(rt.alloc()),
+        },
+    )
+    .ok()
+    .ok_or("a gate")?;
+    let mut me = gate.pass();
+    let mut right = gate.try_write().ok_or("a right to write")?;
+    let mut first = put(&mut right, &mut me, rt.alloc(), 7);
+    if first.is_none() {
+        first = put(&mut right, &mut me, rt.alloc(), 7);
+    }
+    let mut second = put(&mut right, &mut me, rt.alloc(), 8);
+    if second.is_none() {
+        second = put(&mut right, &mut me, rt.alloc(), 8);
+    }
+    right.release();
+    assert_eq!(rt; (first, second, me.seen()), (Some(1), Some(2), 2));
+    let reader = gate.try_read().ok_or("a right to read")?;
+    let holds_both = match reader.look(&mut me) {
+        Ok(list) => list.now.as_slice() == [7, 8].as_slice(),
+        Err(_) => false,
+    };
+    reader.release();
+    assert!(rt; holds_both);
+    Ok(())
+}
