@@ -62,7 +62,8 @@ impl<'a> Context<'a> {
 
     /// Its pairs (actor, n), by rising actor.
     pub fn pairs(&self) -> ContextPairs<'a>
-        ensures { result ≡ self.now }
+        ensures pairs { result ≡ self.now }
+        ensures of_form { IsTrue (is_of_form self.now) }
     {
         ContextPairs {
             count: self.count,

@@ -1,8 +1,6 @@
 -- What the bodies of plain requests stand for.
-use Rattle.std.proofs.Common.{◌≡◌, ◌≢◌, ℕ, ◌+◌, ◌^◌, ◌<◌, List, [], ◌++◌, length, Option, Some, None, MatchOption, Result, Ok, Err, Bor, refl, ap, sym, ◌∙◌, arith, append_assoc, length-append, subst, inl, inr}
+use Rattle.std.proofs.Common.{◌≡◌, ◌≢◌, ℕ, ◌^◌, ◌<◌, List, [], ◌++◌, length, Option, Some, None, MatchOption, Result, Ok, Err, Bor, refl, ap, sym, ◌∙◌, arith, append_assoc, length-append, subst}
 use Rattle.std.proofs.lemmas.List.{append-nil}
-use Rattle.riak_msgs.specs.declared.get.GetAsk.{GetAsk}
-use Rattle.riak_msgs.specs.declared.put.PutAsk.{PutAsk}
 use Rattle.riak_msgs.specs.declared.request.Request.{Request}
 use Rattle.riak_msgs.specs.declared.request.Request.TheVariants.{Ping, Get, Put, Del}
 use Rattle.std.specs.Result.{IsErrAnd}

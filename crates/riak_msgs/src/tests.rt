@@ -75,16 +75,8 @@ fn refuses_other_messages(rt: HostRuntime) {
     );
 }
 
-/// Writes, and a second time where memory was refused.
-fn write_again(alloc: Global, reply: &Reply) -> Result<Vec<u8>, MsgFault> {
-    match write_reply(alloc, reply) {
-        Err(MsgFault::NoMemory) => write_reply(alloc, reply),
-        other => other,
-    }
-}
-
-fn writes(rt: &impl Abort, alloc: Global, reply: &Reply, want: &[u8]) -> Result<(), Fail> {
-    let written = write_again(alloc, reply)?;
+fn writes(rt: &impl Abort, alloc: Global, reply: &Reply, want: &[u8]) -> Result<(), MsgFault> {
+    let written = write_reply(alloc, reply)?;
     assert_eq!(rt; written.as_slice(), want);
     Ok(())
 }
@@ -99,24 +91,31 @@ fn sibling(alloc: Global, value: &[u8]) -> Result<Shown, AllocError> {
     })
 }
 
+// Where memory is refused on the way, nothing wrong is written, and the second round goes through.
 #[test]
 fn writes_replies(rt: HostRuntime) -> Result<(), Fail> {
-    let alloc = rt.alloc();
-    writes(&rt, alloc, &Reply::Ping, b"\x02")?;
-    writes(&rt, alloc, &Reply::Del, b"\x0e")?;
+    if write_replies(&rt, rt.alloc()).is_err() {
+        write_replies(&rt, rt.alloc())?;
+    }
+    Ok(())
+}
+
+fn write_replies(rt: &impl Abort, alloc: Global) -> Result<(), MsgFault> {
+    writes(rt, alloc, &Reply::Ping, b"\x02")?;
+    writes(rt, alloc, &Reply::Del, b"\x0e")?;
     let found = Reply::Error(Text::MatchFound);
-    writes(&rt, alloc, &found, b"\0\x0a\x0bmatch_found\x10\x01")?;
+    writes(rt, alloc, &found, b"\0\x0a\x0bmatch_found\x10\x01")?;
     let stored = Reply::Put(PutReply {
         contents: Sequence::new(alloc),
         context: Bytes::new(alloc),
     });
-    writes(&rt, alloc, &stored, b"\x0c")?;
+    writes(rt, alloc, &stored, b"\x0c")?;
     let unchanged = Reply::Get(GetReply {
         contents: Sequence::new(alloc),
         context: Bytes::new(alloc),
         unchanged: true,
     });
-    writes(&rt, alloc, &unchanged, b"\x0a\x18\x01")?;
+    writes(rt, alloc, &unchanged, b"\x0a\x18\x01")?;
     let mut contents = Sequence::new(alloc);
     contents.push(sibling(alloc, b"v")?)?;
     contents.push(Shown::tombstone(alloc))?;
@@ -127,7 +126,7 @@ fn writes_replies(rt: HostRuntime) -> Result<(), Fail> {
     });
     let want =
         b"\x0a\x0a\x03\x0a\x01v\x0a\x04\x0a\0\x58\x01\x12\x11\x01\0\0\0\0\0\x01\0\0\0\0\0\x01\0\0\0\x01";
-    writes(&rt, alloc, &siblings, want)
+    writes(rt, alloc, &siblings, want)
 }
 
 fn some(alloc: Global, bytes: &[u8]) -> Result<Option<Bytes>, AllocError> {
@@ -171,7 +170,13 @@ fn full(alloc: Global) -> Result<Content, AllocError> {
 // The bytes were computed by hand from the Protocol Buffers encoding, and once more by a few lines of Python.
 #[test]
 fn writes_a_full_content(rt: HostRuntime) -> Result<(), Fail> {
-    let alloc = rt.alloc();
+    if write_full_content(&rt, rt.alloc()).is_err() {
+        write_full_content(&rt, rt.alloc())?;
+    }
+    Ok(())
+}
+
+fn write_full_content(rt: &impl Abort, alloc: Global) -> Result<(), MsgFault> {
     let content = full(alloc)?;
     let mut contents = Sequence::new(alloc);
     contents.push(Shown {
@@ -193,7 +198,7 @@ fn writes_a_full_content(rt: HostRuntime) -> Result<(), Fail> {
     want.extend_from_slice(b"\x0a\xc1\x01\x0a\0")?;
     want.extend_from_slice(BEHIND_VALUE)?;
     want.extend_from_slice(&[b'z'; 130])?;
-    writes(&rt, alloc, &reply, want.as_slice())
+    writes(rt, alloc, &reply, want.as_slice())
 }
 
 /// What follows the value of the full content, up to the index's bytes.

@@ -1,4 +1,6 @@
 //! What no clause says: that attempts win, that the mark acts, that a state that is put back is the one in hand.
+ghost use Rattle.std.specs.Prelude.{◌≡◌};
+
 use super::*;
 use crate::counter::Counter;
 use std::process::Abort;
@@ -10,8 +12,14 @@ mod marking;
 
 // What a fresh pass is shown by a reader, and how much it has then seen.
 fn shown(gate: &Gate<Counter>) -> Option<(u64, u64)> {
-    let right = gate.try_read()?;
-    let mut me = gate.pass();
+    shown_by(gate.try_read()?, gate.pass())
+}
+
+// The same by a reader that is in, who then leaves.
+fn shown_by(right: ReadRight<'_, Counter>, me: Pass<Counter>) -> Option<(u64, u64)>
+    requires { me.home ≡ right.home }
+{
+    let mut me = me;
     let value = match right.look(&mut me) {
         Ok(counter) => Some(counter.value),
         Err(_) => None,

@@ -4,10 +4,9 @@ use Rattle.sibling_register.specs.declared.entry.Entry.{Entry}
 use Rattle.sibling_register.specs.declared.deed.Deed.{Deed as EntryDeed}
 use Rattle.sibling_register.specs.declared.deed.Deed.TheVariants.{Write as EntryWrite, Tombstone as EntryTombstone, Reap as EntryReap}
 use Rattle.sibling_register.specs.declared.planned.Planned.{Planned}
-use Rattle.sibling_register.specs.declared.get.Get.{Get}
 use Rattle.sibling_register.specs.declared.put.Put.{Put}
 use Rattle.sibling_register.specs.History.{Deed, Write, Tombstone, Reap, Event, numbers_to, is_update}
-use Rattle.sibling_register.specs.Answers.{Told, GetCommand, PutCommand, Outcome, Answers, Accepts}
+use Rattle.sibling_register.specs.Answers.{Told, PutCommand, Outcome, Answers, Accepts}
 use Rattle.sibling_register.specs.Counting.{context_at}
 use Rattle.sibling_register.specs.Plain.{told_of}
 
@@ -44,15 +43,7 @@ module _ {V : Type 0} where
   kept_of history None = history
   kept_of history (Some entry) = event_of entry ∷ history
 
-  -- a get and a put, the position that each gives read as a context
-  abbrev pub get_of : List (Event V ℕ) → Get → GetCommand ℕ
-  get_of history get = record {
-    key = get.key;
-    if_modified = context_at history get.key get.if_modified;
-    head = get.head;
-    deletedvclock = get.deletedvclock;
-  }
-
+  -- a put, the position that it gives read as a context
   abbrev pub put_of : List (Event V ℕ) → Put V → PutCommand V ℕ
   put_of history put = record {
     key = put.key;

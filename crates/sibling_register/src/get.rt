@@ -1,8 +1,9 @@
 ghost use Rattle.std.specs.Prelude.{◌≡◌, IfOk, [], false};
 ghost use Rattle.sibling_register.specs.Answers.{AskGet, Shown};
+ghost use Rattle.sibling_register.specs.Counting.{context_at};
 ghost use Rattle.sibling_register.specs.Plain.{IsPosition, told_of};
 ghost use Rattle.sibling_register.specs.Plans.{plain_outcome};
-ghost use Rattle.sibling_register.specs.Entries.{history_of, outcome_of, get_of};
+ghost use Rattle.sibling_register.specs.Entries.{history_of, outcome_of};
 
 use super::entry::Entry;
 use super::numbers::Numbers;
@@ -12,15 +13,6 @@ use super::standing::Standing;
 use super::told::Told;
 use riak_msgs::Key;
 use std::alloc::{AllocError, Global};
-
-/// A get, as its command gives it.
-#[derive(Drop)]
-pub(crate) struct Get {
-    pub(crate) key: Key,
-    pub(crate) if_modified: Option<u64>,
-    pub(crate) head: bool,
-    pub(crate) deletedvclock: bool,
-}
 
 /// Shows no siblings.
 fn none_shown(alloc: Global, place: Option<u64>, unchanged: bool) -> Told
@@ -38,22 +30,21 @@ fn none_shown(alloc: Global, place: Option<u64>, unchanged: bool) -> Told
 pub(crate) fn plan_get<V>(
     alloc: Global,
     entries: &[Entry<V>],
-    get: Get,
+    key: Key,
+    if_modified: Option<u64>,
+    head: bool,
+    deletedvclock: bool,
 ) -> Result<Planned<V>, AllocError>
-    requires { IsPosition (history_of entries.now) get.if_modified }
-    ensures value { IfOk result (λ planned. outcome_of planned ≡ plain_outcome (history_of entries.now) (AskGet (get_of (history_of entries.now) get))) }
+    requires { IsPosition (history_of entries.now) if_modified }
+    ensures value { IfOk result (λ planned. outcome_of planned ≡ plain_outcome (history_of entries.now) (AskGet (record { key = key; if_modified = context_at (history_of entries.now) key if_modified; head = head; deletedvclock = deletedvclock }))) }
 {
-    let standing = Standing::of(alloc, entries, &get.key)?;
-    let is_name = count_at(entries, &get.key, get.if_modified) == Some(standing.count);
+    let standing = Standing::of(alloc, entries, &key)?;
+    let is_name = count_at(entries, &key, if_modified) == Some(standing.count);
     let position = Some(entries.len() as u64);
     let told = if standing.siblings.is_empty() {
         none_shown(alloc, None, false)
     } else if !standing.is_present {
-        none_shown(
-            alloc,
-            if get.deletedvclock { position } else { None },
-            false,
-        )
+        none_shown(alloc, if deletedvclock { position } else { None }, false)
     } else if is_name {
         none_shown(alloc, None, true)
     } else {
@@ -61,7 +52,7 @@ pub(crate) fn plan_get<V>(
             siblings: Numbers::new(standing.siblings),
             place: position,
             unchanged: false,
-            bare: get.head,
+            bare: head,
         }
     };
     Ok(Planned { told, entry: None })

@@ -7,7 +7,8 @@
 //! (`specs/Legal`). Any naming will do: who shows other contexts says what they are, and is measured by the same words.
 //!
 //! [`PlainRegister`] is the register as a program, slow and short: a list of all accepted commands, which each call
-//! reads from its start. [`values_leave_only_seen`] and [`counting_is_a_naming`] are laws of the definitions.
+//! reads from its start, once for each sibling. Laws of the definitions: [`values_leave_only_seen`],
+//! [`a_context_names_one_sight`], [`counting_is_a_naming`] and [`answers_stay_legal`].
 #![tactic(auto)]
 
 mod command;

@@ -7,7 +7,7 @@ ghost use Rattle.sibling_register.specs.Entries.{history_of, outcome_of};
 use super::command::Command;
 use super::del::plan_del;
 use super::entry::Entry;
-use super::get::{Get, plan_get};
+use super::get::plan_get;
 use super::put::{Put, plan_put};
 use super::reap::plan_reap;
 use super::told::Told;
@@ -44,15 +44,7 @@ pub(crate) fn plan<V: Drop>(
             if_modified,
             head,
             deletedvclock,
-        } => {
-            let get = Get {
-                key,
-                if_modified,
-                head,
-                deletedvclock,
-            };
-            plan_get(alloc, entries, get)
-        }
+        } => plan_get(alloc, entries, key, if_modified, head, deletedvclock),
         Command::Put {
             key,
             context,

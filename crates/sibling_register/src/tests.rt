@@ -1,4 +1,3 @@
-ghost use Rattle.std.specs.Prelude.{◌≡◌, IfOk};
 ghost use Rattle.sibling_register.specs.Plain.{IsPosition, GivesPositions};
 
 use super::*;
@@ -7,7 +6,18 @@ use std::alloc::{AllocError, Global};
 use std::process::Abort;
 use std::test::Fail;
 
-fn make_key(alloc: Global) -> Result<Key, AllocError> {
+/// Makes a call again that was refused memory once.
+macro_rules! twice {
+    ($call:expr) => {
+        match $call {
+            Ok(told) => told,
+            Err(_) => $call?,
+        }
+    };
+}
+
+/// The key "k" of the bucket "b".
+fn key(alloc: Global) -> Result<Key, AllocError> {
     Ok(Key {
         bucket_type: Bytes::from_slice(alloc, b"default")?,
         bucket: Bytes::from_slice(alloc, b"b")?,
@@ -15,75 +25,21 @@ fn make_key(alloc: Global) -> Result<Key, AllocError> {
     })
 }
 
-/// The key "k" of the bucket "b", made again where memory was refused once.
-fn key(alloc: Global) -> Result<Key, AllocError> {
-    if let Ok(key) = make_key(alloc) {
-        return Ok(key);
-    }
-    make_key(alloc)
-}
-
-fn copy(alloc: Global, command: &Command<u8>) -> Result<Command<u8>, AllocError>
-    ensures { IfOk result (λ copy. copy ≡ command.now) }
-{
-    Ok(match command {
-        Command::Get {
-            key,
-            if_modified,
-            head,
-            deletedvclock,
-        } => Command::Get {
-            key: key.clone(alloc)?,
-            if_modified: *if_modified,
-            head: *head,
-            deletedvclock: *deletedvclock,
-        },
-        Command::Put {
-            key,
-            context,
-            value,
-            return_body,
-            return_head,
-            if_not_modified,
-            if_none_match,
-        } => Command::Put {
-            key: key.clone(alloc)?,
-            context: *context,
-            value: *value,
-            return_body: *return_body,
-            return_head: *return_head,
-            if_not_modified: *if_not_modified,
-            if_none_match: *if_none_match,
-        },
-        Command::Del { key, context } => Command::Del {
-            key: key.clone(alloc)?,
-            context: *context,
-        },
-        Command::Reap { key } => Command::Reap {
-            key: key.clone(alloc)?,
-        },
-    })
-}
-
-/// Asks. A call without memory leaves the register as it was, and is made again.
+/// Asks. A call that is refused memory leaves the register as it was.
 fn ask(
     rt: &impl Abort,
     register: &mut PlainRegister<u8>,
     alloc: Global,
     command: Command<u8>,
-) -> Result<Told, Fail>
+) -> Result<Told, RegisterFault>
     requires { GivesPositions register.old command }
 {
-    let again = match copy(alloc, &command) {
-        Ok(again) => again,
-        Err(_) => copy(alloc, &command)?,
-    };
     let before = register.len();
-    if let Ok(told) = register.ask(alloc, command) {
-        return Ok(told);
+    let told = register.ask(alloc, command);
+    if told.is_err() {
+        assert_eq!(rt; register.len(), before);
     }
-    assert_eq!(rt; register.len(), before);
-    Ok(register.ask(alloc, again)?)
+    told
 }
 
 /// A position, where the register has come so far.
@@ -107,7 +63,7 @@ fn get(
     register: &mut PlainRegister<u8>,
     alloc: Global,
     if_modified: Option<u64>,
-) -> Result<Told, Fail> {
+) -> Result<Told, RegisterFault> {
     let if_modified = position(register, if_modified);
     let command = Command::Get {
         key: key(alloc)?,
@@ -125,7 +81,7 @@ fn put(
     value: u8,
     context: Option<u64>,
     if_none_match: bool,
-) -> Result<Told, Fail> {
+) -> Result<Told, RegisterFault> {
     let context = position(register, context);
     let command = Command::Put {
         key: key(alloc)?,
@@ -139,7 +95,11 @@ fn put(
     ask(rt, register, alloc, command)
 }
 
-fn del(rt: &impl Abort, register: &mut PlainRegister<u8>, alloc: Global) -> Result<Told, Fail> {
+fn del(
+    rt: &impl Abort,
+    register: &mut PlainRegister<u8>,
+    alloc: Global,
+) -> Result<Told, RegisterFault> {
     let command = Command::Del {
         key: key(alloc)?,
         context: None,
@@ -147,7 +107,11 @@ fn del(rt: &impl Abort, register: &mut PlainRegister<u8>, alloc: Global) -> Resu
     ask(rt, register, alloc, command)
 }
 
-fn reap(rt: &impl Abort, register: &mut PlainRegister<u8>, alloc: Global) -> Result<Told, Fail> {
+fn reap(
+    rt: &impl Abort,
+    register: &mut PlainRegister<u8>,
+    alloc: Global,
+) -> Result<Told, RegisterFault> {
     let command = Command::Reap { key: key(alloc)? };
     ask(rt, register, alloc, command)
 }
@@ -175,16 +139,19 @@ fn first_life(
     register: &mut PlainRegister<u8>,
     alloc: Global,
 ) -> Result<(), Fail> {
-    shows(rt, get(rt, register, alloc, None)?, &[], None);
-    let told = put(rt, register, alloc, b'v', None, false)?;
+    let told = twice!(get(rt, register, alloc, None));
+    shows(rt, told, &[], None);
+    let told = twice!(put(rt, register, alloc, b'v', None, false));
     shows(rt, told, &[1], Some(1));
-    let told = put(rt, register, alloc, b'w', None, false)?;
+    let told = twice!(put(rt, register, alloc, b'w', None, false));
     shows(rt, told, &[2, 1], Some(2));
-    let told = put(rt, register, alloc, b'x', Some(1), false)?;
+    let told = twice!(put(rt, register, alloc, b'x', Some(1), false));
     shows(rt, told, &[3, 2], Some(3));
-    let told = put(rt, register, alloc, b'z', None, true)?;
+    let key = twice!(key(alloc));
+    assert_eq!(rt; register.value(&key, 3), Some(&b'x'));
+    let told = twice!(put(rt, register, alloc, b'z', None, true));
     assert!(rt; matches!(told, Told::Refused(MATCH_FOUND)));
-    let told = get(rt, register, alloc, Some(3))?;
+    let told = twice!(get(rt, register, alloc, Some(3)));
     assert!(rt;
         matches!(
             told,
@@ -194,7 +161,6 @@ fn first_life(
             }
         )
     );
-    assert_eq!(rt; register.value(&key(alloc)?, 3), Some(&b'x'));
     Ok(())
 }
 
@@ -204,17 +170,19 @@ fn a_life_and_the_next(rt: HostRuntime) -> Result<(), Fail> {
     let alloc = rt.alloc();
     let mut register = PlainRegister::new(alloc);
     first_life(&rt, &mut register, alloc)?;
-    let told = del(&rt, &mut register, alloc)?;
+    let told = twice!(del(&rt, &mut register, alloc));
     assert!(rt; matches!(told, Told::Done));
-    shows(&rt, get(&rt, &mut register, alloc, None)?, &[], Some(4));
-    assert_eq!(rt; register.value(&key(alloc)?, 4), None);
-    let told = reap(&rt, &mut register, alloc)?;
+    let told = twice!(get(&rt, &mut register, alloc, None));
+    shows(&rt, told, &[], Some(4));
+    let key = twice!(key(alloc));
+    assert_eq!(rt; register.value(&key, 4), None);
+    let told = twice!(reap(&rt, &mut register, alloc));
     assert!(rt; matches!(told, Told::Reaped));
-    let told = reap(&rt, &mut register, alloc)?;
+    let told = twice!(reap(&rt, &mut register, alloc));
     assert!(rt; matches!(told, Told::Kept));
-    let told = put(&rt, &mut register, alloc, b'b', None, false)?;
+    let told = twice!(put(&rt, &mut register, alloc, b'b', None, false));
     shows(&rt, told, &[6], Some(6));
-    let told = put(&rt, &mut register, alloc, b'd', Some(1), false)?;
+    let told = twice!(put(&rt, &mut register, alloc, b'd', Some(1), false));
     shows(&rt, told, &[7, 6], Some(7));
     assert_eq!(rt; register.len(), 7);
     Ok(())

@@ -90,35 +90,50 @@ fn put(
 }
 
 // Where memory is refused nothing was put, and the same ask is answered as it would have been.
+fn put_or_again(
+    right: &mut WriteRight<'_, Listed>,
+    me: &mut Pass<Listed>,
+    alloc: Global,
+    number: u64,
+) -> Option<usize>
+    requires { me.old.home ≡ right.old.home }
+    ensures me { me.new.home ≡ me.old.home }
+    ensures right { right.new.home ≡ right.old.home }
+{
+    match put(right, me, alloc, number) {
+        Some(length) => Some(length),
+        None => put(right, me, alloc, number),
+    }
+}
+
+fn holds(gate: &Gate<Listed>, numbers: &[u64]) -> bool {
+    match gate.try_read() {
+        Some(right) => {
+            let is_so = match right.look(&mut gate.pass()) {
+                Ok(list) => list.now.as_slice() == numbers,
+                Err(_) => false,
+            };
+            right.release();
+            is_so
+        }
+        None => false,
+    }
+}
+
 #[test]
 fn a_list_takes_numbers_in_order(rt: HostRuntime) -> Result<(), Fail> {
-    let gate = Gate::new(
-        rt.alloc(),
-        Listed {
-            now: Vec::new(rt.alloc()),
-            next: Vec::new(rt.alloc()),
-        },
-    )
-    .ok()
-    .ok_or("a gate")?;
+    let empty = Listed {
+        now: Vec::new(rt.alloc()),
+        next: Vec::new(rt.alloc()),
+    };
+    let gate = Gate::new(rt.alloc(), empty).ok().ok_or("a gate")?;
     let mut me = gate.pass();
     let mut right = gate.try_write().ok_or("a right to write")?;
-    let mut first = put(&mut right, &mut me, rt.alloc(), 7);
-    if first.is_none() {
-        first = put(&mut right, &mut me, rt.alloc(), 7);
-    }
-    let mut second = put(&mut right, &mut me, rt.alloc(), 8);
-    if second.is_none() {
-        second = put(&mut right, &mut me, rt.alloc(), 8);
-    }
+    let first = put_or_again(&mut right, &mut me, rt.alloc(), 7);
+    let second = put_or_again(&mut right, &mut me, rt.alloc(), 8);
     right.release();
-    assert_eq!(rt; (first, second, me.seen()), (Some(1), Some(2), 2));
-    let reader = gate.try_read().ok_or("a right to read")?;
-    let holds_both = match reader.look(&mut me) {
-        Ok(list) => list.now.as_slice() == [7, 8].as_slice(),
-        Err(_) => false,
-    };
-    reader.release();
-    assert!(rt; holds_both);
+    assert_eq!(rt; first, Some(1));
+    assert_eq!(rt; second, Some(2));
+    assert!(rt; holds(&gate, &[7, 8]));
     Ok(())
 }

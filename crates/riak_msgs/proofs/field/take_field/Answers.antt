@@ -1,6 +1,5 @@
-use Rattle.std.proofs.Common.{◌≡◌, ℕ, ◌<◌, ◌^◌, List, ◌++◌, length, ap, sym, ◌∙◌, arith}
+use Rattle.std.proofs.Common.{◌≡◌, ◌++◌, sym, arith}
 use Rattle.std.proofs.lemmas.List.{take-append-drop}
-use Rattle.wire_varint.specs.Varint.{spelling}
 use Rattle.riak_msgs.proofs.Fields.{IsSized-behind_key, IsSized-other_size, IsSized-reads, IsSized-room, field_of, no_key, read_failed}
 use Rattle.riak_msgs.proofs.field.take_field.Goals as goal
 

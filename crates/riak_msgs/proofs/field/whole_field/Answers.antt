@@ -1,4 +1,4 @@
-use Rattle.std.proofs.Common.{[], sym, ◌∙◌, arith, rules}
+use Rattle.std.proofs.Common.{[], sym, ◌∙◌, arith}
 use Rattle.std.proofs.lemmas.List.{append-nil}
 use Rattle.riak_msgs.specs.Spelling.{bytes_field}
 use Rattle.riak_msgs.proofs.Fields.{field_whole, is_empty-false, is_empty-true, whole_same}

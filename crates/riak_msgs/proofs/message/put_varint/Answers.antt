@@ -1,4 +1,3 @@
-use Rattle.std.proofs.Common.{arith}
 use Rattle.wire_varint.proofs.Spelling.{length-spelling_le}
 use Rattle.riak_msgs.proofs.message.put_varint.Goals as goal
 

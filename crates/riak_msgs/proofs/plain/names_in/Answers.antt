@@ -1,4 +1,4 @@
-use Rattle.std.proofs.Common.{◌≡◌, List, ℕ, [], ◌++◌, ◌∙◌, ap, sym, arith}
+use Rattle.std.proofs.Common.{◌≡◌, ◌++◌, ◌∙◌, ap, sym, arith}
 use Rattle.riak_msgs.specs.Spelling.{bytes_field}
 use Rattle.riak_msgs.proofs.Fields.{fields_same, is_empty-true}
 use Rattle.riak_msgs.proofs.PlainBodies.{names_same}

@@ -1,4 +1,4 @@
-use Rattle.std.proofs.Common.{arith, inl, inr, refl, sym, ◌∙◌}
+use Rattle.std.proofs.Common.{arith, inr, refl}
 use Rattle.riak_msgs.proofs.PlainBodies.{put_spelled, names_same, refused, spelled_put}
 use Rattle.riak_msgs.proofs.request.read_put.Goals as goal
 

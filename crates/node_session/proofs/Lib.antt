@@ -1,0 +1,4 @@
+pub mod Known
+pub mod Replying
+pub mod Composing
+pub mod Ending

@@ -1,0 +1,78 @@
+-- How far a session has come with an input.
+use Rattle.std.specs.Prelude.{◌≡◌, ℕ, ◌⊎◌, ◌<◌, ◌++◌, List, [], Option, length, take}
+use Rattle.std.specs.List.{flat_map, All}
+use Rattle.std.specs.Io.KnownBytes.{Appends}
+use Rattle.pb_frame.specs.declared.fault.FrameFault.{FrameFault}
+use Rattle.pb_frame.specs.Limits.{longest_request}
+use Rattle.pb_frame.specs.Message.{Message, frame, IsWithin, IsPartial, IsFaulty}
+use Rattle.riak_msgs.specs.declared.request.Request.{Request}
+use Rattle.riak_msgs.specs.declared.reply.Reply.{Reply}
+use Rattle.riak_msgs.specs.declared.reply.Reply.TheVariants.{Error}
+use Rattle.node_session.specs.Answers.{Answers, Run, reply_frame, text_at, IsNoError}
+
+-- The input begins with the frames of messages, each of them was answered in its turn, and so many whole replies were
+-- written, and after them `last`. Ends says how it ended, with the node as it is after them and with what the input has after them.
+pub record Answered {S : Type 0} (Step : S → Request → Reply → S → Type 0) (node : S) (input : List ℕ) (held held' : Option (List ℕ)) (count : ℕ) (Ends : S → List ℕ → List ℕ → Type 0) : Type 0 where
+  pub messages : List Message
+  pub replies : List Reply
+  pub mid : S
+  pub rest : List ℕ
+  pub last : List ℕ
+  pub stream : input ≡ flat_map frame messages ++ rest
+  pub each : All (IsWithin longest_request) messages
+  pub run : Run Step node messages replies mid
+  pub counted : length messages ≡ count
+  pub written : Appends held held' (flat_map reply_frame replies ++ last)
+  pub ends : Ends mid rest last
+
+-- no part of a reply was written, and the node and the rest are these
+pub record Stands {S : Type 0} (node' : S) (rest' : List ℕ) (mid : S) (rest last : List ℕ) : Type 0 where
+  pub node : node' ≡ mid
+  pub left : rest' ≡ rest
+  pub nothing : last ≡ []
+
+-- each whole message was answered, and nothing is wrong with what is left
+pub record IsThrough {S : Type 0} (node' : S) (mid : S) (rest last : List ℕ) : Type 0 where
+  pub node : node' ≡ mid
+  pub partial : IsPartial longest_request rest
+  pub nothing : last ≡ []
+
+-- the next message, its answer, and the node after it
+pub record IsDue {S : Type 0} (Step : S → Request → Reply → S → Type 0) (mid : S) (rest : List ℕ) (next : List ℕ) (node' : S) : Type 0 where
+  pub message : Message
+  pub reply : Reply
+  pub more : List ℕ
+  pub front : rest ≡ frame message ++ more
+  pub within : IsWithin longest_request message
+  pub answers : Answers Step mid message reply node'
+  pub is : next ≡ reply_frame reply
+
+-- a bad length, and its error
+pub record IsError {S : Type 0} (mid : S) (rest : List ℕ) (next : List ℕ) (node' : S) : Type 0 where
+  pub fault : FrameFault
+  pub faulty : IsFaulty longest_request rest fault
+  pub node : node' ≡ mid
+  pub is : next ≡ reply_frame (Error (text_at fault))
+
+-- the error for a bad length was written whole
+abbrev pub IsBad : {S : Type 0} (node' : S) → S → List ℕ → List ℕ → Type 0
+IsBad node' mid rest last = IsError mid rest last node'
+
+-- what was written begins what was due next, and doesn't end it
+pub record IsCut {S : Type 0} (Step : S → Request → Reply → S → Type 0) (node' : S) (mid : S) (rest last : List ℕ) : Type 0 where
+  pub next : List ℕ
+  pub due : IsDue Step mid rest next node' ⊎ IsError mid rest next node'
+  pub len : ℕ
+  pub short : len < length next
+  pub begins : last ≡ take len next
+
+-- nothing of the next reply was written, which is no error, and the node stands behind its message
+pub record IsLost {S : Type 0} (Step : S → Request → Reply → S → Type 0) (node' : S) (mid : S) (rest last : List ℕ) : Type 0 where
+  pub nothing : last ≡ []
+  pub next : List ℕ
+  pub due : IsDue Step mid rest next node'
+  pub no_error : IsNoError due.reply
+
+-- a part of what was due next was written, or all was written and could not be flushed
+abbrev pub IsUnsent : {S : Type 0} (Step : S → Request → Reply → S → Type 0) (node' : S) → S → List ℕ → List ℕ → Type 0
+IsUnsent Step node' mid rest last = IsCut Step node' mid rest last ⊎ IsThrough node' mid rest last

@@ -1,0 +1,5 @@
+pub mod Answers
+pub mod Answered
+pub mod Session
+pub mod Steps
+pub mod PlainStep

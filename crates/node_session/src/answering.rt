@@ -1,0 +1,133 @@
+//! Answers to the messages that have come.
+
+ghost use Rattle.std.specs.Prelude.{◌≡◌, ◌<◌, ◌^◌, IfOk, IfErr, None, length};
+ghost use Rattle.pb_frame.specs.Limits.{longest_request};
+ghost use Rattle.node_session.specs.declared.sending.Stop.TheVariants.{Lost};
+ghost use Rattle.node_session.specs.Answers.{reply_frame, text_for, text_at};
+ghost use Rattle.node_session.specs.Steps.{Answering, SendsReply, AnswersNext, AnswersAll};
+
+use crate::error_frame::error_frame;
+use crate::node::Node;
+use crate::sending::{Stop, send};
+use pb_frame::{FrameFault, Framer, frame_of};
+use riak_msgs::{MsgFault, Reply, Text, read_request, write_reply};
+use std::alloc::Global;
+use std::io::Write;
+
+fn text_for(fault: MsgFault) -> Text
+    ensures { result ≡ text_for fault }
+{
+    match fault {
+        MsgFault::UnknownCode => Text::UnknownCode,
+        MsgFault::BadMessage => Text::BadMessage,
+        MsgFault::MissingField => Text::MissingField,
+        MsgFault::EmptyName => Text::EmptyName,
+        MsgFault::NoKey => Text::NoKey,
+        MsgFault::NoMemory => Text::NoMemory,
+    }
+}
+
+fn text_at(fault: FrameFault) -> Text
+    ensures { result ≡ text_at fault }
+{
+    match fault {
+        FrameFault::Empty => Text::BadFrame,
+        FrameFault::TooLarge => Text::FrameTooLarge,
+        FrameFault::NoMemory => Text::NoMemory,
+    }
+}
+
+/// The frame of a reply.
+fn spell(alloc: Global, reply: &Reply) -> Result<Vec<u8>, Stop>
+    ensures ok { IfOk result (λ v. v.items ≡ reply_frame reply.now) }
+    ensures err { IfErr result (λ e. e ≡ Lost) }
+{
+    let Ok(spelled) = write_reply(alloc, reply) else {
+        return Err(Stop::Lost);
+    };
+    match spelled.as_slice() {
+        [code, body @ ..] => match frame_of(alloc, *code, body) {
+            Ok(frame) => Ok(frame),
+            Err(_) => Err(Stop::Lost),
+        },
+        [] => Err(Stop::Lost),
+    }
+}
+
+/// Sends a reply. An error takes no memory.
+fn send_reply<W: Write>(alloc: Global, writer: &mut W, reply: &Reply) -> Result<(), Stop>
+    ensures { SendsReply (W.contents writer.old) (W.contents writer.new) reply.now result }
+{
+    match reply {
+        Reply::Error(text) => send(writer, error_frame(*text)),
+        other => {
+            let frame = spell(alloc, other)?;
+            send(writer, &frame)
+        }
+    }
+}
+
+/// Answers one message.
+fn answer<W: Write, N: Node>(
+    alloc: Global,
+    code: u8,
+    body: &[u8],
+    writer: &mut W,
+    node: &mut N,
+) -> Result<(), Stop>
+    ensures { Answering N.step node.old (record { code = code; body = body.now }) node.new (W.contents writer.old) (W.contents writer.new) result }
+{
+    match read_request(alloc, code, body) {
+        Ok(request) => {
+            let reply = node.answer(alloc, request);
+            send_reply(alloc, writer, &reply)
+        }
+        Err(fault) => send(writer, error_frame(text_for(fault))),
+    }
+}
+
+/// Answers the next message, if a whole one has come.
+fn answer_next<W: Write, N: Node>(
+    alloc: Global,
+    framer: &mut Framer,
+    writer: &mut W,
+    node: &mut N,
+) -> Result<bool, Stop>
+    requires limit { framer.old.limit ≡ longest_request }
+    requires untold { framer.old.fault ≡ None }
+    ensures { AnswersNext N.step node.old node.new framer.old framer.new (W.contents writer.old) (W.contents writer.new) result }
+{
+    match framer.take() {
+        Ok(Some(frame)) => {
+            answer(alloc, frame.code, frame.body, writer, node)?;
+            Ok(true)
+        }
+        Ok(None) => Ok(false),
+        Err(fault) => {
+            send(writer, error_frame(text_at(fault)))?;
+            Err(Stop::Bad)
+        }
+    }
+}
+
+/// Answers each whole message that has come. The number is how many replies were written.
+pub(crate) fn answer_all<W: Write, N: Node>(
+    alloc: Global,
+    framer: &mut Framer,
+    writer: &mut W,
+    node: &mut N,
+) -> (u64, Result<(), Stop>)
+    requires limit { framer.old.limit ≡ longest_request }
+    requires untold { framer.old.fault ≡ None }
+    requires room { length framer.old.rest < 2 ^ 64 }
+    ensures { AnswersAll N.step node.old node.new framer.old framer.new (W.contents writer.old) (W.contents writer.new) result.0 result.1 }
+{
+    let mut replies = 0;
+    loop {
+        match answer_next(alloc, framer, writer, node) {
+            Ok(true) => replies += 1,
+            Ok(false) => return (replies, Ok(())),
+            Err(stop) => return (replies, Err(stop)),
+        }
+    }
+}

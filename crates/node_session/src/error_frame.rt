@@ -1,0 +1,34 @@
+//! Errors as they are written.
+
+ghost use Rattle.std.specs.Prelude.{◌≡◌};
+ghost use Rattle.riak_msgs.specs.declared.reply.Reply.TheVariants.{Error};
+ghost use Rattle.node_session.specs.Answers.{reply_frame};
+
+use riak_msgs::Text;
+
+/// The frame of an error reply. It takes no memory, so that want of memory can be told too.
+#[tactic(auto, unfolding(pb_frame::specs::Message::frame, wire_varint::specs::Varint::spelling, wire_varint::specs::Varint::spelled))]
+pub(crate) fn error_frame(text: Text) -> &'static [u8]
+    ensures { result.now ≡ reply_frame (Error text) }
+{
+    match text {
+        Text::UnknownCode => b"\0\0\0\x19\0\x0a\x14unknown message code\x10\x01",
+        Text::BadMessage => b"\0\0\0\x10\0\x0a\x0bbad message\x10\x01",
+        Text::MissingField => b"\0\0\0\x12\0\x0a\x0dmissing field\x10\x01",
+        Text::EmptyName => b"\0\0\0\x0f\0\x0a\x0aempty name\x10\x01",
+        Text::NoKey => b"\0\0\0\x11\0\x0a\x0ckey required\x10\x01",
+        Text::NoMemory => b"\0\0\0\x0e\0\x0a\x09no memory\x10\x01",
+        Text::MatchFound => b"\0\0\0\x10\0\x0a\x0bmatch_found\x10\x01",
+        Text::Modified => b"\0\0\0\x0d\0\x0a\x08modified\x10\x01",
+        Text::NotFound => b"\0\0\0\x0d\0\x0a\x08notfound\x10\x01",
+        Text::BadContext => b"\0\0\0\x10\0\x0a\x0bbad context\x10\x01",
+        Text::TooManySiblings => b"\0\0\0\x16\0\x0a\x11too many siblings\x10\x01",
+        Text::ClockFull => b"\0\0\0\x0f\0\x0a\x0aclock full\x10\x01",
+        Text::EpochsUsedUp => b"\0\0\0\x13\0\x0a\x0eepochs used up\x10\x01",
+        Text::CounterUsedUp => b"\0\0\0\x14\0\x0a\x0fcounter used up\x10\x01",
+        Text::Moved => b"\0\0\0\x0a\0\x0a\x05moved\x10\x01",
+        Text::HistoryFull => b"\0\0\0\x11\0\x0a\x0chistory full\x10\x01",
+        Text::BadFrame => b"\0\0\0\x0e\0\x0a\x09bad frame\x10\x01",
+        Text::FrameTooLarge => b"\0\0\0\x14\0\x0a\x0fframe too large\x10\x01",
+    }
+}

@@ -1,0 +1,6 @@
+//! Whole sessions, from bytes to bytes.
+
+mod connections;
+mod faults;
+mod messages;
+mod streams;

@@ -1,0 +1,38 @@
+//! What a vnode is asked to change, and what it answers.
+
+use riak_msgs::{PutAsk, PutReply};
+
+/// A command that may change a vnode.
+#[derive(Debug, Drop)]
+pub enum Ask {
+    /// Write a content under a key.
+    Put(PutAsk),
+}
+
+/// What was done with a key that was to be forgotten.
+#[derive(Clone, Copy, Debug, Drop, PartialEq, Eq)]
+pub enum Reaped {
+    /// It was dead, and is forgotten with its clock.
+    Gone,
+    /// It has a value, and stays as it is.
+    Kept,
+    /// It wasn't there.
+    Absent,
+}
+
+/// The answer to an accepted command.
+#[derive(Debug, Drop)]
+pub enum Answer {
+    Put(PutReply),
+    Del,
+    Reaped(Reaped),
+}
+
+/// What a command comes to, before anything has changed.
+#[derive(Debug, Drop)]
+pub enum Plan<C, R> {
+    /// A change, which is still to be finished.
+    Change(C),
+    /// Nothing changes, and this is the answer.
+    Nothing(R),
+}

@@ -1,0 +1,26 @@
+//! A change that is planned and not yet made.
+
+use crate::room::Room;
+use riak_msgs::{Content, Key, PutReply};
+use std::marker::Model;
+
+/// A write that a vnode has accepted and not yet made: its key and content, the room where it goes, and the reply that
+/// it will be answered by.
+#[derive(Drop)]
+pub struct Change {
+    pub(crate) key: Key,
+    pub(crate) content: Content,
+    pub(crate) room: Room,
+    pub(crate) reply: PutReply,
+}
+
+impl Model for Change {
+    ghost use Rattle.vnode_core.specs.Plans.{Planned};
+    ghost use Rattle.vnode_core.specs.Rooms.{HasRoom, place_of};
+
+    ghost Value = { Planned };
+
+    ghost view = { λ c. record { key = c.key; content = c.content; place = place_of c.room; reply = c.reply } };
+
+    ghost invariant = { λ c. HasRoom c.room };
+}

@@ -1,0 +1,47 @@
+//! Why a vnode refuses a command.
+
+ghost use Rattle.std.specs.Prelude.{◌≡◌};
+ghost use Rattle.vnode_core.specs.declared.refusal.Refusal.TheVariants.{NoMemory};
+
+use std::alloc::AllocError;
+use thiserror::Error;
+
+/// Why a vnode refuses a command. Each refusal leaves the vnode as it was.
+#[derive(Clone, Copy, Debug, Drop, Error, PartialEq, Eq)]
+pub enum Refusal {
+    /// A put asked for no value under its key, and there is one.
+    #[error("match_found")]
+    MatchFound,
+    /// A put asked for an unchanged key, and its context isn't the key's.
+    #[error("modified")]
+    Modified,
+    /// A put asked for an unchanged key, and the key has no value.
+    #[error("notfound")]
+    NotFound,
+    /// The context isn't of the form, or names dots that this vnode hasn't given.
+    #[error("bad context")]
+    BadContext,
+    /// More than 63 siblings would stay beside the new one.
+    #[error("too many siblings")]
+    TooManySiblings,
+    /// The key's clock would have more than 64 actors.
+    #[error("clock full")]
+    ClockFull,
+    /// The key is absent, and the vnode has no epoch left for a new life.
+    #[error("epochs used up")]
+    EpochsUsedUp,
+    /// The key's actor has no dot left.
+    #[error("counter used up")]
+    CounterUsedUp,
+    /// Memory was refused.
+    #[error("no memory")]
+    NoMemory,
+}
+
+impl From<AllocError> for Refusal {
+    ghost from_gives = { λ _ refusal. refusal ≡ NoMemory };
+
+    fn from(_error: AllocError) -> Refusal {
+        Refusal::NoMemory
+    }
+}

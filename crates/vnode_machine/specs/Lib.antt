@@ -1,0 +1,6 @@
+pub mod Machine
+pub mod Asks
+pub mod Lives
+pub mod Replay
+pub mod Replies
+pub mod Laws

@@ -1,0 +1,35 @@
+//! The vnode machine: what one vnode means, and the law that it is a sibling register.
+//!
+//! A vnode keeps for each defined key an actor and a dotted version vector set (`specs/Machine`, `State`). A write or
+//! tombstone discards what its context covers and then takes the next dot of the key's actor, a new actor where the key
+//! is absent; a reap forgets a dead key whole (`changed_by`). What it refuses, in which order, is `put_check` and
+//! `del_check`; what it shows is `get_reply` and `put_reply` (`specs/Replies`). The replay of a list of events is the
+//! machine's state after them (`specs/Replay`, `replay`, `HasReplay`).
+//!
+//! So a vnode keeps one compact clock a key and forgets it at a reap, and yet behaves as `sibling_register` does, which
+//! keeps every event for good and compares sets of numbers: that is `machine_is_register`. The premises of its clauses
+//! are those of `specs/Laws`, and the proof goes over the history, event by event (`proofs/Steps`): the live dots of a
+//! key are its siblings, one by one, and what an earlier position knew splits them into those that it had seen and those
+//! that came later.
+//!
+//! One life of a key at vnode 65536, written as (epoch, counter):
+//!
+//! ```text
+//! put "v"                     live (1,1) "v"                knows (1,1)
+//! put "w"                     live (1,2) "w", (1,1) "v"     knows (1,2)
+//! put "x" by context (1,1)    live (1,3) "x", (1,2) "w"     knows (1,3)
+//! delete                      live (1,4) tombstone          knows (1,4)
+//! reap                        absent
+//! put "y"                     live (2,1) "y"                knows (2,1)
+//! put "z" by context (1,1)    live (2,2) "z", (2,1) "y"     knows (1,1), (2,2)
+//! ```
+//!
+//! This crate has definitions and laws alone: nothing in it runs, so it costs nothing. Definitions of the state compute,
+//! and `proofs/Rows` evaluates whole exchanges on them.
+#![tactic(auto)]
+
+mod laws;
+
+pub use laws::{
+    dots_are_of_lives, machine_is_register, no_dot_is_issued_twice, shown_context_is_the_name,
+};
