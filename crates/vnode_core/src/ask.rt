@@ -9,7 +9,7 @@ pub enum Ask {
     Put(PutAsk),
 }
 
-/// What was done with a key that was to be forgotten.
+/// What became of a key that was to be forgotten. (No command asks for it yet.)
 #[derive(Clone, Copy, Debug, Drop, PartialEq, Eq)]
 pub enum Reaped {
     /// It was dead, and is forgotten with its clock.
@@ -23,8 +23,11 @@ pub enum Reaped {
 /// The answer to an accepted command.
 #[derive(Debug, Drop)]
 pub enum Answer {
+    /// To a put: what it asked to be shown, else nothing.
     Put(PutReply),
+    /// To a delete.
     Del,
+    /// To a reap.
     Reaped(Reaped),
 }
 

@@ -4,8 +4,9 @@ use crate::room::Room;
 use riak_msgs::{Content, Key, PutReply};
 use std::marker::Model;
 
-/// A write that a vnode has accepted and not yet made: its key and content, the room where it goes, and the reply that
-/// it will be answered by.
+/// A put that a vnode has accepted and not yet made: its key and content, the room where it goes, and the reply that
+/// will answer it. It can only be made, by the vnode that planned it and with no other change between, or be let go,
+/// which leaves the vnode as it is.
 #[derive(Drop)]
 pub struct Change {
     pub(crate) key: Key,

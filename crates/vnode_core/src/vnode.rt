@@ -1,12 +1,11 @@
-//! A vnode.
+//! One vnode.
 
-ghost use Rattle.std.specs.Prelude.{◌≡◌, ◌-◌, ◌≤◌, ◌<◌, [], None, true, false, map, IfOk, IfErr, length, vec_len, vec_capacity};
+ghost use Rattle.std.specs.Prelude.{◌≡◌, ◌-◌, ◌≤◌, [], None, IfOk, IfErr};
 ghost use Rattle.vnode_machine.specs.Machine.{opening, changed_by};
 ghost use Rattle.vnode_machine.specs.Asks.{get_command, put_command};
 ghost use Rattle.vnode_machine.specs.Replies.{get_reply};
 ghost use Rattle.sibling_register.specs.History.{Write};
-ghost use Rattle.vnode_core.specs.Held.{IsHeld};
-ghost use Rattle.vnode_core.specs.Plans.{IsReady, IsBlindGet, IsBlindPut, IsPlanOf, Refuses, IsBlindAsk, PreparesAsk, RefusesAsk, IsRoomFor, RefusesBlindPuts, put_of, blind_put, nothing, nothing_after, siblings_of};
+ghost use Rattle.vnode_core.specs.Plans.{IsReady, IsBlindGet, IsBlindPut, IsPlanOf, Refuses, IsBlindAsk, PreparesAsk, RefusesAsk, IsRoomFor, RefusesBlindPuts, put_of, blind_put};
 ghost use Rattle.vnode_core.specs.Register.{IsAfter, ShowsTold, MayRefuse, GoesOn};
 
 use crate::ask::{Answer, Ask, Plan};
@@ -14,13 +13,32 @@ use crate::change::Change;
 use crate::held::Held;
 use crate::place::{Place, place_of};
 use crate::refusal::Refusal;
+use crate::replies::{absent, accepted, siblings};
 use crate::room::Room;
 use actor_epoch::{Actor, GREATEST_EPOCH};
-use riak_msgs::{Bytes, Content, GetAsk, GetReply, Key, PutAsk, PutReply, Sequence};
-use std::alloc::{AllocError, Global};
+use riak_msgs::{GetAsk, GetReply, Key, PutAsk};
+use std::alloc::Global;
 use std::marker::Model;
 
-/// A vnode.
+/// One vnode: the keys that it holds, each with its siblings. Contracts see the vnode machine's state, and the place
+/// where a planned change finds room.
+///
+/// A life, of a vnode with id 65536 and first epoch 1, and of the key k in the bucket b:
+///
+/// - `new`: it holds no key and has given no epoch. A get of b/k shows nothing, and no context.
+/// - put "v": b/k is absent, so a life of it begins, at the actor (65536, 1), and "v" has that actor's dot 1. A get
+///   shows "v", and a context of one entry: the actor with counter 1.
+/// - put "w", again without a context: it saw nothing, so "v" stays beside it. "w" has dot 2. A get shows "w" and "v",
+///   the newest first, and the actor with counter 2.
+/// - put on b/j: a life of another key, at the actor (65536, 2).
+/// - 62 puts more on b/k are accepted. Then it has 64 siblings, and the next is refused: `TooManySiblings`. What a get
+///   shows stays as it was.
+///
+/// So far a put gives no context and sets no option, and a get gives no `if_modified`.
+///
+/// Sources: get and put are those of Riak's Protocol Buffers client API; dots, and which siblings stay, are those of
+/// dotted version vector sets (Preguiça, Baquero, Almeida, Fonte, Gonçalves); an actor for each life is Riak's actor
+/// epoch.
 #[derive(Drop)]
 pub struct Vnode {
     id: u64,
@@ -29,7 +47,7 @@ pub struct Vnode {
     tombstones: u64,
     reaps: u64,
     held: Vec<Held>,
-    // Where a change that was planned finds room.
+    // Where the change that was planned last finds room.
     ready: Option<Place>,
 }
 
@@ -45,43 +63,8 @@ impl Model for Vnode {
     ghost invariant = { IsVnode };
 }
 
-/// The reply that shows nothing.
-fn absent(alloc: Global) -> GetReply
-    ensures { result ≡ nothing }
-{
-    GetReply {
-        contents: Sequence::new(alloc),
-        context: Bytes::new(alloc),
-        unchanged: false,
-    }
-}
-
-/// The reply that shows all siblings of a key.
-fn siblings(alloc: Global, held: &Held, is_bare: bool) -> Result<GetReply, AllocError>
-    requires { IsHeld held.now }
-    ensures { IfOk result (λ reply. reply ≡ siblings_of held.now is_bare) }
-{
-    let contents = held.show_all(alloc, is_bare)?;
-    let context = held.context(alloc)?;
-    Ok(GetReply {
-        contents,
-        context,
-        unchanged: false,
-    })
-}
-
-/// The reply of a put that shows nothing.
-fn empty_reply(alloc: Global) -> PutReply
-    ensures { result ≡ nothing_after }
-{
-    PutReply {
-        contents: Sequence::new(alloc),
-        context: Bytes::new(alloc),
-    }
-}
-
 impl Vnode {
-    /// A vnode of no keys, whose first life gets this epoch.
+    /// A vnode that holds no key, and whose first life gets the epoch `first_epoch`. It takes no memory.
     pub fn new(alloc: Global, id: u64, first_epoch: u32) -> Vnode
         requires { 1 ≤ first_epoch }
         ensures state { result.state ≡ opening id (first_epoch - 1) }
@@ -98,7 +81,10 @@ impl Vnode {
         }
     }
 
-    /// The siblings of a key.
+    /// Shows a key: copies of its siblings, the newest first, and the bytes of its context; nothing, where the key is
+    /// absent. With `head` the values are empty.
+    ///
+    /// Refused for want of memory alone.
     pub fn get(&self, alloc: Global, ask: &GetAsk) -> Result<GetReply, Refusal>
         requires { IsBlindGet ask.now }
         ensures ok { IfOk result (λ reply. reply ≡ get_reply self.now.state (get_command ask.now None)) }
@@ -151,11 +137,16 @@ impl Vnode {
             key: put.key,
             content: put.content,
             room,
-            reply: empty_reply(alloc),
+            reply: accepted(alloc),
         })
     }
 
-    /// Plans a write.
+    /// Plans a command: checks it, and makes all the room that it needs. Nothing changes until the change is finished;
+    /// a change that isn't finished is as if never asked for, and the next `prepare` or `finish` gives its room away.
+    ///
+    /// Refusals, the first that holds, by checks that take no memory: `TooManySiblings`, where the key has 64;
+    /// `EpochsUsedUp`, where the key is absent and the epoch 4,294,967,295 was given. `NoMemory`, where neither holds
+    /// and a growth was refused. Each leaves the vnode as it was.
     pub fn prepare(&mut self, alloc: Global, ask: Ask) -> Result<Plan<Change, Answer>, Refusal>
         requires { IsBlindAsk ask }
         ensures same { self.new.state ≡ self.old.state }
@@ -168,7 +159,7 @@ impl Vnode {
         }
     }
 
-    /// Makes a write that was planned.
+    /// Makes a change that this vnode planned last, and answers it. It takes no memory and is never refused.
     pub fn finish(&mut self, change: Change) -> Answer
         requires { IsReady self.old change }
         ensures state { self.new.state ≡ changed_by self.old.state change.key None (Write change.content) }

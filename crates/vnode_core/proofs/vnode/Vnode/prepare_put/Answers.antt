@@ -20,6 +20,6 @@ returns-clause-ok c =
     record {
       key = refl;
       content = refl;
-      ready = record { accepted = room.accepted c.args.put.content; place = room.place; room = room.ready; reply = c.empty_reply.ensures };
-      reply = c.empty_reply.ensures ∙ sym (silent (changed_by c.make_room.new.self.state c.args.put.key None (Write c.args.put.content)) c.args.put c.requires);
+      ready = record { accepted = room.accepted c.args.put.content; place = room.place; room = room.ready; reply = c.accepted.ensures };
+      reply = c.accepted.ensures ∙ sym (silent (changed_by c.make_room.new.self.state c.args.put.key None (Write c.args.put.content)) c.args.put c.requires);
     }
