@@ -22,3 +22,4 @@ pub mod BadContexts
 pub mod Puts
 pub mod Dels
 pub mod LiveDots
+pub mod LeavingLaw

@@ -4,3 +4,4 @@ pub mod Lives
 pub mod Replay
 pub mod Replies
 pub mod Laws
+pub mod Leaving

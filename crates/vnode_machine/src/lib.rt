@@ -32,4 +32,5 @@ mod laws;
 
 pub use laws::{
     dots_are_of_lives, machine_is_register, no_dot_is_issued_twice, shown_context_is_the_name,
+    values_leave_only_covered,
 };
