@@ -1,6 +1,6 @@
 -- What the machine checks of a blind put.
-use Rattle.std.proofs.Common.{◌≡◌, ℕ, suc, ◌≤◌, ◌<◌, Bool, true, false, cond, List, [], ◌∷◌, length, refl, sym, ◌∙◌, ap, arith, map, subst}
-use Rattle.std.specs.Prelude.{Option, Some, None, nat_le, nat_eq, max, if◌then◌else◌, ◌==◌}
+use Rattle.std.proofs.Common.{◌≡◌, ℕ, suc, ◌≤◌, ◌<◌, true, false, cond, List, [], ◌∷◌, length, refl, sym, ◌∙◌, ap, arith, map, subst}
+use Rattle.std.specs.Prelude.{Option, Some, None, nat_le, nat_eq, max}
 use Rattle.std.proofs.lemmas.List.{length-map}
 use Rattle.std.proofs.lemmas.Bool.Decides.{nat_tests}
 use Rattle.std.specs.FinMap.Entries.{find}
@@ -11,13 +11,15 @@ use Rattle.riak_msgs.specs.KeyOrder.{key_cmp}
 use Rattle.actor_epoch.specs.declared.Actor.{Actor}
 use Rattle.actor_epoch.specs.declared.limits.TheConstants.{GREATEST_EPOCH}
 use Rattle.vnode_machine.specs.Asks.{put_command}
-use Rattle.vnode_machine.specs.Machine.{Context, State, Stored, put_check}
+use Rattle.vnode_machine.specs.Machine.{State, put_check}
 use Rattle.vnode_machine.specs.Replies.{put_reply}
 use Rattle.vnode_core.specs.declared.held.Held.{Held}
 use Rattle.vnode_core.specs.declared.refusal.Refusal.{Refusal}
 use Rattle.vnode_core.specs.declared.refusal.Refusal.TheVariants.{MatchFound, Modified, NotFound, BadContext, TooManySiblings, ClockFull, EpochsUsedUp, CounterUsedUp, NoMemory}
 use Rattle.vnode_core.specs.Held.{live_of, clock_with, entry_of, RefusesRoom}
-use Rattle.vnode_core.specs.Plans.{IsBlindPut, blind_put, nothing_after, RefusesBlindPuts}
+use Rattle.vnode_core.specs.Plans.{IsBlindPut, blind_put}
+use Rattle.vnode_core.specs.Replies.{nothing_after}
+use Rattle.vnode_core.specs.Rooms.{RefusesBlindPuts}
 use Rattle.vnode_core.proofs.Clocks.{filter-all, actor_eq-refl, actor_cmp-refl}
 
 -- a put that gives no context and sets no option is known by its key and content

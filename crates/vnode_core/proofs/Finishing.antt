@@ -1,6 +1,6 @@
 -- What a planned write makes of a vnode.
-use Rattle.std.proofs.Common.{◌≡◌, ℕ, suc, ◌+◌, ◌-◌, ◌^◌, ◌≤◌, ◌<◌, Bool, true, false, cond, List, [], ◌∷◌, ◌++◌, length, refl, sym, ◌∙◌, ap, arith, subst, set, map, get_or, take, drop, T}
-use Rattle.std.specs.Prelude.{Option, Some, None, nat_le, nat_eq, min, slice_get, insert, IsTrue, All, vec_len, vec_capacity}
+use Rattle.std.proofs.Common.{◌≡◌, ℕ, ◌+◌, ◌^◌, ◌≤◌, ◌<◌, Bool, true, false, cond, List, [], ◌∷◌, ◌++◌, length, refl, sym, ◌∙◌, ap, arith, subst, set, map, get_or, take, drop, T}
+use Rattle.std.specs.Prelude.{Option, Some, None, nat_le, nat_eq, insert, IsTrue, All, vec_len, vec_capacity}
 use Rattle.std.specs.declared.vec.Vec.{Vec}
 use Rattle.std.specs.declared.alloc.Global.{Global}
 use Rattle.std.proofs.lemmas.Float.{T_from_true}
@@ -18,17 +18,15 @@ use Rattle.actor_epoch.specs.declared.Actor.{Actor}
 use Rattle.actor_epoch.specs.declared.limits.TheConstants.{GREATEST_EPOCH}
 use Rattle.sibling_register.specs.History.{Write}
 use Rattle.dvv_set.specs.Clocks.{discard, event}
-use Rattle.vnode_machine.specs.Machine.{State, Stored, changed_by, put_check, counted, next_actor}
+use Rattle.vnode_machine.specs.Machine.{State, Stored, changed_by, counted, next_actor}
 use Rattle.vnode_core.specs.declared.held.Held.{Held}
-use Rattle.vnode_core.specs.declared.place.Place.{Place}
-use Rattle.vnode_core.specs.declared.place.Place.TheVariants.{At, New}
+use Rattle.vnode_core.specs.declared.place.Place.TheVariants.{At}
 use Rattle.vnode_core.specs.declared.room.Room.{Room}
 use Rattle.vnode_core.specs.declared.room.Room.TheVariants as rooms
 use Rattle.vnode_core.specs.declared.vnode.Vnode.TheInside.{Inside}
 use Rattle.vnode_core.specs.Held.{entry_of, clock_with, IsHeld}
-use Rattle.vnode_core.specs.Places.{place_in}
-use Rattle.vnode_core.specs.Plans.{View, Planned, IsReady, blind_put}
-use Rattle.vnode_core.specs.Rooms.{place_of}
+use Rattle.vnode_core.specs.Plans.{View, Planned, IsReady}
+use Rattle.vnode_core.specs.Rooms.{room_place}
 use Rattle.vnode_core.specs.Vnodes.{view_of, IsVnode, HasRoomAt}
 use Rattle.vnode_core.proofs.Checking.{check_held, check_new}
 use Rattle.vnode_core.proofs.Clocks.{event_with}
@@ -37,7 +35,7 @@ use Rattle.vnode_core.proofs.Holding.{HoldsAt, stands, missing, is_held_at, read
 
 -- the change, as the code has it in hand
 abbrev pub planned : Key → Content → Room → PutReply → Planned
-planned key content room reply = record { key = key; content = content; place = place_of room; reply = reply }
+planned key content room reply = record { key = key; content = content; place = room_place room; reply = reply }
 
 -- it may be finished at the vnode in hand
 pub ready_here : (v : Inside) (vnode : View) (key : Key) (content : Content) (room known : Room) (reply : PutReply) (change : Planned)

@@ -1,6 +1,6 @@
 -- What a vnode holds at the place of a key, and what the machine answers by it.
-use Rattle.std.proofs.Common.{◌≡◌, ℕ, zero, suc, ◌+◌, ◌≤◌, ◌<◌, ◌^◌, Bool, true, false, cond, List, [], ◌∷◌, length, refl, sym, ◌∙◌, ap, arith, subst, set, map, get_or}
-use Rattle.std.specs.Prelude.{Option, Some, None, slice_get, option_map, insert, IsTrue, All}
+use Rattle.std.proofs.Common.{◌≡◌, ℕ, ◌≤◌, ◌<◌, ◌^◌, Bool, false, List, [], ◌∷◌, length, refl, sym, ◌∙◌, ap, arith, subst, set, map, get_or}
+use Rattle.std.specs.Prelude.{Option, Some, None, slice_get, option_map, IsTrue, All}
 use Rattle.std.proofs.lemmas.Option.{slice_get-map, slice_get_within, get_or_from_slice_get}
 use Rattle.std.proofs.lemmas.List.Elements.{All-get_or}
 use Rattle.std.proofs.Math.Seq.{map-set_same}
@@ -19,7 +19,7 @@ use Rattle.vnode_core.specs.declared.place.Place.TheVariants.{At, New}
 use Rattle.vnode_core.specs.declared.held.Held.{Held}
 use Rattle.vnode_core.specs.Held.{entry_of, clock_with, live_of, IsHeld, SameButRoom}
 use Rattle.vnode_core.specs.Places.{place_in}
-use Rattle.vnode_core.specs.Plans.{nothing}
+use Rattle.vnode_core.specs.Replies.{nothing}
 use Rattle.vnode_core.proofs.Finding.{at_place, new_place, IsMissingAt}
 
 -- a key stands at its place

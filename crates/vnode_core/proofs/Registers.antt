@@ -5,10 +5,10 @@ use Rattle.riak_msgs.specs.declared.Content.{Content}
 use Rattle.riak_msgs.specs.declared.GetReply.{GetReply}
 use Rattle.riak_msgs.specs.declared.PutReply.{PutReply}
 use Rattle.sibling_register.specs.History.{Event, Write}
-use Rattle.sibling_register.specs.Answers.{GetCommand, PutCommand, Told, AskPut, Refused, Accepts, Answers, MayGive, get_told, put_told}
+use Rattle.sibling_register.specs.Answers.{GetCommand, PutCommand, AskPut, Refused, Answers, MayGive, get_told}
 use Rattle.vnode_machine.specs.Machine.{Context, State, put_check, changed_by}
 use Rattle.vnode_machine.specs.Replay.{replay, naming}
-use Rattle.vnode_machine.specs.Replies.{get_reply, get_shown, put_reply, put_shown}
+use Rattle.vnode_machine.specs.Replies.{get_reply, get_shown, put_reply}
 use Rattle.vnode_machine.specs.Laws.{put_event, put_sight, PutIsGiven}
 use Rattle.vnode_machine.proofs.Gets.{get_is_legal}
 use Rattle.vnode_machine.proofs.Puts.{put_is_legal}
@@ -17,8 +17,8 @@ use Rattle.vnode_core.specs.declared.ask.Answer.{Answer}
 use Rattle.vnode_core.specs.declared.ask.Answer.TheVariants.{Put}
 use Rattle.vnode_core.specs.declared.refusal.Refusal.{Refusal}
 use Rattle.vnode_core.specs.declared.refusal.Refusal.TheVariants.{MatchFound, Modified, NotFound, BadContext, TooManySiblings, ClockFull, EpochsUsedUp, CounterUsedUp, NoMemory}
-use Rattle.vnode_core.specs.Plans.{Refuses, number_of}
-use Rattle.vnode_core.specs.Register.{IsAfter, AtEachHistory, ShowsTold, MayRefuse, IsNext, GoesOn}
+use Rattle.vnode_core.specs.Plans.{Refuses}
+use Rattle.vnode_core.specs.Register.{IsAfter, AtEachHistory, ShowsTold, MayRefuse, GoesOn}
 
 pub shows_told : (state : State Content) (get : GetCommand Context) (reply : GetReply) → reply ≡ get_reply state get → ShowsTold state get reply
 shows_told state get reply is = λ vnode last_epoch history after.

@@ -1,6 +1,6 @@
 -- Room for one value more of a key.
-use Rattle.std.proofs.Common.{◌≡◌, ℕ, ◌≤◌, ◌<◌, List, length, refl, sym, ◌∙◌, ap, arith, subst, set, map, get_or, length-set, get_or-set_same}
-use Rattle.std.specs.Prelude.{Option, Some, None, slice_get, IsTrue, All, vec_len, vec_capacity}
+use Rattle.std.proofs.Common.{◌≡◌, ℕ, ◌<◌, List, length, refl, sym, ◌∙◌, ap, arith, subst, set, map, get_or, length-set, get_or-set_same}
+use Rattle.std.specs.Prelude.{Option, Some, slice_get, IsTrue, vec_len, vec_capacity}
 use Rattle.std.specs.Vec.{with_item}
 use Rattle.std.proofs.lemmas.Option.{slice_get-get_or, slice_get_within}
 use Rattle.std.proofs.lemmas.List.Elements.{All-set}
@@ -20,8 +20,8 @@ use Rattle.std.specs.declared.alloc.Global.{Global}
 use Rattle.vnode_core.specs.declared.room.Room.TheVariants as rooms
 use Rattle.vnode_machine.specs.Machine.{Stored}
 use Rattle.vnode_core.specs.Places.{place_in}
-use Rattle.vnode_core.specs.Plans.{View, IsRoomFor}
-use Rattle.vnode_core.specs.Rooms.{HasRoom}
+use Rattle.vnode_core.specs.Plans.{View}
+use Rattle.vnode_core.specs.Rooms.{HasRoom, IsRoomFor}
 use Rattle.vnode_core.proofs.Checking.{accepts_held, accepts_new}
 use Rattle.vnode_core.proofs.Holding.{HoldsAt, entry_same, entries_same, held_same, is_held_at, missing, read_at}
 

@@ -1,22 +1,17 @@
 -- What callers see of a vnode and of a planned change, and when a change may be finished.
-use Rattle.std.specs.Prelude.{◌≡◌, Bool, false, List, [], ℕ, map, Option, Some, None}
+use Rattle.std.specs.Prelude.{◌≡◌, false, [], ℕ, Option, Some, None}
 use Rattle.riak_msgs.specs.declared.Key.{Key}
 use Rattle.riak_msgs.specs.declared.Content.{Content}
 use Rattle.riak_msgs.specs.declared.GetAsk.{GetAsk}
-use Rattle.riak_msgs.specs.declared.GetReply.{GetReply}
 use Rattle.riak_msgs.specs.declared.PutAsk.{PutAsk}
 use Rattle.riak_msgs.specs.declared.PutReply.{PutReply}
 use Rattle.sibling_register.specs.Refusals.{match_found, modified, not_found, bad_context, too_many_siblings, clock_full, epochs_used_up, counter_used_up, no_memory}
 use Rattle.sibling_register.specs.Answers.{PutCommand}
 use Rattle.vnode_machine.specs.Asks.{put_command}
 use Rattle.vnode_machine.specs.Machine.{State, Context, put_check, changed_by}
-use Rattle.actor_epoch.specs.Contexts.{spelling}
-use Rattle.vnode_machine.specs.Replies.{put_reply, shown}
-use Rattle.vnode_core.specs.declared.held.Held.{Held}
-use Rattle.vnode_core.specs.Held.{clock_in}
+use Rattle.vnode_machine.specs.Replies.{put_reply}
 use Rattle.sibling_register.specs.History.{Write}
 use Rattle.vnode_core.specs.declared.place.Place.{Place}
-use Rattle.vnode_core.specs.declared.room.Room.{Room}
 use Rattle.vnode_core.specs.declared.refusal.Refusal.{Refusal}
 use Rattle.vnode_core.specs.declared.refusal.Refusal.TheVariants as refusals
 use Rattle.vnode_core.specs.declared.ask.Ask.{Ask}
@@ -25,7 +20,6 @@ use Rattle.vnode_core.specs.declared.ask.Plan.{Plan}
 use Rattle.vnode_core.specs.declared.ask.Plan.TheVariants.{Change, Nothing}
 use Rattle.vnode_core.specs.declared.ask.Answer.{Answer}
 use Rattle.vnode_core.specs.Places.{place_in}
-use Rattle.vnode_core.specs.Rooms.{HasRoom, place_of}
 
 -- the machine's state, and the place where a planned change finds room
 pub record View : Type 0 where
@@ -38,22 +32,6 @@ pub record Planned : Type 0 where
   pub content : Content
   pub place : Place
   pub reply : PutReply
-
--- a reply that shows nothing
-abbrev pub nothing : GetReply
-nothing = record { contents = []; context = []; unchanged = false }
-
--- the reply of a put that shows nothing
-abbrev pub nothing_after : PutReply
-nothing_after = record { contents = []; context = [] }
-
--- the reply that shows the siblings of a held key
-abbrev pub siblings_of : Held → Bool → GetReply
-siblings_of held bare = record {
-  contents = map (λ entry. shown bare entry.1) (clock_in held).live;
-  context = spelling (clock_in held).known;
-  unchanged = false;
-}
 
 -- a get that gives no context
 abbrev pub IsBlindGet : GetAsk → Type 0
@@ -118,17 +96,6 @@ pub record IsPlanOf (vnode : View) (put : PutCommand Content Context) (change : 
 abbrev pub Refuses : State Content → PutCommand Content Context → Refusal → Type 0
 Refuses state put refusals.NoMemory = put_check state put ≡ None
 Refuses state put refusal = put_check state put ≡ Some (number_of refusal)
-
--- the room is the key's, and the machine accepts a blind put there
-pub record IsRoomFor (vnode : View) (key : Key) (room : Room) : Type 0 where
-  pub has_room : HasRoom room
-  pub place : place_in key vnode.state.keys ≡ place_of room
-  pub ready : vnode.ready ≡ Some (place_of room)
-  pub accepted : (content : Content) → put_check vnode.state (blind_put key content) ≡ None
-
--- every blind put of the key is refused so
-abbrev pub RefusesBlindPuts : State Content → Key → Refusal → Type 0
-RefusesBlindPuts state key refusal = (content : Content) → Refuses state (blind_put key content) refusal
 
 -- what an ask comes to
 abbrev pub PreparesAsk : View → Ask → Plan Planned Answer → Type 0

@@ -1,6 +1,5 @@
 -- The calls of a vnode as the sibling register: what they answer at every history that the vnode may have had.
-use Rattle.std.specs.Prelude.{◌≡◌, List, [], ◌∷◌, ℕ}
-use Rattle.riak_msgs.specs.declared.Key.{Key}
+use Rattle.std.specs.Prelude.{◌≡◌, List, ◌∷◌, ℕ}
 use Rattle.riak_msgs.specs.declared.Content.{Content}
 use Rattle.riak_msgs.specs.declared.GetReply.{GetReply}
 use Rattle.sibling_register.specs.History.{Event}

@@ -1,5 +1,5 @@
 -- What a vnode's fields mean, and what is always true of them.
-use Rattle.std.specs.Prelude.{◌≡◌, ◌<◌, ◌≤◌, List, map, length, IsTrue, Option, Some, None, slice_get, vec_len, vec_capacity, All}
+use Rattle.std.specs.Prelude.{◌≡◌, ◌<◌, map, IsTrue, Option, Some, None, slice_get, vec_len, vec_capacity, All}
 use Rattle.std.specs.FinMap.Entries.{is_sorted}
 use Rattle.riak_msgs.specs.KeyOrder.{key_cmp}
 use Rattle.vnode_core.specs.declared.place.Place.{Place}

@@ -17,11 +17,11 @@ pub struct Change {
 
 impl Model for Change {
     ghost use Rattle.vnode_core.specs.Plans.{Planned};
-    ghost use Rattle.vnode_core.specs.Rooms.{HasRoom, place_of};
+    ghost use Rattle.vnode_core.specs.Rooms.{HasRoom, room_place};
 
     ghost Value = { Planned };
 
-    ghost view = { λ c. record { key = c.key; content = c.content; place = place_of c.room; reply = c.reply } };
+    ghost view = { λ c. record { key = c.key; content = c.content; place = room_place c.room; reply = c.reply } };
 
     ghost invariant = { λ c. HasRoom c.room };
 }

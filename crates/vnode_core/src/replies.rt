@@ -2,7 +2,7 @@
 
 ghost use Rattle.std.specs.Prelude.{◌≡◌, IfOk};
 ghost use Rattle.vnode_core.specs.Held.{IsHeld};
-ghost use Rattle.vnode_core.specs.Plans.{nothing, nothing_after, siblings_of};
+ghost use Rattle.vnode_core.specs.Replies.{nothing, nothing_after, siblings_of};
 
 use crate::held::Held;
 use riak_msgs::{Bytes, GetReply, PutReply, Sequence};

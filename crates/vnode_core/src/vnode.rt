@@ -5,7 +5,8 @@ ghost use Rattle.vnode_machine.specs.Machine.{opening, changed_by};
 ghost use Rattle.vnode_machine.specs.Asks.{get_command, put_command};
 ghost use Rattle.vnode_machine.specs.Replies.{get_reply};
 ghost use Rattle.sibling_register.specs.History.{Write};
-ghost use Rattle.vnode_core.specs.Plans.{IsReady, IsBlindGet, IsBlindPut, IsPlanOf, Refuses, IsBlindAsk, PreparesAsk, RefusesAsk, IsRoomFor, RefusesBlindPuts, put_of, blind_put};
+ghost use Rattle.vnode_core.specs.Plans.{IsReady, IsBlindGet, IsBlindPut, IsPlanOf, Refuses, IsBlindAsk, PreparesAsk, RefusesAsk, put_of, blind_put};
+ghost use Rattle.vnode_core.specs.Rooms.{IsRoomFor, RefusesBlindPuts};
 ghost use Rattle.vnode_core.specs.Register.{IsAfter, ShowsTold, MayRefuse, GoesOn};
 
 use crate::ask::{Answer, Ask, Plan};
@@ -93,10 +94,7 @@ impl Vnode {
     {
         match place_of(self.held.as_slice(), &ask.key) {
             Place::New(_) => Ok(absent(alloc)),
-            Place::At(i) => match siblings(alloc, &self.held[i], ask.head) {
-                Ok(reply) => Ok(reply),
-                Err(_) => Err(Refusal::NoMemory),
-            },
+            Place::At(i) => Ok(siblings(alloc, &self.held[i], ask.head)?),
         }
     }
 

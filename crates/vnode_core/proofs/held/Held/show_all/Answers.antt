@@ -1,4 +1,4 @@
-use Rattle.std.proofs.Common.{◌∙◌, ap, sym, map, take, length, ◌≤◌, subst}
+use Rattle.std.proofs.Common.{◌∙◌, ap, map, take, length, ◌≤◌, subst}
 use Rattle.std.specs.Prelude.{Some}
 use Rattle.vnode_machine.specs.Replies.{shown}
 use Rattle.vnode_core.proofs.Clocks.{shown_all}

@@ -1,4 +1,4 @@
-use Rattle.std.proofs.Common.{◌≡◌, ◌∙◌, ◌+◌, ◌<◌, ◌^◌, sym, ap, refl, arith, subst, ◌++◌, ◌∷◌, []}
+use Rattle.std.proofs.Common.{◌≡◌, ◌∙◌, ◌+◌, ap, refl, arith, subst, ◌++◌, ◌∷◌, []}
 use Rattle.std.specs.Prelude.{None}
 use Rattle.sibling_register.specs.History.{Write}
 use Rattle.vnode_machine.specs.Machine.{changed_by}

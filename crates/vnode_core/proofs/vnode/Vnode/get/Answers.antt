@@ -6,7 +6,7 @@ use Rattle.riak_msgs.specs.KeyOrder.{key_cmp}
 use Rattle.vnode_machine.specs.Asks.{get_command}
 use Rattle.vnode_machine.specs.Replies.{get_reply}
 use Rattle.vnode_core.specs.Held.{entry_of}
-use Rattle.vnode_core.proofs.Holding.{HoldsAt, placed, stands, missing, get_absent, get_held, is_held_at, read_at}
+use Rattle.vnode_core.proofs.Holding.{placed, stands, missing, get_absent, get_held, is_held_at, read_at}
 use Rattle.vnode_core.proofs.Registers.{shows_told}
 use Rattle.vnode_core.proofs.vnode.Vnode.get.Goals as goal
 
@@ -33,8 +33,8 @@ returns-in-New c =
     c.absent.ensures ∙ sym (get_absent c.args.self.now.state get (subst (λ v. find key_cmp key v.state.keys ≡ None) c.self.view_is at.find)) in
     record { ok = is; err = tt; register = shows_told c.args.self.now.state get c.absent.result is }
 
-pub returns-in-Ok : goal.returns-in-Ok
-returns-in-Ok c =
+pub returns-in_ok-siblings-in-At : goal.returns-in_ok-siblings-in-At
+returns-in_ok-siblings-in-At c =
     let items = c.self.inside.held.items in
     let ask = c.args.ask.now in
     let read = c.index.result.now in
@@ -43,8 +43,8 @@ returns-in-Ok c =
     let found : find key_cmp ask.key (map entry_of items) ≡ Some (entry_of read).1 = at.find ∙ ap (λ h. Some (entry_of h).1) (sym is) in
     let some = (is_held_at items ask.key c.in-At.i read at c.self.invariant.each c.index.ensures).some in
     let get = get_command ask None in
-    let shown : c.in-Ok.reply ≡ get_reply c.args.self.now.state get =
-    c.in-Ok.ensures
+    let shown : c.in_ok-siblings-in-At.field-0 ≡ get_reply c.args.self.now.state get =
+    c.in_ok-siblings-in-At.ensures
     ∙ sym (get_held c.args.self.now.state ask.key ask.head ask.deletedvclock read.actor read.values.items
     (subst (λ v. find key_cmp ask.key v.state.keys ≡ Some (entry_of read).1) c.self.view_is found) some) in
-    record { ok = shown; err = tt; register = shows_told c.args.self.now.state get c.in-Ok.reply shown }
+    record { ok = shown; err = tt; register = shows_told c.args.self.now.state get c.in_ok-siblings-in-At.field-0 shown }

@@ -1,15 +1,12 @@
-use Rattle.std.proofs.Common.{◌≡◌, ◌∙◌, sym, ap, map, length, ◌<◌, subst, refl, arith}
+use Rattle.std.proofs.Common.{◌≡◌, ◌∙◌, sym, ap, length, ◌<◌, subst, arith}
 use Rattle.std.specs.Prelude.{Some, None}
-use Rattle.std.specs.FinMap.Entries.{find}
 use Rattle.std.proofs.lemmas.Option.{slice_get_within}
-use Rattle.riak_msgs.specs.KeyOrder.{key_cmp}
 use Rattle.vnode_core.specs.Held.{entry_of}
-use Rattle.vnode_core.specs.Places.{place_in}
-use Rattle.vnode_core.specs.declared.place.Place.TheVariants.{At, New}
+use Rattle.vnode_core.specs.declared.place.Place.TheVariants.{At}
 use Rattle.std.proofs.lemmas.Result.{err_from_is_err_and}
 use Rattle.vnode_core.proofs.Holding.{placed, stands, missing, read_at, is_held_at}
-use Rattle.vnode_core.proofs.Checking.{accepts_held, refuses_held, accepts_new, refuses_new}
-use Rattle.vnode_core.proofs.Rooms.{found, Reserves, state_same, stays, has_room, room_for_held, room_for_new}
+use Rattle.vnode_core.proofs.Checking.{refuses_held, accepts_new, refuses_new}
+use Rattle.vnode_core.proofs.Rooms.{found, state_same, stays, has_room, room_for_held, room_for_new}
 use Rattle.vnode_core.proofs.vnode.Vnode.make_room.Goals as goal
 
 pub index_mut-requires : goal.index_mut-requires

@@ -1,6 +1,6 @@
-use Rattle.std.proofs.Common.{◌≡◌, rules}
+use Rattle.std.proofs.Common.{rules}
 use Rattle.std.proofs.lemmas.Result.{err_from_is_err_and}
-use Rattle.vnode_core.specs.Plans.{put_of, Refuses}
+use Rattle.vnode_core.specs.Plans.{put_of}
 use Rattle.vnode_core.proofs.Registers.{may_refuse}
 use Rattle.vnode_core.proofs.vnode.Vnode.prepare.Goals as goal
 

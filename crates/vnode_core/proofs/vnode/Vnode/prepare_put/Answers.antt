@@ -1,9 +1,8 @@
-use Rattle.std.proofs.Common.{◌≡◌, ◌∙◌, sym, refl, subst}
+use Rattle.std.proofs.Common.{◌∙◌, sym, refl, subst}
 use Rattle.std.specs.Prelude.{None}
 use Rattle.std.proofs.lemmas.Result.{err_from_is_err_and}
 use Rattle.sibling_register.specs.History.{Write}
 use Rattle.vnode_machine.specs.Machine.{changed_by}
-use Rattle.vnode_machine.specs.Asks.{put_command}
 use Rattle.vnode_core.specs.Plans.{Refuses}
 use Rattle.vnode_core.proofs.Checking.{blind, silent}
 use Rattle.vnode_core.proofs.vnode.Vnode.prepare_put.Goals as goal
