@@ -1,3 +1,4 @@
+pub mod Limits
 pub mod Dots
 pub mod Epochs
 pub mod Contexts

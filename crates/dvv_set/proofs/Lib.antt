@@ -1,1 +1,15 @@
 pub mod ClockLaws
+pub mod Orders
+pub mod Rows
+pub mod Merge
+pub mod Absorb
+pub mod Known
+pub mod Live
+pub mod Places
+pub mod Stored
+pub mod Events
+pub mod Counts
+pub mod Ready
+pub mod ShownValues
+pub mod SetLaws
+pub mod Sound

@@ -1,1 +1,5 @@
 pub mod Clocks
+pub mod Rows
+pub mod Stored
+pub mod Held
+pub mod Laws

@@ -1,2 +1,27 @@
 //! Dotted version vector sets: the clock of a key, with its concurrent values.
+//!
+//! A clock means a set of known dots, and those of them that are live, each with its value (`specs/Clocks`: `Meaning`).
+//! Its calls are `sync`, `discard` and `event` there, in `specs/Laws` said dot by dot. A sync is idempotent, commutative
+//! and associative in what is known and live (`sync_joins`). In code a clock is the module's entries (actor, n, values):
+//! the dots 1 to n are known, and the values, newest first, have the last of them (`specs/Rows`).
+//!
+//! Known and live dots follow the `dvvset` module of Riak without its anonymous values; `discard` is this project's name
+//! for the sync with a context's pairs that its update does first. An actor is found by a walk over the entries, 64 at
+//! most; an event moves the actor's values once; the calls take memory for entries that are new and for one value more.
 #![tactic(auto)]
+
+mod clock;
+mod entry;
+mod fault;
+mod join;
+mod laws;
+mod values;
+
+pub use clock::Clock;
+pub use fault::{ClockFault, Refused};
+pub use join::Join;
+pub use laws::{calls_are_set_operations, sync_joins};
+pub use values::Values;
+
+#[cfg(test)]
+mod tests;

@@ -2,7 +2,7 @@
 
 ghost use Rattle.std.specs.Prelude.{◌≡◌, ◌≤◌, ◌*◌, IfOk};
 ghost use Rattle.vnode_machine.specs.Machine.{opening};
-ghost use Rattle.vnode_core.specs.Plans.{IsBlindGet, IsBlindPut};
+ghost use Rattle.vnode_core.specs.Plans.{IsBlindGet, IsPlainPut};
 ghost use Rattle.node_session.specs.PlainStep.{refusal_text, answer_reply, Gets, Puts};
 
 use crate::node::Node;
@@ -99,7 +99,7 @@ impl PlainNode {
 
     /// Answers a put.
     fn put(&mut self, alloc: Global, ask: PutAsk) -> Reply
-        requires { IsBlindPut ask }
+        requires { IsPlainPut ask }
         ensures { Puts self.old ask result self.new }
     {
         match self.vnode.prepare(alloc, Ask::Put(ask)) {

@@ -1,12 +1,12 @@
 -- Fields of bytes at the front of a list.
-use Rattle.std.proofs.Common.{◌≡◌, ◌≢◌, ◌⊎◌, ◌↔◌, ℕ, ◌+◌, ◌^◌, ◌<◌, ◌≤◌, List, [], ◌∷◌, ◌++◌, length, take, drop, Result, Err, IsErrOf, true, false, ◌==◌, refl, ap, sym, ◌∙◌, subst, arith, append_assoc, length-append, inl, inr}
+use Rattle.std.proofs.Common.{◌≡◌, ◌≢◌, ◌⊎◌, ◌↔◌, ℕ, ◌+◌, ◌*◌, ◌^◌, ◌<◌, ◌≤◌, List, [], ◌∷◌, ◌++◌, length, take, drop, Result, Err, IsErrOf, true, false, ◌==◌, refl, ap, sym, ◌∙◌, subst, arith, append_assoc, length-append, inl, inr}
 use Rattle.std.proofs.lemmas.List.{append_cancel_left, take-append-drop, take_at, drop_at, append-nil}
 use Rattle.std.proofs.lemmas.Bool.Decides.{Decides-eqb}
 use Rattle.wire_varint.specs.Varint.{spelling, IsVarint, EndsWithin, RunsOn}
 use Rattle.wire_varint.specs.declared.fault.VarintFault.{VarintFault}
 use Rattle.wire_varint.specs.declared.fault.VarintFault.TheVariants.{Short, TooLong}
 use Rattle.wire_varint.proofs.Spelling.{spelling-is_varint, IsVarint-unique, IsVarint-ends_not_within, IsVarint-runs_not_on}
-use Rattle.riak_msgs.specs.Spelling.{bytes_key, bytes_field}
+use Rattle.riak_msgs.specs.Spelling.{bytes_key, delimited, bytes_field}
 
 -- the front of what was written
 pub front_written : (out spelled old : List ℕ) (used : ℕ) → used ≡ length spelled → out ≡ spelled ++ drop used old → take used out ≡ spelled
@@ -99,6 +99,16 @@ fields_same number bytes a x b y fits e f =
       sym (take_at a x (length a) refl) ∙ ap (take (length a)) contents ∙ take_at b y (length a) (sym len),
       sym (drop_at a x (length a) refl) ∙ ap (drop (length a)) contents ∙ drop_at b y (length a) (sym len),
     )
+
+-- and of no other number
+pub numbers_same : (m n : ℕ) (bytes a x b y : List ℕ) → m * 8 + 2 < 2 ^ 64 → n * 8 + 2 < 2 ^ 64 →
+    bytes ≡ bytes_field m a ++ x → bytes ≡ bytes_field n b ++ y → m ≡ n
+numbers_same m n bytes a x b y m_fits n_fits e f =
+    let as_n : bytes_key m ++ (delimited a ++ x) ≡ bytes_key n ++ (delimited b ++ y) =
+    sym (append_assoc (bytes_key m) (delimited a) x) ∙ sym e ∙ f ∙ append_assoc (bytes_key n) (delimited b) y in
+    let same = IsVarint-unique (bytes_key m) (bytes_key n) (delimited a ++ x) (delimited b ++ y) (m * 8 + 2) (n * 8 + 2)
+    (spelling-is_varint (m * 8 + 2) m_fits) (spelling-is_varint (n * 8 + 2) n_fits) as_n in
+    omega (arith, same.1)
 
 -- without its key there is no field
 pub no_key : (number : ℕ) (bytes : List ℕ) → ((rest : List ℕ) → bytes ≢ bytes_key number ++ rest) → (content rest : List ℕ) →

@@ -78,11 +78,11 @@ abbrev pub plain_get : List ℕ → List ℕ → GetAsk
 plain_get bucket key =
     record { key = default_key bucket key; if_modified = []; head = false; deletedvclock = false }
 
--- a put of a value alone, without context and options
-abbrev pub plain_put : List ℕ → List ℕ → List ℕ → PutAsk
-plain_put bucket key value = record {
+-- a put of a value alone after what a context has seen, without options
+abbrev pub plain_put : List ℕ → List ℕ → List ℕ → List ℕ → PutAsk
+plain_put bucket key context value = record {
   key = default_key bucket key;
-  context = [];
+  context = context;
   content = record no_content { value = value };
   return_body = false;
   return_head = false;
@@ -90,11 +90,11 @@ plain_put bucket key value = record {
   if_none_match = false;
 }
 
--- which requests are taken so far: a ping, and a plain get or put whose bucket and key have bytes
+-- which requests are taken so far: a ping, and a plain get or put whose bucket and key have bytes; a put has any context
 abbrev pub IsAccepted : Request → Type 0
 IsAccepted requests.Ping = Unit {0}
 IsAccepted (requests.Get g) = IsNamed g.key × (g ≡ plain_get g.key.bucket g.key.key)
-IsAccepted (requests.Put p) = IsNamed p.key × (p ≡ plain_put p.key.bucket p.key.key p.content.value)
+IsAccepted (requests.Put p) = IsNamed p.key × (p ≡ plain_put p.key.bucket p.key.key p.context p.content.value)
 IsAccepted (requests.Del d) = ⊥
 
 -- a code of a request that is taken so far: of a ping, a get or a put

@@ -4,7 +4,7 @@
 //! `request_body`): fields by rising number, repeated ones in their order, every varint in its shortest form, a true
 //! as 1, and nothing for what is absent or false. [`write_reply`] gives a reply's spelling. [`read_request`] gives
 //! what a message says (`Says`): the accepted request (`IsAccepted`) that it spells, or that its code or its body is
-//! of none. So far a ping, a get of a bucket and a key, and a put of a value alone are accepted.
+//! of none. So far a ping, a get of a bucket and a key, and a put of a value alone, with any context, are accepted.
 //!
 //! Reading decides without memory, over slices of the message, and then copies each field once. Writing counts the
 //! bytes first and takes one buffer of that size; both take time linear in the bytes.

@@ -32,21 +32,23 @@ pub struct PutAsk {
 }
 
 impl PutAsk {
-    /// Asks to write a value of which nothing is said, under a key of the default type, without context and options.
+    /// Asks to write a value of which nothing is said, under a key of the default type, after what the context has
+    /// seen, without options. No bytes are no context.
     pub fn plain(
         alloc: Global,
         bucket: &[u8],
         key: &[u8],
+        context: &[u8],
         value: &[u8],
     ) -> Result<PutAsk, AllocError>
-        ensures { IfOk result (λ ask. ask ≡ plain_put bucket.now key.now value.now) }
+        ensures { IfOk result (λ ask. ask ≡ plain_put bucket.now key.now context.now value.now) }
     {
         let key = Key::of_default_type(alloc, bucket, key)?;
         let mut content = Content::new(alloc);
         content.value = Bytes::from_slice(alloc, value)?;
         Ok(PutAsk {
             key,
-            context: Bytes::new(alloc),
+            context: Bytes::from_slice(alloc, context)?,
             content,
             return_body: false,
             return_head: false,

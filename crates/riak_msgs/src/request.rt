@@ -8,7 +8,7 @@ use crate::del::DelAsk;
 use crate::fault::MsgFault;
 use crate::get::GetAsk;
 use crate::key::Key;
-use crate::plain::{lone_value, names_in};
+use crate::plain::{names_in, written_in};
 use crate::put::PutAsk;
 use std::alloc::{AllocError, Global};
 
@@ -22,7 +22,9 @@ pub enum Request {
 }
 
 /// The request that a message is. So far taken are a ping, a get of a bucket and a key, and a put of a bucket, a
-/// key and a content of a value alone, each in the one spelling that a client has for it; bucket and key have bytes.
+/// key, a context or none, and a content of a value alone, each in the one spelling that a client has for it; bucket
+/// and key have bytes. A context may be any bytes: what it says is not looked into here. A put whose context field has
+/// no bytes (`1a 00`) is no request's spelling, since an empty context isn't written; it is a bad message.
 ///
 /// Refused are any code but that of a ping, a get or a put ([`MsgFault::UnknownCode`]), then every other body
 /// ([`MsgFault::BadMessage`]). Both are decided without memory; [`MsgFault::NoMemory`] comes only where the message
@@ -70,9 +72,15 @@ fn read_put(alloc: Global, body: &[u8]) -> Result<Request, MsgFault>
     let Some(names) = names_in(body) else {
         return Err(MsgFault::BadMessage);
     };
-    let Some(value) = lone_value(names.rest) else {
+    let Some(written) = written_in(names.rest) else {
         return Err(MsgFault::BadMessage);
     };
-    let ask = PutAsk::plain(alloc, names.bucket, names.key, value)?;
+    let ask = PutAsk::plain(
+        alloc,
+        names.bucket,
+        names.key,
+        written.context,
+        written.value,
+    )?;
     Ok(Request::Put(ask))
 }

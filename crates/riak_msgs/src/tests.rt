@@ -1,4 +1,5 @@
 use super::*;
+use crate::message::{Message, put_bytes, put_context};
 use std::alloc::{AllocError, Global};
 use std::process::Abort;
 use std::test::Fail;
@@ -8,6 +9,10 @@ const NAMES: &[u8] = b"\x0a\x01b\x12\x01k";
 
 /// A content of the value v, as field 4 of a put.
 const PUT: &[u8] = b"\x0a\x01b\x12\x01k\x22\x03\x0a\x01v";
+
+/// The value x put by the context of one entry: content behind the context, as field 3, of 17 bytes.
+const PUT_AFTER: &[u8] =
+    b"\x0a\x01b\x12\x01k\x1a\x11\x01\0\0\0\0\0\x01\0\0\0\0\0\x01\0\0\0\x01\x22\x03\x0a\x01x";
 
 /// One entry of a context, as clients get it.
 const CONTEXT: &[u8] = b"\x01\0\0\0\0\0\x01\0\0\0\0\0\x01\0\0\0\x01";
@@ -42,6 +47,35 @@ fn reads_plain_requests(rt: HostRuntime) -> Result<(), Fail> {
     Ok(())
 }
 
+#[test]
+fn reads_a_put_by_a_context(rt: HostRuntime) -> Result<(), Fail> {
+    let alloc = rt.alloc();
+    match read_again(alloc, 11, PUT_AFTER) {
+        Ok(Request::Put(ask)) => {
+            is_names(&rt, &ask.key);
+            assert_eq!(rt; ask.context.as_slice(), CONTEXT);
+            assert_eq!(rt; ask.content.value.as_slice(), b"x".as_slice());
+            if spell_back(&rt, alloc, &ask, PUT_AFTER).is_err() {
+                spell_back(&rt, alloc, &ask, PUT_AFTER)?;
+            }
+        }
+        _ => return Err("a put by a context")?,
+    }
+    Ok(())
+}
+
+fn spell_back(rt: &impl Abort, alloc: Global, ask: &PutAsk, want: &[u8]) -> Result<(), MsgFault> {
+    let mut content = Vec::new(alloc);
+    ask.content.put_into(&mut content)?;
+    let mut body = Vec::new(alloc);
+    put_bytes(&mut body, 1, ask.key.bucket.as_slice())?;
+    put_bytes(&mut body, 2, ask.key.key.as_slice())?;
+    put_context(&mut body, 3, &ask.context)?;
+    put_bytes(&mut body, 4, content.as_slice())?;
+    assert_eq!(rt; body.as_slice(), want);
+    Ok(())
+}
+
 fn is_names(rt: &impl Abort, key: &Key) {
     assert_eq!(rt; key.bucket_type.as_slice(), b"default".as_slice());
     assert_eq!(rt; key.bucket.as_slice(), b"b".as_slice());
@@ -63,6 +97,13 @@ fn refuses_other_messages(rt: HostRuntime) {
     refuses(&rt, alloc, 1, b"\0", MsgFault::BadMessage);
     refuses(&rt, alloc, 9, PUT, MsgFault::BadMessage);
     refuses(&rt, alloc, 11, NAMES, MsgFault::BadMessage);
+    // a context of no bytes, a context without content, a context behind the content
+    let unseen = b"\x0a\x01b\x12\x01k\x1a\0\x22\x03\x0a\x01v";
+    refuses(&rt, alloc, 11, unseen, MsgFault::BadMessage);
+    let bare = b"\x0a\x01b\x12\x01k\x1a\x01c";
+    refuses(&rt, alloc, 11, bare, MsgFault::BadMessage);
+    let behind = b"\x0a\x01b\x12\x01k\x22\x03\x0a\x01v\x1a\x01c";
+    refuses(&rt, alloc, 11, behind, MsgFault::BadMessage);
     // a bucket of no bytes, a length in two bytes, a field more
     refuses(&rt, alloc, 9, b"\x0a\0\x12\x01k", MsgFault::BadMessage);
     refuses(&rt, alloc, 9, b"\x0a\x81\0b\x12\x01k", MsgFault::BadMessage);

@@ -1,6 +1,7 @@
 //! Whole sessions, from bytes to bytes.
 
 mod connections;
+mod contexts;
 mod faults;
 mod messages;
 mod streams;

@@ -1,107 +1,212 @@
--- What the machine checks of a blind put.
-use Rattle.std.proofs.Common.{◌≡◌, ℕ, suc, ◌≤◌, ◌<◌, true, false, cond, List, [], ◌∷◌, length, refl, sym, ◌∙◌, ap, arith, map, subst}
-use Rattle.std.specs.Prelude.{Option, Some, None, nat_le, nat_eq, max}
+-- What the machine checks of a put, by what is held of its key.
+use Rattle.std.proofs.Common.{◌≡◌, ℕ, ◌+◌, ◌-◌, ◌≤◌, ◌<◌, Bool, true, false, not, ◌&&◌, ◌||◌, cond, List, [], ◌∷◌, length, refl, ◌∙◌, ap, arith, map}
+use Rattle.std.specs.Prelude.{Option, Some, None, nat_lt, nat_le, nat_eq, max, min, filter, ◌==◌}
+use Rattle.std.specs.Option.{option_map, option_map_or}
+use Rattle.std.specs.List.{list_any}
 use Rattle.std.proofs.lemmas.List.{length-map}
 use Rattle.std.proofs.lemmas.Bool.Decides.{nat_tests}
 use Rattle.std.specs.FinMap.Entries.{find}
 use Rattle.riak_msgs.specs.declared.Key.{Key}
 use Rattle.riak_msgs.specs.declared.Content.{Content}
-use Rattle.riak_msgs.specs.declared.PutAsk.{PutAsk}
 use Rattle.riak_msgs.specs.KeyOrder.{key_cmp}
-use Rattle.actor_epoch.specs.declared.Actor.{Actor}
-use Rattle.actor_epoch.specs.declared.limits.TheConstants.{GREATEST_EPOCH}
-use Rattle.vnode_machine.specs.Asks.{put_command}
-use Rattle.vnode_machine.specs.Machine.{State, put_check}
-use Rattle.vnode_machine.specs.Replies.{put_reply}
+use Rattle.sibling_register.specs.Refusals.{bad_context, too_many_siblings, clock_full, epochs_used_up, counter_used_up, most_siblings, first_of}
+use Rattle.actor_epoch.specs.declared.Dot.{Dot}
+use Rattle.actor_epoch.specs.declared.limits.TheConstants.{GREATEST_EPOCH, GREATEST_COUNTER, MOST_ACTORS}
+use Rattle.actor_epoch.specs.Dots.{actor_eq, covers, counter_in, raise, union}
+use Rattle.actor_epoch.specs.Contexts.{is_rising}
+use Rattle.actor_epoch.proofs.Pairs.{counter_in-union}
+use Rattle.vnode_machine.specs.Machine.{State, Stored, put_check, is_bad, runs_ahead, is_crowded, is_full, is_out_of_epochs, is_out_of_counters, next_actor}
+use Rattle.vnode_machine.proofs.Forms.{form-parts}
+use Rattle.vnode_machine.proofs.Rising.{rising-union}
 use Rattle.vnode_core.specs.declared.held.Held.{Held}
-use Rattle.vnode_core.specs.declared.refusal.Refusal.{Refusal}
-use Rattle.vnode_core.specs.declared.refusal.Refusal.TheVariants.{MatchFound, Modified, NotFound, BadContext, TooManySiblings, ClockFull, EpochsUsedUp, CounterUsedUp, NoMemory}
-use Rattle.vnode_core.specs.Held.{live_of, clock_with, entry_of, RefusesRoom}
-use Rattle.vnode_core.specs.Plans.{IsBlindPut, blind_put}
-use Rattle.vnode_core.specs.Replies.{nothing_after}
-use Rattle.vnode_core.specs.Rooms.{RefusesBlindPuts}
-use Rattle.vnode_core.proofs.Clocks.{filter-all, actor_eq-refl, actor_cmp-refl}
+use Rattle.vnode_core.specs.Known.{pairs_in, given_of, has_actor, new_actors, is_ahead}
+use Rattle.vnode_core.specs.Held.{known_in, last_in, last_dot, kept_in, clock_in, entry_of, IsHeld, held_check, new_check}
+use Rattle.vnode_core.specs.Plans.{plain_put, known_after, uncovered}
+use Rattle.vnode_core.specs.Rooms.{IsRead}
+use Rattle.vnode_core.proofs.Clocks.{length-uncovered}
+use Rattle.vnode_core.proofs.Pairs.{length-raise-has, length-union, has-union, has-counter, has-next, counter_in-behind, counter_in-missing}
 
--- a put that gives no context and sets no option is known by its key and content
-pub blind : (put : PutAsk) → IsBlindPut put → put_command put None ≡ blind_put put.key put.content
-blind put b = λ i. record {
-  key = put.key;
-  context = None;
-  value = put.content;
-  return_body = b.return_body i;
-  return_head = b.return_head i;
-  if_not_modified = b.if_not_modified i;
-  if_none_match = b.if_none_match i;
-}
+pub read_rising : (found : Option (List Dot)) → IsRead found → is_rising (pairs_in found) ≡ true
+read_rising None h = refl
+read_rising (Some pairs) h = (form-parts pairs h).rising
 
--- and answers without siblings
-pub silent : (state : State Content) (put : PutAsk) → IsBlindPut put → put_reply state (put_command put None) ≡ nothing_after
-silent state put b = ap (λ p. put_reply state p) (blind put b)
+-- a check that doesn't hold, and those after it
+pub holds_not : (b : Bool) (n : ℕ) (rest : Option ℕ) → cond b (Some n) rest ≡ None → b ≡ false
+holds_not true n rest h = cc
+holds_not false n rest h = refl
 
-length-live : {X : Type 0} (actor : Actor) (xs : List X) → length (live_of actor xs) ≡ length xs
-length-live actor [] = refl
-length-live actor (x ∷ xs) = ap suc (length-live actor xs)
+pub then_rest : (b : Bool) (n : ℕ) (rest : Option ℕ) → cond b (Some n) rest ≡ None → rest ≡ None
+then_rest true n rest h = cc
+then_rest false n rest h = h
 
-far : (n : ℕ) → n ≤ 64 → nat_eq (max n 0) 4294967295 ≡ false
-far n h = grind (arith, nat_tests)
+third_holds_not : (a b c : Bool) (k m n : ℕ) (rest : Option ℕ) → cond a (Some k) (cond b (Some m) (cond c (Some n) rest)) ≡ None → c ≡ false
+third_holds_not true b c k m n rest h = cc
+third_holds_not false true c k m n rest h = cc
+third_holds_not false false true k m n rest h = cc
+third_holds_not false false false k m n rest h = refl
 
-module _ (state : State Content) (key : Key) (content : Content) where
-  -- a held key refuses one sibling too many, and nothing else
-  pub check_held : (actor : Actor) (values : List Content)
-      → find key_cmp key state.keys ≡ Some (record { own = actor; clock = clock_with actor (map (λ value. Some value) values) })
-      → length values ≤ 64
-      → put_check state (blind_put key content) ≡ cond (nat_le 64 (length values)) (Some 5) None
-  check_held actor values h few =
-      let xs : List (Option Content) = map (λ value. Some value) values in
-      let count : length xs ≡ length values = length-map values (λ value. Some value) in
-      let bound : length xs ≤ 64 = subst (λ n. n ≤ 64) (sym count) few in
-      rw (h, filter-all (live_of actor xs), actor_cmp-refl actor, actor_eq-refl actor, far (length xs) bound, length-live actor xs, count) refl
+fourth_holds_not : (a b c d : Bool) (k m n o : ℕ) (rest : Option ℕ) → cond a (Some k) (cond b (Some m) (cond c (Some n) (cond d (Some o) rest))) ≡ None → d ≡ false
+fourth_holds_not true b c d k m n o rest h = cc
+fourth_holds_not false true c d k m n o rest h = cc
+fourth_holds_not false false true d k m n o rest h = cc
+fourth_holds_not false false false true k m n o rest h = cc
+fourth_holds_not false false false false k m n o rest h = refl
 
-  -- an absent key needs an epoch, and nothing else
-  pub check_new : find key_cmp key state.keys ≡ None
-      → put_check state (blind_put key content) ≡ cond (nat_eq state.last_epoch GREATEST_EPOCH) (Some 7) None
-  check_new h = rw h refl
+-- whether a pair runs ahead, by what is stored of the key
+abbrev ahead_by : State Content → Option (Stored Content) → Dot → Bool
+ahead_by state o pair =
+    ((pair.actor.vnode == state.vnode) && nat_lt state.last_epoch pair.actor.epoch)
+    || option_map_or (λ own. actor_eq pair.actor own && nat_lt (counter_in (option_map_or (λ (s : Stored Content). s.clock) o (record { known = []; live = [] })).known own) pair.counter) (option_map (λ (s : Stored Content). s.own) o) false
 
-more : (n : ℕ) → 64 ≤ n → nat_le 64 n ≡ true
-more n h = grind (arith, nat_tests)
-
-room_left : (n : ℕ) → n < 64 → nat_le 64 n ≡ false
-room_left n h = grind (arith, nat_tests)
-
-equal : (n : ℕ) → n ≡ GREATEST_EPOCH → nat_eq n GREATEST_EPOCH ≡ true
-equal n h = grind (arith, nat_tests)
-
-different : (n : ℕ) → (n ≡ GREATEST_EPOCH → ⊥) → nat_eq n GREATEST_EPOCH ≡ false
-different n h = grind (arith, nat_tests)
+-- what is known before a put's own dot
+pub counter-joined : (vnode last_epoch : ℕ) (held : Held) (pairs : List Dot) → held_check vnode last_epoch held pairs ≡ None → counter_in (union (known_in held) pairs) held.actor ≡ last_in held
+counter-joined vnode last_epoch held pairs accepted =
+    let behind : counter_in pairs held.actor ≤ last_in held = counter_in-behind vnode last_epoch (last_dot held) pairs (holds_not _ _ _ accepted) in
+    counter_in-union (known_in held) pairs held.actor ∙ greatest (last_in held) (counter_in pairs held.actor) behind
+  where
+    greatest : (a b : ℕ) → b ≤ a → max a b ≡ a
+    greatest a b h = omega arith
 
 module _ (state : State Content) (key : Key) where
-  -- a held key with room for a sibling accepts every blind put
-  pub accepts_held : (held : Held) → find key_cmp key state.keys ≡ Some (entry_of held).1 → length held.values.items < 64
-      → (content : Content) → put_check state (blind_put key content) ≡ None
-  accepts_held held h few content =
-      check_held state key content held.actor held.values.items h (omega arith)
-      ∙ ap (λ b. cond b (Some 5) None) (room_left (length held.values.items) few)
+  bad-held : (held : Held) (found : Option (List Dot)) → find key_cmp key state.keys ≡ Some (entry_of held).1 → IsRead found
+      → is_bad state key (given_of found) ≡ list_any (is_ahead state.vnode state.last_epoch (Some (last_dot held))) (pairs_in found)
+  bad-held held None h r = refl
+  bad-held held (Some pairs) h r = ap (λ b. not b || list_any (runs_ahead state key) pairs) r ∙ ap (λ o. list_any (λ pair. ahead_by state o pair) pairs) h
 
-  -- what gets no room is refused so
-  pub refuses_held : (held : Held) → find key_cmp key state.keys ≡ Some (entry_of held).1 → length held.values.items ≤ 64
-      → (refusal : Refusal) → RefusesRoom (length held.values.items) refusal → RefusesBlindPuts state key refusal
-  refuses_held held h few TooManySiblings many = λ content.
-      check_held state key content held.actor held.values.items h few
-      ∙ ap (λ b. cond b (Some 5) None) (more (length held.values.items) many)
-  refuses_held held h few NoMemory left = λ content. accepts_held held h left content
-  refuses_held held h few MatchFound r = absurd r
-  refuses_held held h few Modified r = absurd r
-  refuses_held held h few NotFound r = absurd r
-  refuses_held held h few BadContext r = absurd r
-  refuses_held held h few ClockFull r = absurd r
-  refuses_held held h few EpochsUsedUp r = absurd r
-  refuses_held held h few CounterUsedUp r = absurd r
+  bad-new : (found : Option (List Dot)) → find key_cmp key state.keys ≡ None → IsRead found
+      → is_bad state key (given_of found) ≡ list_any (is_ahead state.vnode state.last_epoch None) (pairs_in found)
+  bad-new None h r = refl
+  bad-new (Some pairs) h r = ap (λ b. not b || list_any (runs_ahead state key) pairs) r ∙ ap (λ o. list_any (λ pair. ahead_by state o pair) pairs) h
 
-  -- an absent key with an epoch left accepts every blind put
-  pub accepts_new : find key_cmp key state.keys ≡ None → (state.last_epoch ≡ GREATEST_EPOCH → ⊥)
-      → (content : Content) → put_check state (blind_put key content) ≡ None
-  accepts_new h left content = check_new state key content h ∙ ap (λ b. cond b (Some 7) None) (different state.last_epoch left)
+  -- the checks, one by one
+  parts : (content : Content) (found : Option (List Dot)) → put_check state (plain_put key (given_of found) content)
+      ≡ first_of (
+      (is_bad state key (given_of found), bad_context) ∷ (is_crowded state key (pairs_in found), too_many_siblings)
+      ∷ (is_full state key (pairs_in found), clock_full) ∷ (is_out_of_epochs state key, epochs_used_up) ∷ (is_out_of_counters state key, counter_used_up) ∷ [])
+  parts content None = refl
+  parts content (Some pairs) = refl
 
-  -- and without one refuses it
-  pub refuses_new : find key_cmp key state.keys ≡ None → state.last_epoch ≡ GREATEST_EPOCH → RefusesBlindPuts state key EpochsUsedUp
-  refuses_new h none = λ content. check_new state key content h ∙ ap (λ b. cond b (Some 7) None) (equal state.last_epoch none)
+  -- of a held key
+  module _ (held : Held) (h : find key_cmp key state.keys ≡ Some (entry_of held).1) (is : IsHeld held) where
+    own-known : has_actor (known_in held) held.actor ≡ true
+    own-known = has-counter (known_in held) held.actor (omega (arith, is.some, is.few))
+
+    kept-same : (pairs : List Dot) → length (filter (λ entry. not (covers pairs entry.0)) (clock_in held).live) ≡ kept_in held pairs
+    kept-same pairs =
+        let count : length (map (λ value. Some value) held.values.items) ≡ length held.values.items = length-map held.values.items (λ value. Some value) in
+        length-uncovered held.actor pairs (last_in held) (map (λ value. Some value) held.values.items) (omega (arith, is.few, count))
+        ∙ ap (λ n. min (last_in held - counter_in pairs held.actor) n) count
+
+    pub uncovered-held : (pairs : List Dot) → uncovered state key pairs ≡ kept_in held pairs
+    uncovered-held pairs = rw h (kept-same pairs)
+
+    crowded : (pairs : List Dot) → is_crowded state key pairs ≡ nat_le most_siblings (kept_in held pairs)
+    crowded pairs = ap (λ n. nat_le most_siblings n) (uncovered-held pairs)
+
+    full : (pairs : List Dot) → is_rising pairs ≡ true → is_full state key pairs ≡ nat_lt MOST_ACTORS (length pairs + new_actors pairs (known_in held))
+    full pairs rising =
+        let known : is_rising (known_in held) ≡ true = (form-parts (known_in held) is.formed).rising in
+        let all : List Dot = union (known_in held) pairs in
+        let finds : is_full state key pairs ≡ nat_lt MOST_ACTORS (length (raise (record { actor = held.actor; counter = 0 }) all)) = rw h refl in
+        finds
+        ∙ ap (λ n. nat_lt MOST_ACTORS n)
+        (length-raise-has (record { actor = held.actor; counter = 0 }) all (rising-union (known_in held) pairs rising)
+        ∙ ap (λ b. cond b (length all) (length all + 1)) (has-union (known_in held) pairs held.actor ∙ ap (λ b. b || has_actor pairs held.actor) own-known)
+        ∙ length-union (known_in held) pairs known rising)
+
+    no_epochs : is_out_of_epochs state key ≡ false
+    no_epochs = rw h refl
+
+    counters : is_out_of_counters state key ≡ (last_in held == GREATEST_COUNTER)
+    counters = rw h refl
+
+    pub check-held : (content : Content) (found : Option (List Dot)) → IsRead found
+        → put_check state (plain_put key (given_of found) content) ≡ held_check state.vnode state.last_epoch held (pairs_in found)
+    check-held content found r =
+        parts content found
+        ∙ (λ i. first_of (
+        (bad-held held found h r i, bad_context) ∷ (crowded (pairs_in found) i, too_many_siblings)
+        ∷ (full (pairs_in found) (read_rising found r) i, clock_full) ∷ (no_epochs i, epochs_used_up) ∷ (counters i, counter_used_up) ∷ []))
+
+    -- what the clock knows after an accepted put
+    pub known_after-held : (pairs : List Dot) → held_check state.vnode state.last_epoch held pairs ≡ None
+        → known_after state key pairs ≡ raise (record { actor = held.actor; counter = last_in held + 1 }) (union (known_in held) pairs)
+    known_after-held pairs accepted =
+        let all : List Dot = union (known_in held) pairs in
+        let finds : known_after state key pairs ≡ raise (record { actor = held.actor; counter = counter_in all held.actor + 1 }) all = rw h refl in
+        finds ∙ ap (λ n. raise (record { actor = held.actor; counter = n + 1 }) all) (counter-joined state.vnode state.last_epoch held pairs accepted)
+
+  -- of an absent key
+  module _ (h : find key_cmp key state.keys ≡ None) where
+    full-new : (pairs : List Dot) → is_rising pairs ≡ true → list_any (is_ahead state.vnode state.last_epoch None) pairs ≡ false
+        → is_full state key pairs ≡ nat_le MOST_ACTORS (length pairs)
+    full-new pairs rising behind =
+        let finds : is_full state key pairs ≡ nat_lt MOST_ACTORS (length (raise (record { actor = next_actor state; counter = 0 }) pairs)) = rw h refl in
+        finds
+        ∙ ap (λ n. nat_lt MOST_ACTORS n)
+        (length-raise-has (record { actor = next_actor state; counter = 0 }) pairs rising
+        ∙ ap (λ b. cond b (length pairs) (length pairs + 1)) (has-next state.vnode state.last_epoch None pairs behind))
+        ∙ one_more MOST_ACTORS (length pairs)
+      where
+        one_more : (n m : ℕ) → nat_lt n (m + 1) ≡ nat_le n m
+        one_more n m = grind (arith, nat_tests)
+
+    crowded-new : (pairs : List Dot) → is_crowded state key pairs ≡ false
+    crowded-new pairs = rw h refl
+
+    epochs : is_out_of_epochs state key ≡ (state.last_epoch == GREATEST_EPOCH)
+    epochs = rw h refl
+
+    no_counters : is_out_of_counters state key ≡ false
+    no_counters = rw h refl
+
+    pub check-new : (content : Content) (found : Option (List Dot)) → IsRead found
+        → put_check state (plain_put key (given_of found) content) ≡ new_check state.vnode state.last_epoch (pairs_in found)
+    check-new content found r =
+        parts content found
+        ∙ (λ i. first_of (
+        (bad-new found h r i, bad_context) ∷ (crowded-new (pairs_in found) i, too_many_siblings)
+        ∷ (is_full state key (pairs_in found), clock_full) ∷ (epochs i, epochs_used_up) ∷ (no_counters i, counter_used_up) ∷ []))
+        ∙ by (list_any (is_ahead state.vnode state.last_epoch None) (pairs_in found)) refl
+      where
+        by : (b : Bool) → list_any (is_ahead state.vnode state.last_epoch None) (pairs_in found) ≡ b
+            → first_of ((b, bad_context) ∷ (false, too_many_siblings) ∷ (is_full state key (pairs_in found), clock_full) ∷ (state.last_epoch == GREATEST_EPOCH, epochs_used_up) ∷ (false, counter_used_up) ∷ [])
+            ≡ first_of ((b, bad_context) ∷ (nat_le MOST_ACTORS (length (pairs_in found)), clock_full) ∷ (state.last_epoch == GREATEST_EPOCH, epochs_used_up) ∷ [])
+        by true e = refl
+        by false e = ap (λ b. first_of ((b, clock_full) ∷ (state.last_epoch == GREATEST_EPOCH, epochs_used_up) ∷ [])) (full-new (pairs_in found) (read_rising found r) e)
+
+    pub uncovered-new : (pairs : List Dot) → uncovered state key pairs ≡ 0
+    uncovered-new pairs = rw h refl
+
+    pub known_after-new : (pairs : List Dot) → new_check state.vnode state.last_epoch pairs ≡ None
+        → known_after state key pairs ≡ raise (record { actor = next_actor state; counter = 1 }) pairs
+    known_after-new pairs accepted =
+        let finds : known_after state key pairs ≡ raise (record { actor = next_actor state; counter = counter_in pairs (next_actor state) + 1 }) pairs = rw h refl in
+        finds
+        ∙ ap (λ n. raise (record { actor = next_actor state; counter = n + 1 }) pairs)
+        (counter_in-missing pairs (next_actor state) (has-next state.vnode state.last_epoch None pairs (holds_not _ _ _ accepted)))
+
+-- what an accepted put was checked for
+pub few-kept : (vnode last_epoch : ℕ) (held : Held) (pairs : List Dot) → held_check vnode last_epoch held pairs ≡ None → kept_in held pairs < most_siblings
+few-kept vnode last_epoch held pairs accepted = let one = then_rest _ _ _ accepted in less (kept_in held pairs) most_siblings (holds_not _ _ _ one)
+  where
+    less : (n m : ℕ) → nat_le m n ≡ false → n < m
+    less n m h = grind (arith, nat_tests)
+
+pub few-pairs : (vnode last_epoch : ℕ) (held : Held) (pairs : List Dot) → held_check vnode last_epoch held pairs ≡ None → length pairs + new_actors pairs (known_in held) ≤ MOST_ACTORS
+few-pairs vnode last_epoch held pairs accepted = within (length pairs + new_actors pairs (known_in held)) MOST_ACTORS (third_holds_not (list_any (is_ahead vnode last_epoch (Some (last_dot held))) pairs) (nat_le most_siblings (kept_in held pairs)) (nat_lt MOST_ACTORS (length pairs + new_actors pairs (known_in held))) bad_context too_many_siblings clock_full (cond (nat_eq (last_in held) GREATEST_COUNTER) (Some counter_used_up) None) accepted)
+  where
+    within : (n m : ℕ) → nat_lt m n ≡ false → n ≤ m
+    within n m h = grind (arith, nat_tests)
+
+pub counter-left : (vnode last_epoch : ℕ) (held : Held) (pairs : List Dot) → held_check vnode last_epoch held pairs ≡ None → nat_eq (last_in held) GREATEST_COUNTER ≡ false
+counter-left vnode last_epoch held pairs accepted = fourth_holds_not (list_any (is_ahead vnode last_epoch (Some (last_dot held))) pairs) (nat_le most_siblings (kept_in held pairs)) (nat_lt MOST_ACTORS (length pairs + new_actors pairs (known_in held))) (nat_eq (last_in held) GREATEST_COUNTER) bad_context too_many_siblings clock_full counter_used_up None accepted
+
+pub few-new : (vnode last_epoch : ℕ) (pairs : List Dot) → new_check vnode last_epoch pairs ≡ None → length pairs < MOST_ACTORS
+few-new vnode last_epoch pairs accepted = less (length pairs) MOST_ACTORS (holds_not _ _ _ (then_rest _ _ _ accepted))
+  where
+    less : (n m : ℕ) → nat_le m n ≡ false → n < m
+    less n m h = grind (arith, nat_tests)
+
+pub epoch-left : (vnode last_epoch : ℕ) (pairs : List Dot) → new_check vnode last_epoch pairs ≡ None → nat_eq last_epoch GREATEST_EPOCH ≡ false
+epoch-left vnode last_epoch pairs accepted = third_holds_not (list_any (is_ahead vnode last_epoch None) pairs) (nat_le MOST_ACTORS (length pairs)) (nat_eq last_epoch GREATEST_EPOCH) bad_context clock_full epochs_used_up None accepted

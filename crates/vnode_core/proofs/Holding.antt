@@ -17,9 +17,12 @@ use Rattle.vnode_machine.specs.Replies.{get_reply, shown}
 use Rattle.vnode_core.specs.declared.place.Place.{Place}
 use Rattle.vnode_core.specs.declared.place.Place.TheVariants.{At, New}
 use Rattle.vnode_core.specs.declared.held.Held.{Held}
-use Rattle.vnode_core.specs.Held.{entry_of, clock_with, live_of, IsHeld, SameButRoom}
+use Rattle.actor_epoch.specs.Dots.{counter_in}
+use Rattle.actor_epoch.specs.Contexts.{is_of_form}
+use Rattle.actor_epoch.specs.Entries.{entries_of}
+use Rattle.vnode_core.specs.Held.{entry_of, clock_of_parts, known_in, last_in, IsHeld, SameButRoom}
 use Rattle.vnode_core.specs.Places.{place_in}
-use Rattle.vnode_core.specs.Replies.{nothing}
+use Rattle.vnode_core.specs.Replies.{nothing, siblings_of}
 use Rattle.vnode_core.proofs.Finding.{at_place, new_place, IsMissingAt}
 
 -- a key stands at its place
@@ -58,16 +61,23 @@ missing items key i sorted h = new_place 0 key (map entry_of items) i sorted h
 
 -- what differs in room alone is the same to the machine
 pub entry_same : (old new : Held) → SameButRoom old new → entry_of new ≡ entry_of old
-entry_same old new s = λ i. (s.key i, record { own = s.actor i; clock = clock_with (s.actor i) (map (λ value. Some value) (s.values i)) })
+entry_same old new s = λ i. (s.key i, record { own = s.actor i; clock = clock_of_parts (s.actor i) (entries_of (s.known i)) (s.values i) })
 
 pub held_same : (old new : Held) → SameButRoom old new → IsHeld old → IsHeld new
 held_same old new s h = record {
   vnode = subst (λ (a : Actor). a.vnode < 2 ^ 64) (sym s.actor) h.vnode;
   epoch = subst (λ (a : Actor). 1 ≤ a.epoch) (sym s.actor) h.epoch;
   given = subst (λ (a : Actor). a.epoch ≤ GREATEST_EPOCH) (sym s.actor) h.given;
+  formed = subst (λ ts. IsTrue (is_of_form (entries_of ts))) (sym s.known) h.formed;
   some = subst (λ xs. 1 ≤ length xs) (sym s.values) h.some;
-  few = subst (λ xs. length xs ≤ 64) (sym s.values) h.few;
+  few = omega (arith, h.few, counter, count);
 }
+  where
+    counter : last_in new ≡ last_in old
+    counter = λ i. counter_in (entries_of (s.known i)) (s.actor i)
+
+    count : length new.values.items ≡ length old.values.items
+    count = ap length s.values
 
 pub entries_same : (items : List Held) (i : ℕ) (old new : Held) → old ≡ get_or items i old → SameButRoom old new
     → map entry_of (set items i new) ≡ map entry_of items
@@ -78,12 +88,16 @@ pub get_absent : (state : State Content) (get : GetCommand Context) → find key
 get_absent state get h = rw h refl
 
 -- a get of a held key
-pub get_held : (state : State Content) (key : Key) (head deletedvclock : Bool) (actor : Actor) (values : List Content)
-    → find key_cmp key state.keys ≡ Some (record { own = actor; clock = clock_with actor (map (λ value. Some value) values) }) → 1 ≤ length values
-    → get_reply state (record { key = key; if_modified = None; head = head; deletedvclock = deletedvclock })
-    ≡ record { contents = map (λ entry. shown head entry.1) (live_of actor (map (λ value. Some value) values)); context = spelling (clock_with actor (map (λ value. Some value) values)).known; unchanged = false }
-get_held state key head deletedvclock actor [] h some = absurd (omega arith)
-get_held state key head deletedvclock actor (value ∷ values) h some = rw h refl
+pub get_held : (state : State Content) (key : Key) (head deletedvclock : Bool) (held : Held)
+    → find key_cmp key state.keys ≡ Some (entry_of held).1 → 1 ≤ length held.values.items
+    → get_reply state (record { key = key; if_modified = None; head = head; deletedvclock = deletedvclock }) ≡ siblings_of held head
+get_held state key head deletedvclock held h some = by held.values.items h some
+  where
+    by : (values : List Content) → find key_cmp key state.keys ≡ Some (record { own = held.actor; clock = clock_of_parts held.actor (known_in held) values }) → 1 ≤ length values
+        → get_reply state (record { key = key; if_modified = None; head = head; deletedvclock = deletedvclock })
+        ≡ record { contents = map (λ entry. shown head entry.1) (clock_of_parts held.actor (known_in held) values).live; context = spelling (known_in held); unchanged = false }
+    by [] h some = absurd (omega arith)
+    by (value ∷ values) h some = rw h refl
 
 -- what is read at the place is what is held there
 pub read_at : (items : List Held) (key : Key) (i : ℕ) (read : Held) (h : HoldsAt items key i) → read ≡ get_or items i read → read ≡ h.held

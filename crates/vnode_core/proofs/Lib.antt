@@ -1,7 +1,12 @@
-mod Checking
-mod Clocks
-mod Finding
-mod Finishing
-mod Holding
-mod Rooms
-mod Registers
+pub mod Finding
+pub mod Clocks
+pub mod Pairs
+pub mod Seats
+pub mod Checking
+pub mod Holding
+pub mod Rooms
+pub mod Forms
+pub mod Finishing
+pub mod Registers
+pub mod Contexts
+pub mod Plans

@@ -1,55 +1,59 @@
 -- What callers see of a vnode and of a planned change, and when a change may be finished.
-use Rattle.std.specs.Prelude.{◌≡◌, false, [], ℕ, Option, Some, None}
+use Rattle.std.specs.Prelude.{◌≡◌, false, not, List, [], ℕ, length, filter, Option, Some, None}
 use Rattle.riak_msgs.specs.declared.Key.{Key}
 use Rattle.riak_msgs.specs.declared.Content.{Content}
 use Rattle.riak_msgs.specs.declared.GetAsk.{GetAsk}
 use Rattle.riak_msgs.specs.declared.PutAsk.{PutAsk}
 use Rattle.riak_msgs.specs.declared.PutReply.{PutReply}
-use Rattle.sibling_register.specs.Refusals.{match_found, modified, not_found, bad_context, too_many_siblings, clock_full, epochs_used_up, counter_used_up, no_memory}
-use Rattle.sibling_register.specs.Answers.{PutCommand}
-use Rattle.vnode_machine.specs.Asks.{put_command}
-use Rattle.vnode_machine.specs.Machine.{State, Context, put_check, changed_by}
-use Rattle.vnode_machine.specs.Replies.{put_reply}
 use Rattle.sibling_register.specs.History.{Write}
-use Rattle.vnode_core.specs.declared.place.Place.{Place}
-use Rattle.vnode_core.specs.declared.refusal.Refusal.{Refusal}
-use Rattle.vnode_core.specs.declared.refusal.Refusal.TheVariants as refusals
+use Rattle.sibling_register.specs.Answers.{PutCommand}
+use Rattle.actor_epoch.specs.declared.Dot.{Dot}
+use Rattle.actor_epoch.specs.Dots.{covers, raise}
+use Rattle.vnode_machine.specs.Asks.{ReadsContext, put_command}
+use Rattle.vnode_machine.specs.Machine.{State, Context, actor_for, clock_of, known_by, next_dot, pairs_of, put_check, changed_by}
+use Rattle.vnode_machine.specs.Replies.{put_reply}
 use Rattle.vnode_core.specs.declared.ask.Ask.{Ask}
 use Rattle.vnode_core.specs.declared.ask.Ask.TheVariants.{Put}
 use Rattle.vnode_core.specs.declared.ask.Plan.{Plan}
 use Rattle.vnode_core.specs.declared.ask.Plan.TheVariants.{Change, Nothing}
 use Rattle.vnode_core.specs.declared.ask.Answer.{Answer}
+use Rattle.vnode_core.specs.declared.place.Place.{Place}
+use Rattle.vnode_core.specs.declared.refusal.Refusal.{Refusal}
 use Rattle.vnode_core.specs.Places.{place_in}
+use Rattle.vnode_core.specs.Refusals.{RefusesBy}
 
 -- the machine's state, and the place where a planned change finds room
 pub record View : Type 0 where
   pub state : State Content
   pub ready : Option Place
 
--- a write that is planned
+-- a write that is planned: what was asked, its context as bytes; the key's place; what its clock will know, and how many
+-- siblings stay; and the reply
 pub record Planned : Type 0 where
   pub key : Key
   pub content : Content
+  pub context : List ℕ
   pub place : Place
+  pub known : List Dot
+  pub kept : ℕ
   pub reply : PutReply
 
 -- a get that gives no context
 abbrev pub IsBlindGet : GetAsk → Type 0
 IsBlindGet ask = ask.if_modified ≡ []
 
--- a put that gives no context and sets no option
-pub record IsBlindPut (ask : PutAsk) : Type 0 where
-  pub context : ask.context ≡ []
+-- a put that sets no option
+pub record IsPlainPut (ask : PutAsk) : Type 0 where
   pub return_body : ask.return_body ≡ false
   pub return_head : ask.return_head ≡ false
   pub if_not_modified : ask.if_not_modified ≡ false
   pub if_none_match : ask.if_none_match ≡ false
 
 -- what such a put asks of the machine
-abbrev pub blind_put : Key → Content → PutCommand Content Context
-blind_put key content = record {
+abbrev pub plain_put : Key → Option Context → Content → PutCommand Content Context
+plain_put key context content = record {
   key = key;
-  context = None;
+  context = context;
   value = content;
   return_body = false;
   return_head = false;
@@ -57,51 +61,61 @@ blind_put key content = record {
   if_none_match = false;
 }
 
--- an ask that gives no context and sets no option
-abbrev pub IsBlindAsk : Ask → Type 0
-IsBlindAsk (Put put) = IsBlindPut put
+-- an ask that sets no option
+abbrev pub IsPlainAsk : Ask → Type 0
+IsPlainAsk (Put put) = IsPlainPut put
 
--- the put that such an ask is
-abbrev pub put_of : Ask → PutCommand Content Context
-put_of (Put put) = put_command put None
+-- what the key's clock knows after a put that discards these pairs
+abbrev pub known_after : State Content → Key → List Dot → List Dot
+known_after state key pairs = raise (next_dot (actor_for state key) (known_by state key pairs)) (known_by state key pairs)
 
--- the change may be finished: the machine accepts it, its place is the key's, there is room, and its reply is the
--- machine's
-pub record IsReady (vnode : View) (change : Planned) : Type 0 where
-  pub accepted : put_check vnode.state (blind_put change.key change.content) ≡ None
+-- how many siblings these pairs don't cover
+abbrev pub uncovered : State Content → Key → List Dot → ℕ
+uncovered state key pairs = length (filter (λ entry. not (covers pairs entry.0)) (clock_of state key).live)
+
+-- the change may be finished as a put of this context: the machine accepts it, its place is the key's, there is room,
+-- and clock and reply are as the machine has them
+pub record IsReadyBy (vnode : View) (change : Planned) (context : Option Context) : Type 0 where
+  pub accepted : put_check vnode.state (plain_put change.key context change.content) ≡ None
   pub place : place_in change.key vnode.state.keys ≡ change.place
   pub room : vnode.ready ≡ Some change.place
-  pub reply : change.reply ≡ put_reply (changed_by vnode.state change.key None (Write change.content)) (blind_put change.key change.content)
+  pub known : change.known ≡ known_after vnode.state change.key (pairs_of context)
+  pub kept : change.kept ≡ uncovered vnode.state change.key (pairs_of context)
+  pub reply : change.reply ≡ put_reply (changed_by vnode.state change.key context (Write change.content)) (plain_put change.key context change.content)
 
--- the number of a refusal
-abbrev pub number_of : Refusal → ℕ
-number_of refusals.MatchFound = match_found
-number_of refusals.Modified = modified
-number_of refusals.NotFound = not_found
-number_of refusals.BadContext = bad_context
-number_of refusals.TooManySiblings = too_many_siblings
-number_of refusals.ClockFull = clock_full
-number_of refusals.EpochsUsedUp = epochs_used_up
-number_of refusals.CounterUsedUp = counter_used_up
-number_of refusals.NoMemory = no_memory
+-- the change may be finished, by what its context reads as
+abbrev pub IsReady : View → Planned → Type 0
+IsReady vnode change = (context : Option Context) × ReadsContext change.context context × IsReadyBy vnode change context
+
+-- what finishing it leaves: by what its context reads as, the machine's next state
+abbrev pub IsMade : State Content → Planned → State Content → Type 0
+IsMade old change new = (context : Option Context) → ReadsContext change.context context → new ≡ changed_by old change.key context (Write change.content)
 
 -- the change is of this put, is ready, and has the machine's reply
-pub record IsPlanOf (vnode : View) (put : PutCommand Content Context) (change : Planned) : Type 0 where
-  pub key : change.key ≡ put.key
-  pub content : change.content ≡ put.value
-  pub ready : IsReady vnode change
-  pub reply : change.reply ≡ put_reply (changed_by vnode.state put.key put.context (Write put.value)) put
+pub record IsPlanOf (vnode : View) (ask : PutAsk) (given : Option Context) (change : Planned) : Type 0 where
+  pub key : change.key ≡ ask.key
+  pub content : change.content ≡ ask.content
+  pub context : change.context ≡ ask.context
+  pub ready : IsReadyBy vnode change given
+  pub reply : change.reply ≡ put_reply (changed_by vnode.state ask.key given (Write ask.content)) (put_command ask given)
 
 -- the refusal is the machine's; memory is refused only where the machine accepts the put
 abbrev pub Refuses : State Content → PutCommand Content Context → Refusal → Type 0
-Refuses state put refusals.NoMemory = put_check state put ≡ None
-Refuses state put refusal = put_check state put ≡ Some (number_of refusal)
+Refuses state put refusal = RefusesBy (put_check state put) refusal
+
+-- a put comes to this change, by what its context reads as
+abbrev pub PlansPut : View → PutAsk → Planned → Type 0
+PlansPut vnode ask change = (context : Option Context) × ReadsContext ask.context context × IsPlanOf vnode ask context change
+
+-- a put is refused so, by what its context reads as
+abbrev pub RefusesPut : State Content → PutAsk → Refusal → Type 0
+RefusesPut state ask refusal = (context : Option Context) × ReadsContext ask.context context × Refuses state (put_command ask context) refusal
 
 -- what an ask comes to
 abbrev pub PreparesAsk : View → Ask → Plan Planned Answer → Type 0
-PreparesAsk vnode ask (Change change) = IsPlanOf vnode (put_of ask) change
-PreparesAsk vnode ask (Nothing answer) = ⊥
+PreparesAsk vnode (Put put) (Change change) = PlansPut vnode put change
+PreparesAsk vnode (Put put) (Nothing answer) = ⊥
 
 -- how an ask is refused
 abbrev pub RefusesAsk : State Content → Ask → Refusal → Type 0
-RefusesAsk state ask refusal = Refuses state (put_of ask) refusal
+RefusesAsk state (Put put) refusal = RefusesPut state put refusal

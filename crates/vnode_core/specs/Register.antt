@@ -1,5 +1,5 @@
 -- The calls of a vnode as the sibling register: what they answer at every history that the vnode may have had.
-use Rattle.std.specs.Prelude.{◌≡◌, List, ◌∷◌, ℕ}
+use Rattle.std.specs.Prelude.{◌≡◌, List, ◌∷◌, ℕ, Option}
 use Rattle.riak_msgs.specs.declared.Content.{Content}
 use Rattle.riak_msgs.specs.declared.GetReply.{GetReply}
 use Rattle.sibling_register.specs.History.{Event}
@@ -9,10 +9,14 @@ use Rattle.vnode_machine.specs.Machine.{Context, State}
 use Rattle.vnode_machine.specs.Replay.{replay, naming, HasReplay}
 use Rattle.vnode_machine.specs.Replies.{get_shown, put_shown}
 use Rattle.vnode_machine.specs.Laws.{IsWithinLimits, put_event}
+use Rattle.vnode_machine.specs.Asks.{ReadsContext, put_command}
+use Rattle.vnode_core.specs.declared.ask.Ask.{Ask}
+use Rattle.vnode_core.specs.declared.ask.Ask.TheVariants as asks
 use Rattle.vnode_core.specs.declared.ask.Answer.{Answer}
 use Rattle.vnode_core.specs.declared.ask.Answer.TheVariants.{Put}
 use Rattle.vnode_core.specs.declared.refusal.Refusal.{Refusal}
-use Rattle.vnode_core.specs.Plans.{number_of}
+use Rattle.vnode_core.specs.Plans.{Planned, plain_put}
+use Rattle.vnode_core.specs.Refusals.{number_of}
 
 -- a vnode of this id, which had given this last epoch, is in this state after these events
 pub record IsAfter (vnode last_epoch : ℕ) (history : List (Event Content Context)) (state : State Content) : Type 0 where
@@ -44,3 +48,11 @@ pub record IsNext (vnode last_epoch : ℕ) (history : List (Event Content Contex
 
 abbrev pub GoesOn : State Content → PutCommand Content Context → State Content → Answer → Type 0
 GoesOn state put after answer = AtEachHistory state (λ vnode last_epoch history. IsNext vnode last_epoch history put after answer)
+
+-- the register may refuse the ask so, by what its context reads as
+abbrev pub MayRefuseAsk : State Content → Ask → Refusal → Type 0
+MayRefuseAsk state (asks.Put put) refusal = (context : Option Context) × ReadsContext put.context context × MayRefuse state (put_command put context) refusal
+
+-- the planned put is the register's next event, by what its context reads as
+abbrev pub GoesOnBy : State Content → Planned → State Content → Answer → Type 0
+GoesOnBy state change after answer = (context : Option Context) → ReadsContext change.context context → GoesOn state (plain_put change.key context change.content) after answer

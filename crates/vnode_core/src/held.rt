@@ -1,22 +1,31 @@
 //! A key that a vnode holds.
 
-ghost use Rattle.std.specs.Prelude.{◌≡◌, ◌<◌, ◌∷◌, map, length, IfOk, IfErr, OnOk, Some, vec_len, vec_capacity};
+ghost use Rattle.std.specs.Prelude.{◌≡◌, ◌<◌, ◌+◌, ◌∷◌, map, take, IfOk, IfErr, OnOk, Some, vec_len, vec_capacity};
+ghost use Rattle.sibling_register.specs.Refusals.{most_siblings};
 ghost use Rattle.vnode_machine.specs.Replies.{shown};
 ghost use Rattle.actor_epoch.specs.Contexts.{spelling};
-ghost use Rattle.vnode_core.specs.Held.{clock_in, IsHeld, RefusesRoom, SameButRoom};
+ghost use Rattle.vnode_core.specs.Known.{pairs_in};
+ghost use Rattle.vnode_core.specs.Held.{clock_in, known_in, last_in, kept_in, held_check, IsHeld, SameButRoom};
+ghost use Rattle.vnode_core.specs.Growths.{IsGrowthOf};
+ghost use Rattle.vnode_core.specs.Refusals.{RefusesBy};
 
+use crate::checks::check_held;
+use crate::given;
+use crate::growth::Growth;
+use crate::known::{counter_in, joined, raise};
 use crate::refusal::Refusal;
 use actor_epoch::{Actor, Context};
 use riak_msgs::{Bytes, Content, Key, Sequence, Shown};
-use sibling_register::MOST_SIBLINGS;
 use std::alloc::{AllocError, Global};
 
-/// A defined key: the actor of its life, and what was written in this life, the newest first. Each write is still a
-/// sibling, since no command can have seen it; so its dots are the actor's first ones, as many as there are values.
+/// A defined key: the actor of its life, what its clock knows, and its siblings, the newest first. All of them were
+/// written in this life; their dots are the last ones of its actor, so they aren't stored: the newest has the actor's
+/// counter in `known`, and each older one the counter before.
 #[derive(Drop)]
 pub(crate) struct Held {
     pub(crate) key: Key,
     pub(crate) actor: Actor,
+    pub(crate) known: Vec<(Actor, u32)>,
     pub(crate) values: Vec<Content>,
 }
 
@@ -57,30 +66,64 @@ impl Held {
         requires { IsHeld self.now }
         ensures { IfOk result (λ bytes. bytes ≡ spelling (clock_in self.now).known) }
     {
-        let counter = self.values.len() as u32;
-        let bytes = Context::write(alloc, &[(self.actor, counter)])?;
+        let bytes = Context::write(alloc, self.known.as_slice())?;
         Ok(Bytes::from_vec(bytes))
     }
 
-    /// Makes room for one sibling more. Refused where the key has as many as it may have, or memory is refused.
-    pub(crate) fn reserve(&mut self) -> Result<(), Refusal>
-        ensures same { SameButRoom self.old self.new }
-        ensures ok { OnOk result (length self.new.values.items < 64 × vec_len self.new.values < vec_capacity self.new.values) }
-        ensures err { IfErr result (λ refusal. RefusesRoom (length self.old.values.items) refusal) }
+    /// The counter of the last dot in the key's life.
+    pub(crate) fn last(&self) -> u32
+        ensures { result ≡ last_in self.now }
     {
-        if self.values.len() >= MOST_SIBLINGS {
-            return Err(Refusal::TooManySiblings);
-        }
-        self.values.reserve(1)?;
-        Ok(())
+        counter_in(self.known.as_slice(), self.actor)
     }
 
-    /// Puts a value in front, where there is room.
-    pub(crate) fn write(&mut self, content: Content)
-        requires { vec_len self.old.values < vec_capacity self.old.values }
-        ensures key { (self.new.key ≡ self.old.key) × (self.new.actor ≡ self.old.actor) }
-        ensures values { self.new.values.items ≡ content ∷ self.old.values.items }
+    /// How many siblings a context doesn't cover.
+    pub(crate) fn kept(&self, context: &Option<Context<'_>>) -> usize
+        ensures { result ≡ kept_in self.now (pairs_in context.now) }
     {
+        let after = self
+            .last()
+            .saturating_sub(given::counter_in(context, self.actor));
+        (after as usize).min(self.values.len())
+    }
+
+    /// Makes room for one sibling more, and what the clock knows after a write that gives this context. Refused by the
+    /// checks of a held key, or where memory is refused.
+    pub(crate) fn grow(
+        &mut self,
+        alloc: Global,
+        vnode: u64,
+        last_epoch: u32,
+        context: &Option<Context<'_>>,
+    ) -> Result<Growth, Refusal>
+        requires { IsHeld self.old }
+        ensures same { SameButRoom self.old self.new }
+        ensures ok { IfOk result (λ growth. IsGrowthOf vnode last_epoch self.old (pairs_in context.now) growth) }
+        ensures room { OnOk result (vec_len self.new.values < vec_capacity self.new.values) }
+        ensures err { IfErr result (λ refusal. RefusesBy (held_check vnode last_epoch self.old (pairs_in context.now)) refusal) }
+    {
+        if let Some(refusal) = check_held(self, vnode, last_epoch, context) {
+            return Err(refusal);
+        }
+        let mut known = joined(alloc, self.known.as_slice(), context)?;
+        raise(&mut known, self.actor, self.last() + 1)?;
+        self.values.reserve(1)?;
+        Ok(Growth {
+            known,
+            kept: self.kept(context),
+        })
+    }
+
+    /// Puts a value in front of the siblings that stay, where there is room.
+    pub(crate) fn write(&mut self, content: Content, growth: Growth)
+        requires room { vec_len self.old.values < vec_capacity self.old.values }
+        requires few { growth.kept < most_siblings }
+        ensures key { (self.new.key ≡ self.old.key) × (self.new.actor ≡ self.old.actor) }
+        ensures known { self.new.known.items ≡ growth.known.items }
+        ensures values { self.new.values.items ≡ content ∷ take growth.kept self.old.values.items }
+    {
+        self.known = growth.known;
         let _ = self.values.insert(0, content);
+        self.values.truncate(growth.kept + 1);
     }
 }

@@ -8,7 +8,7 @@ use std::process::Abort;
 use std::test::Fail;
 
 /// Asks, and compares what is told: one reply.
-fn asked(
+pub(super) fn asked(
     rt: &impl Abort,
     alloc: Global,
     node: &mut PlainNode,
@@ -29,11 +29,11 @@ fn asked(
     Ok(())
 }
 
-const PUT_V: &[u8] = b"\0\0\0\x0c\x0b\x0a\x01b\x12\x01k\x22\x03\x0a\x01v";
+pub(super) const PUT_V: &[u8] = b"\0\0\0\x0c\x0b\x0a\x01b\x12\x01k\x22\x03\x0a\x01v";
 
-const PUT_W: &[u8] = b"\0\0\0\x0c\x0b\x0a\x01b\x12\x01k\x22\x03\x0a\x01w";
+pub(super) const PUT_W: &[u8] = b"\0\0\0\x0c\x0b\x0a\x01b\x12\x01k\x22\x03\x0a\x01w";
 
-const STORED: &[u8] = b"\0\0\0\x01\x0c";
+pub(super) const STORED: &[u8] = b"\0\0\0\x01\x0c";
 
 #[test]
 fn blind_puts_make_siblings(rt: HostRuntime) -> Result<(), Fail> {

@@ -45,6 +45,6 @@ returns-in_ok-siblings-in-At c =
     let get = get_command ask None in
     let shown : c.in_ok-siblings-in-At.field-0 ≡ get_reply c.args.self.now.state get =
     c.in_ok-siblings-in-At.ensures
-    ∙ sym (get_held c.args.self.now.state ask.key ask.head ask.deletedvclock read.actor read.values.items
+    ∙ sym (get_held c.args.self.now.state ask.key ask.head ask.deletedvclock read
     (subst (λ v. find key_cmp ask.key v.state.keys ≡ Some (entry_of read).1) c.self.view_is found) some) in
     record { ok = shown; err = tt; register = shows_told c.args.self.now.state get c.in_ok-siblings-in-At.field-0 shown }

@@ -1,0 +1,48 @@
+-- Rows mean a clock.
+use Rattle.std.proofs.Common.{◌≡◌, ℕ, ◌-◌, ◌≤◌, Bool, true, false, ◌&&◌, cond, IsTrue, List, [], ◌∷◌, length, refl, sym, ◌∙◌, ap, arith}
+use Rattle.std.specs.Prelude.{T, nat_le, nat_lt, None, is_some}
+use Rattle.std.specs.List.{slice_get}
+use Rattle.std.specs.Ordering.{is_lt}
+use Rattle.std.specs.FinMap.Entries.{is_sorted, below_all}
+use Rattle.std.proofs.lemmas.Bool.Decides.{nat_tests}
+use Rattle.actor_epoch.specs.declared.Actor.{Actor}
+use Rattle.actor_epoch.specs.Dots.{actor_cmp}
+use Rattle.actor_epoch.specs.Contexts.{is_rising}
+use Rattle.dvv_set.specs.Rows.{AreRows, meaning_of, known_of, live_of, row_of}
+use Rattle.dvv_set.specs.Laws.{IsClock}
+use Rattle.dvv_set.proofs.Orders.{T-first, T-second, T-true}
+use Rattle.dvv_set.proofs.Rows.{value_at, find-live_of, is_sorted-live_of}
+use Rattle.dvv_set.proofs.Merge.{is_some-slice_get}
+use Rattle.dvv_set.proofs.Absorb.{row_of-within}
+use Rattle.dvv_set.proofs.Known.{ArePairs-known_of}
+use Rattle.dvv_set.proofs.Live.{is_some-find}
+use Rattle.dvv_set.proofs.Counts.{length-known_of}
+use Rattle.dvv_set.proofs.Ready.{covers-rows}
+
+module _ {V : Type 0} where
+  rising-known_of : (rows : List (Actor × (ℕ × List V))) → T (is_sorted actor_cmp rows) → IsTrue (is_rising (known_of rows))
+  rising-known_of [] h = refl
+  rising-known_of (row ∷ []) h = refl
+  rising-known_of (row ∷ next ∷ rows) h =
+      let less : IsTrue (is_lt (actor_cmp row.0 next.0)) = T-true _ (T-first (is_lt (actor_cmp row.0 next.0)) _ (T-first (below_all actor_cmp row.0 (next ∷ rows)) _ h)) in
+      let rest : IsTrue (is_rising (known_of (next ∷ rows))) = rising-known_of (next ∷ rows) (T-second (below_all actor_cmp row.0 (next ∷ rows)) _ h) in
+      λ i. less i && rest i
+
+  value_known : (n c : ℕ) (vs : List V) → length vs ≤ n → is_some (value_at (n, vs) c) ≡ true → (nat_le 1 c && nat_le c n) ≡ true
+  value_known n c vs h s = by (nat_le c n) refl s
+    where
+      by : (b : Bool) → nat_le c n ≡ b → is_some (cond b (slice_get vs (n - c)) None) ≡ true → (nat_le 1 c && nat_le c n) ≡ true
+      by true e t = let within : nat_lt (n - c) (length vs) ≡ true = sym (is_some-slice_get vs (n - c)) ∙ t in grind (arith, nat_tests)
+      by false e t = cc
+
+  pub IsClock-meaning_of : (rows : List (Actor × (ℕ × List V))) → AreRows rows → length rows ≤ 64 → IsClock (meaning_of rows)
+  IsClock-meaning_of rows h few = record {
+    rising = rising-known_of rows h.sorted;
+    few = omega (arith, few, length-known_of rows);
+    positive = (ArePairs-known_of rows h).positive;
+    live_known = λ d live.
+        covers-rows rows d h
+        ∙ value_known (row_of d.actor rows).0 d.counter (row_of d.actor rows).1 (row_of-within d.actor rows h.each)
+        (ap is_some (sym (find-live_of d rows h.sorted h.each)) ∙ sym (is_some-find d (live_of rows)) ∙ live);
+    shown = is_sorted-live_of rows h.sorted h.each;
+  }

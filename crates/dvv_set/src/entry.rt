@@ -1,0 +1,327 @@
+//! The entry of one actor, and lists of entries that strictly rise by actor.
+
+ghost use Rattle.std.specs.Prelude.{◌≡◌, ◌≤◌, ◌<◌, ◌∷◌, ◌+◌, ℕ, List, T, IsTrue, length, unwrap_or, is_some, cond, vec_len, vec_capacity, [], ◌++◌, ◌↔◌, OnOk, IfErr, IfSome, Some, None};
+ghost use Rattle.std.specs.Option.{option_map};
+ghost use Rattle.std.specs.FinMap.Entries.{find, put, is_sorted};
+ghost use Rattle.std.specs.List.{list_all, insert};
+ghost use Rattle.actor_epoch.specs.Dots.{actor_cmp, actor_eq, counter_in};
+ghost use Rattle.dvv_set.specs.Rows.{is_row, row_of, merged, absorb, absorb_all, rows_of_pairs, with_value, AreRows, count_new, rows_without, known_of};
+ghost use Rattle.actor_epoch.specs.Contexts.{is_of_form};
+ghost use Rattle.actor_epoch.specs.declared.Dot.{Dot};
+ghost use Rattle.dvv_set.specs.Held.{known_with, known_after};
+ghost use Rattle.dvv_set.specs.Stored.{as_row, as_rows, seek};
+
+use crate::fault::ClockFault;
+use actor_epoch::{Actor, Context, ContextPairs, GREATEST_COUNTER, MOST_ACTORS};
+use std::alloc::Global;
+use std::cmp::Ordering;
+
+/// What a clock has seen of one actor: the dots 1 to `counter`, of which the last have `values`, newest first.
+#[derive(Drop)]
+pub(crate) struct Entry<V> {
+    pub(crate) actor: Actor,
+    pub(crate) counter: u32,
+    pub(crate) values: Vec<V>,
+}
+
+impl<V> Entry<V> {
+    fn counter(&self) -> u32
+        ensures { result ≡ self.now.counter }
+    {
+        self.counter
+    }
+}
+
+/// Where an actor stands among entries: at a place, or it would stand there.
+#[derive(Clone, Copy)]
+pub(crate) enum Place {
+    Taken(usize),
+    Free(usize),
+}
+
+/// Where an actor stands, or would.
+pub(crate) fn seek<V>(entries: &[Entry<V>], actor: Actor) -> Place
+    ensures { result ≡ seek actor (as_rows entries.now) }
+{
+    for (at, entry) in entries.iter().enumerate() {
+        match entry.actor.cmp(&actor) {
+            Ordering::Less => {}
+            Ordering::Equal => return Place::Taken(at),
+            Ordering::Greater => return Place::Free(at),
+        }
+    }
+    Place::Free(entries.len())
+}
+
+/// Merges another entry of the same actor into one: of the two, the one that has seen more stays, without the values
+/// that the other has seen and dropped.
+pub(crate) fn merge<V: Drop>(own: &mut Entry<V>, other: Entry<V>)
+    requires own_row { IsTrue (is_row (as_row own.old)) }
+    requires other_row { IsTrue (is_row (as_row other)) }
+    ensures merged { as_row own.new ≡ (own.old.actor, merged (as_row own.old).1 (as_row other).1) }
+{
+    if other.counter <= own.counter {
+        let kept = (own.counter - other.counter) as usize + other.values.len();
+        own.values.truncate(kept);
+    } else {
+        let kept = (other.counter - own.counter) as usize + own.values.len();
+        own.values = other.values;
+        own.values.truncate(kept);
+        own.counter = other.counter;
+    }
+}
+
+/// Whether an actor has an entry.
+pub(crate) fn has<V>(entries: &[Entry<V>], actor: Actor) -> bool
+    ensures { result ≡ is_some (find actor_cmp actor (as_rows entries.now)) }
+{
+    for entry in entries {
+        if entry.actor == actor {
+            return true;
+        }
+    }
+    false
+}
+
+/// Merges an entry into entries: with that of its actor, or in the place of a new one, for which there is room.
+pub(crate) fn absorb<V: Drop>(entries: &mut Vec<Entry<V>>, entry: Entry<V>)
+    requires sorted { T (is_sorted actor_cmp (as_rows entries.old.items)) }
+    requires rows { IsTrue (list_all is_row (as_rows entries.old.items)) }
+    requires row { IsTrue (is_row (as_row entry)) }
+    requires room { length (absorb (as_row entry) (as_rows entries.old.items)) ≤ vec_capacity entries.old }
+    ensures absorbed { as_rows entries.new.items ≡ absorb (as_row entry) (as_rows entries.old.items) }
+    ensures capacity { vec_capacity entries.old ≤ vec_capacity entries.new }
+{
+    match seek(entries, entry.actor) {
+        Place::Taken(at) => merge(&mut entries[at], entry),
+        Place::Free(at) => insert(entries, at, entry),
+    }
+}
+
+/// Inserts an entry, for which there is room.
+pub(crate) fn insert<V: Drop>(entries: &mut Vec<Entry<V>>, at: usize, entry: Entry<V>)
+    requires place { at ≤ vec_len entries.old }
+    requires room { vec_len entries.old < vec_capacity entries.old }
+    ensures inserted { entries.new.items ≡ insert entries.old.items at entry }
+    ensures capacity { vec_capacity entries.old ≤ vec_capacity entries.new }
+{
+    if entries.insert(at, entry).is_err() {
+        unreachable!()
+    }
+}
+
+/// Merges other entries into entries, for all of which there is room.
+pub(crate) fn absorb_all<V: Drop>(entries: &mut Vec<Entry<V>>, others: Vec<Entry<V>>)
+    requires own_rows { AreRows (as_rows entries.old.items) }
+    requires other_rows { AreRows (as_rows others.items) }
+    requires room { length (absorb_all (as_rows others.items) (as_rows entries.old.items)) ≤ vec_capacity entries.old }
+    ensures absorbed { as_rows entries.new.items ≡ absorb_all (as_rows others.items) (as_rows entries.old.items) }
+    ensures capacity { vec_capacity entries.old ≤ vec_capacity entries.new }
+{
+    let mut others = others.into_iter();
+    while let Some(entry) = others.next() {
+        absorb(entries, entry);
+    }
+}
+
+/// Merges pairs, as entries without values, into entries, for all of which there is room.
+pub(crate) fn absorb_pairs<V: Drop>(
+    alloc: Global,
+    entries: &mut Vec<Entry<V>>,
+    pairs: ContextPairs<'_>,
+)
+    requires own_rows { AreRows (as_rows entries.old.items) }
+    requires of_form { IsTrue (is_of_form pairs) }
+    requires room { length (absorb_all (rows_of_pairs pairs) (as_rows entries.old.items)) ≤ vec_capacity entries.old }
+    ensures absorbed { as_rows entries.new.items ≡ absorb_all (rows_of_pairs pairs.entry) (as_rows entries.old.items) }
+    ensures capacity { vec_capacity entries.old ≤ vec_capacity entries.new }
+{
+    for (actor, counter) in pairs {
+        let values = Vec::new(alloc);
+        absorb(
+            entries,
+            Entry {
+                actor,
+                counter,
+                values,
+            },
+        );
+    }
+}
+
+/// How many of other entries have actors that are new.
+pub(crate) fn count_new<V>(entries: &[Entry<V>], others: &[Entry<V>]) -> usize
+    ensures { result ≡ count_new (as_rows others.now) (as_rows entries.now) }
+{
+    let mut new = 0usize;
+    for other in others {
+        if !has(entries, other.actor) {
+            new += 1;
+        }
+    }
+    new
+}
+
+/// How many of the pairs have actors that are new.
+pub(crate) fn count_new_pairs<V>(entries: &[Entry<V>], pairs: ContextPairs<'_>) -> usize
+    requires { IsTrue (is_of_form pairs) }
+    ensures counted { result ≡ count_new (rows_of_pairs pairs.entry) (as_rows entries.now) }
+    ensures few { result ≤ 64 }
+{
+    let mut new = 0usize;
+    for (actor, _) in pairs {
+        if !has(entries, actor) {
+            new += 1;
+        }
+    }
+    new
+}
+
+/// The counter of an actor's entry, and how many values it has: 0 and 0 where there is none.
+pub(crate) fn size_of<V>(entries: &Vec<Entry<V>>, actor: Actor) -> (u32, usize)
+    requires { T (is_sorted actor_cmp (as_rows entries.now.items)) }
+    ensures counter { result.0 ≡ (row_of actor (as_rows entries.now.items)).0 }
+    ensures greatest { result.0 ≤ GREATEST_COUNTER }
+    ensures values { result.1 ≡ length (row_of actor (as_rows entries.now.items)).1 }
+{
+    match seek(entries, actor) {
+        Place::Taken(at) => {
+            let entry = &entries[at];
+            (entry.counter(), entry.values.len())
+        }
+        Place::Free(_) => (0, 0),
+    }
+}
+
+/// Puts a value in front of an actor's, with its next counter. The values move into `spare`, which has room for them.
+pub(crate) fn put_value<V: Drop>(entries: &mut Vec<Entry<V>>, spare: Vec<V>, actor: Actor, value: V)
+    requires rows { AreRows (as_rows entries.old.items) }
+    requires empty { spare.items ≡ [] }
+    requires counter { (row_of actor (as_rows entries.old.items)).0 < GREATEST_COUNTER }
+    requires values { length (row_of actor (as_rows entries.old.items)).1 + 1 ≤ vec_capacity spare }
+    requires actors { length (put actor_cmp actor (with_value value (row_of actor (as_rows entries.old.items))) (as_rows entries.old.items)) ≤ vec_capacity entries.old }
+    ensures { as_rows entries.new.items ≡ put actor_cmp actor (with_value value (row_of actor (as_rows entries.old.items))) (as_rows entries.old.items) }
+{
+    let mut values = spare;
+    values.push_reserved(value);
+    match seek(entries, actor) {
+        Place::Taken(at) => add_values(&mut entries[at], values),
+        Place::Free(at) => {
+            let counter = 1;
+            insert(
+                entries,
+                at,
+                Entry {
+                    actor,
+                    counter,
+                    values,
+                },
+            );
+        }
+    }
+}
+
+/// Counts one more, and has the entry's values behind the new one, in its room.
+fn add_values<V: Drop>(entry: &mut Entry<V>, values: Vec<V>)
+    requires counter { entry.old.counter < GREATEST_COUNTER }
+    requires room { length values.items + length entry.old.values.items ≤ vec_capacity values }
+    ensures { as_row entry.new ≡ (entry.old.actor, (entry.old.counter + 1, values.items ++ entry.old.values.items)) }
+{
+    let mut values = values;
+    if values.append(&mut entry.values).is_err() {
+        unreachable!()
+    }
+    entry.values = values;
+    entry.counter += 1;
+}
+
+/// Makes room for more entries, which are refused past 64.
+pub(crate) fn make_room<V>(entries: &mut Vec<Entry<V>>, more: usize) -> Result<(), ClockFault>
+    requires few { length entries.old.items ≤ 64 }
+    requires more { more ≤ 65 }
+    ensures unchanged { entries.new.items ≡ entries.old.items }
+    ensures ok { OnOk result ((length entries.old.items + more ≤ MOST_ACTORS) × (length entries.old.items + more ≤ vec_capacity entries.new)) }
+    ensures full { IfErr result (λ fault. (fault ≡ ClockFault.ActorsFull) ↔ (MOST_ACTORS < length entries.old.items + more)) }
+    ensures never { IfErr result (λ fault. fault ≡ ClockFault.CounterFull → ⊥) }
+{
+    if entries.len() + more > MOST_ACTORS {
+        return Err(ClockFault::ActorsFull);
+    }
+    if entries.reserve(more).is_err() {
+        return Err(ClockFault::NoMemory);
+    }
+    Ok(())
+}
+
+/// Merges what a context saw into entries, for all of which there is room; no context saw nothing.
+pub(crate) fn absorb_context<V: Drop>(
+    alloc: Global,
+    entries: &mut Vec<Entry<V>>,
+    context: Option<&Context<'_>>,
+)
+    requires rows { AreRows (as_rows entries.old.items) }
+    requires room { length (rows_without (option_map (λ c. c.now) context) (as_rows entries.old.items)) ≤ vec_capacity entries.old }
+    ensures absorbed { as_rows entries.new.items ≡ rows_without (option_map (λ c. c.now) context.entry) (as_rows entries.old.items) }
+    ensures capacity { vec_capacity entries.old ≤ vec_capacity entries.new }
+    ensures of_form { (ps : List Dot) → option_map (λ c. c.now) context.entry ≡ Some ps → IsTrue (is_of_form ps) }
+{
+    if let Some(context) = context {
+        absorb_pairs(alloc, entries, context.pairs());
+    }
+}
+
+/// The counter of an actor in pairs, 0 where it is in none.
+pub(crate) fn counter_in(pairs: ContextPairs<'_>, actor: Actor) -> u32
+    ensures { result ≡ counter_in pairs.entry actor }
+{
+    let mut most = 0u32;
+    for (other, counter) in pairs {
+        if other == actor && most < counter {
+            most = counter;
+        }
+    }
+    most
+}
+
+/// What a context adds to entries: the counter of an actor in it, and how many of its actors are new.
+pub(crate) fn given_by<V>(
+    entries: &[Entry<V>],
+    context: Option<&Context<'_>>,
+    actor: Actor,
+) -> (u32, usize)
+    ensures counter { result.0 ≡ counter_in (unwrap_or (option_map (λ c. c.now) context.entry) []) actor }
+    ensures new { result.1 ≡ count_new (rows_of_pairs (unwrap_or (option_map (λ c. c.now) context.entry) [])) (as_rows entries.now) }
+    ensures few { result.1 ≤ 64 }
+    ensures of_form { (ps : List Dot) → option_map (λ c. c.now) context.entry ≡ Some ps → IsTrue (is_of_form ps) }
+{
+    match context {
+        None => (0, 0),
+        Some(context) => (
+            counter_in(context.pairs(), actor),
+            count_new_pairs(entries, context.pairs()),
+        ),
+    }
+}
+
+/// What is known after the next event of an actor, without what a context saw: the actor's counter before it, and how
+/// many actors there are more.
+pub(crate) fn foresee<V>(
+    entries: &Vec<Entry<V>>,
+    context: Option<&Context<'_>>,
+    actor: Actor,
+) -> (u32, usize)
+    requires { AreRows (as_rows entries.now.items) }
+    ensures counter { result.0 ≡ counter_in (known_with (option_map (λ c. c.now) context.entry) (known_of (as_rows entries.now.items))) actor }
+    ensures more { length entries.now.items + result.1 ≡ length (known_after actor (known_with (option_map (λ c. c.now) context.entry) (known_of (as_rows entries.now.items)))) }
+    ensures greatest { result.0 ≤ GREATEST_COUNTER }
+    ensures few { result.1 ≤ 65 }
+    ensures of_form { (ps : List Dot) → option_map (λ c. c.now) context.entry ≡ Some ps → IsTrue (is_of_form ps) }
+{
+    let (own, _) = size_of(entries, actor);
+    let (given, new) = given_by(entries, context, actor);
+    let seen = own.max(given);
+    if seen == 0 {
+        return (seen, new + 1);
+    }
+    (seen, new)
+}

@@ -1,0 +1,40 @@
+//! The pairs of a clock, one after another.
+
+use crate::entry::Entry;
+use actor_epoch::Actor;
+use std::marker::Model;
+
+/// The pairs (actor, n) of a clock that are still to come, by rising actor. Contracts see the list of them.
+#[derive(Drop)]
+pub struct Join<'a, V> {
+    pub(crate) entries: &'a [Entry<V>],
+}
+
+impl<'a, V> Model for Join<'a, V> {
+    ghost use Rattle.std.specs.Prelude.{List};
+    ghost use Rattle.actor_epoch.specs.declared.Dot.{Dot};
+    ghost use Rattle.dvv_set.specs.Rows.{known_of};
+    ghost use Rattle.dvv_set.specs.Stored.{as_rows};
+
+    ghost Value = { List Dot };
+
+    ghost view = { λ j. known_of (as_rows j.entries.now) };
+}
+
+impl<'a, V> Iterator for Join<'a, V> {
+    type Item = (Actor, u32);
+
+    ghost use Rattle.std.specs.Prelude.{length};
+    ghost use Rattle.std.specs.Iterator.{YieldsFirstBy, at_most};
+    ghost use Rattle.actor_epoch.specs.Entries.{entry_of};
+
+    ghost next_gives = { YieldsFirstBy entry_of (λ p. p) };
+
+    ghost remaining = { λ p. at_most (length p) };
+
+    fn next(&mut self) -> Option<(Actor, u32)> {
+        let (entry, rest) = self.entries.split_first()?;
+        self.entries = rest;
+        Some((entry.actor, entry.counter))
+    }
+}
