@@ -1,5 +1,5 @@
 use super::*;
-use riak_msgs::{Bytes, GetAsk, GetReply, PutAsk};
+use riak_msgs::{GetAsk, GetReply, PutAsk};
 use std::alloc::{AllocError, Global};
 use std::process::Abort;
 use std::test::Fail;
@@ -35,11 +35,7 @@ macro_rules! twice {
 
 /// Plans a put in the bucket b, and makes it.
 fn put(vnode: &mut Vnode, alloc: Global, key: &[u8], value: &[u8]) -> Result<(), Refusal> {
-    let ask = PutAsk::plain(alloc, b"b", key, value)?;
-    if let Plan::Change(change) = vnode.prepare(alloc, Ask::Put(ask))? {
-        let _ = vnode.finish(change);
-    }
-    Ok(())
+    put_seen(vnode, alloc, key, value, b"")
 }
 
 /// The same, by a context.
@@ -50,8 +46,7 @@ fn put_seen(
     value: &[u8],
     context: &[u8],
 ) -> Result<(), Refusal> {
-    let mut ask = PutAsk::plain(alloc, b"b", key, value)?;
-    ask.context = Bytes::from_slice(alloc, context)?;
+    let ask = PutAsk::plain(alloc, b"b", key, context, value)?;
     if let Plan::Change(change) = vnode.prepare(alloc, Ask::Put(ask))? {
         let _ = vnode.finish(change);
     }
@@ -72,7 +67,7 @@ fn foreign(alloc: Global, count: u8) -> Result<Vec<u8>, AllocError> {
 
 /// Plans a put, and lets it go.
 fn plan(vnode: &mut Vnode, alloc: Global, key: &[u8]) -> Result<(), Refusal> {
-    let ask = PutAsk::plain(alloc, b"b", key, b"never written")?;
+    let ask = PutAsk::plain(alloc, b"b", key, b"", b"never written")?;
     let _ = vnode.prepare(alloc, Ask::Put(ask))?;
     Ok(())
 }
