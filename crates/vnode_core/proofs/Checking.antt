@@ -18,13 +18,12 @@ use Rattle.actor_epoch.proofs.Pairs.{counter_in-union}
 use Rattle.vnode_machine.specs.Machine.{State, Stored, put_check, is_bad, runs_ahead, is_crowded, is_full, is_out_of_epochs, is_out_of_counters, next_actor}
 use Rattle.vnode_machine.proofs.Forms.{form-parts}
 use Rattle.vnode_machine.proofs.Rising.{rising-union}
-use Rattle.vnode_core.specs.declared.held.Held.{Held}
-use Rattle.vnode_core.specs.Known.{pairs_in, given_of, has_actor, new_actors, is_ahead}
-use Rattle.vnode_core.specs.Held.{known_in, last_in, last_dot, kept_in, clock_in, entry_of, IsHeld, held_check, new_check}
-use Rattle.vnode_core.specs.Plans.{plain_put, known_after, uncovered}
+use Rattle.vnode_core.specs.Known.{pairs_in, given_of, has_actor, is_ahead}
+use Rattle.vnode_core.specs.Held.{last_in, last_dot, kept_in, actors_with, IsHeld, held_check, new_check}
+use Rattle.vnode_core.specs.Plans.{plain_put}
 use Rattle.vnode_core.specs.Rooms.{IsRead}
 use Rattle.vnode_core.proofs.Clocks.{length-uncovered}
-use Rattle.vnode_core.proofs.Pairs.{length-raise-has, length-union, has-union, has-counter, has-next, counter_in-behind, counter_in-missing}
+use Rattle.vnode_core.proofs.Pairs.{length-raise-has, length-union, has-union, has-counter, has-next, counter_in-behind}
 
 pub read_rising : (found : Option (List Dot)) → IsRead found → is_rising (pairs_in found) ≡ true
 read_rising None h = refl
@@ -59,19 +58,23 @@ ahead_by state o pair =
     || option_map_or (λ own. actor_eq pair.actor own && nat_lt (counter_in (option_map_or (λ (s : Stored Content). s.clock) o (record { known = []; live = [] })).known own) pair.counter) (option_map (λ (s : Stored Content). s.own) o) false
 
 -- what is known before a put's own dot
-pub counter-joined : (vnode last_epoch : ℕ) (held : Held) (pairs : List Dot) → held_check vnode last_epoch held pairs ≡ None → counter_in (union (known_in held) pairs) held.actor ≡ last_in held
-counter-joined vnode last_epoch held pairs accepted =
-    let behind : counter_in pairs held.actor ≤ last_in held = counter_in-behind vnode last_epoch (last_dot held) pairs (holds_not _ _ _ accepted) in
-    counter_in-union (known_in held) pairs held.actor ∙ greatest (last_in held) (counter_in pairs held.actor) behind
+pub counter-joined : (vnode last_epoch : ℕ) (s : Stored Content) (pairs : List Dot) → held_check vnode last_epoch s pairs ≡ None → counter_in (union (s.clock.known) pairs) s.own ≡ last_in s
+counter-joined vnode last_epoch s pairs accepted =
+    let behind : counter_in pairs s.own ≤ last_in s = counter_in-behind vnode last_epoch (last_dot s) pairs (holds_not _ _ _ accepted) in
+    counter_in-union (s.clock.known) pairs s.own ∙ greatest (last_in s) (counter_in pairs s.own) behind
   where
     greatest : (a b : ℕ) → b ≤ a → max a b ≡ a
     greatest a b h = omega arith
 
+-- a held key's actor is known
+pub known-own : (s : Stored Content) → IsHeld s → has_actor s.clock.known s.own ≡ true
+known-own s is = has-counter s.clock.known s.own (omega (arith, is.some, is.few))
+
 module _ (state : State Content) (key : Key) where
-  bad-held : (held : Held) (found : Option (List Dot)) → find key_cmp key state.keys ≡ Some (entry_of held).1 → IsRead found
-      → is_bad state key (given_of found) ≡ list_any (is_ahead state.vnode state.last_epoch (Some (last_dot held))) (pairs_in found)
-  bad-held held None h r = refl
-  bad-held held (Some pairs) h r = ap (λ b. not b || list_any (runs_ahead state key) pairs) r ∙ ap (λ o. list_any (λ pair. ahead_by state o pair) pairs) h
+  bad-held : (s : Stored Content) (found : Option (List Dot)) → find key_cmp key state.keys ≡ Some s → IsRead found
+      → is_bad state key (given_of found) ≡ list_any (is_ahead state.vnode state.last_epoch (Some (last_dot s))) (pairs_in found)
+  bad-held s None h r = refl
+  bad-held s (Some pairs) h r = ap (λ b. not b || list_any (runs_ahead state key) pairs) r ∙ ap (λ o. list_any (λ pair. ahead_by state o pair) pairs) h
 
   bad-new : (found : Option (List Dot)) → find key_cmp key state.keys ≡ None → IsRead found
       → is_bad state key (given_of found) ≡ list_any (is_ahead state.vnode state.last_epoch None) (pairs_in found)
@@ -87,54 +90,44 @@ module _ (state : State Content) (key : Key) where
   parts content (Some pairs) = refl
 
   -- of a held key
-  module _ (held : Held) (h : find key_cmp key state.keys ≡ Some (entry_of held).1) (is : IsHeld held) where
-    own-known : has_actor (known_in held) held.actor ≡ true
-    own-known = has-counter (known_in held) held.actor (omega (arith, is.some, is.few))
-
-    kept-same : (pairs : List Dot) → length (filter (λ entry. not (covers pairs entry.0)) (clock_in held).live) ≡ kept_in held pairs
+  module _ (s : Stored Content) (h : find key_cmp key state.keys ≡ Some s) (is : IsHeld s) where
+    kept-same : (pairs : List Dot) → length (filter (λ entry. not (covers pairs entry.0)) s.clock.live) ≡ kept_in s pairs
     kept-same pairs =
-        let count : length (map (λ value. Some value) held.values.items) ≡ length held.values.items = length-map held.values.items (λ value. Some value) in
-        length-uncovered held.actor pairs (last_in held) (map (λ value. Some value) held.values.items) (omega (arith, is.few, count))
-        ∙ ap (λ n. min (last_in held - counter_in pairs held.actor) n) count
+        let values : List (Option Content) = map (λ entry. entry.1) s.clock.live in
+        let count : length values ≡ length s.clock.live = length-map s.clock.live (λ entry. entry.1) in
+        ap (λ live. length (filter (λ entry. not (covers pairs entry.0)) live)) is.last
+        ∙ length-uncovered s.own pairs (last_in s) values (omega (arith, is.few, count))
+        ∙ ap (λ n. min (last_in s - counter_in pairs s.own) n) count
 
-    pub uncovered-held : (pairs : List Dot) → uncovered state key pairs ≡ kept_in held pairs
-    uncovered-held pairs = rw h (kept-same pairs)
+    crowded : (pairs : List Dot) → is_crowded state key pairs ≡ nat_le most_siblings (kept_in s pairs)
+    crowded pairs =
+        let finds : is_crowded state key pairs ≡ nat_le most_siblings (length (filter (λ entry. not (covers pairs entry.0)) s.clock.live)) = rw h refl in
+        finds ∙ ap (λ n. nat_le most_siblings n) (kept-same pairs)
 
-    crowded : (pairs : List Dot) → is_crowded state key pairs ≡ nat_le most_siblings (kept_in held pairs)
-    crowded pairs = ap (λ n. nat_le most_siblings n) (uncovered-held pairs)
-
-    full : (pairs : List Dot) → is_rising pairs ≡ true → is_full state key pairs ≡ nat_lt MOST_ACTORS (length pairs + new_actors pairs (known_in held))
+    full : (pairs : List Dot) → is_rising pairs ≡ true → is_full state key pairs ≡ nat_lt MOST_ACTORS (actors_with s pairs)
     full pairs rising =
-        let known : is_rising (known_in held) ≡ true = (form-parts (known_in held) is.formed).rising in
-        let all : List Dot = union (known_in held) pairs in
-        let finds : is_full state key pairs ≡ nat_lt MOST_ACTORS (length (raise (record { actor = held.actor; counter = 0 }) all)) = rw h refl in
+        let known : is_rising (s.clock.known) ≡ true = (form-parts (s.clock.known) is.formed).rising in
+        let all : List Dot = union (s.clock.known) pairs in
+        let finds : is_full state key pairs ≡ nat_lt MOST_ACTORS (length (raise (record { actor = s.own; counter = 0 }) all)) = rw h refl in
         finds
         ∙ ap (λ n. nat_lt MOST_ACTORS n)
-        (length-raise-has (record { actor = held.actor; counter = 0 }) all (rising-union (known_in held) pairs rising)
-        ∙ ap (λ b. cond b (length all) (length all + 1)) (has-union (known_in held) pairs held.actor ∙ ap (λ b. b || has_actor pairs held.actor) own-known)
-        ∙ length-union (known_in held) pairs known rising)
+        (length-raise-has (record { actor = s.own; counter = 0 }) all (rising-union (s.clock.known) pairs rising)
+        ∙ ap (λ b. cond b (length all) (length all + 1)) (has-union (s.clock.known) pairs s.own ∙ ap (λ b. b || has_actor pairs s.own) (known-own s is))
+        ∙ length-union (s.clock.known) pairs known rising)
 
     no_epochs : is_out_of_epochs state key ≡ false
     no_epochs = rw h refl
 
-    counters : is_out_of_counters state key ≡ (last_in held == GREATEST_COUNTER)
+    counters : is_out_of_counters state key ≡ (last_in s == GREATEST_COUNTER)
     counters = rw h refl
 
     pub check-held : (content : Content) (found : Option (List Dot)) → IsRead found
-        → put_check state (plain_put key (given_of found) content) ≡ held_check state.vnode state.last_epoch held (pairs_in found)
+        → put_check state (plain_put key (given_of found) content) ≡ held_check state.vnode state.last_epoch s (pairs_in found)
     check-held content found r =
         parts content found
         ∙ (λ i. first_of (
-        (bad-held held found h r i, bad_context) ∷ (crowded (pairs_in found) i, too_many_siblings)
+        (bad-held s found h r i, bad_context) ∷ (crowded (pairs_in found) i, too_many_siblings)
         ∷ (full (pairs_in found) (read_rising found r) i, clock_full) ∷ (no_epochs i, epochs_used_up) ∷ (counters i, counter_used_up) ∷ []))
-
-    -- what the clock knows after an accepted put
-    pub known_after-held : (pairs : List Dot) → held_check state.vnode state.last_epoch held pairs ≡ None
-        → known_after state key pairs ≡ raise (record { actor = held.actor; counter = last_in held + 1 }) (union (known_in held) pairs)
-    known_after-held pairs accepted =
-        let all : List Dot = union (known_in held) pairs in
-        let finds : known_after state key pairs ≡ raise (record { actor = held.actor; counter = counter_in all held.actor + 1 }) all = rw h refl in
-        finds ∙ ap (λ n. raise (record { actor = held.actor; counter = n + 1 }) all) (counter-joined state.vnode state.last_epoch held pairs accepted)
 
   -- of an absent key
   module _ (h : find key_cmp key state.keys ≡ None) where
@@ -175,32 +168,15 @@ module _ (state : State Content) (key : Key) where
         by true e = refl
         by false e = ap (λ b. first_of ((b, clock_full) ∷ (state.last_epoch == GREATEST_EPOCH, epochs_used_up) ∷ [])) (full-new (pairs_in found) (read_rising found r) e)
 
-    pub uncovered-new : (pairs : List Dot) → uncovered state key pairs ≡ 0
-    uncovered-new pairs = rw h refl
-
-    pub known_after-new : (pairs : List Dot) → new_check state.vnode state.last_epoch pairs ≡ None
-        → known_after state key pairs ≡ raise (record { actor = next_actor state; counter = 1 }) pairs
-    known_after-new pairs accepted =
-        let finds : known_after state key pairs ≡ raise (record { actor = next_actor state; counter = counter_in pairs (next_actor state) + 1 }) pairs = rw h refl in
-        finds
-        ∙ ap (λ n. raise (record { actor = next_actor state; counter = n + 1 }) pairs)
-        (counter_in-missing pairs (next_actor state) (has-next state.vnode state.last_epoch None pairs (holds_not _ _ _ accepted)))
-
 -- what an accepted put was checked for
-pub few-kept : (vnode last_epoch : ℕ) (held : Held) (pairs : List Dot) → held_check vnode last_epoch held pairs ≡ None → kept_in held pairs < most_siblings
-few-kept vnode last_epoch held pairs accepted = let one = then_rest _ _ _ accepted in less (kept_in held pairs) most_siblings (holds_not _ _ _ one)
-  where
-    less : (n m : ℕ) → nat_le m n ≡ false → n < m
-    less n m h = grind (arith, nat_tests)
-
-pub few-pairs : (vnode last_epoch : ℕ) (held : Held) (pairs : List Dot) → held_check vnode last_epoch held pairs ≡ None → length pairs + new_actors pairs (known_in held) ≤ MOST_ACTORS
-few-pairs vnode last_epoch held pairs accepted = within (length pairs + new_actors pairs (known_in held)) MOST_ACTORS (third_holds_not (list_any (is_ahead vnode last_epoch (Some (last_dot held))) pairs) (nat_le most_siblings (kept_in held pairs)) (nat_lt MOST_ACTORS (length pairs + new_actors pairs (known_in held))) bad_context too_many_siblings clock_full (cond (nat_eq (last_in held) GREATEST_COUNTER) (Some counter_used_up) None) accepted)
+pub few-pairs : (vnode last_epoch : ℕ) (s : Stored Content) (pairs : List Dot) → held_check vnode last_epoch s pairs ≡ None → actors_with s pairs ≤ MOST_ACTORS
+few-pairs vnode last_epoch s pairs accepted = within (actors_with s pairs) MOST_ACTORS (third_holds_not (list_any (is_ahead vnode last_epoch (Some (last_dot s))) pairs) (nat_le most_siblings (kept_in s pairs)) (nat_lt MOST_ACTORS (actors_with s pairs)) bad_context too_many_siblings clock_full (cond (nat_eq (last_in s) GREATEST_COUNTER) (Some counter_used_up) None) accepted)
   where
     within : (n m : ℕ) → nat_lt m n ≡ false → n ≤ m
     within n m h = grind (arith, nat_tests)
 
-pub counter-left : (vnode last_epoch : ℕ) (held : Held) (pairs : List Dot) → held_check vnode last_epoch held pairs ≡ None → nat_eq (last_in held) GREATEST_COUNTER ≡ false
-counter-left vnode last_epoch held pairs accepted = fourth_holds_not (list_any (is_ahead vnode last_epoch (Some (last_dot held))) pairs) (nat_le most_siblings (kept_in held pairs)) (nat_lt MOST_ACTORS (length pairs + new_actors pairs (known_in held))) (nat_eq (last_in held) GREATEST_COUNTER) bad_context too_many_siblings clock_full counter_used_up None accepted
+pub counter-left : (vnode last_epoch : ℕ) (s : Stored Content) (pairs : List Dot) → held_check vnode last_epoch s pairs ≡ None → nat_eq (last_in s) GREATEST_COUNTER ≡ false
+counter-left vnode last_epoch s pairs accepted = fourth_holds_not (list_any (is_ahead vnode last_epoch (Some (last_dot s))) pairs) (nat_le most_siblings (kept_in s pairs)) (nat_lt MOST_ACTORS (actors_with s pairs)) (nat_eq (last_in s) GREATEST_COUNTER) bad_context too_many_siblings clock_full counter_used_up None accepted
 
 pub few-new : (vnode last_epoch : ℕ) (pairs : List Dot) → new_check vnode last_epoch pairs ≡ None → length pairs < MOST_ACTORS
 few-new vnode last_epoch pairs accepted = less (length pairs) MOST_ACTORS (holds_not _ _ _ (then_rest _ _ _ accepted))

@@ -1,15 +1,15 @@
 -- What a vnode holds at the place of a key, and what the machine answers by it.
-use Rattle.std.proofs.Common.{◌≡◌, ℕ, ◌≤◌, ◌<◌, ◌^◌, Bool, false, List, [], ◌∷◌, length, refl, sym, ◌∙◌, ap, arith, subst, set, map, get_or}
-use Rattle.std.specs.Prelude.{Option, Some, None, slice_get, option_map, IsTrue, All}
+use Rattle.std.proofs.Common.{◌≡◌, ℕ, Bool, true, false, not, List, [], refl, sym, ◌∙◌, ap, arith, subst, set, map, get_or}
+use Rattle.std.specs.Prelude.{Option, Some, None, slice_get, option_map, is_some, if◌then◌else◌, IsTrue, All}
+use Rattle.std.specs.List.{list_any}
 use Rattle.std.proofs.lemmas.Option.{slice_get-map, slice_get_within, get_or_from_slice_get}
 use Rattle.std.proofs.lemmas.List.Elements.{All-get_or}
 use Rattle.std.proofs.Math.Seq.{map-set_same}
-use Rattle.actor_epoch.specs.declared.limits.TheConstants.{GREATEST_EPOCH}
 use Rattle.std.specs.FinMap.Entries.{find, put, is_sorted}
 use Rattle.riak_msgs.specs.declared.Key.{Key}
 use Rattle.riak_msgs.specs.declared.Content.{Content}
+use Rattle.riak_msgs.specs.declared.GetReply.{GetReply}
 use Rattle.riak_msgs.specs.KeyOrder.{key_cmp}
-use Rattle.actor_epoch.specs.declared.Actor.{Actor}
 use Rattle.sibling_register.specs.Answers.{GetCommand}
 use Rattle.vnode_machine.specs.Machine.{Context, State, Stored}
 use Rattle.actor_epoch.specs.Contexts.{spelling}
@@ -17,10 +17,7 @@ use Rattle.vnode_machine.specs.Replies.{get_reply, shown}
 use Rattle.vnode_core.specs.declared.place.Place.{Place}
 use Rattle.vnode_core.specs.declared.place.Place.TheVariants.{At, New}
 use Rattle.vnode_core.specs.declared.held.Held.{Held}
-use Rattle.actor_epoch.specs.Dots.{counter_in}
-use Rattle.actor_epoch.specs.Contexts.{is_of_form}
-use Rattle.actor_epoch.specs.Entries.{entries_of}
-use Rattle.vnode_core.specs.Held.{entry_of, clock_of_parts, known_in, last_in, IsHeld, SameButRoom}
+use Rattle.vnode_core.specs.Held.{entry_of, stored_of, IsHeld}
 use Rattle.vnode_core.specs.Places.{place_in}
 use Rattle.vnode_core.specs.Replies.{nothing, siblings_of}
 use Rattle.vnode_core.proofs.Finding.{at_place, new_place, IsMissingAt}
@@ -29,7 +26,7 @@ use Rattle.vnode_core.proofs.Finding.{at_place, new_place, IsMissingAt}
 pub record HoldsAt (items : List Held) (key : Key) (i : ℕ) : Type 0 where
   pub held : Held
   pub get : slice_get items i ≡ Some held
-  pub find : find key_cmp key (map entry_of items) ≡ Some (entry_of held).1
+  pub find : find key_cmp key (map entry_of items) ≡ Some (stored_of held)
   pub put : (s : Stored Content) → put key_cmp key s (map entry_of items) ≡ set (map entry_of items) i (held.key, s)
 
 -- where a mapped list has an element, the list has one
@@ -59,50 +56,38 @@ pub missing : (items : List Held) (key : Key) (i : ℕ) → IsTrue (is_sorted ke
     → IsMissingAt 0 key (map entry_of items) i
 missing items key i sorted h = new_place 0 key (map entry_of items) i sorted h
 
--- what differs in room alone is the same to the machine
-pub entry_same : (old new : Held) → SameButRoom old new → entry_of new ≡ entry_of old
-entry_same old new s = λ i. (s.key i, record { own = s.actor i; clock = clock_of_parts (s.actor i) (entries_of (s.known i)) (s.values i) })
+pub held_same : (old new : Held) → entry_of new ≡ entry_of old → IsHeld (stored_of old) → IsHeld (stored_of new)
+held_same old new same h = subst (λ (e : Key × Stored Content). IsHeld e.1) (sym same) h
 
-pub held_same : (old new : Held) → SameButRoom old new → IsHeld old → IsHeld new
-held_same old new s h = record {
-  vnode = subst (λ (a : Actor). a.vnode < 2 ^ 64) (sym s.actor) h.vnode;
-  epoch = subst (λ (a : Actor). 1 ≤ a.epoch) (sym s.actor) h.epoch;
-  given = subst (λ (a : Actor). a.epoch ≤ GREATEST_EPOCH) (sym s.actor) h.given;
-  formed = subst (λ ts. IsTrue (is_of_form (entries_of ts))) (sym s.known) h.formed;
-  some = subst (λ xs. 1 ≤ length xs) (sym s.values) h.some;
-  few = omega (arith, h.few, counter, count);
-}
-  where
-    counter : last_in new ≡ last_in old
-    counter = λ i. counter_in (entries_of (s.known i)) (s.actor i)
-
-    count : length new.values.items ≡ length old.values.items
-    count = ap length s.values
-
-pub entries_same : (items : List Held) (i : ℕ) (old new : Held) → old ≡ get_or items i old → SameButRoom old new
-    → map entry_of (set items i new) ≡ map entry_of items
-entries_same items i old new is s = map-set_same entry_of items i new old (entry_same old new s ∙ ap entry_of is)
+-- what is put in the place of the same is the same
+pub entries_same : (items : List Held) (i : ℕ) (old new : Held) → old ≡ get_or items i old → entry_of new ≡ entry_of old → map entry_of (set items i new) ≡ map entry_of items
+entries_same items i old new is same = map-set_same entry_of items i new old (same ∙ ap entry_of is)
 
 -- a get of a key that is not held
 pub get_absent : (state : State Content) (get : GetCommand Context) → find key_cmp get.key state.keys ≡ None → get_reply state get ≡ nothing
 get_absent state get h = rw h refl
 
 -- a get of a held key
-pub get_held : (state : State Content) (key : Key) (head deletedvclock : Bool) (held : Held)
-    → find key_cmp key state.keys ≡ Some (entry_of held).1 → 1 ≤ length held.values.items
-    → get_reply state (record { key = key; if_modified = None; head = head; deletedvclock = deletedvclock }) ≡ siblings_of held head
-get_held state key head deletedvclock held h some = by held.values.items h some
+pub get_held : (state : State Content) (key : Key) (head deletedvclock : Bool) (s : Stored Content) → find key_cmp key state.keys ≡ Some s
+    → get_reply state (record { key = key; if_modified = None; head = head; deletedvclock = deletedvclock }) ≡ siblings_of s head deletedvclock
+get_held state key head deletedvclock s h = rw h (by (list_any (λ entry. is_some entry.1) s.clock.live))
   where
-    by : (values : List Content) → find key_cmp key state.keys ≡ Some (record { own = held.actor; clock = clock_of_parts held.actor (known_in held) values }) → 1 ≤ length values
-        → get_reply state (record { key = key; if_modified = None; head = head; deletedvclock = deletedvclock })
-        ≡ record { contents = map (λ entry. shown head entry.1) (clock_of_parts held.actor (known_in held) values).live; context = spelling (known_in held); unchanged = false }
-    by [] h some = absurd (omega arith)
-    by (value ∷ values) h some = rw h refl
+    context : List ℕ
+    context = spelling s.clock.known
+
+    dead : GetReply
+    dead = record { contents = []; context = if deletedvclock then context else []; unchanged = false }
+
+    by : (b : Bool)
+        → (if not b then dead else (let reply : GetReply = record { contents = map (λ entry. shown head entry.1) s.clock.live; context = context; unchanged = false } in reply))
+        ≡ (if b then (let reply : GetReply = record { contents = map (λ entry. shown head entry.1) s.clock.live; context = context; unchanged = false } in reply) else dead)
+    by true = refl
+    by false = refl
 
 -- what is read at the place is what is held there
 pub read_at : (items : List Held) (key : Key) (i : ℕ) (read : Held) (h : HoldsAt items key i) → read ≡ get_or items i read → read ≡ h.held
 read_at items key i read h is = is ∙ get_or_from_slice_get items i h.held read h.get
 
-pub is_held_at : (items : List Held) (key : Key) (i : ℕ) (read : Held) → HoldsAt items key i → All IsHeld items → read ≡ get_or items i read → IsHeld read
+pub is_held_at : (items : List Held) (key : Key) (i : ℕ) (read : Held) → HoldsAt items key i → All (λ h. IsHeld (stored_of h)) items → read ≡ get_or items i read → IsHeld (stored_of read)
 is_held_at items key i read h each is =
-    subst IsHeld (sym is) (All-get_or IsHeld items i read (slice_get_within items i h.held h.get) each)
+    subst (λ h. IsHeld (stored_of h)) (sym is) (All-get_or (λ h. IsHeld (stored_of h)) items i read (slice_get_within items i h.held h.get) each)

@@ -1,11 +1,12 @@
 pub mod Finding
 pub mod Clocks
 pub mod Pairs
-pub mod Seats
 pub mod Checking
+pub mod Readying
 pub mod Holding
 pub mod Rooms
 pub mod Forms
+pub mod Writing
 pub mod Finishing
 pub mod Registers
 pub mod Contexts

@@ -129,6 +129,17 @@ length-union (pair ∷ pairs) others h g =
     by true n m k e = e
     by false n m k e = omega arith
 
+-- rising pairs, one before another
+raise-rising : (pair : Dot) (pairs : List Dot) → is_rising (pair ∷ pairs) ≡ true → raise pair pairs ≡ pair ∷ pairs
+raise-rising pair [] h = refl
+raise-rising pair (next ∷ pairs) h =
+    ap (λ o. by_order o (pair ∷ next ∷ pairs) ((let one : Dot = record { actor = next.actor; counter = max pair.counter next.counter } in one) ∷ pairs) (next ∷ raise pair pairs))
+    (less (actor_cmp pair.actor next.actor) (and_first (is_lt (actor_cmp pair.actor next.actor)) (is_rising (next ∷ pairs)) h))
+
+pub union-nil : (pairs : List Dot) → is_rising pairs ≡ true → union pairs [] ≡ pairs
+union-nil [] h = refl
+union-nil (pair ∷ pairs) h = ap (λ ps. raise pair ps) (union-nil pairs (rising-tail pair pairs h)) ∙ raise-rising pair pairs h
+
 -- an actor without pairs has no counter
 pub counter_in-missing : (pairs : List Dot) (actor : Actor) → has_actor pairs actor ≡ false → counter_in pairs actor ≡ 0
 counter_in-missing [] actor h = refl

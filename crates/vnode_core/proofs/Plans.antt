@@ -1,5 +1,5 @@
 -- What a put comes to, by what its context reads as.
-use Rattle.std.proofs.Common.{◌≡◌, ℕ, List, refl, sym, ◌∙◌, ap, subst}
+use Rattle.std.proofs.Common.{◌≡◌, ℕ, List, refl, sym, ◌∙◌, ap, arith, subst}
 use Rattle.std.specs.Prelude.{Option, Some, None}
 use Rattle.riak_msgs.specs.declared.Content.{Content}
 use Rattle.riak_msgs.specs.declared.PutAsk.{PutAsk}
@@ -7,14 +7,13 @@ use Rattle.riak_msgs.specs.declared.PutReply.{PutReply}
 use Rattle.sibling_register.specs.History.{Write}
 use Rattle.actor_epoch.specs.declared.Dot.{Dot}
 use Rattle.vnode_machine.specs.Asks.{ReadsContext, put_command}
-use Rattle.vnode_machine.specs.Machine.{Context, State, changed_by, put_check}
+use Rattle.vnode_machine.specs.Machine.{Context, State, changed_by, pairs_of, put_check}
 use Rattle.vnode_machine.specs.Replies.{put_reply}
-use Rattle.vnode_core.specs.declared.growth.Growth.{Growth}
 use Rattle.vnode_core.specs.declared.refusal.Refusal.{Refusal}
 use Rattle.vnode_core.specs.declared.refusal.Refusal.TheVariants.{BadContext}
 use Rattle.vnode_core.specs.declared.room.Room.{Room}
-use Rattle.vnode_core.specs.Known.{given_of}
-use Rattle.vnode_core.specs.Plans.{RefusesAsk, View, IsPlainPut, PlansPut, RefusesPut, plain_put, known_after, uncovered}
+use Rattle.vnode_core.specs.Known.{pairs_in, given_of}
+use Rattle.vnode_core.specs.Plans.{RefusesAsk, View, IsPlainPut, PlansPut, RefusesPut, plain_put, actors_after}
 use Rattle.vnode_core.specs.Rooms.{planned_of, IsRead, IsRoomFor, RefusesPuts}
 use Rattle.vnode_core.specs.Replies.{nothing_after}
 use Rattle.vnode_core.specs.Refusals.{RefusesBy}
@@ -53,26 +52,26 @@ module _ (state : State Content) (put : PutAsk) (b : IsPlainPut put) where
   pub refuses_bytes : ReadsContext put.context (Some None) → RefusesPut state put BadContext
   refuses_bytes reads = (Some None, reads, refl)
 
-pub plans_put : (vnode : View) (put : PutAsk) (found : Option (List Dot)) (room : Room) (growth : Growth) (reply : PutReply) → IsPlainPut put → ReadsContext put.context (given_of found)
-    → IsRoomFor vnode put.key found room growth → reply ≡ nothing_after → PlansPut vnode put (planned_of put.key put.content put.context room growth reply)
-plans_put vnode put found room growth reply b reads r silence = (
-  given_of found,
-  reads,
-  record {
-    key = refl;
-    content = refl;
-    context = refl;
-    ready = record {
-      accepted = r.accepted put.content;
-      place = r.place;
-      room = r.ready;
-      known = r.known ∙ ap (λ ps. known_after vnode.state put.key ps) (sym (pairs-same found));
-      kept = r.kept ∙ ap (λ ps. uncovered vnode.state put.key ps) (sym (pairs-same found));
-      reply = silence;
-    };
-    reply = silence ∙ sym (silent (changed_by vnode.state put.key (given_of found) (Write put.content)) put (given_of found) b);
-  },
-)
+pub plans_put : (vnode : View) (put : PutAsk) (found : Option (List Dot)) (room : Room) (count : ℕ) (reply : PutReply) → IsPlainPut put → ReadsContext put.context (given_of found)
+    → IsRoomFor vnode put.key found room count → reply ≡ nothing_after → PlansPut vnode put (planned_of put.key put.content put.context room count reply)
+plans_put vnode put found room count reply b reads r silence =
+    let same : actors_after vnode.state put.key (pairs_of (given_of found)) ≡ actors_after vnode.state put.key (pairs_in found) = ap (λ ps. actors_after vnode.state put.key ps) (pairs-same found) in (
+      given_of found,
+      reads,
+      record {
+        key = refl;
+        content = refl;
+        context = refl;
+        ready = record {
+          accepted = r.accepted put.content;
+          place = r.place;
+          room = r.ready;
+          actors = omega (arith, same, r.actors);
+          reply = silence;
+        };
+        reply = silence ∙ sym (silent (changed_by vnode.state put.key (given_of found) (Write put.content)) put (given_of found) b);
+      },
+    )
 
 -- the register may refuse so
 pub may_refuse_ask : (state : State Content) (ask : Ask) (refusal : Refusal) → RefusesAsk state ask refusal → MayRefuseAsk state ask refusal

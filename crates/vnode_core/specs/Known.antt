@@ -1,22 +1,11 @@
--- What a clock knows, and what a context adds to it.
+-- The pairs of a context, and what they add to those that are known.
 use Rattle.std.specs.Prelude.{Bool, false, ◌||◌, ◌&&◌, ◌==◌, ◌+◌, if◌then◌else◌, List, [], ◌∷◌, ℕ, nat_lt, Option, Some, None}
 use Rattle.std.specs.Option.{option_map_or}
 use Rattle.std.specs.List.{list_any}
-use Rattle.std.specs.FinMap.Entries.{by_order}
 use Rattle.actor_epoch.specs.declared.Actor.{Actor}
 use Rattle.actor_epoch.specs.declared.Dot.{Dot}
-use Rattle.actor_epoch.specs.Dots.{actor_cmp, actor_eq}
+use Rattle.actor_epoch.specs.Dots.{actor_eq}
 use Rattle.vnode_machine.specs.Machine.{Context}
-use Rattle.vnode_core.specs.declared.place.Place.{Place}
-use Rattle.vnode_core.specs.declared.place.Place.TheVariants.{At, New}
-
--- the place of an actor in what is left of rising pairs from this index on
-abbrev pub seat_from : ℕ → Actor → List Dot → Place
-seat_from i actor [] = New i
-seat_from i actor (pair ∷ pairs) = by_order (actor_cmp actor pair.actor) (New i) (At i) (seat_from (i + 1) actor pairs)
-
-abbrev pub seat_in : Actor → List Dot → Place
-seat_in actor pairs = seat_from 0 actor pairs
 
 -- the pairs of a context that was read or not
 abbrev pub pairs_in : Option (List Dot) → List Dot

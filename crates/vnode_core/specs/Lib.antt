@@ -1,7 +1,6 @@
 pub mod Held
 pub mod Known
 pub mod Refusals
-pub mod Growths
 pub mod Places
 pub mod Plans
 pub mod Register

@@ -1,5 +1,5 @@
 -- What callers see of a vnode and of a planned change, and when a change may be finished.
-use Rattle.std.specs.Prelude.{◌≡◌, false, not, List, [], ℕ, length, filter, Option, Some, None}
+use Rattle.std.specs.Prelude.{◌≡◌, ◌≤◌, false, List, [], ℕ, length, Option, Some, None}
 use Rattle.riak_msgs.specs.declared.Key.{Key}
 use Rattle.riak_msgs.specs.declared.Content.{Content}
 use Rattle.riak_msgs.specs.declared.GetAsk.{GetAsk}
@@ -8,34 +8,31 @@ use Rattle.riak_msgs.specs.declared.PutReply.{PutReply}
 use Rattle.sibling_register.specs.History.{Write}
 use Rattle.sibling_register.specs.Answers.{PutCommand}
 use Rattle.actor_epoch.specs.declared.Dot.{Dot}
-use Rattle.actor_epoch.specs.Dots.{covers, raise}
+use Rattle.dvv_set.specs.Held.{known_after}
 use Rattle.vnode_machine.specs.Asks.{ReadsContext, put_command}
-use Rattle.vnode_machine.specs.Machine.{State, Context, actor_for, clock_of, known_by, next_dot, pairs_of, put_check, changed_by}
+use Rattle.vnode_machine.specs.Machine.{State, Context, actor_for, known_by, pairs_of, put_check, changed_by}
 use Rattle.vnode_machine.specs.Replies.{put_reply}
 use Rattle.vnode_core.specs.declared.ask.Ask.{Ask}
 use Rattle.vnode_core.specs.declared.ask.Ask.TheVariants.{Put}
 use Rattle.vnode_core.specs.declared.ask.Plan.{Plan}
 use Rattle.vnode_core.specs.declared.ask.Plan.TheVariants.{Change, Nothing}
 use Rattle.vnode_core.specs.declared.ask.Answer.{Answer}
-use Rattle.vnode_core.specs.declared.place.Place.{Place}
+use Rattle.vnode_core.specs.declared.room.Ready.{Ready}
 use Rattle.vnode_core.specs.declared.refusal.Refusal.{Refusal}
 use Rattle.vnode_core.specs.Places.{place_in}
 use Rattle.vnode_core.specs.Refusals.{RefusesBy}
 
--- the machine's state, and the place where a planned change finds room
+-- the machine's state, and where a planned change finds room
 pub record View : Type 0 where
   pub state : State Content
-  pub ready : Option Place
+  pub ready : Option Ready
 
--- a write that is planned: what was asked, its context as bytes; the key's place; what its clock will know, and how many
--- siblings stay; and the reply
+-- a write that is planned: what was asked, its context as bytes; where it finds room; and the reply
 pub record Planned : Type 0 where
   pub key : Key
   pub content : Content
   pub context : List ℕ
-  pub place : Place
-  pub known : List Dot
-  pub kept : ℕ
+  pub ready : Ready
   pub reply : PutReply
 
 -- a get that gives no context
@@ -65,22 +62,17 @@ plain_put key context content = record {
 abbrev pub IsPlainAsk : Ask → Type 0
 IsPlainAsk (Put put) = IsPlainPut put
 
--- what the key's clock knows after a put that discards these pairs
-abbrev pub known_after : State Content → Key → List Dot → List Dot
-known_after state key pairs = raise (next_dot (actor_for state key) (known_by state key pairs)) (known_by state key pairs)
+-- how many actors the key's clock knows after a put that discards these pairs
+abbrev pub actors_after : State Content → Key → List Dot → ℕ
+actors_after state key pairs = length (known_after (actor_for state key) (known_by state key pairs))
 
--- how many siblings these pairs don't cover
-abbrev pub uncovered : State Content → Key → List Dot → ℕ
-uncovered state key pairs = length (filter (λ entry. not (covers pairs entry.0)) (clock_of state key).live)
-
--- the change may be finished as a put of this context: the machine accepts it, its place is the key's, there is room,
--- and clock and reply are as the machine has them
+-- the change may be finished as a put of this context: the machine accepts it, its place is the key's, there is room for
+-- all actors that the key's clock will know, and the reply is as the machine has it
 pub record IsReadyBy (vnode : View) (change : Planned) (context : Option Context) : Type 0 where
   pub accepted : put_check vnode.state (plain_put change.key context change.content) ≡ None
-  pub place : place_in change.key vnode.state.keys ≡ change.place
-  pub room : vnode.ready ≡ Some change.place
-  pub known : change.known ≡ known_after vnode.state change.key (pairs_of context)
-  pub kept : change.kept ≡ uncovered vnode.state change.key (pairs_of context)
+  pub place : place_in change.key vnode.state.keys ≡ change.ready.place
+  pub room : vnode.ready ≡ Some change.ready
+  pub actors : actors_after vnode.state change.key (pairs_of context) ≤ change.ready.actors
   pub reply : change.reply ≡ put_reply (changed_by vnode.state change.key context (Write change.content)) (plain_put change.key context change.content)
 
 -- the change may be finished, by what its context reads as

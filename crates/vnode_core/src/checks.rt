@@ -1,8 +1,8 @@
 //! The checks of a put, in their order. They take no memory.
 
-ghost use Rattle.std.specs.Prelude.{◌≡◌, IfNone, IfSome, None};
+ghost use Rattle.std.specs.Prelude.{◌≡◌, IfNone, IfSome, IfOk, IfErr, None};
 ghost use Rattle.vnode_core.specs.Known.{pairs_in};
-ghost use Rattle.vnode_core.specs.Held.{held_check, new_check};
+ghost use Rattle.vnode_core.specs.Held.{stored_of, held_check, new_check, IsHeld, AcceptsFor};
 ghost use Rattle.vnode_core.specs.Refusals.{RefusesBy};
 
 use crate::given;
@@ -13,34 +13,36 @@ use actor_epoch::{Context, Dot, GREATEST_COUNTER, GREATEST_EPOCH, MOST_ACTORS};
 /// The most siblings of a key.
 const MOST_SIBLINGS: usize = 64;
 
-/// Why a put on a held key is refused.
+/// How many actors the clock of a held key will know after a put, or why the put is refused.
 pub(crate) fn check_held(
     held: &Held,
     vnode: u64,
     last_epoch: u32,
     context: &Option<Context<'_>>,
-) -> Option<Refusal>
-    ensures none { IfNone result (held_check vnode last_epoch held.now (pairs_in context.now) ≡ None) }
-    ensures some { IfSome result (λ refusal. RefusesBy (held_check vnode last_epoch held.now (pairs_in context.now)) refusal) }
+) -> Result<usize, Refusal>
+    requires { IsHeld (stored_of held.now) }
+    ensures ok { IfOk result (λ actors. AcceptsFor vnode last_epoch (stored_of held.now) (pairs_in context.now) actors) }
+    ensures err { IfErr result (λ refusal. RefusesBy (held_check vnode last_epoch (stored_of held.now) (pairs_in context.now)) refusal) }
 {
     let last = Dot {
         actor: held.actor,
         counter: held.last(),
     };
     if given::runs_ahead(context, vnode, last_epoch, Some(last)) {
-        return Some(Refusal::BadContext);
+        return Err(Refusal::BadContext);
     }
     if MOST_SIBLINGS <= held.kept(context) {
-        return Some(Refusal::TooManySiblings);
+        return Err(Refusal::TooManySiblings);
     }
-    let others = given::others_in(held.known.as_slice(), context);
-    if MOST_ACTORS < given::len(context).saturating_add(others) {
-        return Some(Refusal::ClockFull);
+    let others = given::others_in(held.clock.join(), context);
+    let actors = given::len(context).saturating_add(others);
+    if MOST_ACTORS < actors {
+        return Err(Refusal::ClockFull);
     }
     if last.counter == GREATEST_COUNTER {
-        return Some(Refusal::CounterUsedUp);
+        return Err(Refusal::CounterUsedUp);
     }
-    None
+    Ok(actors)
 }
 
 /// Why a put on an absent key is refused.

@@ -1,14 +1,15 @@
 //! The context that a put gives.
 
-ghost use Rattle.std.specs.Prelude.{◌≡◌, IfOk, IfErr, Some, None, length};
+ghost use Rattle.std.specs.Prelude.{◌≡◌, ◌≤◌, IfOk, IfErr, Some, None, length};
 ghost use Rattle.std.specs.List.{list_any};
 ghost use Rattle.actor_epoch.specs.Dots.{counter_in};
-ghost use Rattle.actor_epoch.specs.Entries.{entries_of};
 ghost use Rattle.vnode_machine.specs.Asks.{ReadsContext};
 ghost use Rattle.vnode_core.specs.Known.{pairs_in, given_of, has_actor, new_actors, is_ahead};
 
 use crate::refusal::Refusal;
-use actor_epoch::{Actor, Context, Dot};
+use actor_epoch::{Actor, Context, Dot, MOST_ACTORS};
+use dvv_set::Join;
+use riak_msgs::Content;
 
 /// What the bytes of a context read as: none where there are no bytes. Refused where they aren't of the form.
 pub(crate) fn read(bytes: &[u8]) -> Result<Option<Context<'_>>, Refusal>
@@ -82,13 +83,14 @@ fn is_ahead(vnode: u64, last_epoch: u32, last: Option<Dot>, pair: Dot) -> bool
     }
 }
 
-/// How many of the known actors aren't in the context.
-pub(crate) fn others_in(known: &[(Actor, u32)], context: &Option<Context<'_>>) -> usize
-    ensures { result ≡ new_actors (pairs_in context.now) (entries_of known.now) }
+/// How many of the known actors, 64 at most, aren't in the context.
+pub(crate) fn others_in(known: Join<'_, Option<Content>>, context: &Option<Context<'_>>) -> usize
+    requires { length known ≤ MOST_ACTORS }
+    ensures { result ≡ new_actors (pairs_in context.now) known.entry }
 {
     let mut count = 0;
-    for pair in known {
-        if !has_actor(context, pair.0) {
+    for (actor, _) in known {
+        if !has_actor(context, actor) {
             count += 1;
         }
     }

@@ -6,13 +6,15 @@
 //! history that may have led to its state, each call answers as the sibling register tells it (`specs/Register`).
 //!
 //! Keys stand in a list in their order. A call looks through it, and a new key moves those behind it; a get copies what
-//! it shows. A put takes memory in `prepare` alone: room at its place, the pairs that its key's clock will know, and at
-//! the first value of a life room for it. `finish` takes none, so an accepted put is never half made. The checks take
-//! none either; they look through the context's pairs once for each pair that the clock knows.
+//! it shows. A put takes memory in `prepare` alone: room at its place, and in its key's clock for the actors that are new
+//! to it, and for its siblings with one more. `finish` takes none, so an accepted put is never half made. The checks take
+//! none either; they look through the context's pairs once for each pair that the clock knows, and pass over the
+//! siblings once. Making a put moves the key's siblings once.
 //!
-//! A `Place` is where a key stands or would go in; a `Held` key is its actor, what its clock knows, and its siblings,
-//! the newest first. These have the actor's last dots, so the dots aren't stored. The `Room` for a value is made ahead,
-//! the `Growth` is what a write makes of the clock, and a [`Change`] is a put that was accepted and isn't made yet.
+//! A `Place` is where a key stands or would go in; a `Held` key is its actor and its clock (`Clock` of `dvv_set`), whose
+//! live dots are the siblings: contents, and None for a tombstone. These are the last dots of its actor, so how many of
+//! them a context covers is known by their number. The `Room` for a put is made ahead, `Ready` says where it is and for
+//! how many actors, and a [`Change`] is a put that was accepted and isn't made yet.
 //!
 //! Sources: the documentation of Riak's Protocol Buffers client API for get and put, and of its actor epochs; dotted
 //! version vector sets for clocks.
@@ -22,9 +24,7 @@ mod ask;
 mod change;
 mod checks;
 mod given;
-mod growth;
 mod held;
-mod known;
 mod place;
 mod refusal;
 mod replies;

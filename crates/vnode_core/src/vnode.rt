@@ -12,13 +12,12 @@ ghost use Rattle.vnode_core.specs.Register.{IsAfter, ShowsTold, MayRefuseAsk, Go
 use crate::ask::{Answer, Ask, Plan};
 use crate::change::Change;
 use crate::given;
-use crate::growth::Growth;
 use crate::held::Held;
 use crate::place::{Place, place_of};
 use crate::refusal::Refusal;
 use crate::replies::{absent, accepted, siblings};
-use crate::room::Room;
-use actor_epoch::{Actor, Context};
+use crate::room::{Ready, Room, first_clock};
+use actor_epoch::{Actor, Context, EpochSource};
 use riak_msgs::{GetAsk, GetReply, Key, PutAsk};
 use std::alloc::Global;
 use std::marker::Model;
@@ -48,13 +47,13 @@ use std::marker::Model;
 #[derive(Drop)]
 pub struct Vnode {
     id: u64,
-    last_epoch: u32,
+    epochs: EpochSource,
     writes: u64,
     tombstones: u64,
     reaps: u64,
     held: Vec<Held>,
     // Where the change that was planned last finds room.
-    ready: Option<Place>,
+    ready: Option<Ready>,
 }
 
 impl Model for Vnode {
@@ -78,7 +77,7 @@ impl Vnode {
     {
         Vnode {
             id,
-            last_epoch: first_epoch - 1,
+            epochs: EpochSource::new(first_epoch),
             writes: 0,
             tombstones: 0,
             reaps: 0,
@@ -88,7 +87,8 @@ impl Vnode {
     }
 
     /// Shows a key: copies of its siblings, the newest first, and the bytes of its context; nothing, where the key is
-    /// absent. With `head` the values are empty.
+    /// absent. A dead key, whose siblings are all tombstones, shows its context alone, and that with `deletedvclock`
+    /// alone. With `head` the values are empty.
     ///
     /// Refused for want of memory alone.
     pub fn get(&self, alloc: Global, ask: &GetAsk) -> Result<GetReply, Refusal>
@@ -99,35 +99,37 @@ impl Vnode {
     {
         match place_of(self.held.as_slice(), &ask.key) {
             Place::New(_) => Ok(absent(alloc)),
-            Place::At(i) => Ok(siblings(alloc, &self.held[i], ask.head)?),
+            Place::At(i) => Ok(siblings(alloc, &self.held[i], ask)?),
         }
     }
 
-    /// The place of a key, with room for one value more, and what a put with this context makes of its clock.
+    /// Room for a put of a key with this context, and for how many actors.
     fn make_room(
         &mut self,
         alloc: Global,
         key: &Key,
         context: &Option<Context<'_>>,
-    ) -> Result<(Room, Growth), Refusal>
+    ) -> Result<(Room, usize), Refusal>
         requires { IsRead context.now }
         ensures same { self.new.state ≡ self.old.state }
         ensures ok { IfOk result (λ made. IsRoomFor self.new key.now context.now made.0 made.1) }
         ensures err { IfErr result (λ refusal. RefusesPuts self.old.state key.now (given_of context.now) refusal) }
     {
         self.ready = None;
+        let last_epoch = self.epochs.last();
         match place_of(self.held.as_slice(), key) {
             Place::At(i) => {
-                let growth = self.held[i].grow(alloc, self.id, self.last_epoch, context)?;
-                self.ready = Some(Place::At(i));
-                Ok((Room::At(i), growth))
+                let actors = self.held[i].make_room(self.id, last_epoch, context)?;
+                let place = Place::At(i);
+                self.ready = Some(Ready { place, actors });
+                Ok((Room::At(i), actors))
             }
             Place::New(i) => {
-                let growth = Growth::first(alloc, self.id, self.last_epoch, context)?;
+                let (clock, actors) = first_clock(alloc, self.id, last_epoch, context)?;
                 self.held.reserve(1)?;
-                let values = Vec::with_capacity(alloc, 1)?;
-                self.ready = Some(Place::New(i));
-                Ok((Room::New(i, values), growth))
+                let place = Place::New(i);
+                self.ready = Some(Ready { place, actors });
+                Ok((Room::New(i, clock), actors))
             }
         }
     }
@@ -140,13 +142,13 @@ impl Vnode {
         ensures err { IfErr result (λ refusal. RefusesPut self.old.state put refusal) }
     {
         let context = given::read(put.context.as_slice())?;
-        let (room, growth) = self.make_room(alloc, &put.key, &context)?;
+        let (room, actors) = self.make_room(alloc, &put.key, &context)?;
         Ok(Change {
             key: put.key,
             content: put.content,
             context: put.context,
             room,
-            growth,
+            actors,
             reply: accepted(alloc),
         })
     }
@@ -182,29 +184,26 @@ impl Vnode {
         let Change {
             key,
             content,
+            context,
             room,
-            growth,
             reply,
             ..
         } = change;
         self.ready = None;
         self.writes = self.writes.saturating_add(1);
+        let seen = Context::read(context.as_slice());
         match room {
-            Room::At(i) => self.held[i].write(content, growth),
-            Room::New(i, mut values) => {
-                values.push_reserved(content);
-                self.last_epoch += 1;
+            Room::At(i) => self.held[i].write(seen.as_ref(), content),
+            Room::New(i, mut clock) => {
+                let Some(epoch) = self.epochs.next() else {
+                    unreachable!()
+                };
                 let actor = Actor {
                     vnode: self.id,
-                    epoch: self.last_epoch,
+                    epoch,
                 };
-                let held = Held {
-                    key,
-                    actor,
-                    known: growth.known,
-                    values,
-                };
-                let _ = self.held.insert(i, held);
+                clock.put_ready(seen.as_ref(), actor, Some(content));
+                let _ = self.held.insert(i, Held { key, actor, clock });
             }
         }
         Answer::Put(reply)

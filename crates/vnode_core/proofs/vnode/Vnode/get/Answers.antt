@@ -5,7 +5,7 @@ use Rattle.std.proofs.lemmas.Option.{slice_get_within}
 use Rattle.riak_msgs.specs.KeyOrder.{key_cmp}
 use Rattle.vnode_machine.specs.Asks.{get_command}
 use Rattle.vnode_machine.specs.Replies.{get_reply}
-use Rattle.vnode_core.specs.Held.{entry_of}
+use Rattle.vnode_core.specs.Held.{entry_of, stored_of}
 use Rattle.vnode_core.proofs.Holding.{placed, stands, missing, get_absent, get_held, is_held_at, read_at}
 use Rattle.vnode_core.proofs.Registers.{shows_told}
 use Rattle.vnode_core.proofs.vnode.Vnode.get.Goals as goal
@@ -40,11 +40,10 @@ returns-in_ok-siblings-in-At c =
     let read = c.index.result.now in
     let at = stands items ask.key c.in-At.i (placed items _ _ _ _ c.as_slice.ensures.value c.place_of.ensures c.in-At.is) in
     let is : read ≡ at.held = read_at items ask.key c.in-At.i read at c.index.ensures in
-    let found : find key_cmp ask.key (map entry_of items) ≡ Some (entry_of read).1 = at.find ∙ ap (λ h. Some (entry_of h).1) (sym is) in
-    let some = (is_held_at items ask.key c.in-At.i read at c.self.invariant.each c.index.ensures).some in
+    let found : find key_cmp ask.key (map entry_of items) ≡ Some (stored_of read) = at.find ∙ ap (λ h. Some (stored_of h)) (sym is) in
     let get = get_command ask None in
     let shown : c.in_ok-siblings-in-At.field-0 ≡ get_reply c.args.self.now.state get =
     c.in_ok-siblings-in-At.ensures
-    ∙ sym (get_held c.args.self.now.state ask.key ask.head ask.deletedvclock read
-    (subst (λ v. find key_cmp ask.key v.state.keys ≡ Some (entry_of read).1) c.self.view_is found) some) in
+    ∙ sym (get_held c.args.self.now.state ask.key ask.head ask.deletedvclock (stored_of read)
+    (subst (λ v. find key_cmp ask.key v.state.keys ≡ Some (stored_of read)) c.self.view_is found)) in
     record { ok = shown; err = tt; register = shows_told c.args.self.now.state get c.in_ok-siblings-in-At.field-0 shown }

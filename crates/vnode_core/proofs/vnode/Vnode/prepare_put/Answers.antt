@@ -29,5 +29,5 @@ returns-in_err-room-clause-err c =
 pub returns-clause-ok : goal.returns-clause-ok
 returns-clause-ok c =
     let found = c.in_ok-context.context in
-    plans_put c.make_room.new.self c.args.put found c.in_ok-room.room c.in_ok-room.growth c.accepted.result c.requires
+    plans_put c.make_room.new.self c.args.put found c.in_ok-room.room c.in_ok-room.actors c.accepted.result c.requires
     (subst (λ bytes. ReadsContext bytes (given_of found)) c.as_slice.ensures c.in_ok-context.ensures.ok) c.in_ok-room.ensures.ok c.accepted.ensures

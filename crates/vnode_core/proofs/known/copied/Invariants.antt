@@ -1,6 +1,0 @@
-use Rattle.std.proofs.Common.{◌≡◌, ◌++◌}
-use Rattle.actor_epoch.specs.Entries.{entries_of}
-use Rattle.vnode_core.proofs.known.copied.Given as goal
-
-abbrev pub invariant-loop-pair : goal.invariant-loop-pair
-invariant-loop-pair l = entries_of l.all.items ++ l.pair-iterator ≡ l.initial.pair-iterator
