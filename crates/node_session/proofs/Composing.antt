@@ -1,8 +1,8 @@
 -- A session goes on.
 use Rattle.std.proofs.Common.{◌≡◌, ℕ, ◌+◌, ◌≤◌, List, [], ◌∷◌, ◌++◌, length, Option, Bool, true, Ok, refl, sym, ap, subst, ◌∙◌, append-nil, append_assoc, length-append, arith}
 use Rattle.std.specs.List.{flat_map}
-use Rattle.std.specs.Io.KnownBytes.{Appends}
-use Rattle.std.proofs.KnownBytes.{Appends-trans, Appends-nil}
+use Rattle.std.specs.Io.KnownBytes.{Appends, Keeps}
+use Rattle.std.proofs.KnownBytes.{Appends-trans, Appends-nil, Appends-kept}
 use Rattle.std.proofs.lemmas.List.Elements.{All-nil, All-append}
 use Rattle.std.proofs.lemmas.List.Concat.{flat_map-append}
 use Rattle.pb_frame.specs.Message.{Message, frame, IsWithin}
@@ -78,10 +78,10 @@ module _ {S : Type 0} (Step : S → Request → Reply → S → Type 0) where
       subst (λ (t : List ℕ). Answered Step a t h h'' (j + k) Ends) (append-nil x)
       (Answered-then a b x y [] h h' h'' j k Ends p (subst (λ (t : List ℕ). Answered Step b t h' h'' k Ends) (sym (append-nil y)) q))
 
-  -- another way to say how it ended
-  pub Answered-ends : (a : S) (x : List ℕ) (h h' : Option (List ℕ)) (j : ℕ) (Ends Ends' : S → List ℕ → List ℕ → Type 0)
-      → ((mid : S) (rest last : List ℕ) → Ends mid rest last → Ends' mid rest last) → Answered Step a x h h' j Ends → Answered Step a x h h' j Ends'
-  Answered-ends a x h h' j Ends Ends' weaker p = record {
+  -- what was written is kept, and it is said in another way how it ended
+  pub Answered-as : (a : S) (x : List ℕ) (h h' h'' : Option (List ℕ)) (j : ℕ) (Ends Ends' : S → List ℕ → List ℕ → Type 0) (p : Answered Step a x h h' j Ends)
+      → Keeps h' h'' → Ends' p.mid p.rest p.last → Answered Step a x h h'' j Ends'
+  Answered-as a x h h' h'' j Ends Ends' p kept ends = record {
     messages = p.messages;
     replies = p.replies;
     mid = p.mid;
@@ -91,8 +91,8 @@ module _ {S : Type 0} (Step : S → Request → Reply → S → Type 0) where
     each = p.each;
     run = p.run;
     counted = p.counted;
-    written = p.written;
-    ends = weaker p.mid p.rest p.last p.ends;
+    written = Appends-kept h h' h'' _ p.written kept;
+    ends = ends;
   }
 
   -- what is left is shorter by a byte for each reply at least
@@ -107,3 +107,11 @@ module _ {S : Type 0} (Step : S → Request → Reply → S → Type 0) where
   -- a next message was there
   pub next_at : (a b : S) (framer framer' : Stream) (h h' : Option (List ℕ)) (r : Bool) → r ≡ true → AnswersNext Step a b framer framer' h h' (Ok r) → IsNext Step a b framer framer' h h'
   next_at a b framer framer' h h' r e p = subst (λ (t : Bool). AnswersNext Step a b framer framer' h h' (Ok t)) e p
+
+  -- there are no more replies than bytes
+  pub Answered-count : (a : S) (x : List ℕ) (h h' : Option (List ℕ)) (j : ℕ) (Ends : S → List ℕ → List ℕ → Type 0) → Answered Step a x h h' j Ends → j ≤ length x
+  Answered-count a x h h' j Ends p =
+      let long = frames_long p.messages in
+      let len : length x ≡ length (flat_map frame p.messages) + length p.rest = ap length p.stream ∙ length-append (flat_map frame p.messages) p.rest in
+      let count : length p.messages ≡ j = p.counted in
+      omega (arith, long, len, count)

@@ -1,4 +1,5 @@
 pub mod Known
 pub mod Replying
 pub mod Composing
-pub mod Ending
+pub mod Pieces
+pub mod Reading

@@ -1,5 +1,5 @@
 -- How far a session has come with an input.
-use Rattle.std.specs.Prelude.{◌≡◌, ℕ, ◌⊎◌, ◌<◌, ◌++◌, List, [], Option, length, take}
+use Rattle.std.specs.Prelude.{◌≡◌, ℕ, ◌⊎◌, ◌<◌, ◌≤◌, ◌++◌, List, [], Option, length, take}
 use Rattle.std.specs.List.{flat_map, All}
 use Rattle.std.specs.Io.KnownBytes.{Appends}
 use Rattle.pb_frame.specs.declared.fault.FrameFault.{FrameFault}
@@ -73,6 +73,28 @@ pub record IsLost {S : Type 0} (Step : S → Request → Reply → S → Type 0)
   pub due : IsDue Step mid rest next node'
   pub no_error : IsNoError due.reply
 
+-- without its last 1 to 4,096 bytes, nothing is wrong with what is left and no whole frame stands there
+pub record IsJustRead (rest : List ℕ) : Type 0 where
+  pub before : List ℕ
+  pub piece : List ℕ
+  pub splits : rest ≡ before ++ piece
+  pub some : 0 < length piece
+  pub bound : length piece ≤ 4096
+  pub partial : IsPartial longest_request before
+
+-- what ended it came with the last 4,096 bytes at most, which is what a read takes
+abbrev pub AtLastRead : {S : Type 0} → (S → List ℕ → List ℕ → Type 0) → S → List ℕ → List ℕ → Type 0
+AtLastRead Ends mid rest last = IsJustRead rest × Ends mid rest last
+
 -- a part of what was due next was written, or all was written and could not be flushed
 abbrev pub IsUnsent : {S : Type 0} (Step : S → Request → Reply → S → Type 0) (node' : S) → S → List ℕ → List ℕ → Type 0
-IsUnsent Step node' mid rest last = IsCut Step node' mid rest last ⊎ IsThrough node' mid rest last
+IsUnsent Step node' mid rest last = AtLastRead (IsCut Step node') mid rest last ⊎ IsThrough node' mid rest last
+
+-- nothing of what is left was answered
+pub record IsUnkept {S : Type 0} (node' : S) (mid : S) (rest last : List ℕ) : Type 0 where
+  pub node : node' ≡ mid
+  pub nothing : last ≡ []
+
+-- memory was refused for the next reply, or for the piece that was read last
+abbrev pub IsOutOfMemory : {S : Type 0} (Step : S → Request → Reply → S → Type 0) (node' : S) → S → List ℕ → List ℕ → Type 0
+IsOutOfMemory Step node' mid rest last = IsLost Step node' mid rest last ⊎ IsUnkept node' mid rest last

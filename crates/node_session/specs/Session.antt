@@ -1,13 +1,13 @@
 -- How a session ends.
-use Rattle.std.specs.Prelude.{◌≡◌, ℕ, ◌⊎◌, ◌≤◌, ◌*◌, List, Option, length}
-use Rattle.std.specs.Io.KnownBytes.{Consumes, Keeps}
+use Rattle.std.specs.Prelude.{◌≡◌, ℕ, ◌≤◌, ◌*◌, List, Option, length}
+use Rattle.std.specs.Io.KnownBytes.{Consumes}
 use Rattle.riak_msgs.specs.declared.request.Request.{Request}
 use Rattle.riak_msgs.specs.declared.reply.Reply.{Reply}
 use Rattle.node_session.specs.declared.sending.Stop.{Stop}
 use Rattle.node_session.specs.declared.sending.Stop.TheVariants.{Unsent, Bad, Lost}
 use Rattle.node_session.specs.declared.fault.SessionFault.{SessionFault}
 use Rattle.node_session.specs.declared.fault.SessionFault.TheVariants.{ReadFailed, WriteFailed, BadFrame, TooManyReads, NoMemory}
-use Rattle.node_session.specs.Answered.{Answered, IsThrough, IsBad, IsUnsent, IsLost}
+use Rattle.node_session.specs.Answered.{Answered, IsThrough, IsBad, IsUnsent, IsOutOfMemory, AtLastRead}
 
 -- a reader gave an input, by so many reads at most
 pub record Given (unread unread' : Option (List ℕ)) (reads : ℕ) (Serves : List ℕ → Type 0) : Type 0 where
@@ -21,28 +21,13 @@ pub record IsEnd {S : Type 0} (node' : S) (len : ℕ) (mid : S) (rest last : Lis
   pub through : IsThrough node' mid rest last
   pub left : length rest ≡ len
 
--- nothing was answered: no reply was counted, nothing was written, and the node is as it was
-pub record IsUnanswered {S : Type 0} (old new : S) (held held' : Option (List ℕ)) (count : ℕ) : Type 0 where
-  pub none : count ≡ 0
-  pub node : new ≡ old
-  pub nothing : Keeps held held'
-
--- The fault, with how many whole replies were written. All is read before the first answer, so a fault of the reads, or
--- of what they need, finds nothing answered.
+-- The fault, with how many whole replies were written.
 abbrev pub Stops : {S : Type 0} → (S → Request → Reply → S → Type 0) → S → S → List ℕ → Option (List ℕ) → Option (List ℕ) → SessionFault → Type 0
-Stops Step old new input held held' (ReadFailed count) = IsUnanswered old new held held' count
-Stops Step old new input held held' (WriteFailed count) = IsUnanswered old new held held' count ⊎ Answered Step old input held held' count (IsUnsent Step new)
-Stops Step old new input held held' (BadFrame count) = Answered Step old input held held' count (IsBad new)
-Stops Step old new input held held' (TooManyReads count) = IsUnanswered old new held held' count
-Stops Step old new input held held' (NoMemory count) = IsUnanswered old new held held' count ⊎ Answered Step old input held held' count (IsLost Step new)
-
--- a fault of the time before the first answer
-abbrev pub IsEarly : SessionFault → Type 0
-IsEarly (ReadFailed count) = count ≡ 0
-IsEarly (WriteFailed count) = count ≡ 0
-IsEarly (BadFrame count) = ⊥
-IsEarly (TooManyReads count) = count ≡ 0
-IsEarly (NoMemory count) = count ≡ 0
+Stops Step old new input held held' (ReadFailed count) = Answered Step old input held held' count (IsThrough new)
+Stops Step old new input held held' (WriteFailed count) = Answered Step old input held held' count (IsUnsent Step new)
+Stops Step old new input held held' (BadFrame count) = Answered Step old input held held' count (AtLastRead (IsBad new))
+Stops Step old new input held held' (TooManyReads count) = Answered Step old input held held' count (IsThrough new)
+Stops Step old new input held held' (NoMemory count) = Answered Step old input held held' count (AtLastRead (IsOutOfMemory Step new))
 
 -- the fault for a stop
 abbrev pub fault_for : Stop → ℕ → SessionFault

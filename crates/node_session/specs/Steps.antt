@@ -1,5 +1,5 @@
 -- What the parts of `serve` do.
-use Rattle.std.specs.Prelude.{◌≡◌, ℕ, ◌<◌, Bool, true, false, List, [], Option, Result, Ok, Err, length, take}
+use Rattle.std.specs.Prelude.{◌≡◌, ℕ, ◌<◌, Bool, true, false, List, [], ◌++◌, Option, Result, Ok, Err, length, take}
 use Rattle.std.specs.Io.KnownBytes.{Appends}
 use Rattle.pb_frame.specs.Message.{Message, IsPartial}
 use Rattle.pb_frame.specs.Stream.{Stream}
@@ -10,6 +10,7 @@ use Rattle.node_session.specs.declared.sending.Stop.{Stop}
 use Rattle.node_session.specs.declared.sending.Stop.TheVariants.{Unsent, Bad, Lost}
 use Rattle.node_session.specs.Answers.{Answers, reply_frame, IsNoError}
 use Rattle.node_session.specs.Answered.{Answered, Stands, IsBad, IsCut, IsLost}
+use Rattle.node_session.specs.Session.{Stops, fault_for}
 
 -- a beginning of the bytes was written, and not all
 pub record IsCutShort (held held' : Option (List ℕ)) (bytes : List ℕ) : Type 0 where
@@ -72,3 +73,8 @@ module _ {S : Type 0} (Step : S → Request → Reply → S → Type 0) where
   abbrev pub AnswersAll : S → S → Stream → Stream → Option (List ℕ) → Option (List ℕ) → ℕ → Result (Unit {0}) Stop → Type 0
   AnswersAll old new framer framer' held held' replies (Ok u) = IsAll old new framer framer' held held' replies
   AnswersAll old new framer framer' held held' replies (Err stop) = Answered Step old framer.rest held held' replies (StopEnds stop new)
+
+  -- all whole messages of what a framer holds and of a piece behind it, or how a session ends there
+  abbrev pub AnswersPiece : S → S → Stream → Stream → List ℕ → Option (List ℕ) → Option (List ℕ) → ℕ → Result (Unit {0}) Stop → Type 0
+  AnswersPiece old new framer framer' piece held held' replies (Ok u) = IsAll old new (record framer { rest = framer.rest ++ piece }) framer' held held' replies
+  AnswersPiece old new framer framer' piece held held' replies (Err stop) = Stops Step old new (framer.rest ++ piece) held held' (fault_for stop replies)

@@ -1,10 +1,11 @@
 //! Answers to the messages that have come.
 
-ghost use Rattle.std.specs.Prelude.{◌≡◌, ◌<◌, ◌^◌, IfOk, IfErr, None, length};
+ghost use Rattle.std.specs.Prelude.{◌≡◌, ◌+◌, ◌<◌, ◌≤◌, ◌^◌, IfOk, IfErr, None, length};
 ghost use Rattle.pb_frame.specs.Limits.{longest_request};
+ghost use Rattle.pb_frame.specs.Message.{IsPartial};
 ghost use Rattle.node_session.specs.declared.sending.Stop.TheVariants.{Lost};
 ghost use Rattle.node_session.specs.Answers.{reply_frame, text_for, text_at};
-ghost use Rattle.node_session.specs.Steps.{Answering, SendsReply, AnswersNext, AnswersAll};
+ghost use Rattle.node_session.specs.Steps.{Answering, SendsReply, AnswersNext, AnswersAll, AnswersPiece};
 
 use crate::error_frame::error_frame;
 use crate::node::Node;
@@ -111,7 +112,7 @@ fn answer_next<W: Write, N: Node>(
 }
 
 /// Answers each whole message that has come. The number is how many replies were written.
-pub(crate) fn answer_all<W: Write, N: Node>(
+fn answer_all<W: Write, N: Node>(
     alloc: Global,
     framer: &mut Framer,
     writer: &mut W,
@@ -130,4 +131,27 @@ pub(crate) fn answer_all<W: Write, N: Node>(
             Err(stop) => return (replies, Err(stop)),
         }
     }
+}
+
+/// Adds a piece to what has come, and answers each message that is whole now. The number is how many replies were
+/// written.
+pub(crate) fn answer_piece<W: Write, N: Node>(
+    alloc: Global,
+    framer: &mut Framer,
+    piece: &[u8],
+    writer: &mut W,
+    node: &mut N,
+) -> (u64, Result<(), Stop>)
+    requires limit { framer.old.limit ≡ longest_request }
+    requires untold { framer.old.fault ≡ None }
+    requires partial { IsPartial longest_request framer.old.rest }
+    requires some { 0 < length piece.now }
+    requires bound { length piece.now ≤ 4096 }
+    requires room { length framer.old.rest + length piece.now < 2 ^ 64 }
+    ensures { AnswersPiece N.step node.old node.new framer.old framer.new piece.now (W.contents writer.old) (W.contents writer.new) result.0 result.1 }
+{
+    if framer.feed(piece).is_err() {
+        return (0, Err(Stop::Lost));
+    }
+    answer_all(alloc, framer, writer, node)
 }

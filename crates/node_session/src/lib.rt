@@ -6,9 +6,11 @@
 //! of these replies are written. A length that no frame has is answered by one error, and ends the session. Each other
 //! end is told as well, with how many whole replies went out before it and with where the node stands (`specs/Session`).
 //!
-//! A session reads 4,096 bytes at a time up to the end of its input, and answers then. It holds the input and one reply
-//! in memory. Errors take no memory. It asks the writer to flush before each read and at its end, so a writer may gather
-//! the replies and pay one write for many of them.
+//! A session reads up to 4,096 bytes at a time, and answers each whole frame that has come before it reads on. Where it
+//! stops among its answers, no frame is left unanswered but those that its last 4,096 bytes at most made whole. It never
+//! holds the whole input: only the frame that is still to come whole, what was read along with it, and one reply. Errors
+//! take no memory. It asks the writer to flush before each read, so a writer may gather the replies and pay one write
+//! for all that a read brought.
 //!
 //! `PlainNode` is a node for one thread: one vnode, whose machine is its step (`specs/PlainStep`).
 #![tactic(auto)]

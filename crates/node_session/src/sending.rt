@@ -14,7 +14,7 @@ pub(crate) enum Stop {
     Unsent,
     /// A bad length stood in the stream.
     Bad,
-    /// Memory was refused for a reply.
+    /// Memory was refused for a reply, or for a piece that was read.
     Lost,
 }
 

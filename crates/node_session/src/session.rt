@@ -1,13 +1,11 @@
 //! A session from its first read to its end.
 
-ghost use Rattle.std.specs.Prelude.{◌≡◌, ◌*◌, ◌≤◌, ◌^◌, length, IfOk, IfErr, OnOk};
+ghost use Rattle.std.specs.Prelude.{◌≡◌, ◌≤◌, ◌^◌, IfOk, IfErr};
 ghost use Rattle.std.specs.Io.KnownBytes.{IsAtEnd, Keeps};
-ghost use Rattle.pb_frame.specs.Limits.{longest_request};
-ghost use Rattle.pb_frame.specs.Stream.{opening};
 ghost use Rattle.node_session.specs.Answered.{Answered};
-ghost use Rattle.node_session.specs.Session.{Given, IsEnd, Stops, IsEarly, fault_for};
+ghost use Rattle.node_session.specs.Session.{Given, IsEnd, Stops, fault_for};
 
-use crate::answering::answer_all;
+use crate::answering::answer_piece;
 use crate::ended::Ended;
 use crate::fault::SessionFault;
 use crate::node::Node;
@@ -18,45 +16,6 @@ use std::io::{ErrorKind, Read, Write};
 
 /// How much is read at a time.
 const PIECE: usize = 4096;
-
-/// Reads to the end of the input. What was read is in the framer then.
-fn read_all<R: Read, W: Write>(
-    reader: &mut R,
-    writer: &mut W,
-    framer: &mut Framer,
-    reads: u64,
-) -> Result<(), SessionFault>
-    requires fresh { framer.old ≡ opening longest_request }
-    ensures given { Given (R.remaining reader.old) (R.remaining reader.new) reads (λ input. OnOk result (framer.new ≡ record framer.old { rest = input })) }
-    ensures all { OnOk result (IsAtEnd (R.remaining reader.new)) }
-    ensures stream { framer.new ≡ record framer.old { rest = framer.new.rest } }
-    ensures room { length framer.new.rest ≤ 4096 * reads }
-    ensures early { IfErr result IsEarly }
-    ensures nothing { Keeps (W.contents writer.old) (W.contents writer.new) }
-{
-    let mut piece = [0u8; PIECE];
-    for _ in 0..reads {
-        if flush(writer).is_err() {
-            return Err(SessionFault::WriteFailed(0));
-        }
-        match reader.read(&mut piece) {
-            Ok(0) => return Ok(()),
-            Ok(n) => {
-                if framer.feed(&piece[..n]).is_err() {
-                    let _ = flush(writer);
-                    return Err(SessionFault::NoMemory(0));
-                }
-            }
-            Err(error) => {
-                if error.kind() != ErrorKind::Interrupted {
-                    return Err(SessionFault::ReadFailed(0));
-                }
-            }
-        }
-    }
-    let _ = flush(writer);
-    Err(SessionFault::TooManyReads(0))
-}
 
 /// The fault for a stop. What was written before a bad length or a refusal of memory is flushed, where that can be done.
 fn fault_of<W: Write>(writer: &mut W, stop: Stop, replies: u64) -> SessionFault
@@ -76,12 +35,13 @@ fn fault_of<W: Write>(writer: &mut W, stop: Stop, replies: u64) -> SessionFault
     }
 }
 
-/// Serves one connection: reads requests from `reader` to the end of the input, at most `reads` times, and then answers
-/// each of them in order by `node` and writes the replies to `writer`.
+/// Serves one connection: reads requests from `reader` to the end of the input, at most `reads` times, answers each of
+/// them in order by `node`, and writes the replies to `writer`.
 ///
-/// A request's frame has a length of at most [`LONGEST_REQUEST`]. A message that is no request is answered by its error,
-/// and the session goes on. A read, write or flush that is interrupted is tried again; such a read counts as one.
-/// The writer is flushed before each read, and at the end.
+/// A read takes up to 4,096 bytes, and each whole request that has come is answered before the next read. A request's
+/// frame has a length of at most [`LONGEST_REQUEST`]. A message that is no request is answered by its error, and the
+/// session goes on. A read, write or flush that is interrupted is tried again; such a read counts as one. The writer is
+/// flushed before each read, so that at the end all is flushed, and, as far as that can be done, after a fault.
 pub fn serve<R: Read, W: Write, N: Node>(
     alloc: Global,
     reader: &mut R,
@@ -101,16 +61,33 @@ pub fn serve<R: Read, W: Write, N: Node>(
         Stops N.step node.old node.new input (W.contents writer.old) (W.contents writer.new) fault)) }
 {
     let mut framer = Framer::new(alloc, LONGEST_REQUEST);
-    read_all(reader, writer, &mut framer, reads)?;
-    let (replies, answered) = answer_all(alloc, &mut framer, writer, node);
-    if let Err(stop) = answered {
-        return Err(fault_of(writer, stop, replies));
+    let mut piece = [0u8; PIECE];
+    let mut replies = 0;
+    for _ in 0..reads {
+        if flush(writer).is_err() {
+            return Err(SessionFault::WriteFailed(replies));
+        }
+        match reader.read(&mut piece) {
+            Ok(0) => {
+                return Ok(Ended {
+                    replies,
+                    rest: framer.rest(),
+                });
+            }
+            Ok(n) => {
+                let (more, answered) = answer_piece(alloc, &mut framer, &piece[..n], writer, node);
+                replies += more;
+                if let Err(stop) = answered {
+                    return Err(fault_of(writer, stop, replies));
+                }
+            }
+            Err(error) => {
+                if error.kind() != ErrorKind::Interrupted {
+                    return Err(SessionFault::ReadFailed(replies));
+                }
+            }
+        }
     }
-    if flush(writer).is_err() {
-        return Err(SessionFault::WriteFailed(replies));
-    }
-    Ok(Ended {
-        replies,
-        rest: framer.rest(),
-    })
+    let _ = flush(writer);
+    Err(SessionFault::TooManyReads(replies))
 }

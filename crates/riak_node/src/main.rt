@@ -1,7 +1,7 @@
 //! The node as a program.
 //!
 //! `riak_node pipe` serves standard input to standard output: requests of Riak's Protocol Buffers client API in frames,
-//! and their replies in frames. It ends with status 0 at the end of the input, with 1 and one line on standard error
+//! and their replies in frames, each request answered as soon as it has come. It ends with status 0 at the end of the input, with 1 and one line on standard error
 //! where it had to stop before, and with 2 where the command line is none of its own.
 #![tactic(auto)]
 

@@ -2,7 +2,7 @@
 
 ghost use Rattle.std.specs.Prelude.{◌<◌, ◌≤◌, ◌^◌};
 
-use super::connections::{ABSENT, GET, REPLIES, REQUESTS, new_node};
+use super::connections::{ABSENT, GET, REPLIES, REQUESTS, due, new_node};
 use super::streams::{NO_TROUBLE, Sink, Source, Trouble};
 use node_session::{Ended, PlainNode, SessionFault, serve};
 use std::alloc::Global;
@@ -35,9 +35,10 @@ fn each_read_fails_in_turn(rt: HostRuntime) -> Result<(), Fail> {
         };
         let mut sink = Sink::new(rt.alloc(), 64);
         let outcome = serve(rt.alloc(), &mut source, &mut sink, &mut node, 100);
+        let (replies, written) = due(fails_at);
         assert_eq!(rt;
             outcome,
-            Err(SessionFault::ReadFailed(0)),
+            Err(SessionFault::ReadFailed(replies)),
             "at read {fails_at}"
         );
         assert_eq!(rt;
@@ -45,10 +46,20 @@ fn each_read_fails_in_turn(rt: HostRuntime) -> Result<(), Fail> {
             fails_at.saturating_add(1),
             "at read {fails_at}"
         );
-        assert_eq!(rt; sink.bytes.len(), 0, "at read {fails_at}");
+        assert_eq!(rt;
+            Some(sink.bytes.as_slice()),
+            REPLIES.get(..written),
+            "at read {fails_at}"
+        );
+        // The put is made once its last byte has come.
+        let shown = if replies < 2 {
+            ABSENT.as_slice()
+        } else {
+            &REPLIES[10..]
+        };
         assert_eq!(rt;
             shows(&rt, rt.alloc(), &mut node)?.as_slice(),
-            ABSENT.as_slice(),
+            shown,
             "at read {fails_at}"
         );
     }
@@ -99,8 +110,8 @@ fn each_write_fails_in_turn(rt: HostRuntime) -> Result<(), Fail> {
 
 #[test]
 fn each_flush_fails_in_turn(rt: HostRuntime) -> Result<(), Fail> {
-    // Nine reads, a flush before each, and one at the end.
-    for fails_at in 0..10u64 {
+    // Nine reads, and a flush before each.
+    for fails_at in 0..9u64 {
         let mut node = new_node(rt.alloc())?;
         let mut source = Source::new(&REQUESTS, 4);
         let mut sink = Sink::new(rt.alloc(), 64);
@@ -109,16 +120,18 @@ fn each_flush_fails_in_turn(rt: HostRuntime) -> Result<(), Fail> {
             interrupts: 0,
         };
         let outcome = serve(rt.alloc(), &mut source, &mut sink, &mut node, 100);
-        let at_end = fails_at == 9;
-        let replies = if at_end { 3 } else { 0 };
-        let written = if at_end { 39 } else { 0 };
+        let (replies, written) = due(fails_at.saturating_mul(4));
         assert_eq!(rt;
             outcome,
             Err(SessionFault::WriteFailed(replies)),
             "at flush {fails_at}"
         );
-        assert_eq!(rt; sink.bytes.len(), written, "at flush {fails_at}");
-        assert_eq!(rt; source.reads, fails_at.min(9), "at flush {fails_at}");
+        assert_eq!(rt;
+            Some(sink.bytes.as_slice()),
+            REPLIES.get(..written),
+            "at flush {fails_at}"
+        );
+        assert_eq!(rt; source.reads, fails_at, "at flush {fails_at}");
     }
     Ok(())
 }
@@ -151,17 +164,19 @@ fn what_is_interrupted_is_tried_again(rt: HostRuntime) -> Result<(), Fail> {
     source.trouble = trouble;
     let mut sink = Sink::new(rt.alloc(), 3);
     let outcome = serve(rt.alloc(), &mut source, &mut sink, &mut node, 9);
-    assert_eq!(rt; outcome, Err(SessionFault::TooManyReads(0)));
+    assert_eq!(rt; outcome, Err(SessionFault::TooManyReads(3)));
+    assert_eq!(rt; sink.bytes.as_slice(), REPLIES.as_slice());
     Ok(())
 }
 
-/// Serves an input that ends by a fault, whose error is written whole or cut short.
+/// Serves an input that ends by a fault, whose error is written whole or cut short. So many bytes are not read any more.
 fn bad_length(
     rt: &impl Abort,
     alloc: Global,
     input: &[u8],
     replies: u64,
     output: &[u8],
+    unread: usize,
 ) -> Result<(), Fail> {
     let mut node = new_node(alloc)?;
     let mut source = Source::new(input, 3);
@@ -169,6 +184,7 @@ fn bad_length(
     let outcome = serve(alloc, &mut source, &mut sink, &mut node, 100);
     assert_eq!(rt; outcome, Err(SessionFault::BadFrame(replies)));
     assert_eq!(rt; sink.bytes.as_slice(), output);
+    assert_eq!(rt; source.left.len(), unread);
     assert_eq!(rt; sink.flushes, source.reads.saturating_add(1));
 
     let mut node = new_node(alloc)?;
@@ -188,9 +204,9 @@ fn bad_length(
 #[test]
 fn a_bad_length_is_told_once(rt: HostRuntime) -> Result<(), Fail> {
     let empty = b"\0\0\0\x0e\0\x0a\x09bad frame\x10\x01";
-    bad_length(&rt, rt.alloc(), &[0, 0, 0, 0], 0, empty)?;
+    bad_length(&rt, rt.alloc(), &[0, 0, 0, 0], 0, empty, 0)?;
     let large = b"\0\0\0\x14\0\x0a\x0fframe too large\x10\x01";
-    bad_length(&rt, rt.alloc(), &[0, 16, 0, 1], 0, large)?;
+    bad_length(&rt, rt.alloc(), &[0, 16, 0, 1], 0, large, 0)?;
     let after_a_ping = b"\0\0\0\x01\x02\0\0\0\x0e\0\x0a\x09bad frame\x10\x01";
     bad_length(
         &rt,
@@ -198,6 +214,7 @@ fn a_bad_length_is_told_once(rt: HostRuntime) -> Result<(), Fail> {
         &[0, 0, 0, 1, 1, 0, 0, 0, 0, 0, 0, 0, 1, 1],
         1,
         after_a_ping,
+        5,
     )
 }
 

@@ -85,7 +85,21 @@ fn other_messages_get_errors(rt: HostRuntime) -> Result<(), Fail> {
         &mut node,
         b"\0\0\0\x01\x01",
         b"\0\0\0\x01\x02",
-    )
+    )?;
+    // The session goes on behind one.
+    let mut source = Source::new(b"\0\0\0\x01\x07\0\0\0\x01\x01", 7);
+    let mut sink = Sink::new(rt.alloc(), 64);
+    let outcome = serve(rt.alloc(), &mut source, &mut sink, &mut node, 10);
+    assert_eq!(rt;
+        outcome,
+        Ok(Ended {
+            replies: 2,
+            rest: 0
+        })
+    );
+    let both = b"\0\0\0\x19\0\x0a\x14unknown message code\x10\x01\0\0\0\x01\x02";
+    assert_eq!(rt; sink.bytes.as_slice(), both.as_slice());
+    Ok(())
 }
 
 #[test]

@@ -2,7 +2,9 @@
 
 ghost use Rattle.std.specs.Prelude.{◌<◌};
 
+use super::connections::due;
 use std::alloc::Global;
+use std::cell::Cell;
 use std::io;
 use std::io::{ErrorKind, Read, Write};
 
@@ -38,18 +40,29 @@ impl Trouble {
 pub struct Source<'a> {
     pub left: &'a [u8],
     pub piece: usize,
+    pub later: usize,
     pub trouble: Trouble,
     pub reads: u64,
     ghost some: { 0 < piece },
+    ghost more: { 0 < later },
 }
 
 impl<'a> Source<'a> {
     pub fn new(left: &'a [u8], piece: usize) -> Source<'a>
         requires { 0 < piece }
     {
+        Source::cut(left, piece, piece)
+    }
+
+    /// The first piece has a length of its own.
+    pub fn cut(left: &'a [u8], piece: usize, later: usize) -> Source<'a>
+        requires first { 0 < piece }
+        requires then { 0 < later }
+    {
         Source {
             left,
             piece,
+            later,
             trouble: NO_TROUBLE,
             reads: 0,
         }
@@ -69,6 +82,7 @@ impl Read for Source<'_> {
         let (front, left) = self.left.split_at(n);
         buf[..n].copy_from_slice(front);
         self.left = left;
+        self.piece = self.later;
         Ok(n)
     }
 }
@@ -115,5 +129,52 @@ impl Write for Sink {
         let calls = self.flushes;
         self.flushes = calls.saturating_add(1);
         self.flush_trouble.at(calls)
+    }
+}
+
+/// A source that fails at a read unless just the replies to what it gave before were flushed.
+#[derive(Drop)]
+pub struct Patient<'a> {
+    pub source: Source<'a>,
+    pub given: u64,
+    pub flushed: &'a Cell<usize>,
+}
+
+impl Read for Patient<'_> {
+    ghost use Rattle.std.specs.Prelude.{Some};
+
+    ghost remaining = { λ r. Some r.source.left.now };
+
+    fn read(&mut self, buf: &mut [u8]) -> io::Result<usize> {
+        let (_, bytes) = due(self.given);
+        if self.flushed.get() != bytes {
+            return Err(io::Error::from(ErrorKind::ConnectionReset));
+        }
+        let n = self.source.read(buf)?;
+        self.given = self.given.saturating_add(n as u64);
+        Ok(n)
+    }
+}
+
+/// A sink that tells how many of its bytes were flushed.
+#[derive(Drop)]
+pub struct Flushing<'a> {
+    pub sink: Sink,
+    pub flushed: &'a Cell<usize>,
+}
+
+impl Write for Flushing<'_> {
+    ghost use Rattle.std.specs.Prelude.{Some};
+
+    ghost contents = { λ w. Some w.sink.bytes.items };
+
+    fn write(&mut self, buf: &[u8]) -> io::Result<usize> {
+        self.sink.write(buf)
+    }
+
+    fn flush(&mut self) -> io::Result<()> {
+        self.sink.flush()?;
+        self.flushed.set(self.sink.bytes.len());
+        Ok(())
     }
 }
