@@ -11,7 +11,7 @@ use Rattle.riak_msgs.specs.declared.text.Text.{Text}
 use Rattle.riak_msgs.specs.declared.fault.MsgFault.{MsgFault}
 use Rattle.riak_msgs.specs.declared.fault.MsgFault.TheVariants as faults
 use Rattle.riak_msgs.specs.declared.request.Request.{Request}
-use Rattle.riak_msgs.specs.Requests.{Reads}
+use Rattle.riak_msgs.specs.Reading.{Reads}
 use Rattle.riak_msgs.specs.declared.reply.Reply.{Reply}
 use Rattle.riak_msgs.specs.declared.reply.Reply.TheVariants.{Error}
 use Rattle.pb_frame.specs.Limits.{longest_request}

@@ -10,7 +10,7 @@ use Rattle.riak_msgs.specs.declared.text.Text.TheVariants as texts
 use Rattle.riak_msgs.specs.declared.request.Request.{Request}
 use Rattle.riak_msgs.specs.declared.reply.Reply.{Reply}
 use Rattle.riak_msgs.specs.declared.reply.Reply.TheVariants as replies
-use Rattle.riak_msgs.specs.Requests.{Says}
+use Rattle.riak_msgs.specs.Reading.{Says}
 use Rattle.riak_msgs.specs.Replies.{reply_code, reply_body}
 
 -- the text of the error for a message that is no request

@@ -4,4 +4,10 @@ pub mod Text
 pub mod Spelling
 pub mod Replies
 pub mod Requests
-pub mod Plain
+pub mod Picking
+pub mod Embedded
+pub mod Seen
+pub mod SeenRequests
+pub mod Reading
+pub mod ReadingReplies
+pub mod SeenReplies

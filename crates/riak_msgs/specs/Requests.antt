@@ -1,14 +1,13 @@
--- The one spelling of a request, and what a message says.
-use Rattle.std.specs.Prelude.{◌≡◌, ◌≢◌, ◌⊎◌, ℕ, false, List, [], ◌++◌, codes, Result, Ok, Err, if◌then◌else◌}
+-- The one spelling of a request.
+use Rattle.std.specs.Prelude.{◌≡◌, ◌≢◌, ℕ, false, List, [], ◌++◌, codes, if◌then◌else◌}
 use Rattle.std.specs.Str.{bytes_eq}
 use Rattle.riak_msgs.specs.declared.key.Key.{Key}
+use Rattle.riak_msgs.specs.declared.content.Content.{Content}
 use Rattle.riak_msgs.specs.declared.get.GetAsk.{GetAsk}
 use Rattle.riak_msgs.specs.declared.put.PutAsk.{PutAsk}
 use Rattle.riak_msgs.specs.declared.del.DelAsk.{DelAsk}
 use Rattle.riak_msgs.specs.declared.request.Request.{Request}
 use Rattle.riak_msgs.specs.declared.request.Request.TheVariants as requests
-use Rattle.riak_msgs.specs.declared.fault.MsgFault.{MsgFault}
-use Rattle.riak_msgs.specs.declared.fault.MsgFault.TheVariants as faults
 use Rattle.riak_msgs.specs.Contents.{no_content}
 use Rattle.riak_msgs.specs.Spelling.{bytes_field, context_field, flag_field, content_message}
 
@@ -69,60 +68,44 @@ request_body (requests.Del d) = del_body d
 abbrev pub default_key : List ℕ → List ℕ → Key
 default_key bucket key = record { bucket_type = default_type; bucket = bucket; key = key }
 
--- the bucket and the key have bytes
-abbrev pub IsNamed : Key → Type 0
-IsNamed k = (k.bucket ≢ []) × (k.key ≢ [])
+-- a get of a key without options
+abbrev pub unconditional_get : Key → GetAsk
+unconditional_get key = record { key = key; if_modified = []; head = false; deletedvclock = false }
 
--- a get that asks for its bucket and key alone
-abbrev pub plain_get : List ℕ → List ℕ → GetAsk
-plain_get bucket key =
-    record { key = default_key bucket key; if_modified = []; head = false; deletedvclock = false }
-
--- a put of a value alone after what a context has seen, without options
-abbrev pub plain_put : List ℕ → List ℕ → List ℕ → List ℕ → PutAsk
-plain_put bucket key context value = record {
-  key = default_key bucket key;
+-- a put of a content under a key, after what a context has seen, without options
+abbrev pub unconditional_put : Key → List ℕ → Content → PutAsk
+unconditional_put key context content = record {
+  key = key;
   context = context;
-  content = record no_content { value = value };
+  content = content;
   return_body = false;
   return_head = false;
   if_not_modified = false;
   if_none_match = false;
 }
 
--- which requests are taken so far: a ping, and a plain get or put whose bucket and key have bytes; a put has any context
-abbrev pub IsAccepted : Request → Type 0
-IsAccepted requests.Ping = Unit {0}
-IsAccepted (requests.Get g) = IsNamed g.key × (g ≡ plain_get g.key.bucket g.key.key)
-IsAccepted (requests.Put p) = IsNamed p.key × (p ≡ plain_put p.key.bucket p.key.key p.context p.content.value)
-IsAccepted (requests.Del d) = ⊥
+-- a get that asks for a bucket and a key of the default type
+abbrev pub plain_get : List ℕ → List ℕ → GetAsk
+plain_get bucket key = unconditional_get (default_key bucket key)
 
--- a code of a request that is taken so far: of a ping, a get or a put
-abbrev pub IsTaken : ℕ → Type 0
-IsTaken code = (code ≡ 1) ⊎ ((code ≡ 9) ⊎ (code ≡ 11))
+-- a put of a value alone, under a key of the default type
+abbrev pub plain_put : List ℕ → List ℕ → List ℕ → List ℕ → PutAsk
+plain_put bucket key context value = unconditional_put (default_key bucket key) context (record no_content { value = value })
 
--- the message is the spelling of the request
-pub record IsSpelling (code : ℕ) (body : List ℕ) (r : Request) : Type 0 where
-  pub accepted : IsAccepted r
-  pub code_is : code ≡ request_code r
-  pub body_is : body ≡ request_body r
+-- what is served so far: a ping, and gets and puts without options
+abbrev pub IsServed : Request → Type 0
+IsServed requests.Ping = Unit {0}
+IsServed (requests.Get g) = g ≡ unconditional_get g.key
+IsServed (requests.Put p) = p ≡ unconditional_put p.key p.context p.content
+IsServed (requests.Del d) = ⊥
 
--- what a message says: the accepted request that it spells, or that its code or its body is of none
-abbrev pub Says : ℕ → List ℕ → Result Request MsgFault → Type 0
-Says code body (Ok r) = IsSpelling code body r
-Says code body (Err faults.UnknownCode) = ¬ (IsTaken code)
-Says code body (Err faults.BadMessage) = IsTaken code × ((r : Request) → ¬ (IsSpelling code body r))
-Says code body (Err faults.MissingField) = ⊥
-Says code body (Err faults.EmptyName) = ⊥
-Says code body (Err faults.NoKey) = ⊥
-Says code body (Err faults.NoMemory) = ⊥
+-- the names of a key have bytes
+abbrev pub IsNamed : Key → Type 0
+IsNamed k = (k.bucket_type ≢ []) × (k.bucket ≢ []) × (k.key ≢ [])
 
--- what was read is what the message says, and memory is refused where it says a request
-abbrev pub Reads : ℕ → List ℕ → Result Request MsgFault → Type 0
-Reads code body (Ok r) = Says code body (Ok r)
-Reads code body (Err faults.UnknownCode) = Says code body (Err faults.UnknownCode)
-Reads code body (Err faults.BadMessage) = Says code body (Err faults.BadMessage)
-Reads code body (Err faults.MissingField) = Says code body (Err faults.MissingField)
-Reads code body (Err faults.EmptyName) = Says code body (Err faults.EmptyName)
-Reads code body (Err faults.NoKey) = Says code body (Err faults.NoKey)
-Reads code body (Err faults.NoMemory) = (r : Request) × Says code body (Ok r)
+-- the names of a request's key have bytes
+abbrev pub HasNames : Request → Type 0
+HasNames requests.Ping = Unit {0}
+HasNames (requests.Get g) = IsNamed g.key
+HasNames (requests.Put p) = IsNamed p.key
+HasNames (requests.Del d) = IsNamed d.key

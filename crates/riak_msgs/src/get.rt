@@ -1,11 +1,12 @@
 ghost use Rattle.std.specs.Prelude.{◌≡◌, IfOk};
 ghost use Rattle.riak_msgs.specs.Replies.{get_reply_body};
-ghost use Rattle.riak_msgs.specs.Requests.{plain_get};
+ghost use Rattle.riak_msgs.specs.Requests.{get_body, plain_get};
 
 use crate::bytes::Bytes;
 use crate::fault::MsgFault;
 use crate::key::Key;
-use crate::message::{Message, put_context, put_each, put_flag};
+use crate::message::{Message, put_bytes, put_context, put_each, put_flag};
+use crate::request_out::put_type;
 use crate::sequence::Sequence;
 use crate::shown::Shown;
 use crate::sink::Sink;
@@ -36,6 +37,19 @@ impl GetAsk {
             head: false,
             deletedvclock: false,
         })
+    }
+}
+
+impl Message for GetAsk {
+    ghost spelled = { get_body };
+
+    fn put_into<S: Sink>(&self, out: &mut S) -> Result<(), MsgFault> {
+        put_bytes(out, 1, self.key.bucket.as_slice())?;
+        put_bytes(out, 2, self.key.key.as_slice())?;
+        put_context(out, 7, &self.if_modified)?;
+        put_flag(out, 8, self.head)?;
+        put_flag(out, 9, self.deletedvclock)?;
+        put_type(out, 13, &self.key.bucket_type)
     }
 }
 

@@ -91,8 +91,12 @@ pub fn put_context<S: Sink>(out: &mut S, field: u32, context: &Bytes) -> Result<
     }
 }
 
-// Puts a message as the field of this number.
-fn put_message<S: Sink, M: Message>(out: &mut S, field: u32, message: &M) -> Result<(), MsgFault>
+/// Puts a message as the field of this number.
+pub fn put_message<S: Sink, M: Message>(
+    out: &mut S,
+    field: u32,
+    message: &M,
+) -> Result<(), MsgFault>
     ensures ok { OnOk result (S.grows out.old (bytes_field field (M.spelled message.now)) out.new) }
     ensures memory { IsOkUnless result MsgFault.NoMemory }
 {

@@ -1,12 +1,13 @@
 ghost use Rattle.std.specs.Prelude.{◌≡◌, IfOk};
 ghost use Rattle.riak_msgs.specs.Replies.{put_reply_body};
-ghost use Rattle.riak_msgs.specs.Requests.{plain_put};
+ghost use Rattle.riak_msgs.specs.Requests.{plain_put, put_body};
 
 use crate::bytes::Bytes;
 use crate::content::Content;
 use crate::fault::MsgFault;
 use crate::key::Key;
-use crate::message::{Message, put_context, put_each};
+use crate::message::{Message, put_bytes, put_context, put_each, put_flag, put_message};
+use crate::request_out::put_type;
 use crate::sequence::Sequence;
 use crate::shown::Shown;
 use crate::sink::Sink;
@@ -55,6 +56,22 @@ impl PutAsk {
             if_not_modified: false,
             if_none_match: false,
         })
+    }
+}
+
+impl Message for PutAsk {
+    ghost spelled = { put_body };
+
+    fn put_into<S: Sink>(&self, out: &mut S) -> Result<(), MsgFault> {
+        put_bytes(out, 1, self.key.bucket.as_slice())?;
+        put_bytes(out, 2, self.key.key.as_slice())?;
+        put_context(out, 3, &self.context)?;
+        put_message(out, 4, &self.content)?;
+        put_flag(out, 7, self.return_body)?;
+        put_flag(out, 9, self.if_not_modified)?;
+        put_flag(out, 10, self.if_none_match)?;
+        put_flag(out, 11, self.return_head)?;
+        put_type(out, 16, &self.key.bucket_type)
     }
 }
 

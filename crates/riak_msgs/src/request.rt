@@ -1,16 +1,15 @@
 ghost use Rattle.std.specs.Prelude.{◌≡◌, Ok, IfOk, IfErr};
 ghost use Rattle.riak_msgs.specs.declared.fault.MsgFault.TheVariants.{NoMemory};
-ghost use Rattle.riak_msgs.specs.Requests.{Reads, plain_get, plain_put};
+ghost use Rattle.riak_msgs.specs.Requests.{IsServed};
+ghost use Rattle.riak_msgs.specs.Reading.{Reads};
 
-use crate::bytes::Bytes;
-use crate::content::Content;
 use crate::del::DelAsk;
 use crate::fault::MsgFault;
 use crate::get::GetAsk;
-use crate::key::Key;
-use crate::plain::{names_in, written_in};
 use crate::put::PutAsk;
-use std::alloc::{AllocError, Global};
+use crate::read_get::read_get;
+use crate::read_put::read_put;
+use std::alloc::Global;
 
 /// What a client asks.
 #[derive(Debug, Drop)]
@@ -21,66 +20,32 @@ pub enum Request {
     Del(DelAsk),
 }
 
-/// The request that a message is. So far taken are a ping, a get of a bucket and a key, and a put of a bucket, a
-/// key, a context or none, and a content of a value alone, each in the one spelling that a client has for it; bucket
-/// and key have bytes. A context may be any bytes: what it says is not looked into here. A put whose context field has
-/// no bytes (`1a 00`) is no request's spelling, since an empty context isn't written; it is a bad message.
+/// The request that a message says.
 ///
-/// Refused are any code but that of a ping, a get or a put ([`MsgFault::UnknownCode`]), then every other body
-/// ([`MsgFault::BadMessage`]). Both are decided without memory; [`MsgFault::NoMemory`] comes only where the message
-/// is a request.
+/// Code 1 is a ping, whatever its body; 9 is a get (`RpbGetReq`), 11 a put (`RpbPutReq`). The fields of a body come in
+/// any order. Those of other numbers and those of another wire type are skipped, and so far so are the options: 7, 8
+/// and 9 of a get, 7, 9, 10 and 11 of a put. Of a field given more than once the last counts; the contents of a put
+/// are merged: later scalars win, and later links and pairs follow the earlier ones. Where no bucket type is given it
+/// is [`DEFAULT_TYPE`](crate::DEFAULT_TYPE), and where a put gives no context it has no bytes.
+///
+/// Refused by the first fault that holds:
+/// - `UnknownCode`: the code is another.
+/// - `BadMessage`: the body is no list of fields, or a put's content, or a link or pair in it.
+/// - `MissingField`: no bucket; no key of a get; no content of a put, none with a value, or a pair without its key.
+/// - `EmptyName`: a bucket, key or bucket type is given with no bytes.
+/// - `NoKey`: a put names no key, and none is made up for it.
+/// - `NoMemory`: memory was refused; all others are told without taking any.
+///
+/// Bodies are walked over as they lie, and what is kept is copied once; the time is linear in the bytes. Sources:
+/// `riak_kv.proto` of Riak's Protocol Buffers client API, and the Protocol Buffers encoding.
 pub fn read_request(alloc: Global, code: u8, body: &[u8]) -> Result<Request, MsgFault>
     ensures said { Reads code body.now result }
+    ensures served { IfOk result IsServed }
 {
     match code {
-        1 => read_ping(body),
+        1 => Ok(Request::Ping),
         9 => read_get(alloc, body),
         11 => read_put(alloc, body),
         _ => Err(MsgFault::UnknownCode),
     }
-}
-
-// The ping that a body is.
-fn read_ping(body: &[u8]) -> Result<Request, MsgFault>
-    ensures said { Reads 1 body.now result }
-{
-    if body.is_empty() {
-        Ok(Request::Ping)
-    } else {
-        Err(MsgFault::BadMessage)
-    }
-}
-
-// The get that a body is.
-fn read_get(alloc: Global, body: &[u8]) -> Result<Request, MsgFault>
-    ensures said { Reads 9 body.now result }
-{
-    let Some(names) = names_in(body) else {
-        return Err(MsgFault::BadMessage);
-    };
-    if !names.rest.is_empty() {
-        return Err(MsgFault::BadMessage);
-    }
-    let ask = GetAsk::plain(alloc, names.bucket, names.key)?;
-    Ok(Request::Get(ask))
-}
-
-// The put that a body is.
-fn read_put(alloc: Global, body: &[u8]) -> Result<Request, MsgFault>
-    ensures said { Reads 11 body.now result }
-{
-    let Some(names) = names_in(body) else {
-        return Err(MsgFault::BadMessage);
-    };
-    let Some(written) = written_in(names.rest) else {
-        return Err(MsgFault::BadMessage);
-    };
-    let ask = PutAsk::plain(
-        alloc,
-        names.bucket,
-        names.key,
-        written.context,
-        written.value,
-    )?;
-    Ok(Request::Put(ask))
 }

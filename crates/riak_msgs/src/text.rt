@@ -1,4 +1,6 @@
-ghost use Rattle.std.specs.Prelude.{◌≡◌};
+ghost use Rattle.std.specs.Prelude.{◌≡◌, find};
+ghost use Rattle.std.specs.Str.{bytes_eq};
+ghost use Rattle.riak_msgs.specs.ReadingReplies.{text_named};
 ghost use Rattle.riak_msgs.specs.Text.{text_bytes};
 
 /// Why a request was refused or a stream ended, as the client is told.
@@ -48,4 +50,45 @@ pub fn text_of(text: Text) -> &'static [u8]
         Text::BadFrame => b"bad frame",
         Text::FrameTooLarge => b"frame too large",
     }
+}
+
+// All texts.
+const ALL: [Text; 18] = [
+    Text::UnknownCode,
+    Text::BadMessage,
+    Text::MissingField,
+    Text::EmptyName,
+    Text::NoKey,
+    Text::NoMemory,
+    Text::MatchFound,
+    Text::Modified,
+    Text::NotFound,
+    Text::BadContext,
+    Text::TooManySiblings,
+    Text::ClockFull,
+    Text::EpochsUsedUp,
+    Text::CounterUsedUp,
+    Text::Moved,
+    Text::HistoryFull,
+    Text::BadFrame,
+    Text::FrameTooLarge,
+];
+
+/// The error whose text has these bytes.
+pub(crate) fn text_named(bytes: &[u8]) -> Option<Text>
+    ensures { result ≡ text_named bytes.now }
+{
+    named_in(&ALL, bytes)
+}
+
+// The first of these texts that has these bytes.
+fn named_in(texts: &[Text], bytes: &[u8]) -> Option<Text>
+    ensures { result ≡ find (λ text. bytes_eq (text_bytes text) bytes.now) texts.now }
+{
+    for text in texts {
+        if text_of(*text) == bytes {
+            return Some(*text);
+        }
+    }
+    None
 }

@@ -4,4 +4,5 @@ mod connections;
 mod contexts;
 mod faults;
 mod messages;
+mod spellings;
 mod streams;

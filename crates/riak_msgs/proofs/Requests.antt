@@ -1,0 +1,138 @@
+-- What a walk over a request's fields sees.
+use Rattle.std.proofs.Common.{◌≡◌, ℕ, List, [], ◌∷◌, ◌++◌, length, Option, Some, None, Result, Ok, Err, IfErr, IsErrAnd, Bor, option_copied, unwrap_or, refl, ap, sym, subst, arith, ◌∙◌, inl, inr}
+use Rattle.std.specs.List.{last_or, cons_option}
+use Rattle.std.proofs.lemmas.List.{append-nil}
+use Rattle.pb_fields.specs.declared.field.Field.{Field}
+use Rattle.pb_fields.specs.declared.fault.FieldFault.{FieldFault}
+use Rattle.pb_fields.specs.Field.{WireField, BeginsWithField, seen}
+use Rattle.pb_fields.specs.Next.{Tells}
+use Rattle.pb_fields.specs.Faults.{BeginsNoField}
+use Rattle.pb_fields.specs.Message.{BeginsWithFields, StandsFor}
+use Rattle.pb_fields.proofs.Parts.{field_once, field_some}
+use Rattle.riak_msgs.specs.declared.request.Request.{Request}
+use Rattle.riak_msgs.specs.declared.request.Request.TheVariants.{Get, Put}
+use Rattle.riak_msgs.specs.declared.fault.MsgFault.{MsgFault}
+use Rattle.riak_msgs.specs.declared.fault.MsgFault.TheVariants.{NoMemory}
+use Rattle.riak_msgs.specs.Picking.{bytes_at, each_bytes, last_bytes}
+use Rattle.riak_msgs.specs.Embedded.{ContentFields, StandForContent}
+use Rattle.riak_msgs.specs.Reading.{PutFields, StandsForPut, Says, Reads, said_by, get_fault, get_of, put_fault, put_of}
+use Rattle.riak_msgs.specs.Seen.{merged}
+use Rattle.riak_msgs.specs.SeenRequests.{HasBadContent}
+use Rattle.riak_msgs.proofs.Picking.{each_bytes-append, last_bytes-append}
+use Rattle.riak_msgs.proofs.Contents.{StandForContent-more, StandForContent-part}
+
+-- a borrowed name, or another in its place
+pub unwrap_or-copied : (name : Option (Bor (List ℕ))) (other : Bor (List ℕ)) → (unwrap_or name other).now ≡ unwrap_or (option_copied name) other.now
+unwrap_or-copied None other = refl
+unwrap_or-copied (Some bytes) other = refl
+
+-- what holds anyway holds of an error
+pub IfErr-anyway : {A E P : Type 0} (r : Result A E) → P → IfErr r (λ _. P)
+IfErr-anyway (Ok a) p = tt
+IfErr-anyway (Err e) p = p
+
+-- an error of which something holds
+pub IfErr-from_IsErrAnd : {A E : Type 0} (r : Result A E) (P : E → Type 0) → IsErrAnd r P → IfErr r P
+IfErr-from_IsErrAnd (Ok a) P is = absurd is
+IfErr-from_IsErrAnd (Err e) P is = is
+
+-- an error that is another's
+pub IsErrAnd-same : {A E : Type 0} (r : Result A E) (x y : E) → IsErrAnd r (λ e. e ≡ x) → x ≡ y → IsErrAnd r (λ e. e ≡ y)
+IsErrAnd-same (Ok a) x y is same = is
+IsErrAnd-same (Err e) x y is same = is ∙ same
+
+-- one field more may be the last of its number
+pub last_bytes-more : (number : ℕ) (fields : List WireField) (field : WireField) (before after : Option (List ℕ)) →
+    before ≡ last_bytes number fields → after ≡ last_or before (each_bytes number (field ∷ [])) →
+    after ≡ last_bytes number (fields ++ field ∷ [])
+last_bytes-more number fields field before after is last =
+    last ∙ ap (λ o. last_or o (each_bytes number (field ∷ []))) is ∙ sym (last_bytes-append number fields (field ∷ []))
+
+-- the occurrences in a field and in those behind it
+pub each_bytes-cons : (number : ℕ) (field : WireField) (fields : List WireField) (o : Option (List ℕ)) → bytes_at number field ≡ o →
+    each_bytes number (field ∷ fields) ≡ cons_option o (each_bytes number fields)
+each_bytes-cons number field fields o is = ap (λ p. cons_option p (each_bytes number fields)) is
+
+-- the occurrences in fields and in one more
+each_bytes-more : (number : ℕ) (fields : List WireField) (field : WireField) (o : Option (List ℕ)) → bytes_at number field ≡ o →
+    each_bytes number (fields ++ field ∷ []) ≡ each_bytes number fields ++ cons_option o []
+each_bytes-more number fields field o is =
+    each_bytes-append number fields (field ∷ []) ∙ ap (λ bss. each_bytes number fields ++ bss) (each_bytes-cons number field [] o is)
+
+-- an occurrence of the content more
+pub content-more : (fields : List WireField) (field : WireField) (bytes : List ℕ) (c part : ContentFields) → bytes_at 4 field ≡ Some bytes →
+    StandForContent (each_bytes 4 fields) c → StandForContent (bytes ∷ []) part → StandForContent (each_bytes 4 (fields ++ field ∷ [])) (merged c part)
+content-more fields field bytes c part is all more =
+    let P : List (List ℕ) → Type 0 = λ bss. StandForContent bss (merged c part) in
+    subst P (sym (each_bytes-more 4 fields field (Some bytes) is)) (StandForContent-more (each_bytes 4 fields) bytes c part all more)
+
+-- another field more
+pub content-skip : (fields : List WireField) (field : WireField) (c : ContentFields) → bytes_at 4 field ≡ None →
+    StandForContent (each_bytes 4 fields) c → StandForContent (each_bytes 4 (fields ++ field ∷ [])) c
+content-skip fields field c is all =
+    let P : List (List ℕ) → Type 0 = λ bss. StandForContent bss c in
+    subst P (sym (each_bytes-more 4 fields field None is ∙ append-nil (each_bytes 4 fields))) all
+
+-- a step of a walk that gave a field
+pub tells_field : (before after : List ℕ) (told : Result Field FieldFault) (field : Field) → Tells before (Some told) after → told ≡ Ok field →
+    BeginsWithField before (seen field) after
+tells_field before after told field tells is = let P : Result Field FieldFault → Type 0 = λ r. Tells before (Some r) after in subst P is tells
+
+-- and one that gave a fault
+pub tells_fault : (before after : List ℕ) (told : Result Field FieldFault) (fault : FieldFault) → Tells before (Some told) after →
+    told ≡ Err fault → BeginsNoField before
+tells_fault before after told fault tells is =
+    let P : Result Field FieldFault → Type 0 = λ r. Tells before (Some r) after in (subst P is tells).0
+
+-- bytes that begin with a field stand for it and for what the rest stands for
+pub fields_next : (bs after : List ℕ) (field : WireField) (fields : List WireField) → BeginsWithField bs field after → StandsFor bs fields →
+    (rest : List WireField) × (fields ≡ field ∷ rest) × StandsFor after rest
+fields_next bs after field [] begins all =
+    let some = field_some bs after field begins in
+    let none : length bs ≡ 0 = ap length all in
+    absurd (omega (arith, some, none))
+fields_next bs after field (g ∷ gs) begins (behind, others, rest) =
+    let one = field_once bs after behind field g begins others in
+    let P : List ℕ → Type 0 = λ cs. StandsFor cs gs in
+    (gs, ap (λ f. f ∷ gs) (sym one.0), subst P (sym one.1) rest)
+
+-- bytes that begin with fields stand for them and for what the rest stands for
+fields_split : (bs rest : List ℕ) (before fields : List WireField) → BeginsWithFields bs before rest → StandsFor bs fields →
+    (behind : List WireField) × (fields ≡ before ++ behind) × StandsFor rest behind
+fields_split bs rest [] fields begins all = let P : List ℕ → Type 0 = λ cs. StandsFor cs fields in (fields, refl, subst P begins all)
+fields_split bs rest (f ∷ fs) fields (x, first, others) all =
+    let next = fields_next bs x f fields first all in
+    let split = fields_split x rest fs next.0 others next.2 in
+    (split.0, next.1 ∙ ap (λ gs. f ∷ gs) split.1, split.2)
+
+-- bytes with a bad content in them stand for no put
+pub bad_content : (bs before after : List ℕ) (so_far : List WireField) (field : WireField) (put : PutFields) →
+    BeginsWithFields bs so_far before → BeginsWithField before field after → HasBadContent field → StandsForPut bs put → ⊥
+bad_content bs before after so_far field put begins next bad stands =
+    let split = fields_split bs before so_far put.own begins stands.own in
+    let more = fields_next before after field split.0 next split.2 in
+    let own : put.own ≡ so_far ++ field ∷ more.0 = split.1 ∙ ap (λ gs. so_far ++ gs) more.1 in
+    let each : each_bytes 4 put.own ≡ each_bytes 4 so_far ++ bad.bytes ∷ each_bytes 4 more.0 =
+    ap (each_bytes 4) own ∙ each_bytes-append 4 so_far (field ∷ more.0)
+    ∙ ap (λ bss. each_bytes 4 so_far ++ bss) (each_bytes-cons 4 field more.0 (Some bad.bytes) bad.is) in
+    let P : List (List ℕ) → Type 0 = λ bss. StandForContent bss put.content in
+    let part = StandForContent-part (each_bytes 4 so_far) bad.bytes (each_bytes 4 more.0) put.content (subst P each stands.content) in
+    bad.none part.0 part.1
+
+-- what was refused for want of memory would have been this request
+pub reads_no_memory : (code : ℕ) (body : List ℕ) (request : Request) (r : Result Request MsgFault) → IsErrAnd r (λ fault. fault ≡ NoMemory) →
+    Says code body (Ok request) → Reads code body r
+reads_no_memory code body request (Ok other) none says = absurd none
+reads_no_memory code body request (Err fault) is says =
+    let P : MsgFault → Type 0 = λ f. Reads code body (Err f) in
+    subst P (sym is) (request, says)
+
+-- a get that says this
+pub says_get : (body : List ℕ) (fields : List WireField) → StandsFor body fields → None ≡ get_fault fields →
+    Says 9 body (Ok (Get (get_of fields)))
+says_get body fields stands none = inr (inl (refl, inl (fields, stands, ap (λ fault. said_by fault (Get (get_of fields))) none)))
+
+-- a put that says this
+pub says_put : (body : List ℕ) (put : PutFields) → StandsForPut body put → None ≡ put_fault put →
+    Says 11 body (Ok (Put (put_of put)))
+says_put body put stands none = inr (inr (inl (refl, inl (put, stands, ap (λ fault. said_by fault (Put (put_of put))) none))))

@@ -1,0 +1,104 @@
+-- What a message says: its request, as a function of its fields, or why it is none.
+use Rattle.std.specs.Prelude.{◌≡◌, ◌⊎◌, ℕ, ◌==◌, Bool, false, ◌||◌, List, [], ◌∷◌, length, Option, Some, None, is_none, unwrap_or, Result, Ok, Err, if◌then◌else◌}
+use Rattle.std.specs.Option.{option_map_or}
+use Rattle.pb_fields.specs.Field.{WireField}
+use Rattle.pb_fields.specs.Message.{StandsFor}
+use Rattle.riak_msgs.specs.declared.key.Key.{Key}
+use Rattle.riak_msgs.specs.declared.get.GetAsk.{GetAsk}
+use Rattle.riak_msgs.specs.declared.put.PutAsk.{PutAsk}
+use Rattle.riak_msgs.specs.declared.request.Request.{Request}
+use Rattle.riak_msgs.specs.declared.request.Request.TheVariants as requests
+use Rattle.riak_msgs.specs.declared.fault.MsgFault.{MsgFault}
+use Rattle.riak_msgs.specs.declared.fault.MsgFault.TheVariants as faults
+use Rattle.riak_msgs.specs.Contents.{no_content}
+use Rattle.riak_msgs.specs.Requests.{default_type, unconditional_get, unconditional_put}
+use Rattle.riak_msgs.specs.Picking.{each_bytes, last_bytes}
+use Rattle.riak_msgs.specs.Embedded.{ContentFields, StandForContent, content_of}
+
+-- the first fault that holds
+abbrev pub first_fault : List (Bool × MsgFault) → Option MsgFault
+first_fault [] = None
+first_fault (check ∷ checks) = if check.0 then Some check.1 else first_fault checks
+
+-- a name that is given with no bytes
+abbrev pub is_empty_name : Option (List ℕ) → Bool
+is_empty_name name = option_map_or (λ bytes. length bytes == 0) name false
+
+-- the bucket, the key or the type is; a type has this field number
+abbrev pub has_empty_name : ℕ → List WireField → Bool
+has_empty_name type_number fields =
+    is_empty_name (last_bytes 1 fields) || is_empty_name (last_bytes 2 fields) || is_empty_name (last_bytes type_number fields)
+
+-- the key that is named; where no type is given it is the default
+abbrev pub named_key : ℕ → List WireField → Key
+named_key type_number fields = record {
+  bucket_type = unwrap_or (last_bytes type_number fields) default_type;
+  bucket = unwrap_or (last_bytes 1 fields) [];
+  key = unwrap_or (last_bytes 2 fields) [];
+}
+
+-- RpbGetReq: bucket and key are required, and no name is empty
+abbrev pub get_fault : List WireField → Option MsgFault
+get_fault fields = first_fault (
+    (is_none (last_bytes 1 fields) || is_none (last_bytes 2 fields), faults.MissingField)
+    ∷ (has_empty_name 13 fields, faults.EmptyName)
+    ∷ [])
+
+abbrev pub get_of : List WireField → GetAsk
+get_of fields = unconditional_get (named_key 13 fields)
+
+-- the fields of a put, and those of its content
+pub record PutFields : Type 0 where
+  pub own : List WireField
+  pub content : ContentFields
+
+-- the bytes stand for the put's fields, and the occurrences of its content together for the content's
+pub record StandsForPut (bs : List ℕ) (put : PutFields) : Type 0 where
+  pub own : StandsFor bs put.own
+  pub content : StandForContent (each_bytes 4 put.own) put.content
+
+-- RpbPutReq: bucket and content are required, no name is empty, and the key isn't made here
+abbrev pub put_fault : PutFields → Option MsgFault
+put_fault put = first_fault (
+    (is_none (last_bytes 1 put.own) || is_none (content_of put.content), faults.MissingField)
+    ∷ (has_empty_name 16 put.own, faults.EmptyName)
+    ∷ (is_none (last_bytes 2 put.own), faults.NoKey)
+    ∷ [])
+
+abbrev pub put_of : PutFields → PutAsk
+put_of put =
+    unconditional_put (named_key 16 put.own) (unwrap_or (last_bytes 3 put.own) [])
+    (unwrap_or (content_of put.content) no_content)
+
+-- what is said: the fault, or else what was asked
+abbrev pub said_by : {A : Type 0} → Option MsgFault → A → Result A MsgFault
+said_by None asked = Ok asked
+said_by (Some fault) asked = Err fault
+
+-- a body says what its fields say; one that stands for no fields is a bad message
+abbrev pub SaysBy : {A F : Type 0} → (F → Type 0) → (F → Result A MsgFault) → Result A MsgFault → Type 0
+SaysBy {F = F} Stands told said =
+    ((fields : F) × Stands fields × (said ≡ told fields))
+    ⊎ (((fields : F) → Stands fields → ⊥) × (said ≡ Err faults.BadMessage))
+
+-- a code of a request that is read so far: of a ping, a get or a put
+abbrev pub IsTaken : ℕ → Type 0
+IsTaken code = (code ≡ 1) ⊎ ((code ≡ 9) ⊎ (code ≡ 11))
+
+-- what a message says; a ping's body isn't looked at
+abbrev pub Says : ℕ → List ℕ → Result Request MsgFault → Type 0
+Says code body said =
+    ((code ≡ 1) × (said ≡ Ok requests.Ping))
+    ⊎ (((code ≡ 9) × SaysBy (StandsFor body) (λ fields. said_by (get_fault fields) (requests.Get (get_of fields))) said)
+    ⊎ (((code ≡ 11) × SaysBy (StandsForPut body) (λ put. said_by (put_fault put) (requests.Put (put_of put))) said)
+    ⊎ (¬ (IsTaken code) × (said ≡ Err faults.UnknownCode))))
+
+-- what was read is what the message says, and memory is refused only where it says a request
+abbrev pub Reads : ℕ → List ℕ → Result Request MsgFault → Type 0
+Reads code body (Ok request) = Says code body (Ok request)
+Reads code body (Err faults.UnknownCode) = Says code body (Err faults.UnknownCode)
+Reads code body (Err faults.BadMessage) = Says code body (Err faults.BadMessage)
+Reads code body (Err faults.MissingField) = Says code body (Err faults.MissingField)
+Reads code body (Err faults.EmptyName) = Says code body (Err faults.EmptyName)
+Reads code body (Err faults.NoKey) = Says code body (Err faults.NoKey)
+Reads code body (Err faults.NoMemory) = (request : Request) × Says code body (Ok request)

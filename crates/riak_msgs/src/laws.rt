@@ -1,0 +1,9 @@
+ghost use Rattle.std.specs.Prelude.{◌≡◌, ℕ, List, Result};
+ghost use Rattle.riak_msgs.specs.declared.request.Request.{Request};
+ghost use Rattle.riak_msgs.specs.declared.fault.MsgFault.{MsgFault};
+ghost use Rattle.riak_msgs.specs.Reading.{Says};
+
+/// A law: a message says one thing, a request or a fault.
+pub fn messages_say_one()
+    ensures { (code : ℕ) (body : List ℕ) (a b : Result Request MsgFault) → Says code body a → Says code body b → a ≡ b }
+{}

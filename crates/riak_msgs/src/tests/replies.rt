@@ -1,0 +1,256 @@
+//! Replies, as this node writes them and as a client reads them.
+
+use super::CONTEXT;
+use crate::*;
+use std::alloc::{AllocError, Global};
+use std::process::Abort;
+use std::test::Fail;
+
+fn writes(rt: &impl Abort, alloc: Global, reply: &Reply, want: &[u8]) -> Result<(), MsgFault> {
+    let written = write_reply(alloc, reply)?;
+    assert_eq!(rt; written.as_slice(), want);
+    Ok(())
+}
+
+/// A sibling of which nothing is said but its value.
+fn sibling(alloc: Global, value: &[u8]) -> Result<Shown, AllocError> {
+    let mut content = Content::new(alloc);
+    content.value = Bytes::from_slice(alloc, value)?;
+    Ok(Shown {
+        content,
+        deleted: false,
+    })
+}
+
+// Where memory is refused on the way, nothing wrong is written, and the second round goes through.
+#[test]
+fn writes_replies(rt: HostRuntime) -> Result<(), Fail> {
+    if write_replies(&rt, rt.alloc()).is_err() {
+        write_replies(&rt, rt.alloc())?;
+    }
+    Ok(())
+}
+
+fn write_replies(rt: &impl Abort, alloc: Global) -> Result<(), MsgFault> {
+    writes(rt, alloc, &Reply::Ping, b"\x02")?;
+    writes(rt, alloc, &Reply::Del, b"\x0e")?;
+    let found = Reply::Error(Text::MatchFound);
+    writes(rt, alloc, &found, b"\0\x0a\x0bmatch_found\x10\x01")?;
+    let stored = Reply::Put(PutReply {
+        contents: Sequence::new(alloc),
+        context: Bytes::new(alloc),
+    });
+    writes(rt, alloc, &stored, b"\x0c")?;
+    let unchanged = Reply::Get(GetReply {
+        contents: Sequence::new(alloc),
+        context: Bytes::new(alloc),
+        unchanged: true,
+    });
+    writes(rt, alloc, &unchanged, b"\x0a\x18\x01")?;
+    let mut contents = Sequence::new(alloc);
+    contents.push(sibling(alloc, b"v")?)?;
+    contents.push(Shown::tombstone(alloc))?;
+    let siblings = Reply::Get(GetReply {
+        contents,
+        context: Bytes::from_slice(alloc, CONTEXT)?,
+        unchanged: false,
+    });
+    let want =
+        b"\x0a\x0a\x03\x0a\x01v\x0a\x04\x0a\0\x58\x01\x12\x11\x01\0\0\0\0\0\x01\0\0\0\0\0\x01\0\0\0\x01";
+    writes(rt, alloc, &siblings, want)
+}
+
+fn some(alloc: Global, bytes: &[u8]) -> Result<Option<Bytes>, AllocError> {
+    Ok(Some(Bytes::from_slice(alloc, bytes)?))
+}
+
+fn pair(alloc: Global, key: &[u8], value: Option<Bytes>) -> Result<Pair, AllocError> {
+    Ok(Pair {
+        key: Bytes::from_slice(alloc, key)?,
+        value,
+    })
+}
+
+/// A content with every field, and with fields of no bytes.
+fn full(alloc: Global) -> Result<Content, AllocError> {
+    let mut content = Content::new(alloc);
+    content.value = Bytes::from_slice(alloc, b"v")?;
+    content.content_type = some(alloc, b"text/plain")?;
+    content.charset = some(alloc, b"utf-8")?;
+    content.content_encoding = some(alloc, b"")?;
+    content.links.push(Link {
+        bucket: some(alloc, b"b")?,
+        key: some(alloc, b"k")?,
+        tag: some(alloc, b"t")?,
+    })?;
+    content.links.push(Link {
+        bucket: None,
+        key: some(alloc, b"")?,
+        tag: None,
+    })?;
+    content
+        .usermeta
+        .push(pair(alloc, b"m", some(alloc, b"1")?)?)?;
+    content.usermeta.push(pair(alloc, b"", None)?)?;
+    content
+        .indexes
+        .push(pair(alloc, b"i_bin", some(alloc, &[b'z'; 130])?)?)?;
+    Ok(content)
+}
+
+// The bytes were computed by hand from the Protocol Buffers encoding, and once more by a few lines of Python.
+#[test]
+fn writes_a_full_content(rt: HostRuntime) -> Result<(), Fail> {
+    if write_full_content(&rt, rt.alloc()).is_err() {
+        write_full_content(&rt, rt.alloc())?;
+    }
+    Ok(())
+}
+
+fn write_full_content(rt: &impl Abort, alloc: Global) -> Result<(), MsgFault> {
+    let content = full(alloc)?;
+    let mut contents = Sequence::new(alloc);
+    contents.push(Shown {
+        content: content.clone(alloc)?,
+        deleted: false,
+    })?;
+    contents.push(Shown {
+        content: content.clone_head(alloc)?,
+        deleted: false,
+    })?;
+    let reply = Reply::Put(PutReply {
+        contents,
+        context: Bytes::new(alloc),
+    });
+    let mut want = Vec::new(alloc);
+    want.extend_from_slice(b"\x0c\x0a\xc2\x01\x0a\x01v")?;
+    want.extend_from_slice(BEHIND_VALUE)?;
+    want.extend_from_slice(&[b'z'; 130])?;
+    want.extend_from_slice(b"\x0a\xc1\x01\x0a\0")?;
+    want.extend_from_slice(BEHIND_VALUE)?;
+    want.extend_from_slice(&[b'z'; 130])?;
+    writes(rt, alloc, &reply, want.as_slice())
+}
+
+/// What follows the value of the full content, up to the index's bytes.
+const BEHIND_VALUE: &[u8] =
+    b"\x12\x0atext/plain\x1a\x05utf-8\x22\x002\x09\x0a\x01b\x12\x01k\x1a\x01t2\x02\x12\x00J\x06\x0a\x01m\x12\x011J\x02\x0a\x00R\x8c\x01\x0a\x05i_bin\x12\x82\x01";
+
+fn tells(rt: &impl Abort, text: Text, want: &[u8]) {
+    assert_eq!(rt; text_of(text), want);
+}
+
+#[test]
+fn texts_are_told_to_the_letter(rt: HostRuntime) {
+    tells(&rt, Text::UnknownCode, b"unknown message code");
+    tells(&rt, Text::BadMessage, b"bad message");
+    tells(&rt, Text::MissingField, b"missing field");
+    tells(&rt, Text::EmptyName, b"empty name");
+    tells(&rt, Text::NoKey, b"key required");
+    tells(&rt, Text::NoMemory, b"no memory");
+    tells(&rt, Text::MatchFound, b"match_found");
+    tells(&rt, Text::Modified, b"modified");
+    tells(&rt, Text::NotFound, b"notfound");
+    tells(&rt, Text::BadContext, b"bad context");
+    tells(&rt, Text::TooManySiblings, b"too many siblings");
+    tells(&rt, Text::ClockFull, b"clock full");
+    tells(&rt, Text::EpochsUsedUp, b"epochs used up");
+    tells(&rt, Text::CounterUsedUp, b"counter used up");
+    tells(&rt, Text::Moved, b"moved");
+    tells(&rt, Text::HistoryFull, b"history full");
+    tells(&rt, Text::BadFrame, b"bad frame");
+    tells(&rt, Text::FrameTooLarge, b"frame too large");
+}
+
+/// Reads a reply, and a second time where memory was refused: then the answer is the same as it would have been.
+fn read_again(alloc: Global, message: &[u8]) -> Result<Reply, MsgFault> {
+    let Some((code, body)) = message.split_first() else {
+        return Err(MsgFault::UnknownCode);
+    };
+    match read_reply(alloc, *code, body) {
+        Err(MsgFault::NoMemory) => read_reply(alloc, *code, body),
+        other => other,
+    }
+}
+
+/// Reads a reply and writes it again.
+fn again(rt: &impl Abort, alloc: Global, message: &[u8]) -> Result<(), MsgFault> {
+    let reply = read_again(alloc, message)?;
+    writes(rt, alloc, &reply, message)
+}
+
+// Where memory is refused on the way, nothing wrong is read, and the second round goes through.
+#[test]
+fn a_client_reads_what_is_written(rt: HostRuntime) -> Result<(), Fail> {
+    if all_again(&rt, rt.alloc()).is_err() {
+        all_again(&rt, rt.alloc())?;
+    }
+    Ok(())
+}
+
+fn all_again(rt: &impl Abort, alloc: Global) -> Result<(), MsgFault> {
+    again(rt, alloc, b"\x02")?;
+    again(rt, alloc, b"\x0e")?;
+    again(rt, alloc, b"\x0c")?;
+    again(rt, alloc, b"\x0a")?;
+    again(rt, alloc, b"\x0a\x18\x01")?;
+    again(rt, alloc, b"\0\x0a\x0bmatch_found\x10\x01")?;
+    again(rt, alloc, b"\0\x0a\x09bad frame\x10\x01")?;
+    let value = b"\x0a\x0a\x03\x0a\x01v\x12\x11\x01\0\0\0\0\0\x01\0\0\0\0\0\x01\0\0\0\x01";
+    again(rt, alloc, value)?;
+    let siblings =
+        b"\x0a\x0a\x04\x0a\0\x58\x01\x0a\x03\x0a\x01w\x12\x11\x01\0\0\0\0\0\x01\0\0\0\0\0\x01\0\0\0\x03";
+    again(rt, alloc, siblings)?;
+    let full =
+        b"\x0c\x0a\x2a\x0a\x01v\x12\x01t\x1a\x01c\x22\x01e\x32\x06\x0a\x01b\x1a\x01t\x32\0\x4a\x03\x0a\x01m\x4a\x05\x0a\x01n\x12\0\x52\x06\x0a\x01i\x12\x01x";
+    again(rt, alloc, full)
+}
+
+/// Whether the reply to a get says that the key is unchanged.
+fn is_unchanged(alloc: Global, message: &[u8]) -> Result<bool, Fail> {
+    match read_again(alloc, message) {
+        Ok(Reply::Get(reply)) => Ok(reply.unchanged),
+        _ => Err("a reply to a get")?,
+    }
+}
+
+// A bool is true where its number isn't 0, whichever bits it has; the last occurrence counts.
+#[test]
+fn a_bool_is_read_from_all_its_bits(rt: HostRuntime) -> Result<(), Fail> {
+    let alloc = rt.alloc();
+    assert!(&rt; is_unchanged(alloc, b"\x0a\x18\x80\x02")?);
+    assert!(&rt; is_unchanged(alloc, b"\x0a\x18\x80\x80\x80\x80\x80\x80\x80\x80\x80\x01")?);
+    assert!(&rt; !is_unchanged(alloc, b"\x0a\x18\x80\0")?);
+    assert!(&rt; !is_unchanged(alloc, b"\x0a\x18\x01\x18\0")?);
+    assert!(&rt; !is_unchanged(alloc, b"\x0a\x1a\x01\x01")?);
+    Ok(())
+}
+
+fn refuses(rt: &impl Abort, alloc: Global, message: &[u8], want: MsgFault) {
+    match read_again(alloc, message) {
+        Ok(_) => assert!(rt; false, "taken: {message:?}"),
+        Err(fault) => assert_eq!(rt; fault, want, "at {message:?}"),
+    }
+}
+
+#[test]
+fn no_replies(rt: HostRuntime) {
+    let alloc = rt.alloc();
+    refuses(&rt, alloc, b"\x09\x0a\x01b", MsgFault::UnknownCode);
+    refuses(&rt, alloc, b"\xff", MsgFault::UnknownCode);
+    refuses(&rt, alloc, b"\x0a\x0a\x03\x0a\x02v", MsgFault::BadMessage);
+    refuses(&rt, alloc, b"\x0c\x0a", MsgFault::BadMessage);
+    // another node's text, with its number and without
+    refuses(
+        &rt,
+        alloc,
+        b"\0\x0a\x08overload\x10\x01",
+        MsgFault::BadMessage,
+    );
+    refuses(&rt, alloc, b"\0\x0a\x08overload", MsgFault::BadMessage);
+    refuses(&rt, alloc, b"\0\x0a\x09bad frame", MsgFault::MissingField);
+    refuses(&rt, alloc, b"\0\x10\x01", MsgFault::MissingField);
+    refuses(&rt, alloc, b"\x0a\x0a\x03\x12\x01t", MsgFault::MissingField);
+    // A bad second content comes before the value that the first lacks.
+    refuses(&rt, alloc, b"\x0a\x0a\0\x0a\x01\x0a", MsgFault::BadMessage);
+}

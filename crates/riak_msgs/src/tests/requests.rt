@@ -1,0 +1,268 @@
+//! Requests, as this node reads them and as a client writes them.
+
+use super::CONTEXT;
+use crate::*;
+use std::alloc::Global;
+use std::process::Abort;
+use std::test::Fail;
+
+/// Bucket b and key k, as fields 1 and 2.
+const NAMES: &[u8] = b"\x0a\x01b\x12\x01k";
+
+/// A put of the value v: a content as field 4.
+const PUT: &[u8] = b"\x0a\x01b\x12\x01k\x22\x03\x0a\x01v";
+
+/// A put of the value x by a context of 17 bytes, field 3.
+const PUT_AFTER: &[u8] =
+    b"\x0a\x01b\x12\x01k\x1a\x11\x01\0\0\0\0\0\x01\0\0\0\0\0\x01\0\0\0\x01\x22\x03\x0a\x01x";
+
+/// Reads, and a second time where memory was refused: then the answer is the same as it would have been.
+fn read_again(alloc: Global, code: u8, body: &[u8]) -> Result<Request, MsgFault> {
+    match read_request(alloc, code, body) {
+        Err(MsgFault::NoMemory) => read_request(alloc, code, body),
+        other => other,
+    }
+}
+
+/// The get that a body is.
+fn get(alloc: Global, body: &[u8]) -> Result<GetAsk, Fail> {
+    match read_again(alloc, 9, body) {
+        Ok(Request::Get(ask)) => Ok(ask),
+        _ => Err("a get")?,
+    }
+}
+
+/// The put that a body is.
+fn put(alloc: Global, body: &[u8]) -> Result<PutAsk, Fail> {
+    match read_again(alloc, 11, body) {
+        Ok(Request::Put(ask)) => Ok(ask),
+        _ => Err("a put")?,
+    }
+}
+
+fn is_names(rt: &impl Abort, key: &Key) {
+    assert_eq!(rt; key.bucket_type.as_slice(), b"default".as_slice());
+    assert_eq!(rt; key.bucket.as_slice(), b"b".as_slice());
+    assert_eq!(rt; key.key.as_slice(), b"k".as_slice());
+}
+
+fn is_get(rt: &impl Abort, alloc: Global, body: &[u8]) -> Result<(), Fail> {
+    let ask = get(alloc, body)?;
+    is_names(rt, &ask.key);
+    assert!(rt; ask.if_modified.is_empty() && !ask.head && !ask.deletedvclock);
+    Ok(())
+}
+
+#[test]
+fn a_pings_body_is_not_looked_at(rt: HostRuntime) {
+    let alloc = rt.alloc();
+    assert!(rt; matches!(read_again(alloc, 1, b""), Ok(Request::Ping)));
+    assert!(rt; matches!(read_again(alloc, 1, b"\xff\x00"), Ok(Request::Ping)));
+}
+
+// The names alone; the bucket twice, of which the last counts; an unknown field 99; a length in two bytes; fields in another
+// order; quorum, timeout and option fields, which have no effect here; a number under a name's field, which is skipped.
+#[test]
+fn a_get_in_any_spelling(rt: HostRuntime) -> Result<(), Fail> {
+    let alloc = rt.alloc();
+    is_get(&rt, alloc, NAMES)?;
+    is_get(&rt, alloc, b"\x0a\x01a\x0a\x01b\x12\x01k")?;
+    is_get(&rt, alloc, b"\x0a\x01b\x12\x01k\x98\x06\x05")?;
+    is_get(&rt, alloc, b"\x0a\x81\x00b\x12\x01k")?;
+    is_get(&rt, alloc, b"\x12\x01k\x0a\x01b")?;
+    let others =
+        b"\x0a\x01b\x12\x01k\x18\x03\x20\x01\x28\x01\x30\x00\x3a\x01c\x40\x01\x48\x01\x50\x0a\x58\x01\x60\x03";
+    is_get(&rt, alloc, others)?;
+    is_get(&rt, alloc, b"\x0a\x01b\x12\x01k\x08\x05\x15\0\0\0\0")?;
+    let typed = get(alloc, b"\x0a\x01b\x12\x01k\x6a\x04maps")?;
+    assert_eq!(&rt; typed.key.bucket_type.as_slice(), b"maps".as_slice());
+    Ok(())
+}
+
+#[test]
+fn a_put_in_any_spelling(rt: HostRuntime) -> Result<(), Fail> {
+    let alloc = rt.alloc();
+    let ask = put(alloc, PUT)?;
+    is_names(&rt, &ask.key);
+    assert!(&rt; ask.context.is_empty());
+    assert_eq!(&rt; ask.content.value.as_slice(), b"v".as_slice());
+    let ask = put(alloc, PUT_AFTER)?;
+    assert_eq!(&rt; ask.context.as_slice(), CONTEXT);
+    // content first, an empty context, options and quorum fields, and the type behind a key of two bytes
+    let ask = put(
+        alloc,
+        b"\x22\x03\x0a\x01v\x1a\0\x12\x01k\x28\x01\x30\x01\x38\x01\x40\x01\x48\x01\x50\x01\x58\x01\x60\x01\x68\x01\x70\x01\x78\x01\x82\x01\x01t\x0a\x01b",
+    )?;
+    assert_eq!(&rt; ask.key.bucket_type.as_slice(), b"t".as_slice());
+    assert!(&rt; ask.context.is_empty() && !ask.return_body && !ask.return_head);
+    assert!(&rt; !ask.if_not_modified && !ask.if_none_match);
+    assert_eq!(&rt; ask.content.value.as_slice(), b"v".as_slice());
+    Ok(())
+}
+
+// A value, and then a content type, in two occurrences; the later value counts; links and pairs of both stay, in order.
+#[test]
+fn a_content_given_twice_is_merged(rt: HostRuntime) -> Result<(), Fail> {
+    let alloc = rt.alloc();
+    let ask = put(
+        alloc,
+        b"\x0a\x01b\x12\x01k\x22\x03\x0a\x01v\x22\x03\x12\x01t",
+    )?;
+    assert_eq!(&rt; ask.content.value.as_slice(), b"v".as_slice());
+    let kind = ask.content.content_type.as_ref();
+    assert_eq!(&rt; kind.map(|bytes| bytes.as_slice()), Some(b"t".as_slice()));
+    let ask = put(
+        alloc,
+        b"\x0a\x01b\x12\x01k\x22\x0a\x0a\x01v\x4a\x05\x0a\x01m\x12\0\x22\x0d\x0a\x01w\x4a\x03\x0a\x01n\x32\x03\x12\x01j",
+    )?;
+    assert_eq!(&rt; ask.content.value.as_slice(), b"w".as_slice());
+    let keys = ask.content.usermeta.as_slice();
+    assert_eq!(&rt; keys.len(), 2);
+    assert_eq!(&rt; keys[0].key.as_slice(), b"m".as_slice());
+    assert!(&rt; keys[0].value.is_some() && keys[1].value.is_none());
+    assert_eq!(&rt; keys[1].key.as_slice(), b"n".as_slice());
+    assert_eq!(&rt; ask.content.links.len(), 1);
+    Ok(())
+}
+
+fn refuses(rt: &impl Abort, alloc: Global, code: u8, body: &[u8], want: MsgFault) {
+    match read_request(alloc, code, body) {
+        Ok(_) => assert!(rt; false, "taken: {code} {body:?}"),
+        Err(fault) => assert_eq!(rt; fault, want, "at {code} {body:?}"),
+    }
+}
+
+#[test]
+fn no_requests(rt: HostRuntime) {
+    let alloc = rt.alloc();
+    refuses(&rt, alloc, 7, b"", MsgFault::UnknownCode);
+    refuses(&rt, alloc, 13, NAMES, MsgFault::UnknownCode);
+    refuses(&rt, alloc, 0, b"\x80", MsgFault::UnknownCode);
+    // cut short, a wire type that is none, a varint of eleven bytes
+    refuses(&rt, alloc, 9, b"\x0a\x01b\x12\x01", MsgFault::BadMessage);
+    refuses(
+        &rt,
+        alloc,
+        9,
+        b"\x0a\x01b\x12\x01k\x9b\x06",
+        MsgFault::BadMessage,
+    );
+    let long = b"\x0a\x01b\x12\x01k\x18\xff\xff\xff\xff\xff\xff\xff\xff\xff\xff\x01";
+    refuses(&rt, alloc, 9, long, MsgFault::BadMessage);
+    // a content that is cut short, and in it a link, and a pair of an index
+    refuses(
+        &rt,
+        alloc,
+        11,
+        b"\x0a\x01b\x22\x03\x0a\x02v",
+        MsgFault::BadMessage,
+    );
+    let link = b"\x0a\x01b\x12\x01k\x22\x06\x0a\x01v\x32\x01\x0a";
+    refuses(&rt, alloc, 11, link, MsgFault::BadMessage);
+    let index = b"\x0a\x01b\x12\x01k\x22\x07\x0a\x01v\x52\x02\x0b\x01";
+    refuses(&rt, alloc, 11, index, MsgFault::BadMessage);
+}
+
+// Of several faults the first counts: a field that is missing, an empty name, no key.
+#[test]
+fn requests_that_lack_something(rt: HostRuntime) {
+    let alloc = rt.alloc();
+    refuses(&rt, alloc, 9, b"", MsgFault::MissingField);
+    refuses(&rt, alloc, 9, b"\x0a\0", MsgFault::MissingField);
+    refuses(&rt, alloc, 9, b"\x12\x01k", MsgFault::MissingField);
+    refuses(&rt, alloc, 9, b"\x0a\0\x12\x01k", MsgFault::EmptyName);
+    refuses(&rt, alloc, 9, b"\x0a\x01b\x12\0", MsgFault::EmptyName);
+    refuses(
+        &rt,
+        alloc,
+        9,
+        b"\x0a\x01b\x12\x01k\x6a\0",
+        MsgFault::EmptyName,
+    );
+    refuses(&rt, alloc, 11, NAMES, MsgFault::MissingField);
+    refuses(
+        &rt,
+        alloc,
+        11,
+        b"\x0a\x01b\x12\x01k\x22\0",
+        MsgFault::MissingField,
+    );
+    // a pair without key
+    let pair = b"\x0a\x01b\x12\x01k\x22\x08\x0a\x01v\x4a\x03\x12\x01x";
+    refuses(&rt, alloc, 11, pair, MsgFault::MissingField);
+    refuses(
+        &rt,
+        alloc,
+        11,
+        b"\x0a\0\x22\x03\x0a\x01v",
+        MsgFault::EmptyName,
+    );
+    refuses(
+        &rt,
+        alloc,
+        11,
+        b"\x0a\x01b\x22\x03\x0a\x01v",
+        MsgFault::NoKey,
+    );
+}
+
+/// Reads a request and writes it again.
+fn again(rt: &impl Abort, alloc: Global, code: u8, body: &[u8]) -> Result<(), MsgFault> {
+    let request = read_request(alloc, code, body)?;
+    let written = write_request(alloc, &request)?;
+    assert_eq!(rt; written.first().copied(), Some(code));
+    assert_eq!(rt; written.get(1..), Some(body));
+    Ok(())
+}
+
+// Where memory is refused on the way, nothing wrong is written, and the second round goes through.
+#[test]
+fn a_client_writes_what_is_read(rt: HostRuntime) -> Result<(), Fail> {
+    if all_again(&rt, rt.alloc()).is_err() {
+        all_again(&rt, rt.alloc())?;
+    }
+    Ok(())
+}
+
+fn all_again(rt: &impl Abort, alloc: Global) -> Result<(), MsgFault> {
+    again(rt, alloc, 1, b"")?;
+    again(rt, alloc, 9, NAMES)?;
+    again(rt, alloc, 9, b"\x0a\x01b\x12\x01k\x6a\x04maps")?;
+    again(rt, alloc, 11, PUT)?;
+    again(rt, alloc, 11, PUT_AFTER)?;
+    let full =
+        b"\x0a\x01b\x12\x01k\x22\x2a\x0a\x01v\x12\x01t\x1a\x01c\x22\x01e\x32\x06\x0a\x01b\x1a\x01t\x32\0\x4a\x03\x0a\x01m\x4a\x05\x0a\x01n\x12\0\x52\x06\x0a\x01i\x12\x01x\x82\x01\x01t";
+    again(rt, alloc, 11, full)
+}
+
+fn asks(rt: &impl Abort, alloc: Global, request: &Request, want: &[u8]) -> Result<(), MsgFault> {
+    let written = write_request(alloc, request)?;
+    assert_eq!(rt; written.as_slice(), want);
+    Ok(())
+}
+
+// Every field of a put, with a type of its own, and a delete after a context.
+#[test]
+fn a_client_writes_options(rt: HostRuntime) -> Result<(), Fail> {
+    if write_options(&rt, rt.alloc()).is_err() {
+        write_options(&rt, rt.alloc())?;
+    }
+    Ok(())
+}
+
+fn write_options(rt: &impl Abort, alloc: Global) -> Result<(), MsgFault> {
+    let mut full = PutAsk::plain(alloc, b"b", b"k", b"c", b"v")?;
+    full.key.bucket_type = Bytes::from_slice(alloc, b"t")?;
+    full.return_body = true;
+    full.if_not_modified = true;
+    full.if_none_match = true;
+    full.return_head = true;
+    let want =
+        b"\x0b\x0a\x01b\x12\x01k\x1a\x01c\x22\x03\x0a\x01v\x38\x01\x48\x01\x50\x01\x58\x01\x82\x01\x01t";
+    asks(rt, alloc, &Request::Put(full), want)?;
+    let del = Request::Del(DelAsk {
+        key: Key::of_default_type(alloc, b"b", b"k")?,
+        context: Bytes::from_slice(alloc, b"c")?,
+    });
+    asks(rt, alloc, &del, b"\x0d\x0a\x01b\x12\x01k\x22\x01c")
+}
