@@ -40,64 +40,89 @@ fn put(alloc: Global, body: &[u8]) -> Result<PutAsk, Fail> {
     }
 }
 
-fn is_names(rt: &impl Abort, key: &Key) {
-    assert_eq!(rt; key.bucket_type.as_slice(), b"default".as_slice());
+fn is_of(rt: &impl Abort, key: &Key, bucket_type: &[u8]) {
+    assert_eq!(rt; key.bucket_type.as_slice(), bucket_type);
     assert_eq!(rt; key.bucket.as_slice(), b"b".as_slice());
     assert_eq!(rt; key.key.as_slice(), b"k".as_slice());
 }
 
-fn is_get(rt: &impl Abort, alloc: Global, body: &[u8]) -> Result<(), Fail> {
+/// The body is a get of b/k, of this type, without options.
+fn is_get(rt: &impl Abort, alloc: Global, body: &[u8], bucket_type: &[u8]) -> Result<(), Fail> {
     let ask = get(alloc, body)?;
-    is_names(rt, &ask.key);
-    assert!(rt; ask.if_modified.is_empty() && !ask.head && !ask.deletedvclock);
+    is_of(rt, &ask.key, bucket_type);
+    assert!(rt; ask.if_modified.is_empty());
+    assert_eq!(rt; (ask.head, ask.deletedvclock), (false, false));
     Ok(())
 }
 
-#[test]
-fn a_pings_body_is_not_looked_at(rt: HostRuntime) {
-    let alloc = rt.alloc();
-    assert!(rt; matches!(read_again(alloc, 1, b""), Ok(Request::Ping)));
-    assert!(rt; matches!(read_again(alloc, 1, b"\xff\x00"), Ok(Request::Ping)));
+/// The body is a put on b/k, of this type, by this context, of a value, without options.
+fn is_put(
+    rt: &impl Abort,
+    alloc: Global,
+    body: &[u8],
+    bucket_type: &[u8],
+    context: &[u8],
+    value: &[u8],
+) -> Result<(), Fail> {
+    let ask = put(alloc, body)?;
+    is_of(rt, &ask.key, bucket_type);
+    assert_eq!(rt; ask.context.as_slice(), context);
+    assert_eq!(rt; ask.content.value.as_slice(), value);
+    assert_eq!(rt; (ask.return_body, ask.return_head), (false, false));
+    assert_eq!(rt; (ask.if_not_modified, ask.if_none_match), (false, false));
+    Ok(())
 }
 
+fn is_ping(alloc: Global, body: &[u8]) -> Result<(), Fail> {
+    match read_again(alloc, 1, body) {
+        Ok(Request::Ping) => Ok(()),
+        _ => Err("a ping")?,
+    }
+}
+
+#[test]
+fn a_pings_body_is_not_looked_at(rt: HostRuntime) -> Result<(), Fail> {
+    is_ping(rt.alloc(), b"")?;
+    is_ping(rt.alloc(), b"\xff\x00")
+}
+
+/// The type of a key that gives none.
+const DEFAULT: &[u8] = b"default";
+
+/// The names, and behind them quorum, timeout and option fields.
+const GET_WITH_OPTIONS: &[u8] =
+    b"\x0a\x01b\x12\x01k\x18\x03\x20\x01\x28\x01\x30\x00\x3a\x01c\x40\x01\x48\x01\x50\x0a\x58\x01\x60\x03";
+
 // The names alone; the bucket twice, of which the last counts; an unknown field 99; a length in two bytes; fields in another
-// order; quorum, timeout and option fields, which have no effect here; a number under a name's field, which is skipped.
+// order; quorum, timeout and option fields, which have no effect here; numbers under the names' fields, which are skipped.
 #[test]
 fn a_get_in_any_spelling(rt: HostRuntime) -> Result<(), Fail> {
     let alloc = rt.alloc();
-    is_get(&rt, alloc, NAMES)?;
-    is_get(&rt, alloc, b"\x0a\x01a\x0a\x01b\x12\x01k")?;
-    is_get(&rt, alloc, b"\x0a\x01b\x12\x01k\x98\x06\x05")?;
-    is_get(&rt, alloc, b"\x0a\x81\x00b\x12\x01k")?;
-    is_get(&rt, alloc, b"\x12\x01k\x0a\x01b")?;
-    let others =
-        b"\x0a\x01b\x12\x01k\x18\x03\x20\x01\x28\x01\x30\x00\x3a\x01c\x40\x01\x48\x01\x50\x0a\x58\x01\x60\x03";
-    is_get(&rt, alloc, others)?;
-    is_get(&rt, alloc, b"\x0a\x01b\x12\x01k\x08\x05\x15\0\0\0\0")?;
-    let typed = get(alloc, b"\x0a\x01b\x12\x01k\x6a\x04maps")?;
-    assert_eq!(&rt; typed.key.bucket_type.as_slice(), b"maps".as_slice());
-    Ok(())
+    is_get(&rt, alloc, NAMES, DEFAULT)?;
+    is_get(&rt, alloc, b"\x0a\x01a\x0a\x01b\x12\x01k", DEFAULT)?;
+    is_get(&rt, alloc, b"\x0a\x01b\x12\x01k\x98\x06\x05", DEFAULT)?;
+    is_get(&rt, alloc, b"\x0a\x81\x00b\x12\x01k", DEFAULT)?;
+    is_get(&rt, alloc, b"\x12\x01k\x0a\x01b", DEFAULT)?;
+    is_get(&rt, alloc, GET_WITH_OPTIONS, DEFAULT)?;
+    is_get(
+        &rt,
+        alloc,
+        b"\x0a\x01b\x12\x01k\x08\x05\x15\0\0\0\0",
+        DEFAULT,
+    )?;
+    is_get(&rt, alloc, b"\x0a\x01b\x12\x01k\x6a\x04maps", b"maps")
 }
+
+/// Content first, an empty context, quorum and option fields, the type behind a key of two bytes, and the bucket.
+const PUT_WITH_OPTIONS: &[u8] =
+    b"\x22\x03\x0a\x01v\x1a\0\x12\x01k\x28\x01\x30\x01\x38\x01\x40\x01\x48\x01\x50\x01\x58\x01\x60\x01\x68\x01\x70\x01\x78\x01\x82\x01\x01t\x0a\x01b";
 
 #[test]
 fn a_put_in_any_spelling(rt: HostRuntime) -> Result<(), Fail> {
     let alloc = rt.alloc();
-    let ask = put(alloc, PUT)?;
-    is_names(&rt, &ask.key);
-    assert!(&rt; ask.context.is_empty());
-    assert_eq!(&rt; ask.content.value.as_slice(), b"v".as_slice());
-    let ask = put(alloc, PUT_AFTER)?;
-    assert_eq!(&rt; ask.context.as_slice(), CONTEXT);
-    // content first, an empty context, options and quorum fields, and the type behind a key of two bytes
-    let ask = put(
-        alloc,
-        b"\x22\x03\x0a\x01v\x1a\0\x12\x01k\x28\x01\x30\x01\x38\x01\x40\x01\x48\x01\x50\x01\x58\x01\x60\x01\x68\x01\x70\x01\x78\x01\x82\x01\x01t\x0a\x01b",
-    )?;
-    assert_eq!(&rt; ask.key.bucket_type.as_slice(), b"t".as_slice());
-    assert!(&rt; ask.context.is_empty() && !ask.return_body && !ask.return_head);
-    assert!(&rt; !ask.if_not_modified && !ask.if_none_match);
-    assert_eq!(&rt; ask.content.value.as_slice(), b"v".as_slice());
-    Ok(())
+    is_put(&rt, alloc, PUT, DEFAULT, b"", b"v")?;
+    is_put(&rt, alloc, PUT_AFTER, DEFAULT, CONTEXT, b"x")?;
+    is_put(&rt, alloc, PUT_WITH_OPTIONS, b"t", b"", b"v")
 }
 
 // A value, and then a content type, in two occurrences; the later value counts; links and pairs of both stay, in order.
