@@ -42,6 +42,21 @@ impl Content {
         }
     }
 
+    /// A value of which nothing is said.
+    pub(crate) fn of_value(alloc: Global, value: &[u8]) -> Result<Content, AllocError>
+        ensures { IfOk result (λ content. content ≡ record no_content { value = value.now }) }
+    {
+        Ok(Content {
+            value: Bytes::from_slice(alloc, value)?,
+            content_type: None,
+            charset: None,
+            content_encoding: None,
+            links: Sequence::new(alloc),
+            usermeta: Sequence::new(alloc),
+            indexes: Sequence::new(alloc),
+        })
+    }
+
     /// A copy.
     pub fn clone(&self, alloc: Global) -> Result<Content, AllocError>
         ensures { IfOk result (λ copy. copy ≡ self.now) }
@@ -55,14 +70,15 @@ impl Content {
     pub fn clone_head(&self, alloc: Global) -> Result<Content, AllocError>
         ensures { IfOk result (λ copy. copy ≡ bare self.now) }
     {
+        // (what may be refused comes first: each value that is held at a `?` costs the prover time)
         Ok(Content {
-            value: Bytes::new(alloc),
             content_type: copied_option(&self.content_type, alloc)?,
             charset: copied_option(&self.charset, alloc)?,
             content_encoding: copied_option(&self.content_encoding, alloc)?,
             links: self.links.clone(alloc)?,
             usermeta: self.usermeta.clone(alloc)?,
             indexes: self.indexes.clone(alloc)?,
+            value: Bytes::new(alloc),
         })
     }
 }

@@ -70,6 +70,3 @@ pub use round_trips::{replies_are_read_again, requests_are_read_again};
 pub use sequence::Sequence;
 pub use shown::Shown;
 pub use text::{Text, text_of};
-
-#[cfg(test)]
-mod tests;

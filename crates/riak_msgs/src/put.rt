@@ -44,13 +44,10 @@ impl PutAsk {
     ) -> Result<PutAsk, AllocError>
         ensures { IfOk result (λ ask. ask ≡ plain_put bucket.now key.now context.now value.now) }
     {
-        let key = Key::of_default_type(alloc, bucket, key)?;
-        let mut content = Content::new(alloc);
-        content.value = Bytes::from_slice(alloc, value)?;
         Ok(PutAsk {
-            key,
+            key: Key::of_default_type(alloc, bucket, key)?,
             context: Bytes::from_slice(alloc, context)?,
-            content,
+            content: Content::of_value(alloc, value)?,
             return_body: false,
             return_head: false,
             if_not_modified: false,

@@ -37,6 +37,3 @@ pub use numbers::Numbers;
 pub use refusals::{MATCH_FOUND, MODIFIED, MOST_SIBLINGS, NOT_FOUND, TOO_MANY_SIBLINGS};
 pub use register::PlainRegister;
 pub use told::Told;
-
-#[cfg(test)]
-mod tests;

@@ -35,6 +35,3 @@ pub use ask::{Answer, Ask, Plan, Reaped};
 pub use change::Change;
 pub use refusal::Refusal;
 pub use vnode::Vnode;
-
-#[cfg(test)]
-mod tests;

@@ -1,7 +1,7 @@
 //! Replies, as this node writes them and as a client reads them.
 
 use super::CONTEXT;
-use crate::*;
+use riak_msgs::*;
 use std::alloc::{AllocError, Global};
 use std::process::Abort;
 use std::test::Fail;
@@ -36,22 +36,39 @@ fn write_replies(rt: &impl Abort, alloc: Global) -> Result<(), MsgFault> {
     writes(rt, alloc, &Reply::Del, b"\x0e")?;
     let found = Reply::Error(Text::MatchFound);
     writes(rt, alloc, &found, b"\0\x0a\x0bmatch_found\x10\x01")?;
+    writes_stored(rt, alloc)?;
+    writes_unchanged(rt, alloc)?;
+    writes_siblings(rt, alloc)
+}
+
+fn writes_stored(rt: &impl Abort, alloc: Global) -> Result<(), MsgFault> {
     let stored = Reply::Put(PutReply {
         contents: Sequence::new(alloc),
         context: Bytes::new(alloc),
     });
-    writes(rt, alloc, &stored, b"\x0c")?;
+    writes(rt, alloc, &stored, b"\x0c")
+}
+
+fn writes_unchanged(rt: &impl Abort, alloc: Global) -> Result<(), MsgFault> {
     let unchanged = Reply::Get(GetReply {
         contents: Sequence::new(alloc),
         context: Bytes::new(alloc),
         unchanged: true,
     });
-    writes(rt, alloc, &unchanged, b"\x0a\x18\x01")?;
+    writes(rt, alloc, &unchanged, b"\x0a\x18\x01")
+}
+
+/// A value, and a tombstone.
+fn siblings(alloc: Global) -> Result<Sequence<Shown>, AllocError> {
     let mut contents = Sequence::new(alloc);
     contents.push(sibling(alloc, b"v")?)?;
     contents.push(Shown::tombstone(alloc))?;
+    Ok(contents)
+}
+
+fn writes_siblings(rt: &impl Abort, alloc: Global) -> Result<(), MsgFault> {
     let siblings = Reply::Get(GetReply {
-        contents,
+        contents: siblings(alloc)?,
         context: Bytes::from_slice(alloc, CONTEXT)?,
         unchanged: false,
     });
@@ -71,31 +88,50 @@ fn pair(alloc: Global, key: &[u8], value: Option<Bytes>) -> Result<Pair, AllocEr
     })
 }
 
-/// A content with every field, and with fields of no bytes.
-fn full(alloc: Global) -> Result<Content, AllocError> {
-    let mut content = Content::new(alloc);
-    content.value = Bytes::from_slice(alloc, b"v")?;
-    content.content_type = some(alloc, b"text/plain")?;
-    content.charset = some(alloc, b"utf-8")?;
-    content.content_encoding = some(alloc, b"")?;
-    content.links.push(Link {
+/// A link with every part.
+fn whole_link(alloc: Global) -> Result<Link, AllocError> {
+    Ok(Link {
         bucket: some(alloc, b"b")?,
         key: some(alloc, b"k")?,
         tag: some(alloc, b"t")?,
-    })?;
-    content.links.push(Link {
+    })
+}
+
+fn links(alloc: Global) -> Result<Sequence<Link>, AllocError> {
+    let mut links = Sequence::new(alloc);
+    links.push(whole_link(alloc)?)?;
+    links.push(Link {
         bucket: None,
         key: some(alloc, b"")?,
         tag: None,
     })?;
-    content
-        .usermeta
-        .push(pair(alloc, b"m", some(alloc, b"1")?)?)?;
-    content.usermeta.push(pair(alloc, b"", None)?)?;
-    content
-        .indexes
-        .push(pair(alloc, b"i_bin", some(alloc, &[b'z'; 130])?)?)?;
-    Ok(content)
+    Ok(links)
+}
+
+fn usermeta(alloc: Global) -> Result<Sequence<Pair>, AllocError> {
+    let mut pairs = Sequence::new(alloc);
+    pairs.push(pair(alloc, b"m", some(alloc, b"1")?)?)?;
+    pairs.push(pair(alloc, b"", None)?)?;
+    Ok(pairs)
+}
+
+fn indexes(alloc: Global) -> Result<Sequence<Pair>, AllocError> {
+    let mut pairs = Sequence::new(alloc);
+    pairs.push(pair(alloc, b"i_bin", some(alloc, &[b'z'; 130])?)?)?;
+    Ok(pairs)
+}
+
+/// A content with every field, and with fields of no bytes.
+fn full(alloc: Global) -> Result<Content, AllocError> {
+    Ok(Content {
+        value: Bytes::from_slice(alloc, b"v")?,
+        content_type: some(alloc, b"text/plain")?,
+        charset: some(alloc, b"utf-8")?,
+        content_encoding: some(alloc, b"")?,
+        links: links(alloc)?,
+        usermeta: usermeta(alloc)?,
+        indexes: indexes(alloc)?,
+    })
 }
 
 // The bytes were computed by hand from the Protocol Buffers encoding, and once more by a few lines of Python.
@@ -107,21 +143,24 @@ fn writes_a_full_content(rt: HostRuntime) -> Result<(), Fail> {
     Ok(())
 }
 
-fn write_full_content(rt: &impl Abort, alloc: Global) -> Result<(), MsgFault> {
+/// The full content, and it without its value.
+fn whole_and_head(alloc: Global) -> Result<Sequence<Shown>, AllocError> {
     let content = full(alloc)?;
     let mut contents = Sequence::new(alloc);
-    contents.push(Shown {
-        content: content.clone(alloc)?,
+    contents.push(shown(content.clone(alloc)?))?;
+    contents.push(shown(content.clone_head(alloc)?))?;
+    Ok(contents)
+}
+
+fn shown(content: Content) -> Shown {
+    Shown {
+        content,
         deleted: false,
-    })?;
-    contents.push(Shown {
-        content: content.clone_head(alloc)?,
-        deleted: false,
-    })?;
-    let reply = Reply::Put(PutReply {
-        contents,
-        context: Bytes::new(alloc),
-    });
+    }
+}
+
+/// How both are spelled in a reply to a put.
+fn both_spelled(alloc: Global) -> Result<Vec<u8>, AllocError> {
     let mut want = Vec::new(alloc);
     want.extend_from_slice(b"\x0c\x0a\xc2\x01\x0a\x01v")?;
     want.extend_from_slice(BEHIND_VALUE)?;
@@ -129,6 +168,15 @@ fn write_full_content(rt: &impl Abort, alloc: Global) -> Result<(), MsgFault> {
     want.extend_from_slice(b"\x0a\xc1\x01\x0a\0")?;
     want.extend_from_slice(BEHIND_VALUE)?;
     want.extend_from_slice(&[b'z'; 130])?;
+    Ok(want)
+}
+
+fn write_full_content(rt: &impl Abort, alloc: Global) -> Result<(), MsgFault> {
+    let reply = Reply::Put(PutReply {
+        contents: whole_and_head(alloc)?,
+        context: Bytes::new(alloc),
+    });
+    let want = both_spelled(alloc)?;
     writes(rt, alloc, &reply, want.as_slice())
 }
 
@@ -227,9 +275,14 @@ fn a_bool_is_read_from_all_its_bits(rt: HostRuntime) -> Result<(), Fail> {
 }
 
 fn refuses(rt: &impl Abort, alloc: Global, message: &[u8], want: MsgFault) {
-    match read_again(alloc, message) {
-        Ok(_) => assert!(rt; false, "taken: {message:?}"),
-        Err(fault) => assert_eq!(rt; fault, want, "at {message:?}"),
+    let told = fault_of(&read_again(alloc, message));
+    assert_eq!(rt; told, Some(want), "at {message:?}");
+}
+
+fn fault_of(read: &Result<Reply, MsgFault>) -> Option<MsgFault> {
+    match read {
+        Ok(_) => None,
+        Err(fault) => Some(*fault),
     }
 }
 
