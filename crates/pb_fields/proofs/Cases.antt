@@ -104,19 +104,33 @@ number_has_key key number is e (inr small) = omega (arith, is.0, is.1)
 -- a bad key is the first fault where no varint behind it runs on
 pub bad_key_first : (bs behind : List ℕ) (key : ℕ) → BeginsWithVarint bs key behind → HasNoNumber key →
     (WantsVarint (key % 8) × RunsOn behind → ⊥) → FirstFault bs BadKey
-bad_key_first bs behind key begins bad not = ((key, behind, begins, bad), no_bad_varint bs behind key begins not)
+bad_key_first bs behind key begins bad not =
+    inr (no_bad_varint bs behind key begins not, inr (ends_not bs behind key begins, inl ((key, behind, begins, bad), refl)))
 
 -- what fails behind a good key is the first fault
 pub value_fails_first : (bs behind : List ℕ) (key : ℕ) (fault : FieldFault) → BeginsWithVarint bs key behind →
     (HasNoNumber key → ⊥) → ValueFails (key % 8) behind fault → FirstFault bs fault
-value_fails_first bs behind key Short begins good past = (
-  no_bad_varint bs behind key begins (λ both. past_runs_not (key % 8) behind past both.0 both.1),
-  inr ((key, behind, begins, past), no_bad_key bs behind key begins good, no_bad_wire bs behind key begins (past_wire (key % 8) behind past)),
-)
-value_fails_first bs behind key BadVarint begins good (wants, runs) = inr (key, behind, begins, wants, runs)
+value_fails_first bs behind key Short begins good past =
+    inr (
+      no_bad_varint bs behind key begins (λ both. past_runs_not (key % 8) behind past both.0 both.1),
+      inr (
+        ends_not bs behind key begins,
+        inr (
+          no_bad_key bs behind key begins good,
+          inr (no_bad_wire bs behind key begins (past_wire (key % 8) behind past), inl ((key, behind, begins, past), refl)),
+        ),
+      ),
+    )
+value_fails_first bs behind key BadVarint begins good (wants, runs) = inl (inr (key, behind, begins, wants, runs), refl)
 value_fails_first bs behind key BadKey begins good none = absurd none
 value_fails_first bs behind key BadWire begins good bad =
-    ((key, behind, begins, bad), no_bad_varint bs behind key begins (λ both. bad (inl both.0)), no_bad_key bs behind key begins good)
+    inr (
+      no_bad_varint bs behind key begins (λ both. bad (inl both.0)),
+      inr (
+        ends_not bs behind key begins,
+        inr (no_bad_key bs behind key begins good, inl ((key, behind, begins, bad), refl)),
+      ),
+    )
 
 -- no value fails and runs on, but by a bad varint
 pub fails_runs_not : (wire : ℕ) (bs : List ℕ) (fault : FieldFault) → (fault ≡ BadVarint → ⊥) → ValueFails wire bs fault →
@@ -138,7 +152,7 @@ known_wire (four_bytes s) = inr (inr refl)
 
 -- bytes with a fault begin with no field
 pub fault_no_field : (bs rest : List ℕ) (fault : FieldFault) (field : WireField) → FirstFault bs fault → BeginsWithField bs field rest → ⊥
-fault_no_field bs rest fault field first begins = refuted fault first
+fault_no_field bs rest fault field first begins = refuted first
   where
     whole : BeginsWithVarint bs (field.number * 8 + wire_type field.value) (begins.1.value ++ rest)
     whole = key_of bs rest field begins
@@ -167,12 +181,13 @@ fault_no_field bs rest fault field first begins = refuted fault first
         let R : List ℕ → Type 0 = λ cs. IsPastEnd (wire_type field.value) cs in
         value_not_past field.value begins.1.value (begins.1.value ++ rest) rest begins.1.value_is refl (subst R one.1 (subst Q wire (subst P one.0 past)))
 
-    refuted : (fault : FieldFault) → FirstFault bs fault → ⊥
-    refuted BadVarint bad = no_bad_varint bs (begins.1.value ++ rest) (field.number * 8 + wire_type field.value) whole not_runs bad
-    refuted BadKey (bad, others) = no_bad_key bs (begins.1.value ++ rest) (field.number * 8 + wire_type field.value) whole has_number bad
-    refuted BadWire (bad, a, b) = no_bad_wire bs (begins.1.value ++ rest) (field.number * 8 + wire_type field.value) whole known bad
-    refuted Short (a, inl ends) = ends_not bs (begins.1.value ++ rest) (field.number * 8 + wire_type field.value) whole ends
-    refuted Short (a, inr (past, b, c)) = short past
+    refuted : FirstFault bs fault → ⊥
+    refuted (inl (bad, _)) = no_bad_varint bs (begins.1.value ++ rest) (field.number * 8 + wire_type field.value) whole not_runs bad
+    refuted (inr (_, inl (ends, _))) = ends_not bs (begins.1.value ++ rest) (field.number * 8 + wire_type field.value) whole ends
+    refuted (inr (_, inr (_, inl (bad, _)))) = no_bad_key bs (begins.1.value ++ rest) (field.number * 8 + wire_type field.value) whole has_number bad
+    refuted (inr (_, inr (_, inr (_, inl (bad, _))))) = no_bad_wire bs (begins.1.value ++ rest) (field.number * 8 + wire_type field.value) whole known bad
+    refuted (inr (_, inr (_, inr (_, inr (_, inl (past, _)))))) = short past
+    refuted (inr (_, inr (_, inr (_, inr (_, inr (_, none)))))) = none
 
 -- behind a key whose value is read or fails otherwise no varint runs on
 pub found_runs_not : {B : Type 0} (now : B → List ℕ) (wire : ℕ) (bs : List ℕ) (found : Result (Value × B) FieldFault) →

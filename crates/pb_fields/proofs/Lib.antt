@@ -1,4 +1,6 @@
 pub mod Cases
 pub mod Lists
+pub mod Merging
 pub mod Parts
+pub mod Repeated
 pub mod Steps

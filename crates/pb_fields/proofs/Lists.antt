@@ -3,7 +3,7 @@ use Rattle.wire_varint.proofs.Spelling.{spelling-is_varint}
 use Rattle.pb_fields.specs.Field.{WireValue, varint, eight_bytes, byte_string, four_bytes, WireField, wire_type, IsValue, BeginsWithField}
 use Rattle.pb_fields.specs.Message.{BeginsWithFields, StandsFor}
 use Rattle.pb_fields.specs.Faults.{BeginsNoField}
-use Rattle.pb_fields.specs.Spelling.{spelling, value_spelling, Fits, ValueFits}
+use Rattle.pb_fields.specs.Encoding.{encoding, value_encoding, Fits, ValueFits}
 use Rattle.pb_fields.proofs.Parts.{field_once, field_some, wire_type-lt}
 
 -- no bytes begin with no field
@@ -46,21 +46,21 @@ fields_stop bs rest (f ∷ fs) (g ∷ gs) (x, begins_f, a) none (y, begins_g, b)
     fields_stop x rest fs gs a none (subst P (sym one.1) b)
 
 -- a value's spelling is the value
-value_is_read : (value : WireValue) → ValueFits value → IsValue (value_spelling value) value
+value_is_read : (value : WireValue) → ValueFits value → IsValue (value_encoding value) value
 value_is_read (varint number) fits = spelling-is_varint number fits
 value_is_read (eight_bytes s) fits = (refl, fits)
 value_is_read (byte_string s) fits = (_, spelling-is_varint (length s) fits, refl)
 value_is_read (four_bytes s) fits = (refl, fits)
 
 -- a field's spelling begins with the field, whatever follows
-pub spelling_is_read : (field : WireField) (rest : List ℕ) → Fits field → BeginsWithField (spelling field ++ rest) field rest
-spelling_is_read field rest fits =
+pub encoding_is_read : (field : WireField) (rest : List ℕ) → Fits field → BeginsWithField (encoding field ++ rest) field rest
+encoding_is_read field rest fits =
     let small = wire_type-lt field.value in
     let key_fits : field.number * 8 + wire_type field.value < 2 ^ 64 = omega (arith, fits.number.1) in (
-      spelling field,
+      encoding field,
       record {
         key = _;
-        value = value_spelling field.value;
+        value = value_encoding field.value;
         number = fits.number;
         key_is = spelling-is_varint (field.number * 8 + wire_type field.value) key_fits;
         value_is = value_is_read field.value fits.value;

@@ -1,4 +1,4 @@
-use Rattle.std.specs.Prelude.{◌≡◌, ◌⊎◌, ℕ, ◌%◌, ◌^◌, ◌<◌, ◌≤◌, List, ◌++◌, length}
+use Rattle.std.specs.Prelude.{◌≡◌, ◌⊎◌, ℕ, ◌%◌, ◌^◌, ◌<◌, ◌≤◌, List, [], ◌∷◌, ◌++◌, length}
 use Rattle.wire_varint.specs.Varint.{IsVarint, EndsWithin, RunsOn}
 use Rattle.pb_fields.specs.Field.{WireField, BeginsWithField}
 use Rattle.pb_fields.specs.declared.fault.FieldFault.{FieldFault}
@@ -45,13 +45,34 @@ HasBadWire bs = (key : ℕ) × (behind : List ℕ) × BeginsWithVarint bs key be
 abbrev pub HasShortValue : List ℕ → Type 0
 HasShortValue bs = (key : ℕ) × (behind : List ℕ) × BeginsWithVarint bs key behind × IsPastEnd (key % 8) behind
 
--- The fault is the first that holds: a bad varint, the end within the key, a bad key, a bad wire type, a value
--- past the end.
+-- what may be wrong with a field, in the order in which it is told
+pub data Wrong : Type 0 where
+  bad_varint : Wrong
+  short_key : Wrong
+  bad_key : Wrong
+  bad_wire : Wrong
+  short_value : Wrong
+
+-- when each holds
+abbrev pub Holds : List ℕ → Wrong → Type 0
+Holds bs bad_varint = HasBadVarint bs
+Holds bs short_key = EndsWithin bs
+Holds bs bad_key = HasBadKey bs
+Holds bs bad_wire = HasBadWire bs
+Holds bs short_value = HasShortValue bs
+
+-- the faults in their order
+abbrev pub fault_table : List (Wrong × FieldFault)
+fault_table = (bad_varint, BadVarint) ∷ (short_key, Short) ∷ (bad_key, BadKey) ∷ (bad_wire, BadWire) ∷ (short_value, Short) ∷ []
+
+-- the fault of the first row that holds
+abbrev pub IsFirst : List ℕ → List (Wrong × FieldFault) → FieldFault → Type 0
+IsFirst bs [] fault = ⊥
+IsFirst bs (row ∷ rows) fault = (Holds bs row.0 × (fault ≡ row.1)) ⊎ ((¬ Holds bs row.0) × IsFirst bs rows fault)
+
+-- why the bytes begin with no field
 abbrev pub FirstFault : List ℕ → FieldFault → Type 0
-FirstFault bs BadVarint = HasBadVarint bs
-FirstFault bs BadKey = HasBadKey bs × ¬ HasBadVarint bs
-FirstFault bs BadWire = HasBadWire bs × ¬ HasBadVarint bs × ¬ HasBadKey bs
-FirstFault bs Short = ¬ HasBadVarint bs × (EndsWithin bs ⊎ (HasShortValue bs × ¬ HasBadKey bs × ¬ HasBadWire bs))
+FirstFault bs fault = IsFirst bs fault_table fault
 
 -- there are bytes, and they begin with no field
 pub record BeginsNoField (bs : List ℕ) : Type 0 where

@@ -1,5 +1,6 @@
+pub mod Encoding
 pub mod Faults
 pub mod Field
+pub mod Merging
 pub mod Message
 pub mod Next
-pub mod Spelling

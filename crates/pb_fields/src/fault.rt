@@ -1,3 +1,5 @@
+//! Why bytes begin no field.
+
 use thiserror::Error;
 
 /// Why the bytes begin no field. Of several faults the first is told, in this order: a bad varint, the end

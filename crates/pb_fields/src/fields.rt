@@ -1,3 +1,5 @@
+//! The fields of a message, one after the other.
+
 ghost use Rattle.std.specs.Prelude.{◌≡◌, length};
 ghost use Rattle.std.specs.Iterator.{at_most};
 ghost use Rattle.pb_fields.specs.Next.{Tells, left};

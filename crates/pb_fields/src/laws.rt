@@ -1,12 +1,15 @@
+//! Laws of lists of fields.
+
 ghost use Rattle.std.specs.Prelude.{◌≡◌, ℕ, [], ◌∷◌, ◌++◌, List};
 ghost use Rattle.pb_fields.specs.Field.{BeginsWithField, WireField};
 ghost use Rattle.pb_fields.specs.Faults.{BeginsNoField};
 ghost use Rattle.pb_fields.specs.Message.{BeginsWithFields, StandsFor};
-ghost use Rattle.pb_fields.specs.Spelling.{Fits, spelling};
+ghost use Rattle.pb_fields.specs.Encoding.{Fits, encoding};
 
 /// A law: bytes stand for one list of fields at most.
 pub fn fields_are_one()
-    ensures { (bs : List ℕ) (fields others : List WireField) → StandsFor bs fields → StandsFor bs others
+    ensures { (bs : List ℕ) (fields others : List WireField) → StandsFor bs fields
+        → StandsFor bs others
         → fields ≡ others }
 {}
 
@@ -25,7 +28,9 @@ pub fn fields_stop()
 
 /// A law: what was written is read again, whatever follows.
 pub fn written_is_read()
-    ensures field { (field : WireField) (rest : List ℕ) → Fits field → BeginsWithField (spelling field ++ rest) field rest }
-    ensures fields { (field : WireField) (fields : List WireField) (rest : List ℕ) → Fits field → StandsFor rest fields
-        → StandsFor (spelling field ++ rest) (field ∷ fields) }
+    ensures field { (field : WireField) (rest : List ℕ) → Fits field
+        → BeginsWithField (encoding field ++ rest) field rest }
+    ensures fields { (field : WireField) (fields : List WireField) (rest : List ℕ) → Fits field
+        → StandsFor rest fields
+        → StandsFor (encoding field ++ rest) (field ∷ fields) }
 {}

@@ -1,9 +1,12 @@
 //! Fields, the wire form of a Protocol Buffers message: one behind the other, each a key (its number and wire
 //! type in one varint) and a value.
 //!
-//! Bytes stand for a list of fields (`StandsFor`) by the grammar alone, and for one list at most. [`Fields`]
-//! gives that list, borrowed, or the first fault; [`FieldOut`] appends a field in its one spelling (`spelling`),
-//! which is read again whatever follows it.
+//! Bytes stand for a list of fields (`StandsFor`) by the grammar alone, and for one list at most. [`Fields`] gives that
+//! list, borrowed, or the first fault of a table (`fault_table`). [`scan`] merges each field into a value, by the value's
+//! step for one field ([`Merge`]): what it did is the fold of that step over the list (`MergesAll`).
+//!
+//! A value is a [`Message`] where it is encoded as fields to an [`Output`]: a vector, for which [`FieldOut`] appends a
+//! field in its one encoding (`encoding`), or a [`LengthCounter`]. What was encoded is read again whatever follows it.
 //!
 //! Reading takes no memory, reads a key, a length or a number's bytes once and looks at no other byte of a value; a
 //! field is written with one growth at most. What the fields of a message mean is for its reader to say.
@@ -17,8 +20,9 @@ mod field;
 mod field_out;
 mod fields;
 mod laws;
-#[cfg(test)]
-mod tests;
+mod merge;
+mod message;
+mod output;
 mod value;
 
 pub use fault::FieldFault;
@@ -26,4 +30,7 @@ pub use field::{Field, GREATEST_NUMBER};
 pub use field_out::FieldOut;
 pub use fields::Fields;
 pub use laws::{fields_are_one, fields_go_on, fields_stop, written_is_read};
+pub use merge::{Merge, scan};
+pub use message::{Message, encode_message, encode_repeated, encoded_len};
+pub use output::{LengthCounter, Output};
 pub use value::Value;

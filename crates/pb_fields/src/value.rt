@@ -1,3 +1,5 @@
+//! A field's value, and the one at the front of some bytes.
+
 ghost use Rattle.std.specs.Prelude.{◌≡◌, ◌<◌, ◌++◌, ℕ, IfOk, IfErr, length, List};
 ghost use Rattle.pb_fields.specs.Field.{IsValue, value_seen, wire_type};
 ghost use Rattle.pb_fields.specs.Faults.{BeginsWithVarint, ValueFails, VarintFails};
@@ -30,7 +32,8 @@ pub enum Value<'a> {
 // The value of this wire type at the front, and the bytes behind it.
 pub(crate) fn value_at(wire: u64, bytes: &[u8]) -> Result<(Value<'_>, &[u8]), FieldFault>
     ensures wire { IfOk result (λ r. wire_type (value_seen r.0) ≡ wire) }
-    ensures value { IfOk result (λ r. (w : List ℕ) × IsValue w (value_seen r.0) × (bytes.now ≡ w ++ r.1.now)) }
+    ensures value { IfOk result (λ r. (w : List ℕ) × IsValue w (value_seen r.0)
+        × (bytes.now ≡ w ++ r.1.now)) }
     ensures fault { IfErr result (λ fault. ValueFails wire bytes.now fault) }
 {
     match wire {

@@ -14,7 +14,7 @@
 //!
 //! **How it is built.** A buffer, and how much of it was taken: [`Framer::take`] moves that mark
 //! alone, and [`Framer::feed`] moves what is left to the front once it is at most half of the
-//! buffer. [`frame_of`] spells a message.
+//! buffer. [`frame_of`] encodes a message, and [`header`] the bytes in front of a body that is written behind it.
 #![tactic(auto)]
 
 mod fault;
@@ -32,7 +32,4 @@ pub use laws::{
     any_pieces, bad_length, every_stream, first_messages, none_left, one_split, request_limit,
 };
 pub use limits::{LONGEST_BODY, LONGEST_REQUEST};
-pub use spelling::frame_of;
-
-#[cfg(test)]
-mod tests;
+pub use spelling::{HEADER_LEN, frame_of, header};

@@ -13,7 +13,7 @@ use Rattle.riak_msgs.specs.declared.content.Content.{Content}
 use Rattle.riak_msgs.specs.declared.pair.Pair.{Pair}
 use Rattle.riak_msgs.specs.Picking.{each_bytes, last_bytes}
 use Rattle.riak_msgs.specs.Embedded.{ContentFields, StandForContent, all_of, pair_of, link_of, content_of}
-use Rattle.riak_msgs.specs.Seen.{no_fields, merged, lacks_key, scalars_of, with_parts}
+use Rattle.riak_msgs.specs.Seen.{no_fields, merged, misses_key, scalars_of, with_parts}
 use Rattle.riak_msgs.proofs.Picking.{each_bytes-append, AllZip-append, AllZip-split}
 
 -- two contents of the same fields
@@ -150,9 +150,9 @@ all_of-filter_map {B = B} pick (x ∷ xs) some = first (pick x) (all_of (map pic
 
 -- a content is whole where its value and the key of each pair are there
 pub is_some-content_of : (c : ContentFields) →
-    is_some (content_of c) ≡ is_some (last_bytes 1 c.own) && not (lacks_key c.usermeta || lacks_key c.indexes)
+    is_some (content_of c) ≡ is_some (last_bytes 1 c.own) && not (misses_key c.usermeta || misses_key c.indexes)
 is_some-content_of c = whole _ (last_bytes 1 c.own) (all_of (map pair_of c.usermeta)) (all_of (map pair_of c.indexes))
-    (lacks_key c.usermeta) (lacks_key c.indexes) (is_some-all_of pair_of c.usermeta) (is_some-all_of pair_of c.indexes)
+    (misses_key c.usermeta) (misses_key c.indexes) (is_some-all_of pair_of c.usermeta) (is_some-all_of pair_of c.indexes)
   where
     whole : {A B C D : Type 0} (make : A → B → C → D) (value : Option A) (us : Option B) (is : Option C) (x y : Bool) →
         is_some us ≡ not x → is_some is ≡ not y →

@@ -1,20 +1,16 @@
 -- A walk over the fields of a content that copies the messages in them.
-use Rattle.std.proofs.Common.{◌≡◌, ℕ, List, [], ◌∷◌, ◌++◌, Some, Result, Ok, refl, sym, subst, append_assoc}
+use Rattle.std.proofs.Common.{◌≡◌, ℕ, List, [], ◌∷◌, ◌++◌, refl, sym, subst, append_assoc}
 use Rattle.std.specs.Prelude.{filter_map}
 use Rattle.std.proofs.lemmas.List.{append-nil}
-use Rattle.pb_fields.specs.Field.{WireField, BeginsWithField, seen}
-use Rattle.pb_fields.specs.Message.{BeginsWithFields, StandsFor}
-use Rattle.pb_fields.specs.Next.{Tells}
-use Rattle.pb_fields.specs.declared.field.Field.{Field}
-use Rattle.pb_fields.specs.declared.fault.FieldFault.{FieldFault}
-use Rattle.pb_fields.proofs.Steps.{read_more}
+use Rattle.pb_fields.specs.Field.{WireField}
+use Rattle.pb_fields.specs.Message.{StandsFor}
 use Rattle.riak_msgs.specs.declared.content.Content.{Content}
 use Rattle.riak_msgs.specs.declared.link.Link.{Link}
 use Rattle.riak_msgs.specs.declared.pair.Pair.{Pair}
-use Rattle.riak_msgs.specs.Embedded.{ContentFields, StandForContent, link_of, pair_of}
+use Rattle.riak_msgs.specs.Embedded.{ContentFields, link_of, pair_of}
 use Rattle.riak_msgs.specs.Seen.{Copies, HoldContent, merged, no_fields}
 use Rattle.riak_msgs.proofs.Contents.{same_content, with_parts-no_fields}
-use Rattle.riak_msgs.proofs.ContentsWalked.{HoldContent-append, HoldContent-field, alone, string_at}
+use Rattle.riak_msgs.proofs.ContentsWalked.{alone, string_at}
 
 -- nothing behind a content, and one content behind another
 pub merged-no_fields : (c : ContentFields) → merged c no_fields ≡ c
@@ -25,29 +21,6 @@ pub merged-merged : (c d e : ContentFields) → merged (merged c d) e ≡ merged
 merged-merged c d e = same_content (merged (merged c d) e) (merged c (merged d e))
     (append_assoc c.own d.own e.own) (append_assoc c.links d.links e.links)
     (append_assoc c.usermeta d.usermeta e.usermeta) (append_assoc c.indexes d.indexes e.indexes)
-
--- the field that was told
-pub told_field : (before after : List ℕ) (told : Result Field FieldFault) (field : Field) → Tells before (Some told) after → told ≡ Ok field →
-    BeginsWithField before (seen field) after
-told_field before after told field tells e =
-    let P : Result Field FieldFault → Type 0 = λ r. Tells before (Some r) after in subst P e tells
-
--- a walk over a content's fields has come one further
-pub walked_more : (body before after : List ℕ) (c part : ContentFields) (told : Result Field FieldFault) (field : Field) →
-    BeginsWithFields body c.own before → HoldContent c.own c → Tells before (Some told) after → told ≡ Ok field →
-    HoldContent (seen field ∷ []) part →
-    BeginsWithFields body (merged c part).own after × HoldContent (merged c part).own (merged c part)
-walked_more body before after c part told field begins holds tells e one =
-    let P : List WireField → Type 0 = λ fs. BeginsWithFields body (c.own ++ fs) after × HoldContent (c.own ++ fs) (merged c part) in
-    subst P (sym one.own)
-    (read_more body before after c.own told field begins tells e, HoldContent-append c.own (seen field ∷ []) c part holds one)
-
--- where the bytes are an occurrence of a content, each field in them holds its messages
-pub walked_field : (body before after : List ℕ) (c part : ContentFields) (told : Result Field FieldFault) (field : Field) →
-    BeginsWithFields body c.own before → Tells before (Some told) after → told ≡ Ok field → StandForContent (body ∷ []) part →
-    (one : ContentFields) × HoldContent (seen field ∷ []) one
-walked_field body before after c part told field begins tells e all =
-    HoldContent-field body before after c part (seen field) begins (told_field before after told field tells e) all
 
 -- a link, and a pair
 pub Copies-link : (content : Content) (field : WireField) (bytes : List ℕ) (links : List Link) (fields : List WireField) →

@@ -1,20 +1,20 @@
 -- A walk over the fields of a content, and the messages in them.
-use Rattle.std.proofs.Common.{◌≡◌, ℕ, true, false, List, [], ◌∷◌, ◌++◌, Option, Some, None, refl, ap, sym, subst, ◌∙◌, arith}
+use Rattle.std.proofs.Common.{◌≡◌, ℕ, true, false, List, [], ◌∷◌, ◌++◌, Option, Some, None, refl, ap, sym, subst, ◌∙◌}
 use Rattle.std.specs.Prelude.{Bool, ◌==◌, ◌||◌, not, option_copied, option_map, is_none, is_some, flat_map}
 use Rattle.std.specs.List.{AllZip, last_or, cons_option}
 use Rattle.std.specs.Option.{option_map_or}
 use Rattle.std.specs.Borrow.{Bor}
 use Rattle.std.proofs.Math.Bool.{or-false}
+use Rattle.std.proofs.lemmas.Bool.{false≢true}
 use Rattle.std.proofs.lemmas.List.{append-nil}
 use Rattle.std.proofs.lemmas.List.Folds.{list_any-append}
-use Rattle.pb_fields.specs.Field.{WireField, BeginsWithField, byte_string, varint}
-use Rattle.pb_fields.specs.Message.{BeginsWithFields, StandsFor}
-use Rattle.pb_fields.proofs.Parts.{field_once, field_some}
-use Rattle.riak_msgs.specs.declared.parts.SeenPart.{SeenPart}
-use Rattle.riak_msgs.specs.declared.seen.SeenContent.{SeenContent}
+use Rattle.pb_fields.specs.Field.{WireField, byte_string, varint}
+use Rattle.pb_fields.specs.Message.{StandsFor}
+use Rattle.riak_msgs.specs.declared.pairs_and_links.PairView.{PairView}
+use Rattle.riak_msgs.specs.declared.content_view.ContentView.{ContentView}
 use Rattle.riak_msgs.specs.Picking.{last_bytes, last_varint, bytes_at, varint_at, string_in, number_in, flag_of}
 use Rattle.riak_msgs.specs.Embedded.{ContentFields, StandForContent, pair_of}
-use Rattle.riak_msgs.specs.Seen.{HoldContent, IsPartOf, IsSeenOf, Sees, no_fields, merged, lacks_key}
+use Rattle.riak_msgs.specs.Seen.{HasNoParts, HoldContent, IsPartOf, IsSeenOf, Sees, no_fields, merged, misses_key}
 use Rattle.riak_msgs.proofs.Walks.{bytes_at-other, bytes_at-no_string, varint_at-no_number, is_some-option_copied}
 use Rattle.riak_msgs.proofs.Contents.{EachStand, each-append, each-split}
 use Rattle.riak_msgs.proofs.Picking.{last_bytes-append, last_varint-append}
@@ -70,44 +70,15 @@ HoldContent-one bs c all = (stands all.parts all.each all.own, record { own = re
         let P : List WireField → Type 0 = StandsFor bs in subst P (sym (own ∙ append-nil fields)) each.0
     stands (fields ∷ gs ∷ more) each own = absurd each.1
 
--- the fields of bytes that begin with some go on behind these
-pub fields_behind : (bs rest : List ℕ) (fs gs : List WireField) → BeginsWithFields bs fs rest → StandsFor bs gs →
-    (later : List WireField) × (gs ≡ fs ++ later) × StandsFor rest later
-fields_behind bs rest [] gs a b = let P : List ℕ → Type 0 = λ cs. StandsFor cs gs in (gs, refl, subst P a b)
-fields_behind bs rest (f ∷ fs) [] (x, begins, a) b =
-    let P : List ℕ → Type 0 = λ cs. BeginsWithField cs f x in
-    let some = field_some [] x f (subst P b begins) in absurd (omega arith)
-fields_behind bs rest (f ∷ fs) (g ∷ gs) (x, begins_f, a) (y, begins_g, b) =
-    let one = field_once bs x y f g begins_f begins_g in
-    let P : List ℕ → Type 0 = λ cs. StandsFor cs gs in
-    let more = fields_behind x rest fs gs a (subst P (sym one.1) b) in
-    (more.0, ap (λ h. h ∷ gs) (sym one.0) ∙ ap (λ hs. f ∷ hs) more.1, more.2)
-
--- a content whose bytes begin with a field holds a content in that field alone
-pub HoldContent-field : (bs rest behind : List ℕ) (c part : ContentFields) (field : WireField) → BeginsWithFields bs c.own rest →
-    BeginsWithField rest field behind → StandForContent (bs ∷ []) part → (one : ContentFields) × HoldContent (field ∷ []) one
-HoldContent-field bs rest behind c part field begins next all =
-    let whole = HoldContent-one bs part all in
-    let more = fields_behind bs rest c.own part.own begins whole.0 in
-    let P : List WireField → Type 0 = λ fs. HoldContent fs part in
-    let late = HoldContent-split c.own more.0 part (subst P more.1 whole.1) in
-    let last = first_field more.0 more.2 in
-    let Q : List WireField → Type 0 = λ fs. HoldContent fs late.1 in
-    let one = HoldContent-split (field ∷ []) last.0 late.1 (subst Q last.1 late.3) in
-    (one.0, one.2)
-  where
-    first_field : (later : List WireField) → StandsFor rest later → (more : List WireField) × (later ≡ field ∷ more)
-    first_field later stands =
-        let at = fields_behind rest behind (field ∷ []) later (behind, next, refl) stands in (at.0, at.1)
-
 -- what was seen goes over to what is seen with one more field, in which these messages are
-pub record StepsBy (before : SeenContent) (field : WireField) (part : ContentFields) (after : SeenContent) : Type 0 where
+pub record StepsBy (before : ContentView) (field : WireField) (part : ContentFields) (after : ContentView) : Type 0 where
   pub value : option_copied after.value ≡ last_or (option_copied before.value) (cons_option (bytes_at 1 field) [])
   pub content_type : option_copied after.content_type ≡ last_or (option_copied before.content_type) (cons_option (bytes_at 2 field) [])
   pub charset : option_copied after.charset ≡ last_or (option_copied before.charset) (cons_option (bytes_at 3 field) [])
   pub content_encoding : option_copied after.content_encoding ≡ last_or (option_copied before.content_encoding) (cons_option (bytes_at 4 field) [])
   pub deleted : after.deleted ≡ option_map_or (λ n. not (n == 0)) (varint_at 11 field) before.deleted
-  pub lacks_key : after.lacks_key ≡ before.lacks_key || (lacks_key part.usermeta || lacks_key part.indexes)
+  pub misses_key : after.misses_key ≡ before.misses_key || (misses_key part.usermeta || misses_key part.indexes)
+  pub no_parts : after.has_parts ≡ false → (before.has_parts ≡ false) × HasNoParts part
 
 or_swap : (a b x y : Bool) → ((a || b) || (x || y)) ≡ ((a || x) || (b || y))
 or_swap true b x y = refl
@@ -125,7 +96,7 @@ test n = not (n == 0)
 abbrev lacks : List WireField → Bool
 lacks pair = is_none (pair_of pair)
 
-pub IsSeenOf-more : (before : SeenContent) (field : WireField) (part : ContentFields) (after : SeenContent) → part.own ≡ field ∷ [] →
+pub IsSeenOf-more : (before : ContentView) (field : WireField) (part : ContentFields) (after : ContentView) → part.own ≡ field ∷ [] →
     StepsBy before field part after → (c : ContentFields) → IsSeenOf before c → IsSeenOf after (merged c part)
 IsSeenOf-more before field part after own step c is = record {
   value = step.value ∙ ap (λ o. last_or o (cons_option (bytes_at 1 field) [])) is.value ∙ scalar 1;
@@ -138,14 +109,24 @@ IsSeenOf-more before field part after own step c is = record {
       ∙ flag-more test (last_varint 11 c.own) (varint_at 11 field)
       ∙ ap (λ o. option_map_or test o false) (sym (last_varint-append 11 c.own (field ∷ [])))
       ∙ ap (λ fs. flag_of 11 (c.own ++ fs)) (sym own);
-  lacks_key =
-      step.lacks_key
-      ∙ ap (λ b. b || (lacks_key part.usermeta || lacks_key part.indexes)) is.lacks_key
-      ∙ or_swap (lacks_key c.usermeta) (lacks_key c.indexes) (lacks_key part.usermeta) (lacks_key part.indexes)
-      ∙ ap (λ b. b || (lacks_key c.indexes || lacks_key part.indexes)) (sym (list_any-append lacks c.usermeta part.usermeta))
-      ∙ ap (λ b. lacks_key (c.usermeta ++ part.usermeta) || b) (sym (list_any-append lacks c.indexes part.indexes));
+  misses_key =
+      step.misses_key
+      ∙ ap (λ b. b || (misses_key part.usermeta || misses_key part.indexes)) is.misses_key
+      ∙ or_swap (misses_key c.usermeta) (misses_key c.indexes) (misses_key part.usermeta) (misses_key part.indexes)
+      ∙ ap (λ b. b || (misses_key c.indexes || misses_key part.indexes)) (sym (list_any-append lacks c.usermeta part.usermeta))
+      ∙ ap (λ b. misses_key (c.usermeta ++ part.usermeta) || b) (sym (list_any-append lacks c.indexes part.indexes));
+  no_parts = λ e.
+      let late = step.no_parts e in
+      let early = is.no_parts late.0 in (
+        none_of c.links part.links early.0 late.1.0,
+        none_of c.usermeta part.usermeta early.1 late.1.1,
+        none_of c.indexes part.indexes early.2 late.1.2,
+      );
 }
   where
+    none_of : (xs ys : List (List WireField)) → xs ≡ [] → ys ≡ [] → xs ++ ys ≡ []
+    none_of xs ys a b = rw (a, b) refl
+
     scalar : (number : ℕ) → last_or (last_bytes number c.own) (cons_option (bytes_at number field) []) ≡ last_bytes number (c.own ++ part.own)
     scalar number =
         sym (last_bytes-append number c.own (field ∷ [])) ∙ ap (λ fs. last_bytes number (c.own ++ fs)) (sym own)
@@ -171,7 +152,7 @@ alone-holds field link usermeta index =
     let P : Option (List ℕ) → Type 0 = λ o. AllZip StandsFor (cons_option o []) [] in
     record { own = refl; links = subst P (sym link) tt; usermeta = subst P (sym usermeta) tt; indexes = subst P (sym index) tt }
 
-pub Sees-skipped : (seen : SeenContent) (field : WireField) → IsSkipped field → Sees seen field seen
+pub Sees-skipped : (seen : ContentView) (field : WireField) → IsSkipped field → Sees seen field seen
 Sees-skipped seen field none = (alone field, alone-holds field none.link none.usermeta none.index, IsSeenOf-more seen field (alone field) seen refl step)
   where
     kept : (o p : Option (List ℕ)) → p ≡ None → o ≡ last_or o (cons_option p [])
@@ -184,7 +165,8 @@ Sees-skipped seen field none = (alone field, alone-holds field none.link none.us
       charset = kept (option_copied seen.charset) (bytes_at 3 field) none.charset;
       content_encoding = kept (option_copied seen.content_encoding) (bytes_at 4 field) none.content_encoding;
       deleted = sym (ap (λ q. option_map_or (λ n. not (n == 0)) q seen.deleted) none.deleted);
-      lacks_key = sym (or-false seen.lacks_key);
+      misses_key = sym (or-false seen.misses_key);
+      no_parts = λ e. (e, (refl, refl, refl));
     }
 
 -- a field of bytes
@@ -192,7 +174,7 @@ abbrev pub string_at : ℕ → List ℕ → WireField
 string_at number bytes = record { number = number; value = byte_string bytes }
 
 -- a scalar
-pub Sees-value : (seen : SeenContent) (number : ℕ) (bytes : Bor (List ℕ)) → number ≡ 1 →
+pub Sees-value : (seen : ContentView) (number : ℕ) (bytes : Bor (List ℕ)) → number ≡ 1 →
     Sees seen (string_at number bytes.now) (record seen { value = Some bytes })
 Sees-value seen number bytes e =
     let f = string_at 1 bytes.now in
@@ -206,11 +188,12 @@ Sees-value seen number bytes e =
         charset = refl;
         content_encoding = refl;
         deleted = refl;
-        lacks_key = sym (or-false seen.lacks_key);
+        misses_key = sym (or-false seen.misses_key);
+        no_parts = λ e. (e, (refl, refl, refl));
       }),
     )
 
-pub Sees-content_type : (seen : SeenContent) (number : ℕ) (bytes : Bor (List ℕ)) → number ≡ 2 →
+pub Sees-content_type : (seen : ContentView) (number : ℕ) (bytes : Bor (List ℕ)) → number ≡ 2 →
     Sees seen (string_at number bytes.now) (record seen { content_type = Some bytes })
 Sees-content_type seen number bytes e =
     let f = string_at 2 bytes.now in
@@ -224,11 +207,12 @@ Sees-content_type seen number bytes e =
         charset = refl;
         content_encoding = refl;
         deleted = refl;
-        lacks_key = sym (or-false seen.lacks_key);
+        misses_key = sym (or-false seen.misses_key);
+        no_parts = λ e. (e, (refl, refl, refl));
       }),
     )
 
-pub Sees-charset : (seen : SeenContent) (number : ℕ) (bytes : Bor (List ℕ)) → number ≡ 3 →
+pub Sees-charset : (seen : ContentView) (number : ℕ) (bytes : Bor (List ℕ)) → number ≡ 3 →
     Sees seen (string_at number bytes.now) (record seen { charset = Some bytes })
 Sees-charset seen number bytes e =
     let f = string_at 3 bytes.now in
@@ -242,11 +226,12 @@ Sees-charset seen number bytes e =
         charset = refl;
         content_encoding = refl;
         deleted = refl;
-        lacks_key = sym (or-false seen.lacks_key);
+        misses_key = sym (or-false seen.misses_key);
+        no_parts = λ e. (e, (refl, refl, refl));
       }),
     )
 
-pub Sees-content_encoding : (seen : SeenContent) (number : ℕ) (bytes : Bor (List ℕ)) → number ≡ 4 →
+pub Sees-content_encoding : (seen : ContentView) (number : ℕ) (bytes : Bor (List ℕ)) → number ≡ 4 →
     Sees seen (string_at number bytes.now) (record seen { content_encoding = Some bytes })
 Sees-content_encoding seen number bytes e =
     let f = string_at 4 bytes.now in
@@ -260,11 +245,12 @@ Sees-content_encoding seen number bytes e =
         charset = refl;
         content_encoding = refl;
         deleted = refl;
-        lacks_key = sym (or-false seen.lacks_key);
+        misses_key = sym (or-false seen.misses_key);
+        no_parts = λ e. (e, (refl, refl, refl));
       }),
     )
 
-pub Sees-deleted : (seen : SeenContent) (field : WireField) (value : ℕ) (flag : Bool) → field ≡ record { number = 11; value = varint value } →
+pub Sees-deleted : (seen : ContentView) (field : WireField) (value : ℕ) (flag : Bool) → field ≡ record { number = 11; value = varint value } →
     flag ≡ not (value == 0) → Sees seen field (record seen { deleted = flag })
 Sees-deleted seen field value flag e is =
     let f : WireField = record { number = 11; value = varint value } in
@@ -278,75 +264,79 @@ Sees-deleted seen field value flag e is =
         charset = refl;
         content_encoding = refl;
         deleted = is;
-        lacks_key = sym (or-false seen.lacks_key);
+        misses_key = sym (or-false seen.misses_key);
+        no_parts = λ e. (e, (refl, refl, refl));
       }),
     )
 
 -- a link, and a pair
-pub Sees-link : (seen : SeenContent) (number : ℕ) (bytes : List ℕ) (fields : List WireField) → number ≡ 6 → StandsFor bytes fields →
-    Sees seen (string_at number bytes) seen
+pub Sees-link : (seen : ContentView) (number : ℕ) (bytes : List ℕ) (fields : List WireField) → number ≡ 6 → StandsFor bytes fields →
+    Sees seen (string_at number bytes) (record seen { has_parts = true })
 Sees-link seen number bytes fields e stands =
     let f = string_at 6 bytes in
     let part = record (alone f) { links = fields ∷ [] } in
-    let P : ℕ → Type 0 = λ k. Sees seen (string_at k bytes) seen in
+    let P : ℕ → Type 0 = λ k. Sees seen (string_at k bytes) (record seen { has_parts = true }) in
     subst P (sym e) (
       part,
       record { own = refl; links = (stands, tt); usermeta = tt; indexes = tt },
-      IsSeenOf-more seen f part seen refl (record {
+      IsSeenOf-more seen f part (record seen { has_parts = true }) refl (record {
         value = refl;
         content_type = refl;
         charset = refl;
         content_encoding = refl;
         deleted = refl;
-        lacks_key = sym (or-false seen.lacks_key);
+        misses_key = sym (or-false seen.misses_key);
+        no_parts = λ e. absurd (false≢true (sym e));
       }),
     )
 
-pub Sees-usermeta : (seen : SeenContent) (number : ℕ) (bytes : List ℕ) (fields : List WireField) (flag : Bool) → number ≡ 9 →
-    StandsFor bytes fields → flag ≡ (seen.lacks_key || is_none (pair_of fields)) →
-    Sees seen (string_at number bytes) (record seen { lacks_key = flag })
+pub Sees-usermeta : (seen : ContentView) (number : ℕ) (bytes : List ℕ) (fields : List WireField) (flag : Bool) → number ≡ 9 →
+    StandsFor bytes fields → flag ≡ (seen.misses_key || is_none (pair_of fields)) →
+    Sees seen (string_at number bytes) (record seen { misses_key = flag; has_parts = true })
 Sees-usermeta seen number bytes fields flag e stands is =
     let f = string_at 9 bytes in
     let part = record (alone f) { usermeta = fields ∷ [] } in
-    let P : ℕ → Type 0 = λ k. Sees seen (string_at k bytes) (record seen { lacks_key = flag }) in
+    let P : ℕ → Type 0 = λ k. Sees seen (string_at k bytes) (record seen { misses_key = flag; has_parts = true }) in
     subst P (sym e) (
       part,
       record { own = refl; links = tt; usermeta = (stands, tt); indexes = tt },
-      IsSeenOf-more seen f part (record seen { lacks_key = flag }) refl (record {
+      IsSeenOf-more seen f part (record seen { misses_key = flag; has_parts = true }) refl (record {
         value = refl;
         content_type = refl;
         charset = refl;
         content_encoding = refl;
         deleted = refl;
-        lacks_key =
+        misses_key =
             is
-            ∙ ap (λ b. seen.lacks_key || b) (sym (or-false (is_none (pair_of fields))))
-            ∙ ap (λ b. seen.lacks_key || b) (sym (or-false (is_none (pair_of fields) || false)));
+            ∙ ap (λ b. seen.misses_key || b) (sym (or-false (is_none (pair_of fields))))
+            ∙ ap (λ b. seen.misses_key || b) (sym (or-false (is_none (pair_of fields) || false)));
+        no_parts = λ e. absurd (false≢true (sym e));
       }),
     )
 
-pub Sees-index : (seen : SeenContent) (number : ℕ) (bytes : List ℕ) (fields : List WireField) (flag : Bool) → number ≡ 10 →
-    StandsFor bytes fields → flag ≡ (seen.lacks_key || is_none (pair_of fields)) →
-    Sees seen (string_at number bytes) (record seen { lacks_key = flag })
+pub Sees-index : (seen : ContentView) (number : ℕ) (bytes : List ℕ) (fields : List WireField) (flag : Bool) → number ≡ 10 →
+    StandsFor bytes fields → flag ≡ (seen.misses_key || is_none (pair_of fields)) →
+    Sees seen (string_at number bytes) (record seen { misses_key = flag; has_parts = true })
 Sees-index seen number bytes fields flag e stands is =
     let f = string_at 10 bytes in
     let part = record (alone f) { indexes = fields ∷ [] } in
-    let P : ℕ → Type 0 = λ k. Sees seen (string_at k bytes) (record seen { lacks_key = flag }) in
+    let P : ℕ → Type 0 = λ k. Sees seen (string_at k bytes) (record seen { misses_key = flag; has_parts = true }) in
     subst P (sym e) (
       part,
       record { own = refl; links = tt; usermeta = tt; indexes = (stands, tt) },
-      IsSeenOf-more seen f part (record seen { lacks_key = flag }) refl (record {
+      IsSeenOf-more seen f part (record seen { misses_key = flag; has_parts = true }) refl (record {
         value = refl;
         content_type = refl;
         charset = refl;
         content_encoding = refl;
         deleted = refl;
-        lacks_key = is ∙ ap (λ b. seen.lacks_key || b) (sym (or-false (is_none (pair_of fields))));
+        misses_key = is ∙ ap (λ b. seen.misses_key || b) (sym (or-false (is_none (pair_of fields))));
+        no_parts = λ e. absurd (false≢true (sym e));
       }),
     )
 
 -- a pair lacks its key where no byte string of number 1 was seen
-pub lacks-first : (part : SeenPart) (fields : List WireField) (lacks : Bool) → IsPartOf part fields → is_some part.first ≡ not lacks →
+pub lacks-first : (part : PairView) (fields : List WireField) (lacks : Bool) → IsPartOf part fields → is_some part.first ≡ not lacks →
     lacks ≡ is_none (pair_of fields)
 lacks-first part fields lacks is e =
     negated lacks (is_some part.first) e

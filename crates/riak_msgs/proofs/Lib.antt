@@ -1,10 +1,9 @@
-pub mod Repeated
 pub mod Picking
-pub mod SpelledParts
-pub mod SpelledPicks
-pub mod SpelledContents
-pub mod SpelledRequests
-pub mod SpelledReplies
+pub mod EncodedParts
+pub mod EncodedPicks
+pub mod EncodedContents
+pub mod EncodedRequests
+pub mod EncodedReplies
 pub mod Contents
 pub mod RepliesPicking
 pub mod RepliesSteps
@@ -15,3 +14,4 @@ pub mod RequestsOnce
 pub mod ContentsWalked
 pub mod ContentsCopied
 pub mod Walks
+pub mod Scans

@@ -1,7 +1,8 @@
 -- What is said by a body, and by a reply.
-use Rattle.std.proofs.Common.{◌≡◌, ℕ, Bool, true, false, cond, List, [], map, Option, Some, None, Result, Ok, Err, ◌⊎◌, inl, inr, refl, ap, sym, subst, ◌∙◌, arith, Bor}
-use Rattle.std.specs.Prelude.{is_none, is_some, ◌&&◌, ◌||◌, unwrap_or, option_copied}
+use Rattle.std.proofs.Common.{◌≡◌, ℕ, Bool, true, false, cond, List, [], ◌∷◌, map, Option, Some, None, Result, Ok, Err, ◌⊎◌, inl, inr, refl, ap, sym, subst, ◌∙◌, arith, Bor}
+use Rattle.std.specs.Prelude.{is_none, is_some, not, ◌&&◌, ◌||◌, unwrap_or, option_and_then, option_copied}
 use Rattle.std.proofs.lemmas.Bool.{false≢true}
+use Rattle.pb_fields.specs.Field.{WireField}
 use Rattle.pb_fields.specs.Message.{StandsFor}
 use Rattle.pb_fields.proofs.Lists.{fields_once}
 use Rattle.riak_msgs.specs.declared.get.GetReply.{GetReply}
@@ -9,12 +10,13 @@ use Rattle.riak_msgs.specs.declared.put.PutReply.{PutReply}
 use Rattle.riak_msgs.specs.declared.shown.Shown.{Shown}
 use Rattle.riak_msgs.specs.declared.reply.Reply.{Reply}
 use Rattle.riak_msgs.specs.declared.reply.Reply.TheVariants as replies
+use Rattle.riak_msgs.specs.declared.text.Text.{Text}
 use Rattle.riak_msgs.specs.declared.text.Text.TheVariants as texts
 use Rattle.riak_msgs.specs.declared.fault.MsgFault.{MsgFault}
 use Rattle.riak_msgs.specs.declared.fault.MsgFault.TheVariants.{UnknownCode, BadMessage, MissingField, EmptyName, NoKey, NoMemory}
 use Rattle.riak_msgs.specs.Picking.{last_bytes, last_varint, flag_of}
-use Rattle.riak_msgs.specs.Reading.{said_by, SaysBy}
-use Rattle.riak_msgs.specs.ReadingReplies.{ShownFields, StandsForShown, contents_of, shown_fault, get_reply_of, text_in, IsReplyCode, SaysReply, ReadsReply}
+use Rattle.riak_msgs.specs.Reading.{first_fault, said_by, SaysBy}
+use Rattle.riak_msgs.specs.ReadingReplies.{ShownFields, StandsForShown, contents_of, shown_fault, get_reply_of, text_in, text_named, IsReplyCode, SaysReply, ReadsReply}
 use Rattle.riak_msgs.specs.SeenReplies.{SaysError, SaysShown, ReadsShown, whole_of}
 use Rattle.riak_msgs.proofs.RepliesSteps.{shown_once, contents_of-whole}
 
@@ -180,3 +182,27 @@ SaysReply-once code body a b s t =
         ((code ≡ 2) × A) ⊎ (((code ≡ 10) × B) ⊎ (((code ≡ 12) × D) ⊎ (((code ≡ 14) × E) ⊎ (¬ (IsReplyCode code) × N)))) → ⊥
     not_error e = skip code 0 2 (λ f. omega arith) e (skip code 0 10 (λ f. omega arith) e (skip code 0 12 (λ f. omega arith) e
         (skip code 0 14 (λ f. omega arith) e (λ r. r.0 (inl e)))))
+
+-- what an error says, by its text and whether it has a number
+abbrev pub error_said : Option (List ℕ) → Option Text → Bool → Result Reply MsgFault
+error_said bytes text has_number =
+    said_by (first_fault ((is_some bytes && is_none text, BadMessage) ∷ (is_none bytes || not has_number, MissingField) ∷ []))
+    (replies.Error (unwrap_or text texts.BadMessage))
+
+pub SaysError-is : (body : List ℕ) (fields : List WireField) (bytes : Option (List ℕ)) (text : Option Text) (has_number : Bool)
+    (said : Result Reply MsgFault) → StandsFor body fields → bytes ≡ last_bytes 1 fields → text ≡ option_and_then text_named bytes →
+    has_number ≡ is_some (last_varint 2 fields) → said ≡ error_said bytes text has_number → SaysError body said
+SaysError-is body fields bytes text has_number said stands b t n is =
+    inl (
+      fields,
+      stands,
+      is ∙ ap (λ x. error_said x text has_number) b ∙ ap (λ x. error_said (last_bytes 1 fields) x has_number) (t ∙ ap (option_and_then text_named) b)
+          ∙ number (last_varint 2 fields) n,
+    )
+  where
+    number : (o : Option ℕ) → has_number ≡ is_some o →
+        error_said (last_bytes 1 fields) (text_in fields) has_number
+        ≡ said_by (first_fault ((is_some (last_bytes 1 fields) && is_none (text_in fields), BadMessage) ∷ (is_none (last_bytes 1 fields) || is_none o, MissingField) ∷ []))
+        (replies.Error (unwrap_or (text_in fields) texts.BadMessage))
+    number None e = ap (error_said (last_bytes 1 fields) (text_in fields)) e
+    number (Some x) e = ap (error_said (last_bytes 1 fields) (text_in fields)) e

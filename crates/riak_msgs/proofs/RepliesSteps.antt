@@ -1,97 +1,22 @@
--- A walk over a reply's fields.
-use Rattle.std.proofs.Common.{◌≡◌, ℕ, Bool, true, false, ◌||◌, List, [], ◌∷◌, ◌++◌, map, Option, Some, None, Result, Ok, Err, refl, ap, sym, subst, ◌∙◌, arith}
+-- The contents of a reply.
+use Rattle.std.proofs.Common.{◌≡◌, ℕ, Bool, true, false, ◌||◌, List, [], ◌∷◌, ◌++◌, map, Option, Some, None, refl, ap, sym, subst, ◌∙◌}
 use Rattle.std.proofs.lemmas.Bool.{false≢true}
-use Rattle.std.specs.Prelude.{is_some, is_none, not, option_map, option_and_then}
+use Rattle.std.specs.Prelude.{is_some, is_none, option_map, option_and_then}
 use Rattle.std.specs.List.{AllZip, cons_option}
 use Rattle.std.proofs.lemmas.List.{map-append}
-use Rattle.pb_fields.specs.declared.field.Field.{Field}
-use Rattle.pb_fields.specs.declared.fault.FieldFault.{FieldFault}
-use Rattle.pb_fields.specs.Faults.{BeginsNoField}
-use Rattle.pb_fields.specs.Next.{Tells}
-use Rattle.pb_fields.specs.Field.{WireField, BeginsWithField, seen}
-use Rattle.pb_fields.specs.Message.{BeginsWithFields, StandsFor}
-use Rattle.pb_fields.proofs.Parts.{field_once, field_some}
-use Rattle.pb_fields.proofs.Lists.{fields_more, fields_once}
+use Rattle.pb_fields.specs.Field.{WireField}
+use Rattle.pb_fields.proofs.Lists.{fields_once}
 use Rattle.riak_msgs.specs.declared.content.Content.{Content}
 use Rattle.riak_msgs.specs.declared.shown.Shown.{Shown}
 use Rattle.riak_msgs.specs.Picking.{bytes_at, each_bytes, flag_of}
 use Rattle.riak_msgs.specs.Embedded.{ContentFields, StandForContent, all_of, content_of, shown_of}
 use Rattle.riak_msgs.specs.ReadingReplies.{ShownFields, StandsForShown, contents_of}
-use Rattle.riak_msgs.specs.SeenReplies.{ContentsIn, grown, whole_of}
-use Rattle.riak_msgs.proofs.Picking.{each_bytes-append, AllZip-append, AllZip-split}
+use Rattle.riak_msgs.specs.SeenReplies.{ContentsIn, whole_of}
 use Rattle.riak_msgs.proofs.Contents.{content_once, content_of-whole}
 
 -- each of the byte strings stands for a content
 abbrev pub EachContent : List (List ℕ) → List ContentFields → Type 0
 EachContent occurrences contents = AllZip (λ content fields. StandForContent (content ∷ []) fields) occurrences contents
-
--- the bytes begin with fields of a reply, and each content in these stands for its own
-pub record BeginsWithShown (bs : List ℕ) (reply : ShownFields) (rest : List ℕ) : Type 0 where
-  pub own : BeginsWithFields bs reply.own rest
-  pub contents : EachContent (each_bytes 1 reply.own) reply.contents
-
--- a step of a walk: the bytes begin with the field that came
-pub field_told : (before after : List ℕ) (told : Result Field FieldFault) (field : Field) → Tells before (Some told) after → told ≡ Ok field →
-    BeginsWithField before (seen field) after
-field_told before after told field tells e =
-    let P : Result Field FieldFault → Type 0 = λ r. Tells before (Some r) after in
-    subst P e tells
-
--- or they begin with none
-pub fault_told : (before after : List ℕ) (told : Result Field FieldFault) (fault : FieldFault) → Tells before (Some told) after → told ≡ Err fault →
-    BeginsNoField before
-fault_told before after told fault tells e =
-    let P : Result Field FieldFault → Type 0 = λ r. Tells before (Some r) after in
-    let both = subst P e tells in
-    both.0
-
-nothing : (rest : List ℕ) (field : WireField) → BeginsWithField [] field rest → ⊥
-nothing rest field begins = let some = field_some [] rest field begins in omega arith
-
--- bytes that begin with some fields and stand for a list stand for these and more
-StandsFor-split : (bs rest : List ℕ) (fs gs : List WireField) → BeginsWithFields bs fs rest → StandsFor bs gs →
-    (more : List WireField) × (gs ≡ fs ++ more)
-StandsFor-split bs rest [] gs a b = (gs, refl)
-StandsFor-split bs rest (f ∷ fs) [] (x, begins, a) b =
-    let P : List ℕ → Type 0 = λ cs. BeginsWithField cs f x in absurd (nothing x f (subst P b begins))
-StandsFor-split bs rest (f ∷ fs) (g ∷ gs) (x, begins_f, a) (y, begins_g, b) =
-    let one = field_once bs x y f g begins_f begins_g in
-    let P : List ℕ → Type 0 = λ cs. StandsFor cs gs in
-    let more = StandsFor-split x rest fs gs a (subst P (sym one.1) b) in
-    (more.0, ap (λ h. h ∷ gs) (sym one.0) ∙ ap (λ ts. f ∷ ts) more.1)
-
--- the contents of one more field
-pub BeginsWithShown-more : (body before after : List ℕ) (reply : ShownFields) (field : WireField) (contents : List ContentFields) →
-    BeginsWithShown body reply before → BeginsWithField before field after → ContentsIn field contents →
-    BeginsWithShown body (grown reply field contents) after
-BeginsWithShown-more body before after reply field contents read begins more = record {
-  own = fields_more body after before reply.own field read.own begins;
-  contents =
-      let P : List (List ℕ) → Type 0 = λ occurrences. EachContent occurrences (reply.contents ++ contents) in
-      subst P (sym (each_bytes-append 1 reply.own (field ∷ [])))
-      (AllZip-append (λ content fields. StandForContent (content ∷ []) fields) (each_bytes 1 reply.own) (each_bytes 1 (field ∷ [])) reply.contents contents read.contents more);
-}
-
--- all of the fields were read
-pub BeginsWithShown-all : (body rest : List ℕ) (reply : ShownFields) → BeginsWithShown body reply rest → rest ≡ [] → StandsForShown body reply
-BeginsWithShown-all body rest reply read e =
-    let P : List ℕ → Type 0 = λ cs. BeginsWithFields body reply.own cs in
-    record { own = subst P e read.own; contents = read.contents }
-
--- where the bytes begin with a field whose content stands for none, they stand for no reply
-pub StandsForShown-not : (body before after : List ℕ) (fields : List WireField) (field : WireField) (reply : ShownFields) →
-    BeginsWithFields body fields before → BeginsWithField before field after →
-    ((contents : List ContentFields) → ContentsIn field contents → ⊥) → StandsForShown body reply → ⊥
-StandsForShown-not body before after fields field reply read begins none stands =
-    let R = λ (content : List ℕ) (c : ContentFields). StandForContent (content ∷ []) c in
-    let split = StandsFor-split body after (fields ++ field ∷ []) reply.own (fields_more body after before fields field read begins) stands.own in
-    let P : List (List ℕ) → Type 0 = λ occurrences. AllZip R occurrences reply.contents in
-    let first = AllZip-split R (each_bytes 1 (fields ++ field ∷ [])) (each_bytes 1 split.0) reply.contents
-    (subst P (ap (each_bytes 1) split.1 ∙ each_bytes-append 1 (fields ++ field ∷ []) split.0) stands.contents) in
-    let Q : List (List ℕ) → Type 0 = λ occurrences. AllZip R occurrences first.0 in
-    let one = AllZip-split R (each_bytes 1 fields) (each_bytes 1 (field ∷ [])) first.0
-    (subst Q (each_bytes-append 1 fields (field ∷ [])) first.3) in
-    none one.1 one.4
 
 -- the contents of a field that is a content
 pub ContentsIn-one : (field : WireField) (bytes : List ℕ) (content : ContentFields) → Some bytes ≡ bytes_at 1 field →
@@ -141,16 +66,16 @@ is_none-all_of-append (Some x ∷ xs) ys = none_map (λ rest. x ∷ rest) (all_o
     none_map f (Some a) = refl
 
 -- a reply of more contents
-pub is_none-contents_of : (reply : ShownFields) (field : WireField) (contents : List ContentFields) →
-    is_none (contents_of (grown reply field contents)) ≡ is_none (contents_of reply) || is_none (all_of (map shown_of contents))
-is_none-contents_of reply field contents =
-    ap (λ xs. is_none (all_of xs)) (map-append shown_of reply.contents contents) ∙ is_none-all_of-append (map shown_of reply.contents) (map shown_of contents)
+pub is_none-contents_of : (xs ys : List ContentFields) →
+    is_none (all_of (map shown_of (xs ++ ys))) ≡ is_none (all_of (map shown_of xs)) || is_none (all_of (map shown_of ys))
+is_none-contents_of xs ys =
+    ap (λ zs. is_none (all_of zs)) (map-append shown_of xs ys) ∙ is_none-all_of-append (map shown_of xs) (map shown_of ys)
 
 -- one content
-pub is_none-all_of-one : (c : ContentFields) → is_none (all_of (map shown_of (c ∷ []))) ≡ not (is_some (content_of c))
+pub is_none-all_of-one : (c : ContentFields) → is_none (all_of (map shown_of (c ∷ []))) ≡ is_none (content_of c)
 is_none-all_of-one c = cases (content_of c)
   where
-    cases : (o : Option Content) → is_none (all_of {A = Shown} (option_map (λ content. record { content = content; deleted = flag_of 11 c.own }) o ∷ [])) ≡ not (is_some o)
+    cases : (o : Option Content) → is_none (all_of {A = Shown} (option_map (λ content. record { content = content; deleted = flag_of 11 c.own }) o ∷ [])) ≡ is_none o
     cases None = refl
     cases (Some content) = refl
 
@@ -185,3 +110,25 @@ all_of-whole (c ∷ contents) whole =
 -- where all contents are whole, those of the reply are the copied ones
 pub contents_of-whole : (reply : ShownFields) → is_none (contents_of reply) ≡ false → contents_of reply ≡ Some (map whole_of reply.contents)
 contents_of-whole reply whole = all_of-whole reply.contents whole
+
+-- a content without what is required is none, and one with it is one
+pub is_none-missing : {A : Type 0} (b : Bool) (o : Option A) → b ≡ is_some o → b ≡ false → is_none o ≡ true
+is_none-missing b None e f = refl
+is_none-missing b (Some a) e f = absurd (false≢true (sym f ∙ e))
+
+pub is_none-whole : {A : Type 0} (b : Bool) (o : Option A) → b ≡ is_some o → b ≡ true → is_none o ≡ false
+is_none-whole b None e f = absurd (false≢true (sym e ∙ f))
+is_none-whole b (Some a) e f = refl
+
+-- where one of two holds not
+pub or_left : (a b : Bool) → a || b ≡ false → a ≡ false
+or_left true b e = absurd (false≢true (sym e))
+or_left false b e = refl
+
+pub or_none : (a b : Bool) → b ≡ false → a ≡ a || b
+or_none true b e = refl
+or_none false b e = sym e
+
+pub or_one : (a b : Bool) → b ≡ true → true ≡ a || b
+or_one true b e = refl
+or_one false b e = sym e

@@ -1,14 +1,9 @@
 -- What a walk over a request's fields sees.
-use Rattle.std.proofs.Common.{◌≡◌, ℕ, List, [], ◌∷◌, ◌++◌, length, Option, Some, None, Result, Ok, Err, IfErr, IsErrAnd, Bor, option_copied, unwrap_or, refl, ap, sym, subst, arith, ◌∙◌, inl, inr}
+use Rattle.std.proofs.Common.{◌≡◌, ℕ, List, [], ◌∷◌, ◌++◌, Option, Some, None, Result, Ok, Err, IfErr, IsErrAnd, Bor, option_copied, unwrap_or, refl, ap, sym, subst, ◌∙◌, inl, inr}
 use Rattle.std.specs.List.{last_or, cons_option}
 use Rattle.std.proofs.lemmas.List.{append-nil}
-use Rattle.pb_fields.specs.declared.field.Field.{Field}
-use Rattle.pb_fields.specs.declared.fault.FieldFault.{FieldFault}
-use Rattle.pb_fields.specs.Field.{WireField, BeginsWithField, seen}
-use Rattle.pb_fields.specs.Next.{Tells}
-use Rattle.pb_fields.specs.Faults.{BeginsNoField}
-use Rattle.pb_fields.specs.Message.{BeginsWithFields, StandsFor}
-use Rattle.pb_fields.proofs.Parts.{field_once, field_some}
+use Rattle.pb_fields.specs.Field.{WireField}
+use Rattle.pb_fields.specs.Message.{StandsFor}
 use Rattle.riak_msgs.specs.declared.request.Request.{Request}
 use Rattle.riak_msgs.specs.declared.request.Request.TheVariants.{Get, Put}
 use Rattle.riak_msgs.specs.declared.fault.MsgFault.{MsgFault}
@@ -17,9 +12,8 @@ use Rattle.riak_msgs.specs.Picking.{bytes_at, each_bytes, last_bytes}
 use Rattle.riak_msgs.specs.Embedded.{ContentFields, StandForContent}
 use Rattle.riak_msgs.specs.Reading.{PutFields, StandsForPut, Says, Reads, said_by, get_fault, get_of, put_fault, put_of}
 use Rattle.riak_msgs.specs.Seen.{merged}
-use Rattle.riak_msgs.specs.SeenRequests.{HasBadContent}
 use Rattle.riak_msgs.proofs.Picking.{each_bytes-append, last_bytes-append}
-use Rattle.riak_msgs.proofs.Contents.{StandForContent-more, StandForContent-part}
+use Rattle.riak_msgs.proofs.Contents.{StandForContent-more}
 
 -- a borrowed name, or another in its place
 pub unwrap_or-copied : (name : Option (Bor (List ℕ))) (other : Bor (List ℕ)) → (unwrap_or name other).now ≡ unwrap_or (option_copied name) other.now
@@ -72,52 +66,6 @@ pub content-skip : (fields : List WireField) (field : WireField) (c : ContentFie
 content-skip fields field c is all =
     let P : List (List ℕ) → Type 0 = λ bss. StandForContent bss c in
     subst P (sym (each_bytes-more 4 fields field None is ∙ append-nil (each_bytes 4 fields))) all
-
--- a step of a walk that gave a field
-pub tells_field : (before after : List ℕ) (told : Result Field FieldFault) (field : Field) → Tells before (Some told) after → told ≡ Ok field →
-    BeginsWithField before (seen field) after
-tells_field before after told field tells is = let P : Result Field FieldFault → Type 0 = λ r. Tells before (Some r) after in subst P is tells
-
--- and one that gave a fault
-pub tells_fault : (before after : List ℕ) (told : Result Field FieldFault) (fault : FieldFault) → Tells before (Some told) after →
-    told ≡ Err fault → BeginsNoField before
-tells_fault before after told fault tells is =
-    let P : Result Field FieldFault → Type 0 = λ r. Tells before (Some r) after in (subst P is tells).0
-
--- bytes that begin with a field stand for it and for what the rest stands for
-pub fields_next : (bs after : List ℕ) (field : WireField) (fields : List WireField) → BeginsWithField bs field after → StandsFor bs fields →
-    (rest : List WireField) × (fields ≡ field ∷ rest) × StandsFor after rest
-fields_next bs after field [] begins all =
-    let some = field_some bs after field begins in
-    let none : length bs ≡ 0 = ap length all in
-    absurd (omega (arith, some, none))
-fields_next bs after field (g ∷ gs) begins (behind, others, rest) =
-    let one = field_once bs after behind field g begins others in
-    let P : List ℕ → Type 0 = λ cs. StandsFor cs gs in
-    (gs, ap (λ f. f ∷ gs) (sym one.0), subst P (sym one.1) rest)
-
--- bytes that begin with fields stand for them and for what the rest stands for
-fields_split : (bs rest : List ℕ) (before fields : List WireField) → BeginsWithFields bs before rest → StandsFor bs fields →
-    (behind : List WireField) × (fields ≡ before ++ behind) × StandsFor rest behind
-fields_split bs rest [] fields begins all = let P : List ℕ → Type 0 = λ cs. StandsFor cs fields in (fields, refl, subst P begins all)
-fields_split bs rest (f ∷ fs) fields (x, first, others) all =
-    let next = fields_next bs x f fields first all in
-    let split = fields_split x rest fs next.0 others next.2 in
-    (split.0, next.1 ∙ ap (λ gs. f ∷ gs) split.1, split.2)
-
--- bytes with a bad content in them stand for no put
-pub bad_content : (bs before after : List ℕ) (so_far : List WireField) (field : WireField) (put : PutFields) →
-    BeginsWithFields bs so_far before → BeginsWithField before field after → HasBadContent field → StandsForPut bs put → ⊥
-bad_content bs before after so_far field put begins next bad stands =
-    let split = fields_split bs before so_far put.own begins stands.own in
-    let more = fields_next before after field split.0 next split.2 in
-    let own : put.own ≡ so_far ++ field ∷ more.0 = split.1 ∙ ap (λ gs. so_far ++ gs) more.1 in
-    let each : each_bytes 4 put.own ≡ each_bytes 4 so_far ++ bad.bytes ∷ each_bytes 4 more.0 =
-    ap (each_bytes 4) own ∙ each_bytes-append 4 so_far (field ∷ more.0)
-    ∙ ap (λ bss. each_bytes 4 so_far ++ bss) (each_bytes-cons 4 field more.0 (Some bad.bytes) bad.is) in
-    let P : List (List ℕ) → Type 0 = λ bss. StandForContent bss put.content in
-    let part = StandForContent-part (each_bytes 4 so_far) bad.bytes (each_bytes 4 more.0) put.content (subst P each stands.content) in
-    bad.none part.0 part.1
 
 -- what was refused for want of memory would have been this request
 pub reads_no_memory : (code : ℕ) (body : List ℕ) (request : Request) (r : Result Request MsgFault) → IsErrAnd r (λ fault. fault ≡ NoMemory) →

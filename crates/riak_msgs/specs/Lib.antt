@@ -1,7 +1,8 @@
+pub mod BucketTypes
 pub mod KeyOrder
 pub mod Contents
 pub mod Text
-pub mod Spelling
+pub mod Encoding
 pub mod Replies
 pub mod Requests
 pub mod Picking

@@ -11,7 +11,8 @@ use Rattle.riak_msgs.specs.declared.request.Request.TheVariants as requests
 use Rattle.riak_msgs.specs.declared.fault.MsgFault.{MsgFault}
 use Rattle.riak_msgs.specs.declared.fault.MsgFault.TheVariants as faults
 use Rattle.riak_msgs.specs.Contents.{no_content}
-use Rattle.riak_msgs.specs.Requests.{default_type, unconditional_get, unconditional_put}
+use Rattle.riak_msgs.specs.BucketTypes.{default_type}
+use Rattle.riak_msgs.specs.Requests.{unconditional_get, unconditional_put}
 use Rattle.riak_msgs.specs.Picking.{each_bytes, last_bytes}
 use Rattle.riak_msgs.specs.Embedded.{ContentFields, StandForContent, content_of}
 

@@ -6,7 +6,8 @@ use Rattle.riak_msgs.specs.declared.put.PutReply.{PutReply}
 use Rattle.riak_msgs.specs.declared.reply.Reply.{Reply}
 use Rattle.riak_msgs.specs.declared.reply.Reply.TheVariants as replies
 use Rattle.riak_msgs.specs.Text.{text_bytes}
-use Rattle.riak_msgs.specs.Spelling.{bytes_field, varint_field, context_field, flag_field, repeated_field, shown_message}
+use Rattle.pb_fields.specs.Encoding.{bytes_field, varint_field, bool_field, repeated_field}
+use Rattle.riak_msgs.specs.Encoding.{context_field, shown_message}
 
 -- RpbErrorResp: the text, and the one number that errors have here
 abbrev pub error_body : Text → List ℕ
@@ -15,7 +16,7 @@ error_body text = bytes_field 1 (text_bytes text) ++ varint_field 2 1
 -- RpbGetResp
 abbrev pub get_reply_body : GetReply → List ℕ
 get_reply_body r =
-    repeated_field shown_message 1 r.contents ++ context_field 2 r.context ++ flag_field 3 r.unchanged
+    repeated_field shown_message 1 r.contents ++ context_field 2 r.context ++ bool_field 3 r.unchanged
 
 -- RpbPutResp
 abbrev pub put_reply_body : PutReply → List ℕ

@@ -1,5 +1,5 @@
 -- The one spelling of a request.
-use Rattle.std.specs.Prelude.{◌≡◌, ◌≢◌, ℕ, false, List, [], ◌++◌, codes, if◌then◌else◌}
+use Rattle.std.specs.Prelude.{◌≡◌, ◌≢◌, ℕ, false, List, [], ◌++◌, if◌then◌else◌}
 use Rattle.std.specs.Str.{bytes_eq}
 use Rattle.riak_msgs.specs.declared.key.Key.{Key}
 use Rattle.riak_msgs.specs.declared.content.Content.{Content}
@@ -8,12 +8,10 @@ use Rattle.riak_msgs.specs.declared.put.PutAsk.{PutAsk}
 use Rattle.riak_msgs.specs.declared.del.DelAsk.{DelAsk}
 use Rattle.riak_msgs.specs.declared.request.Request.{Request}
 use Rattle.riak_msgs.specs.declared.request.Request.TheVariants as requests
+use Rattle.riak_msgs.specs.BucketTypes.{default_type}
 use Rattle.riak_msgs.specs.Contents.{no_content}
-use Rattle.riak_msgs.specs.Spelling.{bytes_field, context_field, flag_field, content_message}
-
--- the bucket type of a key for which none is given
-abbrev pub default_type : List ℕ
-default_type = codes "default"
+use Rattle.pb_fields.specs.Encoding.{bytes_field, bool_field}
+use Rattle.riak_msgs.specs.Encoding.{context_field, content_message}
 
 -- a bucket type, where it isn't the default
 abbrev pub type_field : ℕ → List ℕ → List ℕ
@@ -25,8 +23,8 @@ get_body g =
     bytes_field 1 g.key.bucket
     ++ bytes_field 2 g.key.key
     ++ context_field 7 g.if_modified
-    ++ flag_field 8 g.head
-    ++ flag_field 9 g.deletedvclock
+    ++ bool_field 8 g.head
+    ++ bool_field 9 g.deletedvclock
     ++ type_field 13 g.key.bucket_type
 
 -- RpbPutReq
@@ -36,10 +34,10 @@ put_body p =
     ++ bytes_field 2 p.key.key
     ++ context_field 3 p.context
     ++ bytes_field 4 (content_message p.content)
-    ++ flag_field 7 p.return_body
-    ++ flag_field 9 p.if_not_modified
-    ++ flag_field 10 p.if_none_match
-    ++ flag_field 11 p.return_head
+    ++ bool_field 7 p.return_body
+    ++ bool_field 9 p.if_not_modified
+    ++ bool_field 10 p.if_none_match
+    ++ bool_field 11 p.return_head
     ++ type_field 16 p.key.bucket_type
 
 -- RpbDelReq

@@ -1,32 +1,39 @@
 -- What a walk over fields has seen, as it lies in the input.
-use Rattle.std.specs.Prelude.{◌≡◌, ◌||◌, ◌++◌, List, [], ◌∷◌, map, filter_map, Bool, option_copied, is_none, unwrap_or}
+use Rattle.std.specs.Prelude.{◌≡◌, ◌||◌, ◌++◌, List, [], ◌∷◌, map, filter_map, Bool, false, option_copied, is_none, unwrap_or}
 use Rattle.std.specs.List.{AllZip, list_any}
 use Rattle.pb_fields.specs.Field.{WireField}
 use Rattle.pb_fields.specs.Message.{StandsFor}
 use Rattle.riak_msgs.specs.declared.content.Content.{Content}
-use Rattle.riak_msgs.specs.declared.parts.SeenPart.{SeenPart}
-use Rattle.riak_msgs.specs.declared.seen.SeenContent.{SeenContent}
+use Rattle.riak_msgs.specs.declared.fault.MsgFault.{MsgFault}
+use Rattle.riak_msgs.specs.declared.fault.MsgFault.TheVariants.{NoMemory}
+use Rattle.riak_msgs.specs.declared.pairs_and_links.PairView.{PairView}
+use Rattle.riak_msgs.specs.declared.content_view.ContentView.{ContentView}
 use Rattle.riak_msgs.specs.Picking.{each_bytes, last_bytes, flag_of}
 use Rattle.riak_msgs.specs.Embedded.{ContentFields, link_of, pair_of}
 
 -- the last of the byte strings of the numbers 1, 2 and 3 was seen
-pub record IsPartOf (seen : SeenPart) (fields : List WireField) : Type 0 where
+pub record IsPartOf (seen : PairView) (fields : List WireField) : Type 0 where
   pub first : option_copied seen.first ≡ last_bytes 1 fields
   pub second : option_copied seen.second ≡ last_bytes 2 fields
   pub third : option_copied seen.third ≡ last_bytes 3 fields
 
 -- some pair lacks its key
-abbrev pub lacks_key : List (List WireField) → Bool
-lacks_key pairs = list_any (λ pair. is_none (pair_of pair)) pairs
+abbrev pub misses_key : List (List WireField) → Bool
+misses_key pairs = list_any (λ pair. is_none (pair_of pair)) pairs
 
--- the last of each scalar was seen, and whether some pair lacks its key
-pub record IsSeenOf (seen : SeenContent) (c : ContentFields) : Type 0 where
+-- a content without links and pairs
+abbrev pub HasNoParts : ContentFields → Type 0
+HasNoParts c = (c.links ≡ []) × (c.usermeta ≡ []) × (c.indexes ≡ [])
+
+-- the last of each scalar was seen, whether some pair lacks its key, and whether there are links or pairs
+pub record IsSeenOf (seen : ContentView) (c : ContentFields) : Type 0 where
   pub value : option_copied seen.value ≡ last_bytes 1 c.own
   pub content_type : option_copied seen.content_type ≡ last_bytes 2 c.own
   pub charset : option_copied seen.charset ≡ last_bytes 3 c.own
   pub content_encoding : option_copied seen.content_encoding ≡ last_bytes 4 c.own
   pub deleted : seen.deleted ≡ flag_of 11 c.own
-  pub lacks_key : seen.lacks_key ≡ lacks_key c.usermeta || lacks_key c.indexes
+  pub misses_key : seen.misses_key ≡ misses_key c.usermeta || misses_key c.indexes
+  pub no_parts : seen.has_parts ≡ false → HasNoParts c
 
 -- the content's fields are these, and each message in them stands for its fields
 pub record HoldContent (fields : List WireField) (c : ContentFields) : Type 0 where
@@ -69,7 +76,7 @@ with_parts content part = record content {
 }
 
 -- one more field was seen: the messages in it stand for fields, and what was seen of a content is so with them
-abbrev pub Sees : SeenContent → WireField → SeenContent → Type 0
+abbrev pub Sees : ContentView → WireField → ContentView → Type 0
 Sees before field after =
     (part : ContentFields)
     × HoldContent (field ∷ []) part
@@ -83,3 +90,7 @@ HoldsNone field = (part : ContentFields) → HoldContent (field ∷ []) part →
 abbrev pub Copies : Content → WireField → Content → Type 0
 Copies before field after =
     (part : ContentFields) × HoldContent (field ∷ []) part × (after ≡ with_parts before part)
+
+-- where the messages in the field stand for fields, only memory is refused
+abbrev pub RefusesToCopy : WireField → MsgFault → Type 0
+RefusesToCopy field fault = (part : ContentFields) → HoldContent (field ∷ []) part → fault ≡ NoMemory

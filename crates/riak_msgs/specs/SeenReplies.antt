@@ -1,5 +1,5 @@
 -- What a walk over a reply's fields has seen, and what it says of the reply.
-use Rattle.std.specs.Prelude.{◌≡◌, ◌++◌, List, [], ◌∷◌, ℕ, Result, Ok, Err, option_copied, is_none, is_some, unwrap_or}
+use Rattle.std.specs.Prelude.{◌≡◌, ◌||◌, ◌++◌, false, List, [], ◌∷◌, ℕ, Result, Ok, Err, map, option_copied, is_none, is_some, unwrap_or}
 use Rattle.std.specs.List.{AllZip}
 use Rattle.pb_fields.specs.Field.{WireField}
 use Rattle.pb_fields.specs.Message.{StandsFor}
@@ -10,40 +10,56 @@ use Rattle.riak_msgs.specs.declared.shown.Shown.{Shown}
 use Rattle.riak_msgs.specs.declared.text.Text.TheVariants.{BadMessage}
 use Rattle.riak_msgs.specs.declared.fault.MsgFault.{MsgFault}
 use Rattle.riak_msgs.specs.declared.fault.MsgFault.TheVariants as faults
-use Rattle.riak_msgs.specs.declared.reading_reply.SeenError.{SeenError}
-use Rattle.riak_msgs.specs.declared.reading_reply.SeenReply.{SeenReply}
+use Rattle.riak_msgs.specs.declared.reply_view.ErrorView.{ErrorView}
+use Rattle.riak_msgs.specs.declared.reply_view.ReplyView.{ReplyView}
 use Rattle.riak_msgs.specs.Picking.{each_bytes, last_bytes, last_varint, flag_of}
-use Rattle.riak_msgs.specs.Embedded.{ContentFields, StandForContent}
+use Rattle.riak_msgs.specs.Embedded.{ContentFields, StandForContent, content_of}
 use Rattle.riak_msgs.specs.Seen.{scalars_of, with_parts}
 use Rattle.riak_msgs.specs.Reading.{SaysBy, said_by}
 use Rattle.riak_msgs.specs.ReadingReplies.{ShownFields, StandsForShown, contents_of, shown_fault, get_reply_of, error_fault, text_in}
 
 -- the last text was seen, and whether a number is there
-pub record IsSeenError (seen : SeenError) (fields : List WireField) : Type 0 where
+pub record IsSeenError (seen : ErrorView) (fields : List WireField) : Type 0 where
   pub text : option_copied seen.text ≡ last_bytes 1 fields
   pub has_number : seen.has_number ≡ is_some (last_varint 2 fields)
 
--- the last context and flag were seen, and whether some content isn't whole
-pub record IsSeenReply (seen : SeenReply) (reply : ShownFields) : Type 0 where
+-- the content of these fields where it is whole
+abbrev pub whole_of : ContentFields → Shown
+whole_of c = record { content = with_parts (scalars_of c) c; deleted = flag_of 11 c.own }
+
+-- the last context and flag were seen, whether some content isn't whole, and each content was copied where memory was there
+pub record IsSeenReply (seen : ReplyView) (reply : ShownFields) : Type 0 where
   pub context : option_copied seen.context ≡ last_bytes 2 reply.own
   pub unchanged : seen.unchanged ≡ flag_of 3 reply.own
-  pub lacks_part : seen.lacks_part ≡ is_none (contents_of reply)
-
--- before any field
-abbrev pub no_reply : ShownFields
-no_reply = record { own = []; contents = [] }
+  pub misses_field : seen.misses_field ≡ is_none (contents_of reply)
+  pub contents : seen.misses_field ≡ false → seen.lacks_memory ≡ false → seen.contents ≡ map whole_of reply.contents
 
 -- these fields are those of the contents that a field of a reply has, of which there is one at most
 abbrev pub ContentsIn : WireField → List ContentFields → Type 0
 ContentsIn field contents = AllZip (λ content fields. StandForContent (content ∷ []) fields) (each_bytes 1 (field ∷ [])) contents
 
--- a reply with one field more, and the contents in it
-abbrev pub grown : ShownFields → WireField → List ContentFields → ShownFields
-grown reply field contents = record { own = reply.own ++ field ∷ []; contents = reply.contents ++ contents }
+-- what was seen of a reply whose fields so far are these
+abbrev pub HasSeenReply : ReplyView → List WireField → Type 0
+HasSeenReply view fields =
+    (reply : ShownFields) × (reply.own ≡ fields)
+    × AllZip (λ content fields. StandForContent (content ∷ []) fields) (each_bytes 1 fields) reply.contents
+    × IsSeenReply view reply
 
--- the content of these fields where it is whole
-abbrev pub whole_of : ContentFields → Shown
-whole_of c = record { content = with_parts (scalars_of c) c; deleted = flag_of 11 c.own }
+-- before any field
+abbrev pub no_reply : ShownFields
+no_reply = record { own = []; contents = [] }
+
+-- a content was seen, and copied where memory was there
+pub record MergesContent (before : ReplyView) (c : ContentFields) (after : ReplyView) : Type 0 where
+  pub context : after.context ≡ before.context
+  pub unchanged : after.unchanged ≡ before.unchanged
+  pub misses_field : after.misses_field ≡ before.misses_field || is_none (content_of c)
+  pub memory : after.misses_field ≡ false → after.lacks_memory ≡ false → before.lacks_memory ≡ false
+  pub contents : after.misses_field ≡ false → after.lacks_memory ≡ false → after.contents ≡ before.contents ++ whole_of c ∷ []
+
+-- the field is a content, and stands for none
+abbrev pub RefusesContent : WireField → Type 0
+RefusesContent field = (contents : List ContentFields) → ContentsIn field contents → ⊥
 
 -- what the body of an error says
 abbrev pub SaysError : List ℕ → Result Reply MsgFault → Type 0

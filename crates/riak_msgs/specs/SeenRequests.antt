@@ -1,21 +1,24 @@
 -- What a walk over a request's fields has seen, as it lies in the input.
 use Rattle.std.specs.Prelude.{◌≡◌, ℕ, List, [], ◌∷◌, Some, option_copied}
 use Rattle.pb_fields.specs.Field.{WireField}
-use Rattle.riak_msgs.specs.declared.names.Names.{Names}
-use Rattle.riak_msgs.specs.declared.read_put.SeenPut.{SeenPut}
-use Rattle.riak_msgs.specs.Picking.{bytes_at, last_bytes}
+use Rattle.riak_msgs.specs.declared.key_view.KeyView.{KeyView}
+use Rattle.riak_msgs.specs.declared.read_put.PutView.{PutView}
+use Rattle.riak_msgs.specs.declared.content.Content.{Content}
+use Rattle.riak_msgs.specs.declared.fault.MsgFault.{MsgFault}
+use Rattle.riak_msgs.specs.declared.fault.MsgFault.TheVariants.{NoMemory}
+use Rattle.riak_msgs.specs.Picking.{bytes_at, each_bytes, last_bytes}
 use Rattle.riak_msgs.specs.Embedded.{ContentFields, StandForContent}
-use Rattle.riak_msgs.specs.Seen.{IsSeenOf, no_fields}
+use Rattle.riak_msgs.specs.Seen.{IsSeenOf, no_fields, with_parts}
 use Rattle.riak_msgs.specs.Reading.{PutFields}
 
 -- the last of each name was seen; a type has this field number
-pub record AreNamesOf (type_number : ℕ) (names : Names) (fields : List WireField) : Type 0 where
+pub record AreNamesOf (type_number : ℕ) (names : KeyView) (fields : List WireField) : Type 0 where
   pub bucket : option_copied names.bucket ≡ last_bytes 1 fields
   pub key : option_copied names.key ≡ last_bytes 2 fields
   pub bucket_type : option_copied names.bucket_type ≡ last_bytes type_number fields
 
 -- the names, the last context and the content of a put were seen
-pub record IsSeenPutOf (seen : SeenPut) (put : PutFields) : Type 0 where
+pub record IsSeenPutOf (seen : PutView) (put : PutFields) : Type 0 where
   pub names : AreNamesOf 16 seen.names put.own
   pub context : option_copied seen.context ≡ last_bytes 3 put.own
   pub content : IsSeenOf seen.content put.content
@@ -25,6 +28,20 @@ pub record HasBadContent (field : WireField) : Type 0 where
   pub bytes : List ℕ
   pub is : bytes_at 4 field ≡ Some bytes
   pub none : (part : ContentFields) → StandForContent (bytes ∷ []) part → ⊥
+
+-- what was seen of a put whose fields so far are these
+abbrev pub HasSeenPut : PutView → List WireField → Type 0
+HasSeenPut view fields =
+    (put : PutFields) × (put.own ≡ fields) × StandForContent (each_bytes 4 fields) put.content × IsSeenPutOf view put
+
+-- the links and pairs of the content's occurrence that a field is, if it is one, were put behind the content's
+abbrev pub CopiesOccurrence : Content → WireField → Content → Type 0
+CopiesOccurrence before field after =
+    (part : ContentFields) × StandForContent (each_bytes 4 (field ∷ [])) part × (after ≡ with_parts before part)
+
+-- where it stands for a content, only memory is refused
+abbrev pub RefusesOccurrence : WireField → MsgFault → Type 0
+RefusesOccurrence field fault = (part : ContentFields) → StandForContent (each_bytes 4 (field ∷ [])) part → fault ≡ NoMemory
 
 -- before any field
 abbrev pub no_put : PutFields

@@ -1,3 +1,5 @@
+//! Byte strings.
+
 ghost use Rattle.std.specs.Prelude.{◌≡◌, ◌==◌, List, ℕ, [], length, IfOk};
 ghost use Rattle.std.proofs.Common.{rules};
 ghost use Rattle.std.specs.Cmp.{partial_order_from_own_ties};

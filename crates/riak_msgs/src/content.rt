@@ -1,15 +1,16 @@
-ghost use Rattle.riak_msgs.specs.Spelling.{content_message};
+//! What is stored under a key.
+
+ghost use Rattle.riak_msgs.specs.Encoding.{content_message};
 ghost use Rattle.std.specs.Prelude.{◌≡◌, IfOk};
 ghost use Rattle.riak_msgs.specs.Contents.{bare, no_content};
 
 use crate::bytes::Bytes;
-use crate::copying::copied_option;
-use crate::fault::MsgFault;
+use crate::encode::encode_optional;
 use crate::link::Link;
-use crate::message::{Message, put_bytes, put_each, put_optional};
 use crate::pair::Pair;
 use crate::sequence::Sequence;
-use crate::sink::Sink;
+use crate::try_clone::try_clone_option;
+use pb_fields::{Message, Output, encode_repeated};
 use std::alloc::{AllocError, Global};
 
 /// What a client stores under a key: a value, and what it says of it. All is kept as it came.
@@ -72,9 +73,9 @@ impl Content {
     {
         // (what may be refused comes first: each value that is held at a `?` costs the prover time)
         Ok(Content {
-            content_type: copied_option(&self.content_type, alloc)?,
-            charset: copied_option(&self.charset, alloc)?,
-            content_encoding: copied_option(&self.content_encoding, alloc)?,
+            content_type: try_clone_option(&self.content_type, alloc)?,
+            charset: try_clone_option(&self.charset, alloc)?,
+            content_encoding: try_clone_option(&self.content_encoding, alloc)?,
             links: self.links.clone(alloc)?,
             usermeta: self.usermeta.clone(alloc)?,
             indexes: self.indexes.clone(alloc)?,
@@ -84,15 +85,15 @@ impl Content {
 }
 
 impl Message for Content {
-    ghost spelled = { content_message };
+    ghost encoding = { content_message };
 
-    fn put_into<S: Sink>(&self, out: &mut S) -> Result<(), MsgFault> {
-        put_bytes(out, 1, self.value.as_slice())?;
-        put_optional(out, 2, &self.content_type)?;
-        put_optional(out, 3, &self.charset)?;
-        put_optional(out, 4, &self.content_encoding)?;
-        put_each(out, 6, self.links.as_slice())?;
-        put_each(out, 9, self.usermeta.as_slice())?;
-        put_each(out, 10, self.indexes.as_slice())
+    fn encode<O: Output>(&self, out: &mut O) -> Result<(), AllocError> {
+        out.encode_bytes(1, self.value.as_slice())?;
+        encode_optional(out, 2, &self.content_type)?;
+        encode_optional(out, 3, &self.charset)?;
+        encode_optional(out, 4, &self.content_encoding)?;
+        encode_repeated(out, 6, self.links.as_slice())?;
+        encode_repeated(out, 9, self.usermeta.as_slice())?;
+        encode_repeated(out, 10, self.indexes.as_slice())
     }
 }

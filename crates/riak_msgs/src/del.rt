@@ -1,12 +1,13 @@
+//! The request of a delete.
+
 ghost use Rattle.std.specs.Prelude.{◌≡◌};
 ghost use Rattle.riak_msgs.specs.Requests.{del_body};
 
 use crate::bytes::Bytes;
-use crate::fault::MsgFault;
+use crate::encode::{encode_context, encode_type};
 use crate::key::Key;
-use crate::message::{Message, put_bytes, put_context};
-use crate::request_out::put_type;
-use crate::sink::Sink;
+use pb_fields::{Message, Output};
+use std::alloc::AllocError;
 
 /// Asks to write a tombstone under a key.
 ///
@@ -19,12 +20,12 @@ pub struct DelAsk {
 }
 
 impl Message for DelAsk {
-    ghost spelled = { del_body };
+    ghost encoding = { del_body };
 
-    fn put_into<S: Sink>(&self, out: &mut S) -> Result<(), MsgFault> {
-        put_bytes(out, 1, self.key.bucket.as_slice())?;
-        put_bytes(out, 2, self.key.key.as_slice())?;
-        put_context(out, 4, &self.context)?;
-        put_type(out, 13, &self.key.bucket_type)
+    fn encode<O: Output>(&self, out: &mut O) -> Result<(), AllocError> {
+        out.encode_bytes(1, self.key.bucket.as_slice())?;
+        out.encode_bytes(2, self.key.key.as_slice())?;
+        encode_context(out, 4, &self.context)?;
+        encode_type(out, 13, &self.key.bucket_type)
     }
 }

@@ -1,6 +1,9 @@
-ghost use Rattle.riak_msgs.specs.declared.fault.MsgFault.TheVariants.{NoMemory};
+//! Why a message is refused.
+
+ghost use Rattle.riak_msgs.specs.declared.fault.MsgFault.TheVariants.{BadMessage, NoMemory};
 ghost use Rattle.std.specs.Prelude.{◌≡◌};
 
+use pb_fields::FieldFault;
 use std::alloc::AllocError;
 use thiserror::Error;
 
@@ -32,5 +35,13 @@ impl From<AllocError> for MsgFault {
 
     fn from(_error: AllocError) -> MsgFault {
         MsgFault::NoMemory
+    }
+}
+
+impl From<FieldFault> for MsgFault {
+    ghost from_gives = { λ _ e. e ≡ BadMessage };
+
+    fn from(_fault: FieldFault) -> MsgFault {
+        MsgFault::BadMessage
     }
 }

@@ -1,15 +1,15 @@
+//! The request of a get, and its reply.
+
 ghost use Rattle.std.specs.Prelude.{◌≡◌, IfOk};
 ghost use Rattle.riak_msgs.specs.Replies.{get_reply_body};
 ghost use Rattle.riak_msgs.specs.Requests.{get_body, plain_get};
 
 use crate::bytes::Bytes;
-use crate::fault::MsgFault;
+use crate::encode::{encode_context, encode_type};
 use crate::key::Key;
-use crate::message::{Message, put_bytes, put_context, put_each, put_flag};
-use crate::request_out::put_type;
 use crate::sequence::Sequence;
 use crate::shown::Shown;
-use crate::sink::Sink;
+use pb_fields::{Message, Output, encode_repeated};
 use std::alloc::{AllocError, Global};
 
 /// Asks for the siblings of a key.
@@ -41,15 +41,15 @@ impl GetAsk {
 }
 
 impl Message for GetAsk {
-    ghost spelled = { get_body };
+    ghost encoding = { get_body };
 
-    fn put_into<S: Sink>(&self, out: &mut S) -> Result<(), MsgFault> {
-        put_bytes(out, 1, self.key.bucket.as_slice())?;
-        put_bytes(out, 2, self.key.key.as_slice())?;
-        put_context(out, 7, &self.if_modified)?;
-        put_flag(out, 8, self.head)?;
-        put_flag(out, 9, self.deletedvclock)?;
-        put_type(out, 13, &self.key.bucket_type)
+    fn encode<O: Output>(&self, out: &mut O) -> Result<(), AllocError> {
+        out.encode_bytes(1, self.key.bucket.as_slice())?;
+        out.encode_bytes(2, self.key.key.as_slice())?;
+        encode_context(out, 7, &self.if_modified)?;
+        out.encode_bool(8, self.head)?;
+        out.encode_bool(9, self.deletedvclock)?;
+        encode_type(out, 13, &self.key.bucket_type)
     }
 }
 
@@ -65,11 +65,11 @@ pub struct GetReply {
 }
 
 impl Message for GetReply {
-    ghost spelled = { get_reply_body };
+    ghost encoding = { get_reply_body };
 
-    fn put_into<S: Sink>(&self, out: &mut S) -> Result<(), MsgFault> {
-        put_each(out, 1, self.contents.as_slice())?;
-        put_context(out, 2, &self.context)?;
-        put_flag(out, 3, self.unchanged)
+    fn encode<O: Output>(&self, out: &mut O) -> Result<(), AllocError> {
+        encode_repeated(out, 1, self.contents.as_slice())?;
+        encode_context(out, 2, &self.context)?;
+        out.encode_bool(3, self.unchanged)
     }
 }

@@ -1,17 +1,17 @@
+//! What names a value in the store.
+
 ghost use Rattle.std.specs.Prelude.{◌≡◌, ◌↔◌, IsTrue, IfOk};
 ghost use Rattle.riak_msgs.specs.KeyOrder.{key_eq};
 ghost use Rattle.riak_msgs.specs.Requests.{default_key};
 
+use crate::bucket_type::BucketType;
 use crate::bytes::Bytes;
 use std::alloc::{AllocError, Global};
-
-/// The bucket type of a key for which no type is given.
-pub const DEFAULT_TYPE: &[u8] = b"default";
 
 /// What names a value in the store, ordered by bucket type, then bucket, then key, each by its bytes.
 #[derive(Debug, Drop, PartialEq, Eq, PartialOrd, Ord)]
 pub struct Key {
-    pub bucket_type: Bytes,
+    pub bucket_type: BucketType,
     pub bucket: Bytes,
     pub key: Bytes,
 }
@@ -22,7 +22,7 @@ impl Key {
         ensures { IfOk result (λ named. named ≡ default_key bucket.now key.now) }
     {
         Ok(Key {
-            bucket_type: Bytes::from_slice(alloc, DEFAULT_TYPE)?,
+            bucket_type: BucketType::default_type(),
             bucket: Bytes::from_slice(alloc, bucket)?,
             key: Bytes::from_slice(alloc, key)?,
         })

@@ -6,66 +6,69 @@
 //! [`replies_say_one`]), which [`read_request`] and [`read_reply`] give. So far pings, and gets and puts without options,
 //! are read as requests (`IsServed`).
 //!
-//! Each reply, and each request of a client, has one spelling (`reply_body`, `request_body`): fields by rising number,
+//! Each reply, and each request of a client, has one encoding (`reply_body`, `request_body`): fields by rising number,
 //! every varint in its shortest form, a true as 1, and nothing for what is absent or false. [`write_reply`] and
 //! [`write_request`] give it, and what is written is read again ([`replies_are_read_again`], [`requests_are_read_again`]).
+//! [`Reply::body_len`] and [`Reply::append_body`] give it in parts, for a frame that is made in one buffer.
 //!
-//! Reading decides without memory, in one walk over the fields as they lie, and then copies each kept field once; links and
-//! pairs are looked up in a second walk. Writing counts the bytes first and takes one buffer of that size. Both take time
-//! linear in the bytes.
+//! Reading is one scan over the fields as they lie ([`pb_fields::scan`]), in which each message has its step for one field,
+//! and then a copy of each kept field. A content's links and pairs are scanned once more only where the first scan met
+//! some. Writing counts the bytes first and takes one buffer of that size. Both take time linear in the bytes.
 //!
-//! Contracts see [`Bytes`] and [`Sequence`] as lists, so a request, a reply and all within them are plain data.
-//! A message is written down once, as the pieces that it puts into a `Sink`: a vector, or a count. Keys are ordered
-//! by `key_cmp`. What holds bytes is copied by an inherent `clone`, which takes the allocator and may be refused.
+//! Contracts see [`Bytes`], [`BucketType`] and [`Sequence`] as lists, so a request, a reply and all within them are plain
+//! data. A message is written down once, as the fields that it encodes to a [`pb_fields::Output`]. Keys are ordered by
+//! `key_cmp` ([`keys_are_ordered`]). What holds bytes is copied by an inherent `clone`, which takes the allocator and may
+//! be refused.
 //!
 //! Sources: the documentation of Riak's Protocol Buffers client API, the messages of `riak_kv.proto` and
 //! `riak.proto`, and the Protocol Buffers encoding.
 #![tactic(auto)]
 
+mod bucket_type;
 mod bytes;
 mod content;
-mod copying;
+mod content_view;
 mod del;
+mod encode;
 mod fault;
+mod field_access;
 mod get;
 mod key;
+mod key_view;
 mod laws;
 mod link;
-mod message;
-mod names;
 mod pair;
-mod parts;
-mod picks;
+mod pairs_and_links;
 mod put;
 mod read_get;
 mod read_put;
-mod reading_reply;
 mod reply;
 mod reply_laws;
+mod reply_view;
 mod request;
-mod request_out;
+mod request_encoding;
 mod round_trips;
-mod seen;
 mod sequence;
 mod shown;
-mod sink;
 mod text;
+mod try_clone;
 
+pub use bucket_type::{BucketType, DEFAULT_TYPE};
 pub use bytes::Bytes;
 pub use content::Content;
 pub use del::DelAsk;
 pub use fault::MsgFault;
 pub use get::{GetAsk, GetReply};
-pub use key::{DEFAULT_TYPE, Key};
-pub use laws::messages_say_one;
+pub use key::Key;
+pub use laws::{keys_are_ordered, messages_say_one};
 pub use link::Link;
 pub use pair::Pair;
 pub use put::{PutAsk, PutReply};
-pub use reading_reply::read_reply;
 pub use reply::{Reply, write_reply};
 pub use reply_laws::replies_say_one;
+pub use reply_view::read_reply;
 pub use request::{Request, read_request};
-pub use request_out::write_request;
+pub use request_encoding::write_request;
 pub use round_trips::{replies_are_read_again, requests_are_read_again};
 pub use sequence::Sequence;
 pub use shown::Shown;

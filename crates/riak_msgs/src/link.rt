@@ -1,11 +1,12 @@
-ghost use Rattle.riak_msgs.specs.Spelling.{link_message};
+//! Links of a content.
+
+ghost use Rattle.riak_msgs.specs.Encoding.{link_message};
 ghost use Rattle.std.specs.Prelude.{◌≡◌, IfOk};
 
 use crate::bytes::Bytes;
-use crate::copying::{Copying, copied_option};
-use crate::fault::MsgFault;
-use crate::message::{Message, put_optional};
-use crate::sink::Sink;
+use crate::encode::encode_optional;
+use crate::try_clone::{TryClone, try_clone_option};
+use pb_fields::{Message, Output};
 use std::alloc::{AllocError, Global};
 
 /// A link from a value to another key. Each part may be absent.
@@ -22,25 +23,25 @@ impl Link {
         ensures { IfOk result (λ copy. copy ≡ self.now) }
     {
         Ok(Link {
-            bucket: copied_option(&self.bucket, alloc)?,
-            key: copied_option(&self.key, alloc)?,
-            tag: copied_option(&self.tag, alloc)?,
+            bucket: try_clone_option(&self.bucket, alloc)?,
+            key: try_clone_option(&self.key, alloc)?,
+            tag: try_clone_option(&self.tag, alloc)?,
         })
     }
 }
 
-impl Copying for Link {
-    fn copied(&self, alloc: Global) -> Result<Link, AllocError> {
+impl TryClone for Link {
+    fn try_clone(&self, alloc: Global) -> Result<Link, AllocError> {
         self.clone(alloc)
     }
 }
 
 impl Message for Link {
-    ghost spelled = { link_message };
+    ghost encoding = { link_message };
 
-    fn put_into<S: Sink>(&self, out: &mut S) -> Result<(), MsgFault> {
-        put_optional(out, 1, &self.bucket)?;
-        put_optional(out, 2, &self.key)?;
-        put_optional(out, 3, &self.tag)
+    fn encode<O: Output>(&self, out: &mut O) -> Result<(), AllocError> {
+        encode_optional(out, 1, &self.bucket)?;
+        encode_optional(out, 2, &self.key)?;
+        encode_optional(out, 3, &self.tag)
     }
 }

@@ -1,11 +1,12 @@
-ghost use Rattle.riak_msgs.specs.Spelling.{pair_message};
+//! Pairs of a content's metadata and indexes.
+
+ghost use Rattle.riak_msgs.specs.Encoding.{pair_message};
 ghost use Rattle.std.specs.Prelude.{◌≡◌, IfOk};
 
 use crate::bytes::Bytes;
-use crate::copying::{Copying, copied_option};
-use crate::fault::MsgFault;
-use crate::message::{Message, put_bytes, put_optional};
-use crate::sink::Sink;
+use crate::encode::encode_optional;
+use crate::try_clone::{TryClone, try_clone_option};
+use pb_fields::{Message, Output};
 use std::alloc::{AllocError, Global};
 
 /// A key of a content's metadata or indexes, with its value where it has one.
@@ -22,22 +23,22 @@ impl Pair {
     {
         Ok(Pair {
             key: self.key.clone(alloc)?,
-            value: copied_option(&self.value, alloc)?,
+            value: try_clone_option(&self.value, alloc)?,
         })
     }
 }
 
-impl Copying for Pair {
-    fn copied(&self, alloc: Global) -> Result<Pair, AllocError> {
+impl TryClone for Pair {
+    fn try_clone(&self, alloc: Global) -> Result<Pair, AllocError> {
         self.clone(alloc)
     }
 }
 
 impl Message for Pair {
-    ghost spelled = { pair_message };
+    ghost encoding = { pair_message };
 
-    fn put_into<S: Sink>(&self, out: &mut S) -> Result<(), MsgFault> {
-        put_bytes(out, 1, self.key.as_slice())?;
-        put_optional(out, 2, &self.value)
+    fn encode<O: Output>(&self, out: &mut O) -> Result<(), AllocError> {
+        out.encode_bytes(1, self.key.as_slice())?;
+        encode_optional(out, 2, &self.value)
     }
 }

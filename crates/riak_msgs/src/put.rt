@@ -1,16 +1,16 @@
+//! The request of a put, and its reply.
+
 ghost use Rattle.std.specs.Prelude.{◌≡◌, IfOk};
 ghost use Rattle.riak_msgs.specs.Replies.{put_reply_body};
 ghost use Rattle.riak_msgs.specs.Requests.{plain_put, put_body};
 
 use crate::bytes::Bytes;
 use crate::content::Content;
-use crate::fault::MsgFault;
+use crate::encode::{encode_context, encode_type};
 use crate::key::Key;
-use crate::message::{Message, put_bytes, put_context, put_each, put_flag, put_message};
-use crate::request_out::put_type;
 use crate::sequence::Sequence;
 use crate::shown::Shown;
-use crate::sink::Sink;
+use pb_fields::{Message, Output, encode_message, encode_repeated};
 use std::alloc::{AllocError, Global};
 
 /// Asks to write a content under a key.
@@ -57,18 +57,18 @@ impl PutAsk {
 }
 
 impl Message for PutAsk {
-    ghost spelled = { put_body };
+    ghost encoding = { put_body };
 
-    fn put_into<S: Sink>(&self, out: &mut S) -> Result<(), MsgFault> {
-        put_bytes(out, 1, self.key.bucket.as_slice())?;
-        put_bytes(out, 2, self.key.key.as_slice())?;
-        put_context(out, 3, &self.context)?;
-        put_message(out, 4, &self.content)?;
-        put_flag(out, 7, self.return_body)?;
-        put_flag(out, 9, self.if_not_modified)?;
-        put_flag(out, 10, self.if_none_match)?;
-        put_flag(out, 11, self.return_head)?;
-        put_type(out, 16, &self.key.bucket_type)
+    fn encode<O: Output>(&self, out: &mut O) -> Result<(), AllocError> {
+        out.encode_bytes(1, self.key.bucket.as_slice())?;
+        out.encode_bytes(2, self.key.key.as_slice())?;
+        encode_context(out, 3, &self.context)?;
+        encode_message(out, 4, &self.content)?;
+        out.encode_bool(7, self.return_body)?;
+        out.encode_bool(9, self.if_not_modified)?;
+        out.encode_bool(10, self.if_none_match)?;
+        out.encode_bool(11, self.return_head)?;
+        encode_type(out, 16, &self.key.bucket_type)
     }
 }
 
@@ -83,10 +83,10 @@ pub struct PutReply {
 }
 
 impl Message for PutReply {
-    ghost spelled = { put_reply_body };
+    ghost encoding = { put_reply_body };
 
-    fn put_into<S: Sink>(&self, out: &mut S) -> Result<(), MsgFault> {
-        put_each(out, 1, self.contents.as_slice())?;
-        put_context(out, 2, &self.context)
+    fn encode<O: Output>(&self, out: &mut O) -> Result<(), AllocError> {
+        encode_repeated(out, 1, self.contents.as_slice())?;
+        encode_context(out, 2, &self.context)
     }
 }

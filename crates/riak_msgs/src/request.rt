@@ -1,3 +1,5 @@
+//! Requests, and reading one.
+
 ghost use Rattle.std.specs.Prelude.{◌≡◌, Ok, IfOk, IfErr};
 ghost use Rattle.riak_msgs.specs.declared.fault.MsgFault.TheVariants.{NoMemory};
 ghost use Rattle.riak_msgs.specs.Requests.{IsServed};

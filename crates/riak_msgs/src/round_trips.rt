@@ -20,5 +20,6 @@ pub fn requests_are_read_again()
 ///
 /// Its body is shorter than 2^64 bytes, so that each length in it has a varint.
 pub fn replies_are_read_again()
-    ensures { (r : Reply) → length (reply_body r) < 2 ^ 64 → SaysReply (reply_code r) (reply_body r) (Ok r) }
+    ensures { (r : Reply) → length (reply_body r) < 2 ^ 64
+        → SaysReply (reply_code r) (reply_body r) (Ok r) }
 {}

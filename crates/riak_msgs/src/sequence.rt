@@ -1,6 +1,8 @@
+//! Values in their order.
+
 ghost use Rattle.std.specs.Prelude.{◌≡◌, ◌==◌, ◌++◌, ◌∷◌, List, [], length, IfOk, OnOk, OnErr};
 
-use crate::copying::Copying;
+use crate::try_clone::TryClone;
 use std::alloc::{AllocError, Global};
 use std::marker::Model;
 
@@ -68,7 +70,7 @@ impl<T> Sequence<T> {
     }
 }
 
-impl<T: Copying + Drop> Sequence<T> {
+impl<T: TryClone + Drop> Sequence<T> {
     /// A copy of each value, in the same order.
     pub fn clone(&self, alloc: Global) -> Result<Sequence<T>, AllocError>
         ensures { IfOk result (λ copy. copy ≡ self.now) }
@@ -76,7 +78,7 @@ impl<T: Copying + Drop> Sequence<T> {
         let items = self.as_slice();
         let mut copy = Sequence::with_capacity(alloc, items.len())?;
         for item in items {
-            copy.push(item.copied(alloc)?)?;
+            copy.push(item.try_clone(alloc)?)?;
         }
         Ok(copy)
     }

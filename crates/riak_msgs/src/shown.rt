@@ -1,12 +1,12 @@
-ghost use Rattle.riak_msgs.specs.Spelling.{shown_message};
+//! A sibling as a reply shows it.
+
+ghost use Rattle.riak_msgs.specs.Encoding.{shown_message};
 ghost use Rattle.std.specs.Prelude.{◌≡◌};
 ghost use Rattle.riak_msgs.specs.Contents.{tombstone};
 
 use crate::content::Content;
-use crate::fault::MsgFault;
-use crate::message::{Message, put_flag};
-use crate::sink::Sink;
-use std::alloc::Global;
+use pb_fields::{Message, Output};
+use std::alloc::{AllocError, Global};
 
 /// A sibling as a reply shows it. Of a tombstone the content is empty and `deleted` true.
 #[derive(Debug, Drop)]
@@ -28,10 +28,10 @@ impl Shown {
 }
 
 impl Message for Shown {
-    ghost spelled = { shown_message };
+    ghost encoding = { shown_message };
 
-    fn put_into<S: Sink>(&self, out: &mut S) -> Result<(), MsgFault> {
-        self.content.put_into(out)?;
-        put_flag(out, 11, self.deleted)
+    fn encode<O: Output>(&self, out: &mut O) -> Result<(), AllocError> {
+        self.content.encode(out)?;
+        out.encode_bool(11, self.deleted)
     }
 }

@@ -1,3 +1,5 @@
+//! The texts of errors.
+
 ghost use Rattle.std.specs.Prelude.{◌≡◌, find};
 ghost use Rattle.std.specs.Str.{bytes_eq};
 ghost use Rattle.riak_msgs.specs.ReadingReplies.{text_named};

@@ -1,3 +1,5 @@
+//! What the register is asked.
+
 use riak_msgs::Key;
 
 /// What the register is asked.

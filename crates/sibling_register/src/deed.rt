@@ -1,3 +1,5 @@
+//! What a kept command did.
+
 ghost use Rattle.std.specs.Prelude.{◌≡◌, option_copied};
 ghost use Rattle.sibling_register.specs.History.{is_update, written};
 ghost use Rattle.sibling_register.specs.Entries.{deed_of};

@@ -1,3 +1,5 @@
+//! Deletes.
+
 ghost use Rattle.std.specs.Prelude.{◌≡◌, IfOk, is_none, ◌&&◌, ◌==◌, length};
 ghost use Rattle.sibling_register.specs.Answers.{AskDel};
 ghost use Rattle.sibling_register.specs.Counting.{context_at};
@@ -5,13 +7,13 @@ ghost use Rattle.sibling_register.specs.Plain.{IsPosition};
 ghost use Rattle.sibling_register.specs.Plans.{plain_outcome};
 ghost use Rattle.sibling_register.specs.Entries.{history_of, outcome_of};
 
-use super::deed::Deed;
-use super::entry::Entry;
-use super::planned::Planned;
-use super::refusals::TOO_MANY_SIBLINGS;
-use super::scans::count_at;
-use super::standing::Standing;
-use super::told::Told;
+use crate::deed::Deed;
+use crate::entry::Entry;
+use crate::planned::Planned;
+use crate::refusals::TOO_MANY_SIBLINGS;
+use crate::scans::count_at;
+use crate::standing::Standing;
+use crate::told::Told;
 use riak_msgs::Key;
 use std::alloc::{AllocError, Global};
 

@@ -1,4 +1,6 @@
-use super::deed::Deed;
+//! An accepted command as it is kept.
+
+use crate::deed::Deed;
 use riak_msgs::Key;
 
 /// An accepted command. Its context is how many events the key had at the position that it names, and it saw the key's

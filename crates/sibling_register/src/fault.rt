@@ -1,3 +1,5 @@
+//! Why the register gives no answer.
+
 use std::alloc::AllocError;
 use thiserror::Error;
 

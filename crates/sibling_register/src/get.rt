@@ -1,3 +1,5 @@
+//! Gets.
+
 ghost use Rattle.std.specs.Prelude.{◌≡◌, IfOk, [], false};
 ghost use Rattle.sibling_register.specs.Answers.{AskGet, Shown};
 ghost use Rattle.sibling_register.specs.Counting.{context_at};
@@ -5,12 +7,12 @@ ghost use Rattle.sibling_register.specs.Plain.{IsPosition, told_of};
 ghost use Rattle.sibling_register.specs.Plans.{plain_outcome};
 ghost use Rattle.sibling_register.specs.Entries.{history_of, outcome_of};
 
-use super::entry::Entry;
-use super::numbers::Numbers;
-use super::planned::Planned;
-use super::scans::count_at;
-use super::standing::Standing;
-use super::told::Told;
+use crate::entry::Entry;
+use crate::numbers::Numbers;
+use crate::planned::Planned;
+use crate::scans::count_at;
+use crate::standing::Standing;
+use crate::told::Told;
 use riak_msgs::Key;
 use std::alloc::{AllocError, Global};
 

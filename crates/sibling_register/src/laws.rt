@@ -1,3 +1,5 @@
+//! What follows from the definitions alone.
+
 ghost use Rattle.std.specs.Prelude.{List, ℕ};
 ghost use Rattle.sibling_register.specs.History.{Event};
 ghost use Rattle.sibling_register.specs.Naming.{Naming, IsNamingOf, NamesOneSight};
@@ -25,7 +27,7 @@ pub fn counting_is_a_naming<V>()
     ensures naming { (history : List (Event V ℕ)) → IsNamingOf by_count history }
 {}
 
-/// The histories of a [`PlainRegister`](super::PlainRegister) are legal.
+/// The histories of a [`PlainRegister`](crate::PlainRegister) are legal.
 pub fn answers_stay_legal<V>()
     ensures legal { (old : List (Event V ℕ)) (command : Command V) (told : Told ℕ) (new : List (Event V ℕ)) → Gives old command told new → IsLegal by_count old → IsLegal by_count new }
 {}

@@ -1,3 +1,5 @@
+//! Sequence numbers as a list.
+
 ghost use Rattle.std.specs.Prelude.{◌≡◌};
 
 use std::marker::Model;

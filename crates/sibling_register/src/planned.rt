@@ -1,16 +1,18 @@
+//! What comes of a command, before anything is kept.
+
 ghost use Rattle.std.specs.Prelude.{◌≡◌, IfOk};
 ghost use Rattle.sibling_register.specs.Answers.{Answers};
 ghost use Rattle.sibling_register.specs.Plain.{asked, told_of, GivesPositions};
 ghost use Rattle.sibling_register.specs.Plans.{plain_outcome};
 ghost use Rattle.sibling_register.specs.Entries.{history_of, outcome_of};
 
-use super::command::Command;
-use super::del::plan_del;
-use super::entry::Entry;
-use super::get::plan_get;
-use super::put::{Put, plan_put};
-use super::reap::plan_reap;
-use super::told::Told;
+use crate::command::Command;
+use crate::del::plan_del;
+use crate::entry::Entry;
+use crate::get::plan_get;
+use crate::put::{Put, plan_put};
+use crate::reap::plan_reap;
+use crate::told::Told;
 use std::alloc::{AllocError, Global};
 
 /// What a command is answered, and the entry that is then kept of it.

@@ -1,3 +1,5 @@
+//! Puts, and the checks that refuse them.
+
 ghost use Rattle.std.specs.Prelude.{◌≡◌, IfOk, Some, false, not, ◌||◌, if◌then◌else◌, count_by, nat_lt, nat_le, nat_eq, unwrap_or};
 ghost use Rattle.std.specs.Option.{option_eq};
 ghost use Rattle.sibling_register.specs.Answers.{AskPut, Shown, Done};
@@ -6,14 +8,14 @@ ghost use Rattle.sibling_register.specs.Plain.{IsPosition, told_of};
 ghost use Rattle.sibling_register.specs.Plans.{plain_outcome, first_check_of};
 ghost use Rattle.sibling_register.specs.Entries.{history_of, outcome_of, put_of};
 
-use super::deed::Deed;
-use super::entry::Entry;
-use super::numbers::Numbers;
-use super::planned::Planned;
-use super::refusals::{MATCH_FOUND, MODIFIED, NOT_FOUND, TOO_MANY_SIBLINGS};
-use super::scans::{count_at, follow};
-use super::standing::Standing;
-use super::told::Told;
+use crate::deed::Deed;
+use crate::entry::Entry;
+use crate::numbers::Numbers;
+use crate::planned::Planned;
+use crate::refusals::{MATCH_FOUND, MODIFIED, NOT_FOUND, TOO_MANY_SIBLINGS};
+use crate::scans::{count_at, follow};
+use crate::standing::Standing;
+use crate::told::Told;
 use riak_msgs::Key;
 use std::alloc::{AllocError, Global};
 

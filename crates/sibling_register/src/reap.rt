@@ -1,13 +1,15 @@
+//! Reaps.
+
 ghost use Rattle.std.specs.Prelude.{◌≡◌, IfOk};
 ghost use Rattle.sibling_register.specs.Answers.{AskReap};
 ghost use Rattle.sibling_register.specs.Plans.{plain_outcome};
 ghost use Rattle.sibling_register.specs.Entries.{history_of, outcome_of};
 
-use super::deed::Deed;
-use super::entry::Entry;
-use super::planned::Planned;
-use super::standing::Standing;
-use super::told::Told;
+use crate::deed::Deed;
+use crate::entry::Entry;
+use crate::planned::Planned;
+use crate::standing::Standing;
+use crate::told::Told;
 use riak_msgs::Key;
 use std::alloc::{AllocError, Global};
 

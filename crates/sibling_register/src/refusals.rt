@@ -1,3 +1,5 @@
+//! The numbers of the refusals, and the limit of siblings.
+
 /// A put with `if_none_match` found its key present.
 pub const MATCH_FOUND: u8 = 1;
 

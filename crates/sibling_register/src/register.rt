@@ -1,14 +1,16 @@
+//! The register as a slow program.
+
 ghost use Rattle.std.specs.Prelude.{◌≡◌, [], IfOk, OnOk, OnErr, length, option_copied};
 ghost use Rattle.sibling_register.specs.History.{content_of};
 ghost use Rattle.sibling_register.specs.Plain.{GivesPositions, Gives, told_of};
 ghost use Rattle.sibling_register.specs.Entries.{history_of, kept_of};
 
-use super::command::Command;
-use super::entry::Entry;
-use super::fault::RegisterFault;
-use super::planned::{Planned, plan};
-use super::scans::value_in;
-use super::told::Told;
+use crate::command::Command;
+use crate::entry::Entry;
+use crate::fault::RegisterFault;
+use crate::planned::{Planned, plan};
+use crate::scans::value_in;
+use crate::told::Told;
 use riak_msgs::Key;
 use std::alloc::Global;
 use std::marker::Model;

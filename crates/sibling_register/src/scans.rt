@@ -1,3 +1,5 @@
+//! Scans of the history for one key.
+
 ghost use Rattle.std.specs.Prelude.{◌≡◌, ◌≤◌, IfOk, OnOk, length, filter, nat_lt, option_copied, is_some};
 ghost use Rattle.std.specs.List.{list_any};
 ghost use Rattle.sibling_register.specs.History.{count_of, content_of};
@@ -6,7 +8,7 @@ ghost use Rattle.sibling_register.specs.Counting.{context_at};
 ghost use Rattle.sibling_register.specs.Plain.{IsPosition};
 ghost use Rattle.sibling_register.specs.Entries.{history_of, follow_of};
 
-use super::entry::Entry;
+use crate::entry::Entry;
 use riak_msgs::Key;
 use std::alloc::{AllocError, Global};
 

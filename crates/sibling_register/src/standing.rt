@@ -1,12 +1,14 @@
+//! How a key stands at the end of the history.
+
 ghost use Rattle.std.specs.Prelude.{◌≡◌, ◌≤◌, IfOk, length, nat_le, nat_lt, count_by};
 ghost use Rattle.sibling_register.specs.History.{count_of};
 ghost use Rattle.sibling_register.specs.Siblings.{siblings, is_present};
 ghost use Rattle.sibling_register.specs.Refusals.{most_siblings};
 ghost use Rattle.sibling_register.specs.Entries.{history_of};
 
-use super::entry::Entry;
-use super::refusals::MOST_SIBLINGS;
-use super::scans::{count_in, has_write, siblings_in};
+use crate::entry::Entry;
+use crate::refusals::MOST_SIBLINGS;
+use crate::scans::{count_in, has_write, siblings_in};
 use riak_msgs::Key;
 use std::alloc::{AllocError, Global};
 

@@ -1,11 +1,13 @@
-use super::numbers::Numbers;
+//! What the register answers.
+
+use crate::numbers::Numbers;
 
 /// What the register answers.
 #[derive(Drop)]
 pub enum Told {
-    /// A put or a delete was refused, and nothing changed: [`MATCH_FOUND`](super::MATCH_FOUND),
-    /// [`MODIFIED`](super::MODIFIED), [`NOT_FOUND`](super::NOT_FOUND) or
-    /// [`TOO_MANY_SIBLINGS`](super::TOO_MANY_SIBLINGS).
+    /// A put or a delete was refused, and nothing changed: [`MATCH_FOUND`](crate::MATCH_FOUND),
+    /// [`MODIFIED`](crate::MODIFIED), [`NOT_FOUND`](crate::NOT_FOUND) or
+    /// [`TOO_MANY_SIBLINGS`](crate::TOO_MANY_SIBLINGS).
     Refused(u8),
     /// The siblings by their sequence numbers, newest first, where a tombstone's number has no value; the position whose
     /// context is shown; whether it says only that nothing was modified; whether contents are shown bare.

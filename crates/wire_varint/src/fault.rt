@@ -1,3 +1,5 @@
+//! Why bytes begin no varint.
+
 use thiserror::Error;
 
 /// Why the bytes begin no varint.

@@ -1,5 +1,9 @@
+//! Laws of varints.
+
 ghost use Rattle.std.specs.Prelude.{◌≡◌, ℕ, ◌<◌, ◌≤◌, ◌^◌, ◌++◌, List, length};
-ghost use Rattle.wire_varint.specs.Varint.{IsVarint, spelling};
+ghost use Rattle.wire_varint.specs.Varint.{IsVarint, longest_varint, spelling};
+
+use crate::LONGEST_VARINT;
 
 /// A law: no varint begins another. So bytes begin with one varint at most, and what follows it doesn't matter.
 pub fn varints_are_one()
@@ -13,4 +17,9 @@ pub fn spelling_is_shortest()
     ensures varint { (value : ℕ) → value < 2 ^ 64 → IsVarint (spelling value) value }
     ensures shortest { (value : ℕ) (others : List ℕ) → value < 2 ^ 64 → IsVarint others value
         → length (spelling value) ≤ length others }
+{}
+
+/// A law: the limit of the code is that of the definitions, ten bytes.
+pub fn longest_is_that_of_the_definitions()
+    ensures { LONGEST_VARINT ≡ longest_varint }
 {}

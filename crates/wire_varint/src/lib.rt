@@ -18,7 +18,7 @@ mod tests;
 mod writing;
 
 pub use fault::VarintFault;
-pub use laws::{spelling_is_shortest, varints_are_one};
+pub use laws::{longest_is_that_of_the_definitions, spelling_is_shortest, varints_are_one};
 pub use reading::read;
 pub use writing::{len, write};
 

@@ -1,3 +1,5 @@
+//! Reading a varint.
+
 ghost use Rattle.std.specs.Prelude.{◌≡◌, ◌≤◌, ◌↔◌, IfOk, IsErrOf, length, take};
 ghost use Rattle.wire_varint.specs.Varint.{EndsWithin, IsVarint, RunsOn};
 

@@ -1,4 +1,6 @@
-use super::*;
+//! Tests of varints, by the rows of the encoding's documentation and of the formats.
+
+use crate::{VarintFault, len, read, write};
 use std::process::Abort;
 
 fn reads(rt: &impl Abort, bytes: &[u8], want: Result<(u64, usize), VarintFault>) {
@@ -19,7 +21,13 @@ fn reads_the_table(rt: HostRuntime) {
     );
     reads(&rt, b"", Err(VarintFault::Short));
     reads(&rt, b"\x80", Err(VarintFault::Short));
+    reads(&rt, &[0x80; 9], Err(VarintFault::Short));
     reads(&rt, &[0x80; 10], Err(VarintFault::TooLong));
+    reads(
+        &rt,
+        b"\x80\x80\x80\x80\x80\x80\x80\x80\x80\x80\x01",
+        Err(VarintFault::TooLong),
+    );
 }
 
 fn writes(rt: &impl Abort, value: u64, want: &[u8]) {

@@ -1,3 +1,5 @@
+//! Writing a varint.
+
 ghost use Rattle.std.specs.Prelude.{◌≡◌, ℕ, ◌<◌, ◌≤◌, ◌++◌, List, length, drop};
 ghost use Rattle.wire_varint.specs.Varint.{HasGroups, IsVarint, spelling};
 

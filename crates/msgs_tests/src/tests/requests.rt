@@ -350,7 +350,7 @@ fn write_options(rt: &impl Abort, alloc: Global) -> Result<(), MsgFault> {
 /// The key b/k of the type t.
 fn typed_key(alloc: Global) -> Result<Key, AllocError> {
     Ok(Key {
-        bucket_type: Bytes::from_slice(alloc, b"t")?,
+        bucket_type: BucketType::from_slice(alloc, b"t")?,
         bucket: Bytes::from_slice(alloc, b"b")?,
         key: Bytes::from_slice(alloc, b"k")?,
     })

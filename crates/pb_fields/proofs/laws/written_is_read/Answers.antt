@@ -1,8 +1,8 @@
-use Rattle.pb_fields.proofs.Lists.{spelling_is_read}
+use Rattle.pb_fields.proofs.Lists.{encoding_is_read}
 use Rattle.pb_fields.proofs.laws.written_is_read.Goals as goal
 
 pub returns-clause-field : goal.returns-clause-field
-returns-clause-field c = spelling_is_read
+returns-clause-field c = encoding_is_read
 
 pub returns-clause-fields : goal.returns-clause-fields
-returns-clause-fields c = λ field fields rest fits others. (rest, spelling_is_read field rest fits, others)
+returns-clause-fields c = λ field fields rest fits others. (rest, encoding_is_read field rest fits, others)

@@ -1,4 +1,4 @@
-use Rattle.riak_msgs.proofs.SpelledRequests.{request_says}
+use Rattle.riak_msgs.proofs.EncodedRequests.{request_says}
 use Rattle.riak_msgs.proofs.round_trips.requests_are_read_again.Goals as goal
 
 pub returns : goal.returns

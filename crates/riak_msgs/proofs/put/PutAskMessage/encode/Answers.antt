@@ -1,0 +1,20 @@
+use Rattle.std.proofs.Common.{Result, Ok, Err, OnOk}
+use Rattle.riak_msgs.proofs.put.PutAskMessage.encode.Goals as goal
+
+OnOk-map : {T E : Type 0} (r : Result T E) (P Q : Type 0) → (P → Q) → OnOk r P → OnOk r Q
+OnOk-map (Ok x) P Q f p = f p
+OnOk-map (Err e) P Q f p = p
+
+-- piece by piece
+pub returns : goal.returns
+returns g c =
+    let joins = g.met.O.Output.joins in
+    let named = joins _ _ _ _ _ c.in_ok-encode_bytes.ensures c.in_ok-encode_bytes-2.ensures in
+    let seen = joins _ _ _ _ _ named c.in_ok-encode_context.ensures in
+    let told = joins _ _ _ _ _ seen c.in_ok-encode_message.ensures in
+    let body = joins _ _ _ _ _ told c.in_ok-encode_bool.ensures in
+    let unmodified = joins _ _ _ _ _ body c.in_ok-encode_bool-2.ensures in
+    let unmatched = joins _ _ _ _ _ unmodified c.in_ok-encode_bool-3.ensures in
+    let head = joins _ _ _ _ _ unmatched c.in_ok-encode_bool-4.ensures in
+    rw (← c.as_slice.ensures, ← c.as_slice-2.ensures)
+    (OnOk-map c.encode_type.result _ _ (λ last. joins _ _ _ _ _ head last) c.encode_type.ensures)

@@ -1,0 +1,5 @@
+use Rattle.std.proofs.Common.{refl}
+use Rattle.riak_msgs.proofs.read_put.PutView.new.Goals as goal
+
+pub returns : goal.returns
+returns c = record { names = c.new.ensures 16; context = refl; content = c.new-2.ensures }

@@ -1,5 +1,0 @@
-use Rattle.std.proofs.Common.{refl}
-use Rattle.riak_msgs.proofs.read_put.SeenPut.new.Goals as goal
-
-pub returns : goal.returns
-returns c = record { names = c.new.ensures 16; context = refl; content = c.new-2.ensures }

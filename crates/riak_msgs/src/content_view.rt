@@ -1,0 +1,167 @@
+//! What a walk over a content's fields sees, without memory; and the content that is then copied out of them.
+
+ghost use Rattle.std.specs.Prelude.{◌≡◌, ◌∷◌, [], IfOk, IfErr, OnOk, OnErr, is_some};
+ghost use Rattle.pb_fields.specs.Field.{byte_string};
+ghost use Rattle.riak_msgs.specs.Embedded.{ContentFields, StandForContent, content_of};
+ghost use Rattle.riak_msgs.specs.Seen.{Copies, HoldsNone, IsSeenOf, RefusesToCopy, Sees};
+ghost use Rattle.riak_msgs.specs.Seen.{no_fields, merged, scalars_of, with_parts};
+
+use crate::bytes::Bytes;
+use crate::content::Content;
+use crate::fault::MsgFault;
+use crate::pairs_and_links::{PairView, copied, copy_link, copy_pair};
+use crate::sequence::Sequence;
+use pb_fields::{Field, FieldFault, Merge, Value, scan};
+use std::alloc::{AllocError, Global};
+
+/// The last of each scalar of a content, borrowed from the message, over all its occurrences so far.
+#[derive(Clone, Copy)]
+pub(crate) struct ContentView<'a> {
+    pub(crate) value: Option<&'a [u8]>,
+    pub(crate) content_type: Option<&'a [u8]>,
+    pub(crate) charset: Option<&'a [u8]>,
+    pub(crate) content_encoding: Option<&'a [u8]>,
+    /// Whether it is a tombstone.
+    pub(crate) deleted: bool,
+    /// Whether some pair lacks its key.
+    pub(crate) misses_key: bool,
+    /// Whether a link or a pair is in it.
+    pub(crate) has_parts: bool,
+}
+
+impl<'a> ContentView<'a> {
+    /// Nothing seen yet.
+    pub(crate) fn new() -> ContentView<'a>
+        ensures { IsSeenOf result no_fields }
+    {
+        ContentView {
+            value: None,
+            content_type: None,
+            charset: None,
+            content_encoding: None,
+            deleted: false,
+            misses_key: false,
+            has_parts: false,
+        }
+    }
+
+    /// Merges one occurrence of the content, and looks into each message in it.
+    pub(crate) fn merge(&mut self, bytes: &'a [u8]) -> Result<(), FieldFault>
+        ensures ok { (c : ContentFields) → IsSeenOf self.old c
+            → OnOk result ((part : ContentFields) × StandForContent (bytes.now ∷ []) part
+            × IsSeenOf self.new (merged c part)) }
+        ensures err { OnErr result ((part : ContentFields)
+            → StandForContent (bytes.now ∷ []) part → ⊥) }
+    {
+        scan(bytes, self)
+    }
+
+    // Merges one more field of bytes, and looks into the message that they are.
+    fn merge_bytes(&mut self, number: u32, bytes: &'a [u8]) -> Result<(), FieldFault>
+        ensures ok { OnOk result
+            (Sees self.old (record { number = number; value = byte_string bytes.now }) self.new) }
+        ensures err { OnErr result
+            (HoldsNone (record { number = number; value = byte_string bytes.now })) }
+    {
+        match number {
+            1 => self.value = Some(bytes),
+            2 => self.content_type = Some(bytes),
+            3 => self.charset = Some(bytes),
+            4 => self.content_encoding = Some(bytes),
+            6 => {
+                PairView::read(bytes)?;
+                self.has_parts = true;
+            }
+            9 | 10 => {
+                let pair = PairView::read(bytes)?;
+                self.misses_key |= pair.first.is_none();
+                self.has_parts = true;
+            }
+            _ => {}
+        }
+        Ok(())
+    }
+
+    /// Whether nothing that is required is missing.
+    pub(crate) fn has_required_fields(&self) -> bool
+        ensures { (c : ContentFields) → IsSeenOf self.now c → result ≡ is_some (content_of c) }
+    {
+        self.value.is_some() && !self.misses_key
+    }
+
+    /// A copy of the scalars.
+    pub(crate) fn scalars(&self, alloc: Global) -> Result<Content, AllocError>
+        ensures { (c : ContentFields) → IsSeenOf self.now c
+            → IfOk result (λ content. content ≡ scalars_of c) }
+    {
+        Ok(Content {
+            value: Bytes::from_slice(alloc, self.value.unwrap_or(&[]))?,
+            content_type: copied(alloc, self.content_type)?,
+            charset: copied(alloc, self.charset)?,
+            content_encoding: copied(alloc, self.content_encoding)?,
+            links: Sequence::new(alloc),
+            usermeta: Sequence::new(alloc),
+            indexes: Sequence::new(alloc),
+        })
+    }
+}
+
+impl<'a> Merge<'a> for ContentView<'a> {
+    type Fault = FieldFault;
+
+    ghost merges = { Sees };
+
+    ghost refuses = { λ field fault. HoldsNone field };
+
+    fn merge_field(&mut self, field: Field<'a>) -> Result<(), FieldFault> {
+        match field.value {
+            Value::Bytes(bytes) => self.merge_bytes(field.number, bytes),
+            Value::Varint(value) => {
+                if field.number == 11 {
+                    self.deleted = value != 0;
+                }
+                Ok(())
+            }
+            Value::Eight(_) | Value::Four(_) => Ok(()),
+        }
+    }
+}
+
+/// A content, into which the links and pairs of its occurrences are copied.
+#[derive(Drop)]
+pub(crate) struct PartsCopy {
+    pub(crate) alloc: Global,
+    pub(crate) content: Content,
+}
+
+impl<'a> Merge<'a> for PartsCopy {
+    type Fault = MsgFault;
+
+    ghost merges = { λ before field after. Copies before.content field after.content };
+
+    ghost refuses = { RefusesToCopy };
+
+    fn merge_field(&mut self, field: Field<'a>) -> Result<(), MsgFault> {
+        let Value::Bytes(bytes) = field.value else {
+            return Ok(());
+        };
+        match field.number {
+            6 => copy_link(self.alloc, bytes, &mut self.content.links),
+            9 => copy_pair(self.alloc, bytes, &mut self.content.usermeta),
+            10 => copy_pair(self.alloc, bytes, &mut self.content.indexes),
+            _ => Ok(()),
+        }
+    }
+}
+
+/// Copies the links and pairs of one occurrence of a content behind those that it has.
+///
+/// The occurrence was seen before, so only memory can be refused.
+pub(crate) fn copy_parts(bytes: &[u8], copy: &mut PartsCopy) -> Result<(), MsgFault>
+    ensures ok { OnOk result ((part : ContentFields) × StandForContent (bytes.now ∷ []) part
+        × (copy.new.content ≡ with_parts copy.old.content part)) }
+    ensures err { (part : ContentFields) → StandForContent (bytes.now ∷ []) part
+        → IfErr result (λ fault. fault ≡ MsgFault.NoMemory) }
+{
+    scan(bytes, copy)
+}

@@ -1,0 +1,77 @@
+//! The names that a request gives, as a walk over its fields sees them.
+
+ghost use Rattle.std.specs.Prelude.{◌≡◌, ◌∷◌, ◌++◌, ℕ, List, [], IfOk, option_copied};
+ghost use Rattle.pb_fields.specs.Field.{WireField, seen};
+ghost use Rattle.riak_msgs.specs.Reading.{has_empty_name, is_empty_name, named_key};
+ghost use Rattle.riak_msgs.specs.SeenRequests.{AreNamesOf};
+
+use crate::bucket_type::{BucketType, DEFAULT_TYPE};
+use crate::bytes::Bytes;
+use crate::fault::MsgFault;
+use crate::field_access::last_of;
+use crate::key::Key;
+use pb_fields::Field;
+use std::alloc::{AllocError, Global};
+
+/// The last of each name in a message, borrowed from it.
+#[derive(Clone, Copy)]
+pub(crate) struct KeyView<'a> {
+    pub(crate) bucket: Option<&'a [u8]>,
+    pub(crate) key: Option<&'a [u8]>,
+    pub(crate) bucket_type: Option<&'a [u8]>,
+}
+
+impl<'a> KeyView<'a> {
+    /// No name seen yet.
+    pub(crate) fn new() -> KeyView<'a>
+        ensures { (type_number : ℕ) → AreNamesOf type_number result [] }
+    {
+        KeyView {
+            bucket: None,
+            key: None,
+            bucket_type: None,
+        }
+    }
+
+    /// Merges one field more: 1 is the bucket, 2 the key, and the type has the number that its message gives it.
+    pub(crate) fn merge_field(&mut self, field: Field<'a>, type_number: u32)
+        ensures { (fields : List WireField) → AreNamesOf type_number self.old fields
+            → AreNamesOf type_number self.new (fields ++ seen field.entry ∷ []) }
+    {
+        self.bucket = last_of(1, field, self.bucket);
+        self.key = last_of(2, field, self.key);
+        self.bucket_type = last_of(type_number, field, self.bucket_type);
+    }
+
+    /// Whether a name is given with no bytes.
+    pub(crate) fn has_empty(&self) -> bool
+        ensures { (type_number : ℕ) (fields : List WireField)
+            → AreNamesOf type_number self.now fields
+            → result ≡ has_empty_name type_number fields }
+    {
+        is_empty_name(self.bucket) || is_empty_name(self.key) || is_empty_name(self.bucket_type)
+    }
+
+    /// A copy of the key that is named: of the default type where no type is given.
+    pub(crate) fn key(&self, alloc: Global) -> Result<Key, AllocError>
+        ensures { (type_number : ℕ) (fields : List WireField)
+            → AreNamesOf type_number self.now fields
+            → IfOk result (λ key. key ≡ named_key type_number fields) }
+    {
+        Ok(Key {
+            bucket_type: BucketType::from_slice(alloc, self.bucket_type.unwrap_or(DEFAULT_TYPE))?,
+            bucket: Bytes::from_slice(alloc, self.bucket.unwrap_or(&[]))?,
+            key: Bytes::from_slice(alloc, self.key.unwrap_or(&[]))?,
+        })
+    }
+}
+
+/// Whether a name is given with no bytes.
+fn is_empty_name(name: Option<&[u8]>) -> bool
+    ensures { result ≡ is_empty_name (option_copied name.entry) }
+{
+    match name {
+        Some(bytes) => bytes.is_empty(),
+        None => false,
+    }
+}

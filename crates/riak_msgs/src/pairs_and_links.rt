@@ -1,0 +1,136 @@
+//! Links and pairs, the messages in a content.
+
+ghost use Rattle.std.specs.Prelude.{◌≡◌, ◌++◌, ◌∷◌, [], List, IfOk, IfErr, OnOk, OnErr, filter_map, option_copied};
+ghost use Rattle.pb_fields.specs.Field.{WireField};
+ghost use Rattle.pb_fields.specs.Merging.{RefusesNone, Tracks};
+ghost use Rattle.pb_fields.specs.Message.{StandsFor};
+ghost use Rattle.riak_msgs.specs.Embedded.{link_of, pair_of};
+ghost use Rattle.riak_msgs.specs.Seen.{IsPartOf};
+
+use crate::bytes::Bytes;
+use crate::fault::MsgFault;
+use crate::link::Link;
+use crate::pair::Pair;
+use crate::sequence::Sequence;
+use pb_fields::{Field, FieldFault, Merge, Value, scan};
+use std::alloc::{AllocError, Global};
+
+/// The last byte strings of the fields 1, 2 and 3 of a message: bucket, key and tag of a link, key and value of a pair.
+#[derive(Clone, Copy)]
+pub(crate) struct PairView<'a> {
+    pub(crate) first: Option<&'a [u8]>,
+    pub(crate) second: Option<&'a [u8]>,
+    pub(crate) third: Option<&'a [u8]>,
+}
+
+impl<'a> Merge<'a> for PairView<'a> {
+    type Fault = FieldFault;
+
+    ghost merges = { Tracks IsPartOf };
+
+    ghost refuses = { RefusesNone };
+
+    fn merge_field(&mut self, field: Field<'a>) -> Result<(), FieldFault> {
+        if let Value::Bytes(bytes) = field.value {
+            match field.number {
+                1 => self.first = Some(bytes),
+                2 => self.second = Some(bytes),
+                3 => self.third = Some(bytes),
+                _ => {}
+            }
+        }
+        Ok(())
+    }
+}
+
+impl<'a> PairView<'a> {
+    /// What these bytes have. Refused where they stand for no list of fields.
+    pub(crate) fn read(bytes: &'a [u8]) -> Result<PairView<'a>, FieldFault>
+        ensures ok { IfOk result (λ part. (fields : List WireField) × StandsFor bytes.now fields
+            × IsPartOf part fields) }
+        ensures err { OnErr result ((fields : List WireField) → StandsFor bytes.now fields → ⊥) }
+    {
+        let mut part = PairView {
+            first: None,
+            second: None,
+            third: None,
+        };
+        scan(bytes, &mut part)?;
+        Ok(part)
+    }
+
+    /// A copy of it as a link.
+    pub(crate) fn link(&self, alloc: Global) -> Result<Link, AllocError>
+        ensures { (fields : List WireField) → IsPartOf self.now fields
+            → IfOk result (λ link. link ≡ link_of fields) }
+    {
+        Ok(Link {
+            bucket: copied(alloc, self.first)?,
+            key: copied(alloc, self.second)?,
+            tag: copied(alloc, self.third)?,
+        })
+    }
+
+    /// A copy of it as a pair, where its key is there.
+    pub(crate) fn pair(&self, alloc: Global) -> Result<Option<Pair>, AllocError>
+        ensures { (fields : List WireField) → IsPartOf self.now fields
+            → IfOk result (λ pair. pair ≡ pair_of fields) }
+    {
+        let Some(key) = self.first else {
+            return Ok(None);
+        };
+        Ok(Some(Pair {
+            key: Bytes::from_slice(alloc, key)?,
+            value: copied(alloc, self.second)?,
+        }))
+    }
+}
+
+/// Copies the link that these bytes are behind the others. Where they stand for a list of fields, only memory can be refused.
+pub(crate) fn copy_link(
+    alloc: Global,
+    bytes: &[u8],
+    links: &mut Sequence<Link>,
+) -> Result<(), MsgFault>
+    ensures ok { OnOk result ((fields : List WireField) × StandsFor bytes.now fields
+        × (links.new ≡ links.old ++ link_of fields ∷ [])) }
+    ensures err { (fields : List WireField) → StandsFor bytes.now fields
+        → IfErr result (λ fault. fault ≡ MsgFault.NoMemory) }
+{
+    let Ok(part) = PairView::read(bytes) else {
+        return Err(MsgFault::BadMessage);
+    };
+    links.push(part.link(alloc)?)?;
+    Ok(())
+}
+
+/// Copies the pair that these bytes are behind the others, if it has a key. Where they stand for a list of fields, only memory
+/// can be refused.
+pub(crate) fn copy_pair(
+    alloc: Global,
+    bytes: &[u8],
+    pairs: &mut Sequence<Pair>,
+) -> Result<(), MsgFault>
+    ensures ok { OnOk result ((fields : List WireField) × StandsFor bytes.now fields
+        × (pairs.new ≡ pairs.old ++ filter_map pair_of (fields ∷ []))) }
+    ensures err { (fields : List WireField) → StandsFor bytes.now fields
+        → IfErr result (λ fault. fault ≡ MsgFault.NoMemory) }
+{
+    let Ok(part) = PairView::read(bytes) else {
+        return Err(MsgFault::BadMessage);
+    };
+    if let Some(pair) = part.pair(alloc)? {
+        pairs.push(pair)?;
+    }
+    Ok(())
+}
+
+/// A copy of bytes that may be absent.
+pub(crate) fn copied(alloc: Global, bytes: Option<&[u8]>) -> Result<Option<Bytes>, AllocError>
+    ensures { IfOk result (λ copy. copy ≡ option_copied bytes.entry) }
+{
+    match bytes {
+        Some(bytes) => Ok(Some(Bytes::from_slice(alloc, bytes)?)),
+        None => Ok(None),
+    }
+}
