@@ -4,3 +4,4 @@ pub mod Entries
 pub mod Rising
 pub mod Order
 pub mod Spellings
+pub mod Given

@@ -5,16 +5,20 @@ use Rattle.std.specs.Int.{to_be_bytes, w32, w64}
 use Rattle.std.specs.Ordering.{is_lt}
 use Rattle.actor_epoch.specs.declared.actor.Actor.{Actor}
 use Rattle.actor_epoch.specs.declared.dot.Dot.{Dot}
-use Rattle.actor_epoch.specs.declared.limits.TheConstants.{GREATEST_EPOCH, GREATEST_COUNTER, MOST_ACTORS}
+use Rattle.actor_epoch.specs.Limits.{greatest_epoch, greatest_counter, most_actors}
 use Rattle.actor_epoch.specs.Dots.{actor_cmp}
 
 -- the bytes of one pair: vnode id, epoch, counter, big-endian
 abbrev pub entry_bytes : Dot → List ℕ
 entry_bytes pair = to_be_bytes w64 pair.actor.vnode ++ (to_be_bytes w32 pair.actor.epoch ++ to_be_bytes w32 pair.counter)
 
--- the bytes of a context: the number of the form, then each pair
+-- the bytes of a context, as they are written: the version, then each pair
+abbrev pub encoding : List Dot → List ℕ
+encoding pairs = 1 ∷ flat_map entry_bytes pairs
+
+-- an older name of it
 abbrev pub spelling : List Dot → List ℕ
-spelling pairs = 1 ∷ flat_map entry_bytes pairs
+spelling = encoding
 
 -- an actor may follow the last one, if there is one
 abbrev pub goes_on : Option Actor → Actor → Bool
@@ -31,11 +35,11 @@ is_rising (pair ∷ next ∷ pairs) = is_lt (actor_cmp pair.actor next.actor) &&
 abbrev pub is_within_limits : Dot → Bool
 is_within_limits pair =
     nat_lt pair.actor.vnode (2 ^ 64)
-    && ((nat_le 1 pair.actor.epoch && nat_le pair.actor.epoch GREATEST_EPOCH) && (nat_le 1 pair.counter && nat_le pair.counter GREATEST_COUNTER))
+    && ((nat_le 1 pair.actor.epoch && nat_le pair.actor.epoch greatest_epoch) && (nat_le 1 pair.counter && nat_le pair.counter greatest_counter))
 
 -- 1 to 64 pairs within their limits, strictly rising by actor
 abbrev pub is_of_form : List Dot → Bool
-is_of_form pairs = (nat_le 1 (length pairs) && nat_le (length pairs) MOST_ACTORS) && (is_rising pairs && list_all is_within_limits pairs)
+is_of_form pairs = (nat_le 1 (length pairs) && nat_le (length pairs) most_actors) && (is_rising pairs && list_all is_within_limits pairs)
 
 -- what bytes read as: the pairs that they spell, or nothing where they are not of the form
 abbrev pub ReadsAs : List ℕ → Option (List Dot) → Type 0

@@ -1,5 +1,5 @@
 -- Actors, dots, and contexts as what they cover.
-use Rattle.std.specs.Prelude.{Bool, ◌&&◌, ◌==◌, if◌then◌else◌, List, [], ◌∷◌, ℕ, max, nat_le}
+use Rattle.std.specs.Prelude.{Bool, ◌&&◌, ◌==◌, ◌+◌, if◌then◌else◌, List, [], ◌∷◌, ℕ, max, nat_le}
 use Rattle.std.specs.List.{list_any}
 use Rattle.std.specs.declared.cmp.Ordering.{Ordering}
 use Rattle.std.specs.Ordering.{nat_cmp, ordering_then}
@@ -32,6 +32,10 @@ abbrev pub counter_in : List Dot → Actor → ℕ
 counter_in [] actor = 0
 counter_in (pair ∷ pairs) actor =
     if actor_eq pair.actor actor then max pair.counter (counter_in pairs actor) else counter_in pairs actor
+
+-- the dot after the last that pairs have of an actor
+abbrev pub next_dot : Actor → List Dot → Dot
+next_dot actor pairs = record { actor = actor; counter = counter_in pairs actor + 1 }
 
 -- the pairs with one more, kept strictly rising by actor
 abbrev pub raise : Dot → List Dot → List Dot

@@ -1,12 +1,19 @@
 -- What contexts promise.
-use Rattle.std.specs.Prelude.{◌≡◌, ◌&&◌, ◌++◌, ◌∷◌, List, Option, Some, IsTrue, nat_le}
+use Rattle.std.specs.Prelude.{◌≡◌, ◌&&◌, ◌++◌, ◌∷◌, ◌<◌, ◌^◌, List, ℕ, Some, IsTrue, nat_le}
+use Rattle.std.specs.List.{All}
 use Rattle.actor_epoch.specs.declared.dot.Dot.{Dot}
 use Rattle.actor_epoch.specs.Dots.{covers, counter_in}
-use Rattle.actor_epoch.specs.Contexts.{ReadsAs, spelling, is_of_form, is_rising}
+use Rattle.actor_epoch.specs.Contexts.{encoding, is_of_form, is_rising}
+use Rattle.actor_epoch.specs.Given.{Pairs, context_of}
 
--- what was written is read again, and as nothing else
-abbrev pub ReadsBack : List Dot → Option (List Dot) → Type 0
-ReadsBack pairs found = IsTrue (is_of_form pairs) → ReadsAs (spelling pairs) found → found ≡ Some pairs
+-- the bytes that encode pairs decode to them
+abbrev pub ReadsBack : List Dot → Type 0
+ReadsBack pairs = IsTrue (is_of_form pairs) → context_of (encoding pairs) ≡ Some (Pairs pairs)
+
+-- and no others do
+abbrev pub ReadsNoOthers : List ℕ → List Dot → Type 0
+ReadsNoOthers bytes pairs =
+    All (λ b. b < 2 ^ 8) bytes → context_of bytes ≡ Some (Pairs pairs) → IsTrue (is_of_form pairs) × (bytes ≡ encoding pairs)
 
 -- pairs cover the dots from 1 to the greatest counter of the dot's actor in them
 abbrev pub CoversUpTo : List Dot → Dot → Type 0

@@ -3,4 +3,5 @@ pub mod Dots
 pub mod Epochs
 pub mod Contexts
 pub mod Entries
+pub mod Given
 pub mod Laws

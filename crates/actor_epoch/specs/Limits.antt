@@ -1,15 +1,14 @@
--- The limits, for the definitions of other crates.
+-- The limits of epochs, counters and contexts.
 use Rattle.std.specs.Prelude.{ℕ}
-use Rattle.actor_epoch.specs.declared.limits.TheConstants.{GREATEST_EPOCH, GREATEST_COUNTER, MOST_ACTORS}
 
 -- the greatest epoch of a vnode
 abbrev pub greatest_epoch : ℕ
-greatest_epoch = GREATEST_EPOCH
+greatest_epoch = 4294967295
 
 -- the greatest counter of an actor
 abbrev pub greatest_counter : ℕ
-greatest_counter = GREATEST_COUNTER
+greatest_counter = 4294967295
 
 -- the most actors of a clock, and the most pairs of a context
 abbrev pub most_actors : ℕ
-most_actors = MOST_ACTORS
+most_actors = 64

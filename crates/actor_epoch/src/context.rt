@@ -1,21 +1,29 @@
 //! A context: what a client has seen of a key, as the bytes that it gives back.
 
-ghost use Rattle.std.specs.Prelude.{◌≡◌, IsTrue, IfOk, ◌&&◌};
+ghost use Rattle.std.specs.Prelude.{◌≡◌, IsTrue, IfOk, IfErr, Some, ◌&&◌};
+ghost use Rattle.std.specs.Option.{option_map};
 ghost use Rattle.std.specs.List.{list_all};
-ghost use Rattle.actor_epoch.specs.Dots.{covers};
+ghost use Rattle.actor_epoch.specs.Dots.{covers, counter_in};
 ghost use Rattle.actor_epoch.specs.Entries.{entry_of, entries_of};
-ghost use Rattle.actor_epoch.specs.Contexts.{goes_on, ReadsAs, spelling, is_of_form, is_rising, is_within_limits, entry_bytes};
+ghost use Rattle.actor_epoch.specs.Contexts.{goes_on, ReadsAs, encoding, is_of_form, is_rising, is_within_limits, entry_bytes};
+ghost use Rattle.actor_epoch.specs.Given.{context_of, pairs_read, Malformed, Pairs};
 
 use crate::actor::Actor;
 use crate::context_pairs::{ContextPairs, ENTRY_LEN};
 use crate::dot::Dot;
-use crate::limits::MOST_ACTORS;
+use crate::limits::{Counter, MOST_ACTORS};
 use byteorder::{BigEndian, ByteOrder};
 use std::alloc::{AllocError, Global};
 use std::marker::Model;
+use thiserror::Error;
 
-/// The first byte of a context's bytes.
-const FORM: u8 = 1;
+/// The first byte of a context's bytes, the version of their format.
+const VERSION: u8 = 1;
+
+/// Bytes that are given as a context and aren't one.
+#[derive(Clone, Copy, Debug, Drop, Error, PartialEq, Eq)]
+#[error("malformed context")]
+pub struct MalformedContext;
 
 /// What a client has seen of a key, as the node gave it: pairs (actor, n), 1 to 64, strictly rising by actor, borrowed
 /// from the bytes that spell them. It covers the dots 1 to n of each pair's actor. Contracts see the list of pairs.
@@ -47,17 +55,33 @@ impl<'a> Context<'a> {
     /// Reads the bytes of a context; None exactly where they spell no 1 to 64 pairs that strictly rise by actor, with
     /// epochs and counters from 1 on. Takes no memory.
     pub fn read(bytes: &'a [u8]) -> Option<Context<'a>>
-        ensures { ReadsAs bytes.now result }
+        ensures read { result ≡ pairs_read (context_of bytes.now) }
+        ensures reads { ReadsAs bytes.now result }
     {
-        let (form, entries) = bytes.split_first()?;
+        let (version, entries) = bytes.split_first()?;
         let count = entries.len() / ENTRY_LEN;
-        if *form != FORM
+        if *version != VERSION
             || entries.len() % ENTRY_LEN != 0
             || !are_of_form(ContextPairs { count, entries })
         {
             return None;
         }
         Some(Context { count, entries })
+    }
+
+    /// What was given as a context: none where there are no bytes, else the context that they are. Refused exactly where
+    /// there are bytes and `read` gives None. Takes no memory.
+    pub fn given(bytes: &'a [u8]) -> Result<Option<Context<'a>>, MalformedContext>
+        ensures ok { IfOk result (λ found. context_of bytes.now ≡ option_map Pairs found) }
+        ensures malformed { IfErr result (λ _. context_of bytes.now ≡ Some Malformed) }
+    {
+        if bytes.is_empty() {
+            return Ok(None);
+        }
+        match Context::read(bytes) {
+            Some(context) => Ok(Some(context)),
+            None => Err(MalformedContext),
+        }
     }
 
     /// Its pairs (actor, n), by rising actor.
@@ -83,14 +107,27 @@ impl<'a> Context<'a> {
         false
     }
 
+    /// The counter of an actor in its pairs: it has seen the actor's dots from 1 up to that, and none where it is 0.
+    pub fn counter_of(&self, actor: Actor) -> Counter
+        ensures { result ≡ counter_in self.now actor }
+    {
+        let mut greatest = 0;
+        for (other, counter) in self.pairs() {
+            if other == actor {
+                greatest = counter.max(greatest);
+            }
+        }
+        greatest
+    }
+
     /// The bytes of a context of these pairs, which are 1 to 64, strictly rising by actor, with epochs and counters
     /// from 1 on (a condition). Refused where there is no memory for the bytes.
-    pub fn write(alloc: Global, pairs: &[(Actor, u32)]) -> Result<Vec<u8>, AllocError>
+    pub fn write(alloc: Global, pairs: &[(Actor, Counter)]) -> Result<Vec<u8>, AllocError>
         requires { IsTrue (is_of_form (entries_of pairs.now)) }
-        ensures { IfOk result (λ bytes. bytes.items ≡ spelling (entries_of pairs.now)) }
+        ensures { IfOk result (λ bytes. bytes.items ≡ encoding (entries_of pairs.now)) }
     {
         let mut bytes = Vec::with_capacity(alloc, 1 + ENTRY_LEN * pairs.len())?;
-        bytes.push(FORM)?;
+        bytes.push(VERSION)?;
         for pair in pairs {
             bytes.extend_from_slice(&bytes_of(pair.0, pair.1))?;
         }
@@ -121,7 +158,7 @@ fn are_rising(pairs: ContextPairs<'_>) -> bool
 }
 
 /// Whether a pair may follow the last actor: it is above that, and its epoch and counter begin at 1.
-fn is_next(last: Option<Actor>, actor: Actor, counter: u32) -> bool
+fn is_next(last: Option<Actor>, actor: Actor, counter: Counter) -> bool
     ensures { result ≡ (goes_on last actor && is_within_limits (entry_of (actor, counter))) }
 {
     let is_above = match last {
@@ -132,7 +169,7 @@ fn is_next(last: Option<Actor>, actor: Actor, counter: u32) -> bool
 }
 
 /// The 16 bytes of a pair.
-fn bytes_of(actor: Actor, counter: u32) -> [u8; 16]
+fn bytes_of(actor: Actor, counter: Counter) -> [u8; 16]
     ensures { result ≡ entry_bytes (entry_of (actor, counter)) }
 {
     let mut bytes = [0; ENTRY_LEN];

@@ -5,6 +5,7 @@ ghost use Rattle.actor_epoch.specs.Entries.{entry_in};
 
 use crate::actor::Actor;
 use crate::dot::Dot;
+use crate::limits::Counter;
 use byteorder::{BigEndian, ByteOrder};
 use std::marker::Model;
 
@@ -40,7 +41,7 @@ impl ContextPairs<'_> {
 }
 
 impl<'a> Iterator for ContextPairs<'a> {
-    type Item = (Actor, u32);
+    type Item = (Actor, Counter);
 
     ghost use Rattle.std.specs.Prelude.{length};
     ghost use Rattle.std.specs.Iterator.{YieldsFirstBy, at_most};
@@ -50,7 +51,7 @@ impl<'a> Iterator for ContextPairs<'a> {
 
     ghost remaining = { λ p. at_most (length p) };
 
-    fn next(&mut self) -> Option<(Actor, u32)> {
+    fn next(&mut self) -> Option<(Actor, Counter)> {
         if self.count == 0 {
             return None;
         }

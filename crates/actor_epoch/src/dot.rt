@@ -1,6 +1,7 @@
 //! A dot: one write or tombstone.
 
 use crate::actor::Actor;
+use crate::limits::Counter;
 
 /// The dot of one write or tombstone. As an entry of a context it stands for the dots 1 to `counter` of its actor.
 #[derive(Clone, Copy, Debug, PartialEq, Eq, PartialOrd, Ord)]
@@ -8,5 +9,5 @@ pub struct Dot {
     /// The life in which it was written.
     pub actor: Actor,
     /// Its number among the writes and tombstones of that life, from 1 to `GREATEST_COUNTER`.
-    pub counter: u32,
+    pub counter: Counter,
 }

@@ -1,12 +1,19 @@
 //! Laws of contexts.
 
-ghost use Rattle.std.specs.Prelude.{List, Option};
+ghost use Rattle.std.specs.Prelude.{◌≡◌, ◌↔◌, List, [], ℕ, None};
 ghost use Rattle.actor_epoch.specs.declared.dot.Dot.{Dot};
-ghost use Rattle.actor_epoch.specs.Laws.{ReadsBack, CoversUpTo, HasItsCounter};
+ghost use Rattle.actor_epoch.specs.Given.{context_of};
+ghost use Rattle.actor_epoch.specs.Limits.{greatest_epoch, greatest_counter, most_actors};
+ghost use Rattle.actor_epoch.specs.Laws.{ReadsBack, ReadsNoOthers, CoversUpTo, HasItsCounter};
 
-/// The bytes that `Context::write` makes of pairs are read as these pairs, and as nothing else.
+use crate::limits::{GREATEST_COUNTER, GREATEST_EPOCH, MOST_ACTORS};
+
+/// The bytes that `Context::write` makes of pairs are read as these pairs, and no other bytes are; no bytes alone are no
+/// context.
 pub fn what_is_written_is_read()
-    ensures { (pairs : List Dot) (found : Option (List Dot)) → ReadsBack pairs found }
+    ensures back { (pairs : List Dot) → ReadsBack pairs }
+    ensures no_others { (bytes : List ℕ) (pairs : List Dot) → ReadsNoOthers bytes pairs }
+    ensures none { (bytes : List ℕ) → (context_of bytes ≡ None) ↔ (bytes ≡ []) }
 {}
 
 /// Pairs, as those of a context, cover the dots from 1 to the greatest counter of an actor in them and no others; where
@@ -14,4 +21,11 @@ pub fn what_is_written_is_read()
 pub fn pairs_cover_up_to_their_counters()
     ensures covers { (pairs : List Dot) (dot : Dot) → CoversUpTo pairs dot }
     ensures counter { (before : List Dot) (pair : Dot) (after : List Dot) → HasItsCounter before pair after }
+{}
+
+/// The limits of the code are those of the definitions: 4,294,967,295 epochs and counters, and 64 actors.
+pub fn limits_are_those_of_the_definitions()
+    ensures epoch { GREATEST_EPOCH ≡ greatest_epoch }
+    ensures counter { GREATEST_COUNTER ≡ greatest_counter }
+    ensures actors { MOST_ACTORS ≡ most_actors }
 {}

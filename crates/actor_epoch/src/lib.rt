@@ -1,9 +1,10 @@
 //! Actors, dots and contexts: who writes a key, which write it was, and what a client has seen.
 //!
 //! An actor is one life of a key at one vnode (`specs/Dots`: `actor_cmp`), a dot one write or tombstone of it. A context
-//! is a list of pairs (actor, n), strictly rising by actor, that covers the dots 1 to n of each (`covers`); bytes read as
-//! a context exactly where they spell one (`specs/Contexts`: `ReadsAs`). An `EpochSource` gives each epoch of a vnode
-//! once (`specs/Epochs`: `next_epoch`).
+//! is a list of pairs (actor, n), strictly rising by actor, that covers the dots 1 to n of each (`covers`). Bytes that are
+//! given decode to none, to a malformed context or to pairs (`specs/Given`: `context_of`); how pairs are encoded is a
+//! definition of its own (`specs/Contexts`: `encoding`), and a law says that the two agree. An `EpochSource` gives each
+//! epoch of a vnode once (`specs/Epochs`: `next_epoch`).
 //!
 //! Reading a context takes no memory and one pass over its bytes; asking whether it covers a dot takes one more. Writing
 //! takes one allocation. A `Context` is a slice of the bytes that it was read from; nothing is kept beside it.
@@ -18,12 +19,11 @@ mod laws;
 mod limits;
 
 pub use actor::Actor;
-pub use context::Context;
+pub use context::{Context, MalformedContext};
 pub use context_pairs::ContextPairs;
 pub use dot::Dot;
 pub use epoch_source::EpochSource;
-pub use laws::{pairs_cover_up_to_their_counters, what_is_written_is_read};
-pub use limits::{GREATEST_COUNTER, GREATEST_EPOCH, MOST_ACTORS};
-
-#[cfg(test)]
-mod tests;
+pub use laws::{
+    limits_are_those_of_the_definitions, pairs_cover_up_to_their_counters, what_is_written_is_read,
+};
+pub use limits::{Counter, GREATEST_COUNTER, GREATEST_EPOCH, MOST_ACTORS};

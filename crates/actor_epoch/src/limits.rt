@@ -3,8 +3,11 @@
 /// The greatest epoch of a vnode.
 pub const GREATEST_EPOCH: u32 = 4_294_967_295;
 
+/// A counter: the number of a write or tombstone in the life of an actor.
+pub type Counter = u32;
+
 /// The greatest counter of an actor.
-pub const GREATEST_COUNTER: u32 = 4_294_967_295;
+pub const GREATEST_COUNTER: Counter = 4_294_967_295;
 
 /// The most actors of a clock, and the most entries of a context.
 pub const MOST_ACTORS: usize = 64;

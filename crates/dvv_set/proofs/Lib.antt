@@ -13,3 +13,5 @@ pub mod Ready
 pub mod ShownValues
 pub mod SetLaws
 pub mod Sound
+pub mod Discards
+pub mod Emptied

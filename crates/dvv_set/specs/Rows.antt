@@ -1,10 +1,10 @@
 -- The entries of a clock as the dvvset module has them, (actor, n, values), and what they mean.
-use Rattle.std.specs.Prelude.{Bool, ◌&&◌, if◌then◌else◌, List, [], ◌∷◌, ◌+◌, ◌-◌, ℕ, length, take, map, flat_map, unwrap_or, nat_le, Option, Some, None, T, IsTrue, is_some, cond}
+use Rattle.std.specs.Prelude.{Bool, ◌&&◌, if◌then◌else◌, List, [], ◌∷◌, ◌+◌, ◌-◌, ℕ, length, take, map, min, flat_map, unwrap_or, nat_le, Option, Some, None, T, IsTrue, is_some, cond}
 use Rattle.std.specs.List.{list_all}
 use Rattle.std.specs.FinMap.Entries.{find, put, is_sorted}
 use Rattle.actor_epoch.specs.declared.Actor.{Actor}
 use Rattle.actor_epoch.specs.declared.Dot.{Dot}
-use Rattle.actor_epoch.specs.Dots.{actor_cmp}
+use Rattle.actor_epoch.specs.Dots.{actor_cmp, counter_in}
 use Rattle.dvv_set.specs.Clocks.{Meaning}
 
 module _ {V : Type 0} where
@@ -69,3 +69,16 @@ module _ {V : Type 0} where
   abbrev pub count_new : List (Actor × (ℕ × List V)) → List (Actor × (ℕ × List V)) → ℕ
   count_new [] rows = 0
   count_new (row ∷ others) rows = cond (is_some (find actor_cmp row.0 rows)) 0 1 + count_new others rows
+
+  -- how many of an entry's values have dots above a counter
+  abbrev pub newer : ℕ → ℕ × List V → ℕ
+  newer seen row = min (length row.1) (row.0 - seen)
+
+  -- how many values have dots that pairs don't cover
+  abbrev pub count_uncovered : List Dot → List (Actor × (ℕ × List V)) → ℕ
+  count_uncovered pairs [] = 0
+  count_uncovered pairs (row ∷ rows) = newer (counter_in pairs row.0) row.1 + count_uncovered pairs rows
+
+  -- an entry without its values
+  abbrev pub emptied : Actor × (ℕ × List V) → Actor × (ℕ × List V)
+  emptied row = (row.0, (row.1.0, []))

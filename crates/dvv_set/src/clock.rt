@@ -1,13 +1,15 @@
 //! A dotted version vector set.
 
-ghost use Rattle.std.specs.Prelude.{◌≡◌, ◌<◌, ◌≤◌, ◌↔◌, [], length, map, OnOk, OnErr, IfErr, Some, None, Option};
+ghost use Rattle.std.specs.Prelude.{◌≡◌, ◌<◌, ◌≤◌, ◌↔◌, [], length, map, OnOk, OnErr, IfErr, None, unwrap_or};
 
 use crate::entry::{self, Entry};
-use crate::fault::{ClockFault, Refused};
+use crate::fault::{ClockFault, Rejected};
 use crate::join::Join;
+use crate::needed::Needed;
+use crate::room;
 use crate::values::Values;
-use actor_epoch::{Actor, Context, Dot, GREATEST_COUNTER, MOST_ACTORS};
-use std::alloc::Global;
+use actor_epoch::{Actor, Context, Counter, Dot, GREATEST_COUNTER, MOST_ACTORS};
+use std::alloc::{AllocError, Global};
 use std::default::MadeWith;
 use std::marker::Model;
 use std::mem;
@@ -18,7 +20,8 @@ use std::mem;
 /// A life, at one actor a: new, it knows nothing. `event(a, v)`: it knows the dot (a, 1), live with v. `event(a, w)`, by a
 /// writer that had not seen v: it knows (a, 1) and (a, 2) and shows w, v. A writer that had seen v alone brings the context
 /// (a, 1): `discard` takes v, and `event(a, x)` makes (a, 3) live, so that it shows x, w. A context of all, (a, 3), leaves
-/// no value; the dots stay known, and a sync with an older copy brings none of them back.
+/// no value; the dots stay known, and a sync with an older copy brings none of them back. `overwrite_ready(a, y)`, after
+/// `reserve`, puts y at (a, 4) and leaves nothing else.
 #[derive(Drop)]
 pub struct Clock<V: MadeWith<Global> + Drop> {
     entries: Vec<Entry<V>>,
@@ -40,10 +43,9 @@ impl<V: MadeWith<Global> + Drop> Model for Clock<V> {
 }
 
 impl<V: MadeWith<Global> + Drop> Clock<V> {
-    ghost use Rattle.std.specs.Option.{option_map};
     ghost use Rattle.actor_epoch.specs.Dots.{covers, counter_in};
     ghost use Rattle.dvv_set.specs.Clocks.{sync, discard, event};
-    ghost use Rattle.dvv_set.specs.Held.{IsReady, IsActorsFull, IsCounterFull, without};
+    ghost use Rattle.dvv_set.specs.Held.{IsReady, IsWithin, IsActorsFull, IsCounterFull, without, pairs_of, actors_after, counter_before, uncovered};
     ghost use Rattle.dvv_set.specs.Laws.{IsClock};
 
     /// A clock that has seen nothing.
@@ -60,16 +62,16 @@ impl<V: MadeWith<Global> + Drop> Clock<V> {
     /// on both sides the value of the side with the greater counter of its actor, its own where they are equal. Refused,
     /// with the other clock back, by ActorsFull exactly where both know more than 64 actors, else by NoMemory; never by
     /// CounterFull.
-    pub fn sync(&mut self, other: Clock<V>) -> Result<(), Refused<Clock<V>>>
+    pub fn sync(&mut self, other: Clock<V>) -> Result<(), Rejected<Clock<V>>>
         ensures synced { OnOk result (self.new.meaning ≡ sync self.old.meaning other.meaning) }
         ensures refused { IfErr result (λ refused. (refused.value ≡ other) × (self.new.meaning ≡ self.old.meaning)) }
         ensures full { IfErr result (λ refused. (refused.fault ≡ ClockFault.ActorsFull) ↔ (MOST_ACTORS < length (sync self.old.meaning other.meaning).known)) }
         ensures never { IfErr result (λ refused. refused.fault ≡ ClockFault.CounterFull → ⊥) }
         ensures within { OnOk result (length (sync self.old.meaning other.meaning).known ≤ MOST_ACTORS) }
     {
-        let new = entry::count_new(&self.entries, &other.entries);
-        if let Err(fault) = entry::make_room(&mut self.entries, new) {
-            return Err(Refused {
+        let new = room::count_new(&self.entries, &other.entries);
+        if let Err(fault) = room::make_room(&mut self.entries, new) {
+            return Err(Rejected {
                 fault,
                 value: other,
             });
@@ -88,8 +90,8 @@ impl<V: MadeWith<Global> + Drop> Clock<V> {
         ensures never { IfErr result (λ fault. fault ≡ ClockFault.CounterFull → ⊥) }
         ensures within { OnOk result (length (discard context.now self.old.meaning).known ≤ MOST_ACTORS) }
     {
-        let new = entry::count_new_pairs(&self.entries, context.pairs());
-        if let Err(fault) = entry::make_room(&mut self.entries, new) {
+        let new = room::count_new_pairs(&self.entries, context.pairs());
+        if let Err(fault) = room::make_room(&mut self.entries, new) {
             return Err(fault);
         }
         let alloc = *self.entries.allocator();
@@ -125,24 +127,64 @@ impl<V: MadeWith<Global> + Drop> Clock<V> {
         1 <= dot.counter && dot.counter <= counter
     }
 
+    /// The last counter of an actor that it knows, 0 where it knows none of its dots.
+    pub fn counter_of(&self, actor: Actor) -> Counter
+        ensures { result ≡ counter_in self.now.meaning.known actor }
+    {
+        let (counter, _) = entry::size_of(&self.entries, actor);
+        counter
+    }
+
+    /// How many of its values a context doesn't cover (None: all).
+    pub fn uncovered(&self, context: Option<&Context<'_>>) -> usize
+        ensures { result ≡ uncovered (unwrap_or (pairs_of context.entry) []) self.now.meaning }
+    {
+        room::uncovered(&self.entries, context)
+    }
+
+    /// What the next event of an actor needs, without what a context saw (None: nothing).
+    pub fn needed(&self, context: Option<&Context<'_>>, actor: Actor) -> Needed
+        ensures actors { result.actors ≡ actors_after self.now.meaning.known (pairs_of context.entry) actor }
+        ensures counter { result.counter ≡ counter_before self.now.meaning.known (pairs_of context.entry) actor }
+    {
+        let (counter, more) = room::required_room(&self.entries, context, actor);
+        Needed {
+            actors: self.entries.len() + more,
+            counter,
+        }
+    }
+
+    /// Makes room to put a value for an actor without what a context saw (None: nothing), where what that needs is within
+    /// the limits (a condition); no value changes. Refused where there is no memory.
+    pub fn reserve(&mut self, context: Option<&Context<'_>>, actor: Actor) -> Result<(), AllocError>
+        requires { IsWithin self.old.meaning.known (pairs_of context) actor }
+        ensures ready { OnOk result (IsReady self.new (pairs_of context.entry) actor) }
+        ensures unchanged { self.new.meaning ≡ self.old.meaning }
+    {
+        let (_, more) = room::required_room(&self.entries, context, actor);
+        let (_, values) = entry::size_of(&self.entries, actor);
+        self.entries.reserve(more)?;
+        self.spare.reserve(values + 1)?;
+        Ok(())
+    }
+
     /// Makes room to put a value for an actor without what a context saw (None: nothing); no value changes. Refused by
     /// ActorsFull exactly where more than 64 actors would be known, else by CounterFull exactly where the actor's counter
     /// is the greatest, else by NoMemory.
     pub fn ready(&mut self, context: Option<&Context<'_>>, actor: Actor) -> Result<(), ClockFault>
-        ensures ready { OnOk result (IsReady self.new (option_map (λ c. c.now) context.entry) actor) }
+        ensures ready { OnOk result (IsReady self.new (pairs_of context.entry) actor) }
         ensures unchanged { self.new.meaning ≡ self.old.meaning }
-        ensures actors_full { IfErr result (λ fault. (fault ≡ ClockFault.ActorsFull) ↔ IsActorsFull self.old.meaning.known (option_map (λ c. c.now) context.entry) actor) }
-        ensures counter_full { IfErr result (λ fault. (fault ≡ ClockFault.CounterFull) ↔ IsCounterFull self.old.meaning.known (option_map (λ c. c.now) context.entry) actor) }
+        ensures actors_full { IfErr result (λ fault. (fault ≡ ClockFault.ActorsFull) ↔ IsActorsFull self.old.meaning.known (pairs_of context.entry) actor) }
+        ensures counter_full { IfErr result (λ fault. (fault ≡ ClockFault.CounterFull) ↔ IsCounterFull self.old.meaning.known (pairs_of context.entry) actor) }
     {
-        let (seen, more) = entry::foresee(&self.entries, context, actor);
-        if seen == GREATEST_COUNTER && self.entries.len() + more <= MOST_ACTORS {
+        let needed = self.needed(context, actor);
+        if MOST_ACTORS < needed.actors {
+            return Err(ClockFault::ActorsFull);
+        }
+        if needed.counter == GREATEST_COUNTER {
             return Err(ClockFault::CounterFull);
         }
-        let (_, values) = entry::size_of(&self.entries, actor);
-        if let Err(fault) = entry::make_room(&mut self.entries, more) {
-            return Err(fault);
-        }
-        if let Err(_) = self.spare.reserve(values + 1) {
+        if self.reserve(context, actor).is_err() {
             return Err(ClockFault::NoMemory);
         }
         Ok(())
@@ -150,7 +192,7 @@ impl<V: MadeWith<Global> + Drop> Clock<V> {
 
     /// Puts a value at the next dot of an actor: it is known, and live with the value. Refused as `ready` without a context
     /// is, with the value back.
-    pub fn event(&mut self, actor: Actor, value: V) -> Result<(), Refused<V>>
+    pub fn event(&mut self, actor: Actor, value: V) -> Result<(), Rejected<V>>
         ensures put { OnOk result (self.new.meaning ≡ event actor value self.old.meaning) }
         ensures within { OnOk result (length (event actor value self.old.meaning).known ≤ MOST_ACTORS) }
         ensures counter { OnOk result (counter_in self.old.meaning.known actor < GREATEST_COUNTER) }
@@ -159,7 +201,7 @@ impl<V: MadeWith<Global> + Drop> Clock<V> {
         ensures counter_full { IfErr result (λ refused. (refused.fault ≡ ClockFault.CounterFull) ↔ IsCounterFull self.old.meaning.known None actor) }
     {
         if let Err(fault) = self.ready(None, actor) {
-            return Err(Refused { fault, value });
+            return Err(Rejected { fault, value });
         }
         self.put_ready(None, actor, value);
         Ok(())
@@ -168,11 +210,22 @@ impl<V: MadeWith<Global> + Drop> Clock<V> {
     /// Puts a value at the next dot of an actor, without what a context saw, in the room that `ready` made: it takes no
     /// memory and succeeds.
     pub fn put_ready(&mut self, context: Option<&Context<'_>>, actor: Actor, value: V)
-        requires { IsReady self.old (option_map (λ c. c.now) context) actor }
-        ensures { self.new.meaning ≡ event actor value (without (option_map (λ c. c.now) context.entry) self.old.meaning) }
+        requires { IsReady self.old (pairs_of context) actor }
+        ensures { self.new.meaning ≡ event actor value (without (pairs_of context.entry) self.old.meaning) }
     {
         let alloc = *self.entries.allocator();
         entry::absorb_context(alloc, &mut self.entries, context);
+        let spare = mem::replace(&mut self.spare, Vec::new(alloc));
+        entry::put_value(&mut self.entries, spare, actor, value);
+    }
+    /// Puts a value at the next dot of an actor, in place of all values, in the room that `ready` or `reserve` made without
+    /// a context: what it knew is known, and the value alone is live. It takes no memory and succeeds.
+    pub fn overwrite_ready(&mut self, actor: Actor, value: V)
+        requires { IsReady self.old None actor }
+        ensures { self.new.meaning ≡ event actor value (discard self.old.meaning.known self.old.meaning) }
+    {
+        let alloc = *self.entries.allocator();
+        entry::drop_values(&mut self.entries);
         let spare = mem::replace(&mut self.spare, Vec::new(alloc));
         entry::put_value(&mut self.entries, spare, actor, value);
     }

@@ -1,18 +1,16 @@
 //! The entry of one actor, and lists of entries that strictly rise by actor.
 
-ghost use Rattle.std.specs.Prelude.{◌≡◌, ◌≤◌, ◌<◌, ◌∷◌, ◌+◌, ℕ, List, T, IsTrue, length, unwrap_or, is_some, cond, vec_len, vec_capacity, [], ◌++◌, ◌↔◌, OnOk, IfErr, IfSome, Some, None};
-ghost use Rattle.std.specs.Option.{option_map};
+ghost use Rattle.std.specs.Prelude.{◌≡◌, ◌≤◌, ◌<◌, ◌∷◌, ◌+◌, ℕ, List, T, IsTrue, length, map, is_some, vec_len, vec_capacity, [], ◌++◌, Some};
 ghost use Rattle.std.specs.FinMap.Entries.{find, put, is_sorted};
 ghost use Rattle.std.specs.List.{list_all, insert};
-ghost use Rattle.actor_epoch.specs.Dots.{actor_cmp, actor_eq, counter_in};
-ghost use Rattle.dvv_set.specs.Rows.{is_row, row_of, merged, absorb, absorb_all, rows_of_pairs, with_value, AreRows, count_new, rows_without, known_of};
+ghost use Rattle.actor_epoch.specs.Dots.{actor_cmp};
+ghost use Rattle.dvv_set.specs.Rows.{is_row, row_of, merged, absorb, absorb_all, rows_of_pairs, with_value, AreRows, rows_without, emptied};
 ghost use Rattle.actor_epoch.specs.Contexts.{is_of_form};
 ghost use Rattle.actor_epoch.specs.declared.Dot.{Dot};
-ghost use Rattle.dvv_set.specs.Held.{known_with, known_after};
+ghost use Rattle.dvv_set.specs.Held.{pairs_of};
 ghost use Rattle.dvv_set.specs.Stored.{as_row, as_rows, seek};
 
-use crate::fault::ClockFault;
-use actor_epoch::{Actor, Context, ContextPairs, GREATEST_COUNTER, MOST_ACTORS};
+use actor_epoch::{Actor, Context, ContextPairs, Counter, GREATEST_COUNTER};
 use std::alloc::Global;
 use std::cmp::Ordering;
 
@@ -20,12 +18,12 @@ use std::cmp::Ordering;
 #[derive(Drop)]
 pub(crate) struct Entry<V> {
     pub(crate) actor: Actor,
-    pub(crate) counter: u32,
+    pub(crate) counter: Counter,
     pub(crate) values: Vec<V>,
 }
 
 impl<V> Entry<V> {
-    fn counter(&self) -> u32
+    fn counter(&self) -> Counter
         ensures { result ≡ self.now.counter }
     {
         self.counter
@@ -149,36 +147,8 @@ pub(crate) fn absorb_pairs<V: Drop>(
     }
 }
 
-/// How many of other entries have actors that are new.
-pub(crate) fn count_new<V>(entries: &[Entry<V>], others: &[Entry<V>]) -> usize
-    ensures { result ≡ count_new (as_rows others.now) (as_rows entries.now) }
-{
-    let mut new = 0usize;
-    for other in others {
-        if !has(entries, other.actor) {
-            new += 1;
-        }
-    }
-    new
-}
-
-/// How many of the pairs have actors that are new.
-pub(crate) fn count_new_pairs<V>(entries: &[Entry<V>], pairs: ContextPairs<'_>) -> usize
-    requires { IsTrue (is_of_form pairs) }
-    ensures counted { result ≡ count_new (rows_of_pairs pairs.entry) (as_rows entries.now) }
-    ensures few { result ≤ 64 }
-{
-    let mut new = 0usize;
-    for (actor, _) in pairs {
-        if !has(entries, actor) {
-            new += 1;
-        }
-    }
-    new
-}
-
 /// The counter of an actor's entry, and how many values it has: 0 and 0 where there is none.
-pub(crate) fn size_of<V>(entries: &Vec<Entry<V>>, actor: Actor) -> (u32, usize)
+pub(crate) fn size_of<V>(entries: &Vec<Entry<V>>, actor: Actor) -> (Counter, usize)
     requires { T (is_sorted actor_cmp (as_rows entries.now.items)) }
     ensures counter { result.0 ≡ (row_of actor (as_rows entries.now.items)).0 }
     ensures greatest { result.0 ≤ GREATEST_COUNTER }
@@ -235,24 +205,6 @@ fn add_values<V: Drop>(entry: &mut Entry<V>, values: Vec<V>)
     entry.counter += 1;
 }
 
-/// Makes room for more entries, which are refused past 64.
-pub(crate) fn make_room<V>(entries: &mut Vec<Entry<V>>, more: usize) -> Result<(), ClockFault>
-    requires few { length entries.old.items ≤ 64 }
-    requires more { more ≤ 65 }
-    ensures unchanged { entries.new.items ≡ entries.old.items }
-    ensures ok { OnOk result ((length entries.old.items + more ≤ MOST_ACTORS) × (length entries.old.items + more ≤ vec_capacity entries.new)) }
-    ensures full { IfErr result (λ fault. (fault ≡ ClockFault.ActorsFull) ↔ (MOST_ACTORS < length entries.old.items + more)) }
-    ensures never { IfErr result (λ fault. fault ≡ ClockFault.CounterFull → ⊥) }
-{
-    if entries.len() + more > MOST_ACTORS {
-        return Err(ClockFault::ActorsFull);
-    }
-    if entries.reserve(more).is_err() {
-        return Err(ClockFault::NoMemory);
-    }
-    Ok(())
-}
-
 /// Merges what a context saw into entries, for all of which there is room; no context saw nothing.
 pub(crate) fn absorb_context<V: Drop>(
     alloc: Global,
@@ -260,68 +212,22 @@ pub(crate) fn absorb_context<V: Drop>(
     context: Option<&Context<'_>>,
 )
     requires rows { AreRows (as_rows entries.old.items) }
-    requires room { length (rows_without (option_map (λ c. c.now) context) (as_rows entries.old.items)) ≤ vec_capacity entries.old }
-    ensures absorbed { as_rows entries.new.items ≡ rows_without (option_map (λ c. c.now) context.entry) (as_rows entries.old.items) }
+    requires room { length (rows_without (pairs_of context) (as_rows entries.old.items)) ≤ vec_capacity entries.old }
+    ensures absorbed { as_rows entries.new.items ≡ rows_without (pairs_of context.entry) (as_rows entries.old.items) }
     ensures capacity { vec_capacity entries.old ≤ vec_capacity entries.new }
-    ensures of_form { (ps : List Dot) → option_map (λ c. c.now) context.entry ≡ Some ps → IsTrue (is_of_form ps) }
+    ensures of_form { (ps : List Dot) → pairs_of context.entry ≡ Some ps → IsTrue (is_of_form ps) }
 {
     if let Some(context) = context {
         absorb_pairs(alloc, entries, context.pairs());
     }
 }
 
-/// The counter of an actor in pairs, 0 where it is in none.
-pub(crate) fn counter_in(pairs: ContextPairs<'_>, actor: Actor) -> u32
-    ensures { result ≡ counter_in pairs.entry actor }
+/// Drops the values of all entries; what they have seen stays.
+pub(crate) fn drop_values<V: Drop>(entries: &mut Vec<Entry<V>>)
+    ensures emptied { as_rows entries.new.items ≡ map emptied (as_rows entries.old.items) }
+    ensures capacity { vec_capacity entries.new ≡ vec_capacity entries.old }
 {
-    let mut most = 0u32;
-    for (other, counter) in pairs {
-        if other == actor && most < counter {
-            most = counter;
-        }
+    for at in 0..entries.len() {
+        entries[at].values.clear();
     }
-    most
-}
-
-/// What a context adds to entries: the counter of an actor in it, and how many of its actors are new.
-pub(crate) fn given_by<V>(
-    entries: &[Entry<V>],
-    context: Option<&Context<'_>>,
-    actor: Actor,
-) -> (u32, usize)
-    ensures counter { result.0 ≡ counter_in (unwrap_or (option_map (λ c. c.now) context.entry) []) actor }
-    ensures new { result.1 ≡ count_new (rows_of_pairs (unwrap_or (option_map (λ c. c.now) context.entry) [])) (as_rows entries.now) }
-    ensures few { result.1 ≤ 64 }
-    ensures of_form { (ps : List Dot) → option_map (λ c. c.now) context.entry ≡ Some ps → IsTrue (is_of_form ps) }
-{
-    match context {
-        None => (0, 0),
-        Some(context) => (
-            counter_in(context.pairs(), actor),
-            count_new_pairs(entries, context.pairs()),
-        ),
-    }
-}
-
-/// What is known after the next event of an actor, without what a context saw: the actor's counter before it, and how
-/// many actors there are more.
-pub(crate) fn foresee<V>(
-    entries: &Vec<Entry<V>>,
-    context: Option<&Context<'_>>,
-    actor: Actor,
-) -> (u32, usize)
-    requires { AreRows (as_rows entries.now.items) }
-    ensures counter { result.0 ≡ counter_in (known_with (option_map (λ c. c.now) context.entry) (known_of (as_rows entries.now.items))) actor }
-    ensures more { length entries.now.items + result.1 ≡ length (known_after actor (known_with (option_map (λ c. c.now) context.entry) (known_of (as_rows entries.now.items)))) }
-    ensures greatest { result.0 ≤ GREATEST_COUNTER }
-    ensures few { result.1 ≤ 65 }
-    ensures of_form { (ps : List Dot) → option_map (λ c. c.now) context.entry ≡ Some ps → IsTrue (is_of_form ps) }
-{
-    let (own, _) = size_of(entries, actor);
-    let (given, new) = given_by(entries, context, actor);
-    let seen = own.max(given);
-    if seen == 0 {
-        return (seen, new + 1);
-    }
-    (seen, new)
 }

@@ -18,7 +18,7 @@ pub enum ClockFault {
 
 /// A call that was refused, with what it was given.
 #[derive(Debug, Drop)]
-pub struct Refused<T> {
+pub struct Rejected<T> {
     /// Why.
     pub fault: ClockFault,
     /// What comes back.

@@ -1,7 +1,7 @@
 //! The pairs of a clock, one after another.
 
 use crate::entry::Entry;
-use actor_epoch::Actor;
+use actor_epoch::{Actor, Counter};
 use std::marker::Model;
 
 /// The pairs (actor, n) of a clock that are still to come, by rising actor. Contracts see the list of them.
@@ -22,7 +22,7 @@ impl<'a, V> Model for Join<'a, V> {
 }
 
 impl<'a, V> Iterator for Join<'a, V> {
-    type Item = (Actor, u32);
+    type Item = (Actor, Counter);
 
     ghost use Rattle.std.specs.Prelude.{length};
     ghost use Rattle.std.specs.Iterator.{YieldsFirstBy, at_most};
@@ -32,7 +32,7 @@ impl<'a, V> Iterator for Join<'a, V> {
 
     ghost remaining = { λ p. at_most (length p) };
 
-    fn next(&mut self) -> Option<(Actor, u32)> {
+    fn next(&mut self) -> Option<(Actor, Counter)> {
         let (entry, rest) = self.entries.split_first()?;
         self.entries = rest;
         Some((entry.actor, entry.counter))

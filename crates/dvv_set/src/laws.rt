@@ -5,7 +5,7 @@ ghost use Rattle.actor_epoch.specs.declared.Actor.{Actor};
 ghost use Rattle.actor_epoch.specs.declared.Dot.{Dot};
 ghost use Rattle.actor_epoch.specs.Dots.{covers};
 ghost use Rattle.dvv_set.specs.Clocks.{Meaning, sync, discard};
-ghost use Rattle.dvv_set.specs.Laws.{KnowsItsLive, SameDots, SyncKnows, SyncKeeps, DiscardKnows, DiscardKeeps, EventKnows, EventKeeps};
+ghost use Rattle.dvv_set.specs.Laws.{IsClock, KnowsItsLive, SameDots, SyncKnows, SyncKeeps, DiscardKnows, DiscardKeeps, EventKnows, EventKeeps};
 
 /// Each call as an operation on sets of dots: a dot is known after a sync where either side knows it, and live where
 /// both have it live, or one has it live and the other doesn't know it; a discard makes the context's dots known and not
@@ -27,4 +27,10 @@ pub fn sync_joins<V>()
     ensures associative { (a b c : Meaning V) → KnowsItsLive a → KnowsItsLive b → KnowsItsLive c → SameDots (sync (sync a b) c) (sync a (sync b c)) }
     ensures above { (a b : Meaning V) (dot : Dot) → IsTrue (covers a.known dot) → IsTrue (covers (sync a b).known dot) }
     ensures discards { (pairs : List Dot) (clock : Meaning V) → discard pairs clock ≡ sync clock (record { known = pairs; live = [] }) }
+{}
+
+/// A discard of all that a clock knows leaves what it knows and no value.
+pub fn discard_of_all_leaves_no_value<V>()
+    ensures { (clock : Meaning V) → IsClock clock
+        → discard clock.known clock ≡ record { known = clock.known; live = [] } }
 {}

@@ -8,6 +8,9 @@
 //! Known and live dots follow the `dvvset` module of Riak without its anonymous values; `discard` is this project's name
 //! for the sync with a context's pairs that its update does first. An actor is found by a walk over the entries, 64 at
 //! most; an event moves the actor's values once; the calls take memory for entries that are new and for one value more.
+//!
+//! Where a change is accepted before it is made, `uncovered` and `needed` tell what its limits are checked against,
+//! `reserve` makes its room and is refused by memory alone, and `put_ready` or `overwrite_ready` makes it in that room.
 #![tactic(auto)]
 
 mod clock;
@@ -15,13 +18,13 @@ mod entry;
 mod fault;
 mod join;
 mod laws;
+mod needed;
+mod room;
 mod values;
 
 pub use clock::Clock;
-pub use fault::{ClockFault, Refused};
+pub use fault::{ClockFault, Rejected};
 pub use join::Join;
-pub use laws::{calls_are_set_operations, sync_joins};
+pub use laws::{calls_are_set_operations, discard_of_all_leaves_no_value, sync_joins};
+pub use needed::Needed;
 pub use values::Values;
-
-#[cfg(test)]
-mod tests;

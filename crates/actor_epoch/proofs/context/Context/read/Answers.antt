@@ -1,27 +1,42 @@
-use Rattle.std.proofs.Common.{◌≡◌, ℕ, suc, ◌<◌, ◌/◌, ◌∷◌, ◌∙◌, length, get_or, sym, ap, arith}
-use Rattle.actor_epoch.specs.Contexts.{is_of_form, spelling}
-use Rattle.actor_epoch.proofs.Entries.{flat_map-entries_in}
-use Rattle.actor_epoch.proofs.Spellings.{form-is, length-is, entries-are}
+use Rattle.std.proofs.Common.{subst, sym, ◌∙◌, arith}
+use Rattle.actor_epoch.specs.Contexts.{ReadsAs}
+use Rattle.actor_epoch.proofs.Given.{AreBytes, read-context, read-malformed, read-none, reads_as, other_version, part_entry, not_formed, is_context-found}
 use Rattle.actor_epoch.proofs.context.Context.read.Goals as goal
-use Rattle.actor_epoch.proofs.context.Context.read.Goals.{then-form-ne-FORM-via-then-form-ne-FORM, then-form-ne-FORM-via-else-form-ne-FORM+then-entries-ne0, then-form-ne-FORM-via-else-form-ne-FORM+else-entries-ne0+then-not-are_of_form}
+use Rattle.actor_epoch.proofs.context.Context.read.Goals.{then-version-ne-VERSION-via-then-version-ne-VERSION, then-version-ne-VERSION-via-else-version-ne-VERSION+then-entries-ne0, then-version-ne-VERSION-via-else-version-ne-VERSION+else-entries-ne0+then-not-are_of_form}
 
-pub returns-then-form-ne-FORM : goal.returns-then-form-ne-FORM
-returns-then-form-ne-FORM c = λ pairs h e.
-    let form = c.in_ok-form.form.now in
-    let entries = c.in_ok-form.entries.now in
-    let spelled : form ∷ entries ≡ spelling pairs = sym c.in_ok-form.ensures.cases.0 ∙ e in
-    let count = length-is form entries pairs spelled in
-    elim c.then-form-ne-FORM.branch [
-      | then-form-ne-FORM-via-then-form-ne-FORM w ↦ w.if-form-ne-FORM.true (form-is form entries pairs spelled)
-      | then-form-ne-FORM-via-else-form-ne-FORM+then-entries-ne0 w ↦ omega arith
-      | then-form-ne-FORM-via-else-form-ne-FORM+else-entries-ne0+then-not-are_of_form w ↦
-          let same = ap is_of_form (entries-are form entries pairs h spelled) in
-          cc
-    ]
+pub returns-in_err-version-clause-read : goal.returns-in_err-version-clause-read
+returns-in_err-version-clause-read c = c.from_residual.ensures ∙ read-none c.args.bytes.now c.in_err-version.ensures.cases
 
-pub returns : goal.returns
-returns c =
-    let entries = c.in_ok-form.entries.now in
-    let small : (i : ℕ) → get_or entries i 0 < 256 = λ i. let fits = rw c.in_ok-form.ensures.cases.0 at (c.type_inv.bytes (suc i)) in omega arith in
-    let spelled = flat_map-entries_in (length entries / 16) entries (omega arith) small in
-    (sym c.are_of_form.ensures ∙ c.if-not-are_of_form.false, c.in_ok-form.ensures.cases.0 ∙ (λ i. c.if-form-ne-FORM.false i ∷ sym spelled i))
+pub returns-then-version-ne-VERSION-clause-read : goal.returns-then-version-ne-VERSION-clause-read
+returns-then-version-ne-VERSION-clause-read c =
+    let version = c.in_ok-version.version.now in
+    let entries = c.in_ok-version.entries.now in
+    read-malformed c.args.bytes.now version entries c.in_ok-version.ensures.cases.0 (elim c.then-version-ne-VERSION.branch [
+      | then-version-ne-VERSION-via-then-version-ne-VERSION w ↦ other_version version entries w.if-version-ne-VERSION.true
+      | then-version-ne-VERSION-via-else-version-ne-VERSION+then-entries-ne0 w ↦ part_entry version entries w.if-entries-ne0.true
+      | then-version-ne-VERSION-via-else-version-ne-VERSION+else-entries-ne0+then-not-are_of_form w ↦
+          not_formed version entries (sym w.are_of_form.ensures ∙ w.if-not-are_of_form.true)
+    ])
+
+pub returns-clause-read : goal.returns-clause-read
+returns-clause-read c =
+    let version = c.in_ok-version.version.now in
+    let entries = c.in_ok-version.entries.now in
+    read-context c.args.bytes.now version entries c.in_ok-version.ensures.cases.0
+    (is_context-found version entries c.if-version-ne-VERSION.false c.if-entries-ne0.false (sym c.are_of_form.ensures ∙ c.if-not-are_of_form.false))
+
+-- the older relation
+pub returns-in_err-version-clause-reads : goal.returns-in_err-version-clause-reads
+returns-in_err-version-clause-reads c =
+    let small : AreBytes c.args.bytes.now = λ i. let fits = c.type_inv.bytes i in omega arith in
+    subst (ReadsAs c.args.bytes.now) (sym (returns-in_err-version-clause-read c)) (reads_as c.args.bytes.now small)
+
+pub returns-then-version-ne-VERSION-clause-reads : goal.returns-then-version-ne-VERSION-clause-reads
+returns-then-version-ne-VERSION-clause-reads c =
+    let small : AreBytes c.args.bytes.now = λ i. let fits = c.type_inv.bytes i in omega arith in
+    subst (ReadsAs c.args.bytes.now) (sym (returns-then-version-ne-VERSION-clause-read c)) (reads_as c.args.bytes.now small)
+
+pub returns-clause-reads : goal.returns-clause-reads
+returns-clause-reads c =
+    let small : AreBytes c.args.bytes.now = λ i. let fits = c.type_inv.bytes i in omega arith in
+    subst (ReadsAs c.args.bytes.now) (sym (returns-clause-read c)) (reads_as c.args.bytes.now small)

@@ -1,7 +1,7 @@
 use Rattle.std.proofs.Common.{◌≡◌, ◌≤◌, ◌+◌, length}
 use Rattle.dvv_set.specs.Rows.{count_new, rows_of_pairs}
 use Rattle.dvv_set.specs.Stored.{as_rows}
-use Rattle.dvv_set.proofs.entry.count_new_pairs.Given as goal
+use Rattle.dvv_set.proofs.room.count_new_pairs.Given as goal
 
 abbrev pub invariant-loop-actor : goal.invariant-loop-actor
 invariant-loop-actor g l =

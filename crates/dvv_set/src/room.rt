@@ -1,0 +1,129 @@
+//! What a change of a clock needs: how many actors are new, and room for them.
+
+ghost use Rattle.std.specs.Prelude.{◌≡◌, ◌≤◌, ◌<◌, ◌+◌, ◌-◌, List, [], IsTrue, length, min, unwrap_or, vec_capacity, ◌↔◌, OnOk, IfErr, Some};
+ghost use Rattle.actor_epoch.specs.declared.Dot.{Dot};
+ghost use Rattle.actor_epoch.specs.Contexts.{is_of_form};
+ghost use Rattle.actor_epoch.specs.Dots.{counter_in};
+ghost use Rattle.dvv_set.specs.Held.{pairs_of, actors_after, counter_before};
+ghost use Rattle.dvv_set.specs.Rows.{AreRows, known_of, rows_of_pairs, count_new, count_uncovered, newer};
+ghost use Rattle.dvv_set.specs.Stored.{as_row, as_rows};
+
+use crate::entry::{Entry, has, size_of};
+use crate::fault::ClockFault;
+use actor_epoch::{Actor, Context, ContextPairs, Counter, GREATEST_COUNTER, MOST_ACTORS};
+
+/// How many of other entries have actors that are new.
+pub(crate) fn count_new<V>(entries: &[Entry<V>], others: &[Entry<V>]) -> usize
+    ensures { result ≡ count_new (as_rows others.now) (as_rows entries.now) }
+{
+    let mut new = 0usize;
+    for other in others {
+        if !has(entries, other.actor) {
+            new += 1;
+        }
+    }
+    new
+}
+
+/// How many of the pairs have actors that are new.
+pub(crate) fn count_new_pairs<V>(entries: &[Entry<V>], pairs: ContextPairs<'_>) -> usize
+    requires { IsTrue (is_of_form pairs) }
+    ensures counted { result ≡ count_new (rows_of_pairs pairs.entry) (as_rows entries.now) }
+    ensures few { result ≤ 64 }
+{
+    let mut new = 0usize;
+    for (actor, _) in pairs {
+        if !has(entries, actor) {
+            new += 1;
+        }
+    }
+    new
+}
+
+/// What a context adds to entries: the counter of an actor in it, and how many of its actors are new.
+fn context_counts<V>(
+    entries: &[Entry<V>],
+    context: Option<&Context<'_>>,
+    actor: Actor,
+) -> (Counter, usize)
+    ensures counter { result.0 ≡ counter_in (unwrap_or (pairs_of context.entry) []) actor }
+    ensures new { result.1 ≡ count_new (rows_of_pairs (unwrap_or (pairs_of context.entry) [])) (as_rows entries.now) }
+    ensures few { result.1 ≤ 64 }
+    ensures of_form { (ps : List Dot) → pairs_of context.entry ≡ Some ps → IsTrue (is_of_form ps) }
+{
+    match context {
+        None => (0, 0),
+        Some(context) => (
+            context.counter_of(actor),
+            count_new_pairs(entries, context.pairs()),
+        ),
+    }
+}
+
+/// What is known after the next event of an actor, without what a context saw: the actor's counter before it, and how
+/// many actors there are more.
+pub(crate) fn required_room<V>(
+    entries: &Vec<Entry<V>>,
+    context: Option<&Context<'_>>,
+    actor: Actor,
+) -> (Counter, usize)
+    requires { AreRows (as_rows entries.now.items) }
+    ensures counter { result.0 ≡ counter_before (known_of (as_rows entries.now.items)) (pairs_of context.entry) actor }
+    ensures more { length entries.now.items + result.1
+        ≡ actors_after (known_of (as_rows entries.now.items)) (pairs_of context.entry) actor }
+    ensures greatest { result.0 ≤ GREATEST_COUNTER }
+    ensures few { result.1 ≤ 65 }
+    ensures of_form { (ps : List Dot) → pairs_of context.entry ≡ Some ps → IsTrue (is_of_form ps) }
+{
+    let (own, _) = size_of(entries, actor);
+    let (given, new) = context_counts(entries, context, actor);
+    let seen = own.max(given);
+    if seen == 0 {
+        return (seen, new + 1);
+    }
+    (seen, new)
+}
+
+/// How many values entries have that a context doesn't cover.
+pub(crate) fn uncovered<V>(entries: &[Entry<V>], context: Option<&Context<'_>>) -> usize
+    requires { length entries.now ≤ 64 }
+    ensures { result ≡ count_uncovered (unwrap_or (pairs_of context.entry) []) (as_rows entries.now) }
+{
+    let mut count = 0usize;
+    for entry in entries {
+        count += newer(entry, context);
+    }
+    count
+}
+
+/// How many values of an entry a context doesn't cover: those above the actor's counter in it, which are the newest.
+fn newer<V>(entry: &Entry<V>, context: Option<&Context<'_>>) -> usize
+    ensures newer { result ≡ newer (counter_in (unwrap_or (pairs_of context.entry) []) entry.now.actor) (as_row entry.now).1 }
+    ensures few { result ≤ GREATEST_COUNTER }
+{
+    let seen = match context {
+        None => 0,
+        Some(context) => context.counter_of(entry.actor),
+    };
+    let above = entry.counter.saturating_sub(seen);
+    entry.values.len().min(above as usize)
+}
+
+/// Makes room for more entries, which are refused past 64.
+pub(crate) fn make_room<V>(entries: &mut Vec<Entry<V>>, more: usize) -> Result<(), ClockFault>
+    requires few { length entries.old.items ≤ 64 }
+    requires more { more ≤ 65 }
+    ensures unchanged { entries.new.items ≡ entries.old.items }
+    ensures ok { OnOk result ((length entries.old.items + more ≤ MOST_ACTORS)
+        × (length entries.old.items + more ≤ vec_capacity entries.new)) }
+    ensures full { IfErr result (λ fault. (fault ≡ ClockFault.ActorsFull) ↔ (MOST_ACTORS < length entries.old.items + more)) }
+    ensures never { IfErr result (λ fault. fault ≡ ClockFault.CounterFull → ⊥) }
+{
+    if entries.len() + more > MOST_ACTORS {
+        return Err(ClockFault::ActorsFull);
+    }
+    if entries.reserve(more).is_err() {
+        return Err(ClockFault::NoMemory);
+    }
+    Ok(())
+}
