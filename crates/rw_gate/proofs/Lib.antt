@@ -1,5 +1,5 @@
 pub mod Prefixes
 pub mod Logs
 pub mod Appending
-pub mod Lodging
+pub mod SlotValues
 pub mod Below

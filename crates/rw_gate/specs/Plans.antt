@@ -2,7 +2,12 @@
 use Rattle.rw_gate.specs.declared.kept.Plan.{Plan}
 use Rattle.rw_gate.specs.declared.kept.Plan.TheVariants.{Change, Nothing}
 
--- the first of a planned change, the second of an answer that changes nothing
-abbrev pub MatchPlan : {C R : Type 0} → Plan C R → (C → Type 0) → (R → Type 0) → Type 0
-MatchPlan (Change c) p q = p c
-MatchPlan (Nothing r) p q = q r
+-- where a change is planned, this holds of it
+abbrev pub IfChange : {C R : Type 0} → Plan C R → (C → Type 0) → Type 0
+IfChange (Change c) fact = fact c
+IfChange (Nothing reply) fact = Unit {0}
+
+-- where nothing changes, this holds of the answer
+abbrev pub IfNothing : {C R : Type 0} → Plan C R → (R → Type 0) → Type 0
+IfNothing (Change c) fact = Unit {0}
+IfNothing (Nothing reply) fact = fact reply

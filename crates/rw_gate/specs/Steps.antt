@@ -1,24 +1,28 @@
 -- The rule of a gate's log, and what the two kinds of step on its word tell.
 use Rattle.std.specs.Prelude.{◌≡◌, ◌≢◌, ℕ, true, List, [], ◌∷◌, ◌++◌, length}
 use Rattle.logbook.specs.Pages.{Cell, Step, View, Book, Named}
-use Rattle.rw_gate.specs.declared.log.Entry.{Entry}
+use Rattle.rw_gate.specs.declared.log.LogEntry.{LogEntry}
 use Rattle.rw_gate.specs.Logs.{events, IsRun}
-
--- the one word is the number of the events, and the log is a run of the machine
-pub record IsLawful {S E State : Type 0} (content : S → State) (accepts : State → E → State → Type 0) (cells : List Cell) (log : List (Entry S E)) : Type 0 where
-  pub counted : cells ≡ (length (events log), true) ∷ []
-  pub run : IsRun content accepts log
 
 -- the word of a log
 abbrev pub length_word : Book → Named
 length_word b = record { tracked = true; key = 0; book = b }
 
--- a look: the whole log was seen, and the number of its events found
-abbrev pub Looks : {S E State : Type 0} → (S → State) → (State → E → State → Type 0) → {A : Type 0} → Step (Entry S E) → View (Entry S E) A → ℕ → View (Entry S E) A → Type 0
-Looks content accepts s v found w = (length (events w.0) ≡ found) × IsRun content accepts w.0
+module _ {S E State : Type 0} (content : S → State) (accepts : State → E → State → Type 0) where
+  -- the one word is the number of the events, and the log is a run of the machine
+  pub record IsLawful (cells : List Cell) (log : List (LogEntry S E)) : Type 0 where
+    pub counted : cells ≡ (length (events log), true) ∷ []
+    pub run : IsRun content accepts log
 
--- a publish: where the number is the expected one, what had been seen was the whole log, and the entry stands behind it; where it is not, the whole log was seen
-pub record Publishes {S E State : Type 0} (content : S → State) (accepts : State → E → State → Type 0) {A : Type 0} (s : Step (Entry S E)) (v : View (Entry S E) A) (found : ℕ) (w : View (Entry S E) A) : Type 0 where
-  pub hit : found ≡ s.old → (w.0 ≡ v.0 ++ s.ask ∷ []) × (length (events v.0) ≡ found)
-  pub missed : found ≢ s.old → length (events w.0) ≡ found
-  pub legal : IsRun content accepts w.0
+  -- a look: the whole log was seen, and the number of its events found
+  abbrev pub Looks : {A : Type 0} → Step (LogEntry S E) → View (LogEntry S E) A → ℕ
+      → View (LogEntry S E) A → Type 0
+  Looks s v found w = (length (events w.0) ≡ found) × IsRun content accepts w.0
+
+  -- a publish: where the number is the expected one, what had been seen was the whole log, and the entry
+  -- stands behind it; where it is not, the whole log was seen
+  pub record Publishes {A : Type 0} (s : Step (LogEntry S E)) (v : View (LogEntry S E) A) (found : ℕ)
+      (w : View (LogEntry S E) A) : Type 0 where
+    pub hit : found ≡ s.old → (w.0 ≡ v.0 ++ s.ask ∷ []) × (length (events v.0) ≡ found)
+    pub missed : found ≢ s.old → length (events w.0) ≡ found
+    pub legal : IsRun content accepts w.0

@@ -1,14 +1,15 @@
 //! The gate: a slot with a counting word, beside the word of a log.
 ghost use Rattle.std.specs.Prelude.{◌≡◌, [], IfOk, IfErr, IfSome, Some};
-ghost use Rattle.rw_gate.specs.Histories.{IsLodged, IsReplay};
+ghost use Rattle.rw_gate.specs.Histories.{IsSlotValue, IsReplayed};
 
 use crate::kept::Kept;
-use crate::lodged::Lodged;
-use crate::log::{Law, Length, SeenLog};
+use crate::log::{GateRule, Length, SeenLog};
 use crate::pass::Pass;
 use crate::read::ReadRight;
+use crate::slot_value::SlotValue;
+use crate::words;
 use crate::write::WriteRight;
-use counted_slot::{Counted, FREE, MARKED, MOST_READERS, ONE_READER, PRESENT, TAKEN};
+use counted_slot::{Counted, FREE, PRESENT, TAKEN};
 use logbook::{Pens, Seen, Start, Word};
 use std::alloc::Global;
 use std::marker::Model;
@@ -39,7 +40,7 @@ use std::thread;
 /// The gate is `Send` and `Sync` where the state is.
 #[derive(Drop)]
 pub struct Gate<S: Kept> {
-    slot: Counted<Option<Lodged<S>>>,
+    slot: Counted<Option<SlotValue<S>>>,
     pub(crate) word: Length<S>,
     start: SeenLog<S>,
 }
@@ -48,26 +49,27 @@ impl<S: Kept> Model for Gate<S> {
     ghost use Rattle.std.specs.Prelude.{◌≡◌};
     ghost use Rattle.rw_gate.specs.Logs.{IsNew};
     ghost use Rattle.rw_gate.specs.Steps.{length_word};
-    ghost use Rattle.rw_gate.specs.Views.{Home, home_coded, home_of};
+    ghost use Rattle.rw_gate.specs.Views.{GateId, gate_id_coded, gate_id};
 
-    ghost Value = { Home S };
+    ghost Value = { GateId S };
 
-    ghost coded = { home_coded S.code };
+    ghost coded = { gate_id_coded S.code };
 
-    ghost view = { λ g. home_of g.start.book g.start.log };
+    ghost view = { λ g. gate_id g.start.book g.start.log };
 
-    ghost invariant = { λ g. (g.slot ≡ g.start) × (g.word ≡ length_word g.start.book) × IsNew g.start.log };
+    ghost invariant = { λ g. (g.slot ≡ g.start)
+        × (g.word ≡ length_word g.start.book) × IsNew g.start.log };
 }
 
 impl<S: Kept> Gate<S> {
-    /// A gate round a state that has no history yet. It takes no memory. The state comes back where no gate is made, which no path of today's
-    /// code leads to.
+    /// A gate round a state that has no history yet. It takes no memory. The state is given back where no gate is made, which no path of
+    /// today's code leads to.
     pub fn new(alloc: Global, state: S) -> Result<Gate<S>, S>
         ensures ok { IfOk result (λ g. g.opening ≡ Some state) }
         ensures err { IfErr result (λ s. s ≡ state) }
     {
         let _ = alloc;
-        let (seen, mut pens): (SeenLog<S>, Pens) = Seen::open_row::<S, Law<S>>(
+        let (seen, mut pens): (SeenLog<S>, Pens) = Seen::open_row::<S, GateRule<S>>(
             &state,
             Start::alone(),
             1,
@@ -78,18 +80,18 @@ impl<S: Kept> Gate<S> {
             word: Word::tracked(0, &mut pen),
             start: seen.again(),
         };
-        match gate.put_back(Lodged {
+        match gate.put_back(SlotValue {
             state,
             seen,
             count: 0,
         }) {
             Ok(()) => Ok(gate),
-            Err(lodged) => {
-                let Lodged {
+            Err(value) => {
+                let SlotValue {
                     state,
                     seen: _,
                     count: _,
-                } = lodged;
+                } = value;
                 Err(state)
             }
         }
@@ -97,7 +99,7 @@ impl<S: Kept> Gate<S> {
 
     /// A pass of this gate, whose holder has seen nothing yet.
     pub fn pass(&self) -> Pass<S>
-        ensures home { result.home ≡ self.now }
+        ensures gate { result.gate ≡ self.now }
         ensures prefix { result.prefix ≡ [] }
         ensures own { result.own ≡ [] }
     {
@@ -107,13 +109,12 @@ impl<S: Kept> Gate<S> {
     /// One attempt to come in as a reader. `None` where a writer is in, where the state is marked, where `MOST_READERS` are in, and
     /// where another call came between.
     pub fn try_read(&self) -> Option<ReadRight<'_, S>>
-        ensures { IfSome result (λ r. r.home ≡ self.now) }
+        ensures gate { IfSome result (λ r. r.gate ≡ self.now) }
+        ensures state { IfSome result (IsReplayed S.content S.accepts) }
     {
         let word = self.slot.load();
-        if word % 4 != PRESENT || word % 0x1_0000_0000 / 4 == MOST_READERS {
-            return None;
-        }
-        let (found, claim) = self.slot.turn(word, word + ONE_READER);
+        let next = words::entered(word)?;
+        let (found, claim) = self.slot.turn(word, next);
         if found != word {
             claim.done();
             return None;
@@ -123,13 +124,11 @@ impl<S: Kept> Gate<S> {
 
     /// One attempt to take the state in hand, marked or not. `None` where a reader or a writer is in, and where another call came between.
     pub fn try_write(&self) -> Option<WriteRight<'_, S>>
-        ensures home { IfSome result (λ r. r.home ≡ self.now) }
-        ensures state { IfSome result (λ r. IsReplay S.content S.accepts r.home r.history r.state) }
+        ensures gate { IfSome result (λ r. r.gate ≡ self.now) }
+        ensures state { IfSome result (IsReplayed S.content S.accepts) }
     {
         let word = self.slot.load();
-        let is_in_place = word % 4 == PRESENT || word % 4 == MARKED;
-        let has_readers = word % 0x1_0000_0000 / 4 != 0;
-        if !is_in_place || has_readers {
+        if !words::admits_writer(word) {
             return None;
         }
         let (found, claim) = self.slot.turn(word, TAKEN);
@@ -138,17 +137,16 @@ impl<S: Kept> Gate<S> {
             return None;
         }
         // the value goes into the hand, and the word says FREE until it is put back
-        let lodged = claim.put(None, FREE)?;
-        Some(WriteRight::new(self, lodged))
+        let value = claim.put(None, FREE)?;
+        Some(WriteRight::new(self, value))
     }
 
     /// One attempt to mark the state, so that no further reader comes in, and whether it did. Who reads stays.
     pub fn mark(&self) -> bool {
         let word = self.slot.load();
-        if word % 4 != PRESENT {
+        let Some(marked) = words::marked(word) else {
             return false;
-        }
-        let marked = word + (MARKED - PRESENT);
+        };
         let (found, claim) = self.slot.turn(word, marked);
         claim.done();
         found == word
@@ -157,10 +155,9 @@ impl<S: Kept> Gate<S> {
     /// One attempt to take the mark away, and whether it did.
     pub fn unmark(&self) -> bool {
         let word = self.slot.load();
-        if word % 4 != MARKED {
+        let Some(unmarked) = words::unmarked(word) else {
             return false;
-        }
-        let unmarked = word - (MARKED - PRESENT);
+        };
         let (found, claim) = self.slot.turn(word, unmarked);
         claim.done();
         found == word
@@ -168,7 +165,8 @@ impl<S: Kept> Gate<S> {
 
     /// Waits until it may read: attempts, again and again.
     pub fn read<R: Wait>(&self, rt: &R) -> ReadRight<'_, S>
-        ensures { result.home ≡ self.now }
+        ensures gate { result.gate ≡ self.now }
+        ensures state { IsReplayed S.content S.accepts result }
     {
         for _ in rt.forever() {
             if let Some(right) = self.try_read() {
@@ -182,8 +180,8 @@ impl<S: Kept> Gate<S> {
     /// Waits until it has the state in hand. While it waits it marks the state, at each turn at which it finds it unmarked, so that
     /// readers leave and none comes.
     pub fn write<R: Wait>(&self, rt: &R) -> WriteRight<'_, S>
-        ensures home { result.home ≡ self.now }
-        ensures state { IsReplay S.content S.accepts result.home result.history result.state }
+        ensures gate { result.gate ≡ self.now }
+        ensures state { IsReplayed S.content S.accepts result }
     {
         for _ in rt.forever() {
             if let Some(right) = self.try_write() {
@@ -195,17 +193,19 @@ impl<S: Kept> Gate<S> {
         unreachable!()
     }
 
-    /// Lays a state in place, unmarked. Only who has the state in hand finds the slot free, so it does not come back.
-    pub(crate) fn put_back(&self, lodged: Lodged<S>) -> Result<(), Lodged<S>>
-        requires { IsLodged S.content S.accepts self.now lodged.seen.book lodged.seen.log lodged.count lodged.state }
-        ensures { IfErr result (λ l. l ≡ lodged) }
+    /// Lays a state in place, unmarked. It is given back where the slot is not free, which no path leads to: only the holder of the state
+    /// puts it back.
+    pub(crate) fn put_back(&self, value: SlotValue<S>) -> Result<(), SlotValue<S>>
+        requires { IsSlotValue S.content S.accepts self.now
+            value.seen.book value.seen.log value.count value.state }
+        ensures { IfErr result (λ l. l ≡ value) }
     {
         let (found, claim) = self.slot.turn(FREE, TAKEN);
         if found != FREE {
             claim.done();
-            return Err(lodged);
+            return Err(value);
         }
-        claim.put(Some(lodged), PRESENT);
+        claim.put(Some(value), PRESENT);
         Ok(())
     }
 }

@@ -1,6 +1,4 @@
 //! What a gate keeps: a value that stands for the state of a machine.
-ghost use Rattle.std.specs.Prelude.{◌≡◌, MatchResult};
-
 use std::alloc::Global;
 
 /// What is planned for an ask.
@@ -16,15 +14,15 @@ pub enum Plan<C, R> {
 ///
 /// An ask that changes something is answered in two steps. `prepare` plans it: it may take memory and may refuse, and leaves the
 /// content as it was. `apply` makes the change: it takes no memory and cannot refuse. Between them the change becomes an event of the
-/// history, and the event says what was asked and what is told. `Counter` is the smallest example.
+/// history, and the event says what was asked and what is answered. `Counter` is the smallest example.
 pub trait Kept: Drop {
-    /// What may be asked.
-    type Ask;
+    /// What may be asked. It is let go where it is not handed to `prepare`.
+    type Ask: Drop;
 
     /// An ask that was accepted, as `prepare` hands it to `apply`.
     type Change: Drop;
 
-    /// What is told.
+    /// The answer to an ask that was accepted, or that changes nothing.
     type Reply;
 
     /// Why an ask was refused.
@@ -34,8 +32,8 @@ pub trait Kept: Drop {
     /// what happened.
     type Event;
 
-    ghost use Rattle.std.specs.Prelude.{◌≡◌, MatchResult};
-    ghost use Rattle.rw_gate.specs.Plans.{MatchPlan};
+    ghost use Rattle.std.specs.Prelude.{◌≡◌, IfOk, IfErr};
+    ghost use Rattle.rw_gate.specs.Plans.{IfChange, IfNothing};
 
     // The machine's states, and the one that a value stands for. Room that was reserved is no part of it.
     ghost State: { Type 0 };
@@ -43,11 +41,11 @@ pub trait Kept: Drop {
     ghost content: { Self → State };
     // The machine accepts the event in the first state, and goes on to the second.
     ghost accepts: { State → Self.Event → State → Type 0 };
-    // The machine tells this reply to the ask, and stays as it is.
+    // The machine answers the ask like this, and stays as it is.
     ghost answers: { State → Self.Ask → Self.Reply → Type 0 };
     // The machine refuses the ask.
     ghost refuses: { State → Self.Ask → Self.Refusal → Type 0 };
-    // What an event asks, and what it tells. Asks that differ in what they own alone, as in spare room, may be one event's.
+    // What an event asks, and what it answers. Asks that differ in what they own alone, as in spare room, may be one event's.
     ghost asks: { Self.Event → Self.Ask → Type 0 };
 
     ghost tells: { Self.Event → Self.Reply → Type 0 };
@@ -63,14 +61,18 @@ pub trait Kept: Drop {
         ask: Self::Ask,
     ) -> Result<Plan<Self::Change, Self::Reply>, Self::Refusal>
         ensures same { content self.new ≡ content self.old }
-        ensures answer { MatchResult result (λ plan. MatchPlan plan (λ c. ready self.new c × asks (event c) ask) (answers (content self.old) ask)) (refuses (content self.old) ask) };
+        ensures change { IfOk result (λ plan. IfChange plan (λ c.
+            ready self.new c × asks (event c) ask)) }
+        ensures nothing { IfOk result (λ plan. IfNothing plan (answers (content self.old) ask)) }
+        ensures refusal { IfErr result (refuses (content self.old) ask) };
 
-    /// Makes the change that was prepared from this value, with no call between, and tells the reply of its event. It takes no memory.
+    /// Makes the change that was prepared from this value, with no call between, and answers the reply of its event. It takes no memory.
     fn apply(&mut self, change: Self::Change) -> Self::Reply
         requires { ready self.old change }
         ensures reply { tells (event change) result }
         ensures moved { accepts (content self.old) (event change) (content self.new) };
 
-    // The machine accepts what was prepared. It is a law, since an event stands in the history before the change is applied.
-    ghost sound: { (s : Self) (c : Self.Change) → ready s c → (t : State) × accepts (content s) (event c) t };
+    // The machine accepts what was prepared. It is a law, since an event is in the history before the change is applied.
+    ghost sound: { (s : Self) (c : Self.Change) → ready s c →
+        (t : State) × accepts (content s) (event c) t };
 }

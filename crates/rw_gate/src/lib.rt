@@ -5,22 +5,23 @@
 //! at one atomic exchange, `WriteRight::publish`, and the history has then just one event more, with the reply that was answered.
 //!
 //! What it costs: an attempt is a load and an exchange, a look a load, a publish an exchange, a release an atomic step or two. A writer
-//! moves the state out of its place and back. No call takes memory, and none but `Gate::read` and `Gate::write` waits.
+//! moves the state out of its place and back. No call but `prepare` takes memory, and none but `Gate::read` and `Gate::write` waits.
 //!
-//! How it is built: the state lies in place in a slot with a counting word (`counted_slot`). The history exists in the proofs alone;
-//! threads share its length, a word under a rule (`logbook`). The rule says that the history is a run of the state's machine, and names
-//! no pass and no thread. What lies in the slot knows a prefix of the history and is its replay, so where the length of that prefix is
-//! found in the word, it is the whole history, and the event that was prepared from the state may follow.
+//! How it is built: the state lies in place in a slot with a counting word (`counted_slot`); the steps of that word are functions, in
+//! `words`. The history exists in the proofs alone; threads share its length, a word under a rule (`logbook`). The rule says that the
+//! history is a run of the state's machine, and names no pass and no thread. What lies in the slot knows a prefix of the history and is
+//! its replay, so where the length of that prefix is found in the word, it is the whole history, and the event that was prepared from
+//! the state may follow.
 #![tactic(auto)]
 
 pub mod counter;
 mod gate;
 mod kept;
-mod lodged;
 mod log;
 mod pass;
-mod positions;
 mod read;
+mod slot_value;
+mod words;
 mod write;
 
 pub use counted_slot::MOST_READERS;
@@ -29,6 +30,3 @@ pub use kept::{Kept, Plan};
 pub use pass::{Moved, Pass};
 pub use read::ReadRight;
 pub use write::{PublishFault, WriteRight};
-
-#[cfg(test)]
-mod tests;

@@ -1,15 +1,16 @@
 //! What a caller has seen, and the two steps that show it more.
-ghost use Rattle.std.specs.Prelude.{◌≡◌, ◌+◌, ◌<◌, ◌^◌, [], ◌∷◌, ◌++◌, length, OnOk, IfOk, IfErr, MatchResult};
+ghost use Rattle.std.specs.Prelude.{◌≡◌, ◌+◌, ◌<◌, ◌^◌, [], ◌∷◌, ◌++◌, length};
+ghost use Rattle.std.specs.Prelude.{OnOk, OnErr, IfOk, IfErr};
 ghost use mathlib.Core.List.{IsPrefix};
-ghost use Rattle.rw_gate.specs.declared.log.Entry.TheVariants.{Made};
+ghost use Rattle.rw_gate.specs.declared.log.LogEntry.TheVariants.{Made};
 ghost use Rattle.rw_gate.specs.Logs.{events, IsRun, LeadsTo};
 ghost use Rattle.rw_gate.specs.Steps.{length_word};
-ghost use Rattle.rw_gate.specs.Views.{home_of};
-ghost use Rattle.rw_gate.specs.Histories.{AreBelow, IsHistory};
+ghost use Rattle.rw_gate.specs.Views.{gate_id};
+ghost use Rattle.rw_gate.specs.Histories.{AreBelow, IsHistory, IsLonger};
 
 use crate::kept::Kept;
-use crate::log::{Entry, Law, Length, Look, NoTrade, Publish, SeenLog};
-use crate::positions::Positions;
+use crate::log::{GateRule, Length, LogEntry, Look, NoTrade, Publish, SeenLog};
+use ghost_state::GhostList;
 use logbook::Offer;
 use std::marker::Model;
 use thiserror::Error;
@@ -30,12 +31,12 @@ pub struct Moved {
 pub struct Pass<S: Kept> {
     count: u64,
     seen: SeenLog<S>,
-    own: Positions,
+    own: GhostList<u64>,
 }
 
 impl<S: Kept> Model for Pass<S> {
     ghost use Rattle.std.specs.Prelude.{◌≡◌, length};
-    ghost use Rattle.rw_gate.specs.Views.{PassView, pass_coded, home_of};
+    ghost use Rattle.rw_gate.specs.Views.{PassView, pass_coded, gate_id};
     ghost use Rattle.rw_gate.specs.Logs.{events, IsRun};
     ghost use Rattle.rw_gate.specs.Histories.{AreBelow};
 
@@ -43,9 +44,14 @@ impl<S: Kept> Model for Pass<S> {
 
     ghost coded = { pass_coded S.code S.Event.code };
 
-    ghost view = { λ p. record { home = home_of p.seen.book p.seen.log; prefix = events p.seen.log; own = p.own } };
+    ghost view = { λ p. record {
+      gate = gate_id p.seen.book p.seen.log;
+      prefix = events p.seen.log;
+      own = p.own;
+    } };
 
-    ghost invariant = { λ p. (p.count ≡ length (events p.seen.log)) × IsRun S.content S.accepts p.seen.log × AreBelow p.count p.own };
+    ghost invariant = { λ p. (p.count ≡ length (events p.seen.log))
+        × IsRun S.content S.accepts p.seen.log × AreBelow p.count p.own };
 }
 
 impl<S: Kept> Pass<S> {
@@ -53,7 +59,7 @@ impl<S: Kept> Pass<S> {
     pub fn seen(&self) -> u64
         ensures length { result ≡ length self.now.prefix }
         ensures own { AreBelow (length self.now.prefix) self.now.own }
-        ensures legal { IsHistory S.content S.accepts self.now.home self.now.prefix }
+        ensures legal { IsHistory S.content S.accepts self.now.gate self.now.prefix }
     {
         self.count
     }
@@ -62,14 +68,14 @@ impl<S: Kept> Pass<S> {
     pub(crate) fn new(start: &SeenLog<S>) -> Pass<S>
         requires empty { events start.now.log ≡ [] }
         requires run { IsRun S.content S.accepts start.now.log }
-        ensures home { result.home ≡ home_of start.now.book start.now.log }
+        ensures gate { result.gate ≡ gate_id start.now.book start.now.log }
         ensures prefix { result.prefix ≡ [] }
         ensures own { result.own ≡ [] }
     {
         Pass {
             count: 0,
             seen: start.again(),
-            own: Positions::new(),
+            own: GhostList::new(),
         }
     }
 
@@ -82,13 +88,13 @@ impl<S: Kept> Pass<S> {
         count: u64,
     ) -> Result<(), Moved>
         requires word { word.now ≡ length_word seen.now.book }
-        requires book { self.old.home.book ≡ seen.now.book }
+        requires book { self.old.gate.book ≡ seen.now.book }
         requires counted { count ≡ length (events seen.now.log) }
-        ensures home { self.new.home ≡ self.old.home }
+        ensures gate { self.new.gate ≡ self.old.gate }
         ensures own { self.new.own ≡ self.old.own }
         ensures more { IsPrefix self.old.prefix self.new.prefix }
         ensures ok { OnOk result (self.new.prefix ≡ events seen.now.log) }
-        ensures err { IfErr result (λ m. (m.seen ≡ length self.new.prefix) × IsPrefix (events seen.now.log) self.new.prefix × (length (events seen.now.log) < length self.new.prefix)) }
+        ensures err { IfErr result (λ m. IsLonger (events seen.now.log) self.new.prefix m.seen) }
     {
         let found = self.load(word, state, seen);
         if found == count {
@@ -101,8 +107,8 @@ impl<S: Kept> Pass<S> {
     /// One load, after which the pass has seen the whole history, and with it the log `seen`. Gives its length.
     fn load(&mut self, word: &Length<S>, state: &S, seen: &SeenLog<S>) -> u64
         requires word { word.now ≡ length_word seen.now.book }
-        requires book { self.old.home.book ≡ seen.now.book }
-        ensures home { self.new.home ≡ self.old.home }
+        requires book { self.old.gate.book ≡ seen.now.book }
+        ensures gate { self.new.gate ≡ self.old.gate }
         ensures own { self.new.own ≡ self.old.own }
         ensures more { IsPrefix self.old.prefix self.new.prefix }
         ensures with_seen { IsPrefix (events seen.now.log) self.new.prefix }
@@ -110,7 +116,7 @@ impl<S: Kept> Pass<S> {
     {
         let mut both = self.seen.again();
         both.learn(seen);
-        let mut offer: Offer<Entry<S, S::Event>, (), Law<S>, NoTrade<S>> = both.plain::<
+        let mut offer: Offer<LogEntry<S, S::Event>, (), GateRule<S>, NoTrade<S>> = both.plain::<
             NoTrade<S>,
             S,
             Look<S>,
@@ -132,21 +138,24 @@ impl<S: Kept> Pass<S> {
         change: &S::Change,
     ) -> Result<SeenLog<S>, Moved>
         requires word { word.now ≡ length_word seen.now.book }
-        requires book { self.old.home.book ≡ seen.now.book }
+        requires book { self.old.gate.book ≡ seen.now.book }
         requires counted { count ≡ length (events seen.now.log) }
         requires leads { LeadsTo S.content S.accepts seen.now.log (S.content state.now) }
         requires ready { S.ready state.now change.now }
         requires room { count + 1 < 2 ^ 64 }
-        ensures home { self.new.home ≡ self.old.home }
+        ensures gate { self.new.gate ≡ self.old.gate }
         ensures more { IsPrefix self.old.prefix self.new.prefix }
-        ensures own { MatchResult result (λ _. self.new.own ≡ self.old.own ++ count ∷ []) (λ _. self.new.own ≡ self.old.own) }
+        ensures own { OnOk result (self.new.own ≡ self.old.own ++ count ∷ []) }
+        ensures same_own { OnErr result (self.new.own ≡ self.old.own) }
         ensures before { OnOk result (IsPrefix self.old.prefix (events seen.now.log)) }
-        ensures ok { IfOk result (λ w. (w.book ≡ seen.now.book) × (w.log ≡ seen.now.log ++ Made (S.event change.now) ∷ []) × (self.new.prefix ≡ events w.log)) }
-        ensures err { IfErr result (λ m. (m.seen ≡ length self.new.prefix) × IsPrefix (events seen.now.log) self.new.prefix × (length (events seen.now.log) < length self.new.prefix)) }
+        ensures book { IfOk result (λ w. w.book ≡ seen.now.book) }
+        ensures log { IfOk result (λ w. w.log ≡ seen.now.log ++ Made (S.event change.now) ∷ []) }
+        ensures seen { IfOk result (λ w. self.new.prefix ≡ events w.log) }
+        ensures err { IfErr result (λ m. IsLonger (events seen.now.log) self.new.prefix m.seen) }
     {
         let mut both = seen.again();
         both.learn(&self.seen);
-        let mut offer: Offer<Entry<S, S::Event>, (), Law<S>, NoTrade<S>> = both.plain::<
+        let mut offer: Offer<LogEntry<S, S::Event>, (), GateRule<S>, NoTrade<S>> = both.plain::<
             NoTrade<S>,
             S::Change,
             Publish<S>,
@@ -162,7 +171,7 @@ impl<S: Kept> Pass<S> {
             return Err(Moved { seen: found });
         }
         self.count = next;
-        self.own = self.own.and(count);
+        self.own.push(&count);
         self.seen = both.again();
         Ok(both)
     }

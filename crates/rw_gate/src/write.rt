@@ -1,15 +1,15 @@
 //! The right to write.
-ghost use Rattle.std.specs.Prelude.{◌≡◌, ◌<◌, ◌-◌, ◌^◌, ◌++◌, ◌∷◌, [], length, IfOk, IfErr, OnOk, OnErr, MatchResult};
+ghost use Rattle.std.specs.Prelude.{◌≡◌, ◌++◌, ◌∷◌, [], length, IfOk, IfErr, OnOk, OnErr};
 ghost use mathlib.Core.List.{IsPrefix};
-ghost use Rattle.rw_gate.specs.Faults.{MatchFault};
-ghost use Rattle.rw_gate.specs.Histories.{IsLodged, IsReplay};
-ghost use Rattle.rw_gate.specs.Plans.{MatchPlan};
+ghost use Rattle.rw_gate.specs.Faults.{IsFaultOf};
+ghost use Rattle.rw_gate.specs.Histories.{IsSlotValue, IsReplayed, IsLonger, GoesOnBy};
+ghost use Rattle.rw_gate.specs.Plans.{IfChange, IfNothing};
 
 use crate::gate::Gate;
 use crate::kept::{Kept, Plan};
-use crate::lodged::Lodged;
 use crate::log::SeenLog;
 use crate::pass::{Moved, Pass};
+use crate::slot_value::SlotValue;
 use std::alloc::Global;
 use std::marker::{Model, PhantomData};
 use thiserror::Error;
@@ -39,26 +39,32 @@ pub struct WriteRight<'a, S: Kept> {
 
 impl<'a, S: Kept> Model for WriteRight<'a, S> {
     ghost use Rattle.rw_gate.specs.Logs.{events};
-    ghost use Rattle.rw_gate.specs.Views.{WriteView, write_coded, home_of};
-    ghost use Rattle.rw_gate.specs.Histories.{IsLodged};
+    ghost use Rattle.rw_gate.specs.Views.{RightView, right_coded, gate_id};
+    ghost use Rattle.rw_gate.specs.Histories.{IsSlotValue};
 
-    ghost Value = { WriteView S S.Event };
+    ghost Value = { RightView S S.Event };
 
-    ghost coded = { write_coded S.code S.Event.code };
+    ghost coded = { right_coded S.code S.Event.code };
 
-    ghost view = { λ r. record { home = home_of r.seen.book r.seen.log; history = events r.seen.log; state = r.state } };
+    ghost view = { λ r. record {
+      gate = gate_id r.seen.book r.seen.log;
+      history = events r.seen.log;
+      state = r.state;
+    } };
 
-    ghost invariant = { λ r. IsLodged S.content S.accepts r.gate.now r.seen.book r.seen.log r.count r.state };
+    ghost invariant = { λ r. IsSlotValue S.content S.accepts r.gate.now
+        r.seen.book r.seen.log r.count r.state };
 }
 
 impl<'a, S: Kept> WriteRight<'a, S> {
     /// The right of a state that was taken out of the slot.
-    pub(crate) fn new(gate: &'a Gate<S>, lodged: Lodged<S>) -> WriteRight<'a, S>
-        requires { IsLodged S.content S.accepts gate.now lodged.seen.book lodged.seen.log lodged.count lodged.state }
-        ensures home { result.home ≡ gate.now }
-        ensures state { IsReplay S.content S.accepts result.home result.history result.state }
+    pub(crate) fn new(gate: &'a Gate<S>, value: SlotValue<S>) -> WriteRight<'a, S>
+        requires { IsSlotValue S.content S.accepts gate.now
+            value.seen.book value.seen.log value.count value.state }
+        ensures gate { result.gate ≡ gate.now }
+        ensures state { IsReplayed S.content S.accepts result }
     {
-        let Lodged { state, seen, count } = lodged;
+        let SlotValue { state, seen, count } = value;
         WriteRight {
             gate,
             state,
@@ -70,16 +76,18 @@ impl<'a, S: Kept> WriteRight<'a, S> {
 
     /// Shows the state in hand to a pass of this gate that has seen no more than the history of the state. The pass has then seen just
     /// that. `Moved` where the history was found to be longer: the pass takes what was found, and no state is shown.
-    pub fn look(&self, me: &mut Pass<S>) -> Result<&S, Moved>
-        requires { me.old.home ≡ self.now.home }
-        ensures home { me.new.home ≡ me.old.home }
-        ensures own { me.new.own ≡ me.old.own }
-        ensures more { IsPrefix me.old.prefix me.new.prefix }
-        ensures shown { IfOk result (λ s. (me.new.prefix ≡ self.now.history) × (s.now ≡ self.now.state) × IsReplay S.content S.accepts self.now.home self.now.history s.now) }
-        ensures moved { IfErr result (λ m. (m.seen ≡ length me.new.prefix) × IsPrefix self.now.history me.new.prefix × (length self.now.history < m.seen)) }
+    pub fn look(&self, pass: &mut Pass<S>) -> Result<&S, Moved>
+        requires { pass.old.gate ≡ self.now.gate }
+        ensures gate { pass.new.gate ≡ pass.old.gate }
+        ensures own { pass.new.own ≡ pass.old.own }
+        ensures more { IsPrefix pass.old.prefix pass.new.prefix }
+        ensures seen { OnOk result (pass.new.prefix ≡ self.now.history) }
+        ensures shown { IfOk result (λ s. s.now ≡ self.now.state) }
+        ensures replay { IsReplayed S.content S.accepts self.now }
+        ensures moved { IfErr result (λ m. IsLonger self.now.history pass.new.prefix m.seen) }
     {
         let gate = self.gate;
-        me.look(&gate.word, &self.state, &self.seen, self.count)?;
+        pass.look(&gate.word, &self.state, &self.seen, self.count)?;
         Ok(&self.state)
     }
 
@@ -89,10 +97,14 @@ impl<'a, S: Kept> WriteRight<'a, S> {
         alloc: Global,
         ask: S::Ask,
     ) -> Result<Plan<S::Change, S::Reply>, S::Refusal>
-        ensures home { self.new.home ≡ self.old.home }
+        ensures gate { self.new.gate ≡ self.old.gate }
         ensures history { self.new.history ≡ self.old.history }
         ensures content { S.content self.new.state ≡ S.content self.old.state }
-        ensures answer { MatchResult result (λ plan. MatchPlan plan (λ c. S.ready self.new.state c × S.asks (S.event c) ask) (S.answers (S.content self.old.state) ask)) (S.refuses (S.content self.old.state) ask) }
+        ensures change { IfOk result (λ plan. IfChange plan (λ c.
+            S.ready self.new.state c × S.asks (S.event c) ask)) }
+        ensures nothing { IfOk result (λ plan.
+            IfNothing plan (S.answers (S.content self.old.state) ask)) }
+        ensures refusal { IfErr result (S.refuses (S.content self.old.state) ask) }
     {
         self.state.prepare(alloc, ask)
     }
@@ -101,25 +113,31 @@ impl<'a, S: Kept> WriteRight<'a, S> {
     /// pass had seen, and its reply is answered. The pass has then seen it, and has it as its own.
     /// `Moved` where the history was found to be longer, and the pass takes what was found. `Full` exactly where the history can have no
     /// further event. After either the change is let go, and state and history are as they were.
-    pub fn publish(&mut self, me: &mut Pass<S>, change: S::Change) -> Result<S::Reply, PublishFault>
-        requires home { me.old.home ≡ self.old.home }
+    pub fn publish(
+        &mut self,
+        pass: &mut Pass<S>,
+        change: S::Change,
+    ) -> Result<S::Reply, PublishFault>
+        requires gate { pass.old.gate ≡ self.old.gate }
         requires ready { S.ready self.old.state change }
-        ensures homes { (me.new.home ≡ me.old.home) × (self.new.home ≡ self.old.home) }
-        ensures event { OnOk result ((self.new.history ≡ self.old.history ++ S.event change ∷ []) × S.accepts (S.content self.old.state) (S.event change) (S.content self.new.state) × (length self.old.history < 2 ^ 64 - 1)) }
-        ensures reply { IfOk result (λ r. S.tells (S.event change) r) }
-        ensures state { IsReplay S.content S.accepts self.new.home self.new.history self.new.state }
-        ensures before { OnOk result (IsPrefix me.old.prefix self.old.history) }
-        ensures seen { OnOk result (me.new.prefix ≡ self.new.history) }
-        ensures more { IsPrefix me.old.prefix me.new.prefix }
-        ensures own { MatchResult result (λ _. me.new.own ≡ me.old.own ++ length self.old.history ∷ []) (λ _. me.new.own ≡ me.old.own) }
+        ensures gate { pass.new.gate ≡ pass.old.gate }
+        ensures event { OnOk result (
+            GoesOnBy S.content S.accepts (S.event change) self.old self.new) }
+        ensures reply { IfOk result (S.tells (S.event change)) }
+        ensures state { IsReplayed S.content S.accepts self.new }
+        ensures before { OnOk result (IsPrefix pass.old.prefix self.old.history) }
+        ensures seen { OnOk result (pass.new.prefix ≡ self.new.history) }
+        ensures more { IsPrefix pass.old.prefix pass.new.prefix }
+        ensures own { OnOk result (pass.new.own ≡ pass.old.own ++ length self.old.history ∷ []) }
+        ensures same_own { OnErr result (pass.new.own ≡ pass.old.own) }
         ensures same { OnErr result (self.new ≡ self.old) }
-        ensures fault { IfErr result (λ f. MatchFault f (λ m. (m.seen ≡ length me.new.prefix) × IsPrefix self.old.history me.new.prefix × (length self.old.history < m.seen) × (length self.old.history < 2 ^ 64 - 1)) ((length self.old.history ≡ 2 ^ 64 - 1) × (me.new ≡ me.old))) }
+        ensures fault { IfErr result (IsFaultOf self.old.history pass.old pass.new) }
     {
         if self.count == u64::MAX {
             return Err(PublishFault::Full);
         }
         let gate = self.gate;
-        match me.publish(&gate.word, &self.state, &self.seen, self.count, &change) {
+        match pass.publish(&gate.word, &self.state, &self.seen, self.count, &change) {
             Ok(longer) => {
                 self.count += 1;
                 self.seen = longer;
@@ -138,6 +156,9 @@ impl<'a, S: Kept> WriteRight<'a, S> {
             count,
             here: _,
         } = self;
-        let _ = gate.put_back(Lodged { state, seen, count });
+        // the slot is free while its state is in hand, which no clause of the slot says
+        if let Err(value) = gate.put_back(SlotValue { state, seen, count }) {
+            drop(value);
+        }
     }
 }

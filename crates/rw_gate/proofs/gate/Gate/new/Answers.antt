@@ -1,7 +1,7 @@
 use Rattle.std.proofs.Common.{◌∷◌, [], length, refl, ap, sym}
-use Rattle.rw_gate.specs.declared.log.Entry.TheVariants.{Opened}
+use Rattle.rw_gate.specs.declared.log.LogEntry.TheVariants.{Opened}
 use Rattle.rw_gate.specs.Logs.{events}
-use Rattle.rw_gate.specs.Views.{home_of}
+use Rattle.rw_gate.specs.Views.{gate_id}
 use Rattle.rw_gate.proofs.Logs.{opened_leads}
 use Rattle.rw_gate.proofs.gate.Gate.new.Goals as goal
 
@@ -20,7 +20,7 @@ pub put_back-requires : goal.put_back-requires
 put_back-requires g c =
     let log = c.open_row-seen.ensures.1 in
     record {
-      at_home = ap (λ s. home_of s.book s.log) (sym c.again.ensures);
+      of_gate = ap (λ s. gate_id s.book s.log) (sym c.again.ensures);
       counted = sym (ap (λ l. length (events l)) log);
       leads = opened_leads g.S.Kept.content g.S.Kept.accepts c.args.state c.open_row-seen.result.0.log log;
     }

@@ -9,4 +9,8 @@ returns-then-found-count-clause-ok g c = sym (prefix_whole (events c.args.seen.n
 pub returns-else-found-count-clause-err : goal.returns-else-found-count-clause-err
 returns-else-found-count-clause-err g c =
     let longer = prefix_length (events c.args.seen.now.log) c.load-found.new.self.prefix c.load-found.ensures.with_seen in
-    (c.load-found.ensures.found, c.load-found.ensures.with_seen, omega (arith, c.requires.counted, c.if-found-count.false, c.load-found.ensures.found, longer))
+    record {
+      counted = c.load-found.ensures.found;
+      begins = c.load-found.ensures.with_seen;
+      longer = omega (arith, c.requires.counted, c.if-found-count.false, c.load-found.ensures.found, longer);
+    }

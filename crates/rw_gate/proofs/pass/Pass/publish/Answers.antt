@@ -1,6 +1,6 @@
 use Rattle.std.proofs.Common.{◌≡◌, ◌+◌, [], ◌∷◌, ◌++◌, length, ap, sym, ◌∙◌, subst, arith}
 use mathlib.Core.List.{IsPrefix}
-use Rattle.rw_gate.specs.declared.log.Entry.TheVariants.{Made}
+use Rattle.rw_gate.specs.declared.log.LogEntry.TheVariants.{Made}
 use Rattle.rw_gate.specs.Logs.{events}
 use Rattle.rw_gate.proofs.Prefixes.{prefix_trans, prefix_length}
 use Rattle.rw_gate.proofs.Logs.{events_prefix, events_made, run_whole}
@@ -39,7 +39,7 @@ invariant_of-self-2 g c =
     let longer = prefix_length _ _ (events_prefix own.seen.log v c.learn.ensures.3) in (
       rw c.again.ensures (omega (arith, counted, hit.1, c.if-found-count.false)),
       rw c.again.ensures told.legal,
-      rw c.and.ensures (below_push own.count (c.args.count + 1) c.args.count own.own (omega (arith, hit.1, longer, c.if-found-count.false, c.self.invariant.0)) (omega arith) c.self.invariant.2),
+      rw c.push.ensures (below_push own.count (c.args.count + 1) c.args.count own.own (omega (arith, hit.1, longer, c.if-found-count.false, c.self.invariant.0)) (omega arith) c.self.invariant.2),
     )
 
 pub invariant_of-self : goal.invariant_of-self
@@ -72,7 +72,11 @@ returns-then-found-count-clause-err g c =
     let begins : IsPrefix mine v = subst (λ s. IsPrefix s.log v) c.again-both.ensures c.learn.ensures.2 in
     let on = events_prefix mine w (prefix_trans mine v w begins c.compare_exchange-found.ensures.6) in
     let longer = prefix_length (events mine) (events w) on in
-    (sym found, on, omega (arith, found, longer, c.requires.counted, c.if-found-count.true))
+    record {
+      counted = sym found;
+      begins = on;
+      longer = omega (arith, found, longer, c.requires.counted, c.if-found-count.true);
+    }
 
 pub returns-clause-before : goal.returns-clause-before
 returns-clause-before g c =
@@ -83,16 +87,13 @@ returns-clause-before g c =
     let whole : mine ≡ v = run_whole g.S.Kept.content g.S.Kept.accepts mine v (g.S.Kept.content c.args.state.now, c.requires.leads) c.learn.ensures.4.1.run begins (omega (arith, hit.1, c.requires.counted, c.if-found-count.false)) in
     rw (← c.self.view_is, whole) (events_prefix _ _ c.learn.ensures.3)
 
-pub returns-clause-ok : goal.returns-clause-ok
-returns-clause-ok g c =
+pub returns-clause-log : goal.returns-clause-log
+returns-clause-log g c =
     let v = c.learn.new.self.log in
     let mine = c.args.seen.now.log in
     let e = g.S.Kept.event c.args.change.now in
     let hit = c.compare_exchange-found.ensures.7.hit c.if-found-count.false in
     let is : c.compare_exchange-found.new.seen.log ≡ v ++ Made e ∷ [] = rw (← c.plain-offer.ensures.1) hit.0 in
     let begins : IsPrefix mine v = subst (λ s. IsPrefix s.log v) c.again-both.ensures c.learn.ensures.2 in
-    let whole : mine ≡ v = run_whole g.S.Kept.content g.S.Kept.accepts mine v (g.S.Kept.content c.args.state.now, c.requires.leads) c.learn.ensures.4.1.run begins (omega (arith, hit.1, c.requires.counted, c.if-found-count.false)) in (
-      c.compare_exchange-found.ensures.0 ∙ (c.learn.ensures.0 ∙ ap (λ s. s.book) c.again-both.ensures),
-      is ∙ ap (λ l. l ++ Made e ∷ []) (sym whole),
-      ap (λ s. events s.log) c.again.ensures,
-    )
+    let whole : mine ≡ v = run_whole g.S.Kept.content g.S.Kept.accepts mine v (g.S.Kept.content c.args.state.now, c.requires.leads) c.learn.ensures.4.1.run begins (omega (arith, hit.1, c.requires.counted, c.if-found-count.false)) in
+    is ∙ ap (λ l. l ++ Made e ∷ []) (sym whole)

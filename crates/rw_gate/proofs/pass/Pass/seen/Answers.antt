@@ -1,4 +1,4 @@
-use Rattle.rw_gate.proofs.Lodging.{run_from}
+use Rattle.rw_gate.proofs.SlotValues.{run_from}
 use Rattle.rw_gate.proofs.pass.Pass.seen.Goals as goal
 
 pub returns-clause-legal : goal.returns-clause-legal

@@ -5,18 +5,19 @@ use counted_slot::Fits;
 
 /// A state, the log that leads to it, and the number of that log's events.
 #[derive(Drop)]
-pub(crate) struct Lodged<S: Kept> {
+pub(crate) struct SlotValue<S: Kept> {
     pub state: S,
     pub seen: SeenLog<S>,
     pub count: u64,
 }
 
 /// The tag says which gate it is, by its log as it was opened.
-impl<S: Kept> Fits for Lodged<S> {
+impl<S: Kept> Fits for SlotValue<S> {
     type Tag = SeenLog<S>;
 
-    ghost use Rattle.rw_gate.specs.Views.{home_of};
-    ghost use Rattle.rw_gate.specs.Histories.{IsLodged};
+    ghost use Rattle.rw_gate.specs.Views.{gate_id};
+    ghost use Rattle.rw_gate.specs.Histories.{IsSlotValue};
 
-    ghost fits = { λ tag l. IsLodged S.content S.accepts (home_of tag.book tag.log) l.seen.book l.seen.log l.count l.state };
+    ghost fits = { λ tag value. IsSlotValue S.content S.accepts (gate_id tag.book tag.log)
+        value.seen.book value.seen.log value.count value.state };
 }
