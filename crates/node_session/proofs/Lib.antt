@@ -3,3 +3,7 @@ pub mod Replying
 pub mod Composing
 pub mod Pieces
 pub mod Reading
+pub mod Simulating
+pub mod Histories
+pub mod RegisterLaw
+pub mod Piping

@@ -8,7 +8,7 @@ use Rattle.node_session.specs.declared.sending.Stop.{Stop}
 use Rattle.node_session.specs.declared.sending.Stop.TheVariants as stops
 use Rattle.node_session.specs.declared.fault.SessionFault.{SessionFault}
 use Rattle.node_session.specs.Answered.{Answered, Stands, IsBad, AtLastRead, IsUnsent, IsOutOfMemory}
-use Rattle.node_session.specs.Session.{Given, Stops, fault_for}
+use Rattle.node_session.specs.Session.{Given, MadeReads, Stops, fault_for}
 use Rattle.node_session.proofs.Composing.{Answered-none, Answered-then, Answered-as, Answered-shorter}
 
 module _ {S : Type 0} (Step : S → Request → Reply → S → Type 0) (a : S) (unread h : Option (List ℕ)) where
@@ -79,3 +79,20 @@ module _ {S : Type 0} (Step : S → Request → Reply → S → Type 0) (a : S) 
   Reached-stops stop fault unread' unread'' h₀ h' h'' h₁ b new i j k reads y piece lt is p flushed read few q kept =
       subst (λ (f : SessionFault). Given unread unread'' reads (λ input. Stops Step a new input h h₁ f)) (sym is)
       (stops_then stop unread' unread'' h₀ h' h'' h₁ b new i j k reads y piece lt p flushed read few q kept)
+
+-- no read was made yet
+pub MadeReads-none : (unread : Option (List ℕ)) → MadeReads unread unread 0
+MadeReads-none unread = record { input = []; read = Consumes-nil unread; interrupted = 0; gave = omega arith }
+
+-- one more read gave a piece
+pub MadeReads-piece : (a b c : Option (List ℕ)) (i : ℕ) (piece : List ℕ) → MadeReads a b i → Consumes b c piece → 0 < length piece → MadeReads a c (i + 1)
+MadeReads-piece a b c i piece p read some =
+    let len : length (p.input ++ piece) ≡ length p.input + length piece = length-append p.input piece in
+    let before : i ≤ p.interrupted + length p.input = p.gave in
+    record { input = p.input ++ piece; read = Consumes-trans a b c p.input piece p.read read; interrupted = p.interrupted; gave = omega (arith, len, before, some) }
+
+-- one more read was interrupted
+pub MadeReads-interrupted : (a b c : Option (List ℕ)) (i : ℕ) → MadeReads a b i → Keeps b c → MadeReads a c (i + 1)
+MadeReads-interrupted a b c i p left =
+    let before : i ≤ p.interrupted + length p.input = p.gave in
+    record { input = p.input; read = Consumes-kept a b c p.input p.read left; interrupted = p.interrupted + 1; gave = omega (arith, before) }

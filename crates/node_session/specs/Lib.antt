@@ -2,4 +2,9 @@ pub mod Answers
 pub mod Answered
 pub mod Session
 pub mod Steps
+pub mod Report
 pub mod PlainStep
+pub mod ByIndex
+pub mod Registers
+pub mod SessionLaws
+pub mod Pipes

@@ -1,72 +1,64 @@
--- What a node of one vnode does: the vnode machine, with its refusals as errors.
-use Rattle.std.specs.Prelude.{◌≡◌, ◌⊎◌, Option, None}
-use Rattle.riak_msgs.specs.declared.content.Content.{Content}
-use Rattle.riak_msgs.specs.declared.get.GetAsk.{GetAsk}
-use Rattle.riak_msgs.specs.declared.put.PutAsk.{PutAsk}
-use Rattle.riak_msgs.specs.declared.text.Text.{Text}
-use Rattle.riak_msgs.specs.declared.text.Text.TheVariants as texts
-use Rattle.riak_msgs.specs.declared.request.Request.{Request}
-use Rattle.riak_msgs.specs.declared.request.Request.TheVariants as requests
-use Rattle.riak_msgs.specs.declared.reply.Reply.{Reply}
-use Rattle.riak_msgs.specs.declared.reply.Reply.TheVariants as replies
-use Rattle.sibling_register.specs.History.{Write}
-use Rattle.sibling_register.specs.Answers.{PutCommand}
-use Rattle.vnode_machine.specs.Machine.{State, Context, put_check, changed_by}
-use Rattle.vnode_machine.specs.Replies.{get_reply, put_reply}
-use Rattle.vnode_machine.specs.Asks.{ReadsContext, get_command, put_command}
-use Rattle.vnode_core.specs.declared.refusal.Refusal.{Refusal}
-use Rattle.vnode_core.specs.declared.refusal.Refusal.TheVariants as refusals
-use Rattle.vnode_core.specs.declared.ask.Answer.{Answer}
-use Rattle.vnode_core.specs.declared.ask.Answer.TheVariants as answers
-use Rattle.vnode_core.specs.Plans.{Refuses}
+-- What a node of one vnode does: what comes of the ask that a request makes, as a reply.
+use Rattle.std.specs.Prelude.{◌≡◌, ◌⊎◌, ◌==◌, if◌then◌else◌, ℕ, Option, Some, None, Result, Ok, Err, MatchOption}
+use Rattle.riak_msgs.specs.declared.Content.{Content}
+use Rattle.riak_msgs.specs.declared.Text.{Text}
+use Rattle.riak_msgs.specs.declared.Text.TheVariants as texts
+use Rattle.riak_msgs.specs.declared.Request.{Request}
+use Rattle.riak_msgs.specs.declared.Request.TheVariants as requests
+use Rattle.riak_msgs.specs.declared.Reply.{Reply}
+use Rattle.riak_msgs.specs.declared.Reply.TheVariants as replies
+use Rattle.sibling_register.specs.Refusals.{match_found, modified, not_found, bad_context, too_many_siblings, clock_full, epochs_used_up, counter_used_up}
+use Rattle.sibling_register.specs.Answers.{Ask, AskGet, AskPut, AskDel}
+use Rattle.actor_epoch.specs.Given.{Context}
+use Rattle.vnode_machine.specs.Machine.{State}
+use Rattle.vnode_machine.specs.Asks.{get_command, put_command, del_command}
+use Rattle.vnode_machine.specs.Step.{Response, GetDone, PutDone, DelDone, ReapDone, ReapKept, StepOutcome, Refused, Answered, Accepted, outcome}
 
--- the text of the error for a refusal
-abbrev pub refusal_text : Refusal → Text
-refusal_text refusals.MatchFound = texts.MatchFound
-refusal_text refusals.Modified = texts.Modified
-refusal_text refusals.NotFound = texts.NotFound
-refusal_text refusals.BadContext = texts.BadContext
-refusal_text refusals.TooManySiblings = texts.TooManySiblings
-refusal_text refusals.ClockFull = texts.ClockFull
-refusal_text refusals.EpochsUsedUp = texts.EpochsUsedUp
-refusal_text refusals.CounterUsedUp = texts.CounterUsedUp
-refusal_text refusals.NoMemory = texts.NoMemory
+-- the ask that a request makes of a vnode; a ping makes none
+abbrev pub ask_of : Request → Option (Ask Content Context)
+ask_of requests.Ping = None
+ask_of (requests.Get get) = Some (AskGet (get_command get))
+ask_of (requests.Put put) = Some (AskPut (put_command put))
+ask_of (requests.Del del) = Some (AskDel (del_command del))
 
--- the reply for an answer
-abbrev pub answer_reply : Answer → Reply
-answer_reply (answers.Put reply) = replies.Put reply
-answer_reply answers.Del = replies.Del
-answer_reply (answers.Reaped reaped) = replies.Del
+-- the text of the error for a refusal, by its number
+abbrev pub refusal_text : ℕ → Text
+refusal_text number =
+    if number == match_found then texts.MatchFound
+    else if number == modified then texts.Modified
+    else if number == not_found then texts.NotFound
+    else if number == bad_context then texts.BadContext
+    else if number == too_many_siblings then texts.TooManySiblings
+    else if number == clock_full then texts.ClockFull
+    else if number == epochs_used_up then texts.EpochsUsedUp
+    else if number == counter_used_up then texts.CounterUsedUp
+    else texts.NoMemory
 
--- a get shows the machine's reply, or memory is refused, and nothing changes
-pub record Gets (old : State Content) (ask : GetAsk) (reply : Reply) (new : State Content) : Type 0 where
-  pub given : Option Context
-  pub reads : ReadsContext ask.if_modified given
-  pub shown : (reply ≡ replies.Get (get_reply old (get_command ask given))) ⊎ (reply ≡ replies.Error texts.NoMemory)
-  pub same : new ≡ old
+-- the reply for a response; that to a reap, which no request asks for, is that to a delete
+abbrev pub response_reply : Response → Reply
+response_reply (GetDone reply) = replies.Get reply
+response_reply (PutDone reply) = replies.Put reply
+response_reply DelDone = replies.Del
+response_reply ReapDone = replies.Del
+response_reply ReapKept = replies.Del
 
--- the machine accepts a put: the write is made, and answered
-pub record Accepts (old : State Content) (put : PutCommand Content Context) (reply : Reply) (new : State Content) : Type 0 where
-  pub accepted : put_check old put ≡ None
-  pub changed : new ≡ changed_by old put.key put.context (Write put.value)
-  pub answered : reply ≡ replies.Put (put_reply new put)
+-- the reply for a response or the number of a refusal
+abbrev pub reply_of : Result Response ℕ → Reply
+reply_of (Ok response) = response_reply response
+reply_of (Err number) = replies.Error (refusal_text number)
 
--- the machine refuses a put, or memory is refused where it accepts: the error is told, and nothing changes
-pub record Declines (old : State Content) (put : PutCommand Content Context) (reply : Reply) (new : State Content) : Type 0 where
-  pub refusal : Refusal
-  pub refused : Refuses old put refusal
-  pub told : reply ≡ replies.Error (refusal_text refusal)
-  pub same : new ≡ old
+-- memory is refused, and nothing changes
+abbrev pub GivesUp : {S : Type 0} → S → Reply → S → Type 0
+GivesUp old reply new = (reply ≡ replies.Error texts.NoMemory) × (new ≡ old)
 
--- a put is accepted or refused
-pub record Puts (old : State Content) (ask : PutAsk) (reply : Reply) (new : State Content) : Type 0 where
-  pub given : Option Context
-  pub reads : ReadsContext ask.context given
-  pub outcome : Accepts old (put_command ask given) reply new ⊎ Declines old (put_command ask given) reply new
+-- what comes of an ask is replied, and the state is the next one; or memory is refused, where the ask isn't
+abbrev pub StepsBy : State Content → StepOutcome → Reply → State Content → Type 0
+StepsBy old (Refused number) reply new = (reply ≡ reply_of (Err number)) × (new ≡ old)
+StepsBy old (Answered response) reply new = ((reply ≡ reply_of (Ok response)) × (new ≡ old)) ⊎ GivesUp old reply new
+StepsBy old (Accepted deed response next) reply new = ((reply ≡ reply_of (Ok response)) × (new ≡ next)) ⊎ GivesUp old reply new
 
--- the step of a node of one vnode
+-- the step of a node of one vnode: a ping is answered by a ping and changes nothing, any other request by what comes of
+-- its ask
 abbrev pub PlainStep : State Content → Request → Reply → State Content → Type 0
-PlainStep old requests.Ping reply new = (reply ≡ replies.Ping) × (new ≡ old)
-PlainStep old (requests.Get ask) reply new = Gets old ask reply new
-PlainStep old (requests.Put ask) reply new = Puts old ask reply new
-PlainStep old (requests.Del ask) reply new = ⊥
+PlainStep old request reply new =
+    MatchOption (ask_of request) ((reply ≡ replies.Ping) × (new ≡ old)) (λ ask. StepsBy old (outcome old ask) reply new)

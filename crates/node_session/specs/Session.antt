@@ -1,5 +1,5 @@
 -- How a session ends.
-use Rattle.std.specs.Prelude.{◌≡◌, ℕ, ◌≤◌, ◌*◌, List, Option, length}
+use Rattle.std.specs.Prelude.{◌≡◌, ℕ, ◌+◌, ◌≤◌, ◌*◌, List, Option, length}
 use Rattle.std.specs.Io.KnownBytes.{Consumes}
 use Rattle.riak_msgs.specs.declared.request.Request.{Request}
 use Rattle.riak_msgs.specs.declared.reply.Reply.{Reply}
@@ -15,6 +15,13 @@ pub record Given (unread unread' : Option (List ℕ)) (reads : ℕ) (Serves : Li
   pub read : Consumes unread unread' input
   pub bound : length input ≤ 4096 * reads
   pub serves : Serves input
+
+-- so many reads were made, and each of them gave a byte at least or was interrupted
+pub record MadeReads (unread unread' : Option (List ℕ)) (reads : ℕ) : Type 0 where
+  pub input : List ℕ
+  pub read : Consumes unread unread' input
+  pub interrupted : ℕ
+  pub gave : reads ≤ interrupted + length input
 
 -- the end of the input was met, and this much is left of it
 pub record IsEnd {S : Type 0} (node' : S) (len : ℕ) (mid : S) (rest last : List ℕ) : Type 0 where
@@ -34,3 +41,8 @@ abbrev pub fault_for : Stop → ℕ → SessionFault
 fault_for Unsent count = WriteFailed count
 fault_for Bad count = BadFrame count
 fault_for Lost count = NoMemory count
+
+-- the fault of a session that made all its reads
+abbrev pub IsTooManyReads : SessionFault → Type 0
+IsTooManyReads (TooManyReads count) = Unit {0}
+IsTooManyReads fault = ⊥

@@ -1,6 +1,6 @@
 //! Answers to the messages that have come.
 
-ghost use Rattle.std.specs.Prelude.{◌≡◌, ◌+◌, ◌<◌, ◌≤◌, ◌^◌, IfOk, IfErr, None, length};
+ghost use Rattle.std.specs.Prelude.{◌≡◌, ◌+◌, ◌<◌, ◌≤◌, ◌^◌, IfOk, IfErr, IfSome, None, length};
 ghost use Rattle.pb_frame.specs.Limits.{longest_request};
 ghost use Rattle.pb_frame.specs.Message.{IsPartial};
 ghost use Rattle.node_session.specs.declared.sending.Stop.TheVariants.{Lost};
@@ -10,8 +10,8 @@ ghost use Rattle.node_session.specs.Steps.{Answering, SendsReply, AnswersNext, A
 use crate::error_frame::error_frame;
 use crate::node::Node;
 use crate::sending::{Stop, send};
-use pb_frame::{FrameFault, Framer, frame_of};
-use riak_msgs::{MsgFault, Reply, Text, read_request, write_reply};
+use pb_frame::{FrameFault, Framer, HEADER_LEN, header};
+use riak_msgs::{MsgFault, Reply, Text, read_request};
 use std::alloc::Global;
 use std::io::Write;
 
@@ -43,16 +43,19 @@ fn spell(alloc: Global, reply: &Reply) -> Result<Vec<u8>, Stop>
     ensures ok { IfOk result (λ v. v.items ≡ reply_frame reply.now) }
     ensures err { IfErr result (λ e. e ≡ Lost) }
 {
-    let Ok(spelled) = write_reply(alloc, reply) else {
-        return Err(Stop::Lost);
-    };
-    match spelled.as_slice() {
-        [code, body @ ..] => match frame_of(alloc, *code, body) {
-            Ok(frame) => Ok(frame),
-            Err(_) => Err(Stop::Lost),
-        },
-        [] => Err(Stop::Lost),
-    }
+    frame_in(alloc, reply).ok_or(Stop::Lost)
+}
+
+/// The frame of a reply, in one buffer that is made at its full size: the header, and the body behind it.
+fn frame_in(alloc: Global, reply: &Reply) -> Option<Vec<u8>>
+    ensures { IfSome result (λ v. v.items ≡ reply_frame reply.now) }
+{
+    let len = reply.body_len().ok()?;
+    let header = header(reply.code(), len).ok()?;
+    let mut frame = Vec::with_capacity(alloc, HEADER_LEN.saturating_add(len)).ok()?;
+    frame.extend_from_slice(&header).ok()?;
+    reply.append_body(&mut frame).ok()?;
+    Some(frame)
 }
 
 /// Sends a reply. An error takes no memory.

@@ -19,13 +19,17 @@ mod answering;
 mod ended;
 mod error_frame;
 mod fault;
+mod laws;
 mod node;
 mod plain_node;
+mod report;
 mod sending;
 mod session;
 
 pub use ended::Ended;
 pub use fault::SessionFault;
+pub use laws::plain_node_is_register;
 pub use node::Node;
 pub use plain_node::{NodeFault, PlainNode};
+pub use report::{exit_status, write_fault};
 pub use session::serve;

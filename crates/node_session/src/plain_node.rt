@@ -1,16 +1,20 @@
 //! A node of one vnode, for one thread.
 
 ghost use Rattle.std.specs.Prelude.{◌≡◌, ◌≤◌, ◌*◌, IfOk};
+ghost use Rattle.sibling_register.specs.Answers.{AskGet, AskPut};
 ghost use Rattle.vnode_machine.specs.Machine.{opening};
-ghost use Rattle.vnode_core.specs.Plans.{IsBlindGet, IsPlainPut};
-ghost use Rattle.node_session.specs.PlainStep.{refusal_text, answer_reply, Gets, Puts};
+ghost use Rattle.vnode_machine.specs.Asks.{get_command, put_command};
+ghost use Rattle.vnode_machine.specs.Step.{outcome};
+ghost use Rattle.vnode_core.specs.Plans.{IsSilent, response_of};
+ghost use Rattle.vnode_core.specs.Refusals.{number_of};
+ghost use Rattle.node_session.specs.PlainStep.{refusal_text, response_reply, StepsBy};
 
 use crate::node::Node;
 use riak_msgs::{GetAsk, PutAsk, Reply, Request, Text};
 use std::alloc::Global;
 use std::marker::Model;
 use thiserror::Error;
-use vnode_core::{Answer, Ask, Plan, Refusal, Vnode};
+use vnode_core::{Answer, Ask, Plan, Reaped, Refusal, Vnode};
 
 /// The vnode ids of one run are this many times the run's number, and on.
 const IDS_OF_A_RUN: u64 = 65_536;
@@ -48,7 +52,7 @@ impl Model for PlainNode {
 
 /// The text of the error by which a refusal is told.
 fn text_of(refusal: Refusal) -> Text
-    ensures { result ≡ refusal_text refusal }
+    ensures { result ≡ refusal_text (number_of refusal) }
 {
     match refusal {
         Refusal::MatchFound => Text::MatchFound,
@@ -65,11 +69,12 @@ fn text_of(refusal: Refusal) -> Text
 
 /// The reply for an answer.
 fn reply_of(answer: Answer) -> Reply
-    ensures { result ≡ answer_reply answer }
+    ensures { result ≡ response_reply (response_of answer) }
 {
     match answer {
         Answer::Put(reply) => Reply::Put(reply),
-        Answer::Del | Answer::Reaped(_) => Reply::Del,
+        Answer::Del => Reply::Del,
+        Answer::Reaped(Reaped::Gone | Reaped::Kept | Reaped::Absent) => Reply::Del,
     }
 }
 
@@ -88,8 +93,7 @@ impl PlainNode {
 
     /// Answers a get.
     fn get(&self, alloc: Global, ask: &GetAsk) -> Reply
-        requires { IsBlindGet ask.now }
-        ensures { Gets self.now ask.now result self.now }
+        ensures { StepsBy self.now (outcome self.now (AskGet (get_command ask.now))) result self.now }
     {
         match self.vnode.get(alloc, ask) {
             Ok(reply) => Reply::Get(reply),
@@ -99,8 +103,8 @@ impl PlainNode {
 
     /// Answers a put.
     fn put(&mut self, alloc: Global, ask: PutAsk) -> Reply
-        requires { IsPlainPut ask }
-        ensures { Puts self.old ask result self.new }
+        requires { IsSilent ask }
+        ensures { StepsBy self.old (outcome self.old (AskPut (put_command ask))) result self.new }
     {
         match self.vnode.prepare(alloc, Ask::Put(ask)) {
             Ok(Plan::Change(change)) => reply_of(self.vnode.finish(change)),
@@ -121,7 +125,7 @@ impl Node for PlainNode {
             Request::Get(ask) => self.get(alloc, &ask),
             Request::Put(ask) => self.put(alloc, ask),
             // No such request is taken so far.
-            Request::Del(_) => Reply::Error(Text::UnknownCode),
+            Request::Del(_) => unreachable!(),
         }
     }
 }

@@ -1,7 +1,7 @@
 //! Bytes to a writer.
 
-ghost use Rattle.std.specs.Prelude.{◌≡◌, IfErr};
-ghost use Rattle.std.specs.Io.KnownBytes.{Keeps};
+ghost use Rattle.std.specs.Prelude.{◌≡◌, ◌<◌, ◌≤◌, length, take, IfOk, IfErr, OnErr};
+ghost use Rattle.std.specs.Io.KnownBytes.{Appends, Keeps};
 ghost use Rattle.node_session.specs.declared.sending.Stop.TheVariants.{Unsent};
 ghost use Rattle.node_session.specs.Steps.{Sends};
 
@@ -18,21 +18,21 @@ pub(crate) enum Stop {
     Lost,
 }
 
-/// How often a writer is asked to take one frame. The bound lets the loops end, and is never met.
-const MOST_TRIES: u64 = 18_446_744_073_709_551_615;
+/// How often in a row one write or one flush may be interrupted. The bound lets the loops end, and is never met.
+const MAX_INTERRUPTIONS: u64 = 18_446_744_073_709_551_615;
 
-/// Writes all of the bytes, or fails with a beginning of them written. A write that is interrupted is tried again.
-pub(crate) fn send<W: Write>(writer: &mut W, bytes: &[u8]) -> Result<(), Stop>
-    ensures { Sends (W.contents writer.old) (W.contents writer.new) bytes.now result }
+/// Has the writer take some of the bytes, at least one. A write that is interrupted is tried again.
+fn write_some<W: Write>(writer: &mut W, bytes: &[u8]) -> Result<usize, Stop>
+    ensures some { IfOk result (λ n. (0 < n) × (n ≤ length bytes.now)) }
+    ensures taken { IfOk result (λ n.
+        Appends (W.contents writer.old) (W.contents writer.new) (take n bytes.now)) }
+    ensures none { OnErr result (Keeps (W.contents writer.old) (W.contents writer.new)) }
+    ensures stop { IfErr result (λ stop. stop ≡ Unsent) }
 {
-    let mut sent = 0;
-    for _ in 0..MOST_TRIES {
-        if sent >= bytes.len() {
-            return Ok(());
-        }
-        match writer.write(&bytes[sent..]) {
+    for _ in 0..MAX_INTERRUPTIONS {
+        match writer.write(bytes) {
             Ok(0) => return Err(Stop::Unsent),
-            Ok(n) => sent += n,
+            Ok(n) => return Ok(n),
             Err(error) => {
                 if error.kind() != ErrorKind::Interrupted {
                     return Err(Stop::Unsent);
@@ -40,10 +40,18 @@ pub(crate) fn send<W: Write>(writer: &mut W, bytes: &[u8]) -> Result<(), Stop>
             }
         }
     }
-    if sent >= bytes.len() {
-        return Ok(());
-    }
     Err(Stop::Unsent)
+}
+
+/// Writes all of the bytes, or fails with a beginning of them written.
+pub(crate) fn send<W: Write>(writer: &mut W, bytes: &[u8]) -> Result<(), Stop>
+    ensures { Sends (W.contents writer.old) (W.contents writer.new) bytes.now result }
+{
+    let mut sent = 0;
+    while sent < bytes.len() {
+        sent += write_some(writer, &bytes[sent..])?;
+    }
+    Ok(())
 }
 
 /// Flushes what was written. A flush that is interrupted is tried again.
@@ -51,7 +59,7 @@ pub(crate) fn flush<W: Write>(writer: &mut W) -> Result<(), Stop>
     ensures kept { Keeps (W.contents writer.old) (W.contents writer.new) }
     ensures stop { IfErr result (λ stop. stop ≡ Unsent) }
 {
-    for _ in 0..MOST_TRIES {
+    for _ in 0..MAX_INTERRUPTIONS {
         match writer.flush() {
             Ok(()) => return Ok(()),
             Err(error) => {

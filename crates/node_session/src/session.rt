@@ -3,7 +3,7 @@
 ghost use Rattle.std.specs.Prelude.{◌≡◌, ◌≤◌, ◌^◌, IfOk, IfErr};
 ghost use Rattle.std.specs.Io.KnownBytes.{IsAtEnd, Keeps};
 ghost use Rattle.node_session.specs.Answered.{Answered};
-ghost use Rattle.node_session.specs.Session.{Given, IsEnd, Stops, fault_for};
+ghost use Rattle.node_session.specs.Session.{Given, IsEnd, IsTooManyReads, MadeReads, Stops, fault_for};
 
 use crate::answering::answer_piece;
 use crate::ended::Ended;
@@ -52,13 +52,21 @@ pub fn serve<R: Read, W: Write, N: Node>(
     requires { reads ≤ 2 ^ 32 }
 
     // What was written is the output for what was read, and all of it was read.
-    ensures ended { IfOk result (λ e. Given (R.remaining reader.old) (R.remaining reader.new) reads (λ input.
-        Answered N.step node.old input (W.contents writer.old) (W.contents writer.new) e.replies (IsEnd node.new e.rest))) }
+    ensures ended { IfOk result (λ e.
+        Given (R.remaining reader.old) (R.remaining reader.new) reads (λ input.
+        Answered N.step node.old input (W.contents writer.old) (W.contents writer.new)
+        e.replies (IsEnd node.new e.rest))) }
     ensures all { IfOk result (λ _. IsAtEnd (R.remaining reader.new)) }
 
     // What was written is the output for what was read, as far as the fault lets it come.
-    ensures stopped { IfErr result (λ fault. Given (R.remaining reader.old) (R.remaining reader.new) reads (λ input.
-        Stops N.step node.old node.new input (W.contents writer.old) (W.contents writer.new) fault)) }
+    ensures stopped { IfErr result (λ fault.
+        Given (R.remaining reader.old) (R.remaining reader.new) reads (λ input.
+        Stops N.step node.old node.new input
+        (W.contents writer.old) (W.contents writer.new) fault)) }
+
+    // Too many reads are told once all were made: where none was interrupted, as many bytes came at least.
+    ensures too_many { IfErr result (λ fault. IsTooManyReads fault
+        → MadeReads (R.remaining reader.old) (R.remaining reader.new) reads) }
 {
     let mut framer = Framer::new(alloc, LONGEST_REQUEST);
     let mut piece = [0u8; PIECE];

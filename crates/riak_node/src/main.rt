@@ -7,20 +7,20 @@
 
 mod command_line;
 mod pipe;
-#[cfg(test)]
-mod tests;
 
 use clap::error::ErrorKind;
 use command_line::Order;
-use node_session::SessionFault;
+use node_session::{Ended, SessionFault, exit_status, write_fault};
 use pipe::pipe;
 use std::io;
 use std::process::ExitCode;
 
-/// One line on standard error, and status 1.
-fn fail(rt: &HostRuntime, fault: SessionFault) -> io::Result<ExitCode> {
-    eprintln!(rt; "riak_node: {fault}")?;
-    Ok(ExitCode::FAILURE)
+/// One line on standard error for a fault, and the status.
+fn end(rt: &HostRuntime, outcome: Result<Ended, SessionFault>) -> io::Result<ExitCode> {
+    if let Err(fault) = outcome {
+        write_fault(&mut rt.stderr(), fault)?;
+    }
+    Ok(ExitCode::from(exit_status(outcome)))
 }
 
 fn main(rt: HostRuntime) -> io::Result<ExitCode> {
@@ -30,16 +30,13 @@ fn main(rt: HostRuntime) -> io::Result<ExitCode> {
         Ok(order) => order,
         Err(error) => {
             if error.kind() == ErrorKind::OutOfMemory {
-                return fail(&rt, SessionFault::NoMemory(0));
+                return end(&rt, Err(SessionFault::NoMemory(0)));
             }
             error.print(&rt)?;
             return Ok(ExitCode::from(error.exit_code() as u8));
         }
     };
     match order {
-        Order::Pipe => match pipe(alloc, &mut rt.stdin(), &mut rt.stdout()) {
-            Ok(_) => Ok(ExitCode::SUCCESS),
-            Err(fault) => fail(&rt, fault),
-        },
+        Order::Pipe => end(&rt, pipe(alloc, &mut rt.stdin(), &mut rt.stdout())),
     }
 }

@@ -1,120 +1,205 @@
--- Room for a write.
-use Rattle.std.proofs.Common.{◌≡◌, ℕ, ◌+◌, ◌<◌, List, length, refl, sym, ◌∙◌, ap, arith, subst, set, map, get_or, length-set, get_or-set_same}
-use Rattle.std.specs.Prelude.{Option, Some, None, slice_get, IsTrue}
-use Rattle.std.specs.Vec.{with_item}
-use Rattle.std.specs.declared.vec.Vec.{Vec}
-use Rattle.std.specs.declared.alloc.Global.{Global}
-use Rattle.std.proofs.lemmas.Option.{slice_get-get_or, slice_get_within}
-use Rattle.std.proofs.lemmas.List.Elements.{All-set}
-use Rattle.std.specs.FinMap.Entries.{find, is_sorted}
+-- The machine's checks, by what is stored of the key.
+use Rattle.std.proofs.Common.{◌≡◌, ℕ, suc, ◌+◌, ◌<◌, ◌≤◌, true, false, not, List, [], ◌∷◌, length, refl, sym, ◌∙◌, ap, arith}
+use Rattle.std.specs.Prelude.{Option, Some, None, nat_eq, nat_lt, nat_le, max, filter, ◌==◌, IsTrue}
+use Rattle.std.specs.List.{list_any}
+use Rattle.std.specs.declared.cmp.Ordering.{Ordering}
+use Rattle.std.specs.declared.cmp.Ordering.TheVariants.{Less, Equal, Greater}
+use Rattle.std.specs.Ordering.{is_lt}
+use Rattle.std.specs.FinMap.Entries.{by_order}
+use Rattle.std.proofs.lemmas.Bool.Decides.{nat_tests}
 use Rattle.riak_msgs.specs.declared.Key.{Key}
 use Rattle.riak_msgs.specs.declared.Content.{Content}
-use Rattle.riak_msgs.specs.KeyOrder.{key_cmp}
+use Rattle.sibling_register.specs.Refusals.{too_many_siblings, clock_full, epochs_used_up, counter_used_up, most_siblings, first_of}
+use Rattle.actor_epoch.specs.declared.Actor.{Actor}
 use Rattle.actor_epoch.specs.declared.Dot.{Dot}
-use Rattle.dvv_set.specs.Held.{Held as Clock}
-use Rattle.vnode_machine.specs.Machine.{Stored}
-use Rattle.vnode_core.specs.declared.held.Held.{Held}
-use Rattle.vnode_core.specs.declared.place.Place.TheVariants.{At, New}
-use Rattle.vnode_core.specs.declared.refusal.Refusal.{Refusal}
-use Rattle.vnode_core.specs.declared.room.Ready.{Ready}
-use Rattle.vnode_core.specs.declared.room.Room.TheVariants as rooms
-use Rattle.vnode_core.specs.declared.vnode.Vnode.TheInside.{Inside}
-use Rattle.vnode_core.specs.Known.{pairs_in, given_of}
-use Rattle.vnode_core.specs.Held.{entry_of, stored_of, actors_with, held_check, new_check, IsHeld, AcceptsFor, AcceptsFirst, HasRoomFor}
-use Rattle.vnode_core.specs.Places.{place_in}
-use Rattle.vnode_core.specs.Plans.{View, actors_after}
-use Rattle.vnode_core.specs.Refusals.{RefusesBy}
-use Rattle.vnode_core.specs.Rooms.{IsRead, IsFirstClock, IsRoomFor, RefusesPuts}
-use Rattle.vnode_core.specs.Vnodes.{view_of, IsVnode, HasRoomIn}
-use Rattle.vnode_core.proofs.Checking.{check-held, check-new}
-use Rattle.vnode_core.proofs.Holding.{HoldsAt, entries_same, held_same, is_held_at, missing, read_at}
-use Rattle.vnode_core.proofs.Readying.{actors_after-held, actors_after-new}
+use Rattle.actor_epoch.specs.declared.limits.TheConstants.{GREATEST_EPOCH, GREATEST_COUNTER, MOST_ACTORS}
+use Rattle.actor_epoch.specs.Dots.{actor_cmp, covers, counter_in, raise, union}
+use Rattle.actor_epoch.specs.Contexts.{is_rising}
+use Rattle.actor_epoch.proofs.Rising.{and_first}
+use Rattle.actor_epoch.proofs.Order.{rising-tail}
+use Rattle.actor_epoch.proofs.Pairs.{actor_cmp-same}
+use Rattle.dvv_set.specs.Clocks.{Meaning, discard}
+use Rattle.dvv_set.specs.Held.{known_with, known_after, without, actors_after, uncovered}
+use Rattle.vnode_machine.specs.Machine.{State, stored, room_checks}
+use Rattle.vnode_machine.proofs.Rising.{length-raise}
+use Rattle.vnode_machine.proofs.Tests.{or_left, or_right}
+use Rattle.vnode_core.specs.Checks.{pairs_in, is_ahead, IsNew}
 
--- how a put is refused, by what is found among the items
-module _ (v : Inside) (vnode : View) (key : Key) where
-  pub refuses-held : (read : Held) (found : Option (List Dot)) → view_of v ≡ vnode → find key_cmp key (map entry_of v.held.items) ≡ Some (stored_of read) → IsHeld (stored_of read) → IsRead found
-      → (refusal : Refusal) → RefusesBy (held_check v.id v.epochs (stored_of read) (pairs_in found)) refusal → RefusesPuts vnode.state key (given_of found) refusal
-  refuses-held read found is finds held given refusal h =
-      subst (λ w. RefusesPuts w.state key (given_of found) refusal) is
-      (λ content. subst (λ check. RefusesBy check refusal) (sym (check-held (view_of v).state key (stored_of read) finds held content found given)) h)
+less : (o : Ordering) → IsTrue (is_lt o) → o ≡ Less
+less Less h = refl
+less Equal h = cc
+less Greater h = cc
 
-  pub refuses-new : (found : Option (List Dot)) → view_of v ≡ vnode → find key_cmp key (map entry_of v.held.items) ≡ None → IsRead found
-      → (refusal : Refusal) → RefusesBy (new_check v.id v.epochs (pairs_in found)) refusal → RefusesPuts vnode.state key (given_of found) refusal
-  refuses-new found is finds given refusal h =
-      subst (λ w. RefusesPuts w.state key (given_of found) refusal) is
-      (λ content. subst (λ check. RefusesBy check refusal) (sym (check-new (view_of v).state key finds content found given)) h)
+-- a rising list without what no context saw
+raise-rising : (pair : Dot) (pairs : List Dot) → is_rising (pair ∷ pairs) ≡ true → raise pair pairs ≡ pair ∷ pairs
+raise-rising pair [] h = refl
+raise-rising pair (next ∷ pairs) h =
+    ap (λ o. by_order o (pair ∷ next ∷ pairs) ((let one : Dot = record { actor = next.actor; counter = max pair.counter next.counter } in one) ∷ pairs) (next ∷ raise pair pairs))
+    (less (actor_cmp pair.actor next.actor) (and_first (is_lt (actor_cmp pair.actor next.actor)) (is_rising (next ∷ pairs)) h))
 
--- what was put at an index stands there
-slice_get-set : {X : Type 0} (xs : List X) (i : ℕ) (x : X) → i < length xs → slice_get (set xs i x) i ≡ Some x
-slice_get-set xs i x h =
-    let within : i < length (set xs i x) = omega (arith, length-set xs i x) in
-    slice_get-get_or (set xs i x) i x within ∙ ap Some (get_or-set_same xs i x x h)
+union-nil : (pairs : List Dot) → is_rising pairs ≡ true → union pairs [] ≡ pairs
+union-nil [] h = refl
+union-nil (pair ∷ pairs) h = ap (λ ps. raise pair ps) (union-nil pairs (rising-tail pair pairs h)) ∙ raise-rising pair pairs h
 
--- what was read at the place of a key came back with other room
-pub record Reserves (items : List Held) (key : Key) (i : ℕ) (read new : Held) : Type 0 where
-  pub at : HoldsAt items key i
-  pub read_is : read ≡ get_or items i read
-  pub same : entry_of new ≡ entry_of read
+uncovered-nil : {X : Type 0} (live : List (Dot × X)) → filter (λ entry. not (covers [] entry.0)) live ≡ live
+uncovered-nil [] = refl
+uncovered-nil (entry ∷ live) = ap (λ es. entry ∷ es) (uncovered-nil live)
 
-module _ (v : Inside) (key : Key) (i : ℕ) (read new : Held) where
-  pub keys_same : Reserves v.held.items key i read new → map entry_of (set v.held.items i new) ≡ map entry_of v.held.items
-  keys_same r = entries_same v.held.items i read new r.read_is r.same
+pub known_with-pairs : (seen : Option (List Dot)) (known : List Dot) → is_rising known ≡ true → known_with seen known ≡ union known (pairs_in seen)
+known_with-pairs None known h = sym (union-nil known h)
+known_with-pairs (Some pairs) known h = refl
 
-  -- the state stays
-  pub state_same : (vnode : View) (ready : Option Ready) → view_of v ≡ vnode → Reserves v.held.items key i read new
-      → (view_of (record v { held = with_item v.held i new; ready = ready })).state ≡ vnode.state
-  state_same vnode ready is r = ap (λ keys. record (view_of v).state { keys = keys }) (keys_same r) ∙ ap (λ w. w.state) is
+pub without-pairs : {X : Type 0} (seen : Option (List Dot)) (clock : Meaning X) → is_rising clock.known ≡ true → without seen clock ≡ discard (pairs_in seen) clock
+without-pairs None clock h = λ i. record { known = sym (union-nil clock.known h) i; live = sym (uncovered-nil clock.live) i }
+without-pairs (Some pairs) clock h = refl
 
-  -- and what is always true of it
-  pub stays : (ready : Option Ready) → IsVnode v → Reserves v.held.items key i read new
-      → HasRoomIn (record v { held = with_item v.held i new; ready = ready }) ready → IsVnode (record v { held = with_item v.held i new; ready = ready })
-  stays ready inv r room = record {
-    epochs = inv.epochs;
-    sorted = subst (λ es. IsTrue (is_sorted key_cmp es)) (sym (keys_same r)) inv.sorted;
-    each = All-set (λ h. IsHeld (stored_of h)) v.held.items i new (held_same read new r.same (is_held_at v.held.items key i read r.at inv.each r.read_is)) inv.each;
-    room = room;
-  }
+-- so many actors there are after a write
+actors-stored : (seen : Option (List Dot)) (known : List Dot) (own : Actor) → is_rising known ≡ true
+    → length (raise (record { actor = own; counter = 0 }) (union known (pairs_in seen))) ≡ actors_after known seen own
+actors-stored seen known own h =
+    length-raise own 0 (counter_in (union known (pairs_in seen)) own + 1) (union known (pairs_in seen))
+    ∙ sym (ap (λ ps. length (known_after own ps)) (known_with-pairs seen known h))
 
-  -- the place has the room
-  pub has_room : (count : ℕ) → Reserves v.held.items key i read new → HasRoomFor read.actor count new.clock
-      → HasRoomIn (record v { held = with_item v.held i new; ready = Some (record { place = At i; actors = count }) }) (Some (record { place = At i; actors = count }))
-  has_room count r room = λ held get.
-      let within : i < length v.held.items = slice_get_within v.held.items i r.at.held r.at.get in
-      let is : Some new ≡ Some held = sym (slice_get-set v.held.items i new within) ∙ get in
-      let same : new ≡ held = cc in
-      let actor = ap (λ (e : Key × Stored Content). e.1.own) r.same in
-      subst (λ (h : Held). HasRoomFor h.actor count h.clock) same (subst (λ own. HasRoomFor own count new.clock) (sym actor) room)
+-- one more than the pairs, of which none is ahead
+module _ (vnode last_epoch : ℕ) where
+  abbrev next : Actor
+  next = record { vnode = vnode; epoch = last_epoch + 1 }
 
-  -- the place is the key's, and a put of this context is accepted there
-  pub room_for_held : (found : Option (List Dot)) (count : ℕ) → Reserves v.held.items key i read new → place_in key (map entry_of v.held.items) ≡ At i → IsHeld (stored_of read) → IsRead found
-      → AcceptsFor v.id v.epochs (stored_of read) (pairs_in found) count
-      → IsRoomFor (view_of (record v { held = with_item v.held i new; ready = Some (record { place = At i; actors = count }) })) key found (rooms.At i) count
-  room_for_held found count r place is given a =
-      let after : View = view_of (record v { held = with_item v.held i new; ready = Some (record { place = At i; actors = count }) }) in
-      let finds : find key_cmp key after.state.keys ≡ Some (stored_of read) =
-      ap (λ es. find key_cmp key es) (keys_same r) ∙ r.at.find ∙ ap (λ h. Some (stored_of h)) (sym (read_at v.held.items key i read r.at r.read_is)) in
-      let actors : actors_after after.state key (pairs_in found) ≡ actors_with (stored_of read) (pairs_in found) = actors_after-held after.state key (stored_of read) finds found is given in
-      record {
-        has_room = tt;
-        place = ap (λ es. place_in key es) (keys_same r) ∙ place;
-        ready = refl;
-        accepted = λ content. check-held after.state key (stored_of read) finds is content found given ∙ a.accepted;
-        actors = omega (arith, actors, a.actors);
-      }
+  itself : (counter : ℕ) → is_ahead vnode last_epoch None (record { actor = next; counter = counter }) ≡ true
+  itself counter =
+      let same : nat_eq vnode vnode ≡ true = grind (arith, nat_tests) in
+      let above : nat_lt last_epoch (last_epoch + 1) ≡ true = grind (arith, nat_tests) in
+      rw (same, above) refl
 
--- a new key's place has room, and a put of this context is accepted there
-pub room_for_new : (v : Inside) (held : Vec Held Global) (key : Key) (i : ℕ) (clock : Clock (Option Content)) (found : Option (List Dot)) (count : ℕ)
-    → held.items ≡ v.held.items → IsVnode v → place_in key (map entry_of v.held.items) ≡ New i → IsRead found → AcceptsFirst v.id v.epochs (pairs_in found) count → IsFirstClock count clock
-    → IsRoomFor (view_of (record v { held = held; ready = Some (record { place = New i; actors = count }) })) key found (rooms.New i clock) count
-room_for_new v held key i clock found count same inv place given a first =
-    let after : View = view_of (record v { held = held; ready = Some (record { place = New i; actors = count }) }) in
-    let at = missing v.held.items key i inv.sorted place in
-    let finds : find key_cmp key after.state.keys ≡ None = ap (λ xs. find key_cmp key (map entry_of xs)) same ∙ at.find in
-    let actors : actors_after after.state key (pairs_in found) ≡ length (pairs_in found) + 1 = actors_after-new after.state key finds found given a.accepted in
-    record {
-      has_room = first;
-      place = ap (λ xs. place_in key (map entry_of xs)) same ∙ place;
-      ready = refl;
-      accepted = λ content. check-new after.state key finds content found given ∙ a.accepted;
-      actors = omega (arith, actors, a.actors);
-    }
+  actors-new : (pairs : List Dot) → list_any (is_ahead vnode last_epoch None) pairs ≡ false
+      → length (raise (record { actor = next; counter = 0 }) pairs) ≡ suc (length pairs)
+  actors-new [] h = refl
+  actors-new (pair ∷ pairs) h =
+      by (actor_cmp next pair.actor) refl (actors-new pairs (or_right (is_ahead vnode last_epoch None pair) (list_any (is_ahead vnode last_epoch None) pairs) h))
+    where
+      by : (o : Ordering) → actor_cmp next pair.actor ≡ o → length (raise (record { actor = next; counter = 0 }) pairs) ≡ suc (length pairs)
+          → length (by_order o ((let d : Dot = record { actor = next; counter = 0 } in d) ∷ pair ∷ pairs) ((let d : Dot = record { actor = pair.actor; counter = max 0 pair.counter } in d) ∷ pairs) (pair ∷ raise (record { actor = next; counter = 0 }) pairs))
+          ≡ suc (suc (length pairs))
+      by Less e rest = refl
+      by Equal e rest =
+          let ahead = ap (λ a. is_ahead vnode last_epoch None (record { actor = a; counter = pair.counter })) (actor_cmp-same next pair.actor e) in
+          let holds : true ≡ false = sym (itself pair.counter) ∙ ahead ∙ or_left (is_ahead vnode last_epoch None pair) (list_any (is_ahead vnode last_epoch None) pairs) h in
+          cc
+      by Greater e rest = ap suc rest
+
+-- the checks of room of a stored key
+rooms-stored : (state : State Content) (key : Key) (own : Actor) (clock : Meaning (Option Content)) (seen : Option (List Dot)) → is_rising clock.known ≡ true
+    → stored state key ≡ Some (record { own = Some own; clock = clock })
+    → first_of (room_checks state key (pairs_in seen))
+    ≡ first_of (
+    (nat_le most_siblings (uncovered (pairs_in seen) clock), too_many_siblings)
+    ∷ (nat_lt MOST_ACTORS (actors_after clock.known seen own), clock_full)
+    ∷ (false, epochs_used_up) ∷ (counter_in clock.known own == GREATEST_COUNTER, counter_used_up) ∷ [])
+rooms-stored state key own clock seen rising h =
+    let pairs : List Dot = pairs_in seen in
+    let found : first_of (room_checks state key pairs)
+    ≡ first_of (
+    (nat_le most_siblings (uncovered pairs clock), too_many_siblings)
+    ∷ (nat_lt MOST_ACTORS (length (raise (record { actor = own; counter = 0 }) (union clock.known pairs))), clock_full)
+    ∷ (false, epochs_used_up) ∷ (counter_in clock.known own == GREATEST_COUNTER, counter_used_up) ∷ []) = rw h refl in
+    found
+    ∙ ap (λ n. first_of (
+    (nat_le most_siblings (uncovered pairs clock), too_many_siblings)
+    ∷ (nat_lt MOST_ACTORS n, clock_full)
+    ∷ (false, epochs_used_up) ∷ (counter_in clock.known own == GREATEST_COUNTER, counter_used_up) ∷ [])) (actors-stored seen clock.known own rising)
+
+-- and of an absent one
+rooms-new : (state : State Content) (key : Key) (last_epoch : ℕ) (pairs : List Dot) → IsNew state key last_epoch pairs
+    → first_of (room_checks state key pairs)
+    ≡ first_of ((nat_le MOST_ACTORS (length pairs), clock_full) ∷ (last_epoch == GREATEST_EPOCH, epochs_used_up) ∷ [])
+rooms-new state key last_epoch pairs is =
+    let none : stored state key ≡ None = is.stored in
+    let found : first_of (room_checks state key pairs)
+    ≡ first_of (
+    (nat_lt MOST_ACTORS (length (raise (record { actor = record { vnode = state.vnode; epoch = state.last_epoch + 1 }; counter = 0 }) pairs)), clock_full)
+    ∷ (state.last_epoch == GREATEST_EPOCH, epochs_used_up) ∷ []) = rw none refl in
+    found
+    ∙ (λ i. first_of (
+    (nat_lt MOST_ACTORS (length (raise (record { actor = record { vnode = state.vnode; epoch = is.epoch i + 1 }; counter = 0 }) pairs)), clock_full)
+    ∷ (is.epoch i == GREATEST_EPOCH, epochs_used_up) ∷ []))
+    ∙ ap (λ b. first_of ((b, clock_full) ∷ (last_epoch == GREATEST_EPOCH, epochs_used_up) ∷ []))
+    (ap (λ n. nat_lt MOST_ACTORS n) (actors-new state.vnode last_epoch pairs is.behind) ∙ one_more MOST_ACTORS (length pairs))
+  where
+    one_more : (n m : ℕ) → nat_lt n (suc m) ≡ nat_le n m
+    one_more n m = grind (arith, nat_tests)
+
+-- what those checks come to
+module _ (uncovered actors last : ℕ) where
+  abbrev stored_check : Option ℕ
+  stored_check = first_of (
+      (nat_le most_siblings uncovered, too_many_siblings) ∷ (nat_lt MOST_ACTORS actors, clock_full) ∷ (false, epochs_used_up)
+      ∷ (last == GREATEST_COUNTER, counter_used_up) ∷ [])
+
+  is-full : uncovered < 64 → MOST_ACTORS < actors → stored_check ≡ Some clock_full
+  is-full h f =
+      let a : nat_le 64 uncovered ≡ false = grind (arith, nat_tests) in
+      let b : nat_lt MOST_ACTORS actors ≡ true = grind (arith, nat_tests) in
+      rw (a, b) refl
+
+  is-used : uncovered < 64 → actors ≤ MOST_ACTORS → last ≡ GREATEST_COUNTER → stored_check ≡ Some counter_used_up
+  is-used h f e =
+      let a : nat_le 64 uncovered ≡ false = grind (arith, nat_tests) in
+      let b : nat_lt MOST_ACTORS actors ≡ false = grind (arith, nat_tests) in
+      let c : nat_eq last GREATEST_COUNTER ≡ true = grind (arith, nat_tests) in
+      rw (a, b, c) refl
+
+  is-free : uncovered < 64 → actors ≤ MOST_ACTORS → (last ≡ GREATEST_COUNTER → ⊥) → stored_check ≡ None
+  is-free h f e =
+      let a : nat_le 64 uncovered ≡ false = grind (arith, nat_tests) in
+      let b : nat_lt MOST_ACTORS actors ≡ false = grind (arith, nat_tests) in
+      let c : nat_eq last GREATEST_COUNTER ≡ false = grind (arith, nat_tests) in
+      rw (a, b, c) refl
+
+module _ (pairs last_epoch : ℕ) where
+  abbrev new_check : Option ℕ
+  new_check = first_of ((nat_le MOST_ACTORS pairs, clock_full) ∷ (last_epoch == GREATEST_EPOCH, epochs_used_up) ∷ [])
+
+  new-full : MOST_ACTORS ≤ pairs → new_check ≡ Some clock_full
+  new-full f = let a : nat_le MOST_ACTORS pairs ≡ true = grind (arith, nat_tests) in rw a refl
+
+  new-used : pairs < MOST_ACTORS → last_epoch ≡ GREATEST_EPOCH → new_check ≡ Some epochs_used_up
+  new-used f e =
+      let a : nat_le MOST_ACTORS pairs ≡ false = grind (arith, nat_tests) in
+      let b : nat_eq last_epoch GREATEST_EPOCH ≡ true = grind (arith, nat_tests) in
+      rw (a, b) refl
+
+  new-free : pairs < MOST_ACTORS → (last_epoch ≡ GREATEST_EPOCH → ⊥) → new_check ≡ None
+  new-free f e =
+      let a : nat_le MOST_ACTORS pairs ≡ false = grind (arith, nat_tests) in
+      let b : nat_eq last_epoch GREATEST_EPOCH ≡ false = grind (arith, nat_tests) in
+      rw (a, b) refl
+
+-- together, of a stored key, by what was computed
+module _ (state : State Content) (key : Key) (own : Actor) (clock : Meaning (Option Content)) (seen : Option (List Dot)) (rising : is_rising clock.known ≡ true)
+    (h : stored state key ≡ Some (record { own = Some own; clock = clock })) (u a n : ℕ) (us : u ≡ uncovered (pairs_in seen) clock) (ks : a ≡ actors_after clock.known seen own)
+    (ns : n ≡ counter_in clock.known own) where
+  rooms-are : first_of (room_checks state key (pairs_in seen)) ≡ stored_check u a n
+  rooms-are = rooms-stored state key own clock seen rising h ∙ (λ i. stored_check (sym us i) (sym ks i) (sym ns i))
+
+  pub stored-full : u < 64 → MOST_ACTORS < a → first_of (room_checks state key (pairs_in seen)) ≡ Some clock_full
+  stored-full few full = rooms-are ∙ is-full u a n few full
+
+  pub stored-used : u < 64 → a ≤ MOST_ACTORS → n ≡ GREATEST_COUNTER → first_of (room_checks state key (pairs_in seen)) ≡ Some counter_used_up
+  stored-used few fits used = rooms-are ∙ is-used u a n few fits used
+
+  pub stored-free : u < 64 → a ≤ MOST_ACTORS → (n ≡ GREATEST_COUNTER → ⊥) → first_of (room_checks state key (pairs_in seen)) ≡ None
+  stored-free few fits left = rooms-are ∙ is-free u a n few fits left
+
+-- and of an absent one
+module _ (state : State Content) (key : Key) (last_epoch : ℕ) (pairs : List Dot) (is : IsNew state key last_epoch pairs) (n : ℕ) (ns : n ≡ length pairs) where
+  rooms-begin : first_of (room_checks state key pairs) ≡ new_check n last_epoch
+  rooms-begin = rooms-new state key last_epoch pairs is ∙ (λ i. new_check (sym ns i) last_epoch)
+
+  pub absent-full : MOST_ACTORS ≤ n → first_of (room_checks state key pairs) ≡ Some clock_full
+  absent-full full = rooms-begin ∙ new-full n last_epoch full
+
+  pub absent-used : n < MOST_ACTORS → last_epoch ≡ GREATEST_EPOCH → first_of (room_checks state key pairs) ≡ Some epochs_used_up
+  absent-used few used = rooms-begin ∙ new-used n last_epoch few used
+
+  pub absent-free : n < MOST_ACTORS → (last_epoch ≡ GREATEST_EPOCH → ⊥) → first_of (room_checks state key pairs) ≡ None
+  absent-free few left = rooms-begin ∙ new-free n last_epoch few left

@@ -1,9 +1,7 @@
-pub mod Held
-pub mod Known
-pub mod Refusals
+pub mod Checks
 pub mod Places
 pub mod Plans
-pub mod Register
+pub mod Refusals
 pub mod Replies
-pub mod Rooms
+pub mod Shelves
 pub mod Vnodes

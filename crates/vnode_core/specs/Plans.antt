@@ -1,113 +1,92 @@
--- What callers see of a vnode and of a planned change, and when a change may be finished.
-use Rattle.std.specs.Prelude.{◌≡◌, ◌≤◌, false, List, [], ℕ, length, Option, Some, None}
-use Rattle.riak_msgs.specs.declared.Key.{Key}
+-- What callers see of a vnode, and what its calls say by the machine's step.
+use Rattle.std.specs.Prelude.{◌≡◌, false, Option, Some, None, Result, Ok, Err}
 use Rattle.riak_msgs.specs.declared.Content.{Content}
-use Rattle.riak_msgs.specs.declared.GetAsk.{GetAsk}
 use Rattle.riak_msgs.specs.declared.PutAsk.{PutAsk}
-use Rattle.riak_msgs.specs.declared.PutReply.{PutReply}
-use Rattle.sibling_register.specs.History.{Write}
-use Rattle.sibling_register.specs.Answers.{PutCommand}
-use Rattle.actor_epoch.specs.declared.Dot.{Dot}
-use Rattle.dvv_set.specs.Held.{known_after}
-use Rattle.vnode_machine.specs.Asks.{ReadsContext, put_command}
-use Rattle.vnode_machine.specs.Machine.{State, Context, actor_for, known_by, pairs_of, put_check, changed_by}
-use Rattle.vnode_machine.specs.Replies.{put_reply}
+use Rattle.sibling_register.specs.History.{Deed, Write}
+use Rattle.sibling_register.specs.Answers.{Ask as Command, AskPut}
+use Rattle.actor_epoch.specs.Given.{Context}
+use Rattle.vnode_machine.specs.Asks.{put_command}
+use Rattle.vnode_machine.specs.Machine.{State}
+use Rattle.vnode_machine.specs.Replay.{AtEachHistory}
+use Rattle.vnode_machine.specs.Step.{Response, PutDone, DelDone, ReapDone, ReapKept, StepOutcome, Refused, Answered, Accepted, outcome}
+use Rattle.vnode_machine.specs.Registers.{IsRegisters}
 use Rattle.vnode_core.specs.declared.ask.Ask.{Ask}
 use Rattle.vnode_core.specs.declared.ask.Ask.TheVariants.{Put}
+use Rattle.vnode_core.specs.declared.ask.Answer.{Answer}
+use Rattle.vnode_core.specs.declared.ask.Answer.TheVariants as answers
+use Rattle.vnode_core.specs.declared.ask.Reaped.{Reaped}
+use Rattle.vnode_core.specs.declared.ask.Reaped.TheVariants.{Gone, Kept, Absent}
 use Rattle.vnode_core.specs.declared.ask.Plan.{Plan}
 use Rattle.vnode_core.specs.declared.ask.Plan.TheVariants.{Change, Nothing}
-use Rattle.vnode_core.specs.declared.ask.Answer.{Answer}
-use Rattle.vnode_core.specs.declared.room.Ready.{Ready}
 use Rattle.vnode_core.specs.declared.refusal.Refusal.{Refusal}
-use Rattle.vnode_core.specs.Places.{place_in}
-use Rattle.vnode_core.specs.Refusals.{RefusesBy}
+use Rattle.vnode_core.specs.declared.refusal.Refusal.TheVariants.{NoMemory}
+use Rattle.vnode_core.specs.Refusals.{number_of}
 
--- the machine's state, and where a planned change finds room
+-- the machine's state, and the command that was prepared last
 pub record View : Type 0 where
   pub state : State Content
-  pub ready : Option Ready
+  pub prepared : Option Ask
 
--- a write that is planned: what was asked, its context as bytes; where it finds room; and the reply
-pub record Planned : Type 0 where
-  pub key : Key
-  pub content : Content
-  pub context : List ℕ
-  pub ready : Ready
-  pub reply : PutReply
+-- the register's command, and what it does where it is accepted
+abbrev pub command_of : Ask → Command Content Context
+command_of (Put put) = AskPut (put_command put)
 
--- a get that gives no context
-abbrev pub IsBlindGet : GetAsk → Type 0
-IsBlindGet ask = ask.if_modified ≡ []
+abbrev pub deed_of : Ask → Deed Content
+deed_of (Put put) = Write put.content
 
--- a put that sets no option
-pub record IsPlainPut (ask : PutAsk) : Type 0 where
-  pub return_body : ask.return_body ≡ false
-  pub return_head : ask.return_head ≡ false
-  pub if_not_modified : ask.if_not_modified ≡ false
-  pub if_none_match : ask.if_none_match ≡ false
+-- a put that asks to be shown nothing
+pub record IsSilent (put : PutAsk) : Type 0 where
+  pub return_body : put.return_body ≡ false
+  pub return_head : put.return_head ≡ false
 
--- what such a put asks of the machine
-abbrev pub plain_put : Key → Option Context → Content → PutCommand Content Context
-plain_put key context content = record {
-  key = key;
-  context = context;
-  value = content;
-  return_body = false;
-  return_head = false;
-  if_not_modified = false;
-  if_none_match = false;
-}
+abbrev pub IsSilentAsk : Ask → Type 0
+IsSilentAsk (Put put) = IsSilent put
 
--- an ask that sets no option
-abbrev pub IsPlainAsk : Ask → Type 0
-IsPlainAsk (Put put) = IsPlainPut put
+-- the machine's response
+abbrev pub reap_response : Reaped → Response
+reap_response Gone = ReapDone
+reap_response Kept = ReapKept
+reap_response Absent = ReapKept
 
--- how many actors the key's clock knows after a put that discards these pairs
-abbrev pub actors_after : State Content → Key → List Dot → ℕ
-actors_after state key pairs = length (known_after (actor_for state key) (known_by state key pairs))
+abbrev pub response_of : Answer → Response
+response_of (answers.Put reply) = PutDone reply
+response_of answers.Del = DelDone
+response_of (answers.Reaped reaped) = reap_response reaped
 
--- the change may be finished as a put of this context: the machine accepts it, its place is the key's, there is room for
--- all actors that the key's clock will know, and the reply is as the machine has it
-pub record IsReadyBy (vnode : View) (change : Planned) (context : Option Context) : Type 0 where
-  pub accepted : put_check vnode.state (plain_put change.key context change.content) ≡ None
-  pub place : place_in change.key vnode.state.keys ≡ change.ready.place
-  pub room : vnode.ready ≡ Some change.ready
-  pub actors : actors_after vnode.state change.key (pairs_of context) ≤ change.ready.actors
-  pub reply : change.reply ≡ put_reply (changed_by vnode.state change.key context (Write change.content)) (plain_put change.key context change.content)
+abbrev pub IsAccepted : StepOutcome → Type 0
+IsAccepted (Refused number) = ⊥
+IsAccepted (Answered response) = ⊥
+IsAccepted (Accepted deed response next) = Unit {0}
 
--- the change may be finished, by what its context reads as
-abbrev pub IsReady : View → Planned → Type 0
-IsReady vnode change = (context : Option Context) × ReadsContext change.context context × IsReadyBy vnode change context
+-- the change is the command, it is what is prepared, and the machine accepts it
+pub record IsPrepared (vnode : View) (ask : Ask) (change : Ask) : Type 0 where
+  pub is : change ≡ ask
+  pub prepared : vnode.prepared ≡ Some ask
+  pub accepted : IsAccepted (outcome vnode.state (command_of ask))
 
--- what finishing it leaves: by what its context reads as, the machine's next state
-abbrev pub IsMade : State Content → Planned → State Content → Type 0
-IsMade old change new = (context : Option Context) → ReadsContext change.context context → new ≡ changed_by old change.key context (Write change.content)
+-- nothing changes, and nothing is prepared
+pub record IsDone (vnode : View) (ask : Ask) (answer : Answer) : Type 0 where
+  pub prepared : vnode.prepared ≡ None
+  pub answered : outcome vnode.state (command_of ask) ≡ Answered (response_of answer)
 
--- the change is of this put, is ready, and has the machine's reply
-pub record IsPlanOf (vnode : View) (ask : PutAsk) (given : Option Context) (change : Planned) : Type 0 where
-  pub key : change.key ≡ ask.key
-  pub content : change.content ≡ ask.content
-  pub context : change.context ≡ ask.context
-  pub ready : IsReadyBy vnode change given
-  pub reply : change.reply ≡ put_reply (changed_by vnode.state ask.key given (Write ask.content)) (put_command ask given)
+abbrev pub Plans : View → Ask → Plan Ask Answer → Type 0
+Plans vnode ask (Change change) = IsPrepared vnode ask change
+Plans vnode ask (Nothing answer) = IsDone vnode ask answer
 
--- the refusal is the machine's; memory is refused only where the machine accepts the put
-abbrev pub Refuses : State Content → PutCommand Content Context → Refusal → Type 0
-Refuses state put refusal = RefusesBy (put_check state put) refusal
+-- the refusal is the machine's; memory is refused only where it accepts
+abbrev pub Refuses : State Content → Ask → Refusal → Type 0
+Refuses state ask NoMemory = IsAccepted (outcome state (command_of ask))
+Refuses state ask refusal = outcome state (command_of ask) ≡ Refused (number_of refusal)
 
--- a put comes to this change, by what its context reads as
-abbrev pub PlansPut : View → PutAsk → Planned → Type 0
-PlansPut vnode ask change = (context : Option Context) × ReadsContext ask.context context × IsPlanOf vnode ask context change
+-- finishing a change makes the machine's step
+abbrev pub Steps : State Content → Ask → Answer → State Content → Type 0
+Steps old change answer new = outcome old (command_of change) ≡ Accepted (deed_of change) (response_of answer) new
 
--- a put is refused so, by what its context reads as
-abbrev pub RefusesPut : State Content → PutAsk → Refusal → Type 0
-RefusesPut state ask refusal = (context : Option Context) × ReadsContext ask.context context × Refuses state (put_command ask context) refusal
+-- the register may do so with a command, at each history that the vnode may have had
+abbrev pub Registers : State Content → Command Content Context → StepOutcome → Type 0
+Registers state command result = AtEachHistory state (λ vnode last_epoch history. IsRegisters vnode last_epoch history command result)
 
--- what an ask comes to
-abbrev pub PreparesAsk : View → Ask → Plan Planned Answer → Type 0
-PreparesAsk vnode (Put put) (Change change) = PlansPut vnode put change
-PreparesAsk vnode (Put put) (Nothing answer) = ⊥
-
--- how an ask is refused
-abbrev pub RefusesAsk : State Content → Ask → Refusal → Type 0
-RefusesAsk state (Put put) refusal = RefusesPut state put refusal
+-- what a command comes to where it is planned, or refused
+abbrev pub planned : {X : Type 0} → State Content → Ask → Result X Refusal → StepOutcome
+planned state ask (Ok plan) = outcome state (command_of ask)
+planned state ask (Err refusal) = Refused (number_of refusal)

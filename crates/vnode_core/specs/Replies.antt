@@ -1,11 +1,13 @@
--- What a vnode answers, by what it holds.
-use Rattle.std.specs.Prelude.{Bool, false, if◌then◌else◌, [], map, is_some}
+-- What a vnode answers, by what is stored of the key.
+use Rattle.std.specs.Prelude.{Bool, true, false, if◌then◌else◌, [], map, is_some, Option, Some, None}
 use Rattle.std.specs.List.{list_any}
 use Rattle.riak_msgs.specs.declared.Content.{Content}
+use Rattle.riak_msgs.specs.declared.GetAsk.{GetAsk}
 use Rattle.riak_msgs.specs.declared.GetReply.{GetReply}
 use Rattle.riak_msgs.specs.declared.PutReply.{PutReply}
-use Rattle.actor_epoch.specs.Contexts.{spelling}
-use Rattle.vnode_machine.specs.Machine.{Stored}
+use Rattle.actor_epoch.specs.Contexts.{encoding}
+use Rattle.actor_epoch.specs.Given.{Context, Malformed, Pairs, context_of}
+use Rattle.vnode_machine.specs.Machine.{Stored, same_pairs}
 use Rattle.vnode_machine.specs.Replies.{shown}
 
 -- a reply that shows nothing
@@ -16,11 +18,18 @@ nothing = record { contents = []; context = []; unchanged = false }
 abbrev pub nothing_after : PutReply
 nothing_after = record { contents = []; context = [] }
 
--- the reply that shows the siblings of a held key and its context; of a dead one no sibling, and the context where it
--- is asked for
-abbrev pub siblings_of : Stored Content → (bare deletedvclock : Bool) → GetReply
-siblings_of s bare deletedvclock =
-    let context = spelling s.clock.known in
+-- whether a given context is the stored key's
+abbrev pub is_its : Stored Content → Option Context → Bool
+is_its s None = false
+is_its s (Some Malformed) = false
+is_its s (Some (Pairs pairs)) = same_pairs pairs s.clock.known
+
+-- the reply that shows the siblings of a stored key and its context, or that nothing changed; of a dead one no sibling,
+-- and the context where it is asked for
+abbrev pub siblings_of : Stored Content → GetAsk → GetReply
+siblings_of s ask =
+    let context = encoding s.clock.known in
     if list_any (λ entry. is_some entry.1) s.clock.live
-    then record { contents = map (λ entry. shown bare entry.1) s.clock.live; context = context; unchanged = false }
-    else record { contents = []; context = if deletedvclock then context else []; unchanged = false }
+    then (if is_its s (context_of ask.if_modified) then record { contents = []; context = []; unchanged = true }
+    else record { contents = map (λ entry. shown ask.head entry.1) s.clock.live; context = context; unchanged = false })
+    else record { contents = []; context = if ask.deletedvclock then context else []; unchanged = false }

@@ -1,67 +1,113 @@
-//! The checks of a put, in their order. They take no memory.
+//! The checks of a write, by what is stored of its key. They take no memory.
 
-ghost use Rattle.std.specs.Prelude.{◌≡◌, IfNone, IfSome, IfOk, IfErr, None};
-ghost use Rattle.vnode_core.specs.Known.{pairs_in};
-ghost use Rattle.vnode_core.specs.Held.{stored_of, held_check, new_check, IsHeld, AcceptsFor};
-ghost use Rattle.vnode_core.specs.Refusals.{RefusesBy};
+ghost use Rattle.std.specs.Prelude.{◌≡◌, ◌<◌, Some, OnOk, IsTrue};
+ghost use Rattle.std.specs.Option.{option_map};
+ghost use Rattle.riak_msgs.specs.declared.Key.{Key};
+ghost use Rattle.riak_msgs.specs.declared.Content.{Content};
+ghost use Rattle.sibling_register.specs.Refusals.{first_of};
+ghost use Rattle.actor_epoch.specs.Contexts.{is_rising};
+ghost use Rattle.dvv_set.specs.Held.{pairs_of as seen_in};
+ghost use Rattle.vnode_machine.specs.Machine.{State, stored, room_checks};
+ghost use Rattle.vnode_core.specs.Checks.{pairs_in, last_dot, has_value_in, is_current_in, options_check, IsNew};
+ghost use Rattle.vnode_core.specs.Refusals.{GivenBy};
+ghost use Rattle.vnode_core.specs.Shelves.{stored_of};
 
 use crate::given;
-use crate::held::Held;
 use crate::refusal::Refusal;
+use crate::stored_key::StoredKey;
 use actor_epoch::{Context, Dot, GREATEST_COUNTER, GREATEST_EPOCH, MOST_ACTORS};
+use riak_msgs::PutAsk;
 
 /// The most siblings of a key.
-const MOST_SIBLINGS: usize = 64;
+const MAX_SIBLINGS: usize = 64;
 
-/// How many actors the clock of a held key will know after a put, or why the put is refused.
-pub(crate) fn check_held(
-    held: &Held,
-    vnode: u64,
-    last_epoch: u32,
-    context: &Option<Context<'_>>,
-) -> Result<usize, Refusal>
-    requires { IsHeld (stored_of held.now) }
-    ensures ok { IfOk result (λ actors. AcceptsFor vnode last_epoch (stored_of held.now) (pairs_in context.now) actors) }
-    ensures err { IfErr result (λ refusal. RefusesBy (held_check vnode last_epoch (stored_of held.now) (pairs_in context.now)) refusal) }
+/// The last dot of a key's life, where it is stored.
+pub(crate) fn last_of(found: Option<&StoredKey>) -> Option<Dot>
+    ensures { result ≡ option_map (λ key. last_dot key.now) found.entry }
 {
-    let last = Dot {
-        actor: held.actor,
-        counter: held.last(),
-    };
-    if given::runs_ahead(context, vnode, last_epoch, Some(last)) {
-        return Err(Refusal::BadContext);
-    }
-    if MOST_SIBLINGS <= held.kept(context) {
-        return Err(Refusal::TooManySiblings);
-    }
-    let others = given::others_in(held.clock.join(), context);
-    let actors = given::len(context).saturating_add(others);
-    if MOST_ACTORS < actors {
-        return Err(Refusal::ClockFull);
-    }
-    if last.counter == GREATEST_COUNTER {
-        return Err(Refusal::CounterUsedUp);
-    }
-    Ok(actors)
+    let key = found?;
+    Some(Dot {
+        actor: key.actor,
+        counter: key.clock.counter_of(key.actor),
+    })
 }
 
-/// Why a put on an absent key is refused.
-pub(crate) fn check_new(
-    vnode: u64,
-    last_epoch: u32,
-    context: &Option<Context<'_>>,
-) -> Option<Refusal>
-    ensures none { IfNone result (new_check vnode last_epoch (pairs_in context.now) ≡ None) }
-    ensures some { IfSome result (λ refusal. RefusesBy (new_check vnode last_epoch (pairs_in context.now)) refusal) }
+/// Whether there is a value.
+fn has_value(found: Option<&StoredKey>) -> bool
+    ensures { result ≡ has_value_in (option_map (λ key. stored_of key.now) found.entry) }
 {
-    if given::runs_ahead(context, vnode, last_epoch, None) {
-        return Some(Refusal::BadContext);
+    match found {
+        None => false,
+        Some(key) => key.has_value(),
     }
+}
+
+/// Whether the context is the key's.
+fn is_current(found: Option<&StoredKey>, context: Option<&Context<'_>>) -> bool
+    ensures { result ≡ is_current_in (option_map (λ key. stored_of key.now) found.entry) (seen_in context.entry) }
+{
+    match found {
+        None => false,
+        Some(key) => match context {
+            None => false,
+            Some(context) => key.is_current(context),
+        },
+    }
+}
+
+/// Whether the options of a put let it go on.
+pub(crate) fn check_options(
+    put: &PutAsk,
+    found: Option<&StoredKey>,
+    context: Option<&Context<'_>>,
+) -> Result<(), Refusal>
+    ensures { GivenBy result (options_check put.now (has_value_in (option_map (λ key. stored_of key.now) found.entry)) (is_current_in (option_map (λ key. stored_of key.now) found.entry) (seen_in context.entry))) }
+{
+    if put.if_none_match {
+        if has_value(found) {
+            return Err(Refusal::MatchFound);
+        }
+        return Ok(());
+    }
+    if put.if_not_modified {
+        if !has_value(found) {
+            return Err(Refusal::NotFound);
+        }
+        if !is_current(found, context) {
+            return Err(Refusal::Modified);
+        }
+    }
+    Ok(())
+}
+
+/// Whether a stored key has room for one write more, which discards what its context has seen.
+pub(crate) fn check_stored(key: &StoredKey, context: Option<&Context<'_>>) -> Result<(), Refusal>
+    requires { IsTrue (is_rising key.now.clock.meaning.known) }
+    ensures { (state : State Content) (k : Key) → stored state k ≡ Some (stored_of key.now) → GivenBy result (first_of (room_checks state k (pairs_in (seen_in context.entry)))) }
+{
+    if MAX_SIBLINGS <= key.clock.uncovered(context) {
+        return Err(Refusal::TooManySiblings);
+    }
+    if MOST_ACTORS < key.clock.needed(context, key.actor).actors {
+        return Err(Refusal::ClockFull);
+    }
+    if key.clock.counter_of(key.actor) == GREATEST_COUNTER {
+        return Err(Refusal::CounterUsedUp);
+    }
+    Ok(())
+}
+
+/// Whether there is room for the first write of a life, where this epoch was given last, by a context that doesn't run
+/// ahead.
+pub(crate) fn check_new(last_epoch: u32, context: Option<&Context<'_>>) -> Result<(), Refusal>
+    ensures given { (state : State Content) (k : Key) → IsNew state k last_epoch (pairs_in (seen_in context.entry)) → GivenBy result (first_of (room_checks state k (pairs_in (seen_in context.entry)))) }
+    ensures left { OnOk result (last_epoch < GREATEST_EPOCH) }
+{
     if MOST_ACTORS <= given::len(context) {
-        return Some(Refusal::ClockFull);
+        return Err(Refusal::ClockFull);
     }
     if last_epoch == GREATEST_EPOCH {
-        return Some(Refusal::EpochsUsedUp);
+        return Err(Refusal::EpochsUsedUp);
     }
-    None
+    Ok(())
 }

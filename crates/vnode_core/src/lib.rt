@@ -1,20 +1,19 @@
 //! One vnode of a store that keeps siblings: gets and puts of its keys, as Riak answers them.
 //!
-//! A [`Vnode`] is the vnode machine (`State` in `specs/Machine` of `vnode_machine`): each key that it holds has the
-//! actor of its life, and a clock whose live dots are its siblings. A get is answered by `get_reply`; a put is refused
-//! by `put_check`, or planned by [`Vnode::prepare`] and made by [`Vnode::finish`] as `changed_by` says. And at every
-//! history that may have led to its state, each call answers as the sibling register tells it (`specs/Register`).
+//! A [`Vnode`] is the vnode machine (`State` in `specs/Machine` of `vnode_machine`), and each call is the machine's step
+//! (`outcome` in its `specs/Step`): each key that it holds has the actor of its life, and a clock whose live dots are its
+//! siblings. A command is refused, or planned by [`Vnode::prepare`] and made by [`Vnode::finish`]. At every history that
+//! may have led to its state, each call answers as the sibling register tells it (`Registers` in `specs/Plans`).
 //!
-//! Keys stand in a list in their order. A call looks through it, and a new key moves those behind it; a get copies what
-//! it shows. A put takes memory in `prepare` alone: room at its place, and in its key's clock for the actors that are new
-//! to it, and for its siblings with one more. `finish` takes none, so an accepted put is never half made. The checks take
-//! none either; they look through the context's pairs once for each pair that the clock knows, and pass over the
-//! siblings once. Making a put moves the key's siblings once.
+//! What is prepared stands in the vnode's model, the whole command with its options and its context as given, and a
+//! [`Change`] is that command and nothing else. Room, the actor and the answer that were made for it lie in the vnode, so
+//! nothing that callers see is a place, an index or a number of actors; the next `prepare` or `finish` ends it.
 //!
-//! A `Place` is where a key stands or would go in; a `Held` key is its actor and its clock (`Clock` of `dvv_set`), whose
-//! live dots are the siblings: contents, and None for a tombstone. These are the last dots of its actor, so how many of
-//! them a context covers is known by their number. The `Room` for a put is made ahead, `Ready` says where it is and for
-//! how many actors, and a [`Change`] is a put that was accepted and isn't made yet.
+//! Keys stand in a list in their order (`Shelf`). A call looks through it, and a new key moves those behind it; a get
+//! copies what it shows. A put takes memory in `prepare` alone: room at its place, and in its key's clock for the actors
+//! that are new to it, and for its siblings with one more. `finish` takes none, so an accepted put is never half made.
+//! The checks take none either: they look through the context's pairs once, and ask the clock how many siblings the
+//! context leaves uncovered and how many actors a write needs. Making a put moves the key's siblings once.
 //!
 //! Sources: the documentation of Riak's Protocol Buffers client API for get and put, and of its actor epochs; dotted
 //! version vector sets for clocks.
@@ -24,11 +23,12 @@ mod ask;
 mod change;
 mod checks;
 mod given;
-mod held;
 mod place;
+mod ready;
 mod refusal;
 mod replies;
-mod room;
+mod shelf;
+mod stored_key;
 mod vnode;
 
 pub use ask::{Answer, Ask, Plan, Reaped};

@@ -1,10 +1,10 @@
 //! Where a key stands in the list of keys.
 
 ghost use Rattle.std.specs.Prelude.{◌≡◌, map};
-ghost use Rattle.vnode_core.specs.Held.{entry_of};
+ghost use Rattle.vnode_core.specs.Shelves.{entry_of};
 ghost use Rattle.vnode_core.specs.Places.{place_in};
 
-use crate::held::Held;
+use crate::stored_key::StoredKey;
 use riak_msgs::Key;
 use std::cmp::Ordering;
 
@@ -18,15 +18,15 @@ pub(crate) enum Place {
 }
 
 /// The place of a key in a list in key order.
-pub(crate) fn place_of(held: &[Held], key: &Key) -> Place
-    ensures { result ≡ place_in key.now (map entry_of held.now) }
+pub(crate) fn place_of(keys: &[StoredKey], key: &Key) -> Place
+    ensures { result ≡ place_in key.now (map entry_of keys.now) }
 {
-    for (i, other) in held.iter().enumerate() {
+    for (i, other) in keys.iter().enumerate() {
         match key.cmp(&other.key) {
             Ordering::Less => return Place::New(i),
             Ordering::Equal => return Place::At(i),
             Ordering::Greater => {}
         }
     }
-    Place::New(held.len())
+    Place::New(keys.len())
 }

@@ -1,8 +1,9 @@
 //! Why a vnode refuses a command.
 
 ghost use Rattle.std.specs.Prelude.{◌≡◌};
-ghost use Rattle.vnode_core.specs.declared.refusal.Refusal.TheVariants.{NoMemory};
+ghost use Rattle.vnode_core.specs.declared.refusal.Refusal.TheVariants.{BadContext, NoMemory};
 
+use actor_epoch::MalformedContext;
 use std::alloc::AllocError;
 use thiserror::Error;
 
@@ -43,5 +44,13 @@ impl From<AllocError> for Refusal {
 
     fn from(_error: AllocError) -> Refusal {
         Refusal::NoMemory
+    }
+}
+
+impl From<MalformedContext> for Refusal {
+    ghost from_gives = { λ _ refusal. refusal ≡ BadContext };
+
+    fn from(_error: MalformedContext) -> Refusal {
+        Refusal::BadContext
     }
 }

@@ -12,11 +12,12 @@ use Rattle.actor_epoch.specs.declared.Actor.{Actor}
 use Rattle.actor_epoch.specs.declared.Dot.{Dot}
 use Rattle.actor_epoch.specs.Dots.{actor_eq, counter_in}
 use Rattle.actor_epoch.specs.Contexts.{is_of_form}
-use Rattle.vnode_machine.specs.Machine.{Context, Stored, State, stored, runs_ahead, is_bad}
-use Rattle.vnode_machine.specs.Replay.{replay, naming, HasReplay}
-use Rattle.vnode_machine.specs.Laws.{IsWithinLimits}
-use Rattle.vnode_machine.proofs.Invariants.{H, HasGrown, IsEarlier}
-use Rattle.vnode_machine.proofs.Sights.{ahead_of, same_pairs-same, Each, known_at, named-position}
+use Rattle.actor_epoch.specs.Given.{Context, Malformed, Pairs}
+use Rattle.vnode_machine.specs.Machine.{Stored, State, stored, runs_ahead, is_bad}
+use Rattle.vnode_machine.specs.Replay.{replay, naming, HasReplay, IsWithinLimits}
+use Rattle.vnode_machine.proofs.Invariants.{actor_of, H, HasGrown, IsEarlier}
+use Rattle.vnode_machine.proofs.Bases.{IsOwned}
+use Rattle.vnode_machine.proofs.Sights.{ahead_of, ahead-owned, owned-kept, same_pairs-same, Each, known_at, named-position}
 use Rattle.vnode_machine.proofs.Steps.{last_of, known}
 use Rattle.vnode_machine.proofs.Formed.{known-of-form}
 use Rattle.vnode_machine.proofs.Counters.{is_low, are_low}
@@ -59,14 +60,18 @@ none_later own top (pair ∷ pairs) h = by (actor_eq pair.actor own) pair.counte
     by true n h rest = rw (below n (counter_in pairs own) top h) (rest (rest_below n (counter_in pairs own) top h))
     by false n h rest = rest h
 
-none_ahead : (known : List Dot) (count now : ℕ) (o : Option (Stored Content)) → HasGrown known count now o → list_any (ahead_of o) known ≡ false
-none_ahead known count now None h = none_at_all known
+none_ahead : (known : List Dot) (count now : ℕ) (o : Option (Stored Content)) → IsOwned o → HasGrown known count now o → list_any (ahead_of o) known ≡ false
+none_ahead known count now None owned h = none_at_all known
   where
     none_at_all : (pairs : List Dot) → list_any (ahead_of None) pairs ≡ false
     none_at_all [] = refl
     none_at_all (pair ∷ pairs) = none_at_all pairs
-none_ahead known count now (Some s) h = none_later s.own (counter_in s.clock.known s.own) known (less (counter_in known s.own) (cond (nat_eq count now) 0 1) (counter_in s.clock.known s.own) h)
+none_ahead known count now (Some s) owned h = any_same (ahead_of (Some s)) (λ pair. actor_eq pair.actor (actor_of s) && nat_lt (counter_in s.clock.known (actor_of s)) pair.counter) (ahead-owned s owned) known ∙ none_later (actor_of s) (counter_in s.clock.known (actor_of s)) known (less (counter_in known (actor_of s)) (cond (nat_eq count now) 0 1) (counter_in s.clock.known (actor_of s)) h)
   where
+    any_same : (p q : Dot → Bool) → ((d : Dot) → p d ≡ q d) → (ds : List Dot) → list_any p ds ≡ list_any q ds
+    any_same p q f [] = refl
+    any_same p q f (d ∷ ds) = λ i. f d i || any_same p q f ds i
+
     less : (a b t : ℕ) → a + b ≤ t → a ≤ t
     less a b t h = omega (arith, h)
 
@@ -81,35 +86,35 @@ module _ (v l : ℕ) (limits : IsWithinLimits v l) (history : H) (replays : HasR
   -- the context of a position is not bad
   good : (q : H) → HasReplay v l q → is_of_form (known_at v l q key) ≡ true
       → IsEarlier v l (last_of v l history) history key (stored state key) (known_at v l q key) (count_of q key)
-      → is_bad state key (Some (Some (known_at v l q key))) ≡ false
+      → is_bad state key (Some (Pairs (known_at v l q key))) ≡ false
   good q q_replays form earlier =
       let k = known v l history replays in
       let ahead : list_any (runs_ahead state key) (known_at v l q key) ≡ false =
       none_of (λ pair. (pair.actor.vnode == state.vnode) && nat_lt state.last_epoch pair.actor.epoch) (ahead_of (stored state key)) (known_at v l q key)
       (none_early v state.vnode state.last_epoch (known_at v l q key) k.vnode earlier.low)
-      (none_ahead (known_at v l q key) (count_of q key) (count_of history key) (stored state key) earlier.grown) in
+      (none_ahead (known_at v l q key) (count_of q key) (count_of history key) (stored state key) (owned-kept v l (last_of v l history) history key (stored state key) (k.keys key)) earlier.grown) in
       λ i. not (form i) || ahead i
 
   abbrev IsPosition : H → Type 0
   IsPosition q = IsEarlier v l (last_of v l history) history key (stored state key) (known_at v l q key) (count_of q key)
 
-  good_named : (pairs : List Dot) (q : H) → named (naming v l) history key (Some pairs) ≡ Some q → is_bad state key (Some (Some pairs)) ≡ false
+  good_named : (pairs : List Dot) (q : H) → named (naming v l) history key (Pairs pairs) ≡ Some q → is_bad state key (Some (Pairs pairs)) ≡ false
   good_named pairs q e =
-      let found = named-position v l IsPosition history key (Some pairs) ((known v l history replays).earlier key) q e in
-      let q_replays = (named-position v l (λ p. HasReplay v l p) history key (Some pairs) (Each-replay v l history replays) q e).0 in
-      subst (λ ps. is_bad state key (Some (Some ps)) ≡ false) (sym (same_pairs-same pairs (known_at v l q key) found.2))
+      let found = named-position v l IsPosition history key (Pairs pairs) ((known v l history replays).earlier key) q e in
+      let q_replays = (named-position v l (λ p. HasReplay v l p) history key (Pairs pairs) (Each-replay v l history replays) q e).0 in
+      subst (λ ps. is_bad state key (Some (Pairs ps)) ≡ false) (sym (same_pairs-same pairs (known_at v l q key) found.2))
       (good q q_replays (known-of-form v l limits q q_replays key found.1) found.0)
 
   -- so a bad context names none
   pub bad-names-none : (given : Option Context) → is_bad state key given ≡ true → NamesNone (naming v l) history key given
   bad-names-none None h = cc
-  bad-names-none (Some None) h = by (named (naming v l) history key None) refl
+  bad-names-none (Some Malformed) h = by (named (naming v l) history key Malformed) refl
     where
-      by : (q : Option H) → named (naming v l) history key None ≡ q → named (naming v l) history key None ≡ None
+      by : (q : Option H) → named (naming v l) history key Malformed ≡ q → named (naming v l) history key Malformed ≡ None
       by None e = e
-      by (Some q) e = let found = named-position v l (λ p. HasReplay v l p) history key None (Each-replay v l history replays) q e in let no : false ≡ true = found.2 in cc
-  bad-names-none (Some (Some pairs)) h = by (named (naming v l) history key (Some pairs)) refl
+      by (Some q) e = let found = named-position v l (λ p. HasReplay v l p) history key Malformed (Each-replay v l history replays) q e in let no : false ≡ true = found.2 in cc
+  bad-names-none (Some (Pairs pairs)) h = by (named (naming v l) history key (Pairs pairs)) refl
     where
-      by : (q : Option H) → named (naming v l) history key (Some pairs) ≡ q → named (naming v l) history key (Some pairs) ≡ None
+      by : (q : Option H) → named (naming v l) history key (Pairs pairs) ≡ q → named (naming v l) history key (Pairs pairs) ≡ None
       by None e = e
       by (Some q) e = let no : true ≡ false = sym h ∙ good_named pairs q e in cc

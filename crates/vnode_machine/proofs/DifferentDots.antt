@@ -1,7 +1,7 @@
 -- The machine issues no dot twice.
 use Rattle.std.proofs.Common.{◌≡◌, ℕ, suc, ◌+◌, ◌≤◌, Bool, true, false, not, ◌&&◌, ◌||◌, cond, List, [], ◌∷◌, refl, sym, ◌∙◌, ap, arith, subst, add-one}
-use Rattle.std.specs.Prelude.{nat_le, nat_eq, ◌==◌, Option, Some, None, IsTrue, is_some, unwrap_or}
-use Rattle.std.specs.Option.{option_map, option_map_or}
+use Rattle.std.specs.Prelude.{option_and_then, nat_le, nat_eq, ◌==◌, Option, Some, None, IsTrue, is_some, unwrap_or}
+use Rattle.std.specs.Option.{option_map_or}
 use Rattle.std.specs.List.{list_any, list_all}
 use Rattle.std.specs.FinMap.Entries.{find}
 use Rattle.std.proofs.lemmas.Bool.Decides.{nat_tests}
@@ -11,10 +11,13 @@ use Rattle.riak_msgs.specs.KeyOrder.{key_cmp, key_eq}
 use Rattle.sibling_register.specs.History.{Event, Deed, Write, Tombstone, Reap}
 use Rattle.actor_epoch.specs.declared.Actor.{Actor}
 use Rattle.actor_epoch.specs.declared.Dot.{Dot}
-use Rattle.actor_epoch.specs.Dots.{actor_eq, dot_eq, counter_in, raise, union}
+use Rattle.actor_epoch.specs.Dots.{actor_eq, dot_eq, counter_in, raise, union, next_dot}
 use Rattle.dvv_set.specs.Clocks.{discard, event}
-use Rattle.vnode_machine.specs.Machine.{Context, Stored, State, opening, stored, clock_of, actor_for, next_actor, epoch_after, pairs_of, del_pairs, updated, changed_by, state_after, next_dot, known_by, issued_at, issued}
+use Rattle.actor_epoch.specs.Given.{Context}
+use Rattle.vnode_machine.specs.Machine.{Stored, State, opening, stored, clock_of, actor_for, next_actor, epoch_after, pairs_of, del_pairs, updated, changed_by, state_after, known_by, issued_at, issued}
 use Rattle.vnode_machine.specs.Laws.{AreDifferent, NoDotTwice}
+use Rattle.vnode_machine.proofs.Invariants.{actor_of}
+use Rattle.vnode_machine.proofs.Bases.{own_in, own-owned, last-owned}
 use Rattle.vnode_machine.proofs.Keys.{find_stored, find_reaped, key_eq-same}
 use Rattle.actor_epoch.proofs.Pairs.{counter_in-raise, counter_in-union}
 use Rattle.vnode_machine.proofs.Counters.{actor_eq-refl}
@@ -30,9 +33,10 @@ is_low last ds = list_all (λ d. nat_le d.actor.epoch last) ds
 -- what holds of what is stored, of the last epoch and of the dots so far
 pub record IsSound (look : Key → Option (Stored Content)) (last : ℕ) (ds : List Dot) : Type 0 where
   low : IsTrue (is_low last ds)
-  own : (key : Key) (s : Stored Content) → look key ≡ Some s → s.own.epoch ≤ last
-  top : (key : Key) (s : Stored Content) → look key ≡ Some s → IsTrue (is_below s.own (counter_in s.clock.known s.own) ds)
-  apart : (k j : Key) (s t : Stored Content) → look k ≡ Some s → look j ≡ Some t → key_eq k j ≡ false → actor_eq s.own t.own ≡ false
+  owned : (key : Key) (s : Stored Content) → look key ≡ Some s → s.own ≡ Some (actor_of s)
+  own : (key : Key) (s : Stored Content) → look key ≡ Some s → (actor_of s).epoch ≤ last
+  top : (key : Key) (s : Stored Content) → look key ≡ Some s → IsTrue (is_below (actor_of s) (counter_in s.clock.known (actor_of s)) ds)
+  apart : (k j : Key) (s t : Stored Content) → look k ≡ Some s → look j ≡ Some t → key_eq k j ≡ false → actor_eq (actor_of s) (actor_of t) ≡ false
   different : AreDifferent ds
 
 epochs_differ : (d own : Actor) (last : ℕ) → nat_le d.epoch last ≡ true → own.epoch ≡ suc last → actor_eq d own ≡ false
@@ -96,15 +100,16 @@ actor_eq-sym a b = rw (nat_eq-sym a.vnode b.vnode, nat_eq-sym a.epoch b.epoch) r
 -- a write or tombstone more, at an actor and counter that fit
 put_sound : (look look' : Key → Option (Stored Content)) (last last' : ℕ) (ds : List Dot) (at : Key) (next : Stored Content) (c : ℕ)
     → IsSound look last ds → ((k : Key) → look' k ≡ cond (key_eq at k) (Some next) (look k))
-    → last ≤ last' → next.own.epoch ≤ last' → IsTrue (is_below next.own c ds) → suc c ≤ counter_in next.clock.known next.own
-    → ((k : Key) (s : Stored Content) → look k ≡ Some s → key_eq at k ≡ false → actor_eq next.own s.own ≡ false)
-    → IsSound look' last' ((let dot : Dot = record { actor = next.own; counter = suc c } in dot) ∷ ds)
-put_sound look look' last last' ds at next c sound found le epoch below counter others = record {
-  low = and_both (nat_le next.own.epoch last') (is_low last' ds) (test next.own.epoch last' epoch) (low_more last last' ds le sound.low);
+    → next.own ≡ Some (actor_of next) → last ≤ last' → (actor_of next).epoch ≤ last' → IsTrue (is_below (actor_of next) c ds) → suc c ≤ counter_in next.clock.known (actor_of next)
+    → ((k : Key) (s : Stored Content) → look k ≡ Some s → key_eq at k ≡ false → actor_eq (actor_of next) (actor_of s) ≡ false)
+    → IsSound look' last' ((let dot : Dot = record { actor = (actor_of next); counter = suc c } in dot) ∷ ds)
+put_sound look look' last last' ds at next c sound found owned le epoch below counter others = record {
+  owned = λ k s e. owned_by k s (key_eq at k) (sym (found k) ∙ e);
+  low = and_both (nat_le (actor_of next).epoch last') (is_low last' ds) (test (actor_of next).epoch last' epoch) (low_more last last' ds le sound.low);
   own = λ k s e. own_by k s (key_eq at k) (sym (found k) ∙ e);
   top = λ k s e. top_by k s (key_eq at k) refl (sym (found k) ∙ e);
   apart = λ k j s t e f d. apart_by k j s t (key_eq at k) (key_eq at j) refl refl (sym (found k) ∙ e) (sym (found j) ∙ f) d;
-  different = (next_new next.own c ds below, sound.different);
+  different = (next_new (actor_of next) c ds below, sound.different);
 }
   where
     test : (a b : ℕ) → a ≤ b → nat_le a b ≡ true
@@ -113,9 +118,13 @@ put_sound look look' last last' ds at next c sound found le epoch below counter 
     same : (s t : Stored Content) → Some s ≡ Some t → s ≡ t
     same s t e = cc
 
-    own_by : (k : Key) (s : Stored Content) (b : Bool) → cond b (Some next) (look k) ≡ Some s → s.own.epoch ≤ last'
-    own_by k s true e = let P : Stored Content → Type 0 = λ t. t.own.epoch ≤ last' in subst P (same next s e) epoch
-    own_by k s false e = let o : s.own.epoch ≤ last = sound.own k s e in omega (arith, le)
+    owned_by : (k : Key) (s : Stored Content) (b : Bool) → cond b (Some next) (look k) ≡ Some s → s.own ≡ Some (actor_of s)
+    owned_by k s true e = let P : Stored Content → Type 0 = λ t. t.own ≡ Some (actor_of t) in subst P (same next s e) owned
+    owned_by k s false e = sound.owned k s e
+
+    own_by : (k : Key) (s : Stored Content) (b : Bool) → cond b (Some next) (look k) ≡ Some s → (actor_of s).epoch ≤ last'
+    own_by k s true e = let P : Stored Content → Type 0 = λ t. (actor_of t).epoch ≤ last' in subst P (same next s e) epoch
+    own_by k s false e = let o : (actor_of s).epoch ≤ last = sound.own k s e in omega (arith, le)
 
     right : (a b : Bool) → b ≡ true → (a || b) ≡ true
     right true b h = refl
@@ -125,23 +134,23 @@ put_sound look look' last last' ds at next c sound found le epoch below counter 
     apart_head b x h = rw h refl
 
     top_by : (k : Key) (s : Stored Content) (b : Bool) → key_eq at k ≡ b → cond b (Some next) (look k) ≡ Some s
-        → IsTrue (is_below s.own (counter_in s.clock.known s.own) ((let dot : Dot = record { actor = next.own; counter = suc c } in dot) ∷ ds))
+        → IsTrue (is_below (actor_of s) (counter_in s.clock.known (actor_of s)) ((let dot : Dot = record { actor = (actor_of next); counter = suc c } in dot) ∷ ds))
     top_by k s true q e =
-        let P : Stored Content → Type 0 = λ t. IsTrue (is_below t.own (counter_in t.clock.known t.own) ((let dot : Dot = record { actor = next.own; counter = suc c } in dot) ∷ ds)) in
+        let P : Stored Content → Type 0 = λ t. IsTrue (is_below (actor_of t) (counter_in t.clock.known (actor_of t)) ((let dot : Dot = record { actor = (actor_of next); counter = suc c } in dot) ∷ ds)) in
         subst P (same next s e)
-        (and_both (not (actor_eq next.own next.own) || nat_le (suc c) (counter_in next.clock.known next.own)) (is_below next.own (counter_in next.clock.known next.own) ds)
-        (right (not (actor_eq next.own next.own)) (nat_le (suc c) (counter_in next.clock.known next.own)) (test (suc c) (counter_in next.clock.known next.own) counter))
-        (below_more next.own c (counter_in next.clock.known next.own) ds (omega (arith, counter)) below))
+        (and_both (not (actor_eq (actor_of next) (actor_of next)) || nat_le (suc c) (counter_in next.clock.known (actor_of next))) (is_below (actor_of next) (counter_in next.clock.known (actor_of next)) ds)
+        (right (not (actor_eq (actor_of next) (actor_of next))) (nat_le (suc c) (counter_in next.clock.known (actor_of next))) (test (suc c) (counter_in next.clock.known (actor_of next)) counter))
+        (below_more (actor_of next) c (counter_in next.clock.known (actor_of next)) ds (omega (arith, counter)) below))
     top_by k s false q e =
-        and_both (not (actor_eq next.own s.own) || nat_le (suc c) (counter_in s.clock.known s.own)) (is_below s.own (counter_in s.clock.known s.own) ds)
-        (apart_head (actor_eq next.own s.own) (nat_le (suc c) (counter_in s.clock.known s.own)) (others k s e q))
+        and_both (not (actor_eq (actor_of next) (actor_of s)) || nat_le (suc c) (counter_in s.clock.known (actor_of s))) (is_below (actor_of s) (counter_in s.clock.known (actor_of s)) ds)
+        (apart_head (actor_eq (actor_of next) (actor_of s)) (nat_le (suc c) (counter_in s.clock.known (actor_of s))) (others k s e q))
         (sound.top k s e)
 
     apart_by : (k j : Key) (s t : Stored Content) (a b : Bool) → key_eq at k ≡ a → key_eq at j ≡ b
-        → cond a (Some next) (look k) ≡ Some s → cond b (Some next) (look j) ≡ Some t → key_eq k j ≡ false → actor_eq s.own t.own ≡ false
+        → cond a (Some next) (look k) ≡ Some s → cond b (Some next) (look j) ≡ Some t → key_eq k j ≡ false → actor_eq (actor_of s) (actor_of t) ≡ false
     apart_by k j s t true true p q e f d = let one : key_eq k j ≡ true = ap (λ x. key_eq x j) (sym (key_eq-same at k p)) ∙ q in cc
-    apart_by k j s t true false p q e f d = ap (λ (x : Stored Content). actor_eq x.own t.own) (sym (same next s e)) ∙ others j t f q
-    apart_by k j s t false true p q e f d = ap (λ (x : Stored Content). actor_eq s.own x.own) (sym (same next t f)) ∙ actor_eq-sym s.own next.own ∙ others k s e p
+    apart_by k j s t true false p q e f d = ap (λ (x : Stored Content). actor_eq (actor_of x) (actor_of t)) (sym (same next s e)) ∙ others j t f q
+    apart_by k j s t false true p q e f d = ap (λ (x : Stored Content). actor_eq (actor_of s) (actor_of x)) (sym (same next t f)) ∙ actor_eq-sym (actor_of s) (actor_of next) ∙ others k s e p
     apart_by k j s t false false p q e f d = sound.apart k j s t e f d
 
 -- a reap
@@ -149,6 +158,7 @@ reap_sound : (look look' : Key → Option (Stored Content)) (last : ℕ) (ds : L
     → IsSound look last ds → ((k : Key) → look' k ≡ cond (test k) None (look k)) → IsSound look' last ds
 reap_sound look look' last ds test sound found = record {
   low = sound.low;
+  owned = λ k s e. sound.owned k s (kept (test k) (look k) s (sym (found k) ∙ e));
   own = λ k s e. sound.own k s (kept (test k) (look k) s (sym (found k) ∙ e));
   top = λ k s e. sound.top k s (kept (test k) (look k) s (sym (found k) ∙ e));
   apart = λ k j s t e f. sound.apart k j s t (kept (test k) (look k) s (sym (found k) ∙ e)) (kept (test j) (look j) t (sym (found j) ∙ f));
@@ -164,29 +174,33 @@ pub record Fits (look : Key → Option (Stored Content)) (last : ℕ) (ds : List
   le : last ≤ last'
   epoch : own.epoch ≤ last'
   below : IsTrue (is_below own c ds)
-  others : (k : Key) (s : Stored Content) → look k ≡ Some s → key_eq at k ≡ false → actor_eq own s.own ≡ false
+  others : (k : Key) (s : Stored Content) → look k ≡ Some s → key_eq at k ≡ false → actor_eq own (actor_of s) ≡ false
 
 fits : (look : Key → Option (Stored Content)) (last : ℕ) (ds : List Dot) (at : Key) (new : Actor) (pairs : List Dot) → IsSound look last ds → new.epoch ≡ last + 1
     → (o : Option (Stored Content)) → look at ≡ o
-    → let own : Actor = unwrap_or (option_map (λ (s : Stored Content). s.own) o) new in
-    Fits look last ds at own (counter_in (union (option_map_or (λ (s : Stored Content). s.clock) o (record { known = []; live = [] })).known pairs) own) (cond (is_some (option_map (λ (s : Stored Content). s.own) o)) last (last + 1))
+    → let own : Actor = unwrap_or (option_and_then (λ (s : Stored Content). s.own) o) new in
+    Fits look last ds at own (counter_in (union (option_map_or (λ (s : Stored Content). s.clock) o (record { known = []; live = [] })).known pairs) own) (cond (is_some (option_and_then (λ (s : Stored Content). s.own) o)) last (last + 1))
 fits look last ds at new pairs sound e None h =
     let is : new.epoch ≡ suc last = e ∙ add-one last in
     record {
       le = omega arith;
       epoch = omega (arith, e);
       below = below_new new last _ ds sound.low is;
-      others = λ k s f q. actor_eq-sym new s.own ∙ epochs_differ s.own new last (test s.own.epoch last (sound.own k s f)) is;
+      others = λ k s f q. actor_eq-sym new (actor_of s) ∙ epochs_differ (actor_of s) new last (test (actor_of s).epoch last (sound.own k s f)) is;
     }
   where
     test : (a b : ℕ) → a ≤ b → nat_le a b ≡ true
     test a b h = grind (arith, nat_tests)
-fits look last ds at new pairs sound e (Some s0) h = record {
-  le = omega arith;
-  epoch = sound.own at s0 h;
-  below = below_more s0.own (counter_in s0.clock.known s0.own) _ ds (rw (counter_in-union s0.clock.known pairs s0.own) (omega arith)) (sound.top at s0 h);
-  others = λ k s f q. sound.apart at k s0 s h f q;
-}
+fits look last ds at new pairs sound e (Some s0) h =
+    let owned = sound.owned at s0 h in
+    let known : List Dot = union s0.clock.known pairs in
+    subst (λ n. Fits look last ds at (own_in new (Some s0)) (counter_in known (own_in new (Some s0))) n) (sym (last-owned last s0 owned))
+    (subst (λ a. Fits look last ds at a (counter_in known a) last) (sym (own-owned new s0 owned)) (record {
+      le = omega arith;
+      epoch = sound.own at s0 h;
+      below = below_more (actor_of s0) (counter_in s0.clock.known (actor_of s0)) _ ds (rw (counter_in-union s0.clock.known pairs (actor_of s0)) (omega arith)) (sound.top at s0 h);
+      others = λ k s f q. sound.apart at k s0 s h f q;
+    }))
 
 module _ (state : State Content) (ds : List Dot) (at : Key) where
   -- a write or tombstone of the machine
@@ -196,12 +210,12 @@ module _ (state : State Content) (ds : List Dot) (at : Key) where
       let own : Actor = actor_for state at in
       let known : List Dot = union (clock_of state at).known pairs in
       let c : ℕ = counter_in known own in
-      let next : Stored Content = record { own = own; clock = event own value (discard pairs (clock_of state at)) } in
+      let next : Stored Content = record { own = Some own; clock = event own value (discard pairs (clock_of state at)) } in
       let f = fits (stored state) state.last_epoch ds at (next_actor state) pairs sound refl (stored state at) refl in
       let P : ℕ → Type 0 = λ n. IsSound (λ key. find key_cmp key (updated state at pairs value)) (epoch_after state at) ((let dot : Dot = record { actor = own; counter = n } in dot) ∷ ds) in
       subst P (sym (add-one c))
       (put_sound (stored state) (λ key. find key_cmp key (updated state at pairs value)) state.last_epoch (epoch_after state at) ds at next c sound
-      (λ k. find_stored k at next state.keys) f.le f.epoch f.below (top c known own) f.others)
+      (λ k. find_stored k at next state.keys) refl f.le f.epoch f.below (top c known own) f.others)
     where
       top : (c : ℕ) (known : List Dot) (own : Actor) → suc c ≤ counter_in (raise (record { actor = own; counter = c + 1 }) known) own
       top c known own = rw (counter_in-raise (record { actor = own; counter = c + 1 }) known own, actor_eq-refl own) (omega arith)
@@ -215,7 +229,7 @@ module _ (state : State Content) (ds : List Dot) (at : Key) where
       reap_sound (stored state) (stored (changed_by state at given Reap)) state.last_epoch ds (λ other. key_eq at other) sound (λ k. find_reaped at k state.keys)
 
 opening_sound : (v f : ℕ) → IsSound (stored (opening v f)) (opening {V = Content} v f).last_epoch []
-opening_sound v f = record { low = refl; own = λ k s e. cc; top = λ k s e. cc; apart = λ k j s t e f d. cc; different = tt }
+opening_sound v f = record { low = refl; owned = λ k s e. cc; own = λ k s e. cc; top = λ k s e. cc; apart = λ k j s t e f d. cc; different = tt }
 
 sound_after : (v f : ℕ) (history : List (Event Content Context)) → IsSound (stored (state_after (opening v f) history)) (state_after (opening v f) history).last_epoch (issued (opening v f) history)
 sound_after v f [] = opening_sound v f

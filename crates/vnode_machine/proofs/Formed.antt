@@ -8,16 +8,18 @@ use Rattle.riak_msgs.specs.KeyOrder.{key_eq}
 use Rattle.sibling_register.specs.History.{Event, Deed, Write, Tombstone, Reap}
 use Rattle.sibling_register.specs.Siblings.{is_defined}
 use Rattle.actor_epoch.specs.declared.Dot.{Dot}
-use Rattle.actor_epoch.specs.declared.limits.TheConstants.{GREATEST_EPOCH}
+use Rattle.actor_epoch.specs.Limits.{greatest_epoch}
 use Rattle.actor_epoch.specs.Contexts.{is_of_form}
-use Rattle.vnode_machine.specs.Machine.{Context, Stored, State, stored, clock_of, next_actor, is_bad, runs_ahead, is_crowded, is_full, is_out_of_epochs, is_out_of_counters, update_check, pairs_of, del_pairs, changed_by}
-use Rattle.vnode_machine.specs.Replay.{replay, Accepts, HasReplay}
-use Rattle.vnode_machine.specs.Laws.{IsWithinLimits, ShownContextIsName}
+use Rattle.actor_epoch.specs.Given.{Context, Malformed, Pairs}
+use Rattle.actor_epoch.proofs.Given.{context_of-encoding}
+use Rattle.vnode_machine.specs.Machine.{Stored, State, stored, clock_of, next_actor, is_bad, runs_ahead, is_crowded, is_full, is_out_of_epochs, is_out_of_counters, update_check, pairs_of, del_pairs, changed_by}
+use Rattle.vnode_machine.specs.Replay.{replay, Accepts, HasReplay, IsWithinLimits}
+use Rattle.vnode_machine.specs.Laws.{ShownContextIsName}
 use Rattle.vnode_machine.proofs.Keys.{find_stored, find_reaped}
 use Rattle.vnode_machine.proofs.Invariants.{H, clock_in}
 use Rattle.vnode_machine.proofs.Bases.{own_in, last_in}
 use Rattle.vnode_machine.proofs.Updates.{next_in}
-use Rattle.vnode_machine.proofs.Sights.{low-ahead, behind-of}
+use Rattle.vnode_machine.proofs.Sights.{low-ahead, owned-kept, behind-of}
 use Rattle.vnode_machine.proofs.Steps.{IsKnown, last_of, known, behind_none, behind_own, low_own}
 use Rattle.vnode_machine.proofs.Mirrors.{held-same}
 use Rattle.vnode_machine.proofs.Forms.{ArePairs, IsForm, IsFormed, form-whole, form-parts, AreFit, room_left}
@@ -36,7 +38,7 @@ rooms false false false false false h = (refl, refl, refl, refl)
 
 module _ (v l : ℕ) where
   pub record AllFormed (history : H) : Type 0 where
-    pub last : last_of v l history ≤ GREATEST_EPOCH
+    pub last : last_of v l history ≤ greatest_epoch
     pub keys : (key : Key) → IsFormed (stored (replay v l history) key)
 
   module _ (small : v < 2 ^ 64) (history : H) (known : IsKnown v l history) (formed : AllFormed history) (at : Key) where
@@ -55,12 +57,12 @@ module _ (v l : ℕ) where
 
     fit_put : (given : Option Context) → is_bad state at given ≡ false → AreFit state.vnode state.last_epoch before (pairs_of given)
     fit_put None h = record { low = refl; behind = behind_none v l history known at before; are = record { rising = refl; within = refl } }
-    fit_put (Some None) h = cc
-    fit_put (Some (Some pairs)) h =
+    fit_put (Some Malformed) h = cc
+    fit_put (Some (Pairs pairs)) h =
         let behind = or_right (not (is_of_form pairs)) (list_any (runs_ahead state at) pairs) h in
         record {
           low = low-ahead state.vnode state at pairs refl behind;
-          behind = behind-of state at pairs behind;
+          behind = behind-of state at pairs (owned-kept v l state.last_epoch history at before (known.keys at)) behind;
           are = form-parts pairs (shown_true (is_of_form pairs) (or_left (not (is_of_form pairs)) (list_any (runs_ahead state at) pairs) h));
         }
 
@@ -74,14 +76,14 @@ module _ (v l : ℕ) where
       behind = behind_own v l history known at before;
       are = own_pairs before (formed.keys at);
     }
-    fit_del (Some None) h = cc
-    fit_del (Some (Some pairs)) h = fit_put (Some (Some pairs)) h
+    fit_del (Some Malformed) h = cc
+    fit_del (Some (Pairs pairs)) h = fit_put (Some (Pairs pairs)) h
 
     abbrev next : List Dot → Option Content → Stored Content
     next pairs value = next_in (own_in (next_actor state) before) pairs value before
 
     next_fits : (given : Option Context) (pairs : List Dot) (value : Option Content) → (is_bad state at given ≡ false → AreFit state.vnode state.last_epoch before pairs)
-        → update_check state at given pairs ≡ None → IsForm (next pairs value) × (last_in state.last_epoch before ≤ GREATEST_EPOCH)
+        → update_check state at given pairs ≡ None → IsForm (next pairs value) × (last_in state.last_epoch before ≤ greatest_epoch)
     next_fits given pairs value fit h =
         let r = rooms (is_bad state at given) (is_crowded state at pairs) (is_full state at pairs) (is_out_of_epochs state at) (is_out_of_counters state at) h in
         room_left state.vnode state.last_epoch within pairs value before (formed.keys at) (fit r.0) r.1 r.2 r.3
@@ -130,5 +132,5 @@ module _ (v l : ℕ) where
       by None h f = cc
       by (Some s) h f = form-whole s f
 
-pub shown_context : (v l : ℕ) (history : H) (key : Key) → ShownContextIsName v l history key
-shown_context v l history key limits replays defined = (λ e. cc, (known-of-form v l limits history replays key defined, refl))
+pub shown_context : (v l : ℕ) (history : H) → ShownContextIsName v l history
+shown_context v l history limits replays key defined = context_of-encoding (clock_of (replay v l history) key).known (known-of-form v l limits history replays key defined)

@@ -1,21 +1,21 @@
 -- What is known of each key is of the form of a context, within the limits.
-use Rattle.std.proofs.Common.{◌≡◌, ℕ, ◌+◌, ◌<◌, ◌≤◌, Bool, true, false, not, ◌&&◌, cond, List, [], ◌∷◌, length, refl, arith}
-use Rattle.std.specs.Prelude.{nat_le, nat_lt, max, ◌^◌, Option, Some, None, IsTrue, is_some, option_map, ◌==◌}
+use Rattle.std.proofs.Common.{sym, ap, ◌∙◌, subst, ◌≡◌, ℕ, ◌+◌, ◌<◌, ◌≤◌, Bool, true, false, not, ◌&&◌, cond, List, [], ◌∷◌, length, refl, arith}
+use Rattle.std.specs.Prelude.{option_and_then, nat_le, nat_lt, max, ◌^◌, Option, Some, None, IsTrue, is_some, ◌==◌}
 use Rattle.std.specs.Option.{option_map_or}
 use Rattle.std.specs.List.{list_all}
 use Rattle.std.proofs.lemmas.Bool.Decides.{nat_tests}
 use Rattle.riak_msgs.specs.declared.Content.{Content}
 use Rattle.actor_epoch.specs.declared.Actor.{Actor}
 use Rattle.actor_epoch.specs.declared.Dot.{Dot}
-use Rattle.actor_epoch.specs.declared.limits.TheConstants.{GREATEST_EPOCH, GREATEST_COUNTER, MOST_ACTORS}
-use Rattle.actor_epoch.specs.Dots.{actor_eq, counter_in, raise, union}
+use Rattle.actor_epoch.specs.Limits.{greatest_epoch, greatest_counter, most_actors}
+use Rattle.actor_epoch.specs.Dots.{actor_eq, counter_in, raise, union, next_dot}
 use Rattle.actor_epoch.specs.Contexts.{is_rising, is_within_limits, is_of_form}
 use Rattle.actor_epoch.proofs.Pairs.{counter_in-union}
-use Rattle.vnode_machine.specs.Machine.{Stored, next_dot}
-use Rattle.vnode_machine.specs.Laws.{IsWithinLimits}
+use Rattle.vnode_machine.specs.Machine.{Stored}
+use Rattle.vnode_machine.specs.Replay.{IsWithinLimits}
 use Rattle.vnode_machine.proofs.Rising.{rising-raise, rising-union, length-raise, length-raised}
-use Rattle.vnode_machine.proofs.Invariants.{clock_in}
-use Rattle.vnode_machine.proofs.Bases.{own_in, last_in, IsBehind}
+use Rattle.vnode_machine.proofs.Invariants.{actor_of, clock_in}
+use Rattle.vnode_machine.proofs.Bases.{own-owned, last-owned, own_in, last_in, IsBehind}
 use Rattle.vnode_machine.proofs.Updates.{next_in}
 use Rattle.vnode_machine.proofs.Counters.{all-raise, all-union, are_low, counter_in-low}
 use Rattle.vnode_machine.proofs.Tests.{and_both, and_left, and_right}
@@ -29,13 +29,14 @@ pub record ArePairs (pairs : List Dot) : Type 0 where
 pub record IsActor (actor : Actor) : Type 0 where
   pub vnode : actor.vnode < 2 ^ 64
   pub first : 1 ≤ actor.epoch
-  pub epoch : actor.epoch ≤ GREATEST_EPOCH
+  pub epoch : actor.epoch ≤ greatest_epoch
 
 pub record IsForm (s : Stored Content) : Type 0 where
-  pub own : IsActor s.own
+  pub owned : s.own ≡ Some (actor_of s)
+  pub own : IsActor (actor_of s)
   pub pairs : ArePairs s.clock.known
   pub some : 1 ≤ length s.clock.known
-  pub most : length s.clock.known ≤ MOST_ACTORS
+  pub most : length s.clock.known ≤ most_actors
 
 abbrev pub IsFormed : Option (Stored Content) → Type 0
 IsFormed None = Unit {0}
@@ -44,8 +45,8 @@ IsFormed (Some s) = IsForm s
 -- so they are of the form
 pub form-whole : (s : Stored Content) → IsForm s → is_of_form s.clock.known ≡ true
 form-whole s h =
-    and_both (nat_le 1 (length s.clock.known) && nat_le (length s.clock.known) MOST_ACTORS) (is_rising s.clock.known && list_all is_within_limits s.clock.known)
-    (and_both (nat_le 1 (length s.clock.known)) (nat_le (length s.clock.known) MOST_ACTORS) (test 1 (length s.clock.known) h.some) (test (length s.clock.known) MOST_ACTORS h.most))
+    and_both (nat_le 1 (length s.clock.known) && nat_le (length s.clock.known) most_actors) (is_rising s.clock.known && list_all is_within_limits s.clock.known)
+    (and_both (nat_le 1 (length s.clock.known)) (nat_le (length s.clock.known) most_actors) (test 1 (length s.clock.known) h.some) (test (length s.clock.known) most_actors h.most))
     (and_both (is_rising s.clock.known) (list_all is_within_limits s.clock.known) h.pairs.rising h.pairs.within)
   where
     test : (a b : ℕ) → a ≤ b → nat_le a b ≡ true
@@ -53,19 +54,19 @@ form-whole s h =
 
 pub form-parts : (pairs : List Dot) → is_of_form pairs ≡ true → ArePairs pairs
 form-parts pairs h =
-    let parts = and_right (nat_le 1 (length pairs) && nat_le (length pairs) MOST_ACTORS) (is_rising pairs && list_all is_within_limits pairs) h in
+    let parts = and_right (nat_le 1 (length pairs) && nat_le (length pairs) most_actors) (is_rising pairs && list_all is_within_limits pairs) h in
     record {
       rising = and_left (is_rising pairs) (list_all is_within_limits pairs) parts;
       within = and_right (is_rising pairs) (list_all is_within_limits pairs) parts;
     }
 
-within-dot : (actor : Actor) (n : ℕ) → IsActor actor → 1 ≤ n → n ≤ GREATEST_COUNTER → is_within_limits (record { actor = actor; counter = n }) ≡ true
+within-dot : (actor : Actor) (n : ℕ) → IsActor actor → 1 ≤ n → n ≤ greatest_counter → is_within_limits (record { actor = actor; counter = n }) ≡ true
 within-dot actor n a one most =
-    and_both (nat_lt actor.vnode (2 ^ 64)) ((nat_le 1 actor.epoch && nat_le actor.epoch GREATEST_EPOCH) && (nat_le 1 n && nat_le n GREATEST_COUNTER))
+    and_both (nat_lt actor.vnode (2 ^ 64)) ((nat_le 1 actor.epoch && nat_le actor.epoch greatest_epoch) && (nat_le 1 n && nat_le n greatest_counter))
     (below actor.vnode (2 ^ 64) a.vnode)
-    (and_both (nat_le 1 actor.epoch && nat_le actor.epoch GREATEST_EPOCH) (nat_le 1 n && nat_le n GREATEST_COUNTER)
-    (and_both (nat_le 1 actor.epoch) (nat_le actor.epoch GREATEST_EPOCH) (test 1 actor.epoch a.first) (test actor.epoch GREATEST_EPOCH a.epoch))
-    (and_both (nat_le 1 n) (nat_le n GREATEST_COUNTER) (test 1 n one) (test n GREATEST_COUNTER most)))
+    (and_both (nat_le 1 actor.epoch && nat_le actor.epoch greatest_epoch) (nat_le 1 n && nat_le n greatest_counter)
+    (and_both (nat_le 1 actor.epoch) (nat_le actor.epoch greatest_epoch) (test 1 actor.epoch a.first) (test actor.epoch greatest_epoch a.epoch))
+    (and_both (nat_le 1 n) (nat_le n greatest_counter) (test 1 n one) (test n greatest_counter most)))
   where
     test : (a b : ℕ) → a ≤ b → nat_le a b ≡ true
     test a b h = grind (arith, nat_tests)
@@ -74,11 +75,11 @@ within-dot actor n a one most =
     below a b h = grind (arith, nat_tests)
 
 -- counters of such pairs are within their limit
-counter-most : (pairs : List Dot) (actor : Actor) → IsTrue (list_all is_within_limits pairs) → counter_in pairs actor ≤ GREATEST_COUNTER
+pub counter-most : (pairs : List Dot) (actor : Actor) → IsTrue (list_all is_within_limits pairs) → counter_in pairs actor ≤ greatest_counter
 counter-most [] actor h = omega arith
 counter-most (pair ∷ pairs) actor h =
-    by (actor_eq pair.actor actor) pair.counter (counter_in pairs actor) GREATEST_COUNTER
-    (counter (nat_lt pair.actor.vnode (2 ^ 64)) (nat_le 1 pair.actor.epoch && nat_le pair.actor.epoch GREATEST_EPOCH) (nat_le 1 pair.counter) (nat_le pair.counter GREATEST_COUNTER)
+    by (actor_eq pair.actor actor) pair.counter (counter_in pairs actor) greatest_counter
+    (counter (nat_lt pair.actor.vnode (2 ^ 64)) (nat_le 1 pair.actor.epoch && nat_le pair.actor.epoch greatest_epoch) (nat_le 1 pair.counter) (nat_le pair.counter greatest_counter)
     (and_left (is_within_limits pair) (list_all is_within_limits pairs) h))
     (counter-most pairs actor (and_right (is_within_limits pair) (list_all is_within_limits pairs) h))
   where
@@ -104,13 +105,14 @@ module _ (v last : ℕ) (within : IsWithinLimits v last) (pairs : List Dot) wher
 
   -- where no check of room holds, what is stored next is of the form
   next_form : (value : Option Content) (o : Option (Stored Content)) (own : Actor) → IsFormed o → ArePairs pairs
-      → IsActor own → counter_in (union (clock_in o).known pairs) own + 1 ≤ GREATEST_COUNTER
-      → nat_lt MOST_ACTORS (length (raise (record { actor = own; counter = 0 }) (union (clock_in o).known pairs))) ≡ false
+      → IsActor own → counter_in (union (clock_in o).known pairs) own + 1 ≤ greatest_counter
+      → nat_lt most_actors (length (raise (record { actor = own; counter = 0 }) (union (clock_in o).known pairs))) ≡ false
       → IsForm (next_in own pairs value o)
   next_form value o own formed are actor counter full =
       let known : List Dot = union (clock_in o).known pairs in
       let dot : Dot = next_dot own known in
       record {
+        owned = refl;
         own = actor;
         pairs = record {
           rising = rising-raise dot known (rising-union (clock_in o).known pairs are.rising);
@@ -118,7 +120,7 @@ module _ (v last : ℕ) (within : IsWithinLimits v last) (pairs : List Dot) wher
               (all-union is_within_limits (clock_in o).known pairs (known_within o formed) are.within);
         };
         some = length-raised dot known;
-        most = most (length (raise dot known)) (length (raise (record { actor = own; counter = 0 }) known)) MOST_ACTORS
+        most = most (length (raise dot known)) (length (raise (record { actor = own; counter = 0 }) known)) most_actors
             (length-raise own (counter_in known own + 1) 0 known) full;
       }
     where
@@ -130,23 +132,26 @@ module _ (v last : ℕ) (within : IsWithinLimits v last) (pairs : List Dot) wher
       most n m k e h = grind (arith, nat_tests)
 
   pub room_left : (value : Option Content) (o : Option (Stored Content)) → IsFormed o → AreFit v last o pairs
-      → nat_lt MOST_ACTORS (length (raise (record { actor = own_in (record { vnode = v; epoch = last + 1 }) o; counter = 0 }) (union (clock_in o).known pairs))) ≡ false
-      → (not (is_some (option_map (λ (s : Stored Content). s.own) o)) && (last == GREATEST_EPOCH)) ≡ false
-      → option_map_or (λ own. counter_in (clock_in o).known own == GREATEST_COUNTER) (option_map (λ (s : Stored Content). s.own) o) false ≡ false
-      → IsForm (next_in (own_in (record { vnode = v; epoch = last + 1 }) o) pairs value o) × (last_in last o ≤ GREATEST_EPOCH)
+      → nat_lt most_actors (length (raise (record { actor = own_in (record { vnode = v; epoch = last + 1 }) o; counter = 0 }) (union (clock_in o).known pairs))) ≡ false
+      → (not (is_some (option_and_then (λ (s : Stored Content). s.own) o)) && (last == greatest_epoch)) ≡ false
+      → option_map_or (λ own. counter_in (clock_in o).known own == greatest_counter) (option_and_then (λ (s : Stored Content). s.own) o) false ≡ false
+      → IsForm (next_in (own_in (record { vnode = v; epoch = last + 1 }) o) pairs value o) × (last_in last o ≤ greatest_epoch)
   room_left value None formed fit full epochs counters =
       let zero : counter_in pairs new ≡ 0 = counter_in-low v last pairs new fit.low refl (omega arith) in
-      let left : last + 1 ≤ GREATEST_EPOCH = less last GREATEST_EPOCH within.1 epochs in
+      let left : last + 1 ≤ greatest_epoch = less last greatest_epoch within.1 epochs in
       (next_form value None new formed fit.are (record { vnode = within.0; first = omega arith; epoch = left }) (omega (arith, zero)) full, left)
     where
       less : (n m : ℕ) → n ≤ m → (n == m) ≡ false → n + 1 ≤ m
       less n m h e = grind (arith, nat_tests)
-  room_left value (Some s) formed fit full epochs counters = (
-    next_form value (Some s) s.own formed fit.are formed.own
-        (less (counter_in s.clock.known s.own) (counter_in pairs s.own) (counter_in (union s.clock.known pairs) s.own) GREATEST_COUNTER
-        (counter_in-union s.clock.known pairs s.own) fit.behind (counter-most s.clock.known s.own formed.pairs.within) counters) full,
-    within.1,
-  )
+  room_left value (Some s) formed fit full epochs counters =
+      let new : Actor = record { vnode = v; epoch = last + 1 } in
+      let own = own-owned new s formed.owned in (
+        subst (λ a. IsForm (next_in a pairs value (Some s))) (sym own) (next_form value (Some s) (actor_of s) formed fit.are formed.own
+            (less (counter_in s.clock.known (actor_of s)) (counter_in pairs (actor_of s)) (counter_in (union s.clock.known pairs) (actor_of s)) greatest_counter
+            (counter_in-union s.clock.known pairs (actor_of s)) fit.behind (counter-most s.clock.known (actor_of s) formed.pairs.within) (sym (ap (λ o. option_map_or (λ own. counter_in s.clock.known own == greatest_counter) o false) formed.owned) ∙ counters))
+            (subst (λ a. nat_lt most_actors (length (raise (record { actor = a; counter = 0 }) (union s.clock.known pairs))) ≡ false) own full)),
+        subst (λ n. n ≤ greatest_epoch) (sym (last-owned last s formed.owned)) within.1,
+      )
     where
       less : (a b c g : ℕ) → c ≡ max a b → b ≤ a → a ≤ g → (a == g) ≡ false → c + 1 ≤ g
       less a b c g e h k d = grind (arith, nat_tests)

@@ -1,6 +1,6 @@
 -- What the machine keeps of a key, tied to the key's siblings, and what earlier positions knew.
 use Rattle.std.proofs.Common.{◌≡◌, ℕ, ◌+◌, ◌≤◌, true, cond, List, [], ◌∷◌, refl, sym, ◌∙◌, ap, arith, subst}
-use Rattle.std.specs.Prelude.{nat_eq, nat_le, Option, Some, None, IsTrue}
+use Rattle.std.specs.Prelude.{nat_eq, nat_le, Option, Some, None, IsTrue, unwrap_or}
 use Rattle.std.specs.Option.{option_map_or}
 use Rattle.std.proofs.lemmas.Bool.Decides.{nat_tests}
 use Rattle.riak_msgs.specs.declared.Key.{Key}
@@ -11,8 +11,9 @@ use Rattle.actor_epoch.specs.declared.Actor.{Actor}
 use Rattle.actor_epoch.specs.declared.Dot.{Dot}
 use Rattle.actor_epoch.specs.Dots.{counter_in}
 use Rattle.dvv_set.specs.Clocks.{Meaning}
-use Rattle.vnode_machine.specs.Machine.{Context, Stored}
-use Rattle.vnode_machine.specs.Lives.{latest_dot, dot_of}
+use Rattle.actor_epoch.specs.Given.{Context}
+use Rattle.vnode_machine.specs.Machine.{Stored}
+use Rattle.vnode_machine.specs.Lives.{is_alive, latest_dot, dot_of}
 use Rattle.vnode_machine.proofs.Pairwise.{Pairwise, Pairwise-map}
 use Rattle.vnode_machine.proofs.Numbers.{count_of-more, content_of-earlier, dot_of-earlier}
 use Rattle.vnode_machine.proofs.Counters.{are_low}
@@ -28,10 +29,14 @@ Entry = Dot × Option Content
 abbrev pub clock_in : Option (Stored Content) → Meaning (Option Content)
 clock_in o = option_map_or (λ s. s.clock) o (record { known = []; live = [] })
 
+-- the actor of what is stored; of a key without one, whichever
+abbrev pub actor_of : Stored Content → Actor
+actor_of s = unwrap_or s.own (record { vnode = 0; epoch = 0 })
+
 -- from a position that knew these pairs and counted so many events, the counter of the key's actor has grown
 abbrev pub HasGrown : List Dot → (count now : ℕ) → Option (Stored Content) → Type 0
 HasGrown known count now None = Unit {0}
-HasGrown known count now (Some s) = counter_in known s.own + cond (nat_eq count now) 0 1 ≤ counter_in s.clock.known s.own
+HasGrown known count now (Some s) = counter_in known (actor_of s) + cond (nat_eq count now) 0 1 ≤ counter_in s.clock.known (actor_of s)
 
 -- the siblings that are no later than the position are those whose dots it knew
 abbrev pub IsSplit : List Dot → ℕ → Entry → ℕ → Type 0
@@ -54,12 +59,14 @@ module _ (v l : ℕ) where
 
   -- what is stored of a key, the last epoch being this
   pub record IsStored (last : ℕ) (history : H) (key : Key) (s : Stored Content) : Type 0 where
-    pub vnode : s.own.vnode ≡ v
-    pub epoch : s.own.epoch ≤ last
+    pub owned : s.own ≡ Some (actor_of s)
+    pub vnode : (actor_of s).vnode ≡ v
+    pub epoch : (actor_of s).epoch ≤ last
     pub low : IsTrue (are_low v last s.clock.known)
-    pub latest : latest_dot v l history key ≡ Some (record { actor = s.own; counter = counter_in s.clock.known s.own })
-    pub live : AreLiveOf history key s.own (counter_in s.clock.known s.own) s.clock.live (siblings history key)
+    pub latest : latest_dot v l history key ≡ Some (record { actor = (actor_of s); counter = counter_in s.clock.known (actor_of s) })
+    pub live : AreLiveOf history key (actor_of s) (counter_in s.clock.known (actor_of s)) s.clock.live (siblings history key)
     pub defined : is_defined history key ≡ true
+    pub alive : is_alive history key ≡ true
 
   abbrev pub IsKept : (last : ℕ) → H → Key → Option (Stored Content) → Type 0
   IsKept last history key None = siblings history key ≡ []
@@ -100,10 +107,10 @@ module _ (v l : ℕ) where
   earlier-self last history key (Some s) h = record {
     low = h.low;
     counted = omega arith;
-    split = Pairwise-map (IsLiveOf history key s.own (counter_in s.clock.known s.own)) (IsSplit s.clock.known (count_of history key))
-        (λ entry number one. both number (count_of history key) entry.0.counter (counter_in s.clock.known s.own) (counter_in s.clock.known entry.0.actor)
+    split = Pairwise-map (IsLiveOf history key (actor_of s) (counter_in s.clock.known (actor_of s))) (IsSplit s.clock.known (count_of history key))
+        (λ entry number one. both number (count_of history key) entry.0.counter (counter_in s.clock.known (actor_of s)) (counter_in s.clock.known entry.0.actor)
         one.counted one.within (ap (counter_in s.clock.known) one.actor)) s.clock.live (siblings history key) h.live;
-    grown = same (count_of history key) (counter_in s.clock.known s.own);
+    grown = same (count_of history key) (counter_in s.clock.known (actor_of s));
   }
     where
       both : (n m c t u : ℕ) → n ≤ m → c ≤ t → u ≡ t → nat_le n m ≡ nat_le c u

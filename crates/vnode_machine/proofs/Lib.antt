@@ -1,4 +1,5 @@
 pub mod Rows
+pub mod Exchange
 pub mod Tests
 pub mod Keys
 pub mod DifferentDots
@@ -21,5 +22,7 @@ pub mod Formed
 pub mod BadContexts
 pub mod Puts
 pub mod Dels
+pub mod StepLaw
+pub mod RunLaw
 pub mod LiveDots
 pub mod LeavingLaw

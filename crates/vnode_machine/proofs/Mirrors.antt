@@ -11,13 +11,14 @@ use Rattle.sibling_register.specs.Answers.{is_name, has_too_many}
 use Rattle.actor_epoch.specs.declared.Dot.{Dot}
 use Rattle.actor_epoch.specs.Dots.{covers}
 use Rattle.dvv_set.specs.Clocks.{join}
-use Rattle.vnode_machine.specs.Machine.{Context, State, stored, clock_of, same_pairs, is_held, has_value, holds_dead, is_crowded, is_current}
+use Rattle.actor_epoch.specs.Given.{Context, Malformed, Pairs}
+use Rattle.vnode_machine.specs.Machine.{State, stored, clock_of, same_pairs, is_held, has_value, holds_dead, is_crowded, is_current}
 use Rattle.vnode_machine.specs.Replay.{replay, naming}
 use Rattle.vnode_machine.specs.Replies.{shown, contents_in, siblings_shown, position_at}
 use Rattle.vnode_machine.proofs.Pairwise.{Pairwise, Pairwise-map, Pairwise-filter, Pairwise-length, Pairwise-any, Pairwise-images}
 use Rattle.vnode_machine.proofs.Invariants.{H, Entry}
 use Rattle.vnode_machine.proofs.Sights.{live-each}
-use Rattle.vnode_machine.proofs.Steps.{IsKnown, last_of, alive}
+use Rattle.vnode_machine.proofs.Steps.{IsKnown, last_of, held_by}
 use Rattle.vnode_machine.proofs.Updates.{IsSeen}
 
 -- the position after all events is the whole history
@@ -35,7 +36,7 @@ module _ (v l : ℕ) (history : H) (known : IsKnown v l history) (key : Key) whe
   contents = live-each v l (last_of v l history) history key HasContent (stored state key) (known.keys key) (λ own top entry number one. one.content)
 
   pub held-same : is_held state key ≡ is_defined history key
-  held-same = sym (alive v l history known key (stored state key) (known.keys key))
+  held-same = sym (held_by v l history known key (stored state key) (known.keys key))
 
   pub value-same : has_value state key ≡ is_present history key
   value-same =
@@ -53,8 +54,8 @@ module _ (v l : ℕ) (history : H) (known : IsKnown v l history) (key : Key) whe
   -- a context is current at the machine where it is the name of this position
   pub current-same : (given : Option Context) → is_held state key ≡ true → is_current state key given ≡ is_name (naming v l) history key given
   current-same None h = refl
-  current-same (Some None) h = refl
-  current-same (Some (Some pairs)) h = ap (λ b. b && same_pairs pairs (join (clock_of state key))) h
+  current-same (Some Malformed) h = refl
+  current-same (Some (Pairs pairs)) h = ap (λ b. b && same_pairs pairs (join (clock_of state key))) h
 
   -- as many siblings are uncovered as were not seen
   pub crowded-same : (pairs : List Dot) (saw : List ℕ) → Pairwise (IsSeen pairs saw) (clock_of state key).live (siblings history key)

@@ -2,7 +2,6 @@
 use Rattle.std.proofs.Common.{◌≡◌, ℕ, suc, ◌+◌, ◌≤◌, Bool, true, false, not, ◌||◌, cond, List, [], ◌∷◌, ◌++◌, length, refl, sym, ◌∙◌, ap, arith, subst}
 use Rattle.std.specs.Prelude.{nat_eq, Option, Some, None, IsTrue, is_some}
 use Rattle.std.specs.List.{list_any}
-use Rattle.std.specs.Option.{option_eq}
 use Rattle.std.proofs.lemmas.Bool.Decides.{nat_tests}
 use Rattle.riak_msgs.specs.declared.Key.{Key}
 use Rattle.riak_msgs.specs.declared.Content.{Content}
@@ -12,10 +11,11 @@ use Rattle.sibling_register.specs.Siblings.{is_defined}
 use Rattle.sibling_register.specs.Naming.{IsEquivalence, IsNamingOf, is_untouched}
 use Rattle.actor_epoch.specs.declared.Dot.{Dot}
 use Rattle.actor_epoch.specs.Dots.{counter_in}
-use Rattle.vnode_machine.specs.Machine.{Context, Stored, State, stored, same_pairs, changed_by}
+use Rattle.actor_epoch.specs.Given.{Context, Malformed, Pairs}
+use Rattle.vnode_machine.specs.Machine.{Stored, State, stored, same_pairs, same_context, changed_by}
 use Rattle.vnode_machine.specs.Replay.{replay, naming, HasReplay}
 use Rattle.vnode_machine.proofs.Keys.{find_stored, find_reaped}
-use Rattle.vnode_machine.proofs.Invariants.{H, clock_in, HasGrown, IsEarlier}
+use Rattle.vnode_machine.proofs.Invariants.{actor_of, H, clock_in, HasGrown, IsEarlier}
 use Rattle.vnode_machine.proofs.Sights.{same_pairs-same, Each, known_at}
 use Rattle.vnode_machine.proofs.Steps.{IsKnown, last_of, known}
 use Rattle.vnode_machine.proofs.Mirrors.{held-same}
@@ -26,28 +26,25 @@ pub same_pairs-refl : (pairs : List Dot) → same_pairs pairs pairs ≡ true
 same_pairs-refl [] = refl
 same_pairs-refl (pair ∷ pairs) = rw (actor_eq-refl pair.actor, nat_eq-refl pair.counter) (same_pairs-refl pairs)
 
-abbrev same : Context → Context → Bool
-same = option_eq same_pairs
-
-same-equivalence : IsEquivalence same
+same-equivalence : IsEquivalence same_context
 same-equivalence = record { reflexive = reflexive; symmetric = symmetric; transitive = transitive }
   where
-    reflexive : (a : Context) → IsTrue (same a a)
-    reflexive None = refl
-    reflexive (Some a) = same_pairs-refl a
+    reflexive : (a : Context) → IsTrue (same_context a a)
+    reflexive Malformed = refl
+    reflexive (Pairs a) = same_pairs-refl a
 
-    symmetric : (a b : Context) → IsTrue (same a b) → IsTrue (same b a)
-    symmetric None None h = refl
-    symmetric None (Some b) h = cc
-    symmetric (Some a) None h = cc
-    symmetric (Some a) (Some b) h = subst (λ c. same_pairs c a ≡ true) (same_pairs-same a b h) (same_pairs-refl a)
+    symmetric : (a b : Context) → IsTrue (same_context a b) → IsTrue (same_context b a)
+    symmetric Malformed Malformed h = refl
+    symmetric Malformed (Pairs b) h = cc
+    symmetric (Pairs a) Malformed h = cc
+    symmetric (Pairs a) (Pairs b) h = subst (λ c. same_pairs c a ≡ true) (same_pairs-same a b h) (same_pairs-refl a)
 
-    transitive : (a b c : Context) → IsTrue (same a b) → IsTrue (same b c) → IsTrue (same a c)
-    transitive None None c h k = k
-    transitive None (Some b) c h k = cc
-    transitive (Some a) None c h k = cc
-    transitive (Some a) (Some b) None h k = cc
-    transitive (Some a) (Some b) (Some c) h k = subst (λ x. same_pairs x c ≡ true) (sym (same_pairs-same a b h)) k
+    transitive : (a b c : Context) → IsTrue (same_context a b) → IsTrue (same_context b c) → IsTrue (same_context a c)
+    transitive Malformed Malformed c h k = k
+    transitive Malformed (Pairs b) c h k = cc
+    transitive (Pairs a) Malformed c h k = cc
+    transitive (Pairs a) (Pairs b) Malformed h k = cc
+    transitive (Pairs a) (Pairs b) (Pairs c) h k = subst (λ x. same_pairs x c ≡ true) (sym (same_pairs-same a b h)) k
 
 -- an event of another key leaves what is stored
 stored-elsewhere : (state : State Content) (at : Key) (given : Option Context) (deed : Deed Content) (key : Key) → key_eq at key ≡ false
@@ -124,7 +121,7 @@ module _ (v l : ℕ) where
           → HasGrown (known_at v l position key) (count_of position key) (count_of (between ++ position) key) o
           → nat_eq (count_of position key) (count_of (between ++ position) key) ≡ true
       by None h e g = cc
-      by (Some s) h e g = none_more (nat_eq (count_of position key) (count_of (between ++ position) key)) (counter_in (known_at v l position key) s.own) (counter_in s.clock.known s.own) (ap (λ f. f s.own) e) g
+      by (Some s) h e g = none_more (nat_eq (count_of position key) (count_of (between ++ position) key)) (counter_in (known_at v l position key) (actor_of s)) (counter_in s.clock.known (actor_of s)) (ap (λ f. f (actor_of s)) e) g
 
   named_same : (between position : H) (key : Key) → is_untouched between key ≡ true → same_names position (between ++ position) key ≡ true
   named_same between position key h =

@@ -11,31 +11,37 @@ use Rattle.sibling_register.proofs.Following.{left_by, siblings-own, siblings-ot
 use Rattle.actor_epoch.specs.declared.Actor.{Actor}
 use Rattle.actor_epoch.specs.declared.Dot.{Dot}
 use Rattle.actor_epoch.specs.Dots.{counter_in}
-use Rattle.vnode_machine.specs.Machine.{Context, Stored}
-use Rattle.vnode_machine.specs.Lives.{latest_dot}
+use Rattle.actor_epoch.specs.Given.{Context}
+use Rattle.vnode_machine.specs.Machine.{Stored}
+use Rattle.vnode_machine.specs.Lives.{is_alive, latest_dot}
 use Rattle.vnode_machine.proofs.Pairwise.{Pairwise, Pairwise-map}
 use Rattle.vnode_machine.proofs.Numbers.{count_of-more}
-use Rattle.vnode_machine.proofs.Invariants.{H, Entry, clock_in, IsLiveOf, AreLiveOf, live-more, IsKept, IsSplit, HasGrown, IsEarlier}
+use Rattle.vnode_machine.proofs.Invariants.{actor_of, H, Entry, clock_in, IsLiveOf, AreLiveOf, live-more, IsKept, IsSplit, HasGrown, IsEarlier}
 use Rattle.vnode_machine.proofs.Counters.{are_low-more}
 
 module _ (v l : ℕ) (last last' : ℕ) (le : last ≤ last') (event : Event Content Context) (history : H) (key : Key) where
   latest-other : key_eq event.key key ≡ false → latest_dot v l (event ∷ history) key ≡ latest_dot v l history key
   latest-other e = rw e refl
 
+  alive-other : key_eq event.key key ≡ false → is_alive (event ∷ history) key ≡ is_alive history key
+  alive-other e = rw e refl
+
   pub stored-other : key_eq event.key key ≡ false → (o : Option (Stored Content)) → IsKept v l last history key o → IsKept v l last' (event ∷ history) key o
   stored-other e None h = siblings-other event history key e ∙ h
   stored-other e (Some s) h =
-      let epoch : s.own.epoch ≤ last = h.epoch in
-      let top : ℕ = counter_in s.clock.known s.own in
+      let epoch : (actor_of s).epoch ≤ last = h.epoch in
+      let top : ℕ = counter_in s.clock.known (actor_of s) in
       record {
+        owned = h.owned;
         vnode = h.vnode;
         epoch = omega (arith, epoch, le);
         low = are_low-more v last last' s.clock.known le h.low;
         latest = latest-other e ∙ h.latest;
-        live = subst (λ ns. AreLiveOf v l (event ∷ history) key s.own top s.clock.live ns) (sym (siblings-other event history key e))
-            (Pairwise-map (IsLiveOf v l history key s.own top) (IsLiveOf v l (event ∷ history) key s.own top)
-            (live-more v l event history key s.own top top (omega arith)) s.clock.live (siblings history key) h.live);
+        live = subst (λ ns. AreLiveOf v l (event ∷ history) key (actor_of s) top s.clock.live ns) (sym (siblings-other event history key e))
+            (Pairwise-map (IsLiveOf v l history key (actor_of s) top) (IsLiveOf v l (event ∷ history) key (actor_of s) top)
+            (live-more v l event history key (actor_of s) top top (omega arith)) s.clock.live (siblings history key) h.live);
         defined = ap (λ (ns : List ℕ). not (length ns == 0)) (siblings-other event history key e) ∙ h.defined;
+        alive = alive-other e ∙ h.alive;
       }
 
   pub earlier-other : key_eq event.key key ≡ false → (o : Option (Stored Content)) (known : List Dot) (count : ℕ)
@@ -70,7 +76,7 @@ module _ (v l : ℕ) where
       (all : event.saw ≡ numbers_to (count_of history key)) where
     all_left : (o : Option (Stored Content)) → IsKept v l last history key o → left_by (numbers_to (count_of history key)) (siblings history key) ≡ []
     all_left None h = ap (left_by (numbers_to (count_of history key))) h
-    all_left (Some s) h = left_none history key s.own (counter_in s.clock.known s.own) s.clock.live (siblings history key) h.live
+    all_left (Some s) h = left_none history key (actor_of s) (counter_in s.clock.known (actor_of s)) s.clock.live (siblings history key) h.live
 
     pub reaped-siblings : (o : Option (Stored Content)) → IsKept v l last history key o → siblings (event ∷ history) key ≡ []
     reaped-siblings o h =

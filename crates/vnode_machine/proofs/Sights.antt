@@ -1,6 +1,6 @@
 -- What an accepted event saw is what its pairs cover.
 use Rattle.std.proofs.Common.{◌≡◌, ℕ, ◌≤◌, Bool, true, false, not, ◌&&◌, ◌||◌, cond, List, [], ◌∷◌, refl, sym, ◌∙◌, ap, arith, subst}
-use Rattle.std.specs.Prelude.{nat_eq, nat_le, nat_lt, max, filter, Option, Some, None, IsTrue, option_map, ◌==◌}
+use Rattle.std.specs.Prelude.{option_and_then, nat_eq, nat_le, nat_lt, max, filter, Option, Some, None, IsTrue, ◌==◌}
 use Rattle.std.specs.Option.{option_map_or}
 use Rattle.std.specs.List.{list_any}
 use Rattle.std.proofs.lemmas.Bool.Decides.{nat_tests}
@@ -13,13 +13,14 @@ use Rattle.sibling_register.proofs.Following.{is_among-numbers_to}
 use Rattle.actor_epoch.specs.declared.Actor.{Actor}
 use Rattle.actor_epoch.specs.declared.Dot.{Dot}
 use Rattle.actor_epoch.specs.Dots.{actor_eq, dot_eq, covers, counter_in}
-use Rattle.vnode_machine.specs.Machine.{Context, Stored, State, clock_of, stored, same_pairs, runs_ahead}
+use Rattle.actor_epoch.specs.Given.{Context, Pairs}
+use Rattle.vnode_machine.specs.Machine.{Stored, State, clock_of, stored, same_pairs, runs_ahead}
 use Rattle.vnode_machine.specs.Lives.{dot_of}
-use Rattle.vnode_machine.specs.Replay.{replay, naming, saw_by}
+use Rattle.vnode_machine.specs.Replay.{replay, naming, seen_by_context}
 use Rattle.vnode_machine.proofs.Pairwise.{Pairwise, Pairwise-map, Pairwise-both}
 use Rattle.vnode_machine.proofs.Numbers.{is_among-filter}
-use Rattle.vnode_machine.proofs.Invariants.{H, Entry, clock_in, IsLiveOf, IsKept, IsSplit, IsEarlier}
-use Rattle.vnode_machine.proofs.Bases.{IsBehind}
+use Rattle.vnode_machine.proofs.Invariants.{actor_of, H, Entry, clock_in, IsLiveOf, IsKept, IsSplit, IsEarlier}
+use Rattle.vnode_machine.proofs.Bases.{IsBehind, IsOwned}
 use Rattle.vnode_machine.proofs.Updates.{IsSeen}
 use Rattle.vnode_machine.proofs.Counters.{actor_eq-same, covers-counter, is_low, are_low}
 use Rattle.vnode_machine.proofs.Tests.{and_both, and_left, and_right, or_left, or_right, nat_eq-same}
@@ -36,23 +37,30 @@ low-ahead v state key (pair ∷ pairs) vnode h =
 
 -- a pair that runs ahead of what is stored
 abbrev pub ahead_of : Option (Stored Content) → Dot → Bool
-ahead_of o pair = option_map_or (λ own. actor_eq pair.actor own && nat_lt (counter_in (clock_in o).known own) pair.counter) (option_map (λ s. s.own) o) false
+ahead_of o pair = option_map_or (λ own. actor_eq pair.actor own && nat_lt (counter_in (clock_in o).known own) pair.counter) (option_and_then (λ s. s.own) o) false
 
 -- nor a later counter of the key's actor
-behind-ahead : (early : Dot → Bool) (o : Option (Stored Content)) (pairs : List Dot) → list_any (λ pair. early pair || ahead_of o pair) pairs ≡ false → IsBehind pairs o
-behind-ahead early None pairs h = tt
-behind-ahead early (Some s) [] h = omega arith
-behind-ahead early (Some s) (pair ∷ pairs) h =
-    by (actor_eq pair.actor s.own) pair.counter (counter_in pairs s.own) (counter_in s.clock.known s.own)
-    (or_right (early pair) (ahead_of (Some s) pair) (or_left (early pair || ahead_of (Some s) pair) (list_any (λ p. early p || ahead_of (Some s) p) pairs) h))
-    (behind-ahead early (Some s) pairs (or_right (early pair || ahead_of (Some s) pair) (list_any (λ p. early p || ahead_of (Some s) p) pairs) h))
+pub ahead-owned : (s : Stored Content) → IsOwned (Some s) → (pair : Dot) → ahead_of (Some s) pair ≡ (actor_eq pair.actor (actor_of s) && nat_lt (counter_in s.clock.known (actor_of s)) pair.counter)
+ahead-owned s h pair = ap (λ o. option_map_or (λ own. actor_eq pair.actor own && nat_lt (counter_in s.clock.known own) pair.counter) o false) h
+
+pub owned-kept : (v l last : ℕ) (history : H) (key : Key) (o : Option (Stored Content)) → IsKept v l last history key o → IsOwned o
+owned-kept v l last history key None h = tt
+owned-kept v l last history key (Some s) h = h.owned
+
+behind-ahead : (early : Dot → Bool) (o : Option (Stored Content)) (pairs : List Dot) → IsOwned o → list_any (λ pair. early pair || ahead_of o pair) pairs ≡ false → IsBehind pairs o
+behind-ahead early None pairs owned h = tt
+behind-ahead early (Some s) [] owned h = omega arith
+behind-ahead early (Some s) (pair ∷ pairs) owned h =
+    by (actor_eq pair.actor (actor_of s)) pair.counter (counter_in pairs (actor_of s)) (counter_in s.clock.known (actor_of s))
+    (sym (ahead-owned s owned pair) ∙ or_right (early pair) (ahead_of (Some s) pair) (or_left (early pair || ahead_of (Some s) pair) (list_any (λ p. early p || ahead_of (Some s) p) pairs) h))
+    (behind-ahead early (Some s) pairs owned (or_right (early pair || ahead_of (Some s) pair) (list_any (λ p. early p || ahead_of (Some s) p) pairs) h))
   where
     by : (b : Bool) (n rest top : ℕ) → (b && nat_lt top n) ≡ false → rest ≤ top → cond b (max n rest) rest ≤ top
     by true n rest top h k = grind (arith, nat_tests)
     by false n rest top h k = k
 
-pub behind-of : (state : State Content) (key : Key) (pairs : List Dot) → list_any (runs_ahead state key) pairs ≡ false → IsBehind pairs (stored state key)
-behind-of state key pairs h = behind-ahead (λ pair. (pair.actor.vnode == state.vnode) && nat_lt state.last_epoch pair.actor.epoch) (stored state key) pairs h
+pub behind-of : (state : State Content) (key : Key) (pairs : List Dot) → IsOwned (stored state key) → list_any (runs_ahead state key) pairs ≡ false → IsBehind pairs (stored state key)
+behind-of state key pairs owned h = behind-ahead (λ pair. (pair.actor.vnode == state.vnode) && nat_lt state.last_epoch pair.actor.epoch) (stored state key) pairs owned h
 
 -- the same pairs are equal
 pub same_pairs-same : (a b : List Dot) → same_pairs a b ≡ true → a ≡ b
@@ -110,7 +118,7 @@ module _ (v l : ℕ) where
       → Pairwise S (clock_in o).live (siblings history key)
   live-each last history key S None h f = subst (λ ns. Pairwise S [] ns) (sym h) tt
   live-each last history key S (Some s) h f =
-      Pairwise-map (IsLiveOf v l history key s.own (counter_in s.clock.known s.own)) S (f s.own (counter_in s.clock.known s.own)) s.clock.live (siblings history key) h.live
+      Pairwise-map (IsLiveOf v l history key (actor_of s) (counter_in s.clock.known (actor_of s))) S (f (actor_of s) (counter_in s.clock.known (actor_of s))) s.clock.live (siblings history key) h.live
 
   abbrev IsNumber : H → Key → Entry → ℕ → Type 0
   IsNumber history key entry number = (1 ≤ entry.0.counter) × (1 ≤ number) × (number ≤ count_of history key) × (dot_of v l history key number ≡ Some entry.0)
@@ -156,13 +164,13 @@ module _ (v l : ℕ) where
 
     -- by any context
     pub seen-context : (pairs : List Dot) → Each position_known history
-        → Pairwise (IsSeen pairs (saw_by v l history key (Some pairs))) (clock_in o).live (siblings history key)
-    seen-context pairs each = by (named (naming v l) history key (Some pairs)) refl
+        → Pairwise (IsSeen pairs (seen_by_context v l history key (Pairs pairs))) (clock_in o).live (siblings history key)
+    seen-context pairs each = by (named (naming v l) history key (Pairs pairs)) refl
       where
-        by : (q : Option H) → named (naming v l) history key (Some pairs) ≡ q → Pairwise (IsSeen pairs (saw_from pairs q)) (clock_in o).live (siblings history key)
+        by : (q : Option H) → named (naming v l) history key (Pairs pairs) ≡ q → Pairwise (IsSeen pairs (saw_from pairs q)) (clock_in o).live (siblings history key)
         by None e = seen-free pairs
         by (Some q) e =
-            let found = named-position position_known history key (Some pairs) each q e in
+            let found = named-position position_known history key (Pairs pairs) each q e in
             subst (λ ps. Pairwise (IsSeen ps (numbers_to (count_of q key))) (clock_in o).live (siblings history key))
             (sym (same_pairs-same pairs (known_at q key) found.2)) (seen-earlier (known_at q key) (count_of q key) found.0)
 
@@ -176,9 +184,9 @@ module _ (v l : ℕ) where
         by : (o : Option (Stored Content)) → IsKept v l last history key o → Pairwise (IsSeen (clock_in o).known (numbers_to (count_of history key))) (clock_in o).live (siblings history key)
         by None h = subst (λ ns. Pairwise (IsSeen [] (numbers_to (count_of history key))) [] ns) (sym h) tt
         by (Some s) h =
-            Pairwise-map (IsLiveOf v l history key s.own (counter_in s.clock.known s.own)) (IsSeen s.clock.known (numbers_to (count_of history key)))
+            Pairwise-map (IsLiveOf v l history key (actor_of s) (counter_in s.clock.known (actor_of s))) (IsSeen s.clock.known (numbers_to (count_of history key)))
             (λ entry number one. covers-counter s.clock.known entry.0
             ∙ ap (λ a. nat_le 1 entry.0.counter && nat_le entry.0.counter (counter_in s.clock.known a)) one.actor
-            ∙ all entry.0.counter number (counter_in s.clock.known s.own) (count_of history key) one.positive one.within one.counted
+            ∙ all entry.0.counter number (counter_in s.clock.known (actor_of s)) (count_of history key) one.positive one.within one.counted
             ∙ sym (is_among-numbers_to (count_of history key) number one.first))
             s.clock.live (siblings history key) h.live

@@ -5,21 +5,22 @@ use Rattle.std.specs.List.{list_any}
 use Rattle.riak_msgs.specs.declared.Key.{Key}
 use Rattle.riak_msgs.specs.declared.Content.{Content}
 use Rattle.riak_msgs.specs.KeyOrder.{key_eq}
-use Rattle.sibling_register.specs.History.{Event, Deed, Write, Tombstone, Reap, is_update, written, count_of, numbers_to}
-use Rattle.sibling_register.specs.Siblings.{siblings}
+use Rattle.sibling_register.specs.History.{Event, Deed, Write, Tombstone, Reap, is_update, written, events_of, count_of, numbers_to}
+use Rattle.sibling_register.specs.Siblings.{siblings, is_defined}
 use Rattle.actor_epoch.specs.declared.Actor.{Actor}
 use Rattle.actor_epoch.specs.declared.Dot.{Dot}
 use Rattle.actor_epoch.specs.Contexts.{is_of_form}
-use Rattle.vnode_machine.specs.Machine.{Context, Stored, State, stored, next_actor, is_held, has_value, holds_dead, is_bad, runs_ahead, changed_by}
-use Rattle.vnode_machine.specs.Lives.{births, is_alive}
-use Rattle.vnode_machine.specs.Replay.{replay, sight_of, Accepts, HasReplay}
+use Rattle.actor_epoch.specs.Given.{Context, Malformed, Pairs}
+use Rattle.vnode_machine.specs.Machine.{Stored, State, stored, next_actor, is_held, has_value, holds_dead, is_bad, runs_ahead, changed_by}
+use Rattle.vnode_machine.specs.Lives.{lives_begun, is_alive}
+use Rattle.vnode_machine.specs.Replay.{replay, seen_by, Accepts, HasReplay}
 use Rattle.vnode_machine.proofs.Keys.{find_stored, find_reaped, key_eq-same, key_eq-refl}
 use Rattle.vnode_machine.proofs.Pairwise.{Pairwise}
 use Rattle.vnode_machine.proofs.Invariants.{H, clock_in, IsKept, IsEarlier, earlier-self}
-use Rattle.vnode_machine.proofs.Bases.{own_in, last_in, IsBehind, base}
+use Rattle.vnode_machine.proofs.Bases.{own_in, last_in, IsBehind, last-owned, base, not-alive}
 use Rattle.vnode_machine.proofs.Updates.{IsSeen, next_in, updated-stored, updated-earlier}
 use Rattle.vnode_machine.proofs.Others.{stored-other, earlier-other, reaped-siblings, reaped-earlier}
-use Rattle.vnode_machine.proofs.Sights.{low-ahead, behind-of, Each, Each-map, known_at, live-each, seen-context, seen-all}
+use Rattle.vnode_machine.proofs.Sights.{low-ahead, owned-kept, behind-of, Each, Each-map, known_at, live-each, seen-context, seen-all}
 use Rattle.vnode_machine.proofs.Counters.{are_low}
 use Rattle.vnode_machine.proofs.Tests.{and_left, or_right}
 
@@ -34,7 +35,7 @@ module _ (v l : ℕ) where
   -- what holds at the end of a list that has a replay
   pub record IsKnown (history : H) : Type 0 where
     pub vnode : (replay v l history).vnode ≡ v
-    pub epochs : last_of history ≡ l + births history
+    pub epochs : last_of history ≡ l + lives_begun history
     pub keys : (key : Key) → IsKept v l (last_of history) history key (stored (replay v l history) key)
     pub earlier : (key : Key) → Each (λ q. IsEarlier v l (last_of history) history key (stored (replay v l history) key) (known_at v l q key) (count_of q key)) history
 
@@ -43,7 +44,7 @@ module _ (v l : ℕ) where
     pub vnode : (replay v l (event ∷ history)).vnode ≡ (replay v l history).vnode
     pub last_is : last_of (event ∷ history) ≡ last'
     pub le : last_of history ≤ last'
-    pub epochs : last' ≡ l + births (event ∷ history)
+    pub epochs : last' ≡ l + lives_begun (event ∷ history)
     pub found : (key : Key) → stored (replay v l (event ∷ history)) key ≡ cond (key_eq event.key key) o (stored (replay v l history) key)
     pub own : IsKept v l last' (event ∷ history) event.key o
     pub earlier : (known : List Dot) (count : ℕ) → IsEarlier v l (last_of history) history event.key (stored (replay v l history) event.key) known count
@@ -94,16 +95,21 @@ module _ (v l : ℕ) where
 
     -- a key that is stored is in a life
     pub alive : (o : Option (Stored Content)) → IsKept v l state.last_epoch history at o → is_alive history at ≡ is_some o
-    alive None h = ap (λ (ns : List ℕ). not (length ns == 0)) h
-    alive (Some s) h = h.defined
+    alive None h = not-alive (events_of history at) h
+    alive (Some s) h = h.alive
+
+    -- and it is defined
+    pub held_by : (o : Option (Stored Content)) → IsKept v l state.last_epoch history at o → is_defined history at ≡ is_some o
+    held_by None h = ap (λ (ns : List ℕ). not (length ns == 0)) h
+    held_by (Some s) h = h.defined
 
     epochs_by : (o : Option (Stored Content)) → IsKept v l state.last_epoch history at o
-        → last_in state.last_epoch o ≡ l + cond (is_alive history at) (births history) (births history + 1)
-    epochs_by None h = rw (alive None h) (grow (births history) known.epochs)
+        → last_in state.last_epoch o ≡ l + cond (is_alive history at) (lives_begun history) (lives_begun history + 1)
+    epochs_by None h = rw (alive None h) (grow (lives_begun history) known.epochs)
       where
         grow : (b : ℕ) → state.last_epoch ≡ l + b → state.last_epoch + 1 ≡ l + (b + 1)
         grow b h = omega (arith, h)
-    epochs_by (Some s) h = rw (alive (Some s) h) known.epochs
+    epochs_by (Some s) h = last-owned state.last_epoch s h.owned ∙ rw (alive (Some s) h) known.epochs
 
     abbrev own : Actor
     own = own_in (next_actor state) before
@@ -159,8 +165,8 @@ module _ (v l : ℕ) where
     low_own None h = refl
     low_own (Some s) h = h.low
 
-    good : (pairs : List Dot) (rest : Option ℕ) → cond (is_bad state at (Some (Some pairs))) (Some 4) rest ≡ None → list_any (runs_ahead state at) pairs ≡ false
-    good pairs rest h = or_right (not (is_of_form pairs)) (list_any (runs_ahead state at) pairs) (not_first (is_bad state at (Some (Some pairs))) 4 rest h)
+    good : (pairs : List Dot) (rest : Option ℕ) → cond (is_bad state at (Some (Pairs pairs))) (Some 4) rest ≡ None → list_any (runs_ahead state at) pairs ≡ false
+    good pairs rest h = or_right (not (is_of_form pairs)) (list_any (runs_ahead state at) pairs) (not_first (is_bad state at (Some (Pairs pairs))) 4 rest h)
 
     held : (b : Bool) → (is_held state at && b) ≡ true → is_held state at ≡ true
     held b h = and_left (is_held state at) b h
@@ -173,23 +179,23 @@ module _ (v l : ℕ) where
           vnode = refl;
           last_is = refl;
           le = omega arith;
-          epochs = known.epochs ∙ ap (λ b. l + cond b (births history) (births history + 1)) (sym (alive before (known.keys at) ∙ held (not (has_value state at)) dead));
+          epochs = known.epochs ∙ ap (λ b. l + cond b (lives_begun history) (lives_begun history + 1)) (sym (alive before (known.keys at) ∙ held (not (has_value state at)) dead));
           found = λ key. find_reaped at key state.keys;
           own = reaped-siblings v l state.last_epoch event history at (key_eq-refl at) refl all before (known.keys at);
           earlier = λ old count h. reaped-earlier v l state.last_epoch event history at (key_eq-refl at) refl all before old count (known.keys at) h;
         }
 
     -- an accepted event
-    pub accepted-step : (deed : Deed Content) (given : Option Context) (saw : List ℕ) → Accepts state at given deed → saw ≡ sight_of v l history at given deed
+    pub accepted-step : (deed : Deed Content) (given : Option Context) (saw : List ℕ) → Accepts state at given deed → saw ≡ seen_by v l history at given deed
         → IsKnown ((let event : Event Content Context = record { key = at; deed = deed; context = given; saw = saw } in event) ∷ history)
     accepted-step (Write content) None saw accepts e =
         write_step content None saw [] (λ key. find_stored key at _ state.keys) refl (behind_none before)
         (subst (λ ns. Pairwise (IsSeen [] ns) (clock_in before).live (siblings history at)) (sym e)
         (live-each v l state.last_epoch history at (IsSeen [] []) before (known.keys at) (λ own top entry number one. refl)))
-    accepted-step (Write content) (Some None) saw accepts e = cc
-    accepted-step (Write content) (Some (Some pairs)) saw accepts e =
-        write_step content (Some (Some pairs)) saw pairs (λ key. find_stored key at _ state.keys)
-        (low-ahead v state at pairs known.vnode (good pairs _ accepts)) (behind-of state at pairs (good pairs _ accepts))
+    accepted-step (Write content) (Some Malformed) saw accepts e = cc
+    accepted-step (Write content) (Some (Pairs pairs)) saw accepts e =
+        write_step content (Some (Pairs pairs)) saw pairs (λ key. find_stored key at _ state.keys)
+        (low-ahead v state at pairs known.vnode (good pairs _ accepts)) (behind-of state at pairs (owned-kept v l state.last_epoch history at before (known.keys at)) (good pairs _ accepts))
         (subst (λ ns. Pairwise (IsSeen pairs ns) (clock_in before).live (siblings history at)) (sym e)
         (seen-context v l state.last_epoch history at before (known.keys at) pairs (known.earlier at)))
     accepted-step Tombstone None saw accepts e =
@@ -197,10 +203,10 @@ module _ (v l : ℕ) where
         (low_own before (known.keys at)) (behind_own before)
         (subst (λ ns. Pairwise (IsSeen (clock_in before).known ns) (clock_in before).live (siblings history at)) (sym e)
         (seen-all v l state.last_epoch history at before (known.keys at)))
-    accepted-step Tombstone (Some None) saw accepts e = cc
-    accepted-step Tombstone (Some (Some pairs)) saw accepts e =
-        tombstone_step (Some (Some pairs)) saw pairs (λ key. find_stored key at _ state.keys)
-        (low-ahead v state at pairs known.vnode (good pairs _ accepts)) (behind-of state at pairs (good pairs _ accepts))
+    accepted-step Tombstone (Some Malformed) saw accepts e = cc
+    accepted-step Tombstone (Some (Pairs pairs)) saw accepts e =
+        tombstone_step (Some (Pairs pairs)) saw pairs (λ key. find_stored key at _ state.keys)
+        (low-ahead v state at pairs known.vnode (good pairs _ accepts)) (behind-of state at pairs (owned-kept v l state.last_epoch history at before (known.keys at)) (good pairs _ accepts))
         (subst (λ ns. Pairwise (IsSeen pairs ns) (clock_in before).live (siblings history at)) (sym e)
         (seen-context v l state.last_epoch history at before (known.keys at) pairs (known.earlier at)))
     accepted-step Reap None saw accepts e =

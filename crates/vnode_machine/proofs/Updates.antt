@@ -13,10 +13,11 @@ use Rattle.sibling_register.specs.Siblings.{siblings, is_among}
 use Rattle.sibling_register.proofs.Following.{left_by, siblings-own, count_of-own}
 use Rattle.actor_epoch.specs.declared.Actor.{Actor}
 use Rattle.actor_epoch.specs.declared.Dot.{Dot}
-use Rattle.actor_epoch.specs.Dots.{actor_cmp, covers, counter_in, union}
+use Rattle.actor_epoch.specs.Dots.{actor_cmp, covers, counter_in, union, next_dot}
 use Rattle.actor_epoch.proofs.Pairs.{counter_in-raise}
 use Rattle.dvv_set.specs.Clocks.{show_cmp, discard, event}
-use Rattle.vnode_machine.specs.Machine.{Context, Stored, next_dot}
+use Rattle.actor_epoch.specs.Given.{Context}
+use Rattle.vnode_machine.specs.Machine.{Stored}
 use Rattle.vnode_machine.proofs.Pairwise.{Pairwise, Pairwise-map, Pairwise-filter}
 use Rattle.vnode_machine.proofs.Numbers.{count_of-more, content_of-own, dot_of-own}
 use Rattle.vnode_machine.proofs.Invariants.{H, Entry, clock_in, IsLiveOf, AreLiveOf, live-more, IsStored, IsSplit, IsEarlier}
@@ -29,7 +30,7 @@ IsSeen pairs saw entry number = covers pairs entry.0 ≡ is_among saw number
 
 -- what is stored after a write or tombstone
 abbrev pub next_in : Actor → List Dot → Option Content → Option (Stored Content) → Stored Content
-next_in own pairs value o = record { own = own; clock = event own value (discard pairs (clock_in o)) }
+next_in own pairs value o = record { own = Some own; clock = event own value (discard pairs (clock_in o)) }
 
 nat_cmp-less : (a b : ℕ) → a < b → nat_cmp a b ≡ Less
 nat_cmp-less a b h = let t : nat_lt a b ≡ true = grind (arith, nat_tests) in rw t refl
@@ -113,6 +114,7 @@ module _ (v l : ℕ) where
 
     pub updated-stored : IsStored v l last' (event ∷ history) key next
     updated-stored = record {
+      owned = refl;
       vnode = base.vnode;
       epoch = base.epoch;
       low = all-raise (is_low v last') dot known (low_dot own.vnode own.epoch base.epoch) base.low;
@@ -126,6 +128,7 @@ module _ (v l : ℕ) where
                 (live-more v l event history key own top (top + 1) (omega arith)) left (left_by event.saw (siblings history key)) left_are,
           )));
       defined = ap (λ (ns : List ℕ). not (length ns == 0)) siblings_are ∙ some (length (left_by event.saw (siblings history key)));
+      alive = rw itself update;
     }
       where
         low_dot : (a e : ℕ) → e ≤ last' → not ((a == v) && nat_lt last' e) ≡ true

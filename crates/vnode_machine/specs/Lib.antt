@@ -3,5 +3,8 @@ pub mod Asks
 pub mod Lives
 pub mod Replay
 pub mod Replies
+pub mod Step
+pub mod Registers
+pub mod Runs
 pub mod Laws
 pub mod Leaving

@@ -1,7 +1,6 @@
--- The vnode machine: its state, what it refuses, and what a command changes. Contexts are what their bytes read as:
--- pairs, or none where the bytes are not of the form.
-use Rattle.std.specs.Prelude.{Bool, true, false, not, ◌&&◌, ◌||◌, ◌==◌, ◌+◌, ◌-◌, ◌^◌, if◌then◌else◌, List, [], ◌∷◌, ℕ, length, filter, min, Option, Some, None, is_some, nat_le, nat_lt, unwrap_or}
-use Rattle.std.specs.Option.{option_map, option_map_or}
+-- The vnode machine: its state, what it refuses, and what a command changes.
+use Rattle.std.specs.Prelude.{Bool, true, false, not, ◌&&◌, ◌||◌, ◌==◌, ◌+◌, ◌-◌, ◌^◌, if◌then◌else◌, List, [], ◌∷◌, ℕ, length, min, Option, Some, None, is_some, nat_le, nat_lt, unwrap_or, option_and_then}
+use Rattle.std.specs.Option.{option_map_or}
 use Rattle.std.specs.List.{list_any}
 use Rattle.std.specs.Ordering.{eq_by_cmp}
 use Rattle.std.specs.Cmp.Lexicographic.{pointwise}
@@ -13,18 +12,21 @@ use Rattle.sibling_register.specs.Refusals.{match_found, modified, not_found, ba
 use Rattle.sibling_register.specs.Answers.{PutCommand, DelCommand}
 use Rattle.actor_epoch.specs.declared.Actor.{Actor}
 use Rattle.actor_epoch.specs.declared.Dot.{Dot}
-use Rattle.actor_epoch.specs.declared.limits.TheConstants.{GREATEST_EPOCH, GREATEST_COUNTER, MOST_ACTORS}
-use Rattle.actor_epoch.specs.Dots.{actor_eq, dot_eq, covers, counter_in, raise, union}
+use Rattle.actor_epoch.specs.Limits.{greatest_epoch, greatest_counter, most_actors}
+use Rattle.actor_epoch.specs.Dots.{actor_eq, dot_eq, counter_in, next_dot, raise, union}
 use Rattle.actor_epoch.specs.Contexts.{is_of_form}
+use Rattle.actor_epoch.specs.Given.{Context, Malformed, Pairs}
 use Rattle.dvv_set.specs.Clocks.{Meaning, discard, event, join}
+use Rattle.dvv_set.specs.Held.{uncovered}
 
--- a defined key: its actor, and what its clock means, with no content as a tombstone's value
+-- a stored key: the actor of its life at this vnode, where it has one, and what its clock means, with no content as a
+-- tombstone's value
 pub record Stored (V : Type 0) : Type 0 where
-  pub own : Actor
+  pub own : Option Actor
   pub clock : Meaning (Option V)
 
--- a vnode: its id, the last epoch that it gave (0 before any), how many events of each kind it accepted, and the
--- defined keys in their order
+-- a vnode: its id, the last epoch that it gave (0 before any), how many events of each kind it accepted, the stored keys
+-- in their order, and the number of its close where it is closed, which no event here does
 pub record State (V : Type 0) : Type 0 where
   pub vnode : ℕ
   pub last_epoch : ℕ
@@ -32,31 +34,33 @@ pub record State (V : Type 0) : Type 0 where
   pub tombstones : ℕ
   pub reaps : ℕ
   pub keys : List (Key × Stored V)
-
--- a context as given: what its bytes read as
-abbrev pub Context : Type 0
-Context = Option (List Dot)
+  pub closed : Option ℕ
 
 -- the pairs of a context that is given or not
 abbrev pub pairs_of : Option Context → List Dot
-pairs_of given = unwrap_or (unwrap_or given None) []
+pairs_of None = []
+pairs_of (Some Malformed) = []
+pairs_of (Some (Pairs pairs)) = pairs
 
--- two contexts have the same entries
+-- two lists have the same pairs
 abbrev pub same_pairs : List Dot → List Dot → Bool
 same_pairs = pointwise dot_eq
+
+-- two contexts have the same pairs, or both are malformed
+abbrev pub same_context : Context → Context → Bool
+same_context Malformed Malformed = true
+same_context Malformed (Pairs others) = false
+same_context (Pairs pairs) Malformed = false
+same_context (Pairs pairs) (Pairs others) = same_pairs pairs others
 
 -- a count stops at the greatest that 64 bits hold
 abbrev pub counted : ℕ → ℕ
 counted n = min (n + 1) (2 ^ 64 - 1)
 
--- the dot after the last that these pairs have of an actor
-abbrev pub next_dot : Actor → List Dot → Dot
-next_dot actor known = record { actor = actor; counter = counter_in known actor + 1 }
-
 module _ {V : Type 0} where
   -- before any event
   abbrev pub opening : (vnode last_epoch : ℕ) → State V
-  opening vnode last_epoch = record { vnode = vnode; last_epoch = last_epoch; writes = 0; tombstones = 0; reaps = 0; keys = [] }
+  opening vnode last_epoch = record { vnode = vnode; last_epoch = last_epoch; writes = 0; tombstones = 0; reaps = 0; keys = []; closed = None }
 
   abbrev pub stored : State V → Key → Option (Stored V)
   stored state key = find key_cmp key state.keys
@@ -68,9 +72,9 @@ module _ {V : Type 0} where
   abbrev pub clock_of : State V → Key → Meaning (Option V)
   clock_of state key = option_map_or (λ s. s.clock) (stored state key) (record { known = []; live = [] })
 
-  -- the actor of the key's life
+  -- the actor of the key's life, where it has one
   abbrev pub own_of : State V → Key → Option Actor
-  own_of state key = option_map (λ s. s.own) (stored state key)
+  own_of state key = option_and_then (λ s. s.own) (stored state key)
 
   -- the actor of the next life
   abbrev pub next_actor : State V → Actor
@@ -93,34 +97,33 @@ module _ {V : Type 0} where
       ((pair.actor.vnode == state.vnode) && nat_lt state.last_epoch pair.actor.epoch)
       || option_map_or (λ own. actor_eq pair.actor own && nat_lt (counter_in (clock_of state key).known own) pair.counter) (own_of state key) false
 
-  -- a given context that is not of the form, or has a pair that runs ahead
+  -- a given context that is malformed, or has a pair that runs ahead
   abbrev pub is_bad : State V → Key → Option Context → Bool
   is_bad state key None = false
-  is_bad state key (Some None) = true
-  is_bad state key (Some (Some pairs)) = not (is_of_form pairs) || list_any (runs_ahead state key) pairs
+  is_bad state key (Some Malformed) = true
+  is_bad state key (Some (Pairs pairs)) = not (is_of_form pairs) || list_any (runs_ahead state key) pairs
 
   -- as many siblings as a key may have aren't covered, so that with one more they were too many
   abbrev pub is_crowded : State V → Key → List Dot → Bool
-  is_crowded state key pairs =
-      nat_le most_siblings (length (filter (λ entry. not (covers pairs entry.0)) (clock_of state key).live))
+  is_crowded state key pairs = nat_le most_siblings (uncovered pairs (clock_of state key))
 
   -- too many actors: of the stored clock, of the context, and the key's own
   abbrev pub is_full : State V → Key → List Dot → Bool
   is_full state key pairs =
-      nat_lt MOST_ACTORS (length (raise (record { actor = actor_for state key; counter = 0 }) (union (clock_of state key).known pairs)))
+      nat_lt most_actors (length (raise (record { actor = actor_for state key; counter = 0 }) (union (clock_of state key).known pairs)))
 
   abbrev pub is_out_of_epochs : State V → Key → Bool
-  is_out_of_epochs state key = not (is_some (own_of state key)) && (state.last_epoch == GREATEST_EPOCH)
+  is_out_of_epochs state key = not (is_some (own_of state key)) && (state.last_epoch == greatest_epoch)
 
   abbrev pub is_out_of_counters : State V → Key → Bool
   is_out_of_counters state key =
-      option_map_or (λ own. counter_in (clock_of state key).known own == GREATEST_COUNTER) (own_of state key) false
+      option_map_or (λ own. counter_in (clock_of state key).known own == greatest_counter) (own_of state key) false
 
   -- whether the given context's entries are the stored clock's
   abbrev pub is_current : State V → Key → Option Context → Bool
   is_current state key None = false
-  is_current state key (Some None) = false
-  is_current state key (Some (Some pairs)) = is_held state key && same_pairs pairs (join (clock_of state key))
+  is_current state key (Some Malformed) = false
+  is_current state key (Some (Pairs pairs)) = is_held state key && same_pairs pairs (join (clock_of state key))
 
   -- what a delete discards: its context's pairs, or without a context all that is stored
   abbrev pub del_pairs : State V → Key → Option Context → List Dot
@@ -159,9 +162,9 @@ module _ {V : Type 0} where
   abbrev pub updated : State V → Key → List Dot → Option V → List (Key × Stored V)
   updated state key pairs value =
       let own = actor_for state key in
-      put key_cmp key (record { own = own; clock = event own value (discard pairs (clock_of state key)) }) state.keys
+      put key_cmp key (record { own = Some own; clock = event own value (discard pairs (clock_of state key)) }) state.keys
 
-  -- an absent key takes the next epoch
+  -- a key that has no actor takes the next epoch
   abbrev pub epoch_after : State V → Key → ℕ
   epoch_after state key = if is_some (own_of state key) then state.last_epoch else state.last_epoch + 1
 

@@ -1,16 +1,18 @@
 //! The vnode machine: what one vnode means, and the law that it is a sibling register.
 //!
-//! A vnode keeps for each defined key an actor and a dotted version vector set (`specs/Machine`, `State`). A write or
+//! A vnode keeps for each stored key an actor and a dotted version vector set (`specs/Machine`, `State`). A write or
 //! tombstone discards what its context covers and then takes the next dot of the key's actor, a new actor where the key
-//! is absent; a reap forgets a dead key whole (`changed_by`). What it refuses, in which order, is `put_check` and
-//! `del_check`; what it shows is `get_reply` and `put_reply` (`specs/Replies`). The replay of a list of events is the
-//! machine's state after them (`specs/Replay`, `replay`, `HasReplay`).
+//! has none; a reap forgets a dead key whole (`changed_by`). What it refuses, in which order, is `put_check` and
+//! `del_check`; what it shows is `get_reply` and `put_reply` (`specs/Replies`). What comes of an ask in a state is one
+//! function, `outcome` (`specs/Step`): refused, answered with nothing changed, or accepted, with the next state. The
+//! replay of a list of events is the machine's state after them (`specs/Replay`, `replay`, `HasReplay`).
 //!
 //! So a vnode keeps one compact clock a key and forgets it at a reap, and yet behaves as `sibling_register` does, which
-//! keeps every event for good and compares sets of numbers: that is `machine_is_register`. The premises of its clauses
-//! are those of `specs/Laws`, and the proof goes over the history, event by event (`proofs/Steps`): the live dots of a
-//! key are its siblings, one by one, and what an earlier position knew splits them into those that it had seen and those
-//! that came later.
+//! keeps every event for good and compares sets of numbers: that is `machine_is_register`, at each history that may have
+//! led to a state (`specs/Registers`, `IsRegisters`). Its proof goes over the history, event by event (`proofs/Steps`):
+//! the live dots of a key are its siblings, one by one, and what an earlier position knew splits them into those that it
+//! had seen and those that came later. So the turns that a vnode takes one after another, refusals for want of memory
+//! among them, are those of a legal history (`runs_are_histories`, `specs/Runs`).
 //!
 //! One life of a key at vnode 65536, written as (epoch, counter):
 //!
@@ -25,12 +27,12 @@
 //! ```
 //!
 //! This crate has definitions and laws alone: nothing in it runs, so it costs nothing. Definitions of the state compute,
-//! and `proofs/Rows` evaluates whole exchanges on them.
+//! and `proofs/Exchange` and `proofs/Rows` evaluate whole exchanges on them.
 #![tactic(auto)]
 
 mod laws;
 
 pub use laws::{
-    dots_are_of_lives, machine_is_register, no_dot_is_issued_twice, shown_context_is_the_name,
-    values_leave_only_covered,
+    dots_are_of_lives, machine_is_register, no_dot_is_issued_twice, runs_are_histories,
+    shown_context_is_the_name, values_leave_only_covered,
 };

@@ -1,11 +1,11 @@
-use Rattle.std.proofs.Common.{◌≡◌, ◌+◌, ◌*◌, ◌≤◌, List, ℕ, [], ◌++◌, length, take, None, refl, sym, ap, subst, ◌∙◌, arith, length-append}
+use Rattle.std.proofs.Common.{◌≡◌, ◌+◌, ◌*◌, ◌<◌, ◌≤◌, List, ℕ, [], ◌++◌, length, take, None, refl, sym, ap, subst, ◌∙◌, arith, length-append}
 use Rattle.std.proofs.lemmas.List.{length-take-le}
 use Rattle.pb_frame.specs.Limits.{longest_request}
 use Rattle.pb_frame.specs.Stream.{Stream}
 use Rattle.pb_frame.specs.Message.{IsPartial}
 use Rattle.node_session.specs.Answered.{Stands}
 use Rattle.node_session.proofs.Pieces.{all_at, stop_at, piece_count}
-use Rattle.node_session.proofs.Reading.{Reached, Reached-none, Reached-kept, Reached-then, Reached-bound, Reached-stops}
+use Rattle.node_session.proofs.Reading.{Reached, Reached-none, Reached-kept, Reached-then, Reached-bound, Reached-stops, MadeReads-none, MadeReads-piece, MadeReads-interrupted}
 use Rattle.node_session.proofs.session.serve.Goals as goal
 use Rattle.node_session.proofs.session.serve.Goals.{in-Ok+in_default, in-Err+else-ne}
 
@@ -21,6 +21,7 @@ loop-init g c =
       room = refl;
       stream = new ∙ ap (λ (r : List ℕ). record { limit = longest_request; rest = r; fault = None }) (sym empty);
       partial = subst (IsPartial longest_request) (sym empty) c.new-framer.ensures.partial;
+      made = MadeReads-none unread;
       reached = subst (λ (r : List ℕ). Reached step a unread h unread h 0 0 (Stands a r)) (sym empty) (Reached-none step a unread h);
     }
 
@@ -68,11 +69,13 @@ loop-preserved g c =
           let h' = g.W.Write.contents w.answer_piece-more.new.writer in
           let piece = take w.in-Ok.n c.read.new.buf in
           let few : length piece ≤ 4096 = omega (arith, length-take-le w.in-Ok.n c.read.new.buf w.in-Ok.ensures.bound.0, w.in-Ok.ensures.bound.0, room) in
+          let some : 0 < length piece = omega (arith, length-take-le w.in-Ok.n c.read.new.buf w.in-Ok.ensures.bound.0, w.in-Ok.n-test) in
           let all = all_at step c.loop.node node' c.loop.framer framer' piece flushed h' w.answer_piece-more.result.0 w.answer_piece-more.result.1 w.in_default.field-0 w.in_default.is w.answer_piece-more.ensures in
           rw (w.writer-is, w.node-is, w.framer-is, w.replies-is) (record {
             room = room;
             stream = all.stream ∙ ap (λ (s : Stream). record s { rest = framer'.rest }) c.loop.invariant.stream;
             partial = all.partial;
+            made = MadeReads-piece _ _ _ c.loop.counter piece c.loop.invariant.made w.in-Ok.ensures.bytes.0 some;
             reached = Reached-then step a unread h (g.R.Read.remaining c.loop.reader) (g.R.Read.remaining c.read.new.self) (g.W.Write.contents c.loop.writer) flushed h' c.loop.node c.loop.counter c.loop.replies w.answer_piece-more.result.0 y piece (Stands node' framer'.rest)
                 c.loop.invariant.reached c.flush.ensures.kept w.in-Ok.ensures.bytes.0 few all.answered;
           })
@@ -80,6 +83,7 @@ loop-preserved g c =
         room = room;
         stream = c.loop.invariant.stream;
         partial = c.loop.invariant.partial;
+        made = MadeReads-interrupted _ _ _ c.loop.counter c.loop.invariant.made w.in-Err.ensures.bytes;
         reached = Reached-kept step a unread h (g.R.Read.remaining c.loop.reader) (g.R.Read.remaining c.read.new.self) (g.W.Write.contents c.loop.writer) flushed c.loop.counter (c.loop.counter + 1) c.loop.replies (Stands c.loop.node y) (Stands c.loop.node y)
             (omega arith) w.in-Err.ensures.bytes c.flush.ensures.kept (λ mid rest last x. x) c.loop.invariant.reached;
       })

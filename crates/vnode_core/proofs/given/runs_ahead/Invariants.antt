@@ -1,6 +1,6 @@
 use Rattle.std.proofs.Common.{◌≡◌}
 use Rattle.std.specs.List.{list_any}
-use Rattle.vnode_core.specs.Known.{is_ahead}
+use Rattle.vnode_core.specs.Checks.{is_ahead}
 use Rattle.vnode_core.proofs.given.runs_ahead.Given as goal
 
 abbrev pub invariant-loop-actor : goal.invariant-loop-actor

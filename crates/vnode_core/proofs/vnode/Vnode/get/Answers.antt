@@ -1,49 +1,28 @@
-use Rattle.std.proofs.Common.{◌≡◌, ◌∙◌, sym, ap, map, length, ◌<◌, subst}
-use Rattle.std.specs.Prelude.{Some, None}
-use Rattle.std.specs.FinMap.Entries.{find}
-use Rattle.std.proofs.lemmas.Option.{slice_get_within}
-use Rattle.riak_msgs.specs.KeyOrder.{key_cmp}
+use Rattle.std.proofs.Common.{◌∙◌, sym, ap}
+use Rattle.std.specs.Option.{option_map}
+use Rattle.sibling_register.specs.Answers.{AskGet}
 use Rattle.vnode_machine.specs.Asks.{get_command}
-use Rattle.vnode_machine.specs.Replies.{get_reply}
-use Rattle.vnode_core.specs.Held.{entry_of, stored_of}
-use Rattle.vnode_core.proofs.Holding.{placed, stands, missing, get_absent, get_held, is_held_at, read_at}
-use Rattle.vnode_core.proofs.Registers.{shows_told}
+use Rattle.vnode_machine.specs.Step.{Answered, GetDone}
+use Rattle.vnode_core.specs.Shelves.{stored_of}
+use Rattle.vnode_core.specs.Vnodes.{state_of}
+use Rattle.vnode_core.proofs.Reached.{of-form, registers-view}
+use Rattle.vnode_core.proofs.Showing.{get-absent, get-stored}
 use Rattle.vnode_core.proofs.vnode.Vnode.get.Goals as goal
-
-pub index-requires : goal.index-requires
-index-requires c =
-    let items = c.self.inside.held.items in
-    let at = stands items c.args.ask.now.key c.in-At.i (placed items _ _ _ _ c.as_slice.ensures.value c.place_of.ensures c.in-At.is) in
-    let within : c.in-At.i < length items = slice_get_within items c.in-At.i at.held at.get in
-    subst (λ n. c.in-At.i < n) (ap length (sym c.as_slice.ensures.value) ∙ c.as_slice.ensures.len) within
 
 pub siblings-requires : goal.siblings-requires
 siblings-requires c =
-    let items = c.self.inside.held.items in
-    let at = stands items c.args.ask.now.key c.in-At.i (placed items _ _ _ _ c.as_slice.ensures.value c.place_of.ensures c.in-At.is) in
-    is_held_at items c.args.ask.now.key c.in-At.i c.index.result.now at c.self.invariant.each c.index.ensures
+    of-form (state_of c.self.inside) c.self.invariant.reached c.args.ask.now.key (stored_of c.in-Some.key.now)
+    (sym c.get.ensures ∙ ap (option_map (λ key. stored_of key.now)) c.in-Some.is)
 
-pub returns-in-New : goal.returns-in-New
-returns-in-New c =
-    let key = c.args.ask.now.key in
-    let items = c.self.inside.held.items in
-    let at = missing items key c.in-New.field-0 c.self.invariant.sorted (placed items _ _ _ _ c.as_slice.ensures.value c.place_of.ensures c.in-New.is) in
-    let get = get_command c.args.ask.now None in
-    let is : c.absent.result ≡ get_reply c.args.self.now.state get =
-    c.absent.ensures ∙ sym (get_absent c.args.self.now.state get (subst (λ v. find key_cmp key v.state.keys ≡ None) c.self.view_is at.find)) in
-    record { ok = is; err = tt; register = shows_told c.args.self.now.state get c.absent.result is }
+pub returns-in-None-clause-register : goal.returns-in-None-clause-register
+returns-in-None-clause-register c =
+    registers-view (state_of c.self.inside) c.args.self.now.state (ap (λ v. v.state) c.self.view_is) c.self.invariant.reached (AskGet (get_command c.args.ask.now)) (Answered (GetDone c.absent.result))
+    (ap (λ reply. Answered (GetDone reply))
+    (get-absent (state_of c.self.inside) c.args.ask.now (sym c.get.ensures ∙ ap (option_map (λ key. stored_of key.now)) c.in-None.is) ∙ sym c.absent.ensures))
 
-pub returns-in_ok-siblings-in-At : goal.returns-in_ok-siblings-in-At
-returns-in_ok-siblings-in-At c =
-    let items = c.self.inside.held.items in
-    let ask = c.args.ask.now in
-    let read = c.index.result.now in
-    let at = stands items ask.key c.in-At.i (placed items _ _ _ _ c.as_slice.ensures.value c.place_of.ensures c.in-At.is) in
-    let is : read ≡ at.held = read_at items ask.key c.in-At.i read at c.index.ensures in
-    let found : find key_cmp ask.key (map entry_of items) ≡ Some (stored_of read) = at.find ∙ ap (λ h. Some (stored_of h)) (sym is) in
-    let get = get_command ask None in
-    let shown : c.in_ok-siblings-in-At.field-0 ≡ get_reply c.args.self.now.state get =
-    c.in_ok-siblings-in-At.ensures
-    ∙ sym (get_held c.args.self.now.state ask.key ask.head ask.deletedvclock (stored_of read)
-    (subst (λ v. find key_cmp ask.key v.state.keys ≡ Some (stored_of read)) c.self.view_is found)) in
-    record { ok = shown; err = tt; register = shows_told c.args.self.now.state get c.in_ok-siblings-in-At.field-0 shown }
+pub returns-in_ok-siblings-in-Some-clause-register : goal.returns-in_ok-siblings-in-Some-clause-register
+returns-in_ok-siblings-in-Some-clause-register c =
+    registers-view (state_of c.self.inside) c.args.self.now.state (ap (λ v. v.state) c.self.view_is) c.self.invariant.reached (AskGet (get_command c.args.ask.now)) (Answered (GetDone c.in_ok-siblings-in-Some.field-0))
+    (ap (λ reply. Answered (GetDone reply))
+    (get-stored (state_of c.self.inside) c.args.ask.now (stored_of c.in-Some.key.now) (sym c.get.ensures ∙ ap (option_map (λ key. stored_of key.now)) c.in-Some.is)
+    ∙ sym c.in_ok-siblings-in-Some.ensures))

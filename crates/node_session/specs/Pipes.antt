@@ -1,0 +1,22 @@
+-- How a session of the program ends: a session over a new node, whose vnode is lost with it.
+use Rattle.std.specs.Prelude.{◌≡◌, List, ℕ, Option}
+use Rattle.std.specs.Io.KnownBytes.{Keeps}
+use Rattle.riak_msgs.specs.declared.Content.{Content}
+use Rattle.vnode_machine.specs.Machine.{State}
+use Rattle.node_session.specs.declared.fault.SessionFault.{SessionFault}
+use Rattle.node_session.specs.declared.fault.SessionFault.TheVariants.{NoMemory}
+use Rattle.node_session.specs.SessionLaws.{RegisterEnds, RegisterStops}
+
+-- it is a session over the register, to the end of the input
+abbrev pub PipeEnds : (run : ℕ) (input : List ℕ) (held held' : Option (List ℕ)) (count len : ℕ) → Type 0
+PipeEnds run input held held' count len = (vnode : State Content) × RegisterEnds run vnode input held held' count len
+
+-- or to a fault
+abbrev pub PipeStops : (run : ℕ) (input : List ℕ) (held held' : Option (List ℕ)) → SessionFault → Type 0
+PipeStops run input held held' fault = (vnode : State Content) × RegisterStops run vnode input held held' fault
+
+-- no node was made, for want of memory, and nothing was read or written
+pub record IsNotBegun (unread unread' held held' : Option (List ℕ)) (fault : SessionFault) : Type 0 where
+  pub is : fault ≡ NoMemory 0
+  pub nothing_read : Keeps unread unread'
+  pub nothing_written : Keeps held held'

@@ -1,0 +1,145 @@
+-- The checks of a put, by what was found of its key.
+use Rattle.std.proofs.Common.{◌≡◌, ℕ, Bool, true, false, not, ◌||◌, ◌&&◌, List, [], ◌∷◌, refl, sym, ◌∙◌, ap}
+use Rattle.std.specs.Prelude.{Option, Some, None, nat_lt, ◌==◌, is_some, option_map, option_and_then}
+use Rattle.std.specs.Borrow.{Bor}
+use Rattle.std.specs.Option.{option_map_or}
+use Rattle.std.specs.List.{list_any}
+use Rattle.riak_msgs.specs.declared.Key.{Key}
+use Rattle.riak_msgs.specs.declared.Content.{Content}
+use Rattle.riak_msgs.specs.declared.PutAsk.{PutAsk}
+use Rattle.sibling_register.specs.Refusals.{bad_context, match_found, modified, not_found, first_of}
+use Rattle.actor_epoch.specs.declared.Actor.{Actor}
+use Rattle.actor_epoch.specs.declared.Dot.{Dot}
+use Rattle.actor_epoch.specs.Dots.{actor_eq, counter_in}
+use Rattle.actor_epoch.specs.Given.{Pairs, context_of}
+use Rattle.vnode_machine.specs.Asks.{put_command}
+use Rattle.vnode_machine.specs.Machine.{State, Stored, stored, is_bad, has_value, is_current, own_of, clock_of, put_check, pairs_of, room_checks, same_pairs}
+use Rattle.vnode_core.specs.declared.refusal.Refusal.{Refusal}
+use Rattle.vnode_core.specs.declared.refusal.Refusal.TheVariants.{MatchFound, Modified, NotFound, BadContext, TooManySiblings, ClockFull, EpochsUsedUp, CounterUsedUp, NoMemory}
+use Rattle.vnode_core.specs.declared.stored_key.StoredKey.{StoredKey}
+use Rattle.vnode_core.specs.Checks.{pairs_in, AreRead, is_ahead, last_dot, has_value_in, is_current_in, options_check}
+use Rattle.vnode_core.specs.Refusals.{RefusedBy}
+use Rattle.vnode_core.specs.Shelves.{stored_of}
+
+-- what one check refuses another does
+refused-map : (check other : Option ℕ) → ((n : ℕ) → check ≡ Some n → other ≡ Some n) → (refusal : Refusal) → RefusedBy refusal check → RefusedBy refusal other
+refused-map check other f MatchFound h = f _ h
+refused-map check other f Modified h = f _ h
+refused-map check other f NotFound h = f _ h
+refused-map check other f BadContext h = f _ h
+refused-map check other f TooManySiblings h = f _ h
+refused-map check other f ClockFull h = f _ h
+refused-map check other f EpochsUsedUp h = f _ h
+refused-map check other f CounterUsedUp h = f _ h
+refused-map check other f NoMemory h = h
+
+module _ (a b c : Bool) (i j k : ℕ) (rest : List (Bool × ℕ)) where
+  first-some : (n : ℕ) → first_of ((a, i) ∷ (b, j) ∷ (c, k) ∷ []) ≡ Some n → first_of ((a, i) ∷ (b, j) ∷ (c, k) ∷ rest) ≡ Some n
+  first-some n h = by a b c h
+    where
+      by : (a b c : Bool) → first_of ((a, i) ∷ (b, j) ∷ (c, k) ∷ []) ≡ Some n → first_of ((a, i) ∷ (b, j) ∷ (c, k) ∷ rest) ≡ Some n
+      by true b c h = h
+      by false true c h = h
+      by false false true h = h
+      by false false false h = cc
+
+  first-none : first_of ((a, i) ∷ (b, j) ∷ (c, k) ∷ []) ≡ None → first_of ((a, i) ∷ (b, j) ∷ (c, k) ∷ rest) ≡ first_of rest
+  first-none h = by a b c h
+    where
+      by : (a b c : Bool) → first_of ((a, i) ∷ (b, j) ∷ (c, k) ∷ []) ≡ None → first_of ((a, i) ∷ (b, j) ∷ (c, k) ∷ rest) ≡ first_of rest
+      by true b c h = cc
+      by false true c h = cc
+      by false false true h = cc
+      by false false false h = refl
+
+ahead-same : (vnode last_epoch : ℕ) (own : Option Actor) (known pairs : List Dot)
+    → list_any (is_ahead vnode last_epoch (option_map (λ (own : Actor). (let d : Dot = record { actor = own; counter = counter_in known own } in d)) own)) pairs
+    ≡ list_any (λ (pair : Dot). ((pair.actor.vnode == vnode) && nat_lt last_epoch pair.actor.epoch)
+    || option_map_or (λ own. actor_eq pair.actor own && nat_lt (counter_in known own) pair.counter) own false) pairs
+ahead-same vnode last_epoch None known pairs = refl
+ahead-same vnode last_epoch (Some own) known pairs = refl
+
+-- a key that was found, and a context that was read and doesn't run ahead
+module _ (state : State Content) (put : PutAsk) (seen : Option (List Dot)) (given : context_of put.context ≡ option_map Pairs seen) (read : AreRead seen)
+    (o : Option (Stored Content)) (found : o ≡ stored state put.key) (last : Option Dot)
+    (last-is : last ≡ option_map (λ (own : Actor). (let d : Dot = record { actor = own; counter = counter_in (clock_of state put.key).known own } in d)) (own_of state put.key))
+    (behind : list_any (is_ahead state.vnode state.last_epoch last) (pairs_in seen) ≡ false) where
+  not-bad : is_bad state put.key (context_of put.context) ≡ false
+  not-bad = ap (is_bad state put.key) given ∙ by seen read behind
+    where
+      by : (seen : Option (List Dot)) → AreRead seen → list_any (is_ahead state.vnode state.last_epoch last) (pairs_in seen) ≡ false → is_bad state put.key (option_map Pairs seen) ≡ false
+      by None read h = refl
+      by (Some pairs) read h =
+          let runs = sym (ahead-same state.vnode state.last_epoch (own_of state put.key) (clock_of state put.key).known pairs)
+          ∙ ap (λ l. list_any (is_ahead state.vnode state.last_epoch l) pairs) (sym last-is) ∙ h in
+          λ i. not (read i) || runs i
+
+  value-is : has_value_in o ≡ has_value state put.key
+  value-is = ap has_value_in found ∙ by (stored state put.key)
+    where
+      by : (o : Option (Stored Content)) → has_value_in o ≡ list_any (λ entry. is_some entry.1) (option_map_or (λ (s : Stored Content). s.clock) o (record { known = []; live = [] })).live
+      by None = refl
+      by (Some s) = refl
+
+  current-is : is_current_in o seen ≡ is_current state put.key (context_of put.context)
+  current-is = ap (λ o. is_current_in o seen) found ∙ by seen ∙ ap (is_current state put.key) (sym given)
+    where
+      some : (o : Option (Stored Content)) (pairs : List Dot)
+          → is_current_in o (Some pairs) ≡ (is_some o && same_pairs pairs (option_map_or (λ (s : Stored Content). s.clock) o (record { known = []; live = [] })).known)
+      some None pairs = refl
+      some (Some s) pairs = refl
+
+      none : (o : Option (Stored Content)) → is_current_in o None ≡ false
+      none None = refl
+      none (Some s) = refl
+
+      by : (seen : Option (List Dot)) → is_current_in (stored state put.key) seen ≡ is_current state put.key (option_map Pairs seen)
+      by None = none (stored state put.key)
+      by (Some pairs) = some (stored state put.key) pairs
+
+  abbrev none_match : Bool
+  none_match = put.if_none_match && has_value_in o
+
+  abbrev not_present : Bool
+  not_present = (put.if_not_modified && not put.if_none_match) && not (has_value_in o)
+
+  abbrev not_current : Bool
+  not_current = (put.if_not_modified && not put.if_none_match) && not (is_current_in o seen)
+
+  abbrev rest : List (Bool × ℕ)
+  rest = room_checks state put.key (pairs_of (context_of put.context))
+
+  -- the options, then the room
+  check-is : put_check state (put_command put)
+      ≡ first_of ((none_match, match_found) ∷ (not_present, not_found) ∷ (not_current, modified) ∷ rest)
+  check-is =
+      let value = sym value-is in
+      let current = sym current-is in
+      λ i. first_of (
+      (not-bad i, bad_context)
+      ∷ (put.if_none_match && value i, match_found) ∷ ((put.if_not_modified && not put.if_none_match) && not (value i), not_found)
+      ∷ ((put.if_not_modified && not put.if_none_match) && not (current i), modified) ∷ rest)
+
+  pub options-refuse : (refusal : Refusal) → RefusedBy refusal (options_check put (has_value_in o) (is_current_in o seen)) → RefusedBy refusal (put_check state (put_command put))
+  options-refuse refusal h = refused-map (options_check put (has_value_in o) (is_current_in o seen)) (put_check state (put_command put)) (λ n e. check-is ∙ first-some none_match not_present not_current match_found not_found modified rest n e) refusal h
+
+  pairs-given : (seen : Option (List Dot)) → pairs_of (option_map Pairs seen) ≡ pairs_in seen
+  pairs-given None = refl
+  pairs-given (Some pairs) = refl
+
+  rooms-follow : options_check put (has_value_in o) (is_current_in o seen) ≡ None → put_check state (put_command put) ≡ first_of (room_checks state put.key (pairs_in seen))
+  rooms-follow h = check-is ∙ first-none none_match not_present not_current match_found not_found modified rest h ∙ ap (λ ps. first_of (room_checks state put.key ps)) (ap pairs_of given ∙ pairs-given seen)
+
+  pub rooms-refuse : options_check put (has_value_in o) (is_current_in o seen) ≡ None → (refusal : Refusal) → RefusedBy refusal (first_of (room_checks state put.key (pairs_in seen)))
+      → RefusedBy refusal (put_check state (put_command put))
+  rooms-refuse free refusal h = refused-map (first_of (room_checks state put.key (pairs_in seen))) (put_check state (put_command put)) (λ n e. rooms-follow free ∙ e) refusal h
+
+-- the last dot of a key that was found
+pub last-found : (state : State Content) (key : Key) (found : Option (Bor StoredKey)) → option_map (λ key. stored_of key.now) found ≡ stored state key
+    → option_map (λ key. last_dot key.now) found ≡ option_map (λ (own : Actor). (let d : Dot = record { actor = own; counter = counter_in (clock_of state key).known own } in d)) (own_of state key)
+last-found state key None h =
+    λ i. option_map (λ (own : Actor). (let d : Dot = record { actor = own; counter = counter_in (option_map_or (λ (s : Stored Content). s.clock) (h i) (record { known = []; live = [] })).known own } in d))
+    (option_and_then (λ (s : Stored Content). s.own) (h i))
+last-found state key (Some k) h =
+    λ i. option_map (λ (own : Actor). (let d : Dot = record { actor = own; counter = counter_in (option_map_or (λ (s : Stored Content). s.clock) (h i) (record { known = []; live = [] })).known own } in d))
+    (option_and_then (λ (s : Stored Content). s.own) (h i))

@@ -1,0 +1,143 @@
+-- What holds of a state that comes after some history.
+use Rattle.std.proofs.Common.{◌≡◌, ℕ, ◌+◌, ◌<◌, true, cond, List, ◌∷◌, length, refl, sym, ◌∙◌, ap, arith, subst}
+use Rattle.std.specs.Prelude.{◌^◌, max, Option, Some, None, option_map}
+use Rattle.std.specs.FinMap.Entries.{find, put as insert_key}
+use Rattle.riak_msgs.specs.declared.Key.{Key}
+use Rattle.riak_msgs.specs.declared.Content.{Content}
+use Rattle.riak_msgs.specs.declared.PutAsk.{PutAsk}
+use Rattle.riak_msgs.specs.KeyOrder.{key_cmp}
+use Rattle.sibling_register.specs.History.{Deed, Write}
+use Rattle.sibling_register.specs.Answers.{Ask as Command, AskPut}
+use Rattle.actor_epoch.specs.declared.Actor.{Actor}
+use Rattle.actor_epoch.specs.declared.Dot.{Dot}
+use Rattle.actor_epoch.specs.Dots.{counter_in, raise, union}
+use Rattle.actor_epoch.specs.Contexts.{is_rising, is_of_form}
+use Rattle.actor_epoch.specs.Given.{Context, Malformed, Pairs, context_of, pairs_read}
+use Rattle.actor_epoch.proofs.Order.{actor_eq-itself}
+use Rattle.actor_epoch.proofs.Pairs.{counter_in-raise}
+use Rattle.dvv_set.specs.Clocks.{Meaning, discard, event}
+use Rattle.dvv_set.specs.Held.{IsWithin, known_with, known_after}
+use Rattle.vnode_machine.specs.Asks.{put_command}
+use Rattle.vnode_machine.specs.Machine.{State, Stored, stored, clock_of, actor_for, pairs_of, put_check, changed_by, updated}
+use Rattle.vnode_machine.specs.Replay.{IsWithinLimits}
+use Rattle.vnode_machine.specs.Step.{Response, StepOutcome, Accepted, PutDone, outcome, unless_refused}
+use Rattle.vnode_machine.specs.Registers.{IsNext, next_event}
+use Rattle.vnode_machine.specs.Replies.{put_reply}
+use Rattle.vnode_machine.proofs.Forms.{IsForm, IsFormed, form-whole, counter-most}
+use Rattle.vnode_machine.proofs.Formed.{all_formed}
+use Rattle.vnode_machine.proofs.Invariants.{clock_in}
+use Rattle.vnode_machine.proofs.Keys.{find_stored, key_eq-refl}
+use Rattle.vnode_machine.proofs.StepLaw.{step_is_registers}
+use Rattle.vnode_machine.proofs.Steps.{known}
+use Rattle.vnode_core.specs.Checks.{pairs_in}
+use Rattle.vnode_core.specs.Plans.{Registers}
+use Rattle.vnode_core.specs.Shelves.{written}
+use Rattle.vnode_core.specs.Vnodes.{IsReached}
+use Rattle.vnode_core.proofs.Rooms.{known_with-pairs, without-pairs}
+
+module _ (state : State Content) (is : IsReached state) where
+  limits-now : IsWithinLimits state.vnode state.last_epoch
+  limits-now =
+      subst (λ (s : State Content). IsWithinLimits s.vnode s.last_epoch) (sym is.after.is) (
+        subst (λ (n : ℕ). n < 2 ^ 64) (sym (known is.id is.opened is.history is.after.replays).vnode) is.limits.0,
+        (all_formed is.id is.opened is.limits is.history is.after.replays).last,
+      )
+
+  -- what is stored is of the form
+  pub formed : (key : Key) → IsFormed (stored state key)
+  formed key =
+      subst (λ (s : State Content). IsFormed (stored s key)) (sym is.after.is)
+      ((all_formed is.id is.opened is.limits is.history is.after.replays).keys key)
+
+  pub of-form : (key : Key) (s : Stored Content) → stored state key ≡ Some s → is_of_form s.clock.known ≡ true
+  of-form key s h = form-whole s (subst IsFormed h (formed key))
+
+  pub rising-stored : (key : Key) (s : Stored Content) → stored state key ≡ Some s → is_rising s.clock.known ≡ true
+  rising-stored key s h = (subst IsFormed h (formed key)).pairs.rising
+
+  pub rising-at : (key : Key) → is_rising (clock_of state key).known ≡ true
+  rising-at key = by (stored state key) (formed key)
+    where
+      by : (o : Option (Stored Content)) → IsFormed o → is_rising (clock_in o).known ≡ true
+      by None h = refl
+      by (Some s) h = h.pairs.rising
+
+  -- what comes of a command is the register's
+  pub registers : (command : Command Content Context) (result : StepOutcome) → outcome state command ≡ result → Registers state command result
+  registers command result h = subst (λ r. Registers state command r) h (step_is_registers state command limits-now)
+
+  -- and the next state comes after some history too
+  pub reached-next : (command : Command Content Context) (deed : Deed Content) (response : Response) (next : State Content)
+      → outcome state command ≡ Accepted deed response next → IsReached next
+  reached-next command deed response next h =
+      let n : IsNext is.id is.opened is.history command deed response next = registers command (Accepted deed response next) h is.id is.opened is.history is.after in
+      record { id = is.id; opened = is.opened; history = next_event is.id is.opened is.history command deed ∷ is.history; limits = is.limits; after = n.leads }
+
+pub registers-view : (state seen : State Content) → state ≡ seen → IsReached state → (command : Command Content Context) (result : StepOutcome) → outcome state command ≡ result
+    → Registers seen command result
+registers-view state seen same is command result h = subst (λ s. Registers s command result) same (registers state is command result h)
+
+pairs-given : (seen : Option (List Dot)) → pairs_of (option_map Pairs seen) ≡ pairs_in seen
+pairs-given None = refl
+pairs-given (Some pairs) = refl
+
+pub pairs-read : (given : Option Context) → pairs_of given ≡ pairs_in (pairs_read given)
+pairs-read None = refl
+pairs-read (Some Malformed) = refl
+pairs-read (Some (Pairs pairs)) = refl
+
+-- an actor's counter once its next dot is known
+counter_in-next : (own : Actor) (pairs : List Dot) → counter_in (raise (record { actor = own; counter = counter_in pairs own + 1 }) pairs) own ≡ counter_in pairs own + 1
+counter_in-next own pairs =
+    counter_in-raise (record { actor = own; counter = counter_in pairs own + 1 }) pairs own
+    ∙ (λ i. cond (actor_eq-itself own i) (max (counter_in pairs own + 1) (counter_in pairs own)) (counter_in pairs own))
+    ∙ greatest (counter_in pairs own)
+  where
+    greatest : (n : ℕ) → max (n + 1) n ≡ n + 1
+    greatest n = omega arith
+
+-- a put is written as the machine has it
+pub written-put : (state : State Content) → IsReached state → (put : PutAsk) (seen : Option (List Dot)) → pairs_read (context_of put.context) ≡ seen
+    → written state.keys put.key seen (actor_for state put.key) (Some put.content) ≡ updated state put.key (pairs_of (context_of put.context)) (Some put.content)
+written-put state is put seen read =
+    let own : Actor = actor_for state put.key in
+    let clock : Meaning (Option Content) = clock_of state put.key in
+    let pairs : pairs_in seen ≡ pairs_of (context_of put.context) = ap pairs_in (sym read) ∙ sym (pairs-read (context_of put.context)) in
+    ap (λ (m : Meaning (Option Content)). insert_key key_cmp put.key (let s : Stored Content = record { own = Some own; clock = event own (Some put.content) m } in s) state.keys)
+    (without-pairs seen clock (rising-at state is put.key) ∙ ap (λ ps. discard ps clock) pairs)
+
+-- a put that the machine accepts
+module _ (state : State Content) (is : IsReached state) (put : PutAsk) (accepted : put_check state (put_command put) ≡ None) where
+  abbrev next : State Content
+  next = changed_by state put.key (context_of put.context) (Write put.content)
+
+  pub steps-put : outcome state (AskPut (put_command put)) ≡ Accepted (Write put.content) (PutDone (put_reply next (put_command put))) next
+  steps-put = ap (λ check. unless_refused check (Accepted (Write put.content) (PutDone (put_reply next (put_command put))) next)) accepted
+
+  abbrev own : Actor
+  own = actor_for state put.key
+
+  abbrev clock : Meaning (Option Content)
+  clock = clock_of state put.key
+
+  -- it is stored next, in the form
+  form-put : IsForm (record { own = Some own; clock = event own (Some put.content) (discard (pairs_of (context_of put.context)) clock) })
+  form-put =
+      subst IsFormed
+      (find_stored put.key put.key (record { own = Some own; clock = event own (Some put.content) (discard (pairs_of (context_of put.context)) clock) }) state.keys
+      ∙ ap (λ b. cond b (Some (record { own = Some own; clock = event own (Some put.content) (discard (pairs_of (context_of put.context)) clock) })) (find key_cmp put.key state.keys)) (key_eq-refl put.key))
+      (formed next (reached-next state is (AskPut (put_command put)) (Write put.content) (PutDone (put_reply next (put_command put))) next steps-put) put.key)
+
+  -- so it is within the limits of its clock
+  pub within-put : (seen : Option (List Dot)) → context_of put.context ≡ option_map Pairs seen → IsWithin clock.known seen own
+  within-put seen given =
+      let all : List Dot = union clock.known (pairs_of (context_of put.context)) in
+      let pairs : pairs_of (context_of put.context) ≡ pairs_in seen = ap pairs_of given ∙ pairs-given seen in
+      let same : known_with seen clock.known ≡ all = known_with-pairs seen clock.known (rising-at state is put.key) ∙ ap (λ ps. union clock.known ps) (sym pairs) in
+      let counter = ap (λ ps. counter_in ps own) same in
+      let few = ap (λ ps. length (known_after own ps)) same in
+      let last = counter-most (known_after own all) own form-put.pairs.within in
+      record {
+        few = omega (arith, few, form-put.most);
+        counter = omega (arith, counter, last, counter_in-next own all);
+      }

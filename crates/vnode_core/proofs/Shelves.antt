@@ -1,0 +1,163 @@
+-- Keys at their places in the list of a shelf.
+use Rattle.std.proofs.Common.{◌≡◌, ◌<◌, ◌≤◌, ℕ, Bool, true, false, cond, List, ◌∷◌, ◌++◌, refl, sym, ◌∙◌, ap, arith, subst, set, map, get_or, length, take, drop, length-set, get_or-set_same}
+use lib.Dec.{T}
+use Rattle.std.specs.declared.vec.Vec.{Vec}
+use Rattle.std.specs.declared.alloc.Global.{Global}
+use Rattle.std.specs.Prelude.{Result, Ok, Err, OnOk, Option, Some, None, slice_get, insert, IsTrue}
+use Rattle.std.specs.Option.{option_map}
+use Rattle.std.proofs.lemmas.Float.{T_from_true}
+use Rattle.std.proofs.lemmas.Option.{slice_get-map, slice_get-get_or, slice_get_within, get_or_from_slice_get}
+use Rattle.std.proofs.lemmas.List.{map-set, map-append, take-map, drop-map, length-map}
+use Rattle.std.proofs.Math.Seq.{map-set_same}
+use Rattle.std.specs.FinMap.Entries.{find, put, is_sorted, is_sorted-put}
+use Rattle.riak_msgs.specs.declared.Key.{Key}
+use Rattle.riak_msgs.specs.declared.Content.{Content}
+use Rattle.riak_msgs.specs.KeyOrder.{key_cmp}
+use Rattle.actor_epoch.specs.declared.Actor.{Actor}
+use Rattle.actor_epoch.specs.declared.Dot.{Dot}
+use Rattle.dvv_set.specs.Clocks.{Meaning, event}
+use Rattle.dvv_set.specs.Held.{IsWithin, IsReady, without}
+use Rattle.vnode_machine.specs.Machine.{Stored}
+use Rattle.vnode_core.specs.declared.place.Place.{Place}
+use Rattle.vnode_core.specs.declared.place.Place.TheVariants.{At, New}
+use Rattle.vnode_core.specs.declared.shelf.Room.{Room}
+use Rattle.vnode_core.specs.declared.stored_key.StoredKey.{StoredKey}
+use Rattle.vnode_core.specs.Places.{place_in}
+use Rattle.vnode_core.specs.Shelves.{Keys, entry_of, stored_of, empty, clock_at, written, FitsAt, ReadyAt, IsRoom, IsShelf}
+use Rattle.vnode_core.proofs.Finding.{key_cmp_total, at_place, new_place}
+
+-- a key stands at its place
+pub record HoldsAt (items : List StoredKey) (key : Key) (i : ℕ) : Type 0 where
+  pub stored : StoredKey
+  pub get : slice_get items i ≡ Some stored
+  pub find : find key_cmp key (map entry_of items) ≡ Some (stored_of stored)
+  pub put : (s : Stored Content) → put key_cmp key s (map entry_of items) ≡ set (map entry_of items) i (stored.key, s)
+
+-- where a mapped list has an element, the list has one
+unmapped : {X Y : Type 0} (f : X → Y) (o : Option X) (y : Y) → option_map f o ≡ Some y → (x : X) × (o ≡ Some x) × (f x ≡ y)
+unmapped f None y h = cc
+unmapped f (Some x) y h = (x, refl, cc)
+
+pub stands : (items : List StoredKey) (key : Key) (i : ℕ) → place_in key (map entry_of items) ≡ At i → HoldsAt items key i
+stands items key i h =
+    let at = at_place 0 key (map entry_of items) i h in
+    let k : at.k ≡ i = omega (arith, at.is) in
+    let stored = unmapped entry_of (slice_get items at.k) at.entry (sym (slice_get-map entry_of items at.k) ∙ at.get) in
+    record {
+      stored = stored.0;
+      get = ap (λ n. slice_get items n) (sym k) ∙ stored.1;
+      find = at.find ∙ ap (λ e. Some e.1) (sym stored.2);
+      put = λ s. at.put s ∙ ap (λ n. set (map entry_of items) n (at.entry.0, s)) k ∙ ap (λ e. set (map entry_of items) i (e.0, s)) (sym stored.2);
+    }
+
+pub within_at : (items : List StoredKey) (key : Key) (i : ℕ) → place_in key (map entry_of items) ≡ At i → i < length items
+within_at items key i h = let at = stands items key i h in slice_get_within items i at.stored at.get
+
+-- what is read at the place of a key is what is stored of it
+pub found_at : (items : List StoredKey) (key : Key) (i : ℕ) (read : StoredKey) → place_in key (map entry_of items) ≡ At i → read ≡ get_or items i read
+    → Some (stored_of read) ≡ find key_cmp key (map entry_of items)
+found_at items key i read h is =
+    let at = stands items key i h in
+    ap (λ s. Some (stored_of s)) (is ∙ get_or_from_slice_get items i at.stored read at.get) ∙ sym at.find
+
+pub found_none : (items : List StoredKey) (key : Key) (i : ℕ) → IsTrue (is_sorted key_cmp (map entry_of items)) → place_in key (map entry_of items) ≡ New i
+    → None ≡ find key_cmp key (map entry_of items)
+found_none items key i sorted h = sym (new_place 0 key (map entry_of items) i sorted h).find
+
+-- the place of a key, as it was found in a slice of the keys
+pub placed : (items slice : List StoredKey) (key : Key) (found place : Place) → slice ≡ items → found ≡ place_in key (map entry_of slice) → found ≡ place
+    → place_in key (map entry_of items) ≡ place
+placed items slice key found place is at eq = ap (λ xs. place_in key (map entry_of xs)) (sym is) ∙ sym at ∙ eq
+
+-- what is put in the place of the same is the same
+pub entries_same : (items : List StoredKey) (i : ℕ) (read new : StoredKey) → read ≡ get_or items i read → entry_of new ≡ entry_of read
+    → map entry_of (set items i new) ≡ map entry_of items
+entries_same items i read new is same = map-set_same entry_of items i new read (same ∙ ap entry_of is)
+
+-- what was put at an index stands there
+slice_get-set : {X : Type 0} (xs : List X) (i : ℕ) (x : X) → i < length xs → slice_get (set xs i x) i ≡ Some x
+slice_get-set xs i x h =
+    let within : i < length (set xs i x) = omega (arith, length-set xs i x) in
+    slice_get-get_or (set xs i x) i x within ∙ ap Some (get_or-set_same xs i x x h)
+
+module _ (seen : Option (List Dot)) (actor : Actor) where
+  -- a clock at a place, as it is read
+  pub fits_at : (items : List StoredKey) (key : Key) (i : ℕ) → place_in key (map entry_of items) ≡ At i → IsWithin (clock_at (map entry_of items) key).known seen actor
+      → FitsAt items i seen actor
+  fits_at items key i h fits =
+      let at = stands items key i h in
+      let clock : clock_at (map entry_of items) key ≡ at.stored.clock.meaning = let o = at.find in rw o refl in
+      record { stored = at.stored; get = at.get; fits = subst (λ (m : Meaning (Option Content)). IsWithin m.known seen actor) clock fits }
+
+  pub ready_at : (items : List StoredKey) (i : ℕ) (new : StoredKey) → i < length items → IsReady new.clock seen actor → ReadyAt (set items i new) i seen actor
+  ready_at items i new h ready = record { stored = new; get = slice_get-set items i new h; ready = ready }
+
+  -- a new key's clock is empty
+  pub fits_new : (items : List StoredKey) (key : Key) (i : ℕ) (new : Meaning (Option Content)) → IsTrue (is_sorted key_cmp (map entry_of items))
+      → place_in key (map entry_of items) ≡ New i → new ≡ empty → IsWithin (clock_at (map entry_of items) key).known seen actor → IsWithin new.known seen actor
+  fits_new items key i new sorted h is fits =
+      let none = found_none items key i sorted h in
+      let clock : clock_at (map entry_of items) key ≡ empty = rw (sym none) refl in
+      subst (λ (m : Meaning (Option Content)). IsWithin m.known seen actor) (clock ∙ sym is) fits
+
+  module _ (value : Option Content) where
+    pub written_at : (items : List StoredKey) (key : Key) (i : ℕ) (read new : StoredKey) → place_in key (map entry_of items) ≡ At i → read ≡ get_or items i read
+        → new.key ≡ read.key → new.actor ≡ actor → new.clock.meaning ≡ event actor value (without seen read.clock.meaning)
+        → map entry_of (set items i new) ≡ written (map entry_of items) key seen actor value
+    written_at items key i read new h is same own clock =
+        let at = stands items key i h in
+        let it : read ≡ at.stored = is ∙ get_or_from_slice_get items i at.stored read at.get in
+        let was : clock_at (map entry_of items) key ≡ read.clock.meaning = let o = at.find in rw (o, it) refl in
+        let stored : stored_of new ≡ record { own = Some actor; clock = event actor value (without seen (clock_at (map entry_of items) key)) } =
+        (λ j. record { own = Some (own j); clock = clock j }) ∙ (λ j. record { own = Some actor; clock = event actor value (without seen (sym was j)) }) in
+        map-set entry_of items i new
+        ∙ ap (λ k. set (map entry_of items) i (k, stored_of new)) (same ∙ ap (λ (s : StoredKey). s.key) it)
+        ∙ sym (at.put (stored_of new))
+        ∙ ap (λ s. put key_cmp key s (map entry_of items)) stored
+
+    mapped_insert : (items : List StoredKey) (i : ℕ) (stored : StoredKey) → map entry_of (insert items i stored) ≡ insert (map entry_of items) i (entry_of stored)
+    mapped_insert items i stored =
+        map-append entry_of (take i items) (stored ∷ drop i items)
+        ∙ ap (λ front. front ++ entry_of stored ∷ map entry_of (drop i items)) (sym (take-map entry_of i items))
+        ∙ ap (λ back. take i (map entry_of items) ++ entry_of stored ∷ back) (sym (drop-map entry_of i items))
+
+    pub written_new : (items : List StoredKey) (i : ℕ) (made new : StoredKey) → IsTrue (is_sorted key_cmp (map entry_of items)) → place_in made.key (map entry_of items) ≡ New i
+        → made.clock.meaning ≡ empty → new.key ≡ made.key → new.actor ≡ actor → new.clock.meaning ≡ event actor value (without seen made.clock.meaning)
+        → map entry_of (insert items i new) ≡ written (map entry_of items) made.key seen actor value
+    written_new items i made new sorted h none same own clock =
+        let at = new_place 0 made.key (map entry_of items) i sorted h in
+        let k : at.k ≡ i = omega (arith, at.is) in
+        let was : clock_at (map entry_of items) made.key ≡ empty = let o = at.find in rw o refl in
+        let stored : stored_of new ≡ record { own = Some actor; clock = event actor value (without seen (clock_at (map entry_of items) made.key)) } =
+        (λ j. record { own = Some (own j); clock = clock j }) ∙ (λ j. record { own = Some actor; clock = event actor value (without seen ((none ∙ sym was) j)) }) in
+        mapped_insert items i new
+        ∙ ap (λ key. insert (map entry_of items) i (key, stored_of new)) same
+        ∙ ap (λ n. insert (map entry_of items) n (made.key, stored_of new)) (sym k)
+        ∙ sym (at.put (stored_of new))
+        ∙ ap (λ s. put key_cmp made.key s (map entry_of items)) stored
+
+pub within_new : (items : List StoredKey) (key : Key) (i : ℕ) → IsTrue (is_sorted key_cmp (map entry_of items)) → place_in key (map entry_of items) ≡ New i → i ≤ length items
+within_new items key i sorted h =
+    let at = new_place 0 key (map entry_of items) i sorted h in
+    omega (arith, at.is, at.within, length-map items entry_of)
+
+-- what an insertion that succeeds leaves
+pub inserted : {X : Type 0} (b : Bool) (after xs ys : List X) → b ≡ true → after ≡ cond b xs ys → after ≡ xs
+inserted b after xs ys t is = is ∙ ap (λ c. cond c xs ys) t
+
+-- one fact of a value that there is for another
+pub on_ok : {X E A B : Type 0} (r : Result X E) → (A → B) → OnOk r A → OnOk r B
+on_ok (Ok x) f a = f a
+on_ok (Err e) f a = tt
+
+true_from : (b : Bool) → T b → IsTrue b
+true_from true t = refl
+true_from false t = absurd t
+
+-- what is always true of a shelf holds after a write
+pub shelf_after : (keys : Vec StoredKey Global) (room : Option Room) (old : Keys) (key : Key) (seen : Option (List Dot)) (actor : Actor) (value : Option Content) → room ≡ None
+    → map entry_of keys.items ≡ written old key seen actor value → IsTrue (is_sorted key_cmp old) → IsShelf (record { keys = keys; room = room })
+shelf_after keys room old key seen actor value none is sorted = record {
+  sorted = subst (λ es. IsTrue (is_sorted key_cmp es)) (sym is) (true_from _ (is_sorted-put key_cmp key_cmp_total key _ old (T_from_true _ sorted)));
+  room = subst (IsRoom keys) (sym none) tt;
+}
