@@ -1,0 +1,38 @@
+//! A book of five numbers that many threads raise, and shares by which its sums are proved.
+//!
+//! What it means: each worker has a share, which says what it has counted (`specs/Counting`: `raised`). A share has no
+//! bytes; it exists so that clauses can speak of it. The book has the sums: [`close`] is given the book and all its
+//! shares, and answers numbers that are the sums of what the shares have counted (`sum_of`), whatever threads added
+//! them, in whatever order. No count is lost and none is made up.
+//!
+//! What it costs: an addition is one lock and one sum with a test for overflow. Only [`Book::new`] takes memory, for the
+//! vector of shares.
+//!
+//! How it is built: the numbers lie under one mutex, each beside the book of a ledger (`std::sync::ledger`). A share has
+//! one part of each of the five ledgers; whoever has all parts has the ledger's whole total.
+//!
+//! ```text
+//! Book::new(alloc, 2, blanks)                 a book of zeros, and shares a and b
+//! a.add(rt, &book, Quantity::Gets, 3)         a has counted 3 gets
+//! b.add(rt, &book, Quantity::Gets, 4)         b has counted 4 gets
+//! close(book, shares)                         7 gets, and 0 of the rest
+//! ```
+#![tactic(auto)]
+
+mod blanks;
+mod book;
+mod count;
+mod fault;
+mod holding;
+mod quantity;
+mod share;
+mod sums;
+mod totals;
+
+pub use blanks::Blanks;
+pub use book::{Book, Opened, close};
+pub use fault::BookFault;
+pub use quantity::Quantity;
+pub use share::Share;
+pub use sums::Sums;
+pub use totals::Totals;

@@ -1,0 +1,53 @@
+//! A worker's share of a book.
+ghost use Rattle.std.specs.Prelude.{◌≡◌, IsOkUnless, MatchResult};
+ghost use Rattle.stats_book.specs.Counting.{raised};
+
+use crate::book::Book;
+use crate::count::Part;
+use crate::fault::BookFault;
+use crate::quantity::Quantity;
+use std::marker::Model;
+use std::sync::Wait;
+use std::sync::ledger::Ledger;
+
+/// What one worker has counted in a book. It has no bytes: contracts alone see its numbers.
+///
+/// Its type parameters name the ledgers of the gets, puts, deletes, refusals (errors) and reaps, as those of its book do.
+/// A share that is let go takes its numbers with it, so that its book can't be closed any more.
+#[derive(Drop)]
+pub struct Share<G: Ledger, P: Ledger, D: Ledger, E: Ledger, R: Ledger> {
+    pub(crate) gets: Part<G>,
+    pub(crate) puts: Part<P>,
+    pub(crate) deletes: Part<D>,
+    pub(crate) refusals: Part<E>,
+    pub(crate) reaps: Part<R>,
+}
+
+impl<G: Ledger, P: Ledger, D: Ledger, E: Ledger, R: Ledger> Model for Share<G, P, D, E, R> {
+    ghost use Rattle.stats_book.specs.declared.totals.Totals.{Totals};
+    ghost use Rattle.stats_book.specs.Counting.{numbers};
+
+    ghost Value = { Totals };
+
+    ghost view = { λ s. numbers s.gets s.puts s.deletes s.refusals s.reaps };
+}
+
+impl<G: Ledger, P: Ledger, D: Ledger, E: Ledger, R: Ledger> Share<G, P, D, E, R> {
+    /// Locks the book, and raises a quantity there and here. Where the book is full, both stay as they are.
+    ///
+    /// It waits while another has the lock.
+    pub fn add<W: Wait>(
+        &mut self,
+        rt: &W,
+        book: &Book<G, P, D, E, R>,
+        quantity: Quantity,
+        amount: u64,
+    ) -> Result<(), BookFault>
+        ensures only { IsOkUnless result BookFault.BookFull }
+        ensures share { MatchResult result
+            (λ _. self.new ≡ raised quantity amount self.old)
+            (λ _. self.new ≡ self.old) }
+    {
+        book.sums.lock(rt).add(self, quantity, amount)
+    }
+}
