@@ -1,0 +1,122 @@
+-- Who is inside a vnode, and what is always true of words, hands and prefixes.
+use Rattle.std.proofs.Common.{◌≡◌, ◌≢◌, ℕ, Bool, true, false, List, [], ◌∷◌, refl, sym, ◌∙◌, ap, arith}
+use Rattle.std.specs.Prelude.{◌==◌, Option, Some, None, slice_get}
+use Rattle.std.proofs.lemmas.Bool.Decides.{nat_tests}
+use Rattle.riak_msgs.specs.declared.Content.{Content}
+use Rattle.sibling_register.specs.Answers.{Ask}
+use Rattle.actor_epoch.specs.Given.{Context}
+use Rattle.vnode_machine.specs.Machine.{State}
+use Rattle.vnode_machine.specs.Replay.{History, replay, HasReplay, IsWithinLimits}
+use Rattle.vnode_machine.specs.Step.{Accepted, outcome}
+use Rattle.node_steps.specs.World.{Word, Open, Taken, Plan, Phase, Idle, Asked, Reading, Holding, Done, Vnode, Worker, fresh_vnode}
+use Rattle.node_steps.specs.Schedules.{IsPrefix}
+
+-- inside the vnode of this index as a reader
+abbrev pub is_reader : ℕ → Phase → Bool
+is_reader index Idle = false
+is_reader index (Asked other ask) = false
+is_reader index (Reading other get) = other == index
+is_reader index (Holding other ask hand plan) = false
+is_reader index (Done other None) = other == index
+is_reader index (Done other (Some hand)) = false
+
+-- inside it with its state in hand
+abbrev pub is_holder : ℕ → Phase → Bool
+is_holder index Idle = false
+is_holder index (Asked other ask) = false
+is_holder index (Reading other get) = false
+is_holder index (Holding other ask hand plan) = other == index
+is_holder index (Done other None) = false
+is_holder index (Done other (Some hand)) = other == index
+
+abbrev pub reads : ℕ → Worker → Bool
+reads index worker = is_reader index worker.phase
+
+abbrev pub holds : ℕ → Worker → Bool
+holds index worker = is_holder index worker.phase
+
+-- the word counts the readers, and one holder where it is taken
+abbrev pub FitsWord : Word → (readers holders : ℕ) → Type 0
+FitsWord (Open n mark) readers holders = (readers ≡ n) × (holders ≡ 0)
+FitsWord Taken readers holders = (readers ≡ 0) × (holders ≡ 1)
+
+-- where it is not taken, the state in place is the replay
+abbrev pub IsInPlace : ℕ → Word → History → State Content → Type 0
+IsInPlace id (Open n mark) history place = place ≡ replay id 0 history
+IsInPlace id Taken history place = Unit {0}
+
+-- a plan is what came of the call in the state in hand
+abbrev pub IsPlanOf : Ask Content Context → State Content → Option Plan → Type 0
+IsPlanOf ask hand None = Unit {0}
+IsPlanOf ask hand (Some plan) = outcome hand ask ≡ Accepted plan.deed plan.response plan.next
+
+-- the state in hand is the replay, and a plan was made from it
+abbrev pub IsInHand : ℕ → ℕ → History → Phase → Type 0
+IsInHand id index history Idle = Unit {0}
+IsInHand id index history (Asked other ask) = Unit {0}
+IsInHand id index history (Reading other get) = Unit {0}
+IsInHand id index history (Holding other ask hand plan) = other ≡ index → (hand ≡ replay id 0 history) × IsPlanOf ask hand plan
+IsInHand id index history (Done other None) = Unit {0}
+IsInHand id index history (Done other (Some hand)) = other ≡ index → hand ≡ replay id 0 history
+
+-- the phase is about this vnode alone
+abbrev pub IsAbout : ℕ → Phase → Type 0
+IsAbout index Idle = Unit {0}
+IsAbout index (Asked other ask) = other ≡ index
+IsAbout index (Reading other get) = other ≡ index
+IsAbout index (Holding other ask hand plan) = other ≡ index
+IsAbout index (Done other hand) = other ≡ index
+
+pub same_test : (a b : ℕ) → a ≡ b → (a == b) ≡ true
+same_test a b h = grind (arith, nat_tests)
+
+other_test : (a b : ℕ) → a ≢ b → (a == b) ≡ false
+other_test a b h = grind (arith, nat_tests)
+
+apart : (a b c : ℕ) → a ≡ b → b ≢ c → a ≢ c
+apart a b c e n = λ f. n (sym e ∙ f)
+
+-- elsewhere it is nobody's
+pub elsewhere : (index other : ℕ) (phase : Phase) → IsAbout index phase → index ≢ other → (is_reader other phase ≡ false) × (is_holder other phase ≡ false)
+elsewhere index other Idle about n = (refl, refl)
+elsewhere index other (Asked at ask) about n = (refl, refl)
+elsewhere index other (Reading at get) about n = (other_test at other (apart at index other about n), refl)
+elsewhere index other (Holding at ask hand plan) about n = (refl, other_test at other (apart at index other about n))
+elsewhere index other (Done at None) about n = (other_test at other (apart at index other about n), refl)
+elsewhere index other (Done at (Some hand)) about n = (refl, other_test at other (apart at index other about n))
+
+false_true : (b : Bool) → b ≡ false → b ≡ true → ⊥
+false_true b f t = let e : false ≡ true = sym f ∙ t in cc
+
+-- a phase that holds nothing there has nothing in hand of it
+pub no_hand : (id index : ℕ) (history : History) (phase : Phase) → is_holder index phase ≡ false → IsInHand id index history phase
+no_hand id index history Idle h = tt
+no_hand id index history (Asked other ask) h = tt
+no_hand id index history (Reading other get) h = tt
+no_hand id index history (Holding other ask hand plan) h = λ e. absurd (false_true (other == index) h (same_test other index e))
+no_hand id index history (Done other None) h = tt
+no_hand id index history (Done other (Some hand)) h = λ e. absurd (false_true (other == index) h (same_test other index e))
+
+-- what is true of a vnode of this id, by how many readers and holders there are
+pub record IsSoundAs (id readers holders : ℕ) (vnode : Vnode) : Type 0 where
+  pub limits : IsWithinLimits id 0
+  pub replays : HasReplay id 0 vnode.history
+  pub word : FitsWord vnode.word readers holders
+  pub place : IsInPlace id vnode.word vnode.history vnode.place
+
+-- what is always true of a vnode
+abbrev pub IsSound : (readers holders : ℕ) → Vnode → Type 0
+IsSound readers holders vnode = IsSoundAs vnode.id readers holders vnode
+
+-- it is true of a fresh vnode, where nobody is inside
+pub sound-fresh : (id readers holders : ℕ) → IsWithinLimits id 0 → readers ≡ 0 → holders ≡ 0 → IsSound readers holders (fresh_vnode id)
+sound-fresh id readers holders limits r h = record { limits = limits; replays = tt; word = (r, h); place = refl }
+
+-- what a worker has seen of a history begins it
+abbrev pub HasSeen : List History → ℕ → History → Type 0
+HasSeen seen index history = (prefix : History) × (slice_get seen index ≡ Some prefix) × IsPrefix prefix history
+
+-- what is true of a worker and a vnode
+pub record IsAware (id index : ℕ) (history : History) (worker : Worker) : Type 0 where
+  pub hand : IsInHand id index history worker.phase
+  pub seen : HasSeen worker.seen index history

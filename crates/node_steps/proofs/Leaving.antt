@@ -1,0 +1,76 @@
+-- How values leave, with contexts of any kind.
+use Rattle.std.proofs.Common.{◌≡◌, inl, inr, ℕ, Bool, true, false, not, ◌||◌, List, [], ◌∷◌, ◌++◌, map, refl, sym, ◌∙◌, ap, arith, subst}
+use Rattle.std.specs.Prelude.{◌==◌, Option, Some, IsTrue}
+use Rattle.std.proofs.lemmas.Bool.Decides.{nat_tests}
+use Rattle.riak_msgs.specs.declared.Key.{Key}
+use Rattle.riak_msgs.specs.declared.Content.{Content}
+use Rattle.sibling_register.specs.History.{content_of}
+use Rattle.sibling_register.specs.Siblings.{siblings, is_among}
+use Rattle.sibling_register.specs.Leaving.{is_seen_in}
+use Rattle.sibling_register.proofs.LeavingLaw.{leaves_only_seen}
+use Rattle.actor_epoch.specs.declared.Dot.{Dot}
+use Rattle.vnode_machine.specs.Machine.{clock_of}
+use Rattle.vnode_machine.specs.Lives.{dot_of}
+use Rattle.vnode_machine.specs.Replay.{History, replay, naming, HasReplay}
+use Rattle.vnode_machine.specs.Leaving.{is_taken_in}
+use Rattle.vnode_machine.proofs.Names.{replay-earlier}
+use Rattle.vnode_machine.proofs.Legals.{replay_is_legal}
+use Rattle.vnode_machine.proofs.LiveDots.{live_are_siblings}
+use Rattle.vnode_machine.proofs.LeavingLaw.{leaves_only_covered}
+use Rattle.node_steps.specs.World.{World, id_at, history_at}
+use Rattle.node_steps.specs.Steps.{Step}
+use Rattle.node_steps.specs.Claims.{Leaves, ValuesLeaveOnlyCovered}
+use Rattle.node_steps.proofs.Kept.{IsOrderly}
+use Rattle.node_steps.proofs.Lifting.{replays_at}
+
+same_number : (a b : ℕ) → (a == b) ≡ true → a ≡ b
+same_number a b h = grind (arith, nat_tests)
+
+not_both : (b : Bool) → b ≡ true → not b ≡ true → ⊥
+not_both true h k = cc
+not_both false h k = cc
+
+abbrev Shape : Type 0
+Shape = Option Dot × Option Content
+
+-- a number of a list whose images are those of entries with dots has a dot
+has_dot : (entries : List (Dot × Option Content)) (numbers : List ℕ) (f : ℕ → Shape) (number : ℕ)
+    → map {B = Shape} (λ entry. (Some entry.0, entry.1)) entries ≡ map f numbers → is_among numbers number ≡ true → (dot : Dot) × ((f number).0 ≡ Some dot)
+has_dot entries [] f number e h = cc
+has_dot [] (n ∷ numbers) f number e h = cc
+has_dot (entry ∷ entries) (n ∷ numbers) f number e h =
+    let first : f n ≡ (Some entry.0, entry.1) = cc in
+    let rest : map {B = Shape} (λ x. (Some x.0, x.1)) entries ≡ map f numbers = cc in
+    by (n == number) refl h first (λ g. has_dot entries numbers f number rest g)
+  where
+    by : (b : Bool) → (n == number) ≡ b → (b || is_among numbers number) ≡ true → f n ≡ (Some entry.0, entry.1)
+        → (is_among numbers number ≡ true → (dot : Dot) × ((f number).0 ≡ Some dot)) → (dot : Dot) × ((f number).0 ≡ Some dot)
+    by true s g first rest = (entry.0, ap (λ k. (f k).0) (sym (same_number n number s)) ∙ ap (λ (p : Shape). p.0) first)
+    by false s g first rest = rest g
+
+module _ (id : ℕ) (history between position : History) (key : Key) (number : ℕ) (replays : HasReplay id 0 history) (leaves : Leaves history between position key number) where
+  replays_there : HasReplay id 0 (between ++ position)
+  replays_there = replay-earlier id 0 leaves.later.0 (between ++ position) (subst (λ h. HasReplay id 0 h) (sym leaves.later.1) replays)
+
+  pub covered : (dot : Dot) × (dot_of id 0 position key number ≡ Some dot) × IsTrue (is_taken_in between key dot)
+  covered =
+      let here : HasReplay id 0 position = replay-earlier id 0 between position replays_there in
+      let d = has_dot (clock_of (replay id 0 position) key).live (siblings position key) (λ n. (dot_of id 0 position key n, content_of position key n)) number
+      (live_are_siblings id 0 position here key) leaves.sibling in (
+        d.0,
+        d.1,
+        elim (leaves_only_covered id 0 position between replays_there key number d.0 leaves.sibling leaves.value d.1) [
+          | inl stays ↦ absurd (not_both (is_among (siblings (between ++ position) key) number) stays leaves.left)
+          | inr taken ↦ taken
+        ],
+      )
+
+  pub seen : IsTrue (is_seen_in between key number)
+  seen = elim (leaves_only_seen (naming id 0) between position (replay_is_legal id 0 (between ++ position) replays_there).accepted key number leaves.sibling leaves.value) [
+    | inl stays ↦ absurd (not_both (is_among (siblings (between ++ position) key) number) stays leaves.left)
+    | inr saw ↦ saw
+  ]
+
+pub values_leave_only_covered : (w : World) → IsOrderly w → (step : Step) → ValuesLeaveOnlyCovered w step
+values_leave_only_covered w orderly step = λ index between position key number leaves.
+    covered (id_at w index) (history_at w index) between position key number (replays_at w orderly index) leaves

@@ -1,0 +1,10 @@
+pub mod Lists
+pub mod Prefixes
+pub mod Shown
+pub mod Inside
+pub mod Turns
+pub mod Kept
+pub mod Lifting
+pub mod Leaving
+pub mod Showing
+pub mod Rows

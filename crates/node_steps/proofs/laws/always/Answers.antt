@@ -1,0 +1,30 @@
+use Rattle.node_steps.specs.Schedules.{world_after}
+use Rattle.node_steps.proofs.Kept.{orderly}
+use Rattle.node_steps.proofs.Lifting.{histories_are_legal, looks_show_replays, replies_are_registers, nothing_else_happens, replies_have_seen, no_dots_twice}
+use Rattle.node_steps.proofs.Leaving.{values_leave_only_covered}
+use Rattle.node_steps.proofs.Showing.{values_leave_only_seen}
+use Rattle.node_steps.proofs.laws.always.Goals as goal
+
+pub returns-clause-histories : goal.returns-clause-histories
+returns-clause-histories c = λ start is schedule step. histories_are_legal (world_after start schedule) (orderly start is schedule) step
+
+pub returns-clause-looks : goal.returns-clause-looks
+returns-clause-looks c = λ start is schedule step. looks_show_replays (world_after start schedule) (orderly start is schedule) step
+
+pub returns-clause-answers : goal.returns-clause-answers
+returns-clause-answers c = λ start is schedule step. replies_are_registers (world_after start schedule) step (orderly start is schedule)
+
+pub returns-clause-nothing_else : goal.returns-clause-nothing_else
+returns-clause-nothing_else c = λ start is schedule step. nothing_else_happens (world_after start schedule) step (orderly start is schedule)
+
+pub returns-clause-seen : goal.returns-clause-seen
+returns-clause-seen c = λ start is schedule step. replies_have_seen (world_after start schedule) step (orderly start is schedule)
+
+pub returns-clause-dots : goal.returns-clause-dots
+returns-clause-dots c = λ start is schedule step. no_dots_twice (world_after start schedule) (orderly start is schedule) step
+
+pub returns-clause-covered : goal.returns-clause-covered
+returns-clause-covered c = λ start is schedule step. values_leave_only_covered (world_after start schedule) (orderly start is schedule) step
+
+pub returns-clause-left : goal.returns-clause-left
+returns-clause-left c = values_leave_only_seen

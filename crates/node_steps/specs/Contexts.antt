@@ -1,0 +1,45 @@
+-- Which contexts were given for a key, and which were shown for it.
+use Rattle.std.specs.Prelude.{◌≡◌, ◌⊎◌, ◌&&◌, ◌==◌, if◌then◌else◌, List, [], ◌∷◌, ℕ, Option, Some, None, Result, Ok, Err}
+use Rattle.riak_msgs.specs.declared.Key.{Key}
+use Rattle.riak_msgs.specs.KeyOrder.{key_eq}
+use Rattle.actor_epoch.specs.Given.{Context, context_of}
+use Rattle.vnode_machine.specs.Step.{Response, GetDone, PutDone, DelDone, ReapDone, ReapKept}
+use Rattle.vnode_machine.specs.Registers.{key_of, context_in_ask}
+use Rattle.node_steps.specs.World.{World, Call, call_at}
+use Rattle.node_steps.specs.Steps.{Action, Asks, AsksPing, Enters, Leaves, Marks, Unmarks, Takes, Puts, Looks, Publishes, Step, Replied, outcome}
+use Rattle.node_steps.specs.Schedules.{Start, world_after}
+
+-- the context by which an action's command has seen something of the key at the vnode of an index
+abbrev pub given_by : Action → (index : ℕ) → Key → Option Context
+given_by (Asks other ask) index key = if (other == index) && key_eq (key_of ask) key then context_in_ask ask else None
+given_by action index key = None
+
+-- the bytes of the context in a response, none where it has none
+abbrev pub context_bytes : Response → List ℕ
+context_bytes (GetDone reply) = reply.context
+context_bytes (PutDone reply) = reply.context
+context_bytes DelDone = []
+context_bytes ReapDone = []
+context_bytes ReapKept = []
+
+-- the step answers a call of the key, and shows bytes that decode to the context
+pub record Shows (w : World) (step : Step) (index : ℕ) (key : Key) (context : Context) : Type 0 where
+  pub call : Call
+  pub asked : call_at w step.worker ≡ Some call
+  pub at : call.index ≡ index
+  pub of_key : key_of call.ask ≡ key
+  pub response : Response
+  pub replied : outcome w step ≡ Replied (Ok response)
+  pub decodes : context_of (context_bytes response) ≡ Some context
+
+module _ (start : Start) (index : ℕ) (key : Key) where
+  -- some step of the schedule showed the context for the key
+  abbrev pub WasShown : List Step → Context → Type 0
+  WasShown [] context = ⊥
+  WasShown (step ∷ earlier) context = Shows (world_after start earlier) step index key context ⊎ WasShown earlier context
+
+  -- each context that was given for the key had been shown for it before
+  abbrev pub GivesShown : List Step → Type 0
+  GivesShown [] = Unit {0}
+  GivesShown (step ∷ earlier) =
+      GivesShown earlier × ((context : Context) → given_by step.action index key ≡ Some context → WasShown earlier context)

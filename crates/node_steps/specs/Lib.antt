@@ -1,0 +1,5 @@
+pub mod World
+pub mod Steps
+pub mod Schedules
+pub mod Contexts
+pub mod Claims

@@ -1,0 +1,162 @@
+-- The steps: where each is possible, and what it changes. A step is one worker's, and is about one vnode.
+use Rattle.std.specs.Prelude.{true, false, ◌+◌, ◌-◌, ◌∷◌, ℕ, zero, suc, pred, Option, Some, None, Result, Ok, Err, option_map, option_and_then, slice_get, slice_set}
+use Rattle.std.specs.Option.{option_map_or}
+use Rattle.riak_msgs.specs.declared.Content.{Content}
+use Rattle.sibling_register.specs.Answers.{Ask, AskGet}
+use Rattle.actor_epoch.specs.Given.{Context}
+use Rattle.vnode_machine.specs.Machine.{State}
+use Rattle.vnode_machine.specs.Replay.{History}
+use Rattle.vnode_machine.specs.Replies.{get_reply}
+use Rattle.vnode_machine.specs.Step.{Response, GetDone, StepOutcome, Refused, Answered, Accepted, outcome as outcome_of_ask}
+use Rattle.vnode_machine.specs.Registers.{next_event}
+use Rattle.node_steps.specs.World.{Word, Open, Taken, Plan, Phase, Idle, Asked, Reading, Holding, Done, Vnode, Worker, World, worker_at, prefix_of}
+
+-- what a worker does
+pub data Action : Type 0 where
+  -- it gets a call of the vnode at this index; to ask a ping is never possible
+  Asks : (index : ℕ) (ask : Ask Content Context) → Action
+  AsksPing : Action
+  -- it enters as a reader, and leaves
+  Enters : Action
+  Leaves : Action
+  -- it marks the word, so that no reader enters, and takes the mark away
+  Marks : Action
+  Unmarks : Action
+  -- it takes the state into its hand, and puts it back in place
+  Takes : Action
+  Puts : Action
+  -- it looks at the state, and publishes its plan
+  Looks : Action
+  Publishes : Action
+
+-- a worker's number, and what it does
+pub record Step : Type 0 where
+  pub worker : ℕ
+  pub action : Action
+
+-- what comes of a step: it isn't possible; it happened, and answers nothing; or it answers the worker's call, by a
+-- response or by the number of a refusal
+pub data Outcome : Type 0 where
+  NotPossible : Outcome
+  Happened : Outcome
+  Replied : (reply : Result Response ℕ) → Outcome
+
+-- what a step makes of its worker and of the vnode, and what comes of it
+pub record Turn : Type 0 where
+  pub phase : Phase
+  pub seen : History
+  pub vnode : Vnode
+  pub outcome : Outcome
+
+-- one reader more, where the word is neither marked nor taken
+abbrev pub entered : Word → Option Word
+entered (Open readers false) = Some (Open (readers + 1) false)
+entered (Open readers true) = None
+entered Taken = None
+
+-- one reader less
+abbrev pub left : Word → Word
+left (Open readers marked) = Open (readers - 1) marked
+left Taken = Taken
+
+-- marked, where it is neither marked nor taken
+abbrev pub marked : Word → Option Word
+marked (Open readers false) = Some (Open readers true)
+marked (Open readers true) = None
+marked Taken = None
+
+-- not marked, where it is marked
+abbrev pub unmarked : Word → Option Word
+unmarked (Open readers false) = None
+unmarked (Open readers true) = Some (Open readers false)
+unmarked Taken = None
+
+-- taken, where it has no readers and is not taken
+abbrev pub taken : Word → Option Word
+taken (Open zero mark) = Some Taken
+taken (Open (suc readers) mark) = None
+taken Taken = None
+
+module _ (seen : History) (vnode : Vnode) where
+  -- the worker goes to a phase, and the vnode's word is this
+  abbrev pub moves : Phase → Word → Turn
+  moves phase word = record { phase = phase; seen = seen; vnode = record vnode { word = word }; outcome = Happened }
+
+  -- the state in the worker's hand is in place again: no readers, not marked
+  abbrev pub lays : Phase → State Content → Turn
+  lays phase hand =
+      record { phase = phase; seen = seen; vnode = record vnode { word = Open 0 false; place = hand }; outcome = Happened }
+
+  -- the worker has seen the vnode's whole history, and its call is answered
+  abbrev pub answers : Phase → Result Response ℕ → Turn
+  answers phase reply = record { phase = phase; seen = vnode.history; vnode = vnode; outcome = Replied reply }
+
+  -- a holder's look, by what comes of its call in the state in its hand: it is answered, or keeps the plan
+  abbrev pub looks_by : ℕ → Ask Content Context → State Content → StepOutcome → Turn
+  looks_by index ask hand (Refused number) = answers (Done index (Some hand)) (Err number)
+  looks_by index ask hand (Answered response) = answers (Done index (Some hand)) (Ok response)
+  looks_by index ask hand (Accepted deed response next) =
+      let plan : Plan = record { deed = deed; response = response; next = next } in
+      record { phase = Holding index ask hand (Some plan); seen = vnode.history; vnode = vnode; outcome = Happened }
+
+  -- the planned deed is the history's next event, the state in hand is the one after it, and the call is answered
+  abbrev pub publishes_by : ℕ → Ask Content Context → Plan → Turn
+  publishes_by index ask plan =
+      let history : History = next_event vnode.id 0 vnode.history ask plan.deed ∷ vnode.history in
+      record {
+        phase = Done index (Some plan.next);
+        seen = history;
+        vnode = record vnode { history = history };
+        outcome = Replied (Ok plan.response);
+      }
+
+  -- the turn of a worker in a phase, where the step is possible
+  abbrev pub turn_of : Action → Phase → Option Turn
+  turn_of (Asks index ask) Idle = Some (moves (Asked index ask) vnode.word)
+  turn_of Enters (Asked index (AskGet get)) = option_map (moves (Reading index get)) (entered vnode.word)
+  turn_of Leaves (Reading index get) = Some (moves (Asked index (AskGet get)) (left vnode.word))
+  turn_of Leaves (Done index None) = Some (moves Idle (left vnode.word))
+  turn_of Marks (Asked index ask) = option_map (moves (Asked index ask)) (marked vnode.word)
+  turn_of Unmarks (Asked index ask) = option_map (moves (Asked index ask)) (unmarked vnode.word)
+  turn_of Takes (Asked index ask) = option_map (moves (Holding index ask vnode.place None)) (taken vnode.word)
+  turn_of Puts (Holding index ask hand plan) = Some (lays (Asked index ask) hand)
+  turn_of Puts (Done index (Some hand)) = Some (lays Idle hand)
+  turn_of Looks (Reading index get) = Some (answers (Done index None) (Ok (GetDone (get_reply vnode.place get))))
+  turn_of Looks (Holding index ask hand None) = Some (looks_by index ask hand (outcome_of_ask hand ask))
+  turn_of Publishes (Holding index ask hand (Some plan)) = Some (publishes_by index ask plan)
+  turn_of action phase = None
+
+-- the index of the vnode that an action is about: that of the call
+abbrev pub site_of : Action → Phase → Option ℕ
+site_of (Asks index ask) Idle = Some index
+site_of action Idle = None
+site_of action (Asked index ask) = Some index
+site_of action (Reading index get) = Some index
+site_of action (Holding index ask hand plan) = Some index
+site_of action (Done index hand) = Some index
+
+-- the world after a worker's turn at a vnode
+abbrev pub turned : World → (place index : ℕ) → Worker → Turn → World
+turned w place index worker turn = record {
+  vnodes = slice_set w.vnodes index turn.vnode;
+  workers = slice_set w.workers place (record { phase = turn.phase; seen = slice_set worker.seen index turn.seen });
+}
+
+-- a step: the world after it and what comes of it, or nothing where it isn't possible, as without such a worker or vnode
+abbrev pub happens : World → Step → Option (World × Outcome)
+happens w step =
+    option_and_then (λ worker.
+    option_and_then (λ index.
+    option_and_then (λ vnode.
+    option_map (λ turn. (turned w (pred step.worker) index worker turn, turn.outcome))
+    (turn_of (prefix_of worker index) vnode step.action worker.phase))
+    (slice_get w.vnodes index))
+    (site_of step.action worker.phase))
+    (worker_at w step.worker)
+
+-- a step that isn't possible changes nothing
+abbrev pub after : World → Step → World
+after w step = option_map_or (λ r. r.0) (happens w step) w
+
+abbrev pub outcome : World → Step → Outcome
+outcome w step = option_map_or (λ r. r.1) (happens w step) NotPossible

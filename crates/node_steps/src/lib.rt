@@ -1,0 +1,35 @@
+//! The pure core of all schedules: workers over vnodes, step by step, in any order.
+//!
+//! A world (`specs/World`) has for each vnode a word (how many readers are inside and whether it is marked, or that it is
+//! taken), its whole history, and the state in place; for each worker a phase with its call, the state in its hand and
+//! its plan, and for each vnode the prefix of the history that it has seen. A step is one worker's, at one vnode
+//! (`specs/Steps`): it gets a call, enters as a reader or leaves, marks the word or takes the mark away, takes the state
+//! into its hand or puts it back, looks, or publishes its plan. A look is a step of the vnode machine in the state shown:
+//! it answers, or what the machine accepts becomes the plan. A step that isn't possible changes nothing.
+//!
+//! A vnode has its id in its own record, and is found by its index in a list, so vnodes may be added while a world runs:
+//! what is always true of a vnode (`proofs/Inside`, `IsSound`) speaks of one vnode, and is true of a fresh one.
+//!
+//! [`always`] is the theorem, over every schedule (`specs/Claims`). Its proof goes step by step: `proofs/Turns` says what a
+//! turn makes of its worker and its vnode and what comes of it, by the machine's step; `proofs/Kept` counts readers and
+//! holders, so that what is always true stays so; `proofs/Lifting`, `proofs/Leaving` and `proofs/Showing` draw the claims.
+//!
+//! One exchange, of three workers over one vnode (`proofs/Rows` evaluates it):
+//!
+//! ```text
+//! 1 asks a get, 2 a put of "v", 3 a get      each has its call
+//! 1 enters; 2 marks                          a reader is inside, and the word is marked
+//! 3 enters                                   not possible: the word is marked
+//! 2 takes                                    not possible: a reader is inside
+//! 1 looks; leaves                            the key is absent, at the empty history
+//! 2 takes; looks; publishes                  "v" is stored: the history has one event
+//! 3 enters                                   not possible: the vnode is taken
+//! 2 puts back; 3 enters; looks               "v"
+//! ```
+//!
+//! This crate has definitions and a law alone: nothing in it runs.
+#![tactic(auto)]
+
+mod laws;
+
+pub use laws::always;
