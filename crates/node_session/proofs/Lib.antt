@@ -7,3 +7,4 @@ pub mod Simulating
 pub mod Histories
 pub mod RegisterLaw
 pub mod Piping
+pub mod Refusing

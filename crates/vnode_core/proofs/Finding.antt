@@ -1,19 +1,17 @@
 -- What is found and put at the place of a key.
-use Rattle.std.proofs.Common.{◌≡◌, ℕ, suc, ◌+◌, ◌≤◌, Bool, true, false, cond, List, [], ◌∷◌, length, refl, ◌∙◌, ap, arith, set}
-use Rattle.std.specs.Prelude.{Some, None, slice_get, insert, IsTrue, ◌&&◌}
+use Rattle.std.proofs.Common.{◌≡◌, ℕ, suc, ◌+◌, ◌≤◌, cond, List, [], ◌∷◌, length, refl, ◌∙◌, ap, arith, set}
+use Rattle.std.specs.Prelude.{Some, None, slice_get, insert, IsTrue}
 use Rattle.std.specs.declared.cmp.Ordering.{Ordering}
 use Rattle.std.specs.declared.cmp.Ordering.TheVariants.{Less, Equal, Greater}
-use Rattle.std.specs.Ordering.{is_eq, is_lt}
-use Rattle.std.specs.Cmp.{IsTotalOrder}
+use Rattle.std.specs.Ordering.{is_eq}
 use Rattle.std.specs.FinMap.Entries.{by_order, find, put, is_sorted, below_all}
-use Rattle.std.proofs.lemmas.Cmp.{then_total, on_total, nat_list_cmp_total}
 use Rattle.riak_msgs.specs.declared.Key.{Key}
 use Rattle.riak_msgs.specs.KeyOrder.{key_cmp}
+use Rattle.vnode_machine.proofs.Keys.{key_cmp_total}
+use Rattle.vnode_machine.proofs.Seen.{less}
+use Rattle.vnode_machine.proofs.Tests.{and_left, and_right}
 use Rattle.vnode_core.specs.declared.place.Place.TheVariants.{At, New}
 use Rattle.vnode_core.specs.Places.{place_from}
-
-pub key_cmp_total : IsTotalOrder key_cmp
-key_cmp_total = then_total (on_total (λ (k : Key). k.bucket_type) nat_list_cmp_total) (then_total (on_total (λ (k : Key). k.bucket) nat_list_cmp_total) (on_total (λ (k : Key). k.key) nat_list_cmp_total))
 
 -- the key stands at the place j, counted from i
 pub record StandsAt {X : Type 0} (i : ℕ) (key : Key) (es : List (Key × X)) (j : ℕ) : Type 0 where
@@ -32,19 +30,6 @@ pub record IsMissingAt {X : Type 0} (i : ℕ) (key : Key) (es : List (Key × X))
   pub within : k ≤ length es
   pub find : find key_cmp key es ≡ None
   pub put : (v : X) → put key_cmp key v es ≡ insert es k (key, v)
-
-both-left : (a b : Bool) → IsTrue (a && b) → IsTrue a
-both-left true b h = refl
-both-left false b h = h
-
-both-right : (a b : Bool) → IsTrue (a && b) → IsTrue b
-both-right true b h = h
-both-right false b h = cc
-
-less : (o : Ordering) → IsTrue (is_lt o) → o ≡ Less
-less Less h = refl
-less Equal h = cc
-less Greater h = cc
 
 module _ {X : Type 0} where
   pub at_place : (i : ℕ) (key : Key) (es : List (Key × X)) (j : ℕ) → place_from i key es ≡ At j → StandsAt i key es j
@@ -81,14 +66,14 @@ module _ {X : Type 0} where
   not_below : (key first : Key) (es : List (Key × X)) → key_cmp key first ≡ Less → IsTrue (below_all key_cmp first es) → find key_cmp key es ≡ None
   not_below key first [] p h = refl
   not_below key first (e ∷ es) p h =
-      ap (λ o. cond (is_eq o) (Some e.1) (find key_cmp key es)) (key_cmp_total.trans key first e.0 p (less _ (both-left _ _ h)))
-      ∙ not_below key first es p (both-right _ _ h)
+      ap (λ o. cond (is_eq o) (Some e.1) (find key_cmp key es)) (key_cmp_total.trans key first e.0 p (less _ (and_left _ _ h)))
+      ∙ not_below key first es p (and_right _ _ h)
 
   pub new_place : (i : ℕ) (key : Key) (es : List (Key × X)) (j : ℕ) → IsTrue (is_sorted key_cmp es) → place_from i key es ≡ New j → IsMissingAt i key es j
   new_place i key [] j sorted h =
       let is : i ≡ j = cc in
       record { k = 0; is = omega arith; within = omega arith; find = refl; put = λ v. refl }
-  new_place i key (e ∷ es) j sorted h = by (key_cmp key e.0) refl h (new_place (i + 1) key es j (both-right _ _ sorted))
+  new_place i key (e ∷ es) j sorted h = by (key_cmp key e.0) refl h (new_place (i + 1) key es j (and_right _ _ sorted))
     where
       by : (o : Ordering) → key_cmp key e.0 ≡ o → by_order o (New i) (At i) (place_from (i + 1) key es) ≡ New j
           → (place_from (i + 1) key es ≡ New j → IsMissingAt (i + 1) key es j) → IsMissingAt i key (e ∷ es) j
@@ -98,7 +83,7 @@ module _ {X : Type 0} where
             k = 0;
             is = omega arith;
             within = omega arith;
-            find = ap (λ o. cond (is_eq o) (Some e.1) (find key_cmp key es)) p ∙ not_below key e.0 es p (both-left _ _ sorted);
+            find = ap (λ o. cond (is_eq o) (Some e.1) (find key_cmp key es)) p ∙ not_below key e.0 es p (and_left _ _ sorted);
             put = λ v. ap (λ o. by_order o ((key, v) ∷ e ∷ es) ((e.0, v) ∷ es) (e ∷ put key_cmp key v es)) p;
           }
       by Equal p h rest = cc

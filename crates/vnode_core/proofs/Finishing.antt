@@ -1,6 +1,6 @@
 -- A command that is ready, and what finishing it leaves.
 use Rattle.std.proofs.Common.{◌≡◌, ℕ, refl, sym, ◌∙◌, ap, subst}
-use Rattle.std.specs.Prelude.{Option, Some}
+use Rattle.std.specs.Prelude.{Some}
 use Rattle.riak_msgs.specs.declared.Content.{Content}
 use Rattle.actor_epoch.specs.Given.{context_of, pairs_read}
 use Rattle.vnode_machine.specs.Machine.{State, actor_for, counted}
@@ -8,43 +8,45 @@ use Rattle.vnode_machine.specs.Registers.{key_of}
 use Rattle.vnode_machine.specs.Step.{Accepted}
 use Rattle.vnode_core.specs.declared.ask.Ask.{Ask}
 use Rattle.vnode_core.specs.declared.ask.Ask.TheVariants.{Put}
+use Rattle.vnode_core.specs.declared.ask.Answer.{Answer}
 use Rattle.vnode_core.specs.declared.ready.Ready.{Ready}
-use Rattle.vnode_core.specs.Plans.{Registers, Steps, command_of, deed_of, response_of}
-use Rattle.vnode_core.specs.Shelves.{Keys, Shelved}
-use Rattle.vnode_core.specs.Vnodes.{IsReached, IsReady, writer_of, written_by, state_after}
-use Rattle.vnode_core.proofs.Reached.{registers-view, reached-next, written-put}
+use Rattle.vnode_core.specs.declared.vnode.Vnode.TheInside.{Inside}
+use Rattle.vnode_core.specs.Plans.{View, Registers, Steps, command_of, deed_of, response_of}
+use Rattle.vnode_core.specs.Shelves.{Keys}
+use Rattle.vnode_core.specs.Vnodes.{IsReached, IsReady, IsReadyFor, IsVnode, state_of, view_of, writer_of, written_by, state_after}
+use Rattle.vnode_core.proofs.Reached.{registers, reached-next, written-put}
 
--- what finishing leaves
-module _ (state : State Content) (is : IsReached state) (shelf : Shelved) (same : shelf.keys ≡ state.keys) (made : Option Ready) (ask : Ask) (r : IsReady state shelf made ask)
-    (ready : Ready) (found : made ≡ Some ready) where
-  ready-is : ready ≡ record { writer = writer_of state (key_of (command_of ask)); answer = r.answer }
-  ready-is = let e : Some ready ≡ Some (record { writer = writer_of state (key_of (command_of ask)); answer = r.answer }) = sym found ∙ r.made in cc
+pub record IsFinished (state : State Content) (ask : Ask) (answer : Answer) (after : State Content) : Type 0 where
+  pub step : Steps state ask answer after
+  pub register : Registers state (command_of ask) (Accepted (deed_of ask) (response_of answer) after)
+  pub reached : IsReached after
 
-  pub answer-is : r.answer ≡ ready.answer
-  answer-is = sym (ap (λ (r : Ready). r.answer) ready-is)
+-- a vnode in which a command is ready
+module _ (v : Inside) (is : IsReached (state_of v)) (ask : Ask) (r : IsReady (state_of v) v.shelf v.ready ask) (ready : Ready) (found : v.ready ≡ Some ready) where
+  ready-is : ready ≡ record { writer = writer_of (state_of v) (key_of (command_of ask)); answer = r.answer }
+  ready-is = let e : Some ready ≡ Some (record { writer = writer_of (state_of v) (key_of (command_of ask)); answer = r.answer }) = sym found ∙ r.made in cc
 
-  pub state-is : (epochs writes : ℕ) (keys : Keys) → epochs ≡ ready.writer.last_epoch → writes ≡ counted state.writes → keys ≡ written_by shelf.keys ask ready.writer.actor
-      → record state { last_epoch = epochs; writes = writes; keys = keys } ≡ state_after state ask
-  state-is epochs writes keys e n k = by ask r (λ i. (e ∙ ap (λ (r : Ready). r.writer.last_epoch) ready-is) i)
-      (k ∙ ap (λ (r : Ready). written_by shelf.keys ask r.writer.actor) ready-is ∙ ap (λ keys. written_by keys ask (actor_for state (key_of (command_of ask)))) same)
+  state-is : (epochs writes : ℕ) (keys : Keys) → epochs ≡ ready.writer.last_epoch → writes ≡ counted v.writes → keys ≡ written_by v.shelf.keys ask ready.writer.actor
+      → record (state_of v) { last_epoch = epochs; writes = writes; keys = keys } ≡ state_after (state_of v) ask
+  state-is epochs writes keys e n k = by ask (e ∙ ap (λ (r : Ready). r.writer.last_epoch) ready-is) (k ∙ ap (λ (r : Ready). written_by v.shelf.keys ask r.writer.actor) ready-is)
     where
-      by : (ask : Ask) → IsReady state shelf made ask → epochs ≡ (writer_of state (key_of (command_of ask))).last_epoch
-          → keys ≡ written_by state.keys ask (actor_for state (key_of (command_of ask)))
-          → record state { last_epoch = epochs; writes = writes; keys = keys } ≡ state_after state ask
-      by (Put put) r e k = λ i. record state { last_epoch = e i; writes = n i; keys = (k ∙ written-put state is put (pairs_read (context_of put.context)) refl) i }
+      by : (ask : Ask) → epochs ≡ (writer_of (state_of v) (key_of (command_of ask))).last_epoch → keys ≡ written_by v.shelf.keys ask (actor_for (state_of v) (key_of (command_of ask)))
+          → record (state_of v) { last_epoch = epochs; writes = writes; keys = keys } ≡ state_after (state_of v) ask
+      by (Put put) e k = λ i. record (state_of v) { last_epoch = e i; writes = n i; keys = (k ∙ written-put (state_of v) is put (pairs_read (context_of put.context)) refl) i }
 
-  -- as a caller sees the state, the command and the next state
-  module _ (seen : State Content) (sees : state ≡ seen) (change : Ask) (asked : ask ≡ change) (after : State Content) (leads : after ≡ state_after state ask) where
-    step-here : Steps state change ready.answer after
-    step-here =
-        subst (λ ask. Steps state ask ready.answer after) asked
-        (subst (λ next. Steps state ask ready.answer next) (sym leads) (subst (λ answer. Steps state ask answer (state_after state ask)) answer-is r.step))
+  finished-here : (after : State Content) → after ≡ state_after (state_of v) ask → IsFinished (state_of v) ask ready.answer after
+  finished-here after leads =
+      let step : Steps (state_of v) ask ready.answer after =
+      subst (λ next. Steps (state_of v) ask ready.answer next) (sym leads) (subst (λ answer. Steps (state_of v) ask answer (state_after (state_of v) ask)) (sym (ap (λ (r : Ready). r.answer) ready-is)) r.step) in
+      record { step = step; register = registers (state_of v) is (command_of ask) _ step; reached = reached-next (state_of v) is (command_of ask) (deed_of ask) (response_of ready.answer) after step }
 
-    pub step-seen : Steps seen change ready.answer after
-    step-seen = subst (λ s. Steps s change ready.answer after) sees step-here
-
-    pub registers-seen : Registers seen (command_of change) (Accepted (deed_of change) (response_of ready.answer) after)
-    registers-seen = registers-view state seen sees is (command_of change) (Accepted (deed_of change) (response_of ready.answer) after) step-here
-
-    pub reached-after : IsReached after
-    reached-after = reached-next state is (command_of change) (deed_of change) (response_of ready.answer) after step-here
+-- as a caller sees it
+pub finished : (v : Inside) → IsVnode v → (seen : View) → view_of v ≡ seen → (ask change : Ask) → ask ≡ change → seen.prepared ≡ Some change → (ready : Ready) → v.ready ≡ Some ready
+    → (epochs writes : ℕ) (keys : Keys) → epochs ≡ ready.writer.last_epoch → writes ≡ counted v.writes → keys ≡ written_by v.shelf.keys ask ready.writer.actor
+    → IsFinished seen.state change ready.answer (record (state_of v) { last_epoch = epochs; writes = writes; keys = keys })
+finished v is seen sees ask change asked prepared ready found epochs writes keys e n k =
+    let was : v.prepared ≡ Some ask = ap (λ w. w.prepared) sees ∙ prepared ∙ ap Some (sym asked) in
+    let r : IsReady (state_of v) v.shelf v.ready ask = subst (IsReadyFor (state_of v) v.shelf v.ready) was is.ready in
+    let next : State Content = record (state_of v) { last_epoch = epochs; writes = writes; keys = keys } in
+    let here = finished-here v is.reached ask r ready found next (state-is v is.reached ask r ready found epochs writes keys e n k) in
+    subst (λ (w : View). IsFinished w.state change ready.answer next) sees (subst (λ ask. IsFinished (state_of v) ask ready.answer next) asked here)

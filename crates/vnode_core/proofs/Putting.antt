@@ -15,42 +15,29 @@ use Rattle.actor_epoch.specs.Given.{Pairs, context_of}
 use Rattle.vnode_machine.specs.Asks.{put_command}
 use Rattle.vnode_machine.specs.Machine.{State, Stored, stored, is_bad, has_value, is_current, own_of, clock_of, put_check, pairs_of, room_checks, same_pairs}
 use Rattle.vnode_core.specs.declared.refusal.Refusal.{Refusal}
-use Rattle.vnode_core.specs.declared.refusal.Refusal.TheVariants.{MatchFound, Modified, NotFound, BadContext, TooManySiblings, ClockFull, EpochsUsedUp, CounterUsedUp, NoMemory}
+use Rattle.vnode_core.specs.declared.refusal.Refusal.TheVariants.{NoMemory}
 use Rattle.vnode_core.specs.declared.stored_key.StoredKey.{StoredKey}
 use Rattle.vnode_core.specs.Checks.{pairs_in, AreRead, is_ahead, last_dot, has_value_in, is_current_in, options_check}
 use Rattle.vnode_core.specs.Refusals.{RefusedBy}
 use Rattle.vnode_core.specs.Shelves.{stored_of}
+use Rattle.vnode_core.proofs.Reached.{pairs-given}
 
 -- what one check refuses another does
 refused-map : (check other : Option ℕ) → ((n : ℕ) → check ≡ Some n → other ≡ Some n) → (refusal : Refusal) → RefusedBy refusal check → RefusedBy refusal other
-refused-map check other f MatchFound h = f _ h
-refused-map check other f Modified h = f _ h
-refused-map check other f NotFound h = f _ h
-refused-map check other f BadContext h = f _ h
-refused-map check other f TooManySiblings h = f _ h
-refused-map check other f ClockFull h = f _ h
-refused-map check other f EpochsUsedUp h = f _ h
-refused-map check other f CounterUsedUp h = f _ h
-refused-map check other f NoMemory h = h
+refused-map check other f NoMemory h = absurd h
+refused-map check other f refusal h = f _ h
 
-module _ (a b c : Bool) (i j k : ℕ) (rest : List (Bool × ℕ)) where
-  first-some : (n : ℕ) → first_of ((a, i) ∷ (b, j) ∷ (c, k) ∷ []) ≡ Some n → first_of ((a, i) ∷ (b, j) ∷ (c, k) ∷ rest) ≡ Some n
-  first-some n h = by a b c h
-    where
-      by : (a b c : Bool) → first_of ((a, i) ∷ (b, j) ∷ (c, k) ∷ []) ≡ Some n → first_of ((a, i) ∷ (b, j) ∷ (c, k) ∷ rest) ≡ Some n
-      by true b c h = h
-      by false true c h = h
-      by false false true h = h
-      by false false false h = cc
+first-some : (a b c : Bool) (i j k : ℕ) (rest : List (Bool × ℕ)) (n : ℕ) → first_of ((a, i) ∷ (b, j) ∷ (c, k) ∷ []) ≡ Some n → first_of ((a, i) ∷ (b, j) ∷ (c, k) ∷ rest) ≡ Some n
+first-some true b c i j k rest n h = h
+first-some false true c i j k rest n h = h
+first-some false false true i j k rest n h = h
+first-some false false false i j k rest n h = cc
 
-  first-none : first_of ((a, i) ∷ (b, j) ∷ (c, k) ∷ []) ≡ None → first_of ((a, i) ∷ (b, j) ∷ (c, k) ∷ rest) ≡ first_of rest
-  first-none h = by a b c h
-    where
-      by : (a b c : Bool) → first_of ((a, i) ∷ (b, j) ∷ (c, k) ∷ []) ≡ None → first_of ((a, i) ∷ (b, j) ∷ (c, k) ∷ rest) ≡ first_of rest
-      by true b c h = cc
-      by false true c h = cc
-      by false false true h = cc
-      by false false false h = refl
+first-none : (a b c : Bool) (i j k : ℕ) (rest : List (Bool × ℕ)) → first_of ((a, i) ∷ (b, j) ∷ (c, k) ∷ []) ≡ None → first_of ((a, i) ∷ (b, j) ∷ (c, k) ∷ rest) ≡ first_of rest
+first-none true b c i j k rest h = cc
+first-none false true c i j k rest h = cc
+first-none false false true i j k rest h = cc
+first-none false false false i j k rest h = refl
 
 ahead-same : (vnode last_epoch : ℕ) (own : Option Actor) (known pairs : List Dot)
     → list_any (is_ahead vnode last_epoch (option_map (λ (own : Actor). (let d : Dot = record { actor = own; counter = counter_in known own } in d)) own)) pairs
@@ -122,10 +109,6 @@ module _ (state : State Content) (put : PutAsk) (seen : Option (List Dot)) (give
 
   pub options-refuse : (refusal : Refusal) → RefusedBy refusal (options_check put (has_value_in o) (is_current_in o seen)) → RefusedBy refusal (put_check state (put_command put))
   options-refuse refusal h = refused-map (options_check put (has_value_in o) (is_current_in o seen)) (put_check state (put_command put)) (λ n e. check-is ∙ first-some none_match not_present not_current match_found not_found modified rest n e) refusal h
-
-  pairs-given : (seen : Option (List Dot)) → pairs_of (option_map Pairs seen) ≡ pairs_in seen
-  pairs-given None = refl
-  pairs-given (Some pairs) = refl
 
   rooms-follow : options_check put (has_value_in o) (is_current_in o seen) ≡ None → put_check state (put_command put) ≡ first_of (room_checks state put.key (pairs_in seen))
   rooms-follow h = check-is ∙ first-none none_match not_present not_current match_found not_found modified rest h ∙ ap (λ ps. first_of (room_checks state put.key ps)) (ap pairs_of given ∙ pairs-given seen)

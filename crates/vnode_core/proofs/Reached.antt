@@ -1,6 +1,6 @@
 -- What holds of a state that comes after some history.
-use Rattle.std.proofs.Common.{◌≡◌, ℕ, ◌+◌, ◌<◌, true, cond, List, ◌∷◌, length, refl, sym, ◌∙◌, ap, arith, subst}
-use Rattle.std.specs.Prelude.{◌^◌, max, Option, Some, None, option_map}
+use Rattle.std.proofs.Common.{◌≡◌, ℕ, ◌<◌, true, cond, List, ◌∷◌, refl, sym, ◌∙◌, ap, subst}
+use Rattle.std.specs.Prelude.{◌^◌, Option, Some, None, option_map}
 use Rattle.std.specs.FinMap.Entries.{find, put as insert_key}
 use Rattle.riak_msgs.specs.declared.Key.{Key}
 use Rattle.riak_msgs.specs.declared.Content.{Content}
@@ -10,30 +10,27 @@ use Rattle.sibling_register.specs.History.{Deed, Write}
 use Rattle.sibling_register.specs.Answers.{Ask as Command, AskPut}
 use Rattle.actor_epoch.specs.declared.Actor.{Actor}
 use Rattle.actor_epoch.specs.declared.Dot.{Dot}
-use Rattle.actor_epoch.specs.Dots.{counter_in, raise, union}
 use Rattle.actor_epoch.specs.Contexts.{is_rising, is_of_form}
 use Rattle.actor_epoch.specs.Given.{Context, Malformed, Pairs, context_of, pairs_read}
-use Rattle.actor_epoch.proofs.Order.{actor_eq-itself}
-use Rattle.actor_epoch.proofs.Pairs.{counter_in-raise}
 use Rattle.dvv_set.specs.Clocks.{Meaning, discard, event}
-use Rattle.dvv_set.specs.Held.{IsWithin, known_with, known_after}
+use Rattle.dvv_set.specs.Held.{IsWithin}
 use Rattle.vnode_machine.specs.Asks.{put_command}
 use Rattle.vnode_machine.specs.Machine.{State, Stored, stored, clock_of, actor_for, pairs_of, put_check, changed_by, updated}
 use Rattle.vnode_machine.specs.Replay.{IsWithinLimits}
 use Rattle.vnode_machine.specs.Step.{Response, StepOutcome, Accepted, PutDone, outcome, unless_refused}
 use Rattle.vnode_machine.specs.Registers.{IsNext, next_event}
 use Rattle.vnode_machine.specs.Replies.{put_reply}
-use Rattle.vnode_machine.proofs.Forms.{IsForm, IsFormed, form-whole, counter-most}
+use Rattle.vnode_machine.proofs.Forms.{IsForm, IsFormed, form-whole}
 use Rattle.vnode_machine.proofs.Formed.{all_formed}
 use Rattle.vnode_machine.proofs.Invariants.{clock_in}
 use Rattle.vnode_machine.proofs.Keys.{find_stored, key_eq-refl}
+use Rattle.vnode_machine.proofs.Seen.{form-within, without-pairs}
 use Rattle.vnode_machine.proofs.StepLaw.{step_is_registers}
 use Rattle.vnode_machine.proofs.Steps.{known}
 use Rattle.vnode_core.specs.Checks.{pairs_in}
 use Rattle.vnode_core.specs.Plans.{Registers}
 use Rattle.vnode_core.specs.Shelves.{written}
 use Rattle.vnode_core.specs.Vnodes.{IsReached}
-use Rattle.vnode_core.proofs.Rooms.{known_with-pairs, without-pairs}
 
 module _ (state : State Content) (is : IsReached state) where
   limits-now : IsWithinLimits state.vnode state.last_epoch
@@ -77,7 +74,7 @@ pub registers-view : (state seen : State Content) → state ≡ seen → IsReach
     → Registers seen command result
 registers-view state seen same is command result h = subst (λ s. Registers s command result) same (registers state is command result h)
 
-pairs-given : (seen : Option (List Dot)) → pairs_of (option_map Pairs seen) ≡ pairs_in seen
+pub pairs-given : (seen : Option (List Dot)) → pairs_of (option_map Pairs seen) ≡ pairs_in seen
 pairs-given None = refl
 pairs-given (Some pairs) = refl
 
@@ -85,16 +82,6 @@ pub pairs-read : (given : Option Context) → pairs_of given ≡ pairs_in (pairs
 pairs-read None = refl
 pairs-read (Some Malformed) = refl
 pairs-read (Some (Pairs pairs)) = refl
-
--- an actor's counter once its next dot is known
-counter_in-next : (own : Actor) (pairs : List Dot) → counter_in (raise (record { actor = own; counter = counter_in pairs own + 1 }) pairs) own ≡ counter_in pairs own + 1
-counter_in-next own pairs =
-    counter_in-raise (record { actor = own; counter = counter_in pairs own + 1 }) pairs own
-    ∙ (λ i. cond (actor_eq-itself own i) (max (counter_in pairs own + 1) (counter_in pairs own)) (counter_in pairs own))
-    ∙ greatest (counter_in pairs own)
-  where
-    greatest : (n : ℕ) → max (n + 1) n ≡ n + 1
-    greatest n = omega arith
 
 -- a put is written as the machine has it
 pub written-put : (state : State Content) → IsReached state → (put : PutAsk) (seen : Option (List Dot)) → pairs_read (context_of put.context) ≡ seen
@@ -131,13 +118,5 @@ module _ (state : State Content) (is : IsReached state) (put : PutAsk) (accepted
   -- so it is within the limits of its clock
   pub within-put : (seen : Option (List Dot)) → context_of put.context ≡ option_map Pairs seen → IsWithin clock.known seen own
   within-put seen given =
-      let all : List Dot = union clock.known (pairs_of (context_of put.context)) in
-      let pairs : pairs_of (context_of put.context) ≡ pairs_in seen = ap pairs_of given ∙ pairs-given seen in
-      let same : known_with seen clock.known ≡ all = known_with-pairs seen clock.known (rising-at state is put.key) ∙ ap (λ ps. union clock.known ps) (sym pairs) in
-      let counter = ap (λ ps. counter_in ps own) same in
-      let few = ap (λ ps. length (known_after own ps)) same in
-      let last = counter-most (known_after own all) own form-put.pairs.within in
-      record {
-        few = omega (arith, few, form-put.most);
-        counter = omega (arith, counter, last, counter_in-next own all);
-      }
+      form-within own (Some put.content) clock seen (rising-at state is put.key)
+      (subst (λ ps. IsForm (record { own = Some own; clock = event own (Some put.content) (discard ps clock) })) (ap pairs_of given ∙ pairs-given seen) form-put)

@@ -12,7 +12,7 @@ use Rattle.vnode_machine.specs.Step.{StepOutcome, Refused, Answered, Accepted, o
 use Rattle.vnode_core.specs.declared.ask.Ask.{Ask}
 use Rattle.vnode_core.specs.declared.ask.Ask.TheVariants.{Put}
 use Rattle.vnode_core.specs.declared.refusal.Refusal.{Refusal}
-use Rattle.vnode_core.specs.declared.refusal.Refusal.TheVariants.{MatchFound, Modified, NotFound, BadContext, TooManySiblings, ClockFull, EpochsUsedUp, CounterUsedUp, NoMemory}
+use Rattle.vnode_core.specs.declared.refusal.Refusal.TheVariants.{NoMemory}
 use Rattle.vnode_core.specs.Plans.{IsAccepted, Refuses, Registers, command_of}
 use Rattle.vnode_core.specs.Refusals.{number_of}
 use Rattle.vnode_core.specs.Vnodes.{IsReached}
@@ -26,13 +26,6 @@ no-memory vnode last_epoch history put (Answered response) h is = absurd h
 no-memory vnode last_epoch history put (Accepted deed response next) h is = let g = is.given in (g.0, g.1, inr (rw g.2.0 refl))
 
 pub registers-refused : (state : State Content) → IsReached state → (ask : Ask) (refusal : Refusal) → Refuses state ask refusal → Registers state (command_of ask) (Refused (number_of refusal))
-registers-refused state is ask MatchFound h = registers state is (command_of ask) _ h
-registers-refused state is ask Modified h = registers state is (command_of ask) _ h
-registers-refused state is ask NotFound h = registers state is (command_of ask) _ h
-registers-refused state is ask BadContext h = registers state is (command_of ask) _ h
-registers-refused state is ask TooManySiblings h = registers state is (command_of ask) _ h
-registers-refused state is ask ClockFull h = registers state is (command_of ask) _ h
-registers-refused state is ask EpochsUsedUp h = registers state is (command_of ask) _ h
-registers-refused state is ask CounterUsedUp h = registers state is (command_of ask) _ h
 registers-refused state is (Put put) NoMemory h = λ vnode last_epoch history after.
     no-memory vnode last_epoch history put (outcome state (AskPut (put_command put))) h (registers state is (AskPut (put_command put)) _ refl vnode last_epoch history after)
+registers-refused state is ask refusal h = registers state is (command_of ask) _ h

@@ -18,13 +18,14 @@ use Rattle.actor_epoch.specs.declared.Dot.{Dot}
 use Rattle.dvv_set.specs.Clocks.{Meaning, event}
 use Rattle.dvv_set.specs.Held.{IsWithin, IsReady, without}
 use Rattle.vnode_machine.specs.Machine.{Stored}
+use Rattle.vnode_machine.proofs.Keys.{key_cmp_total}
 use Rattle.vnode_core.specs.declared.place.Place.{Place}
 use Rattle.vnode_core.specs.declared.place.Place.TheVariants.{At, New}
 use Rattle.vnode_core.specs.declared.shelf.Room.{Room}
 use Rattle.vnode_core.specs.declared.stored_key.StoredKey.{StoredKey}
 use Rattle.vnode_core.specs.Places.{place_in}
 use Rattle.vnode_core.specs.Shelves.{Keys, entry_of, stored_of, empty, clock_at, written, FitsAt, ReadyAt, IsRoom, IsShelf}
-use Rattle.vnode_core.proofs.Finding.{key_cmp_total, at_place, new_place}
+use Rattle.vnode_core.proofs.Finding.{at_place, new_place}
 
 -- a key stands at its place
 pub record HoldsAt (items : List StoredKey) (key : Key) (i : ℕ) : Type 0 where

@@ -1,5 +1,8 @@
 //! What a vnode is asked to change, and what it answers.
 
+ghost use Rattle.std.specs.Prelude.{◌≡◌};
+ghost use Rattle.vnode_core.specs.declared.ask.Ask.TheVariants.{Put};
+
 use riak_msgs::{PutAsk, PutReply};
 
 /// A command that may change a vnode.
@@ -7,6 +10,16 @@ use riak_msgs::{PutAsk, PutReply};
 pub enum Ask {
     /// Write a content under a key.
     Put(PutAsk),
+}
+
+impl Ask {
+    /// The put that it is.
+    pub(crate) fn put(&self) -> &PutAsk
+        ensures { self.now ≡ Put result.now }
+    {
+        let Ask::Put(put) = self;
+        put
+    }
 }
 
 /// What became of a key that was to be forgotten. (No command asks for it yet.)

@@ -1,5 +1,7 @@
 //! What lies ready for the command that is prepared.
 
+ghost use Rattle.std.specs.Prelude.{◌≡◌, Some};
+
 use crate::ask::Answer;
 use actor_epoch::Actor;
 
@@ -16,4 +18,11 @@ pub(crate) struct Writer {
 pub(crate) struct Ready {
     pub(crate) writer: Writer,
     pub(crate) answer: Answer,
+}
+
+/// Puts what is ready in place of what was.
+pub(crate) fn set_ready(place: &mut Option<Ready>, ready: Ready)
+    ensures { place.new ≡ Some ready }
+{
+    *place = Some(ready);
 }

@@ -1,6 +1,6 @@
 //! One vnode.
 
-ghost use Rattle.std.specs.Prelude.{◌≡◌, ◌-◌, ◌≤◌, [], None, Some, IfOk, IfErr};
+ghost use Rattle.std.specs.Prelude.{◌≡◌, ◌-◌, ◌≤◌, [], None, Some, IfOk, IfErr, OnOk};
 ghost use Rattle.std.specs.Option.{option_map};
 ghost use Rattle.sibling_register.specs.Answers.{AskGet};
 ghost use Rattle.actor_epoch.specs.Given.{context_of, Pairs};
@@ -9,15 +9,15 @@ ghost use Rattle.vnode_machine.specs.Asks.{get_command, put_command};
 ghost use Rattle.vnode_machine.specs.Machine.{opening, put_check};
 ghost use Rattle.vnode_machine.specs.Replay.{IsAfter};
 ghost use Rattle.vnode_machine.specs.Step.{outcome, Answered, Accepted, GetDone};
-ghost use Rattle.vnode_core.specs.Plans.{IsSilent, IsSilentAsk, IsPrepared, Plans, Refuses, Registers, Steps, planned, command_of, deed_of, response_of};
+ghost use Rattle.vnode_core.specs.Plans.{IsSilentAsk, IsPrepared, Plans, Refuses, Registers, Steps, planned, command_of, deed_of, response_of};
 ghost use Rattle.vnode_core.specs.Refusals.{GivenBy};
-ghost use Rattle.vnode_core.specs.Vnodes.{writer_of, written_by, HasRoomFor};
+ghost use Rattle.vnode_core.specs.Vnodes.{writer_of, written_by, HasRoomFor, IsReached};
 
 use crate::ask::{Answer, Ask, Plan};
 use crate::change::Change;
 use crate::checks::{check_new, check_options, check_stored, last_of};
 use crate::given;
-use crate::ready::{Ready, Writer};
+use crate::ready::{Ready, Writer, set_ready};
 use crate::refusal::Refusal;
 use crate::replies::{absent, accepted, siblings};
 use crate::shelf::Shelf;
@@ -161,24 +161,35 @@ impl Vnode {
         }
     }
 
-    /// Plans a put, where nothing is prepared.
-    fn prepare_put(&mut self, alloc: Global, put: PutAsk) -> Result<Change, Refusal>
-        requires silent { IsSilent put }
+    /// Gives up what was prepared.
+    fn drop_prepared(&mut self)
+        ensures same { self.new.state ≡ self.old.state }
+        ensures ended { self.new.prepared ≡ None }
+        ensures reached { IsReached self.old.state }
+    {
+        self.prepared = GhostValue::none(); // the earlier one is given up
+        self.ready = None;
+        self.shelf.drop_room();
+    }
+
+    /// Makes ready all that a command needs, where nothing is prepared; then it is what is prepared.
+    fn make_ready(&mut self, alloc: Global, ask: &Ask) -> Result<(), Refusal>
+        requires silent { IsSilentAsk ask.now }
         requires ended { self.old.prepared ≡ None }
         ensures same { self.new.state ≡ self.old.state }
-        ensures ok { IfOk result (λ change. IsPrepared self.new (Ask.Put put) change) }
-        ensures err { IfErr result (λ refusal. Refuses self.old.state (Ask.Put put) refusal) }
+        ensures ok { OnOk result (IsPrepared self.new ask.now ask.now) }
+        ensures err { IfErr result (λ refusal. Refuses self.old.state ask.now refusal) }
         ensures ended { IfErr result (λ refusal. self.new.prepared ≡ None) }
     {
+        let put = ask.put();
         let context = Context::given(put.context.as_slice())?;
-        let writer = self.check_put(&put, context.as_ref())?;
+        let writer = self.check_put(put, context.as_ref())?;
         self.shelf
             .reserve(alloc, &put.key, context.as_ref(), writer.actor)?;
         let answer = Answer::Put(accepted(alloc));
-        self.ready = Some(Ready { writer, answer });
-        let ask = Ask::Put(put);
-        self.prepared = GhostValue::some(&ask);
-        Ok(Change { ask })
+        set_ready(&mut self.ready, Ready { writer, answer });
+        self.prepared = GhostValue::some(ask);
+        Ok(())
     }
 
     /// Plans a command: checks it, makes all the room that it needs, and its answer. Nothing changes until the change is
@@ -201,12 +212,9 @@ impl Vnode {
         ensures ended { IfErr result (λ refusal. self.new.prepared ≡ None) }
         ensures register { Registers self.old.state (command_of ask) (planned self.old.state ask result) }
     {
-        self.prepared = GhostValue::none(); // the earlier one is given up
-        self.ready = None;
-        self.shelf.drop_room();
-        match ask {
-            Ask::Put(put) => Ok(Plan::Change(self.prepare_put(alloc, put)?)),
-        }
+        self.drop_prepared();
+        self.make_ready(alloc, &ask)?;
+        Ok(Plan::Change(Change { ask }))
     }
 
     /// Makes the change that this vnode prepared last, and answers it. It takes no memory and is never refused.

@@ -11,9 +11,10 @@ use Rattle.actor_epoch.specs.Limits.{greatest_epoch, greatest_counter, most_acto
 use Rattle.actor_epoch.specs.Dots.{actor_eq, counter_in, raise, union, next_dot}
 use Rattle.actor_epoch.specs.Contexts.{is_rising, is_within_limits, is_of_form}
 use Rattle.actor_epoch.proofs.Pairs.{counter_in-union}
+use Rattle.dvv_set.specs.Held.{actors_after}
 use Rattle.vnode_machine.specs.Machine.{Stored}
 use Rattle.vnode_machine.specs.Replay.{IsWithinLimits}
-use Rattle.vnode_machine.proofs.Rising.{rising-raise, rising-union, length-raise, length-raised}
+use Rattle.vnode_machine.proofs.Rising.{rising-raise, rising-union, length-raised}
 use Rattle.vnode_machine.proofs.Invariants.{actor_of, clock_in}
 use Rattle.vnode_machine.proofs.Bases.{own-owned, last-owned, own_in, last_in, IsBehind}
 use Rattle.vnode_machine.proofs.Updates.{next_in}
@@ -106,7 +107,7 @@ module _ (v last : ℕ) (within : IsWithinLimits v last) (pairs : List Dot) wher
   -- where no check of room holds, what is stored next is of the form
   next_form : (value : Option Content) (o : Option (Stored Content)) (own : Actor) → IsFormed o → ArePairs pairs
       → IsActor own → counter_in (union (clock_in o).known pairs) own + 1 ≤ greatest_counter
-      → nat_lt most_actors (length (raise (record { actor = own; counter = 0 }) (union (clock_in o).known pairs))) ≡ false
+      → nat_lt most_actors (actors_after (clock_in o).known (Some pairs) own) ≡ false
       → IsForm (next_in own pairs value o)
   next_form value o own formed are actor counter full =
       let known : List Dot = union (clock_in o).known pairs in
@@ -120,19 +121,18 @@ module _ (v last : ℕ) (within : IsWithinLimits v last) (pairs : List Dot) wher
               (all-union is_within_limits (clock_in o).known pairs (known_within o formed) are.within);
         };
         some = length-raised dot known;
-        most = most (length (raise dot known)) (length (raise (record { actor = own; counter = 0 }) known)) most_actors
-            (length-raise own (counter_in known own + 1) 0 known) full;
+        most = most (length (raise dot known)) most_actors full;
       }
     where
       known_within : (o : Option (Stored Content)) → IsFormed o → IsTrue (list_all is_within_limits (clock_in o).known)
       known_within None h = refl
       known_within (Some s) h = h.pairs.within
 
-      most : (n m k : ℕ) → n ≡ m → nat_lt k m ≡ false → n ≤ k
-      most n m k e h = grind (arith, nat_tests)
+      most : (n k : ℕ) → nat_lt k n ≡ false → n ≤ k
+      most n k h = grind (arith, nat_tests)
 
   pub room_left : (value : Option Content) (o : Option (Stored Content)) → IsFormed o → AreFit v last o pairs
-      → nat_lt most_actors (length (raise (record { actor = own_in (record { vnode = v; epoch = last + 1 }) o; counter = 0 }) (union (clock_in o).known pairs))) ≡ false
+      → nat_lt most_actors (actors_after (clock_in o).known (Some pairs) (own_in (record { vnode = v; epoch = last + 1 }) o)) ≡ false
       → (not (is_some (option_and_then (λ (s : Stored Content). s.own) o)) && (last == greatest_epoch)) ≡ false
       → option_map_or (λ own. counter_in (clock_in o).known own == greatest_counter) (option_and_then (λ (s : Stored Content). s.own) o) false ≡ false
       → IsForm (next_in (own_in (record { vnode = v; epoch = last + 1 }) o) pairs value o) × (last_in last o ≤ greatest_epoch)
@@ -149,7 +149,7 @@ module _ (v last : ℕ) (within : IsWithinLimits v last) (pairs : List Dot) wher
         subst (λ a. IsForm (next_in a pairs value (Some s))) (sym own) (next_form value (Some s) (actor_of s) formed fit.are formed.own
             (less (counter_in s.clock.known (actor_of s)) (counter_in pairs (actor_of s)) (counter_in (union s.clock.known pairs) (actor_of s)) greatest_counter
             (counter_in-union s.clock.known pairs (actor_of s)) fit.behind (counter-most s.clock.known (actor_of s) formed.pairs.within) (sym (ap (λ o. option_map_or (λ own. counter_in s.clock.known own == greatest_counter) o false) formed.owned) ∙ counters))
-            (subst (λ a. nat_lt most_actors (length (raise (record { actor = a; counter = 0 }) (union s.clock.known pairs))) ≡ false) own full)),
+            (subst (λ a. nat_lt most_actors (actors_after s.clock.known (Some pairs) a) ≡ false) own full)),
         subst (λ n. n ≤ greatest_epoch) (sym (last-owned last s formed.owned)) within.1,
       )
     where

@@ -26,3 +26,4 @@ pub mod StepLaw
 pub mod RunLaw
 pub mod LiveDots
 pub mod LeavingLaw
+pub mod Seen

@@ -1,5 +1,5 @@
 -- The vnode machine: its state, what it refuses, and what a command changes.
-use Rattle.std.specs.Prelude.{Bool, true, false, not, ◌&&◌, ◌||◌, ◌==◌, ◌+◌, ◌-◌, ◌^◌, if◌then◌else◌, List, [], ◌∷◌, ℕ, length, min, Option, Some, None, is_some, nat_le, nat_lt, unwrap_or, option_and_then}
+use Rattle.std.specs.Prelude.{Bool, true, false, not, ◌&&◌, ◌||◌, ◌==◌, ◌+◌, ◌-◌, ◌^◌, if◌then◌else◌, List, [], ◌∷◌, ℕ, min, Option, Some, None, is_some, nat_le, nat_lt, unwrap_or, option_and_then}
 use Rattle.std.specs.Option.{option_map_or}
 use Rattle.std.specs.List.{list_any}
 use Rattle.std.specs.Ordering.{eq_by_cmp}
@@ -13,11 +13,11 @@ use Rattle.sibling_register.specs.Answers.{PutCommand, DelCommand}
 use Rattle.actor_epoch.specs.declared.Actor.{Actor}
 use Rattle.actor_epoch.specs.declared.Dot.{Dot}
 use Rattle.actor_epoch.specs.Limits.{greatest_epoch, greatest_counter, most_actors}
-use Rattle.actor_epoch.specs.Dots.{actor_eq, dot_eq, counter_in, next_dot, raise, union}
+use Rattle.actor_epoch.specs.Dots.{actor_eq, dot_eq, counter_in, next_dot}
 use Rattle.actor_epoch.specs.Contexts.{is_of_form}
 use Rattle.actor_epoch.specs.Given.{Context, Malformed, Pairs}
 use Rattle.dvv_set.specs.Clocks.{Meaning, discard, event, join}
-use Rattle.dvv_set.specs.Held.{uncovered}
+use Rattle.dvv_set.specs.Held.{actors_after, uncovered}
 
 -- a stored key: the actor of its life at this vnode, where it has one, and what its clock means, with no content as a
 -- tombstone's value
@@ -110,7 +110,7 @@ module _ {V : Type 0} where
   -- too many actors: of the stored clock, of the context, and the key's own
   abbrev pub is_full : State V → Key → List Dot → Bool
   is_full state key pairs =
-      nat_lt most_actors (length (raise (record { actor = actor_for state key; counter = 0 }) (union (clock_of state key).known pairs)))
+      nat_lt most_actors (actors_after (clock_of state key).known (Some pairs) (actor_for state key))
 
   abbrev pub is_out_of_epochs : State V → Key → Bool
   is_out_of_epochs state key = not (is_some (own_of state key)) && (state.last_epoch == greatest_epoch)
