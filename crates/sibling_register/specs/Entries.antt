@@ -1,14 +1,19 @@
 -- The plain register's list of accepted commands, oldest first, and the history that it stands for.
-use Rattle.std.specs.Prelude.{List, ◌∷◌, ℕ, map, reverse, filter, nat_lt, if◌then◌else◌, Option, Some, None}
+use Rattle.std.specs.Prelude.{Bool, not, ◌&&◌, ◌==◌, List, ◌∷◌, ℕ, length, map, reverse, filter, nat_lt, if◌then◌else◌, Option, Some, None}
 use Rattle.sibling_register.specs.declared.entry.Entry.{Entry}
 use Rattle.sibling_register.specs.declared.deed.Deed.{Deed as EntryDeed}
 use Rattle.sibling_register.specs.declared.deed.Deed.TheVariants.{Write as EntryWrite, Tombstone as EntryTombstone, Reap as EntryReap}
 use Rattle.sibling_register.specs.declared.planned.Planned.{Planned}
 use Rattle.sibling_register.specs.declared.put.Put.{Put}
+use Rattle.sibling_register.specs.declared.standing.Standing.{Standing}
 use Rattle.sibling_register.specs.History.{Deed, Write, Tombstone, Reap, Event, numbers_to, is_update}
 use Rattle.sibling_register.specs.Answers.{Told, PutCommand, Outcome, Answers, Accepts}
 use Rattle.sibling_register.specs.Counting.{context_at}
 use Rattle.sibling_register.specs.Plain.{told_of}
+
+-- a key that stands so has a sibling, and no write among them
+abbrev pub is_dead_by : Standing → Bool
+is_dead_by standing = not (length standing.siblings.items == 0) && not standing.is_present
 
 module _ {V : Type 0} where
   -- the deed that an entry's stands for

@@ -1,6 +1,6 @@
 //! Deletes.
 
-ghost use Rattle.std.specs.Prelude.{◌≡◌, IfOk, is_none, ◌&&◌, ◌==◌, length};
+ghost use Rattle.std.specs.Prelude.{◌≡◌, IfOk, is_none, ◌&&◌, ◌==◌, length, unwrap_or};
 ghost use Rattle.sibling_register.specs.Answers.{AskDel};
 ghost use Rattle.sibling_register.specs.Counting.{context_at};
 ghost use Rattle.sibling_register.specs.Plain.{IsPosition};
@@ -24,6 +24,13 @@ fn is_idle(named: Option<u64>, standing: &Standing) -> bool
     named.is_none() && standing.siblings.is_empty()
 }
 
+/// Up to which number a delete saw the key's events: all of them, where it gives no context.
+fn seen_by_delete(named: Option<u64>, count: u64) -> u64
+    ensures value { result ≡ unwrap_or named count }
+{
+    named.unwrap_or(count)
+}
+
 /// What comes of a delete.
 pub(crate) fn plan_del<V>(
     alloc: Global,
@@ -39,7 +46,7 @@ pub(crate) fn plan_del<V>(
     if is_idle(named, &standing) {
         return Ok(Planned::answer(Told::Done));
     }
-    let saw = named.unwrap_or(standing.count);
+    let saw = seen_by_delete(named, standing.count);
     if standing.has_too_many(saw) {
         return Ok(Planned::answer(Told::Refused(TOO_MANY_SIBLINGS)));
     }

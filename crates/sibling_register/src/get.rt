@@ -32,16 +32,16 @@ fn none_shown(alloc: Global, place: Option<u64>, unchanged: bool) -> Told
 pub(crate) fn plan_get<V>(
     alloc: Global,
     entries: &[Entry<V>],
-    key: Key,
+    key: &Key,
     if_modified: Option<u64>,
     head: bool,
     deletedvclock: bool,
 ) -> Result<Planned<V>, AllocError>
     requires { IsPosition (history_of entries.now) if_modified }
-    ensures value { IfOk result (λ planned. outcome_of planned ≡ plain_outcome (history_of entries.now) (AskGet (record { key = key; if_modified = context_at (history_of entries.now) key if_modified; head = head; deletedvclock = deletedvclock }))) }
+    ensures value { IfOk result (λ planned. outcome_of planned ≡ plain_outcome (history_of entries.now) (AskGet (record { key = key.now; if_modified = context_at (history_of entries.now) key.now if_modified; head = head; deletedvclock = deletedvclock }))) }
 {
-    let standing = Standing::of(alloc, entries, &key)?;
-    let is_name = count_at(entries, &key, if_modified) == Some(standing.count);
+    let standing = Standing::of(alloc, entries, key)?;
+    let is_name = count_at(entries, key, if_modified) == Some(standing.count);
     let position = Some(entries.len() as u64);
     let told = if standing.siblings.is_empty() {
         none_shown(alloc, None, false)

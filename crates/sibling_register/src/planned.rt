@@ -46,7 +46,7 @@ pub(crate) fn plan<V: Drop>(
             if_modified,
             head,
             deletedvclock,
-        } => plan_get(alloc, entries, key, if_modified, head, deletedvclock),
+        } => plan_get(alloc, entries, &key, if_modified, head, deletedvclock),
         Command::Put {
             key,
             context,

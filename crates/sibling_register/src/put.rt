@@ -31,6 +31,13 @@ pub(crate) struct Put<V> {
     pub(crate) if_none_match: bool,
 }
 
+/// Up to which number a put saw the key's events: nothing, where it gives no context.
+fn seen_by_put(named: Option<u64>) -> u64
+    ensures value { result ≡ unwrap_or named 0 }
+{
+    named.unwrap_or(0)
+}
+
 /// The first check that holds, of a put whose context names the position with this count.
 fn first_check(
     standing: &Standing,
@@ -41,7 +48,7 @@ fn first_check(
     ensures value { result ≡ first_check_of standing.now.is_present (option_eq nat_eq named (Some standing.now.count)) (nat_le most_siblings (count_by (λ n. nat_lt (unwrap_or named 0) n) standing.now.siblings.items)) if_not_modified if_none_match }
 {
     let is_name = named == Some(standing.count);
-    let too_many = standing.has_too_many(named.unwrap_or(0));
+    let too_many = standing.has_too_many(seen_by_put(named));
     if if_none_match && standing.is_present {
         Some(MATCH_FOUND)
     } else if if_not_modified && !if_none_match && !standing.is_present {
@@ -89,7 +96,7 @@ pub(crate) fn plan_put<V: Drop>(
         key: put.key,
         deed: Deed::Write(put.value),
         context: named,
-        saw: named.unwrap_or(0),
+        saw: seen_by_put(named),
     };
     let number = standing.count + 1;
     let position = entries.len() as u64 + 1;

@@ -22,7 +22,7 @@ pub(crate) fn plan_reap<V>(
     ensures value { IfOk result (λ planned. outcome_of planned ≡ plain_outcome (history_of entries.now) (AskReap key)) }
 {
     let standing = Standing::of(alloc, entries, &key)?;
-    if standing.siblings.is_empty() || standing.is_present {
+    if !standing.is_dead() {
         return Ok(Planned::answer(Told::Kept));
     }
     let entry = Entry {

@@ -4,7 +4,7 @@ ghost use Rattle.std.specs.Prelude.{◌≡◌, ◌≤◌, IfOk, length, nat_le, 
 ghost use Rattle.sibling_register.specs.History.{count_of};
 ghost use Rattle.sibling_register.specs.Siblings.{siblings, is_present};
 ghost use Rattle.sibling_register.specs.Refusals.{most_siblings};
-ghost use Rattle.sibling_register.specs.Entries.{history_of};
+ghost use Rattle.sibling_register.specs.Entries.{history_of, is_dead_by};
 
 use crate::entry::Entry;
 use crate::refusals::MOST_SIBLINGS;
@@ -41,6 +41,13 @@ impl Standing {
             count,
             is_present,
         })
+    }
+
+    /// Whether it has a sibling, and no write among them.
+    pub(crate) fn is_dead(&self) -> bool
+        ensures value { result ≡ is_dead_by self.now }
+    {
+        !self.siblings.is_empty() && !self.is_present
     }
 
     /// Whether as many siblings as the limit are past the number that was seen.

@@ -13,7 +13,7 @@ returns-then-has_too_many g c =
     let del : Option ℕ → DelCommand ℕ = λ context. record { key = c.args.key; context = context } in
     let read = c.in_ok-standing.ensures in
     let idle = c.is_idle.ensures.value ∙ does_nothing-by history (del c.count_at-named.result) _ read.siblings in
-    let saw = c.unwrap_or-saw.ensures ∙ ap (unwrap_or c.count_at-named.result) read.count in
+    let saw = c.seen_by_delete-saw.ensures.value ∙ ap (unwrap_or c.count_at-named.result) read.count in
     let many = c.has_too_many.ensures.value ∙ del_refusal-by history (del c.count_at-named.result) _ _ read.siblings saw in
     record {
       value = c.answer-then-has_too_many.ensures.value
@@ -27,9 +27,9 @@ returns g c =
     let del : Option ℕ → DelCommand ℕ = λ context. record { key = c.args.key; context = context } in
     let read = c.in_ok-standing.ensures in
     let idle = c.is_idle.ensures.value ∙ does_nothing-by history (del c.count_at-named.result) _ read.siblings in
-    let saw = c.unwrap_or-saw.ensures ∙ ap (unwrap_or c.count_at-named.result) read.count in
+    let saw = c.seen_by_delete-saw.ensures.value ∙ ap (unwrap_or c.count_at-named.result) read.count in
     let many = c.has_too_many.ensures.value ∙ del_refusal-by history (del c.count_at-named.result) _ _ read.siblings saw in
     record {
-      value = del_kept history (del c.count_at-named.result) c.unwrap_or-saw.result (sym idle ∙ c.if-is_idle.false) (sym many ∙ c.if-has_too_many.false) saw
+      value = del_kept history (del c.count_at-named.result) c.seen_by_delete-saw.result (sym idle ∙ c.if-is_idle.false) (sym many ∙ c.if-has_too_many.false) saw
           ∙ ap (λ context. plain_outcome history (AskDel (del context))) c.count_at-named.ensures.value;
     }

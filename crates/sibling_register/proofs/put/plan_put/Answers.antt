@@ -32,7 +32,7 @@ returns g c =
     let read = c.in_ok-standing.ensures in
     let check = c.first_check.ensures.value ∙ put_refusal-by history (put c.count_at-named.result) _ _ _ read.siblings read.count read.present in
     let entry : ℕ → Entry g.row.V.Denot = λ saw. record { key = given.key; deed = Write given.value; context = c.count_at-named.result; saw = saw } in
-    let saw = c.unwrap_or.ensures in
+    let saw = c.seen_by_put.ensures.value in
     let numbers = c.in_ok-follow.ensures.value
     ∙ ap (λ m. follow_of (entry m) (c.in_ok-standing.standing.count + 1) c.in_ok-standing.standing.siblings.items) saw
     ∙ ap (λ n. follow_of (entry (unwrap_or c.count_at-named.result 0)) (n + 1) c.in_ok-standing.standing.siblings.items) read.count
