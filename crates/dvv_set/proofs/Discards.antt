@@ -1,7 +1,7 @@
 -- A discard of all that a clock knows.
 use Rattle.std.proofs.Common.{◌≡◌, ℕ, Bool, true, false, not, ◌||◌, cond, IsTrue, List, [], ◌∷◌, refl, ◌∙◌, ap, arith}
-use Rattle.std.specs.Prelude.{T, max, filter}
-use Rattle.std.specs.List.{list_any}
+use Rattle.std.specs.Prelude.{T, max, filter, nat_le}
+use Rattle.std.specs.List.{list_any, list_all}
 use Rattle.std.specs.Ordering.{is_lt}
 use Rattle.std.specs.FinMap.Entries.{is_sorted, below_all}
 use Rattle.std.proofs.lemmas.Bool.Decides.{nat_tests}
@@ -37,6 +37,10 @@ union-same pairs are =
     twice : (n : ℕ) → max n n ≡ n
     twice n = omega arith
 
+-- and so pairs that rise, with counters from 1 on
+pub union-itself : (pairs : List Dot) → IsTrue (is_rising pairs) → IsTrue (list_all (λ pair. nat_le 1 pair.counter) pairs) → union pairs pairs ≡ pairs
+union-itself pairs rising positive = union-same pairs (record { sorted = is_sorted-rising pairs rising; positive = positive })
+
 module _ {V : Type 0} where
   all_covered : (pairs : List Dot) (live : List (Dot × V)) → ((d : Dot) → IsTrue (list_any (λ entry. dot_eq entry.0 d) live) → IsTrue (covers pairs d))
       → filter (λ entry. not (covers pairs entry.0)) live ≡ []
@@ -55,6 +59,6 @@ module _ {V : Type 0} where
 
   pub discard-all : (clock : Meaning V) → IsClock clock → discard clock.known clock ≡ record { known = clock.known; live = [] }
   discard-all clock is =
-      let knows = union-same clock.known (record { sorted = is_sorted-rising clock.known is.rising; positive = is.positive }) in
+      let knows = union-itself clock.known is.rising is.positive in
       let lives = all_covered clock.known clock.live is.live_known in
       λ i. record { known = knows i; live = lives i }

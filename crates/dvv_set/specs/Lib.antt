@@ -3,3 +3,4 @@ pub mod Rows
 pub mod Stored
 pub mod Held
 pub mod Laws
+pub mod References

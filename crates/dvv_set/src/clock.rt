@@ -1,6 +1,6 @@
 //! A dotted version vector set.
 
-ghost use Rattle.std.specs.Prelude.{◌≡◌, ◌<◌, ◌≤◌, ◌↔◌, [], length, map, OnOk, OnErr, IfErr, None, unwrap_or};
+ghost use Rattle.std.specs.Prelude.{◌≡◌, ◌<◌, ◌≤◌, ◌↔◌, [], length, map, OnOk, OnErr, IfOk, IfErr, None, Some, unwrap_or};
 
 use crate::entry::{self, Entry};
 use crate::fault::{ClockFault, Rejected};
@@ -47,6 +47,7 @@ impl<V: MadeWith<Global> + Drop> Clock<V> {
     ghost use Rattle.dvv_set.specs.Clocks.{sync, discard, event};
     ghost use Rattle.dvv_set.specs.Held.{IsReady, IsWithin, IsActorsFull, IsCounterFull, without, pairs_of, actors_after, counter_before, uncovered};
     ghost use Rattle.dvv_set.specs.Laws.{IsClock};
+    ghost use Rattle.dvv_set.specs.References.{referred, with_values};
 
     /// A clock that has seen nothing.
     pub fn new(alloc: Global) -> Self
@@ -119,6 +120,20 @@ impl<V: MadeWith<Global> + Drop> Clock<V> {
         }
     }
 
+    /// A clock that knows the same, with references to its values in their places. Refused where there is no memory.
+    pub fn references(&self, alloc: Global) -> Result<Clock<Option<&V>>, AllocError>
+        ensures { IfOk result (λ clock. with_values referred clock.meaning ≡ with_values (λ value. Some value) self.now.meaning) }
+    {
+        let mut entries = Vec::new(alloc);
+        for entry in &self.entries {
+            entries.push(entry.references(alloc)?)?;
+        }
+        Ok(Clock {
+            entries,
+            spare: Vec::new(alloc),
+        })
+    }
+
     /// Whether it knows a dot.
     pub fn covers(&self, dot: &Dot) -> bool
         ensures { result ≡ covers self.now.meaning.known dot.now }
@@ -146,6 +161,7 @@ impl<V: MadeWith<Global> + Drop> Clock<V> {
     pub fn needed(&self, context: Option<&Context<'_>>, actor: Actor) -> Needed
         ensures actors { result.actors ≡ actors_after self.now.meaning.known (pairs_of context.entry) actor }
         ensures counter { result.counter ≡ counter_before self.now.meaning.known (pairs_of context.entry) actor }
+        ensures clock { IsClock self.now.meaning }
     {
         let (counter, more) = room::required_room(&self.entries, context, actor);
         Needed {

@@ -1,6 +1,6 @@
 //! The entry of one actor, and lists of entries that strictly rise by actor.
 
-ghost use Rattle.std.specs.Prelude.{◌≡◌, ◌≤◌, ◌<◌, ◌∷◌, ◌+◌, ℕ, List, T, IsTrue, length, map, is_some, vec_len, vec_capacity, [], ◌++◌, Some};
+ghost use Rattle.std.specs.Prelude.{◌≡◌, ◌≤◌, ◌<◌, ◌∷◌, ◌+◌, ℕ, List, T, IsTrue, length, map, is_some, vec_len, vec_capacity, [], ◌++◌, Some, IfOk};
 ghost use Rattle.std.specs.FinMap.Entries.{find, put, is_sorted};
 ghost use Rattle.std.specs.List.{list_all, insert};
 ghost use Rattle.actor_epoch.specs.Dots.{actor_cmp};
@@ -8,10 +8,11 @@ ghost use Rattle.dvv_set.specs.Rows.{is_row, row_of, merged, absorb, absorb_all,
 ghost use Rattle.actor_epoch.specs.Contexts.{is_of_form};
 ghost use Rattle.actor_epoch.specs.declared.Dot.{Dot};
 ghost use Rattle.dvv_set.specs.Held.{pairs_of};
+ghost use Rattle.dvv_set.specs.References.{referred, with_row};
 ghost use Rattle.dvv_set.specs.Stored.{as_row, as_rows, seek};
 
 use actor_epoch::{Actor, Context, ContextPairs, Counter, GREATEST_COUNTER};
-use std::alloc::Global;
+use std::alloc::{AllocError, Global};
 use std::cmp::Ordering;
 
 /// What a clock has seen of one actor: the dots 1 to `counter`, of which the last have `values`, newest first.
@@ -23,6 +24,21 @@ pub(crate) struct Entry<V> {
 }
 
 impl<V> Entry<V> {
+    /// An entry that has seen the same, with references to its values in their places.
+    pub(crate) fn references(&self, alloc: Global) -> Result<Entry<Option<&V>>, AllocError>
+        ensures { IfOk result (λ entry. with_row referred (as_row entry) ≡ with_row (λ value. Some value) (as_row self.now)) }
+    {
+        let mut values = Vec::new(alloc);
+        for value in &self.values {
+            values.push(Some(value))?;
+        }
+        Ok(Entry {
+            actor: self.actor,
+            counter: self.counter,
+            values,
+        })
+    }
+
     fn counter(&self) -> Counter
         ensures { result ≡ self.now.counter }
     {

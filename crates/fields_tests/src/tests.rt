@@ -8,13 +8,23 @@ use pb_fields::*;
 use std::alloc::AllocError;
 use std::process::Abort;
 
-// The first field of these bytes or its fault, and that a fault ends the list.
-fn first(rt: &impl Abort, bytes: &[u8], want: Option<Result<Field<'_>, FieldFault>>) {
+// Whether this is the first field of these bytes or its fault, and a fault ends the list.
+fn is_first(bytes: &[u8], want: Option<Result<Field<'_>, FieldFault>>) -> bool {
     let mut fields = Fields::new(bytes);
-    assert_eq!(rt; fields.next(), want, "at {bytes:?}");
-    if let Some(Err(_)) = want {
-        assert_eq!(rt; fields.next(), None, "after {bytes:?}");
+    let is_so = fields.next() == want;
+    match want {
+        Some(Err(_)) => is_so && fields.next().is_none(),
+        _ => is_so,
     }
+}
+
+fn first(rt: &impl Abort, bytes: &[u8], want: Option<Result<Field<'_>, FieldFault>>) {
+    let is_so = is_first(bytes, want);
+    assert!(rt; is_so, "at {bytes:?}");
+}
+
+fn fails(rt: &impl Abort, bytes: &[u8], fault: FieldFault) {
+    first(rt, bytes, Some(Err(fault)));
 }
 
 fn field(number: u32, value: Value<'_>) -> Option<Result<Field<'_>, FieldFault>> {
@@ -55,96 +65,105 @@ fn reads_each_wire_type(rt: HostRuntime) {
 // The faults of the formats, in their order; where two hold the first is told.
 #[test]
 fn tells_the_first_fault(rt: HostRuntime) {
+    tells_bad_varints(&rt);
+    tells_bad_keys(&rt);
+    tells_bad_wires(&rt);
+    tells_short_fields(&rt);
+}
+
+fn tells_bad_varints(rt: &impl Abort) {
     let long = b"\x18\xff\xff\xff\xff\xff\xff\xff\xff\xff\xff\x01";
-    first(&rt, long, Some(Err(FieldFault::BadVarint)));
-    first(&rt, &long[1..], Some(Err(FieldFault::BadVarint)));
-    first(
-        &rt,
+    fails(rt, long, FieldFault::BadVarint);
+    fails(rt, &long[1..], FieldFault::BadVarint);
+    fails(
+        rt,
         b"\x1a\x80\x80\x80\x80\x80\x80\x80\x80\x80\x80",
-        Some(Err(FieldFault::BadVarint)),
+        FieldFault::BadVarint,
     );
-    first(
-        &rt,
+    fails(
+        rt,
         b"\x00\x80\x80\x80\x80\x80\x80\x80\x80\x80\x80",
-        Some(Err(FieldFault::BadVarint)),
+        FieldFault::BadVarint,
     );
-    first(&rt, b"\x80", Some(Err(FieldFault::Short)));
-    first(&rt, b"\x00\x01", Some(Err(FieldFault::BadKey)));
-    first(&rt, b"\x07", Some(Err(FieldFault::BadKey)));
-    first(
-        &rt,
-        b"\x80\x80\x80\x80\x10\x01",
-        Some(Err(FieldFault::BadKey)),
-    );
-    first(&rt, b"\x0b", Some(Err(FieldFault::BadWire)));
-    first(&rt, b"\x0c", Some(Err(FieldFault::BadWire)));
-    first(&rt, b"\x0e", Some(Err(FieldFault::BadWire)));
-    first(&rt, b"\x0f", Some(Err(FieldFault::BadWire)));
-    first(&rt, b"\x08", Some(Err(FieldFault::Short)));
-    first(&rt, b"\x08\x80", Some(Err(FieldFault::Short)));
-    first(
-        &rt,
-        b"\x09\x01\x02\x03\x04\x05\x06\x07",
-        Some(Err(FieldFault::Short)),
-    );
-    first(&rt, b"\x12\x80", Some(Err(FieldFault::Short)));
-    first(&rt, b"\x12\x02\x62", Some(Err(FieldFault::Short)));
-    first(&rt, b"\x0d\x01\x02\x03", Some(Err(FieldFault::Short)));
 }
 
-// Where memory is refused the bytes are as before, and the same call again does what it would have done.
-fn append_varint(
-    rt: &impl Abort,
-    out: &mut Vec<u8>,
-    number: u32,
-    value: u64,
-) -> Result<(), AllocError>
+fn tells_bad_keys(rt: &impl Abort) {
+    fails(rt, b"\x80", FieldFault::Short);
+    fails(rt, b"\x00\x01", FieldFault::BadKey);
+    fails(rt, b"\x07", FieldFault::BadKey);
+    fails(rt, b"\x80\x80\x80\x80\x10\x01", FieldFault::BadKey);
+}
+
+fn tells_bad_wires(rt: &impl Abort) {
+    fails(rt, b"\x0b", FieldFault::BadWire);
+    fails(rt, b"\x0c", FieldFault::BadWire);
+    fails(rt, b"\x0e", FieldFault::BadWire);
+    fails(rt, b"\x0f", FieldFault::BadWire);
+}
+
+fn tells_short_fields(rt: &impl Abort) {
+    fails(rt, b"\x08", FieldFault::Short);
+    fails(rt, b"\x08\x80", FieldFault::Short);
+    fails(rt, b"\x09\x01\x02\x03\x04\x05\x06\x07", FieldFault::Short);
+    fails(rt, b"\x12\x80", FieldFault::Short);
+    fails(rt, b"\x12\x02\x62", FieldFault::Short);
+    fails(rt, b"\x0d\x01\x02\x03", FieldFault::Short);
+}
+
+// Whether this varint is appended: where memory is refused the bytes are as before, and the same call again does what it
+// would have done.
+fn append_varint(out: &mut Vec<u8>, number: u32, value: u64) -> bool
     requires { IsNumber number }
 {
     let before = out.len();
-    if FieldOut::varint(out, number, value).is_err() {
-        assert_eq!(rt; out.len(), before);
-        return FieldOut::varint(out, number, value);
+    if FieldOut::varint(out, number, value).is_ok() {
+        return true;
     }
-    Ok(())
+    out.len() == before && FieldOut::varint(out, number, value).is_ok()
 }
 
-fn append_bytes(
-    rt: &impl Abort,
-    out: &mut Vec<u8>,
-    number: u32,
-    content: &[u8],
-) -> Result<(), AllocError>
+fn append_bytes(out: &mut Vec<u8>, number: u32, content: &[u8]) -> bool
     requires { IsNumber number }
 {
     let before = out.len();
-    if FieldOut::bytes(out, number, content).is_err() {
-        assert_eq!(rt; out.len(), before);
-        return FieldOut::bytes(out, number, content);
+    if FieldOut::bytes(out, number, content).is_ok() {
+        return true;
     }
-    Ok(())
+    out.len() == before && FieldOut::bytes(out, number, content).is_ok()
 }
 
 #[test]
-fn writes_what_is_read(rt: HostRuntime) -> Result<(), AllocError> {
+fn writes_what_is_read(rt: HostRuntime) {
     let mut out = Vec::new(rt.alloc());
-    append_bytes(&rt, &mut out, 1, b"b")?;
-    append_bytes(&rt, &mut out, 2, b"k")?;
-    append_varint(&rt, &mut out, 16, 300)?;
-    append_varint(&rt, &mut out, GREATEST_NUMBER, u64::MAX)?;
+    let is_so = writes_fields(&mut out) && are_fields(out.as_slice()) && are_read(out.as_slice());
+    drop(out);
+    assert!(&rt; is_so);
+}
+
+fn writes_fields(out: &mut Vec<u8>) -> bool {
+    append_bytes(out, 1, b"b")
+        && append_bytes(out, 2, b"k")
+        && append_varint(out, 16, 300)
+        && append_varint(out, GREATEST_NUMBER, u64::MAX)
+}
+
+fn are_fields(bytes: &[u8]) -> bool {
     let want =
         b"\x0a\x01b\x12\x01k\x80\x01\xac\x02\xf8\xff\xff\xff\x0f\xff\xff\xff\xff\xff\xff\xff\xff\xff\x01";
-    assert_eq!(&rt; out.as_slice(), want.as_slice());
-    let mut fields = Fields::new(out.as_slice());
-    assert_eq!(&rt; fields.next(), field(1, Value::Bytes(b"b")));
-    assert_eq!(&rt; fields.next(), field(2, Value::Bytes(b"k")));
-    assert_eq!(&rt; fields.next(), field(16, Value::Varint(300)));
-    assert_eq!(&rt;
-        fields.next(),
-        field(GREATEST_NUMBER, Value::Varint(u64::MAX))
-    );
-    assert_eq!(&rt; fields.next(), None);
-    Ok(())
+    bytes == want.as_slice()
+}
+
+fn are_read(bytes: &[u8]) -> bool {
+    let mut fields = Fields::new(bytes);
+    next_is(&mut fields, 1, Value::Bytes(b"b"))
+        && next_is(&mut fields, 2, Value::Bytes(b"k"))
+        && next_is(&mut fields, 16, Value::Varint(300))
+        && next_is(&mut fields, GREATEST_NUMBER, Value::Varint(u64::MAX))
+        && fields.next().is_none()
+}
+
+fn next_is(fields: &mut Fields<'_>, number: u32, value: Value<'_>) -> bool {
+    fields.next() == field(number, value)
 }
 
 // How many fields of bytes there are, and the last number of a varint. The number 9 is refused.
@@ -187,15 +206,14 @@ fn tallied(bytes: &[u8]) -> (u8, u64, Option<FieldFault>) {
 // Two varints and two byte strings; then a field that is cut short, and one that is refused, with a field behind it.
 #[test]
 fn a_scan_merges_each_field(rt: HostRuntime) {
-    assert_eq!(&rt; tallied(b"\x08\x01\x12\x01b\x08\x02\x1a\x00"), (2, 2, None));
-    assert_eq!(&rt;
-        tallied(b"\x12\x01b\x12\x02b"),
-        (1, 0, Some(FieldFault::Short))
-    );
-    assert_eq!(&rt;
-        tallied(b"\x08\x05\x48\x01\x12\x00"),
-        (0, 5, Some(FieldFault::BadKey))
-    );
+    let is_so = tallies(b"\x08\x01\x12\x01b\x08\x02\x1a\x00", 2, 2, None)
+        && tallies(b"\x12\x01b\x12\x02b", 1, 0, Some(FieldFault::Short))
+        && tallies(b"\x08\x05\x48\x01\x12\x00", 0, 5, Some(FieldFault::BadKey));
+    assert!(&rt; is_so);
+}
+
+fn tallies(bytes: &[u8], strings: u8, last: u64, fault: Option<FieldFault>) -> bool {
+    tallied(bytes) == (strings, last, fault)
 }
 
 // A number in field 1, and whether it is even in field 2.
@@ -227,16 +245,23 @@ fn append_numbers(out: &mut Vec<u8>) -> Result<(), AllocError> {
     encode_repeated(out, 3, &[even, odd])
 }
 
-#[test]
-fn encodes_submessages(rt: HostRuntime) -> Result<(), AllocError> {
-    let mut out = Vec::new(rt.alloc());
-    if append_numbers(&mut out).is_err() {
-        out.clear();
-        append_numbers(&mut out)?;
+// The same, once more from nothing where memory was refused.
+fn appends_numbers(out: &mut Vec<u8>) -> bool {
+    if append_numbers(out).is_ok() {
+        return true;
     }
-    assert_eq!(&rt;
-        out.as_slice(),
-        b"\x1a\x05\x08\x96\x01\x10\x01\x1a\x02\x08\x01".as_slice()
-    );
-    Ok(())
+    out.clear();
+    append_numbers(out).is_ok()
+}
+
+fn are_numbers(bytes: &[u8]) -> bool {
+    bytes == b"\x1a\x05\x08\x96\x01\x10\x01\x1a\x02\x08\x01".as_slice()
+}
+
+#[test]
+fn encodes_submessages(rt: HostRuntime) {
+    let mut out = Vec::new(rt.alloc());
+    let is_so = appends_numbers(&mut out) && are_numbers(out.as_slice());
+    drop(out);
+    assert!(&rt; is_so);
 }

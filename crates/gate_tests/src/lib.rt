@@ -1,4 +1,4 @@
-//! Tests of `rw_gate`, from outside: a counter and a sibling register behind a gate.
+//! Tests of `rw_gate`, from outside: a counter, a sibling register and a vnode behind a gate.
 //!
 //! They stand in a crate of their own, since a crate with tests is proved twice.
 #![tactic(auto)]

@@ -11,6 +11,7 @@ mod adding;
 mod marking;
 mod register;
 mod several;
+mod vnode;
 
 // A gate round a counter.
 fn counter_gate(alloc: Global, value: u64) -> Result<Gate<Counter>, Fail> {

@@ -1,5 +1,7 @@
 //! Messages as their bytes. What is wanted was taken from the message tables of the API, or computed by hand.
 
+mod options;
+mod reading;
 mod replies;
 mod requests;
 

@@ -10,7 +10,7 @@ use Rattle.riak_msgs.specs.declared.request.Request.{Request}
 use Rattle.riak_msgs.specs.declared.reply.Reply.{Reply}
 use Rattle.pb_frame.specs.Limits.{longest_request}
 use Rattle.node_session.specs.Answers.{Run, reply_frame}
-use Rattle.node_session.specs.Answered.{Answered, Stands}
+use Rattle.node_session.specs.Answered.{Answered, StandsAt}
 use Rattle.pb_frame.specs.Stream.{Stream}
 use Rattle.node_session.specs.Steps.{AnswersNext, IsNext}
 
@@ -32,7 +32,7 @@ module _ {S : Type 0} (Step : S → Request → Reply → S → Type 0) where
   Run-append a b c (m ∷ ms) ns [] us p q = absurd p
 
   -- nothing has come yet
-  pub Answered-none : (a : S) (x : List ℕ) (held : Option (List ℕ)) → Answered Step a x held held 0 (Stands a x)
+  pub Answered-none : (a : S) (x : List ℕ) (held : Option (List ℕ)) → Answered Step a x held held 0 (StandsAt a x)
   Answered-none a x held = record {
     messages = [];
     replies = [];
@@ -49,7 +49,7 @@ module _ {S : Type 0} (Step : S → Request → Reply → S → Type 0) where
 
   -- a piece comes, and the messages that are whole now are answered
   pub Answered-then : (a b : S) (x y piece : List ℕ) (h h' h'' : Option (List ℕ)) (j k : ℕ) (Ends : S → List ℕ → List ℕ → Type 0)
-      → Answered Step a x h h' j (Stands b y) → Answered Step b (y ++ piece) h' h'' k Ends → Answered Step a (x ++ piece) h h'' (j + k) Ends
+      → Answered Step a x h h' j (StandsAt b y) → Answered Step b (y ++ piece) h' h'' k Ends → Answered Step a (x ++ piece) h h'' (j + k) Ends
   Answered-then a b x y piece h h' h'' j k Ends p q = record {
     messages = p.messages ++ q.messages;
     replies = p.replies ++ q.replies;
@@ -73,7 +73,7 @@ module _ {S : Type 0} (Step : S → Request → Reply → S → Type 0) where
 
   -- the same with no new piece
   pub Answered-more : (a b : S) (x y : List ℕ) (h h' h'' : Option (List ℕ)) (j k : ℕ) (Ends : S → List ℕ → List ℕ → Type 0)
-      → Answered Step a x h h' j (Stands b y) → Answered Step b y h' h'' k Ends → Answered Step a x h h'' (j + k) Ends
+      → Answered Step a x h h' j (StandsAt b y) → Answered Step b y h' h'' k Ends → Answered Step a x h h'' (j + k) Ends
   Answered-more a b x y h h' h'' j k Ends p q =
       subst (λ (t : List ℕ). Answered Step a t h h'' (j + k) Ends) (append-nil x)
       (Answered-then a b x y [] h h' h'' j k Ends p (subst (λ (t : List ℕ). Answered Step b t h' h'' k Ends) (sym (append-nil y)) q))
@@ -96,7 +96,7 @@ module _ {S : Type 0} (Step : S → Request → Reply → S → Type 0) where
   }
 
   -- what is left is shorter by a byte for each reply at least
-  pub Answered-shorter : (a b : S) (x y : List ℕ) (h h' : Option (List ℕ)) (j : ℕ) → Answered Step a x h h' j (Stands b y) → j + length y ≤ length x
+  pub Answered-shorter : (a b : S) (x y : List ℕ) (h h' : Option (List ℕ)) (j : ℕ) → Answered Step a x h h' j (StandsAt b y) → j + length y ≤ length x
   Answered-shorter a b x y h h' j p =
       let long = frames_long p.messages in
       let len : length x ≡ length (flat_map frame p.messages) + length p.rest = ap length p.stream ∙ length-append (flat_map frame p.messages) p.rest in

@@ -1,14 +1,12 @@
 -- The vnodes of a node, by their indexes, are after the histories that the register has.
-use Rattle.std.proofs.Common.{◌≡◌, ◌≢◌, ◌==◌, if◌then◌else◌, Bool, ℕ, ◌<◌, ◌∷◌, refl, sym, ap, subst, inl, inr, arith}
+use Rattle.std.proofs.Common.{◌≡◌, ◌≢◌, ◌==◌, if◌then◌else◌, Bool, ℕ, ◌<◌, ◌∷◌, sym, ap, subst, inl, inr, arith}
 use Rattle.std.proofs.lemmas.Bool.{cases_eq, ne_eqb}
+use Rattle.ring_map.specs.Ring.{id_of}
 use Rattle.riak_msgs.specs.declared.Key.{Key}
 use Rattle.riak_msgs.specs.declared.Content.{Content}
-use Rattle.riak_msgs.specs.declared.Request.{Request}
-use Rattle.riak_msgs.specs.declared.Request.TheVariants as requests
 use Rattle.riak_msgs.specs.declared.Reply.{Reply}
-use Rattle.sibling_register.specs.Answers.{Ask, AskGet, AskPut, AskDel}
+use Rattle.sibling_register.specs.Answers.{Ask}
 use Rattle.actor_epoch.specs.Given.{Context}
-use Rattle.vnode_machine.specs.Asks.{get_command, put_command, del_command}
 use Rattle.vnode_machine.specs.Machine.{State}
 use Rattle.vnode_machine.specs.Replay.{History, IsAfter, IsWithinLimits}
 use Rattle.vnode_machine.specs.Registers.{key_of}
@@ -16,8 +14,8 @@ use Rattle.vnode_machine.specs.Runs.{TakesEach, TakesTurn, AnswersTurn}
 use Rattle.vnode_machine.proofs.Legals.{replay_is_legal}
 use Rattle.vnode_machine.proofs.RunLaw.{run_is_played}
 use Rattle.vnode_machine.proofs.Tests.{nat_eq-refl}
-use Rattle.node_session.specs.ByIndex.{AnswersAsk, StepByIndex}
-use Rattle.node_session.specs.Registers.{Histories, vnode_id, AreAfter, RegisterStep}
+use Rattle.node_session.specs.ByIndex.{AnswersAsk}
+use Rattle.node_session.specs.Registers.{Histories, AreAfter}
 use Rattle.node_session.specs.SessionLaws.{IsRun}
 
 -- another history at one index
@@ -32,35 +30,35 @@ changed_at-other histories index history other ne = ap (λ (b : Bool). if b then
 
 -- each vnode is after its history
 abbrev pub EachAfter : (run : ℕ) → (vnodes : (index : ℕ) → State Content) → Histories → Type 0
-EachAfter run vnodes histories = (index : ℕ) → IsAfter (vnode_id run index) 0 (histories index) (vnodes index)
+EachAfter run vnodes histories = (index : ℕ) → IsAfter (id_of run index) 0 (histories index) (vnodes index)
 
 pub each_legal : (run : ℕ) (vnodes : (index : ℕ) → State Content) (histories : Histories) → EachAfter run vnodes histories → AreAfter run histories vnodes
 each_legal run vnodes histories each =
-    record { after = each; legal = λ index. replay_is_legal (vnode_id run index) 0 (histories index) (each index).replays }
+    record { after = each; legal = λ index. replay_is_legal (id_of run index) 0 (histories index) (each index).replays }
 
 module _ (run : ℕ) (is : IsRun run) where
-  limits : (index : ℕ) → index < 65536 → IsWithinLimits (vnode_id run index) 0
+  pub limits : (index : ℕ) → index < 65536 → IsWithinLimits (id_of run index) 0
   limits index inside = (omega (arith, is.1, inside), omega arith)
 
-  module _ (index_of : Key → ℕ) (inside : (key : Key) → index_of key < 65536) (budget : ℕ) where
+  module _ (index_of : Key → ℕ) (budget : ℕ) where
     each_after : (old new : (index : ℕ) → State Content) (histories : Histories) (index : ℕ) (history : History) → EachAfter run old histories
-        → IsAfter (vnode_id run index) 0 history (new index) → ((other : ℕ) → other ≢ index → new other ≡ old other) → EachAfter run new (changed_at histories index history)
+        → IsAfter (id_of run index) 0 history (new index) → ((other : ℕ) → other ≢ index → new other ≡ old other) → EachAfter run new (changed_at histories index history)
     each_after old new histories index history each after others other = elim (cases_eq other index) [
       | inl same ↦
-          subst (λ (n : ℕ). IsAfter (vnode_id run n) 0 (changed_at histories index history n) (new n)) (sym same)
-          (subst (λ (h : History). IsAfter (vnode_id run index) 0 h (new index)) (sym (changed_at-itself histories index history)) after)
+          subst (λ (n : ℕ). IsAfter (id_of run n) 0 (changed_at histories index history n) (new n)) (sym same)
+          (subst (λ (h : History). IsAfter (id_of run index) 0 h (new index)) (sym (changed_at-itself histories index history)) after)
       | inr ne ↦
-          subst (λ (h : History). IsAfter (vnode_id run other) 0 h (new other)) (sym (changed_at-other histories index history other ne))
-          (subst (λ (state : State Content). IsAfter (vnode_id run other) 0 (histories other) state) (sym (others other ne)) (each other))
+          subst (λ (h : History). IsAfter (id_of run other) 0 h (new other)) (sym (changed_at-other histories index history other ne))
+          (subst (λ (state : State Content). IsAfter (id_of run other) 0 (histories other) state) (sym (others other ne)) (each other))
     ]
 
-    ask_followed : (old new : (index : ℕ) → State Content) (histories : Histories) (ask : Ask Content Context) (reply : Reply) → EachAfter run old histories
+    pub ask_followed : (old new : (index : ℕ) → State Content) (histories : Histories) (ask : Ask Content Context) (reply : Reply) → index_of (key_of ask) < 65536 → EachAfter run old histories
         → AnswersAsk (λ index. TakesTurn) index_of budget old ask reply new
-        → (after : Histories) × EachAfter run new after × AnswersAsk (λ index. AnswersTurn (vnode_id run index) 0) index_of budget histories ask reply after
-    ask_followed old new histories ask reply each step =
+        → (after : Histories) × EachAfter run new after × AnswersAsk (λ index. AnswersTurn (id_of run index) 0) index_of budget histories ask reply after
+    ask_followed old new histories ask reply inside each step =
         let index = index_of (key_of ask) in
         let turns = record { ask = ask; reply = step.result } ∷ step.reaps in
-        let one = run_is_played (vnode_id run index) 0 (histories index) (limits index (inside (key_of ask))) turns (old index) (new index) (each index) step.takes.each in (
+        let one = run_is_played (id_of run index) 0 (histories index) (limits index inside) turns (old index) (new index) (each index) step.takes.each in (
           changed_at histories index one.history,
           each_after old new histories index one.history each one.after step.takes.others,
           record {
@@ -70,17 +68,8 @@ module _ (run : ℕ) (is : IsRun run) where
             few = step.few;
             only = step.only;
             takes = record {
-              each = subst (λ (h : History). TakesEach (AnswersTurn (vnode_id run index) 0) (histories index) turns h) (sym (changed_at-itself histories index one.history)) one.answered;
+              each = subst (λ (h : History). TakesEach (AnswersTurn (id_of run index) 0) (histories index) turns h) (sym (changed_at-itself histories index one.history)) one.answered;
               others = λ other ne. changed_at-other histories index one.history other ne;
             };
           },
         )
-
-    pub step_followed : (old new : (index : ℕ) → State Content) (histories : Histories) (request : Request) (reply : Reply) → EachAfter run old histories
-        → StepByIndex (λ index. TakesTurn) index_of budget old request reply new
-        → (after : Histories) × EachAfter run new after × RegisterStep run index_of budget histories request reply after
-    step_followed old new histories requests.Ping reply each step =
-        (histories, subst (λ (vnodes : (index : ℕ) → State Content). EachAfter run vnodes histories) (sym step.1) each, (step.0, refl))
-    step_followed old new histories (requests.Get get) reply each step = ask_followed old new histories (AskGet (get_command get)) reply each step
-    step_followed old new histories (requests.Put put) reply each step = ask_followed old new histories (AskPut (put_command put)) reply each step
-    step_followed old new histories (requests.Del del) reply each step = ask_followed old new histories (AskDel (del_command del)) reply each step

@@ -5,6 +5,9 @@ pub mod Pieces
 pub mod Reading
 pub mod Simulating
 pub mod Histories
+pub mod Sweeping
 pub mod RegisterLaw
 pub mod Piping
+pub mod Vnodes
+pub mod Asking
 pub mod Refusing

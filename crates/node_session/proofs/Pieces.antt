@@ -16,7 +16,7 @@ use Rattle.riak_msgs.specs.declared.request.Request.{Request}
 use Rattle.riak_msgs.specs.declared.reply.Reply.{Reply}
 use Rattle.node_session.specs.declared.sending.Stop.{Stop}
 use Rattle.node_session.specs.declared.sending.Stop.TheVariants as stops
-use Rattle.node_session.specs.Answered.{Answered, Stands, IsDue, IsBad, IsJustRead, AtLastRead, IsUnsent, IsOutOfMemory}
+use Rattle.node_session.specs.Answered.{Answered, StandsAt, NextReply, IsBad, CameInLastRead, AtLastRead, WriteFailedAt, IsOutOfMemory}
 use Rattle.node_session.specs.Session.{Stops, fault_for}
 use Rattle.node_session.specs.Steps.{StopEnds, AnswersAll, AnswersPiece, IsAll}
 use Rattle.node_session.proofs.Replying.{stopped}
@@ -28,7 +28,7 @@ unfolding frame
 some_frame m = omega arith
 
 -- nothing is wrong with nothing
-none_partial : IsPartial longest_request []
+pub none_partial : IsPartial longest_request []
 none_partial = record {
   left = λ m more within e. absurd (omega (arith, ap length e ∙ length-append (frame m) more, some_frame m));
   short = λ long. absurd (omega (arith, long));
@@ -47,7 +47,7 @@ behind y piece more m partial within e =
 
 -- what is left of a piece behind what has no frame, once some messages were answered
 just_read : (ms : List Message) (rest y piece : List ℕ) → y ++ piece ≡ flat_map frame ms ++ rest → All (IsWithin longest_request) ms
-    → IsPartial longest_request y → 0 < length piece → length piece ≤ 4096 → 0 < length rest → IsJustRead rest
+    → IsPartial longest_request y → 0 < length piece → length piece ≤ 4096 → 0 < length rest → CameInLastRead rest
 just_read [] rest y piece e each partial some bound left = record { before = y; piece = piece; splits = sym e; some = some; bound = bound; partial = partial }
 just_read (m ∷ ms) rest y piece e each partial some bound left =
     let more = flat_map frame ms ++ rest in
@@ -70,13 +70,13 @@ some_error rest frames.NoMemory p = absurd p.length
 
 module _ {S : Type 0} (Step : S → Request → Reply → S → Type 0) where
   -- and so has what ends a session among its answers
-  some_due : (mid : S) (rest next : List ℕ) (b : S) → IsDue Step mid rest next b → 0 < length rest
+  some_due : (mid : S) (rest next : List ℕ) (b : S) → NextReply Step mid rest next b → 0 < length rest
   some_due mid rest next b p = omega (arith, ap length p.front ∙ length-append (frame p.message) p.more, some_frame p.message)
 
   some_end : (stop : Stop) (b mid : S) (rest last : List ℕ) → StopEnds Step stop b mid rest last → 0 < length rest
-  some_end stops.Unsent b mid rest last p = elim p.due [ inl due ↦ some_due mid rest p.next b due | inr e ↦ some_error rest e.fault e.faulty ]
-  some_end stops.Bad b mid rest last p = some_error rest p.fault p.faulty
-  some_end stops.Lost b mid rest last p = some_due mid rest p.next b p.due
+  some_end stops.WriteFailed b mid rest last p = elim p.due [ inl due ↦ some_due mid rest p.next b due | inr e ↦ some_error rest e.fault e.faulty ]
+  some_end stops.BadFrame b mid rest last p = some_error rest p.fault p.faulty
+  some_end stops.NoMemory b mid rest last p = some_due mid rest p.next b p.due
 
   -- a stop among the answers to what a framer holds and a piece behind it
   stops_at : (stop : Stop) (a b : S) (y piece : List ℕ) (h h' : Option (List ℕ)) (k : ℕ) (Ends : S → List ℕ → List ℕ → Type 0)
@@ -90,9 +90,9 @@ module _ {S : Type 0} (Step : S → Request → Reply → S → Type 0) where
       → IsPartial longest_request framer.rest → 0 < length piece → length piece ≤ 4096
       → AnswersAll Step a b (record framer { rest = framer.rest ++ piece }) framer' h h' k r → AnswersPiece Step a b framer framer' piece h h' k r
   pieces a b framer framer' piece h h' k (Ok u) partial some bound p = p
-  pieces a b framer framer' piece h h' k (Err stops.Unsent) partial some bound p = stops_at stops.Unsent a b framer.rest piece h h' k (IsUnsent Step b) (λ mid rest last x. inl x) partial some bound p
-  pieces a b framer framer' piece h h' k (Err stops.Bad) partial some bound p = stops_at stops.Bad a b framer.rest piece h h' k (AtLastRead (IsBad b)) (λ mid rest last x. x) partial some bound p
-  pieces a b framer framer' piece h h' k (Err stops.Lost) partial some bound p = stops_at stops.Lost a b framer.rest piece h h' k (AtLastRead (IsOutOfMemory Step b)) (λ mid rest last x. (x.0, inl x.1)) partial some bound p
+  pieces a b framer framer' piece h h' k (Err stops.WriteFailed) partial some bound p = stops_at stops.WriteFailed a b framer.rest piece h h' k (WriteFailedAt Step b) (λ mid rest last x. inl x) partial some bound p
+  pieces a b framer framer' piece h h' k (Err stops.BadFrame) partial some bound p = stops_at stops.BadFrame a b framer.rest piece h h' k (AtLastRead (IsBad b)) (λ mid rest last x. x) partial some bound p
+  pieces a b framer framer' piece h h' k (Err stops.NoMemory) partial some bound p = stops_at stops.NoMemory a b framer.rest piece h h' k (AtLastRead (IsOutOfMemory Step b)) (λ mid rest last x. (x.0, inl x.1)) partial some bound p
 
   -- memory was refused for a piece
   pub unkept : (a : S) (y piece : List ℕ) (h : Option (List ℕ)) → IsPartial longest_request y → 0 < length piece → length piece ≤ 4096 → Answered Step a (y ++ piece) h h 0 (AtLastRead (IsOutOfMemory Step a))
@@ -111,7 +111,7 @@ module _ {S : Type 0} (Step : S → Request → Reply → S → Type 0) where
 
   -- no more replies than bytes
   pub piece_count : (a b : S) (framer framer' : Stream) (piece : List ℕ) (h h' : Option (List ℕ)) (k : ℕ) (r : Result (Unit {0}) Stop) → AnswersPiece Step a b framer framer' piece h h' k r → k ≤ length (framer.rest ++ piece)
-  piece_count a b framer framer' piece h h' k (Ok u) p = Answered-count Step a _ h h' k (Stands b framer'.rest) p.answered
-  piece_count a b framer framer' piece h h' k (Err stops.Unsent) p = Answered-count Step a _ h h' k (IsUnsent Step b) p
-  piece_count a b framer framer' piece h h' k (Err stops.Bad) p = Answered-count Step a _ h h' k (AtLastRead (IsBad b)) p
-  piece_count a b framer framer' piece h h' k (Err stops.Lost) p = Answered-count Step a _ h h' k (AtLastRead (IsOutOfMemory Step b)) p
+  piece_count a b framer framer' piece h h' k (Ok u) p = Answered-count Step a _ h h' k (StandsAt b framer'.rest) p.answered
+  piece_count a b framer framer' piece h h' k (Err stops.WriteFailed) p = Answered-count Step a _ h h' k (WriteFailedAt Step b) p
+  piece_count a b framer framer' piece h h' k (Err stops.BadFrame) p = Answered-count Step a _ h h' k (AtLastRead (IsBad b)) p
+  piece_count a b framer framer' piece h h' k (Err stops.NoMemory) p = Answered-count Step a _ h h' k (AtLastRead (IsOutOfMemory Step b)) p

@@ -7,7 +7,7 @@ use Rattle.riak_msgs.specs.declared.reply.Reply.{Reply}
 use Rattle.node_session.specs.declared.sending.Stop.{Stop}
 use Rattle.node_session.specs.declared.sending.Stop.TheVariants as stops
 use Rattle.node_session.specs.declared.fault.SessionFault.{SessionFault}
-use Rattle.node_session.specs.Answered.{Answered, Stands, IsBad, AtLastRead, IsUnsent, IsOutOfMemory}
+use Rattle.node_session.specs.Answered.{Answered, StandsAt, IsBad, AtLastRead, WriteFailedAt, IsOutOfMemory}
 use Rattle.node_session.specs.Session.{Given, MadeReads, Stops, fault_for}
 use Rattle.node_session.proofs.Composing.{Answered-none, Answered-then, Answered-as, Answered-shorter}
 
@@ -17,7 +17,7 @@ module _ {S : Type 0} (Step : S → Request → Reply → S → Type 0) (a : S) 
   Reached unread' h' reads replies Ends = Given unread unread' reads (λ input. Answered Step a input h h' replies Ends)
 
   -- nothing was read yet
-  pub Reached-none : Reached unread h 0 0 (Stands a [])
+  pub Reached-none : Reached unread h 0 0 (StandsAt a [])
   Reached-none = record { input = []; read = Consumes-nil unread; bound = omega arith; serves = Answered-none Step a [] h }
 
   -- nothing more is read or written, and it is said in another way how it ended
@@ -36,10 +36,10 @@ module _ {S : Type 0} (Step : S → Request → Reply → S → Type 0) (a : S) 
 
   -- what was written is flushed, and a piece is read and answered
   pub Reached-then : (unread' unread'' h₀ h' h'' : Option (List ℕ)) (b : S) (i j k : ℕ) (y piece : List ℕ) (Ends : S → List ℕ → List ℕ → Type 0)
-      → Reached unread' h₀ i j (Stands b y) → Keeps h₀ h' → Consumes unread' unread'' piece → length piece ≤ 4096
+      → Reached unread' h₀ i j (StandsAt b y) → Keeps h₀ h' → Consumes unread' unread'' piece → length piece ≤ 4096
       → Answered Step b (y ++ piece) h' h'' k Ends → Reached unread'' h'' (i + 1) (j + k) Ends
   Reached-then unread' unread'' h₀ h' h'' b i j k y piece Ends p flushed read few q =
-      let r = Reached-kept unread' unread' h₀ h' i i j (Stands b y) (Stands b y) (omega arith) (Keeps-refl unread') flushed (λ mid rest last x. x) p in
+      let r = Reached-kept unread' unread' h₀ h' i i j (StandsAt b y) (StandsAt b y) (omega arith) (Keeps-refl unread') flushed (λ mid rest last x. x) p in
       let len : length (r.input ++ piece) ≡ length r.input + length piece = length-append r.input piece in
       let before : length r.input ≤ 4096 * i = r.bound in
       record {
@@ -50,7 +50,7 @@ module _ {S : Type 0} (Step : S → Request → Reply → S → Type 0) (a : S) 
       }
 
   -- how much is held back, and answered
-  pub Reached-bound : (unread' h' : Option (List ℕ)) (b : S) (i j : ℕ) (y : List ℕ) → Reached unread' h' i j (Stands b y) → j + length y ≤ 4096 * i
+  pub Reached-bound : (unread' h' : Option (List ℕ)) (b : S) (i j : ℕ) (y : List ℕ) → Reached unread' h' i j (StandsAt b y) → j + length y ≤ 4096 * i
   Reached-bound unread' h' b i j y p =
       let before : length p.input ≤ 4096 * i = p.bound in
       let short = Answered-shorter Step a b p.input y h h' j p.serves in
@@ -58,7 +58,7 @@ module _ {S : Type 0} (Step : S → Request → Reply → S → Type 0) (a : S) 
 
   -- a piece is read and answered, and what was written is flushed again
   Reached-flushed : (unread' unread'' h₀ h' h'' h₁ : Option (List ℕ)) (b : S) (i j k reads : ℕ) (y piece : List ℕ) (Ends : S → List ℕ → List ℕ → Type 0) → i < reads
-      → Reached unread' h₀ i j (Stands b y) → Keeps h₀ h' → Consumes unread' unread'' piece → length piece ≤ 4096
+      → Reached unread' h₀ i j (StandsAt b y) → Keeps h₀ h' → Consumes unread' unread'' piece → length piece ≤ 4096
       → Answered Step b (y ++ piece) h' h'' k Ends → Keeps h'' h₁ → Reached unread'' h₁ reads (j + k) Ends
   Reached-flushed unread' unread'' h₀ h' h'' h₁ b i j k reads y piece Ends lt p flushed read few q kept =
       Reached-kept unread'' unread'' h'' h₁ (i + 1) reads (j + k) Ends Ends (omega arith) (Keeps-refl unread'') kept (λ mid rest last x. x)
@@ -66,15 +66,15 @@ module _ {S : Type 0} (Step : S → Request → Reply → S → Type 0) (a : S) 
 
   -- the same where the session stops among the answers
   stops_then : (stop : Stop) (unread' unread'' h₀ h' h'' h₁ : Option (List ℕ)) (b new : S) (i j k reads : ℕ) (y piece : List ℕ) → i < reads
-      → Reached unread' h₀ i j (Stands b y) → Keeps h₀ h' → Consumes unread' unread'' piece → length piece ≤ 4096
+      → Reached unread' h₀ i j (StandsAt b y) → Keeps h₀ h' → Consumes unread' unread'' piece → length piece ≤ 4096
       → Stops Step b new (y ++ piece) h' h'' (fault_for stop k) → Keeps h'' h₁ → Given unread unread'' reads (λ input. Stops Step a new input h h₁ (fault_for stop (j + k)))
-  stops_then stops.Unsent unread' unread'' h₀ h' h'' h₁ b new i j k reads y piece = Reached-flushed unread' unread'' h₀ h' h'' h₁ b i j k reads y piece (IsUnsent Step new)
-  stops_then stops.Bad unread' unread'' h₀ h' h'' h₁ b new i j k reads y piece = Reached-flushed unread' unread'' h₀ h' h'' h₁ b i j k reads y piece (AtLastRead (IsBad new))
-  stops_then stops.Lost unread' unread'' h₀ h' h'' h₁ b new i j k reads y piece = Reached-flushed unread' unread'' h₀ h' h'' h₁ b i j k reads y piece (AtLastRead (IsOutOfMemory Step new))
+  stops_then stops.WriteFailed unread' unread'' h₀ h' h'' h₁ b new i j k reads y piece = Reached-flushed unread' unread'' h₀ h' h'' h₁ b i j k reads y piece (WriteFailedAt Step new)
+  stops_then stops.BadFrame unread' unread'' h₀ h' h'' h₁ b new i j k reads y piece = Reached-flushed unread' unread'' h₀ h' h'' h₁ b i j k reads y piece (AtLastRead (IsBad new))
+  stops_then stops.NoMemory unread' unread'' h₀ h' h'' h₁ b new i j k reads y piece = Reached-flushed unread' unread'' h₀ h' h'' h₁ b i j k reads y piece (AtLastRead (IsOutOfMemory Step new))
 
   -- the same by the fault that is told
   pub Reached-stops : (stop : Stop) (fault : SessionFault) (unread' unread'' h₀ h' h'' h₁ : Option (List ℕ)) (b new : S) (i j k reads : ℕ) (y piece : List ℕ) → i < reads → fault ≡ fault_for stop (j + k)
-      → Reached unread' h₀ i j (Stands b y) → Keeps h₀ h' → Consumes unread' unread'' piece → length piece ≤ 4096
+      → Reached unread' h₀ i j (StandsAt b y) → Keeps h₀ h' → Consumes unread' unread'' piece → length piece ≤ 4096
       → Stops Step b new (y ++ piece) h' h'' (fault_for stop k) → Keeps h'' h₁ → Given unread unread'' reads (λ input. Stops Step a new input h h₁ fault)
   Reached-stops stop fault unread' unread'' h₀ h' h'' h₁ b new i j k reads y piece lt is p flushed read few q kept =
       subst (λ (f : SessionFault). Given unread unread'' reads (λ input. Stops Step a new input h h₁ f)) (sym is)

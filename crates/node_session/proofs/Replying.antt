@@ -17,15 +17,15 @@ use Rattle.riak_msgs.specs.declared.reply.Reply.TheVariants.{Error}
 use Rattle.pb_frame.specs.Limits.{longest_request}
 use Rattle.node_session.specs.declared.sending.Stop.{Stop}
 use Rattle.node_session.specs.declared.sending.Stop.TheVariants as stops
-use Rattle.node_session.specs.Answers.{Answers, reply_frame, text_for, text_at}
-use Rattle.node_session.specs.Answered.{Answered, IsDue, IsError, IsBad, IsCut, IsLost}
+use Rattle.node_session.specs.Answers.{Answers, reply_frame, message_fault_text, frame_fault_text}
+use Rattle.node_session.specs.Answered.{Answered, NextReply, IsError, IsBad, PartlyWritten, ReplyNotWritten}
 use Rattle.node_session.specs.Steps.{Sends, SendsReply, IsCutShort, Answering, StopEnds, IsNext}
 
 pub sends_reply : (a b : Option (List ℕ)) (reply : Reply) (r : Result (Unit {0}) Stop) → Sends a b (reply_frame reply) r → SendsReply a b reply r
 sends_reply a b reply (Ok u) p = p
-sends_reply a b reply (Err stops.Unsent) p = p
-sends_reply a b reply (Err stops.Bad) p = p
-sends_reply a b reply (Err stops.Lost) p = absurd p
+sends_reply a b reply (Err stops.WriteFailed) p = p
+sends_reply a b reply (Err stops.BadFrame) p = p
+sends_reply a b reply (Err stops.NoMemory) p = absurd p
 
 -- what `take` did where it gave a frame, and where it refused
 pub taken_at : (old new : Stream) (r : Result (Option Frame) FrameFault) (o : Option Frame) (f : Frame) → r ≡ Ok o → o ≡ Some f → Takes old r new → IsTaken old (message_of f) new
@@ -36,7 +36,7 @@ refused_at old new r fault e t = subst (λ (x : Result (Option Frame) FrameFault
 
 module _ {S : Type 0} (Step : S → Request → Reply → S → Type 0) where
   -- a message that was not read is answered by its error
-  refused : (old : S) (m : Message) (fault : MsgFault) → Reads m.code m.body (Err fault) → Answers Step old m (Error (text_for fault)) old
+  refused : (old : S) (m : Message) (fault : MsgFault) → Reads m.code m.body (Err fault) → Answers Step old m (Error (message_fault_text fault)) old
   refused old m faults.UnknownCode reads = record { said = Err faults.UnknownCode; says = reads; answers = (refl, refl) }
   refused old m faults.BadMessage reads = record { said = Err faults.BadMessage; says = reads; answers = (refl, refl) }
   refused old m faults.MissingField reads = record { said = Err faults.MissingField; says = reads; answers = (refl, refl) }
@@ -45,11 +45,11 @@ module _ {S : Type 0} (Step : S → Request → Reply → S → Type 0) where
   refused old m faults.NoMemory reads = record { said = Ok reads.0; says = reads.1; answers = inr (refl, refl) }
 
   pub answered_error : (old : S) (m : Message) (fault : MsgFault) (text : Text) (bytes : List ℕ) (a b : Option (List ℕ)) (r : Result (Unit {0}) Stop)
-      → Reads m.code m.body (Err fault) → text ≡ text_for fault → bytes ≡ reply_frame (Error text) → Sends a b bytes r → Answering Step old m old a b r
+      → Reads m.code m.body (Err fault) → text ≡ message_fault_text fault → bytes ≡ reply_frame (Error text) → Sends a b bytes r → Answering Step old m old a b r
   answered_error old m fault text bytes a b r reads is spelled sends = record {
-    reply = Error (text_for fault);
+    reply = Error (message_fault_text fault);
     answers = refused old m fault reads;
-    sends = sends_reply a b (Error (text_for fault)) r (subst (λ (x : List ℕ). Sends a b x r) (spelled ∙ ap (λ (t : Text). reply_frame (Error t)) is) sends);
+    sends = sends_reply a b (Error (message_fault_text fault)) r (subst (λ (x : List ℕ). Sends a b x r) (spelled ∙ ap (λ (t : Text). reply_frame (Error t)) is) sends);
   }
 
   -- a message that was taken and answered
@@ -73,7 +73,7 @@ module _ {S : Type 0} (Step : S → Request → Reply → S → Type 0) where
   }
 
   -- a message that was taken, and whose reply didn't go out whole
-  abbrev due : (old new : S) (m : Message) (reply : Reply) (framer framer' : Stream) → framer.limit ≡ longest_request → IsTaken framer m framer' → Answers Step old m reply new → IsDue Step old framer.rest (reply_frame reply) new
+  abbrev due : (old new : S) (m : Message) (reply : Reply) (framer framer' : Stream) → framer.limit ≡ longest_request → IsTaken framer m framer' → Answers Step old m reply new → NextReply Step old framer.rest (reply_frame reply) new
   due old new m reply framer framer' limit taken answers = record {
     message = m;
     reply = reply;
@@ -102,18 +102,18 @@ module _ {S : Type 0} (Step : S → Request → Reply → S → Type 0) where
 
   pub next_stopped : (old new : S) (m : Message) (framer framer' : Stream) (a b : Option (List ℕ)) (stop : Stop) → framer.limit ≡ longest_request
       → IsTaken framer m framer' → Answering Step old m new a b (Err stop) → Answered Step old framer.rest a b 0 (StopEnds Step stop new)
-  next_stopped old new m framer framer' a b stops.Unsent limit taken answered =
+  next_stopped old new m framer framer' a b stops.WriteFailed limit taken answered =
       let cut : IsCutShort a b (reply_frame answered.reply) = answered.sends in
-      stopped old framer.rest (take cut.len (reply_frame answered.reply)) a b (IsCut Step new) cut.written
+      stopped old framer.rest (take cut.len (reply_frame answered.reply)) a b (PartlyWritten Step new) cut.written
       (record { next = reply_frame answered.reply; due = inl (due old new m answered.reply framer framer' limit taken answered.answers); len = cut.len; short = cut.short; begins = refl })
-  next_stopped old new m framer framer' a b stops.Bad limit taken answered = absurd answered.sends
-  next_stopped old new m framer framer' a b stops.Lost limit taken answered =
-      stopped old framer.rest [] a b (IsLost Step new) answered.sends.1
+  next_stopped old new m framer framer' a b stops.BadFrame limit taken answered = absurd answered.sends
+  next_stopped old new m framer framer' a b stops.NoMemory limit taken answered =
+      stopped old framer.rest [] a b (ReplyNotWritten Step new) answered.sends.1
       (record { nothing = refl; next = reply_frame answered.reply; due = due old new m answered.reply framer framer' limit taken answered.answers; no_error = answered.sends.0 })
 
   -- a bad length, whose error was sent
   bad_error : (old : S) (fault : FrameFault) (text : Text) (bytes : List ℕ) (framer framer' : Stream) → framer.limit ≡ longest_request
-      → IsRefused framer fault framer' → text ≡ text_at fault → bytes ≡ reply_frame (Error text) → IsError old framer.rest bytes old
+      → IsRefused framer fault framer' → text ≡ frame_fault_text fault → bytes ≡ reply_frame (Error text) → IsError old framer.rest bytes old
   bad_error old fault text bytes framer framer' limit refused is spelled = record {
     fault = fault;
     faulty = subst (λ (n : ℕ). IsFaulty n framer.rest fault) limit refused.faulty;
@@ -122,15 +122,15 @@ module _ {S : Type 0} (Step : S → Request → Reply → S → Type 0) where
   }
 
   pub bad_sent : (old : S) (fault : FrameFault) (text : Text) (bytes : List ℕ) (framer framer' : Stream) (a b : Option (List ℕ)) → framer.limit ≡ longest_request
-      → IsRefused framer fault framer' → text ≡ text_at fault → bytes ≡ reply_frame (Error text) → Appends a b bytes → Answered Step old framer.rest a b 0 (IsBad old)
+      → IsRefused framer fault framer' → text ≡ frame_fault_text fault → bytes ≡ reply_frame (Error text) → Appends a b bytes → Answered Step old framer.rest a b 0 (IsBad old)
   bad_sent old fault text bytes framer framer' a b limit refused is spelled sent =
       stopped old framer.rest bytes a b (IsBad old) sent (bad_error old fault text bytes framer framer' limit refused is spelled)
 
   pub bad_stopped : (old : S) (fault : FrameFault) (text : Text) (bytes : List ℕ) (framer framer' : Stream) (a b : Option (List ℕ)) (stop : Stop) → framer.limit ≡ longest_request
-      → IsRefused framer fault framer' → text ≡ text_at fault → bytes ≡ reply_frame (Error text) → Sends a b bytes (Err stop) → Answered Step old framer.rest a b 0 (StopEnds Step stop old)
-  bad_stopped old fault text bytes framer framer' a b stops.Unsent limit refused is spelled sent =
+      → IsRefused framer fault framer' → text ≡ frame_fault_text fault → bytes ≡ reply_frame (Error text) → Sends a b bytes (Err stop) → Answered Step old framer.rest a b 0 (StopEnds Step stop old)
+  bad_stopped old fault text bytes framer framer' a b stops.WriteFailed limit refused is spelled sent =
       let cut : IsCutShort a b bytes = sent in
-      stopped old framer.rest (take cut.len bytes) a b (IsCut Step old) cut.written
+      stopped old framer.rest (take cut.len bytes) a b (PartlyWritten Step old) cut.written
       (record { next = bytes; due = inr (bad_error old fault text bytes framer framer' limit refused is spelled); len = cut.len; short = cut.short; begins = refl })
-  bad_stopped old fault text bytes framer framer' a b stops.Bad limit refused is spelled sent = absurd sent
-  bad_stopped old fault text bytes framer framer' a b stops.Lost limit refused is spelled sent = absurd sent
+  bad_stopped old fault text bytes framer framer' a b stops.BadFrame limit refused is spelled sent = absurd sent
+  bad_stopped old fault text bytes framer framer' a b stops.NoMemory limit refused is spelled sent = absurd sent

@@ -7,7 +7,7 @@ use Rattle.riak_msgs.specs.declared.Reply.{Reply}
 use Rattle.node_session.specs.declared.fault.SessionFault.{SessionFault}
 use Rattle.node_session.specs.declared.fault.SessionFault.TheVariants as faults
 use Rattle.node_session.specs.Answers.{Answers, AnswersRead, Run}
-use Rattle.node_session.specs.Answered.{Answered, IsThrough, IsDue, IsBad, IsCut, IsLost, IsUnsent, IsUnkept, IsOutOfMemory, AtLastRead}
+use Rattle.node_session.specs.Answered.{Answered, AllAnswered, NextReply, IsBad, PartlyWritten, ReplyNotWritten, WriteFailedAt, Unanswered, IsOutOfMemory, AtLastRead}
 use Rattle.node_session.specs.Session.{IsEnd, Stops}
 
 module _ {S T : Type 0} (Step : S → Request → Reply → S → Type 0) (Step' : T → Request → Reply → T → Type 0) (Like : S → T → Type 0)
@@ -65,7 +65,7 @@ module _ {S T : Type 0} (Step : S → Request → Reply → S → Type 0) (Step'
     stays : (mid : S) (t' : T) → Like mid t' → s' ≡ mid → Like s' t'
     stays mid t' l e = subst (λ (x : S). Like x t') (sym e) l
 
-    through : Ending IsThrough IsThrough
+    through : Ending AllAnswered AllAnswered
     through mid t' rest last l p = (t', stays mid t' l p.node, record { node = refl; partial = p.partial; nothing = p.nothing })
 
     ended : (len : ℕ) → Ending (λ node. IsEnd node len) (λ node. IsEnd node len)
@@ -79,7 +79,7 @@ module _ {S T : Type 0} (Step : S → Request → Reply → S → Type 0) (Step'
         (t', stays mid t' l e.node, (p.0, record { fault = e.fault; faulty = e.faulty; node = refl; is = e.is }))
 
     -- the same is due of the other node
-    abbrev due_like : (mid : S) (t' u : T) (rest next : List ℕ) (p : IsDue Step mid rest next s') → Answers Step' t' p.message p.reply u → IsDue Step' t' rest next u
+    abbrev due_like : (mid : S) (t' u : T) (rest next : List ℕ) (p : NextReply Step mid rest next s') → Answers Step' t' p.message p.reply u → NextReply Step' t' rest next u
     due_like mid t' u rest next p answers = record {
       message = p.message;
       reply = p.reply;
@@ -90,7 +90,7 @@ module _ {S T : Type 0} (Step : S → Request → Reply → S → Type 0) (Step'
       is = p.is;
     }
 
-    cut : Ending (IsCut Step) (IsCut Step')
+    cut : Ending (PartlyWritten Step) (PartlyWritten Step')
     cut mid t' rest last l p = elim p.due [
       | inl due ↦
           let one = answers_like mid s' t' due.message due.reply l due.answers in
@@ -99,16 +99,16 @@ module _ {S T : Type 0} (Step : S → Request → Reply → S → Type 0) (Step'
           (t', stays mid t' l e.node, record { next = p.next; due = inr (record { fault = e.fault; faulty = e.faulty; node = refl; is = e.is }); len = p.len; short = p.short; begins = p.begins })
     ]
 
-    unsent : Ending (IsUnsent Step) (IsUnsent Step')
+    unsent : Ending (WriteFailedAt Step) (WriteFailedAt Step')
     unsent mid t' rest last l (inl p) = let q = cut mid t' rest last l p.1 in (q.0, q.1, inl (p.0, q.2))
     unsent mid t' rest last l (inr p) = let q = through mid t' rest last l p in (q.0, q.1, inr q.2)
 
-    lost : Ending (IsLost Step) (IsLost Step')
+    lost : Ending (ReplyNotWritten Step) (ReplyNotWritten Step')
     lost mid t' rest last l p =
         let one = answers_like mid s' t' p.due.message p.due.reply l p.due.answers in
         (one.0, one.1, record { nothing = p.nothing; next = p.next; due = due_like mid t' one.0 rest p.next p.due one.2; no_error = p.no_error })
 
-    unkept : Ending IsUnkept IsUnkept
+    unkept : Ending Unanswered Unanswered
     unkept mid t' rest last l p = (t', stays mid t' l p.node, record { node = refl; nothing = p.nothing })
 
     out_of_memory : Ending (λ node. AtLastRead (IsOutOfMemory Step node)) (λ node. AtLastRead (IsOutOfMemory Step' node))
@@ -123,12 +123,12 @@ module _ {S T : Type 0} (Step : S → Request → Reply → S → Type 0) (Step'
   pub stops_like : (s s' : S) (t : T) (input : List ℕ) (held held' : Option (List ℕ)) (fault : SessionFault) → Like s t
       → Stops Step s s' input held held' fault → (u : T) × Like s' u × Stops Step' t u input held held' fault
   stops_like s s' t input held held' (faults.ReadFailed count) like a =
-      answered_like s s' t input held held' count like IsThrough IsThrough (through s s' t input held held' count like) a
+      answered_like s s' t input held held' count like AllAnswered AllAnswered (through s s' t input held held' count like) a
   stops_like s s' t input held held' (faults.WriteFailed count) like a =
-      answered_like s s' t input held held' count like (IsUnsent Step) (IsUnsent Step') (unsent s s' t input held held' count like) a
+      answered_like s s' t input held held' count like (WriteFailedAt Step) (WriteFailedAt Step') (unsent s s' t input held held' count like) a
   stops_like s s' t input held held' (faults.BadFrame count) like a =
       answered_like s s' t input held held' count like (λ node. AtLastRead (IsBad node)) (λ node. AtLastRead (IsBad node)) (bad s s' t input held held' count like) a
   stops_like s s' t input held held' (faults.TooManyReads count) like a =
-      answered_like s s' t input held held' count like IsThrough IsThrough (through s s' t input held held' count like) a
+      answered_like s s' t input held held' count like AllAnswered AllAnswered (through s s' t input held held' count like) a
   stops_like s s' t input held held' (faults.NoMemory count) like a =
       answered_like s s' t input held held' count like (λ node. AtLastRead (IsOutOfMemory Step node)) (λ node. AtLastRead (IsOutOfMemory Step' node)) (out_of_memory s s' t input held held' count like) a

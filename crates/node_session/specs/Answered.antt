@@ -8,7 +8,7 @@ use Rattle.pb_frame.specs.Message.{Message, frame, IsWithin, IsPartial, IsFaulty
 use Rattle.riak_msgs.specs.declared.request.Request.{Request}
 use Rattle.riak_msgs.specs.declared.reply.Reply.{Reply}
 use Rattle.riak_msgs.specs.declared.reply.Reply.TheVariants.{Error}
-use Rattle.node_session.specs.Answers.{Answers, Run, reply_frame, text_at, IsNoError}
+use Rattle.node_session.specs.Answers.{Answers, Run, reply_frame, frame_fault_text, IsNoError}
 
 -- The input begins with the frames of messages, each of them was answered in its turn, and so many whole replies were
 -- written, and after them `last`. Ends says how it ended, with the node as it is after them and with what the input has after them.
@@ -26,19 +26,19 @@ pub record Answered {S : Type 0} (Step : S → Request → Reply → S → Type 
   pub ends : Ends mid rest last
 
 -- no part of a reply was written, and the node and the rest are these
-pub record Stands {S : Type 0} (node' : S) (rest' : List ℕ) (mid : S) (rest last : List ℕ) : Type 0 where
+pub record StandsAt {S : Type 0} (node' : S) (rest' : List ℕ) (mid : S) (rest last : List ℕ) : Type 0 where
   pub node : node' ≡ mid
   pub left : rest' ≡ rest
   pub nothing : last ≡ []
 
 -- each whole message was answered, and nothing is wrong with what is left
-pub record IsThrough {S : Type 0} (node' : S) (mid : S) (rest last : List ℕ) : Type 0 where
+pub record AllAnswered {S : Type 0} (node' : S) (mid : S) (rest last : List ℕ) : Type 0 where
   pub node : node' ≡ mid
   pub partial : IsPartial longest_request rest
   pub nothing : last ≡ []
 
 -- the next message, its answer, and the node after it
-pub record IsDue {S : Type 0} (Step : S → Request → Reply → S → Type 0) (mid : S) (rest : List ℕ) (next : List ℕ) (node' : S) : Type 0 where
+pub record NextReply {S : Type 0} (Step : S → Request → Reply → S → Type 0) (mid : S) (rest : List ℕ) (next : List ℕ) (node' : S) : Type 0 where
   pub message : Message
   pub reply : Reply
   pub more : List ℕ
@@ -52,29 +52,29 @@ pub record IsError {S : Type 0} (mid : S) (rest : List ℕ) (next : List ℕ) (n
   pub fault : FrameFault
   pub faulty : IsFaulty longest_request rest fault
   pub node : node' ≡ mid
-  pub is : next ≡ reply_frame (Error (text_at fault))
+  pub is : next ≡ reply_frame (Error (frame_fault_text fault))
 
 -- the error for a bad length was written whole
 abbrev pub IsBad : {S : Type 0} (node' : S) → S → List ℕ → List ℕ → Type 0
 IsBad node' mid rest last = IsError mid rest last node'
 
 -- what was written begins what was due next, and doesn't end it
-pub record IsCut {S : Type 0} (Step : S → Request → Reply → S → Type 0) (node' : S) (mid : S) (rest last : List ℕ) : Type 0 where
+pub record PartlyWritten {S : Type 0} (Step : S → Request → Reply → S → Type 0) (node' : S) (mid : S) (rest last : List ℕ) : Type 0 where
   pub next : List ℕ
-  pub due : IsDue Step mid rest next node' ⊎ IsError mid rest next node'
+  pub due : NextReply Step mid rest next node' ⊎ IsError mid rest next node'
   pub len : ℕ
   pub short : len < length next
   pub begins : last ≡ take len next
 
 -- nothing of the next reply was written, which is no error, and the node stands behind its message
-pub record IsLost {S : Type 0} (Step : S → Request → Reply → S → Type 0) (node' : S) (mid : S) (rest last : List ℕ) : Type 0 where
+pub record ReplyNotWritten {S : Type 0} (Step : S → Request → Reply → S → Type 0) (node' : S) (mid : S) (rest last : List ℕ) : Type 0 where
   pub nothing : last ≡ []
   pub next : List ℕ
-  pub due : IsDue Step mid rest next node'
+  pub due : NextReply Step mid rest next node'
   pub no_error : IsNoError due.reply
 
 -- without its last 1 to 4,096 bytes, nothing is wrong with what is left and no whole frame stands there
-pub record IsJustRead (rest : List ℕ) : Type 0 where
+pub record CameInLastRead (rest : List ℕ) : Type 0 where
   pub before : List ℕ
   pub piece : List ℕ
   pub splits : rest ≡ before ++ piece
@@ -84,17 +84,17 @@ pub record IsJustRead (rest : List ℕ) : Type 0 where
 
 -- what ended it came with the last 4,096 bytes at most, which is what a read takes
 abbrev pub AtLastRead : {S : Type 0} → (S → List ℕ → List ℕ → Type 0) → S → List ℕ → List ℕ → Type 0
-AtLastRead Ends mid rest last = IsJustRead rest × Ends mid rest last
+AtLastRead Ends mid rest last = CameInLastRead rest × Ends mid rest last
 
 -- a part of what was due next was written, or all was written and could not be flushed
-abbrev pub IsUnsent : {S : Type 0} (Step : S → Request → Reply → S → Type 0) (node' : S) → S → List ℕ → List ℕ → Type 0
-IsUnsent Step node' mid rest last = AtLastRead (IsCut Step node') mid rest last ⊎ IsThrough node' mid rest last
+abbrev pub WriteFailedAt : {S : Type 0} (Step : S → Request → Reply → S → Type 0) (node' : S) → S → List ℕ → List ℕ → Type 0
+WriteFailedAt Step node' mid rest last = AtLastRead (PartlyWritten Step node') mid rest last ⊎ AllAnswered node' mid rest last
 
 -- nothing of what is left was answered
-pub record IsUnkept {S : Type 0} (node' : S) (mid : S) (rest last : List ℕ) : Type 0 where
+pub record Unanswered {S : Type 0} (node' : S) (mid : S) (rest last : List ℕ) : Type 0 where
   pub node : node' ≡ mid
   pub nothing : last ≡ []
 
 -- memory was refused for the next reply, or for the piece that was read last
 abbrev pub IsOutOfMemory : {S : Type 0} (Step : S → Request → Reply → S → Type 0) (node' : S) → S → List ℕ → List ℕ → Type 0
-IsOutOfMemory Step node' mid rest last = IsLost Step node' mid rest last ⊎ IsUnkept node' mid rest last
+IsOutOfMemory Step node' mid rest last = ReplyNotWritten Step node' mid rest last ⊎ Unanswered node' mid rest last

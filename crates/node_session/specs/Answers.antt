@@ -14,19 +14,19 @@ use Rattle.riak_msgs.specs.Reading.{Says}
 use Rattle.riak_msgs.specs.Replies.{reply_code, reply_body}
 
 -- the text of the error for a message that is no request
-abbrev pub text_for : MsgFault → Text
-text_for faults.UnknownCode = texts.UnknownCode
-text_for faults.BadMessage = texts.BadMessage
-text_for faults.MissingField = texts.MissingField
-text_for faults.EmptyName = texts.EmptyName
-text_for faults.NoKey = texts.NoKey
-text_for faults.NoMemory = texts.NoMemory
+abbrev pub message_fault_text : MsgFault → Text
+message_fault_text faults.UnknownCode = texts.UnknownCode
+message_fault_text faults.BadMessage = texts.BadMessage
+message_fault_text faults.MissingField = texts.MissingField
+message_fault_text faults.EmptyName = texts.EmptyName
+message_fault_text faults.NoKey = texts.NoKey
+message_fault_text faults.NoMemory = texts.NoMemory
 
 -- the text of the error for a bad length
-abbrev pub text_at : FrameFault → Text
-text_at frames.Empty = texts.BadFrame
-text_at frames.TooLarge = texts.FrameTooLarge
-text_at frames.NoMemory = texts.NoMemory
+abbrev pub frame_fault_text : FrameFault → Text
+frame_fault_text frames.Empty = texts.BadFrame
+frame_fault_text frames.TooLarge = texts.FrameTooLarge
+frame_fault_text frames.NoMemory = texts.NoMemory
 
 -- a reply as it is written
 abbrev pub reply_frame : Reply → List ℕ
@@ -41,7 +41,7 @@ module _ {S : Type 0} (Step : S → Request → Reply → S → Type 0) where
   -- a request is answered by a step of the node, or memory is refused and the node stays; a message that is none is answered by its error
   abbrev pub AnswersRead : S → Result Request MsgFault → Reply → S → Type 0
   AnswersRead old (Ok request) reply new = Step old request reply new ⊎ ((reply ≡ replies.Error texts.NoMemory) × (new ≡ old))
-  AnswersRead old (Err fault) reply new = (reply ≡ replies.Error (text_for fault)) × (new ≡ old)
+  AnswersRead old (Err fault) reply new = (reply ≡ replies.Error (message_fault_text fault)) × (new ≡ old)
 
   -- a message is answered by what it says
   pub record Answers (old : S) (m : Message) (reply : Reply) (new : S) : Type 0 where

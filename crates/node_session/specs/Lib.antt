@@ -4,6 +4,7 @@ pub mod Session
 pub mod Steps
 pub mod Report
 pub mod PlainStep
+pub mod PlainNodes
 pub mod ByIndex
 pub mod Registers
 pub mod SessionLaws

@@ -1,19 +1,18 @@
--- How a session of the program ends: a session over a new node, whose vnode is lost with it.
+-- How a session of the program ends: a session over a new node on a ring, whose vnodes are lost with it.
 use Rattle.std.specs.Prelude.{◌≡◌, List, ℕ, Option}
 use Rattle.std.specs.Io.KnownBytes.{Keeps}
-use Rattle.riak_msgs.specs.declared.Content.{Content}
-use Rattle.vnode_machine.specs.Machine.{State}
 use Rattle.node_session.specs.declared.fault.SessionFault.{SessionFault}
 use Rattle.node_session.specs.declared.fault.SessionFault.TheVariants.{NoMemory}
+use Rattle.node_session.specs.PlainNodes.{NodeState}
 use Rattle.node_session.specs.SessionLaws.{RegisterEnds, RegisterStops}
 
 -- it is a session over the register, to the end of the input
-abbrev pub PipeEnds : (run : ℕ) (input : List ℕ) (held held' : Option (List ℕ)) (count len : ℕ) → Type 0
-PipeEnds run input held held' count len = (vnode : State Content) × RegisterEnds run vnode input held held' count len
+abbrev pub PipeEnds : (run index_bits budget : ℕ) (input : List ℕ) (held held' : Option (List ℕ)) (count len : ℕ) → Type 0
+PipeEnds run index_bits budget input held held' count len = (node : NodeState) × RegisterEnds run index_bits budget node input held held' count len
 
 -- or to a fault
-abbrev pub PipeStops : (run : ℕ) (input : List ℕ) (held held' : Option (List ℕ)) → SessionFault → Type 0
-PipeStops run input held held' fault = (vnode : State Content) × RegisterStops run vnode input held held' fault
+abbrev pub PipeStops : (run index_bits budget : ℕ) (input : List ℕ) (held held' : Option (List ℕ)) → SessionFault → Type 0
+PipeStops run index_bits budget input held held' fault = (node : NodeState) × RegisterStops run index_bits budget node input held held' fault
 
 -- no node was made, for want of memory, and nothing was read or written
 pub record IsNotBegun (unread unread' held held' : Option (List ℕ)) (fault : SessionFault) : Type 0 where

@@ -1,5 +1,5 @@
--- What a node of one vnode does: what comes of the ask that a request makes, as a reply.
-use Rattle.std.specs.Prelude.{◌≡◌, ◌⊎◌, ◌==◌, if◌then◌else◌, ℕ, Option, Some, None, Result, Ok, Err, MatchOption}
+-- What a vnode does for a node: what comes of the ask that a request makes, as a reply.
+use Rattle.std.specs.Prelude.{◌≡◌, ◌⊎◌, ◌==◌, if◌then◌else◌, ℕ, Option, Some, None, Result, Ok, Err}
 use Rattle.riak_msgs.specs.declared.Content.{Content}
 use Rattle.riak_msgs.specs.declared.Text.{Text}
 use Rattle.riak_msgs.specs.declared.Text.TheVariants as texts
@@ -12,7 +12,7 @@ use Rattle.sibling_register.specs.Answers.{Ask, AskGet, AskPut, AskDel}
 use Rattle.actor_epoch.specs.Given.{Context}
 use Rattle.vnode_machine.specs.Machine.{State}
 use Rattle.vnode_machine.specs.Asks.{get_command, put_command, del_command}
-use Rattle.vnode_machine.specs.Step.{Response, GetDone, PutDone, DelDone, ReapDone, ReapKept, StepOutcome, Refused, Answered, Accepted, outcome}
+use Rattle.vnode_machine.specs.Step.{Response, GetDone, PutDone, DelDone, ReapDone, ReapKept, StepOutcome, Refused, Answered, Accepted}
 
 -- the ask that a request makes of a vnode; a ping makes none
 abbrev pub ask_of : Request → Option (Ask Content Context)
@@ -56,9 +56,3 @@ abbrev pub StepsBy : State Content → StepOutcome → Reply → State Content �
 StepsBy old (Refused number) reply new = (reply ≡ reply_of (Err number)) × (new ≡ old)
 StepsBy old (Answered response) reply new = ((reply ≡ reply_of (Ok response)) × (new ≡ old)) ⊎ GivesUp old reply new
 StepsBy old (Accepted deed response next) reply new = ((reply ≡ reply_of (Ok response)) × (new ≡ next)) ⊎ GivesUp old reply new
-
--- the step of a node of one vnode: a ping is answered by a ping and changes nothing, any other request by what comes of
--- its ask
-abbrev pub PlainStep : State Content → Request → Reply → State Content → Type 0
-PlainStep old request reply new =
-    MatchOption (ask_of request) ((reply ≡ replies.Ping) × (new ≡ old)) (λ ask. StepsBy old (outcome old ask) reply new)

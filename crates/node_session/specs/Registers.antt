@@ -1,11 +1,12 @@
 -- The sibling register as a node: it keeps the history of each vnode, and no clocks.
-use Rattle.std.specs.Prelude.{◌+◌, ◌*◌, List, [], ℕ, get_or}
+use Rattle.std.specs.Prelude.{[], ℕ}
+use Rattle.ring_map.specs.Ring.{id_of}
 use Rattle.riak_msgs.specs.declared.Key.{Key}
 use Rattle.riak_msgs.specs.declared.Content.{Content}
 use Rattle.riak_msgs.specs.declared.Request.{Request}
 use Rattle.riak_msgs.specs.declared.Reply.{Reply}
 use Rattle.sibling_register.specs.Legal.{IsLegal}
-use Rattle.vnode_machine.specs.Machine.{State, opening}
+use Rattle.vnode_machine.specs.Machine.{State}
 use Rattle.vnode_machine.specs.Replay.{History, naming, IsAfter}
 use Rattle.vnode_machine.specs.Runs.{AnswersTurn}
 use Rattle.node_session.specs.ByIndex.{StepByIndex}
@@ -19,19 +20,11 @@ abbrev pub no_events : Histories
 no_events index = []
 
 module _ (run : ℕ) where
-  -- the id of the vnode at an index
-  abbrev pub vnode_id : (index : ℕ) → ℕ
-  vnode_id index = run * 65536 + index
-
-  -- the vnode at an index of a list; beyond the list there has been no event
-  abbrev pub vnode_at : List (State Content) → (index : ℕ) → State Content
-  vnode_at vnodes index = get_or vnodes index (opening (vnode_id index) 0)
-
   -- the step of the register: at each index it answers as the history there has it
   abbrev pub RegisterStep : (index_of : Key → ℕ) (budget : ℕ) → Histories → Request → Reply → Histories → Type 0
-  RegisterStep = StepByIndex (λ index. AnswersTurn (vnode_id index) 0)
+  RegisterStep = StepByIndex (λ index. AnswersTurn (id_of run index) 0)
 
   -- each vnode is after its history, which is legal
   pub record AreAfter (histories : Histories) (vnodes : (index : ℕ) → State Content) : Type 0 where
-    pub after : (index : ℕ) → IsAfter (vnode_id index) 0 (histories index) (vnodes index)
-    pub legal : (index : ℕ) → IsLegal (naming (vnode_id index) 0) (histories index)
+    pub after : (index : ℕ) → IsAfter (id_of run index) 0 (histories index) (vnodes index)
+    pub legal : (index : ℕ) → IsLegal (naming (id_of run index) 0) (histories index)

@@ -4,10 +4,10 @@ use Rattle.std.specs.Io.KnownBytes.{Consumes}
 use Rattle.riak_msgs.specs.declared.request.Request.{Request}
 use Rattle.riak_msgs.specs.declared.reply.Reply.{Reply}
 use Rattle.node_session.specs.declared.sending.Stop.{Stop}
-use Rattle.node_session.specs.declared.sending.Stop.TheVariants.{Unsent, Bad, Lost}
+use Rattle.node_session.specs.declared.sending.Stop.TheVariants as stops
 use Rattle.node_session.specs.declared.fault.SessionFault.{SessionFault}
 use Rattle.node_session.specs.declared.fault.SessionFault.TheVariants.{ReadFailed, WriteFailed, BadFrame, TooManyReads, NoMemory}
-use Rattle.node_session.specs.Answered.{Answered, IsThrough, IsBad, IsUnsent, IsOutOfMemory, AtLastRead}
+use Rattle.node_session.specs.Answered.{Answered, AllAnswered, IsBad, WriteFailedAt, IsOutOfMemory, AtLastRead}
 
 -- a reader gave an input, by so many reads at most
 pub record Given (unread unread' : Option (List ℕ)) (reads : ℕ) (Serves : List ℕ → Type 0) : Type 0 where
@@ -25,22 +25,22 @@ pub record MadeReads (unread unread' : Option (List ℕ)) (reads : ℕ) : Type 0
 
 -- the end of the input was met, and this much is left of it
 pub record IsEnd {S : Type 0} (node' : S) (len : ℕ) (mid : S) (rest last : List ℕ) : Type 0 where
-  pub through : IsThrough node' mid rest last
+  pub through : AllAnswered node' mid rest last
   pub left : length rest ≡ len
 
 -- The fault, with how many whole replies were written.
 abbrev pub Stops : {S : Type 0} → (S → Request → Reply → S → Type 0) → S → S → List ℕ → Option (List ℕ) → Option (List ℕ) → SessionFault → Type 0
-Stops Step old new input held held' (ReadFailed count) = Answered Step old input held held' count (IsThrough new)
-Stops Step old new input held held' (WriteFailed count) = Answered Step old input held held' count (IsUnsent Step new)
+Stops Step old new input held held' (ReadFailed count) = Answered Step old input held held' count (AllAnswered new)
+Stops Step old new input held held' (WriteFailed count) = Answered Step old input held held' count (WriteFailedAt Step new)
 Stops Step old new input held held' (BadFrame count) = Answered Step old input held held' count (AtLastRead (IsBad new))
-Stops Step old new input held held' (TooManyReads count) = Answered Step old input held held' count (IsThrough new)
+Stops Step old new input held held' (TooManyReads count) = Answered Step old input held held' count (AllAnswered new)
 Stops Step old new input held held' (NoMemory count) = Answered Step old input held held' count (AtLastRead (IsOutOfMemory Step new))
 
 -- the fault for a stop
 abbrev pub fault_for : Stop → ℕ → SessionFault
-fault_for Unsent count = WriteFailed count
-fault_for Bad count = BadFrame count
-fault_for Lost count = NoMemory count
+fault_for stops.WriteFailed count = WriteFailed count
+fault_for stops.BadFrame count = BadFrame count
+fault_for stops.NoMemory count = NoMemory count
 
 -- the fault of a session that made all its reads
 abbrev pub IsTooManyReads : SessionFault → Type 0

@@ -7,9 +7,9 @@ use Rattle.riak_msgs.specs.declared.request.Request.{Request}
 use Rattle.riak_msgs.specs.declared.reply.Reply.{Reply}
 use Rattle.pb_frame.specs.Limits.{longest_request}
 use Rattle.node_session.specs.declared.sending.Stop.{Stop}
-use Rattle.node_session.specs.declared.sending.Stop.TheVariants.{Unsent, Bad, Lost}
+use Rattle.node_session.specs.declared.sending.Stop.TheVariants.{WriteFailed, BadFrame, NoMemory}
 use Rattle.node_session.specs.Answers.{Answers, reply_frame, IsNoError}
-use Rattle.node_session.specs.Answered.{Answered, Stands, IsBad, IsCut, IsLost}
+use Rattle.node_session.specs.Answered.{Answered, StandsAt, IsBad, PartlyWritten, ReplyNotWritten}
 use Rattle.node_session.specs.Session.{Stops, fault_for}
 
 -- a beginning of the bytes was written, and not all
@@ -21,16 +21,16 @@ pub record IsCutShort (held held' : Option (List ℕ)) (bytes : List ℕ) : Type
 -- the bytes were sent, or cut short
 abbrev pub Sends : Option (List ℕ) → Option (List ℕ) → List ℕ → Result (Unit {0}) Stop → Type 0
 Sends held held' bytes (Ok u) = Appends held held' bytes
-Sends held held' bytes (Err Unsent) = IsCutShort held held' bytes
-Sends held held' bytes (Err Bad) = ⊥
-Sends held held' bytes (Err Lost) = ⊥
+Sends held held' bytes (Err WriteFailed) = IsCutShort held held' bytes
+Sends held held' bytes (Err BadFrame) = ⊥
+Sends held held' bytes (Err NoMemory) = ⊥
 
 -- a reply was sent, cut short, or lost before its first byte. An error is never lost
 abbrev pub SendsReply : Option (List ℕ) → Option (List ℕ) → Reply → Result (Unit {0}) Stop → Type 0
 SendsReply held held' reply (Ok u) = Appends held held' (reply_frame reply)
-SendsReply held held' reply (Err Unsent) = IsCutShort held held' (reply_frame reply)
-SendsReply held held' reply (Err Bad) = ⊥
-SendsReply held held' reply (Err Lost) = IsNoError reply × Appends held held' []
+SendsReply held held' reply (Err WriteFailed) = IsCutShort held held' (reply_frame reply)
+SendsReply held held' reply (Err BadFrame) = ⊥
+SendsReply held held' reply (Err NoMemory) = IsNoError reply × Appends held held' []
 
 module _ {S : Type 0} (Step : S → Request → Reply → S → Type 0) where
   -- one message is answered
@@ -41,9 +41,9 @@ module _ {S : Type 0} (Step : S → Request → Reply → S → Type 0) where
 
   -- how a session ends that stops among its answers
   abbrev pub StopEnds : Stop → S → S → List ℕ → List ℕ → Type 0
-  StopEnds Unsent new = IsCut Step new
-  StopEnds Bad new = IsBad new
-  StopEnds Lost new = IsLost Step new
+  StopEnds WriteFailed new = PartlyWritten Step new
+  StopEnds BadFrame new = IsBad new
+  StopEnds NoMemory new = ReplyNotWritten Step new
 
   -- nothing was left to answer
   pub record IsIdle (old new : S) (framer framer' : Stream) (held held' : Option (List ℕ)) : Type 0 where
@@ -55,7 +55,7 @@ module _ {S : Type 0} (Step : S → Request → Reply → S → Type 0) where
   -- the next message was answered by a whole reply
   pub record IsNext (old new : S) (framer framer' : Stream) (held held' : Option (List ℕ)) : Type 0 where
     pub stream : framer' ≡ record framer { rest = framer'.rest }
-    pub answered : Answered Step old framer.rest held held' 1 (Stands new framer'.rest)
+    pub answered : Answered Step old framer.rest held held' 1 (StandsAt new framer'.rest)
 
   -- the next message, if there is one
   abbrev pub AnswersNext : S → S → Stream → Stream → Option (List ℕ) → Option (List ℕ) → Result Bool Stop → Type 0
@@ -67,7 +67,7 @@ module _ {S : Type 0} (Step : S → Request → Reply → S → Type 0) where
   pub record IsAll (old new : S) (framer framer' : Stream) (held held' : Option (List ℕ)) (replies : ℕ) : Type 0 where
     pub partial : IsPartial longest_request framer'.rest
     pub stream : framer' ≡ record framer { rest = framer'.rest }
-    pub answered : Answered Step old framer.rest held held' replies (Stands new framer'.rest)
+    pub answered : Answered Step old framer.rest held held' replies (StandsAt new framer'.rest)
 
   -- all whole messages, and how many of them got their replies
   abbrev pub AnswersAll : S → S → Stream → Stream → Option (List ℕ) → Option (List ℕ) → ℕ → Result (Unit {0}) Stop → Type 0

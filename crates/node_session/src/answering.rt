@@ -3,8 +3,8 @@
 ghost use Rattle.std.specs.Prelude.{◌≡◌, ◌+◌, ◌<◌, ◌≤◌, ◌^◌, IfOk, IfErr, IfSome, None, length};
 ghost use Rattle.pb_frame.specs.Limits.{longest_request};
 ghost use Rattle.pb_frame.specs.Message.{IsPartial};
-ghost use Rattle.node_session.specs.declared.sending.Stop.TheVariants.{Lost};
-ghost use Rattle.node_session.specs.Answers.{reply_frame, text_for, text_at};
+ghost use Rattle.node_session.specs.declared.sending.Stop.TheVariants.{NoMemory};
+ghost use Rattle.node_session.specs.Answers.{reply_frame, message_fault_text, frame_fault_text};
 ghost use Rattle.node_session.specs.Steps.{Answering, SendsReply, AnswersNext, AnswersAll, AnswersPiece};
 
 use crate::error_frame::error_frame;
@@ -15,8 +15,8 @@ use riak_msgs::{MsgFault, Reply, Text, read_request};
 use std::alloc::Global;
 use std::io::Write;
 
-fn text_for(fault: MsgFault) -> Text
-    ensures { result ≡ text_for fault }
+fn message_fault_text(fault: MsgFault) -> Text
+    ensures { result ≡ message_fault_text fault }
 {
     match fault {
         MsgFault::UnknownCode => Text::UnknownCode,
@@ -28,8 +28,8 @@ fn text_for(fault: MsgFault) -> Text
     }
 }
 
-fn text_at(fault: FrameFault) -> Text
-    ensures { result ≡ text_at fault }
+fn frame_fault_text(fault: FrameFault) -> Text
+    ensures { result ≡ frame_fault_text fault }
 {
     match fault {
         FrameFault::Empty => Text::BadFrame,
@@ -41,9 +41,9 @@ fn text_at(fault: FrameFault) -> Text
 /// The frame of a reply.
 fn spell(alloc: Global, reply: &Reply) -> Result<Vec<u8>, Stop>
     ensures ok { IfOk result (λ v. v.items ≡ reply_frame reply.now) }
-    ensures err { IfErr result (λ e. e ≡ Lost) }
+    ensures err { IfErr result (λ e. e ≡ NoMemory) }
 {
-    frame_in(alloc, reply).ok_or(Stop::Lost)
+    frame_in(alloc, reply).ok_or(Stop::NoMemory)
 }
 
 /// The frame of a reply, in one buffer that is made at its full size: the header, and the body behind it.
@@ -86,7 +86,7 @@ fn answer<W: Write, N: Node>(
             let reply = node.answer(alloc, request);
             send_reply(alloc, writer, &reply)
         }
-        Err(fault) => send(writer, error_frame(text_for(fault))),
+        Err(fault) => send(writer, error_frame(message_fault_text(fault))),
     }
 }
 
@@ -108,8 +108,8 @@ fn answer_next<W: Write, N: Node>(
         }
         Ok(None) => Ok(false),
         Err(fault) => {
-            send(writer, error_frame(text_at(fault)))?;
-            Err(Stop::Bad)
+            send(writer, error_frame(frame_fault_text(fault)))?;
+            Err(Stop::BadFrame)
         }
     }
 }
@@ -154,7 +154,7 @@ pub(crate) fn answer_piece<W: Write, N: Node>(
     ensures { AnswersPiece N.step node.old node.new framer.old framer.new piece.now (W.contents writer.old) (W.contents writer.new) result.0 result.1 }
 {
     if framer.feed(piece).is_err() {
-        return (0, Err(Stop::Lost));
+        return (0, Err(Stop::NoMemory));
     }
     answer_all(alloc, framer, writer, node)
 }

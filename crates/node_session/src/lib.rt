@@ -12,7 +12,9 @@
 //! take no memory. It asks the writer to flush before each read, so a writer may gather the replies and pay one write
 //! for all that a read brought.
 //!
-//! `PlainNode` is a node for one thread: one vnode, whose machine is its step (`specs/PlainStep`).
+//! `PlainNode` is a node for one thread: the vnodes of a ring, each key in that of its partition, whose machine is its
+//! step (`specs/PlainNodes`). After each answer to a get, a put or a delete it forgets the first dead keys of that key's
+//! vnode, so many at most. `plain_node_is_register` is the law of its sessions.
 #![tactic(auto)]
 
 mod answering;
@@ -25,6 +27,7 @@ mod plain_node;
 mod report;
 mod sending;
 mod session;
+mod vnode_reply;
 
 pub use ended::Ended;
 pub use fault::SessionFault;

@@ -1,23 +1,18 @@
-//! A node of one vnode, for one thread.
+//! A node of vnodes on a ring, for one thread.
 
-ghost use Rattle.std.specs.Prelude.{◌≡◌, ◌≤◌, ◌*◌, IfOk};
-ghost use Rattle.sibling_register.specs.Answers.{AskGet, AskPut};
-ghost use Rattle.vnode_machine.specs.Machine.{opening};
-ghost use Rattle.vnode_machine.specs.Asks.{get_command, put_command};
-ghost use Rattle.vnode_machine.specs.Step.{outcome};
-ghost use Rattle.vnode_core.specs.Plans.{IsSilent, response_of};
-ghost use Rattle.vnode_core.specs.Refusals.{number_of};
-ghost use Rattle.node_session.specs.PlainStep.{refusal_text, response_reply, StepsBy};
+ghost use Rattle.std.specs.Prelude.{◌≡◌, ◌≤◌, IfOk};
+ghost use Rattle.sibling_register.specs.Answers.{AskGet, AskPut, AskDel};
+ghost use Rattle.vnode_machine.specs.Asks.{get_command, put_command, del_command};
+ghost use Rattle.node_session.specs.PlainNodes.{states_of, AnswersByKey, AreNew, IsNew};
 
 use crate::node::Node;
-use riak_msgs::{GetAsk, PutAsk, Reply, Request, Text};
-use std::alloc::Global;
+use crate::vnode_reply::{change_and_sweep, get_and_sweep};
+use riak_msgs::{DelAsk, GetAsk, PutAsk, Reply, Request};
+use ring_map::{Ring, vnode_id};
+use std::alloc::{AllocError, Global};
 use std::marker::Model;
 use thiserror::Error;
-use vnode_core::{Answer, Ask, Plan, Reaped, Refusal, Vnode};
-
-/// The vnode ids of one run are this many times the run's number, and on.
-const IDS_OF_A_RUN: u64 = 65_536;
+use vnode_core::{Ask, Vnode};
 
 /// The first epoch of a vnode of a new run.
 const FIRST_EPOCH: u32 = 1;
@@ -30,92 +25,114 @@ pub enum NodeFault {
     NoMemory,
 }
 
-/// A node that keeps its keys in one vnode and waits for nobody. Contracts see the vnode's state, and its step is the
-/// vnode machine's.
+impl From<AllocError> for NodeFault {
+    fn from(_error: AllocError) -> NodeFault {
+        NodeFault::NoMemory
+    }
+}
+
+/// A node that keeps its keys in the vnodes of a ring, each key in that of its partition, and waits for nobody.
+/// Contracts see the vnodes' states, and its step is the vnode machine's at the key's vnode.
 ///
-/// One of run 1, over its life: a get of b/k is told that the key is absent. A put of "v" on b/k is told as stored, at
-/// the first dot of the actor (65536, 1). A get is told "v" with the context of that dot. A put of "w" without context
-/// stands beside "v", and a get is told "w", "v" and the context of both dots.
+/// One of run 1 and one partition, over its life: a get of b/k shows that the key is absent. A put of "v" on b/k is
+/// stored, at the first dot of the actor (65536, 1). A get shows "v" with the context of that dot. A put of "w" without
+/// context stands beside "v", and a get shows "w", "v" and the context of both dots. A delete without context leaves a
+/// tombstone alone: a get shows that the key is absent, and its context to who asks for it. With a budget of 1 the key is
+/// forgotten after the delete's answer, and a put begins a new life, at the actor (65536, 2).
 #[derive(Drop)]
 pub struct PlainNode {
-    vnode: Vnode,
+    ring: Ring,
+    budget: u32,
+    vnodes: Vec<Vnode>,
 }
 
 impl Model for PlainNode {
-    ghost use Rattle.vnode_machine.specs.Machine.{State};
-    ghost use Rattle.riak_msgs.specs.declared.content.Content.{Content};
+    ghost use Rattle.std.specs.Prelude.{◌≡◌, ◌^◌, length};
+    ghost use Rattle.node_session.specs.PlainNodes.{NodeState, states_of};
 
-    ghost Value = { State Content };
+    ghost Value = { NodeState };
 
-    ghost view = { λ n. n.vnode.state };
+    ghost view = { λ n. record { index_bits = n.ring; budget = n.budget; vnodes = states_of n.vnodes.items } };
+
+    ghost invariant = { λ n. length n.vnodes.items ≡ 2 ^ n.ring };
 }
 
-/// The text of the error by which a refusal is told.
-fn text_of(refusal: Refusal) -> Text
-    ensures { result ≡ refusal_text (number_of refusal) }
+/// A vnode of a run for each index below `size`, before any event.
+fn new_vnodes(alloc: Global, run: u32, size: u16) -> Result<Vec<Vnode>, AllocError>
+    requires { 1 ≤ run }
+    ensures { IfOk result (λ vnodes. AreNew run size (states_of vnodes.items)) }
 {
-    match refusal {
-        Refusal::MatchFound => Text::MatchFound,
-        Refusal::Modified => Text::Modified,
-        Refusal::NotFound => Text::NotFound,
-        Refusal::BadContext => Text::BadContext,
-        Refusal::TooManySiblings => Text::TooManySiblings,
-        Refusal::ClockFull => Text::ClockFull,
-        Refusal::EpochsUsedUp => Text::EpochsUsedUp,
-        Refusal::CounterUsedUp => Text::CounterUsedUp,
-        Refusal::NoMemory => Text::NoMemory,
+    let mut vnodes = Vec::with_capacity(alloc, usize::from(size))?;
+    for index in 0..size {
+        vnodes.push(Vnode::new(alloc, vnode_id(run, index), FIRST_EPOCH))?;
     }
-}
-
-/// The reply for an answer.
-fn reply_of(answer: Answer) -> Reply
-    ensures { result ≡ response_reply (response_of answer) }
-{
-    match answer {
-        Answer::Put(reply) => Reply::Put(reply),
-        Answer::Del => Reply::Del,
-        Answer::Reaped(Reaped::Gone | Reaped::Kept | Reaped::Absent) => Reply::Del,
-    }
+    Ok(vnodes)
 }
 
 impl PlainNode {
-    /// A node of no keys, of this run: its vnode has the first id of the run. Contexts that were shown in an earlier
-    /// run of the same number may cover what their holders never saw, so a run's number is used once.
+    /// A node of no keys, of this run, with one vnode: as [`PlainNode::on_ring`] with a ring of one partition.
     pub fn new(alloc: Global, run: u32) -> Result<PlainNode, NodeFault>
         requires { 1 ≤ run }
-        ensures { IfOk result (λ n. n ≡ opening (run * 65536) 0) }
+        ensures { IfOk result (λ n. IsNew run 0 0 n) }
     {
-        let id = u64::from(run) * IDS_OF_A_RUN;
+        let Some(ring) = Ring::new(1) else {
+            unreachable!()
+        };
+        PlainNode::on_ring(alloc, ring, run)
+    }
+
+    /// A node of no keys, of this run, with a vnode for each partition of the ring; the vnode at an index has the id
+    /// `run * 65536 + index`. The run is at least 1. Contexts that were shown in an earlier run of the same number may
+    /// cover what their holders never saw, so a run's number is used once. `NoMemory` where memory is refused.
+    pub fn on_ring(alloc: Global, ring: Ring, run: u32) -> Result<PlainNode, NodeFault>
+        requires { 1 ≤ run }
+        ensures { IfOk result (λ n. IsNew run ring 0 n) }
+    {
+        let vnodes = new_vnodes(alloc, run, ring.size())?;
         Ok(PlainNode {
-            vnode: Vnode::new(alloc, id, FIRST_EPOCH),
+            ring,
+            budget: 0,
+            vnodes,
         })
     }
 
-    /// Answers a get.
-    fn get(&self, alloc: Global, ask: &GetAsk) -> Reply
-        ensures { StepsBy self.now (outcome self.now (AskGet (get_command ask.now))) result self.now }
+    /// This node with another budget of its sweeps: after each answer to a get, a put or a delete, the vnode of that key
+    /// forgets its first `budget` dead keys, in key order, each with its clock. A new node's budget is 0. It takes no
+    /// memory.
+    pub fn with_budget(mut self, budget: u32) -> PlainNode
+        ensures { result ≡ record self { budget = budget } }
     {
-        match self.vnode.get(alloc, ask) {
-            Ok(reply) => Reply::Get(reply),
-            Err(refusal) => Reply::Error(text_of(refusal)),
-        }
+        self.budget = budget;
+        self
+    }
+
+    /// Answers a get.
+    fn get(&mut self, alloc: Global, ask: &GetAsk) -> Reply
+        ensures { AnswersByKey self.old (AskGet (get_command ask.now)) result self.new }
+    {
+        let index = usize::from(self.ring.index(&ask.key));
+        get_and_sweep(&mut self.vnodes[index], alloc, ask, self.budget)
     }
 
     /// Answers a put.
     fn put(&mut self, alloc: Global, ask: PutAsk) -> Reply
-        requires { IsSilent ask }
-        ensures { StepsBy self.old (outcome self.old (AskPut (put_command ask))) result self.new }
+        ensures { AnswersByKey self.old (AskPut (put_command ask)) result self.new }
     {
-        match self.vnode.prepare(alloc, Ask::Put(ask)) {
-            Ok(Plan::Change(change)) => reply_of(self.vnode.finish(change)),
-            Ok(Plan::Nothing(answer)) => reply_of(answer),
-            Err(refusal) => Reply::Error(text_of(refusal)),
-        }
+        let index = usize::from(self.ring.index(&ask.key));
+        change_and_sweep(&mut self.vnodes[index], alloc, Ask::Put(ask), self.budget)
+    }
+
+    /// Answers a delete.
+    fn del(&mut self, alloc: Global, ask: DelAsk) -> Reply
+        ensures { AnswersByKey self.old (AskDel (del_command ask)) result self.new }
+    {
+        let index = usize::from(self.ring.index(&ask.key));
+        change_and_sweep(&mut self.vnodes[index], alloc, Ask::Del(ask), self.budget)
     }
 }
 
 impl Node for PlainNode {
-    ghost use Rattle.node_session.specs.PlainStep.{PlainStep};
+    ghost use Rattle.node_session.specs.PlainNodes.{PlainStep};
 
     ghost step = { PlainStep };
 
@@ -124,8 +141,7 @@ impl Node for PlainNode {
             Request::Ping => Reply::Ping,
             Request::Get(ask) => self.get(alloc, &ask),
             Request::Put(ask) => self.put(alloc, ask),
-            // No such request is taken so far.
-            Request::Del(_) => unreachable!(),
+            Request::Del(ask) => self.del(alloc, ask),
         }
     }
 }

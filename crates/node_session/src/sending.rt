@@ -2,7 +2,7 @@
 
 ghost use Rattle.std.specs.Prelude.{◌≡◌, ◌<◌, ◌≤◌, length, take, IfOk, IfErr, OnErr};
 ghost use Rattle.std.specs.Io.KnownBytes.{Appends, Keeps};
-ghost use Rattle.node_session.specs.declared.sending.Stop.TheVariants.{Unsent};
+ghost use Rattle.node_session.specs.declared.sending.Stop.TheVariants.{WriteFailed};
 ghost use Rattle.node_session.specs.Steps.{Sends};
 
 use std::io::{ErrorKind, Write};
@@ -11,11 +11,11 @@ use std::io::{ErrorKind, Write};
 #[derive(Clone, Copy, Drop)]
 pub(crate) enum Stop {
     /// The writer failed, or took no byte.
-    Unsent,
+    WriteFailed,
     /// A bad length stood in the stream.
-    Bad,
+    BadFrame,
     /// Memory was refused for a reply, or for a piece that was read.
-    Lost,
+    NoMemory,
 }
 
 /// How often in a row one write or one flush may be interrupted. The bound lets the loops end, and is never met.
@@ -27,20 +27,20 @@ fn write_some<W: Write>(writer: &mut W, bytes: &[u8]) -> Result<usize, Stop>
     ensures taken { IfOk result (λ n.
         Appends (W.contents writer.old) (W.contents writer.new) (take n bytes.now)) }
     ensures none { OnErr result (Keeps (W.contents writer.old) (W.contents writer.new)) }
-    ensures stop { IfErr result (λ stop. stop ≡ Unsent) }
+    ensures stop { IfErr result (λ stop. stop ≡ WriteFailed) }
 {
     for _ in 0..MAX_INTERRUPTIONS {
         match writer.write(bytes) {
-            Ok(0) => return Err(Stop::Unsent),
+            Ok(0) => return Err(Stop::WriteFailed),
             Ok(n) => return Ok(n),
             Err(error) => {
                 if error.kind() != ErrorKind::Interrupted {
-                    return Err(Stop::Unsent);
+                    return Err(Stop::WriteFailed);
                 }
             }
         }
     }
-    Err(Stop::Unsent)
+    Err(Stop::WriteFailed)
 }
 
 /// Writes all of the bytes, or fails with a beginning of them written.
@@ -57,17 +57,17 @@ pub(crate) fn send<W: Write>(writer: &mut W, bytes: &[u8]) -> Result<(), Stop>
 /// Flushes what was written. A flush that is interrupted is tried again.
 pub(crate) fn flush<W: Write>(writer: &mut W) -> Result<(), Stop>
     ensures kept { Keeps (W.contents writer.old) (W.contents writer.new) }
-    ensures stop { IfErr result (λ stop. stop ≡ Unsent) }
+    ensures stop { IfErr result (λ stop. stop ≡ WriteFailed) }
 {
     for _ in 0..MAX_INTERRUPTIONS {
         match writer.flush() {
             Ok(()) => return Ok(()),
             Err(error) => {
                 if error.kind() != ErrorKind::Interrupted {
-                    return Err(Stop::Unsent);
+                    return Err(Stop::WriteFailed);
                 }
             }
         }
     }
-    Err(Stop::Unsent)
+    Err(Stop::WriteFailed)
 }

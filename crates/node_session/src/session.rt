@@ -1,6 +1,7 @@
 //! A session from its first read to its end.
 
-ghost use Rattle.std.specs.Prelude.{◌≡◌, ◌≤◌, ◌^◌, IfOk, IfErr};
+ghost use Rattle.std.specs.Prelude.{◌≡◌, ◌≤◌, ◌^◌, [], None, IfOk, IfErr};
+ghost use Rattle.pb_frame.specs.Limits.{longest_request};
 ghost use Rattle.std.specs.Io.KnownBytes.{IsAtEnd, Keeps};
 ghost use Rattle.node_session.specs.Answered.{Answered};
 ghost use Rattle.node_session.specs.Session.{Given, IsEnd, IsTooManyReads, MadeReads, Stops, fault_for};
@@ -23,12 +24,12 @@ fn fault_of<W: Write>(writer: &mut W, stop: Stop, replies: u64) -> SessionFault
     ensures nothing { Keeps (W.contents writer.old) (W.contents writer.new) }
 {
     match stop {
-        Stop::Unsent => SessionFault::WriteFailed(replies),
-        Stop::Bad => {
+        Stop::WriteFailed => SessionFault::WriteFailed(replies),
+        Stop::BadFrame => {
             let _ = flush(writer);
             SessionFault::BadFrame(replies)
         }
-        Stop::Lost => {
+        Stop::NoMemory => {
             let _ = flush(writer);
             SessionFault::NoMemory(replies)
         }
@@ -69,6 +70,32 @@ pub fn serve<R: Read, W: Write, N: Node>(
         → MadeReads (R.remaining reader.old) (R.remaining reader.new) reads) }
 {
     let mut framer = Framer::new(alloc, LONGEST_REQUEST);
+    serve_from(alloc, &mut framer, reader, writer, node, reads)
+}
+
+/// Serves as [`serve`] does, by a framer to which nothing was fed.
+fn serve_from<R: Read, W: Write, N: Node>(
+    alloc: Global,
+    framer: &mut Framer,
+    reader: &mut R,
+    writer: &mut W,
+    node: &mut N,
+    reads: u64,
+) -> Result<Ended, SessionFault>
+    requires reads { reads ≤ 2 ^ 32 }
+    requires new { framer.old ≡ record { limit = longest_request; rest = []; fault = None } }
+    ensures ended { IfOk result (λ e.
+        Given (R.remaining reader.old) (R.remaining reader.new) reads (λ input.
+        Answered N.step node.old input (W.contents writer.old) (W.contents writer.new)
+        e.replies (IsEnd node.new e.rest))) }
+    ensures all { IfOk result (λ _. IsAtEnd (R.remaining reader.new)) }
+    ensures stopped { IfErr result (λ fault.
+        Given (R.remaining reader.old) (R.remaining reader.new) reads (λ input.
+        Stops N.step node.old node.new input
+        (W.contents writer.old) (W.contents writer.new) fault)) }
+    ensures too_many { IfErr result (λ fault. IsTooManyReads fault
+        → MadeReads (R.remaining reader.old) (R.remaining reader.new) reads) }
+{
     let mut piece = [0u8; PIECE];
     let mut replies = 0;
     for _ in 0..reads {
@@ -83,7 +110,7 @@ pub fn serve<R: Read, W: Write, N: Node>(
                 });
             }
             Ok(n) => {
-                let (more, answered) = answer_piece(alloc, &mut framer, &piece[..n], writer, node);
+                let (more, answered) = answer_piece(alloc, framer, &piece[..n], writer, node);
                 replies += more;
                 if let Err(stop) = answered {
                     return Err(fault_of(writer, stop, replies));

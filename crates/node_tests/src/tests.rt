@@ -2,12 +2,15 @@
 
 mod connections;
 mod contexts;
+mod exchange;
 mod faults;
 mod interruptions;
 mod long;
 mod memory;
 mod messages;
+mod options;
 mod reports;
 mod sessions;
 mod spellings;
 mod streams;
+mod sweeps;

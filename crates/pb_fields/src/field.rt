@@ -21,6 +21,7 @@ pub struct Field<'a> {
 
 // The field at the front, and the bytes behind it. A value's varint comes before the key's number among the
 // faults, so the value is read first.
+#[inline(always)]
 pub(crate) fn field_at(bytes: &[u8]) -> Result<(Field<'_>, &[u8]), FieldFault>
     ensures field { IfOk result (λ r. BeginsWithField bytes.now (seen r.0) r.1.now) }
     ensures fault { IfErr result (λ fault. FirstFault bytes.now fault) }
@@ -35,6 +36,7 @@ pub(crate) fn field_at(bytes: &[u8]) -> Result<(Field<'_>, &[u8]), FieldFault>
 }
 
 // The number of a key, if it has one: from 1 to the greatest.
+#[inline(always)]
 fn number_of(key: u64) -> Option<u32>
     ensures number { IfSome result (λ number. IsNumber number × (number ≡ key / 8)) }
     ensures none { IfNone result (HasNoNumber key) }

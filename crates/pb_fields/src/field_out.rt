@@ -21,6 +21,7 @@ pub struct FieldOut;
 
 impl FieldOut {
     /// Appends the number's field with this varint. Refused only where memory is.
+    #[inline(always)]
     pub fn varint(out: &mut Vec<u8>, number: u32, value: u64) -> Result<(), AllocError>
         requires { IsNumber number }
         ensures ok { OnOk result (out.new.items
@@ -35,6 +36,7 @@ impl FieldOut {
     }
 
     /// Appends the number's field with these bytes, behind their length. Refused only where memory is.
+    #[inline(always)]
     pub fn bytes(out: &mut Vec<u8>, number: u32, content: &[u8]) -> Result<(), AllocError>
         requires { IsNumber number }
         ensures ok { OnOk result (out.new.items
@@ -53,6 +55,7 @@ impl FieldOut {
 }
 
 // Appends the key and the length of a field of so many bytes.
+#[inline(always)]
 pub(crate) fn append_head(out: &mut Vec<u8>, number: u32, len: usize) -> Result<(), AllocError>
     requires { IsNumber number }
     ensures { OnOk result (out.new.items ≡ out.old.items ++ bytes_head number len) }
@@ -63,6 +66,7 @@ pub(crate) fn append_head(out: &mut Vec<u8>, number: u32, len: usize) -> Result<
 }
 
 // The key of a number and a wire type.
+#[inline(always)]
 pub(crate) fn key_of(number: u32, wire: u64) -> u64
     requires { wire < 8 }
     ensures { result ≡ number * 8 + wire }
@@ -71,6 +75,7 @@ pub(crate) fn key_of(number: u32, wire: u64) -> u64
 }
 
 // Writes two varints one behind the other, and says how many bytes they have.
+#[inline(always)]
 fn write_pair(first: u64, second: u64, out: &mut [u8; HEAD]) -> usize
     ensures bounded { result ≤ HEAD }
     ensures written { take result out.new ≡ varint_encoding first ++ varint_encoding second }

@@ -34,6 +34,7 @@ impl<'a> Iterator for Fields<'a> {
     ghost remaining = { λ fields. at_most (length (left fields)) };
 
     /// The next field, or why there is none; None at the end and after a fault.
+    #[inline(always)]
     fn next(&mut self) -> Option<Result<Field<'a>, FieldFault>> {
         if self.rest.is_empty() {
             return None;

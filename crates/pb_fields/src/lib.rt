@@ -9,7 +9,8 @@
 //! field in its one encoding (`encoding`), or a [`LengthCounter`]. What was encoded is read again whatever follows it.
 //!
 //! Reading takes no memory, reads a key, a length or a number's bytes once and looks at no other byte of a value; a
-//! field is written with one growth at most. What the fields of a message mean is for its reader to say.
+//! field is written with one growth at most. What the fields of a message mean is for its reader to say. What is called for
+//! each field is marked `inline(always)`, a hint to LLVM: its results are wide and would else pass through memory.
 //!
 //! Source: the Protocol Buffers documentation, "Encoding", section "Message Structure". The groups of wire types
 //! 3 and 4 are left out.

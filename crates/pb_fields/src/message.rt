@@ -20,6 +20,7 @@ pub trait Message {
 }
 
 /// How many bytes a message's fields have. It takes no memory; refused only where they are more than a `usize` counts.
+#[inline(always)]
 pub fn encoded_len<M: Message>(message: &M) -> Result<usize, AllocError>
     ensures { IfOk result (λ n. n ≡ length (M.encoding message.now)) }
 {
@@ -31,6 +32,7 @@ pub fn encoded_len<M: Message>(message: &M) -> Result<usize, AllocError>
 /// Encodes a message as the number's field of another. Refused only where the output is.
 ///
 /// Source: the Protocol Buffers documentation, "Encoding", section "Submessages".
+#[inline(always)]
 pub fn encode_message<O: Output, M: Message>(
     out: &mut O,
     number: u32,
@@ -45,6 +47,7 @@ pub fn encode_message<O: Output, M: Message>(
 }
 
 /// Encodes each of the messages as a field of the number, in their order. Refused only where the output is.
+#[inline(always)]
 pub fn encode_repeated<O: Output, M: Message>(
     out: &mut O,
     number: u32,

@@ -64,14 +64,17 @@ impl Output for Vec<u8> {
 
     ghost joins = { λ a b c xs ys e f. f ∙ ap (λ zs. zs ++ ys) e ∙ append_assoc a.items xs ys };
 
+    #[inline(always)]
     fn encode_varint(&mut self, number: u32, value: u64) -> Result<(), AllocError> {
         FieldOut::varint(self, number, value)
     }
 
+    #[inline(always)]
     fn encode_bytes(&mut self, number: u32, content: &[u8]) -> Result<(), AllocError> {
         FieldOut::bytes(self, number, content)
     }
 
+    #[inline(always)]
     fn encode_head(&mut self, number: u32, len: usize) -> Result<(), AllocError> {
         append_head(self, number, len)
     }
@@ -86,6 +89,7 @@ pub struct LengthCounter {
 
 impl LengthCounter {
     // Counts so many bytes more.
+    #[inline(always)]
     fn add(&mut self, len: usize) -> Result<(), AllocError>
         ensures { OnOk result (self.new.len ≡ self.old.len + len) }
     {
@@ -101,21 +105,25 @@ impl Output for LengthCounter {
 
     ghost joins = { λ a b c xs ys e f. Prim.omega (arith, length-append xs ys) };
 
+    #[inline(always)]
     fn encode_varint(&mut self, number: u32, value: u64) -> Result<(), AllocError> {
         self.add(pair_len(key_of(number, VARINT), value))
     }
 
+    #[inline(always)]
     fn encode_bytes(&mut self, number: u32, content: &[u8]) -> Result<(), AllocError> {
         self.encode_head(number, content.len())?;
         self.add(content.len())
     }
 
+    #[inline(always)]
     fn encode_head(&mut self, number: u32, len: usize) -> Result<(), AllocError> {
         self.add(pair_len(key_of(number, BYTES), len as u64))
     }
 }
 
 // How many bytes two varints have.
+#[inline(always)]
 fn pair_len(first: u64, second: u64) -> usize
     ensures { result ≡ length (varint_encoding first ++ varint_encoding second) }
 {

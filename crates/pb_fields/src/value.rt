@@ -30,6 +30,7 @@ pub enum Value<'a> {
 }
 
 // The value of this wire type at the front, and the bytes behind it.
+#[inline(always)]
 pub(crate) fn value_at(wire: u64, bytes: &[u8]) -> Result<(Value<'_>, &[u8]), FieldFault>
     ensures wire { IfOk result (λ r. wire_type (value_seen r.0) ≡ wire) }
     ensures value { IfOk result (λ r. (w : List ℕ) × IsValue w (value_seen r.0)
@@ -59,6 +60,7 @@ pub(crate) fn value_at(wire: u64, bytes: &[u8]) -> Result<(Value<'_>, &[u8]), Fi
 }
 
 // The varint at the front, and the bytes behind it.
+#[inline(always)]
 pub(crate) fn varint_at(bytes: &[u8]) -> Result<(u64, &[u8]), FieldFault>
     ensures varint { IfOk result (λ r. BeginsWithVarint bytes.now r.0 r.1.now) }
     ensures fault { IfErr result (λ fault. VarintFails bytes.now fault) }
@@ -74,6 +76,7 @@ pub(crate) fn varint_at(bytes: &[u8]) -> Result<(u64, &[u8]), FieldFault>
 }
 
 // The first `len` bytes, and those behind them.
+#[inline(always)]
 fn split(bytes: &[u8], len: u64) -> Result<(&[u8], &[u8]), FieldFault>
     ensures parts { IfOk result (λ r. (bytes.now ≡ r.0.now ++ r.1.now) × (length r.0.now ≡ len)) }
     ensures fault { IfErr result (λ fault. (fault ≡ FieldFault.Short) × (length bytes.now < len)) }

@@ -5,12 +5,12 @@ use Rattle.std.proofs.lemmas.List.{append-nil}
 use Rattle.pb_fields.specs.Field.{WireField}
 use Rattle.pb_fields.specs.Message.{StandsFor}
 use Rattle.riak_msgs.specs.declared.request.Request.{Request}
-use Rattle.riak_msgs.specs.declared.request.Request.TheVariants.{Get, Put}
+use Rattle.riak_msgs.specs.declared.request.Request.TheVariants.{Get, Put, Del}
 use Rattle.riak_msgs.specs.declared.fault.MsgFault.{MsgFault}
 use Rattle.riak_msgs.specs.declared.fault.MsgFault.TheVariants.{NoMemory}
 use Rattle.riak_msgs.specs.Picking.{bytes_at, each_bytes, last_bytes}
 use Rattle.riak_msgs.specs.Embedded.{ContentFields, StandForContent}
-use Rattle.riak_msgs.specs.Reading.{PutFields, StandsForPut, Says, Reads, said_by, get_fault, get_of, put_fault, put_of}
+use Rattle.riak_msgs.specs.Reading.{PutFields, StandsForPut, Says, Reads, said_by, names_fault, get_of, put_fault, put_of, del_of}
 use Rattle.riak_msgs.specs.Seen.{merged}
 use Rattle.riak_msgs.proofs.Picking.{each_bytes-append, last_bytes-append}
 use Rattle.riak_msgs.proofs.Contents.{StandForContent-more}
@@ -76,7 +76,7 @@ reads_no_memory code body request (Err fault) is says =
     subst P (sym is) (request, says)
 
 -- a get that says this
-pub says_get : (body : List ℕ) (fields : List WireField) → StandsFor body fields → None ≡ get_fault fields →
+pub says_get : (body : List ℕ) (fields : List WireField) → StandsFor body fields → None ≡ names_fault fields →
     Says 9 body (Ok (Get (get_of fields)))
 says_get body fields stands none = inr (inl (refl, inl (fields, stands, ap (λ fault. said_by fault (Get (get_of fields))) none)))
 
@@ -84,3 +84,9 @@ says_get body fields stands none = inr (inl (refl, inl (fields, stands, ap (λ f
 pub says_put : (body : List ℕ) (put : PutFields) → StandsForPut body put → None ≡ put_fault put →
     Says 11 body (Ok (Put (put_of put)))
 says_put body put stands none = inr (inr (inl (refl, inl (put, stands, ap (λ fault. said_by fault (Put (put_of put))) none))))
+
+-- a delete that says this
+pub says_del : (body : List ℕ) (fields : List WireField) → StandsFor body fields → None ≡ names_fault fields →
+    Says 13 body (Ok (Del (del_of fields)))
+says_del body fields stands none =
+    inr (inr (inr (inl (refl, inl (fields, stands, ap (λ fault. said_by fault (Del (del_of fields))) none)))))

@@ -6,14 +6,14 @@ use Rattle.pb_fields.specs.Message.{StandsFor}
 use Rattle.riak_msgs.specs.declared.key.Key.{Key}
 use Rattle.riak_msgs.specs.declared.get.GetAsk.{GetAsk}
 use Rattle.riak_msgs.specs.declared.put.PutAsk.{PutAsk}
+use Rattle.riak_msgs.specs.declared.del.DelAsk.{DelAsk}
 use Rattle.riak_msgs.specs.declared.request.Request.{Request}
 use Rattle.riak_msgs.specs.declared.request.Request.TheVariants as requests
 use Rattle.riak_msgs.specs.declared.fault.MsgFault.{MsgFault}
 use Rattle.riak_msgs.specs.declared.fault.MsgFault.TheVariants as faults
 use Rattle.riak_msgs.specs.Contents.{no_content}
 use Rattle.riak_msgs.specs.BucketTypes.{default_type}
-use Rattle.riak_msgs.specs.Requests.{unconditional_get, unconditional_put}
-use Rattle.riak_msgs.specs.Picking.{each_bytes, last_bytes}
+use Rattle.riak_msgs.specs.Picking.{each_bytes, last_bytes, flag_of}
 use Rattle.riak_msgs.specs.Embedded.{ContentFields, StandForContent, content_of}
 
 -- the first fault that holds
@@ -38,15 +38,29 @@ named_key type_number fields = record {
   key = unwrap_or (last_bytes 2 fields) [];
 }
 
--- RpbGetReq: bucket and key are required, and no name is empty
-abbrev pub get_fault : List WireField → Option MsgFault
-get_fault fields = first_fault (
+-- bytes that may be absent, where no bytes are as absent
+abbrev pub bytes_or_none : ℕ → List WireField → List ℕ
+bytes_or_none number fields = unwrap_or (last_bytes number fields) []
+
+-- of a get and of a delete bucket and key are required, and no name is empty
+abbrev pub names_fault : List WireField → Option MsgFault
+names_fault fields = first_fault (
     (is_none (last_bytes 1 fields) || is_none (last_bytes 2 fields), faults.MissingField)
     ∷ (has_empty_name 13 fields, faults.EmptyName)
     ∷ [])
 
+-- RpbGetReq
 abbrev pub get_of : List WireField → GetAsk
-get_of fields = unconditional_get (named_key 13 fields)
+get_of fields = record {
+  key = named_key 13 fields;
+  if_modified = bytes_or_none 7 fields;
+  head = flag_of 8 fields;
+  deletedvclock = flag_of 9 fields;
+}
+
+-- RpbDelReq
+abbrev pub del_of : List WireField → DelAsk
+del_of fields = record { key = named_key 13 fields; context = bytes_or_none 4 fields }
 
 -- the fields of a put, and those of its content
 pub record PutFields : Type 0 where
@@ -67,9 +81,15 @@ put_fault put = first_fault (
     ∷ [])
 
 abbrev pub put_of : PutFields → PutAsk
-put_of put =
-    unconditional_put (named_key 16 put.own) (unwrap_or (last_bytes 3 put.own) [])
-    (unwrap_or (content_of put.content) no_content)
+put_of put = record {
+  key = named_key 16 put.own;
+  context = bytes_or_none 3 put.own;
+  content = unwrap_or (content_of put.content) no_content;
+  return_body = flag_of 7 put.own;
+  return_head = flag_of 11 put.own;
+  if_not_modified = flag_of 9 put.own;
+  if_none_match = flag_of 10 put.own;
+}
 
 -- what is said: the fault, or else what was asked
 abbrev pub said_by : {A : Type 0} → Option MsgFault → A → Result A MsgFault
@@ -82,17 +102,18 @@ SaysBy {F = F} Stands told said =
     ((fields : F) × Stands fields × (said ≡ told fields))
     ⊎ (((fields : F) → Stands fields → ⊥) × (said ≡ Err faults.BadMessage))
 
--- a code of a request that is read so far: of a ping, a get or a put
-abbrev pub IsTaken : ℕ → Type 0
-IsTaken code = (code ≡ 1) ⊎ ((code ≡ 9) ⊎ (code ≡ 11))
+-- a code of a request: of a ping, a get, a put or a delete
+abbrev pub IsRequestCode : ℕ → Type 0
+IsRequestCode code = (code ≡ 1) ⊎ ((code ≡ 9) ⊎ ((code ≡ 11) ⊎ (code ≡ 13)))
 
 -- what a message says; a ping's body isn't looked at
 abbrev pub Says : ℕ → List ℕ → Result Request MsgFault → Type 0
 Says code body said =
     ((code ≡ 1) × (said ≡ Ok requests.Ping))
-    ⊎ (((code ≡ 9) × SaysBy (StandsFor body) (λ fields. said_by (get_fault fields) (requests.Get (get_of fields))) said)
+    ⊎ (((code ≡ 9) × SaysBy (StandsFor body) (λ fields. said_by (names_fault fields) (requests.Get (get_of fields))) said)
     ⊎ (((code ≡ 11) × SaysBy (StandsForPut body) (λ put. said_by (put_fault put) (requests.Put (put_of put))) said)
-    ⊎ (¬ (IsTaken code) × (said ≡ Err faults.UnknownCode))))
+    ⊎ (((code ≡ 13) × SaysBy (StandsFor body) (λ fields. said_by (names_fault fields) (requests.Del (del_of fields))) said)
+    ⊎ (¬ (IsRequestCode code) × (said ≡ Err faults.UnknownCode)))))
 
 -- what was read is what the message says, and memory is refused only where it says a request
 abbrev pub Reads : ℕ → List ℕ → Result Request MsgFault → Type 0

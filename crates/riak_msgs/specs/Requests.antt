@@ -1,5 +1,5 @@
 -- The one spelling of a request.
-use Rattle.std.specs.Prelude.{◌≡◌, ◌≢◌, ℕ, false, List, [], ◌++◌, if◌then◌else◌}
+use Rattle.std.specs.Prelude.{◌≢◌, ℕ, false, List, [], ◌++◌, if◌then◌else◌}
 use Rattle.std.specs.Str.{bytes_eq}
 use Rattle.riak_msgs.specs.declared.key.Key.{Key}
 use Rattle.riak_msgs.specs.declared.content.Content.{Content}
@@ -27,6 +27,14 @@ get_body g =
     ++ bool_field 9 g.deletedvclock
     ++ type_field 13 g.key.bucket_type
 
+-- the options of a put
+abbrev pub put_options : PutAsk → List ℕ
+put_options p =
+    bool_field 7 p.return_body
+    ++ bool_field 9 p.if_not_modified
+    ++ bool_field 10 p.if_none_match
+    ++ bool_field 11 p.return_head
+
 -- RpbPutReq
 abbrev pub put_body : PutAsk → List ℕ
 put_body p =
@@ -34,10 +42,7 @@ put_body p =
     ++ bytes_field 2 p.key.key
     ++ context_field 3 p.context
     ++ bytes_field 4 (content_message p.content)
-    ++ bool_field 7 p.return_body
-    ++ bool_field 9 p.if_not_modified
-    ++ bool_field 10 p.if_none_match
-    ++ bool_field 11 p.return_head
+    ++ put_options p
     ++ type_field 16 p.key.bucket_type
 
 -- RpbDelReq
@@ -89,13 +94,6 @@ plain_get bucket key = unconditional_get (default_key bucket key)
 -- a put of a value alone, under a key of the default type
 abbrev pub plain_put : List ℕ → List ℕ → List ℕ → List ℕ → PutAsk
 plain_put bucket key context value = unconditional_put (default_key bucket key) context (record no_content { value = value })
-
--- what is served so far: a ping, and gets and puts without options
-abbrev pub IsServed : Request → Type 0
-IsServed requests.Ping = Unit {0}
-IsServed (requests.Get g) = g ≡ unconditional_get g.key
-IsServed (requests.Put p) = p ≡ unconditional_put p.key p.context p.content
-IsServed (requests.Del d) = ⊥
 
 -- the names of a key have bytes
 abbrev pub IsNamed : Key → Type 0

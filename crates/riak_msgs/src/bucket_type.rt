@@ -40,6 +40,7 @@ impl BucketType {
     }
 
     /// A copy of a slice. [`DEFAULT_TYPE`] takes no memory.
+    #[inline(always)]
     pub fn from_slice(alloc: Global, content: &[u8]) -> Result<BucketType, AllocError>
         ensures { IfOk result (λ bucket_type. bucket_type ≡ content.now) }
     {

@@ -41,6 +41,7 @@ impl Bytes {
     }
 
     /// A copy of a slice.
+    #[inline(always)]
     pub fn from_slice(alloc: Global, content: &[u8]) -> Result<Bytes, AllocError>
         ensures { IfOk result (λ bytes. bytes ≡ content.now) }
     {

@@ -27,6 +27,12 @@ pub struct Content {
     pub indexes: Sequence<Pair>,
 }
 
+/// A content type, a charset and an encoding.
+type Labels = (Option<Bytes>, Option<Bytes>, Option<Bytes>);
+
+/// Links, metadata and indexes.
+type Parts = (Sequence<Link>, Sequence<Pair>, Sequence<Pair>);
+
 impl Content {
     /// An empty value of which nothing is said. It takes no memory.
     pub fn new(alloc: Global) -> Content
@@ -71,22 +77,49 @@ impl Content {
     pub fn clone_head(&self, alloc: Global) -> Result<Content, AllocError>
         ensures { IfOk result (λ copy. copy ≡ bare self.now) }
     {
-        // (what may be refused comes first: each value that is held at a `?` costs the prover time)
+        let (content_type, charset, content_encoding) = self.clone_labels(alloc)?;
+        let (links, usermeta, indexes) = self.clone_parts(alloc)?;
         Ok(Content {
-            content_type: try_clone_option(&self.content_type, alloc)?,
-            charset: try_clone_option(&self.charset, alloc)?,
-            content_encoding: try_clone_option(&self.content_encoding, alloc)?,
-            links: self.links.clone(alloc)?,
-            usermeta: self.usermeta.clone(alloc)?,
-            indexes: self.indexes.clone(alloc)?,
             value: Bytes::new(alloc),
+            content_type,
+            charset,
+            content_encoding,
+            links,
+            usermeta,
+            indexes,
         })
+    }
+
+    /// Copies of the content type, the charset and the encoding. (Apart from the others, since each value that is held at a
+    /// `?` costs the prover time.)
+    fn clone_labels(&self, alloc: Global) -> Result<Labels, AllocError>
+        ensures { IfOk result (λ r. (r.0 ≡ self.now.content_type) × (r.1 ≡ self.now.charset)
+            × (r.2 ≡ self.now.content_encoding)) }
+    {
+        Ok((
+            try_clone_option(&self.content_type, alloc)?,
+            try_clone_option(&self.charset, alloc)?,
+            try_clone_option(&self.content_encoding, alloc)?,
+        ))
+    }
+
+    /// Copies of the links, the metadata and the indexes.
+    fn clone_parts(&self, alloc: Global) -> Result<Parts, AllocError>
+        ensures { IfOk result (λ r. (r.0 ≡ self.now.links) × (r.1 ≡ self.now.usermeta)
+            × (r.2 ≡ self.now.indexes)) }
+    {
+        Ok((
+            self.links.clone(alloc)?,
+            self.usermeta.clone(alloc)?,
+            self.indexes.clone(alloc)?,
+        ))
     }
 }
 
 impl Message for Content {
     ghost encoding = { content_message };
 
+    #[inline(always)]
     fn encode<O: Output>(&self, out: &mut O) -> Result<(), AllocError> {
         out.encode_bytes(1, self.value.as_slice())?;
         encode_optional(out, 2, &self.content_type)?;

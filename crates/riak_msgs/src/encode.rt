@@ -12,6 +12,7 @@ use pb_fields::Output;
 use std::alloc::AllocError;
 
 /// Encodes bytes as the field of this number, where they are there.
+#[inline(always)]
 pub(crate) fn encode_optional<O: Output>(
     out: &mut O,
     number: u32,
@@ -27,6 +28,7 @@ pub(crate) fn encode_optional<O: Output>(
 }
 
 /// Encodes a context as the field of this number, where it has bytes.
+#[inline(always)]
 pub(crate) fn encode_context<O: Output>(
     out: &mut O,
     number: u32,
@@ -43,6 +45,7 @@ pub(crate) fn encode_context<O: Output>(
 }
 
 /// Encodes a bucket type as the field of this number, where it isn't the default.
+#[inline(always)]
 pub(crate) fn encode_type<O: Output>(
     out: &mut O,
     number: u32,

@@ -9,6 +9,7 @@ ghost use Rattle.riak_msgs.specs.Picking.{bytes_at, each_bytes, varint_at};
 use pb_fields::{Field, Value};
 
 /// The bytes of a field, where it is a byte string of this number.
+#[inline(always)]
 pub(crate) fn bytes_at<'a>(number: u32, field: Field<'a>) -> Option<&'a [u8]>
     ensures { option_copied result ≡ bytes_at number (seen field.entry) }
 {
@@ -19,6 +20,7 @@ pub(crate) fn bytes_at<'a>(number: u32, field: Field<'a>) -> Option<&'a [u8]>
 }
 
 /// The last bytes of this number: the field's, or else those before.
+#[inline(always)]
 pub(crate) fn last_of<'a>(
     number: u32,
     field: Field<'a>,
@@ -31,6 +33,7 @@ pub(crate) fn last_of<'a>(
 }
 
 /// The number of a field, where it is a varint of this number.
+#[inline(always)]
 pub(crate) fn varint_at(number: u32, field: Field<'_>) -> Option<u64>
     ensures { result ≡ varint_at number (seen field.entry) }
 {
@@ -41,6 +44,7 @@ pub(crate) fn varint_at(number: u32, field: Field<'_>) -> Option<u64>
 }
 
 /// Whether the number of a field isn't 0, or else as before, where it is no varint of this number.
+#[inline(always)]
 pub(crate) fn flag_at(number: u32, field: Field<'_>, before: bool) -> bool
     ensures { result
         ≡ option_map_or (λ n. not (n == 0)) (varint_at number (seen field.entry)) before }

@@ -2,7 +2,7 @@
 
 ghost use Rattle.std.specs.Prelude.{◌≡◌, ◌∷◌, ◌++◌, ℕ, List, [], IfOk, option_copied};
 ghost use Rattle.pb_fields.specs.Field.{WireField, seen};
-ghost use Rattle.riak_msgs.specs.Reading.{has_empty_name, is_empty_name, named_key};
+ghost use Rattle.riak_msgs.specs.Reading.{has_empty_name, is_empty_name, named_key, names_fault};
 ghost use Rattle.riak_msgs.specs.SeenRequests.{AreNamesOf};
 
 use crate::bucket_type::{BucketType, DEFAULT_TYPE};
@@ -34,6 +34,7 @@ impl<'a> KeyView<'a> {
     }
 
     /// Merges one field more: 1 is the bucket, 2 the key, and the type has the number that its message gives it.
+    #[inline(always)]
     pub(crate) fn merge_field(&mut self, field: Field<'a>, type_number: u32)
         ensures { (fields : List WireField) → AreNamesOf type_number self.old fields
             → AreNamesOf type_number self.new (fields ++ seen field.entry ∷ []) }
@@ -44,6 +45,7 @@ impl<'a> KeyView<'a> {
     }
 
     /// Whether a name is given with no bytes.
+    #[inline(always)]
     pub(crate) fn has_empty(&self) -> bool
         ensures { (type_number : ℕ) (fields : List WireField)
             → AreNamesOf type_number self.now fields
@@ -52,7 +54,22 @@ impl<'a> KeyView<'a> {
         is_empty_name(self.bucket) || is_empty_name(self.key) || is_empty_name(self.bucket_type)
     }
 
+    /// Why a get or a delete of these names is none: bucket and key are required, and no name is empty.
+    pub(crate) fn fault(&self) -> Option<MsgFault>
+        ensures { (fields : List WireField) → AreNamesOf 13 self.now fields
+            → result ≡ names_fault fields }
+    {
+        if self.bucket.is_none() || self.key.is_none() {
+            return Some(MsgFault::MissingField);
+        }
+        if self.has_empty() {
+            return Some(MsgFault::EmptyName);
+        }
+        None
+    }
+
     /// A copy of the key that is named: of the default type where no type is given.
+    #[inline(always)]
     pub(crate) fn key(&self, alloc: Global) -> Result<Key, AllocError>
         ensures { (type_number : ℕ) (fields : List WireField)
             → AreNamesOf type_number self.now fields
@@ -67,6 +84,7 @@ impl<'a> KeyView<'a> {
 }
 
 /// Whether a name is given with no bytes.
+#[inline(always)]
 fn is_empty_name(name: Option<&[u8]>) -> bool
     ensures { result ≡ is_empty_name (option_copied name.entry) }
 {

@@ -3,8 +3,7 @@
 //! A message says a request, or a reply, as a function of its list of fields (`Says`, `SaysReply`): the last occurrence
 //! of a scalar, all of a repeated field in their order, the content of a put merged over its occurrences; everything else
 //! is skipped. Where it says none, the first fault that holds is told. It says one thing ([`messages_say_one`],
-//! [`replies_say_one`]), which [`read_request`] and [`read_reply`] give. So far pings, and gets and puts without options,
-//! are read as requests (`IsServed`).
+//! [`replies_say_one`]), which [`read_request`] and [`read_reply`] give. Quorum and timeout fields are skipped.
 //!
 //! Each reply, and each request of a client, has one encoding (`reply_body`, `request_body`): fields by rising number,
 //! every varint in its shortest form, a true as 1, and nothing for what is absent or false. [`write_reply`] and
@@ -13,7 +12,8 @@
 //!
 //! Reading is one scan over the fields as they lie ([`pb_fields::scan`]), in which each message has its step for one field,
 //! and then a copy of each kept field. A content's links and pairs are scanned once more only where the first scan met
-//! some. Writing counts the bytes first and takes one buffer of that size. Both take time linear in the bytes.
+//! some. Writing counts the bytes first and takes one buffer of that size. Both take time linear in the bytes. What is called
+//! for each field is marked `inline(always)`, a hint to LLVM, since its results are wide.
 //!
 //! Contracts see [`Bytes`], [`BucketType`] and [`Sequence`] as lists, so a request, a reply and all within them are plain
 //! data. A message is written down once, as the fields that it encodes to a [`pb_fields::Output`]. Keys are ordered by
@@ -40,6 +40,7 @@ mod link;
 mod pair;
 mod pairs_and_links;
 mod put;
+mod read_del;
 mod read_get;
 mod read_put;
 mod reply;

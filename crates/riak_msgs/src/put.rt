@@ -1,8 +1,8 @@
 //! The request of a put, and its reply.
 
-ghost use Rattle.std.specs.Prelude.{◌≡◌, IfOk};
+ghost use Rattle.std.specs.Prelude.{◌≡◌, IfOk, OnOk};
 ghost use Rattle.riak_msgs.specs.Replies.{put_reply_body};
-ghost use Rattle.riak_msgs.specs.Requests.{plain_put, put_body};
+ghost use Rattle.riak_msgs.specs.Requests.{plain_put, put_body, put_options};
 
 use crate::bytes::Bytes;
 use crate::content::Content;
@@ -54,6 +54,16 @@ impl PutAsk {
             if_none_match: false,
         })
     }
+
+    /// Encodes the options.
+    fn encode_options<O: Output>(&self, out: &mut O) -> Result<(), AllocError>
+        ensures { OnOk result (O.appends out.old (put_options self.now) out.new) }
+    {
+        out.encode_bool(7, self.return_body)?;
+        out.encode_bool(9, self.if_not_modified)?;
+        out.encode_bool(10, self.if_none_match)?;
+        out.encode_bool(11, self.return_head)
+    }
 }
 
 impl Message for PutAsk {
@@ -64,10 +74,7 @@ impl Message for PutAsk {
         out.encode_bytes(2, self.key.key.as_slice())?;
         encode_context(out, 3, &self.context)?;
         encode_message(out, 4, &self.content)?;
-        out.encode_bool(7, self.return_body)?;
-        out.encode_bool(9, self.if_not_modified)?;
-        out.encode_bool(10, self.if_none_match)?;
-        out.encode_bool(11, self.return_head)?;
+        self.encode_options(out)?;
         encode_type(out, 16, &self.key.bucket_type)
     }
 }

@@ -1,83 +1,102 @@
 //! Reading a get.
 
-ghost use Rattle.std.specs.Prelude.{◌≡◌, List, IfOk, OnErr};
+ghost use Rattle.std.specs.Prelude.{◌≡◌, List, [], IfOk, OnErr};
 ghost use Rattle.pb_fields.specs.Field.{WireField};
 ghost use Rattle.pb_fields.specs.Merging.{RefusesNone, Tracks};
 ghost use Rattle.pb_fields.specs.Message.{StandsFor};
-ghost use Rattle.riak_msgs.specs.Reading.{Reads, get_fault};
-ghost use Rattle.riak_msgs.specs.Requests.{IsServed};
-ghost use Rattle.riak_msgs.specs.SeenRequests.{AreNamesOf};
+ghost use Rattle.riak_msgs.specs.Reading.{Reads, get_of};
+ghost use Rattle.riak_msgs.specs.SeenRequests.{IsSeenGetOf};
 
 use crate::bytes::Bytes;
 use crate::fault::MsgFault;
+use crate::field_access::{flag_at, last_of};
 use crate::get::GetAsk;
 use crate::key_view::KeyView;
 use crate::request::Request;
 use pb_fields::{Field, FieldFault, Merge, scan};
-use std::alloc::Global;
+use std::alloc::{AllocError, Global};
 
-/// The field number of a bucket type in a get.
+/// The field numbers of a get's options and of its bucket type.
+const IF_MODIFIED: u32 = 7;
+
+const HEAD: u32 = 8;
+
+const DELETED_VCLOCK: u32 = 9;
+
 const BUCKET_TYPE: u32 = 13;
 
 /// The get that a body says.
 pub(crate) fn read_get(alloc: Global, body: &[u8]) -> Result<Request, MsgFault>
-    ensures said { Reads 9 body.now result }
-    ensures served { IfOk result IsServed }
+    ensures { Reads 9 body.now result }
 {
-    let names = names_in(body)?;
-    if let Some(fault) = fault_of(&names) {
+    let view = GetView::of(body)?;
+    if let Some(fault) = view.names.fault() {
         return Err(fault);
     }
-    Ok(Request::Get(GetAsk {
-        key: names.key(alloc)?,
-        if_modified: Bytes::new(alloc),
-        head: false,
-        deletedvclock: false,
-    }))
+    Ok(Request::Get(view.ask(alloc)?))
 }
 
-/// What a get names, borrowed from its body.
+/// What a walk over a get's fields sees, borrowed from its body.
 #[derive(Clone, Copy)]
 pub(crate) struct GetView<'a> {
     pub(crate) names: KeyView<'a>,
+    pub(crate) if_modified: Option<&'a [u8]>,
+    pub(crate) head: bool,
+    pub(crate) deletedvclock: bool,
+}
+
+impl<'a> GetView<'a> {
+    /// What is seen in a body, where it stands for fields.
+    #[inline(always)]
+    fn of(body: &'a [u8]) -> Result<GetView<'a>, FieldFault>
+        ensures ok { IfOk result (λ view. (fields : List WireField) × StandsFor body.now fields
+            × IsSeenGetOf view fields) }
+        ensures err { OnErr result ((fields : List WireField) → StandsFor body.now fields → ⊥) }
+    {
+        let mut view = GetView::new();
+        scan(body, &mut view)?;
+        Ok(view)
+    }
+
+    /// Nothing seen yet.
+    fn new() -> GetView<'a>
+        ensures { IsSeenGetOf result [] }
+    {
+        GetView {
+            names: KeyView::new(),
+            if_modified: None,
+            head: false,
+            deletedvclock: false,
+        }
+    }
+
+    /// A copy of what is asked.
+    #[inline(always)]
+    fn ask(&self, alloc: Global) -> Result<GetAsk, AllocError>
+        ensures { (fields : List WireField) → IsSeenGetOf self.now fields
+            → IfOk result (λ ask. ask ≡ get_of fields) }
+    {
+        Ok(GetAsk {
+            key: self.names.key(alloc)?,
+            if_modified: Bytes::from_slice(alloc, self.if_modified.unwrap_or(&[]))?,
+            head: self.head,
+            deletedvclock: self.deletedvclock,
+        })
+    }
 }
 
 impl<'a> Merge<'a> for GetView<'a> {
     type Fault = FieldFault;
 
-    ghost merges = { Tracks (λ view fields. AreNamesOf 13 view.names fields) };
+    ghost merges = { Tracks IsSeenGetOf };
 
     ghost refuses = { RefusesNone };
 
     fn merge_field(&mut self, field: Field<'a>) -> Result<(), FieldFault> {
         self.names.merge_field(field, BUCKET_TYPE);
+        self.if_modified = last_of(IF_MODIFIED, field, self.if_modified);
+        self.head = flag_at(HEAD, field, self.head);
+        self.deletedvclock = flag_at(DELETED_VCLOCK, field, self.deletedvclock);
         Ok(())
     }
-}
-
-/// The names in a body, where it stands for fields.
-fn names_in(body: &[u8]) -> Result<KeyView<'_>, FieldFault>
-    ensures ok { IfOk result (λ names. (fields : List WireField) × StandsFor body.now fields
-        × AreNamesOf 13 names fields) }
-    ensures err { OnErr result ((fields : List WireField) → StandsFor body.now fields → ⊥) }
-{
-    let mut view = GetView {
-        names: KeyView::new(),
-    };
-    scan(body, &mut view)?;
-    Ok(view.names)
-}
-
-/// Why the names are none of a get: bucket and key are required, and no name is empty.
-fn fault_of(names: &KeyView<'_>) -> Option<MsgFault>
-    ensures { (fields : List WireField) → AreNamesOf 13 names.now fields
-        → result ≡ get_fault fields }
-{
-    if names.bucket.is_none() || names.key.is_none() {
-        return Some(MsgFault::MissingField);
-    }
-    if names.has_empty() {
-        return Some(MsgFault::EmptyName);
-    }
-    None
 }

@@ -1,28 +1,36 @@
 //! Reading a put.
 
-ghost use Rattle.std.specs.Prelude.{◌≡◌, IfOk, IfErr, OnErr};
+ghost use Rattle.std.specs.Prelude.{◌≡◌, ◌∷◌, ◌++◌, [], List, None, IfOk, IfErr, OnErr};
+ghost use Rattle.pb_fields.specs.Field.{WireField, seen};
 ghost use Rattle.pb_fields.specs.Merging.{Tracks};
-ghost use Rattle.riak_msgs.specs.Reading.{PutFields, StandsForPut, Reads, put_fault};
-ghost use Rattle.riak_msgs.specs.Requests.{IsServed};
+ghost use Rattle.riak_msgs.specs.Reading.{PutFields, StandsForPut, Reads, put_fault, put_of};
 ghost use Rattle.riak_msgs.specs.Seen.{scalars_of, with_parts};
-ghost use Rattle.riak_msgs.specs.SeenRequests.{CopiesOccurrence, HasBadContent, HasSeenPut, IsSeenPutOf, RefusesOccurrence};
-ghost use Rattle.riak_msgs.specs.SeenRequests.{no_put};
+ghost use Rattle.riak_msgs.specs.SeenRequests.{AreFlagsOf, CopiesOccurrence, HasBadContent, HasSeenPut, IsSeenPutOf};
+ghost use Rattle.riak_msgs.specs.SeenRequests.{RefusesOccurrence, no_put};
 
 use crate::bytes::Bytes;
 use crate::content::Content;
 use crate::content_view::{ContentView, PartsCopy, copy_parts};
 use crate::fault::MsgFault;
-use crate::field_access::{bytes_at, last_of};
+use crate::field_access::{bytes_at, flag_at, last_of};
 use crate::key_view::KeyView;
 use crate::put::PutAsk;
 use crate::request::Request;
 use pb_fields::{Field, FieldFault, Merge, scan};
 use std::alloc::Global;
 
-/// The field numbers of a context, a content and a bucket type in a put.
+/// The field numbers of a context, a content, the options and a bucket type in a put.
 const CONTEXT: u32 = 3;
 
 const CONTENT: u32 = 4;
+
+const RETURN_BODY: u32 = 7;
+
+const IF_NOT_MODIFIED: u32 = 9;
+
+const IF_NONE_MATCH: u32 = 10;
+
+const RETURN_HEAD: u32 = 11;
 
 const BUCKET_TYPE: u32 = 16;
 
@@ -31,31 +39,58 @@ const BUCKET_TYPE: u32 = 16;
 pub(crate) struct PutView<'a> {
     pub(crate) names: KeyView<'a>,
     pub(crate) context: Option<&'a [u8]>,
+    pub(crate) flags: PutFlags,
     pub(crate) content: ContentView<'a>,
+}
+
+/// The last of each bool of a put.
+#[derive(Clone, Copy)]
+pub(crate) struct PutFlags {
+    pub(crate) return_body: bool,
+    pub(crate) if_not_modified: bool,
+    pub(crate) if_none_match: bool,
+    pub(crate) return_head: bool,
+}
+
+impl PutFlags {
+    /// None seen yet.
+    fn new() -> PutFlags
+        ensures { AreFlagsOf result [] }
+    {
+        PutFlags {
+            return_body: false,
+            if_not_modified: false,
+            if_none_match: false,
+            return_head: false,
+        }
+    }
+
+    /// Merges one field more.
+    fn merge_field(&mut self, field: Field<'_>)
+        ensures { (fields : List WireField) → AreFlagsOf self.old fields
+            → AreFlagsOf self.new (fields ++ seen field.entry ∷ []) }
+    {
+        self.return_body = flag_at(RETURN_BODY, field, self.return_body);
+        self.if_not_modified = flag_at(IF_NOT_MODIFIED, field, self.if_not_modified);
+        self.if_none_match = flag_at(IF_NONE_MATCH, field, self.if_none_match);
+        self.return_head = flag_at(RETURN_HEAD, field, self.return_head);
+    }
 }
 
 /// The put that a body says.
 pub(crate) fn read_put(alloc: Global, body: &[u8]) -> Result<Request, MsgFault>
-    ensures said { Reads 11 body.now result }
-    ensures served { IfOk result IsServed }
+    ensures { Reads 11 body.now result }
 {
     let view = PutView::of(body)?;
     if let Some(fault) = view.fault() {
         return Err(fault);
     }
-    Ok(Request::Put(PutAsk {
-        key: view.names.key(alloc)?,
-        context: Bytes::from_slice(alloc, view.context.unwrap_or(&[]))?,
-        content: view.content(alloc, body)?,
-        return_body: false,
-        return_head: false,
-        if_not_modified: false,
-        if_none_match: false,
-    }))
+    Ok(Request::Put(view.ask(alloc, body)?))
 }
 
 impl<'a> PutView<'a> {
     /// What is seen in a body, where it stands for a put's fields.
+    #[inline(always)]
     fn of(body: &'a [u8]) -> Result<PutView<'a>, FieldFault>
         ensures ok { IfOk result (λ view. (put : PutFields) × StandsForPut body.now put
             × IsSeenPutOf view put) }
@@ -73,6 +108,7 @@ impl<'a> PutView<'a> {
         PutView {
             names: KeyView::new(),
             context: None,
+            flags: PutFlags::new(),
             content: ContentView::new(),
         }
     }
@@ -91,6 +127,24 @@ impl<'a> PutView<'a> {
             return Some(MsgFault::NoKey);
         }
         None
+    }
+
+    /// A copy of what is asked, where nothing is missing.
+    fn ask(&self, alloc: Global, body: &[u8]) -> Result<PutAsk, MsgFault>
+        ensures ok { (put : PutFields) → IsSeenPutOf self.now put → StandsForPut body.now put
+            → None ≡ put_fault put → IfOk result (λ ask. ask ≡ put_of put) }
+        ensures err { (put : PutFields) → IsSeenPutOf self.now put → StandsForPut body.now put
+            → IfErr result (λ fault. fault ≡ MsgFault.NoMemory) }
+    {
+        Ok(PutAsk {
+            key: self.names.key(alloc)?,
+            context: Bytes::from_slice(alloc, self.context.unwrap_or(&[]))?,
+            content: self.content(alloc, body)?,
+            return_body: self.flags.return_body,
+            return_head: self.flags.return_head,
+            if_not_modified: self.flags.if_not_modified,
+            if_none_match: self.flags.if_none_match,
+        })
     }
 
     /// A copy of the content. Where links or pairs were seen in it the body is scanned once more, to copy them.
@@ -119,6 +173,7 @@ impl<'a> Merge<'a> for PutView<'a> {
     fn merge_field(&mut self, field: Field<'a>) -> Result<(), FieldFault> {
         self.names.merge_field(field, BUCKET_TYPE);
         self.context = last_of(CONTEXT, field, self.context);
+        self.flags.merge_field(field);
         match bytes_at(CONTENT, field) {
             Some(content) => self.content.merge(content),
             None => Ok(()),

@@ -1,14 +1,12 @@
 //! Requests, and reading one.
 
-ghost use Rattle.std.specs.Prelude.{◌≡◌, Ok, IfOk, IfErr};
-ghost use Rattle.riak_msgs.specs.declared.fault.MsgFault.TheVariants.{NoMemory};
-ghost use Rattle.riak_msgs.specs.Requests.{IsServed};
 ghost use Rattle.riak_msgs.specs.Reading.{Reads};
 
 use crate::del::DelAsk;
 use crate::fault::MsgFault;
 use crate::get::GetAsk;
 use crate::put::PutAsk;
+use crate::read_del::read_del;
 use crate::read_get::read_get;
 use crate::read_put::read_put;
 use std::alloc::Global;
@@ -24,16 +22,18 @@ pub enum Request {
 
 /// The request that a message says.
 ///
-/// Code 1 is a ping, whatever its body; 9 is a get (`RpbGetReq`), 11 a put (`RpbPutReq`). The fields of a body come in
-/// any order. Those of other numbers and those of another wire type are skipped, and so far so are the options: 7, 8
-/// and 9 of a get, 7, 9, 10 and 11 of a put. Of a field given more than once the last counts; the contents of a put
-/// are merged: later scalars win, and later links and pairs follow the earlier ones. Where no bucket type is given it
-/// is [`DEFAULT_TYPE`](crate::DEFAULT_TYPE), and where a put gives no context it has no bytes.
+/// Code 1 is a ping, whatever its body; 9 is a get (`RpbGetReq`), 11 a put (`RpbPutReq`), 13 a delete (`RpbDelReq`). The
+/// fields of a body come in any order. Those of other numbers and those of another wire type are skipped, and so are
+/// quorum and timeout fields, which have no effect here. Of a field given more than once the last counts; the contents of
+/// a put are merged: later scalars win, and later links and pairs follow the earlier ones. A bool is true where its varint
+/// isn't 0, and false where it isn't given. Where no bucket type is given it is
+/// [`DEFAULT_TYPE`](crate::DEFAULT_TYPE), and a context that isn't given has no bytes.
 ///
 /// Refused by the first fault that holds:
 /// - `UnknownCode`: the code is another.
 /// - `BadMessage`: the body is no list of fields, or a put's content, or a link or pair in it.
-/// - `MissingField`: no bucket; no key of a get; no content of a put, none with a value, or a pair without its key.
+/// - `MissingField`: no bucket; no key of a get or a delete; no content of a put, none with a value, or a pair without its
+///   key.
 /// - `EmptyName`: a bucket, key or bucket type is given with no bytes.
 /// - `NoKey`: a put names no key, and none is made up for it.
 /// - `NoMemory`: memory was refused; all others are told without taking any.
@@ -42,12 +42,12 @@ pub enum Request {
 /// `riak_kv.proto` of Riak's Protocol Buffers client API, and the Protocol Buffers encoding.
 pub fn read_request(alloc: Global, code: u8, body: &[u8]) -> Result<Request, MsgFault>
     ensures said { Reads code body.now result }
-    ensures served { IfOk result IsServed }
 {
     match code {
         1 => Ok(Request::Ping),
         9 => read_get(alloc, body),
         11 => read_put(alloc, body),
+        13 => read_del(alloc, body),
         _ => Err(MsgFault::UnknownCode),
     }
 }

@@ -4,19 +4,19 @@ ghost use Rattle.std.specs.Prelude.{◌≡◌, ℕ, ◌^◌, ◌<◌, length, Ok
 ghost use Rattle.riak_msgs.specs.Reading.{Says};
 ghost use Rattle.riak_msgs.specs.ReadingReplies.{SaysReply};
 ghost use Rattle.riak_msgs.specs.Replies.{reply_body, reply_code};
-ghost use Rattle.riak_msgs.specs.Requests.{HasNames, IsServed, request_body, request_code};
+ghost use Rattle.riak_msgs.specs.Requests.{HasNames, request_body, request_code};
 ghost use Rattle.riak_msgs.specs.declared.reply.Reply.{Reply};
 ghost use Rattle.riak_msgs.specs.declared.request.Request.{Request};
 
-/// A law: the spelling of a request that is served and whose names have bytes says this request.
+/// A law: the encoding of a request whose names have bytes says this request.
 ///
 /// Its body is shorter than 2^64 bytes, so that each length in it has a varint.
 pub fn requests_are_read_again()
-    ensures { (q : Request) → IsServed q → HasNames q → length (request_body q) < 2 ^ 64
+    ensures { (q : Request) → HasNames q → length (request_body q) < 2 ^ 64
         → Says (request_code q) (request_body q) (Ok q) }
 {}
 
-/// A law: the spelling of a reply says this reply.
+/// A law: the encoding of a reply says this reply.
 ///
 /// Its body is shorter than 2^64 bytes, so that each length in it has a varint.
 pub fn replies_are_read_again()

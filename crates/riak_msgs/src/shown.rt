@@ -30,6 +30,7 @@ impl Shown {
 impl Message for Shown {
     ghost encoding = { shown_message };
 
+    #[inline(always)]
     fn encode<O: Output>(&self, out: &mut O) -> Result<(), AllocError> {
         self.content.encode(out)?;
         out.encode_bool(11, self.deleted)

@@ -1,17 +1,19 @@
 //! The node as a program.
 //!
 //! `riak_node pipe` serves standard input to standard output: requests of Riak's Protocol Buffers client API in frames,
-//! and their replies in frames, each request answered as soon as it has come. It ends with status 0 at the end of the input, with 1 and one line on standard error
-//! where it had to stop before, and with 2 where the command line is none of its own.
+//! and their replies in frames, each request answered as soon as it has come. It ends with status 0 at the end of the
+//! input, with 1 and one line on standard error where it had to stop before, and with 2 where the command line is none
+//! of its own.
 #![tactic(auto)]
 
 mod command_line;
 mod pipe;
 
 use clap::error::ErrorKind;
-use command_line::Order;
+use command_line::{Command, PipeOptions};
 use node_session::{Ended, SessionFault, exit_status, write_fault};
 use pipe::pipe;
+use ring_map::Ring;
 use std::io;
 use std::process::ExitCode;
 
@@ -23,20 +25,35 @@ fn end(rt: &HostRuntime, outcome: Result<Ended, SessionFault>) -> io::Result<Exi
     Ok(ExitCode::from(exit_status(outcome)))
 }
 
+/// What `clap` has to say of a command line, and the status.
+fn tell(rt: &HostRuntime, error: clap::Error) -> io::Result<ExitCode> {
+    if error.kind() == ErrorKind::OutOfMemory {
+        return end(rt, Err(SessionFault::NoMemory(0)));
+    }
+    error.print(rt)?;
+    Ok(ExitCode::from(error.exit_code() as u8))
+}
+
+/// Serves standard input to standard output, by a ring of the asked size if there is one.
+fn serve_streams(rt: &HostRuntime, options: PipeOptions) -> io::Result<ExitCode> {
+    let Some(ring) = Ring::new(options.ring) else {
+        eprintln!(rt; "riak_node: ring must be a power of two from 1 to 1024")?;
+        return Ok(ExitCode::from(2));
+    };
+    let mut input = rt.stdin();
+    let mut output = rt.stdout();
+    let PipeOptions { run, sweep, .. } = options;
+    end(
+        rt,
+        pipe(rt.alloc(), ring, run, sweep, &mut input, &mut output),
+    )
+}
+
 fn main(rt: HostRuntime) -> io::Result<ExitCode> {
     let alloc = rt.alloc();
-    let words: Vec<String> = std::env::args(&rt)?.collect(alloc)?;
-    let order = match command_line::read(alloc, words.as_slice()) {
-        Ok(order) => order,
-        Err(error) => {
-            if error.kind() == ErrorKind::OutOfMemory {
-                return end(&rt, Err(SessionFault::NoMemory(0)));
-            }
-            error.print(&rt)?;
-            return Ok(ExitCode::from(error.exit_code() as u8));
-        }
-    };
-    match order {
-        Order::Pipe => end(&rt, pipe(alloc, &mut rt.stdin(), &mut rt.stdout())),
+    let args: Vec<String> = std::env::args(&rt)?.collect(alloc)?;
+    match command_line::read(alloc, args.as_slice()) {
+        Ok(Command::Pipe(options)) => serve_streams(&rt, options),
+        Err(error) => tell(&rt, error),
     }
 }

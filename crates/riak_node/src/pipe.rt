@@ -1,29 +1,33 @@
 //! One connection over a reader and a writer.
 
-ghost use Rattle.std.specs.Prelude.{◌⊎◌, ◌^◌, IfOk, IfErr};
+ghost use Rattle.std.specs.Prelude.{◌⊎◌, ◌≤◌, ◌^◌, IfOk, IfErr};
 ghost use Rattle.std.specs.Io.KnownBytes.{IsAtEnd};
 ghost use Rattle.node_session.specs.Session.{Given, IsTooManyReads, MadeReads};
 ghost use Rattle.node_session.specs.Pipes.{PipeEnds, PipeStops, IsNotBegun};
 
 use node_session::{Ended, PlainNode, SessionFault, serve};
+use ring_map::Ring;
 use std::alloc::Global;
 use std::io::{Read, Write};
 
 /// The most reads of a session.
-const READS: u64 = 4_294_967_296;
+const MAX_READS: u64 = 4_294_967_296;
 
-/// The run that a node has where none is given.
-const FIRST_RUN: u32 = 1;
-
-/// Serves the reader to the writer by a node of its own, which is new.
+/// Serves the reader to the writer by a node of its own, which is new: of this run, at least 1, on this ring, and with
+/// this budget of its sweeps.
 pub fn pipe<R: Read, W: Write>(
     alloc: Global,
+    ring: Ring,
+    run: u32,
+    sweep: u32,
     reader: &mut R,
     writer: &mut W,
 ) -> Result<Ended, SessionFault>
+    requires { 1 ≤ run }
+
     // All of the input was read, and what was written is what the sibling register answers to it.
     ensures ended { IfOk result (λ e. Given (R.remaining reader.old) (R.remaining reader.new) (2 ^ 32) (λ input.
-        PipeEnds 1 input (W.contents writer.old) (W.contents writer.new) e.replies e.rest)) }
+        PipeEnds run ring sweep input (W.contents writer.old) (W.contents writer.new) e.replies e.rest)) }
     ensures all { IfOk result (λ _. IsAtEnd (R.remaining reader.new)) }
 
     // The same of what was read and written before a fault, as far as the fault lets it come.
@@ -31,12 +35,13 @@ pub fn pipe<R: Read, W: Write>(
         IsNotBegun (R.remaining reader.old) (R.remaining reader.new)
         (W.contents writer.old) (W.contents writer.new) fault
         ⊎ Given (R.remaining reader.old) (R.remaining reader.new) (2 ^ 32) (λ input.
-        PipeStops 1 input (W.contents writer.old) (W.contents writer.new) fault)) }
+        PipeStops run ring sweep input (W.contents writer.old) (W.contents writer.new) fault)) }
     ensures too_many { IfErr result (λ fault. IsTooManyReads fault
         → MadeReads (R.remaining reader.old) (R.remaining reader.new) (2 ^ 32)) }
 {
-    let Ok(mut node) = PlainNode::new(alloc, FIRST_RUN) else {
+    let Ok(new) = PlainNode::on_ring(alloc, ring, run) else {
         return Err(SessionFault::NoMemory(0));
     };
-    serve(alloc, reader, writer, &mut node, READS)
+    let mut node = new.with_budget(sweep);
+    serve(alloc, reader, writer, &mut node, MAX_READS)
 }

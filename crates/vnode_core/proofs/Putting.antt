@@ -1,7 +1,6 @@
 -- The checks of a put, by what was found of its key.
-use Rattle.std.proofs.Common.{◌≡◌, ℕ, Bool, true, false, not, ◌||◌, ◌&&◌, List, [], ◌∷◌, refl, sym, ◌∙◌, ap}
-use Rattle.std.specs.Prelude.{Option, Some, None, nat_lt, ◌==◌, is_some, option_map, option_and_then}
-use Rattle.std.specs.Borrow.{Bor}
+use Rattle.std.proofs.Common.{◌≡◌, ℕ, Bool, true, false, not, ◌||◌, ◌&&◌, List, [], ◌∷◌, refl, sym, ◌∙◌, ap, subst}
+use Rattle.std.specs.Prelude.{Result, Option, Some, None, nat_lt, ◌==◌, is_some, option_map, option_and_then}
 use Rattle.std.specs.Option.{option_map_or}
 use Rattle.std.specs.List.{list_any}
 use Rattle.riak_msgs.specs.declared.Key.{Key}
@@ -11,15 +10,14 @@ use Rattle.sibling_register.specs.Refusals.{bad_context, match_found, modified, 
 use Rattle.actor_epoch.specs.declared.Actor.{Actor}
 use Rattle.actor_epoch.specs.declared.Dot.{Dot}
 use Rattle.actor_epoch.specs.Dots.{actor_eq, counter_in}
-use Rattle.actor_epoch.specs.Given.{Pairs, context_of}
+use Rattle.actor_epoch.specs.Given.{Context, Pairs, context_of}
 use Rattle.vnode_machine.specs.Asks.{put_command}
-use Rattle.vnode_machine.specs.Machine.{State, Stored, stored, is_bad, has_value, is_current, own_of, clock_of, put_check, pairs_of, room_checks, same_pairs}
+use Rattle.vnode_machine.specs.Machine.{State, Stored, stored, is_bad, has_value, is_current, own_of, clock_of, put_check, update_check, pairs_of, room_checks, same_pairs}
 use Rattle.vnode_core.specs.declared.refusal.Refusal.{Refusal}
 use Rattle.vnode_core.specs.declared.refusal.Refusal.TheVariants.{NoMemory}
-use Rattle.vnode_core.specs.declared.stored_key.StoredKey.{StoredKey}
 use Rattle.vnode_core.specs.Checks.{pairs_in, AreRead, is_ahead, last_dot, has_value_in, is_current_in, options_check}
-use Rattle.vnode_core.specs.Refusals.{RefusedBy}
-use Rattle.vnode_core.specs.Shelves.{stored_of}
+use Rattle.vnode_core.specs.Refusals.{RefusedBy, GivenBy}
+use Rattle.vnode_machine.proofs.Invariants.{clock_in}
 use Rattle.vnode_core.proofs.Reached.{pairs-given}
 
 -- what one check refuses another does
@@ -46,20 +44,45 @@ ahead-same : (vnode last_epoch : ℕ) (own : Option Actor) (known pairs : List D
 ahead-same vnode last_epoch None known pairs = refl
 ahead-same vnode last_epoch (Some own) known pairs = refl
 
+-- the last dot of a key that was found
+last-found : (o : Option (Stored Content))
+    → last_dot o ≡ option_map (λ (own : Actor). (let d : Dot = record { actor = own; counter = counter_in (clock_in o).known own } in d)) (option_and_then (λ (s : Stored Content). s.own) o)
+last-found None = refl
+last-found (Some s) = refl
+
+-- a context that was read, and what was found of its key
+module _ (state : State Content) (key : Key) (given : Option Context) (seen : Option (List Dot)) (reads : given ≡ option_map Pairs seen) (read : AreRead seen)
+    (o : Option (Stored Content)) (found : o ≡ stored state key) where
+  abbrev last : Option Dot
+  last = last_dot o
+
+  last-is : last ≡ option_map (λ (own : Actor). (let d : Dot = record { actor = own; counter = counter_in (clock_of state key).known own } in d)) (own_of state key)
+  last-is = ap last_dot found ∙ last-found (stored state key)
+
+  pub bad-is : is_bad state key given ≡ list_any (is_ahead state.vnode state.last_epoch last) (pairs_in seen)
+  bad-is = ap (is_bad state key) reads ∙ by seen read
+    where
+      by : (seen : Option (List Dot)) → AreRead seen → is_bad state key (option_map Pairs seen) ≡ list_any (is_ahead state.vnode state.last_epoch last) (pairs_in seen)
+      by None read = refl
+      by (Some pairs) read =
+          let runs = sym (ahead-same state.vnode state.last_epoch (own_of state key) (clock_of state key).known pairs)
+          ∙ ap (λ l. list_any (is_ahead state.vnode state.last_epoch l) pairs) (sym last-is) in
+          λ i. not (read i) || runs i
+
+  -- a write or tombstone by a context that runs ahead, or doesn't
+  pub update-bad : list_any (is_ahead state.vnode state.last_epoch last) (pairs_in seen) ≡ true → (pairs : List Dot) → update_check state key given pairs ≡ Some bad_context
+  update-bad ahead pairs = ap (λ b. first_of ((b, bad_context) ∷ room_checks state key pairs)) (bad-is ∙ ahead)
+
+  pub update-follows : list_any (is_ahead state.vnode state.last_epoch last) (pairs_in seen) ≡ false → (pairs : List Dot)
+      → update_check state key given pairs ≡ first_of (room_checks state key pairs)
+  update-follows behind pairs = ap (λ b. first_of ((b, bad_context) ∷ room_checks state key pairs)) (bad-is ∙ behind)
+
 -- a key that was found, and a context that was read and doesn't run ahead
 module _ (state : State Content) (put : PutAsk) (seen : Option (List Dot)) (given : context_of put.context ≡ option_map Pairs seen) (read : AreRead seen)
-    (o : Option (Stored Content)) (found : o ≡ stored state put.key) (last : Option Dot)
-    (last-is : last ≡ option_map (λ (own : Actor). (let d : Dot = record { actor = own; counter = counter_in (clock_of state put.key).known own } in d)) (own_of state put.key))
-    (behind : list_any (is_ahead state.vnode state.last_epoch last) (pairs_in seen) ≡ false) where
+    (o : Option (Stored Content)) (found : o ≡ stored state put.key)
+    (behind : list_any (is_ahead state.vnode state.last_epoch (last_dot o)) (pairs_in seen) ≡ false) where
   not-bad : is_bad state put.key (context_of put.context) ≡ false
-  not-bad = ap (is_bad state put.key) given ∙ by seen read behind
-    where
-      by : (seen : Option (List Dot)) → AreRead seen → list_any (is_ahead state.vnode state.last_epoch last) (pairs_in seen) ≡ false → is_bad state put.key (option_map Pairs seen) ≡ false
-      by None read h = refl
-      by (Some pairs) read h =
-          let runs = sym (ahead-same state.vnode state.last_epoch (own_of state put.key) (clock_of state put.key).known pairs)
-          ∙ ap (λ l. list_any (is_ahead state.vnode state.last_epoch l) pairs) (sym last-is) ∙ h in
-          λ i. not (read i) || runs i
+  not-bad = bad-is state put.key (context_of put.context) seen given read o found ∙ behind
 
   value-is : has_value_in o ≡ has_value state put.key
   value-is = ap has_value_in found ∙ by (stored state put.key)
@@ -110,19 +133,10 @@ module _ (state : State Content) (put : PutAsk) (seen : Option (List Dot)) (give
   pub options-refuse : (refusal : Refusal) → RefusedBy refusal (options_check put (has_value_in o) (is_current_in o seen)) → RefusedBy refusal (put_check state (put_command put))
   options-refuse refusal h = refused-map (options_check put (has_value_in o) (is_current_in o seen)) (put_check state (put_command put)) (λ n e. check-is ∙ first-some none_match not_present not_current match_found not_found modified rest n e) refusal h
 
-  rooms-follow : options_check put (has_value_in o) (is_current_in o seen) ≡ None → put_check state (put_command put) ≡ first_of (room_checks state put.key (pairs_in seen))
+  pub rooms-follow : options_check put (has_value_in o) (is_current_in o seen) ≡ None → put_check state (put_command put) ≡ first_of (room_checks state put.key (pairs_in seen))
   rooms-follow h = check-is ∙ first-none none_match not_present not_current match_found not_found modified rest h ∙ ap (λ ps. first_of (room_checks state put.key ps)) (ap pairs_of given ∙ pairs-given seen)
 
-  pub rooms-refuse : options_check put (has_value_in o) (is_current_in o seen) ≡ None → (refusal : Refusal) → RefusedBy refusal (first_of (room_checks state put.key (pairs_in seen)))
-      → RefusedBy refusal (put_check state (put_command put))
-  rooms-refuse free refusal h = refused-map (first_of (room_checks state put.key (pairs_in seen))) (put_check state (put_command put)) (λ n e. rooms-follow free ∙ e) refusal h
-
--- the last dot of a key that was found
-pub last-found : (state : State Content) (key : Key) (found : Option (Bor StoredKey)) → option_map (λ key. stored_of key.now) found ≡ stored state key
-    → option_map (λ key. last_dot key.now) found ≡ option_map (λ (own : Actor). (let d : Dot = record { actor = own; counter = counter_in (clock_of state key).known own } in d)) (own_of state key)
-last-found state key None h =
-    λ i. option_map (λ (own : Actor). (let d : Dot = record { actor = own; counter = counter_in (option_map_or (λ (s : Stored Content). s.clock) (h i) (record { known = []; live = [] })).known own } in d))
-    (option_and_then (λ (s : Stored Content). s.own) (h i))
-last-found state key (Some k) h =
-    λ i. option_map (λ (own : Actor). (let d : Dot = record { actor = own; counter = counter_in (option_map_or (λ (s : Stored Content). s.clock) (h i) (record { known = []; live = [] })).known own } in d))
-    (option_and_then (λ (s : Stored Content). s.own) (h i))
+-- a free check lets a put be given the next one's result
+pub rooms-give : {X : Type 0} (state : State Content) (put : PutAsk) (check : Option ℕ) → put_check state (put_command put) ≡ check → (r : Result X Refusal) → GivenBy r check
+    → GivenBy r (put_check state (put_command put))
+rooms-give state put check is r h = subst (λ c. GivenBy r c) (sym is) h

@@ -1,23 +1,26 @@
 -- What holds of a state that comes after some history.
 use Rattle.std.proofs.Common.{◌≡◌, ℕ, ◌<◌, true, cond, List, ◌∷◌, refl, sym, ◌∙◌, ap, subst}
-use Rattle.std.specs.Prelude.{◌^◌, Option, Some, None, option_map}
+use Rattle.std.specs.Prelude.{◌^◌, Option, Some, None, option_map, IsTrue}
+use Rattle.std.specs.Option.{option_map_or}
+use Rattle.std.specs.List.{list_all}
 use Rattle.std.specs.FinMap.Entries.{find, put as insert_key}
 use Rattle.riak_msgs.specs.declared.Key.{Key}
 use Rattle.riak_msgs.specs.declared.Content.{Content}
 use Rattle.riak_msgs.specs.declared.PutAsk.{PutAsk}
 use Rattle.riak_msgs.specs.KeyOrder.{key_cmp}
-use Rattle.sibling_register.specs.History.{Deed, Write}
-use Rattle.sibling_register.specs.Answers.{Ask as Command, AskPut}
+use Rattle.sibling_register.specs.History.{Deed, Write, Reap as Forget}
+use Rattle.sibling_register.specs.Answers.{Ask as Command, AskPut, AskDel, AskReap}
 use Rattle.actor_epoch.specs.declared.Actor.{Actor}
 use Rattle.actor_epoch.specs.declared.Dot.{Dot}
-use Rattle.actor_epoch.specs.Contexts.{is_rising, is_of_form}
+use Rattle.actor_epoch.specs.Contexts.{is_rising, is_within_limits, is_of_form}
 use Rattle.actor_epoch.specs.Given.{Context, Malformed, Pairs, context_of, pairs_read}
 use Rattle.dvv_set.specs.Clocks.{Meaning, discard, event}
-use Rattle.dvv_set.specs.Held.{IsWithin}
-use Rattle.vnode_machine.specs.Asks.{put_command}
+use Rattle.dvv_set.specs.Held.{IsWithin, known_after, known_with, without}
+use Rattle.vnode_machine.specs.Dead.{first_dead}
+use Rattle.vnode_machine.specs.Asks.{put_command, del_command}
 use Rattle.vnode_machine.specs.Machine.{State, Stored, stored, clock_of, actor_for, pairs_of, put_check, changed_by, updated}
 use Rattle.vnode_machine.specs.Replay.{IsWithinLimits}
-use Rattle.vnode_machine.specs.Step.{Response, StepOutcome, Accepted, PutDone, outcome, unless_refused}
+use Rattle.vnode_machine.specs.Step.{Response, StepOutcome, Answered, Accepted, ReapKept, PutDone, outcome, unless_refused}
 use Rattle.vnode_machine.specs.Registers.{IsNext, next_event}
 use Rattle.vnode_machine.specs.Replies.{put_reply}
 use Rattle.vnode_machine.proofs.Forms.{IsForm, IsFormed, form-whole}
@@ -27,8 +30,12 @@ use Rattle.vnode_machine.proofs.Keys.{find_stored, key_eq-refl}
 use Rattle.vnode_machine.proofs.Seen.{form-within, without-pairs}
 use Rattle.vnode_machine.proofs.StepLaw.{step_is_registers}
 use Rattle.vnode_machine.proofs.Steps.{known}
-use Rattle.vnode_core.specs.Checks.{pairs_in}
-use Rattle.vnode_core.specs.Plans.{Registers}
+use Rattle.vnode_core.specs.Checks.{pairs_in, IsRising}
+use Rattle.vnode_core.specs.declared.ask.Ask.{Ask}
+use Rattle.vnode_core.specs.declared.ask.Ask.TheVariants.{Put, Del, Reap, ReapFirst}
+use Rattle.vnode_core.specs.declared.ask.Answer.{Answer}
+use Rattle.vnode_core.specs.Plans.{Registers, RegistersAsk, Steps, ask_outcome, response_of}
+use Rattle.vnode_core.specs.Replies.{reply_after}
 use Rattle.vnode_core.specs.Shelves.{written}
 use Rattle.vnode_core.specs.Vnodes.{IsReached}
 
@@ -52,6 +59,10 @@ module _ (state : State Content) (is : IsReached state) where
   pub rising-stored : (key : Key) (s : Stored Content) → stored state key ≡ Some s → is_rising s.clock.known ≡ true
   rising-stored key s h = (subst IsFormed h (formed key)).pairs.rising
 
+  pub rising-found : (key : Key) (o : Option (Stored Content)) → o ≡ stored state key → IsRising o
+  rising-found key None h = tt
+  rising-found key (Some s) h = rising-stored key s (sym h)
+
   pub rising-at : (key : Key) → is_rising (clock_of state key).known ≡ true
   rising-at key = by (stored state key) (formed key)
     where
@@ -69,6 +80,32 @@ module _ (state : State Content) (is : IsReached state) where
   reached-next command deed response next h =
       let n : IsNext is.id is.opened is.history command deed response next = registers command (Accepted deed response next) h is.id is.opened is.history is.after in
       record { id = is.id; opened = is.opened; history = next_event is.id is.opened is.history command deed ∷ is.history; limits = is.limits; after = n.leads }
+
+  -- of what the vnode is asked
+  pub registers-ask : (ask : Ask) (result : StepOutcome) → ask_outcome state ask ≡ result → RegistersAsk state ask result
+  registers-ask (Put put) result h = registers (AskPut (put_command put)) result h
+  registers-ask (Del del) result h = registers (AskDel (del_command del)) result h
+  registers-ask (Reap key) result h = registers (AskReap key) result h
+  registers-ask (ReapFirst from) result h = λ key first.
+      registers (AskReap key) result (ap (λ (o : Option Key). option_map_or (λ key. outcome state (AskReap key)) o (Answered ReapKept)) (sym first) ∙ h)
+
+  pub reached-after : (ask : Ask) (answer : Answer) (next : State Content) → Steps state ask answer next → IsReached next
+  reached-after (Put put) answer next h = reached-next (AskPut (put_command put)) _ _ next h
+  reached-after (Del del) answer next h = reached-next (AskDel (del_command del)) _ _ next h
+  reached-after (Reap key) answer next h = reached-next (AskReap key) _ _ next h
+  reached-after (ReapFirst from) answer next h = by (first_dead state from) h
+    where
+      by : (o : Option Key) → option_map_or (λ key. outcome state (AskReap key)) o (Answered ReapKept) ≡ Accepted Forget (response_of answer) next → IsReached next
+      by None h = cc
+      by (Some key) h = reached-next (AskReap key) _ _ next h
+
+  -- pairs that are stored are within the limits
+  pub within-at : (key : Key) → IsTrue (list_all is_within_limits (clock_of state key).known)
+  within-at key = by (stored state key) (formed key)
+    where
+      by : (o : Option (Stored Content)) → IsFormed o → IsTrue (list_all is_within_limits (clock_in o).known)
+      by None h = refl
+      by (Some s) h = h.pairs.within
 
 pub registers-view : (state seen : State Content) → state ≡ seen → IsReached state → (command : Command Content Context) (result : StepOutcome) → outcome state command ≡ result
     → Registers seen command result
@@ -93,6 +130,11 @@ written-put state is put seen read =
     ap (λ (m : Meaning (Option Content)). insert_key key_cmp put.key (let s : Stored Content = record { own = Some own; clock = event own (Some put.content) m } in s) state.keys)
     (without-pairs seen clock (rising-at state is put.key) ∙ ap (λ ps. discard ps clock) pairs)
 
+-- what is known after a write
+pub known-event : {V : Type 0} (own : Actor) (value : V) (seen : Option (List Dot)) (clock : Meaning V) → (event own value (without seen clock)).known ≡ known_after own (known_with seen clock.known)
+known-event own value None clock = refl
+known-event own value (Some pairs) clock = refl
+
 -- a put that the machine accepts
 module _ (state : State Content) (is : IsReached state) (put : PutAsk) (accepted : put_check state (put_command put) ≡ None) where
   abbrev next : State Content
@@ -107,16 +149,37 @@ module _ (state : State Content) (is : IsReached state) (put : PutAsk) (accepted
   abbrev clock : Meaning (Option Content)
   clock = clock_of state put.key
 
-  -- it is stored next, in the form
-  form-put : IsForm (record { own = Some own; clock = event own (Some put.content) (discard (pairs_of (context_of put.context)) clock) })
-  form-put =
-      subst IsFormed
-      (find_stored put.key put.key (record { own = Some own; clock = event own (Some put.content) (discard (pairs_of (context_of put.context)) clock) }) state.keys
-      ∙ ap (λ b. cond b (Some (record { own = Some own; clock = event own (Some put.content) (discard (pairs_of (context_of put.context)) clock) })) (find key_cmp put.key state.keys)) (key_eq-refl put.key))
-      (formed next (reached-next state is (AskPut (put_command put)) (Write put.content) (PutDone (put_reply next (put_command put))) next steps-put) put.key)
+  -- it is stored next
+  abbrev next_stored : Stored Content
+  next_stored = record { own = Some own; clock = event own (Some put.content) (discard (pairs_of (context_of put.context)) clock) }
+
+  stored-next : stored next put.key ≡ Some next_stored
+  stored-next =
+      find_stored put.key put.key next_stored state.keys
+      ∙ ap (λ b. cond b (Some next_stored) (find key_cmp put.key state.keys)) (key_eq-refl put.key)
+
+  -- in the form
+  form-put : IsForm next_stored
+  form-put = subst IsFormed stored-next (formed next (reached-next state is (AskPut (put_command put)) (Write put.content) (PutDone (put_reply next (put_command put))) next steps-put) put.key)
 
   -- so it is within the limits of its clock
   pub within-put : (seen : Option (List Dot)) → context_of put.context ≡ option_map Pairs seen → IsWithin clock.known seen own
   within-put seen given =
       form-within own (Some put.content) clock seen (rising-at state is put.key)
       (subst (λ ps. IsForm (record { own = Some own; clock = event own (Some put.content) (discard ps clock) })) (ap pairs_of given ∙ pairs-given seen) form-put)
+
+  module _ (seen : Option (List Dot)) (given : context_of put.context ≡ option_map Pairs seen) where
+    after-is : event own (Some put.content) (without seen clock) ≡ next_stored.clock
+    after-is =
+        ap (λ (m : Meaning (Option Content)). event own (Some put.content) m)
+        (without-pairs seen clock (rising-at state is put.key) ∙ ap (λ ps. discard ps clock) (sym (ap pairs_of given ∙ pairs-given seen)))
+
+    -- what is known next is of the form
+    pub form-after : is_of_form (known_after own (known_with seen clock.known)) ≡ true
+    form-after = ap is_of_form (sym (known-event own (Some put.content) seen clock) ∙ ap (λ (m : Meaning (Option Content)). m.known) after-is) ∙ form-whole next_stored form-put
+
+    -- and the reply shows it
+    pub reply-put : reply_after (event own (Some put.content) (without seen clock)) put ≡ put_reply next (put_command put)
+    reply-put =
+        ap (λ (m : Meaning (Option Content)). reply_after m put) after-is
+        ∙ ap (λ o. reply_after (clock_in o) put) (sym stored-next)

@@ -11,10 +11,13 @@ use Rattle.actor_epoch.specs.declared.limits.TheConstants.{GREATEST_EPOCH, GREAT
 use Rattle.actor_epoch.specs.Dots.{counter_in}
 use Rattle.actor_epoch.specs.Contexts.{is_rising}
 use Rattle.dvv_set.specs.Clocks.{Meaning}
-use Rattle.dvv_set.specs.Held.{actors_after, uncovered}
+use Rattle.dvv_set.specs.Held.{actors_after, known_after, uncovered}
+use Rattle.dvv_set.specs.Laws.{IsClock}
+use Rattle.dvv_set.proofs.Discards.{discard-all}
 use Rattle.vnode_machine.specs.Machine.{State, stored, room_checks}
 use Rattle.vnode_machine.proofs.Seen.{actors_after-pairs, length-raise_new}
-use Rattle.vnode_core.specs.Checks.{pairs_in, is_ahead, IsNew}
+use Rattle.vnode_core.specs.Vnodes.{writer_of}
+use Rattle.vnode_core.specs.Checks.{pairs_in, is_ahead, IsFound}
 
 -- of a stored key, by what was computed
 module _ (state : State Content) (key : Key) (own : Actor) (clock : Meaning (Option Content)) (seen : Option (List Dot)) (rising : is_rising clock.known ≡ true)
@@ -52,26 +55,43 @@ module _ (state : State Content) (key : Key) (own : Actor) (clock : Meaning (Opt
       let d : nat_eq n GREATEST_COUNTER ≡ false = grind (arith, nat_tests) in
       rooms-are ∙ rw (b, c, d) refl
 
+-- in place of all that a clock knows
+module _ (own : Actor) (clock : Meaning (Option Content)) (is : IsClock clock) where
+  pub none-uncovered : 0 ≡ uncovered clock.known clock
+  none-uncovered = ap (λ (m : Meaning (Option Content)). length m.live) (sym (discard-all clock is))
+
+  pub actors-over : (a : ℕ) → a ≡ actors_after clock.known None own → a ≡ actors_after clock.known (Some clock.known) own
+  actors-over a h = h ∙ ap (λ (m : Meaning (Option Content)). length (known_after own m.known)) (sym (discard-all clock is))
+
+-- who writes a key that was found
+pub writer-stored : (state : State Content) (key : Key) (own : Actor) (clock : Meaning (Option Content)) (last_epoch : ℕ) → stored state key ≡ Some (record { own = Some own; clock = clock })
+    → state.last_epoch ≡ last_epoch → record { actor = own; last_epoch = last_epoch } ≡ writer_of state key
+writer-stored state key own clock last_epoch h e = rw (h, e) refl
+
+pub writer-new : (state : State Content) (key : Key) (id last_epoch : ℕ) → stored state key ≡ None → state.vnode ≡ id → state.last_epoch ≡ last_epoch
+    → record { actor = record { vnode = id; epoch = last_epoch + 1 }; last_epoch = last_epoch + 1 } ≡ writer_of state key
+writer-new state key id last_epoch h v e = rw (h, v, e) refl
+
 -- and of an absent one
-module _ (state : State Content) (key : Key) (last_epoch : ℕ) (pairs : List Dot) (is : IsNew state key last_epoch pairs) (n : ℕ) (ns : n ≡ length pairs) where
+module _ (state : State Content) (key : Key) (id last_epoch : ℕ) (pairs : List Dot) (is : IsFound state key id last_epoch None pairs) (n : ℕ) (ns : n ≡ length pairs) where
   abbrev new_check : (actors last_epoch : ℕ) → Option ℕ
   new_check actors last_epoch = first_of ((nat_lt MOST_ACTORS actors, clock_full) ∷ (last_epoch == GREATEST_EPOCH, epochs_used_up) ∷ [])
 
-  abbrev next : ℕ → Actor
-  next last_epoch = record { vnode = state.vnode; epoch = last_epoch + 1 }
+  abbrev next : (id last_epoch : ℕ) → Actor
+  next id last_epoch = record { vnode = id; epoch = last_epoch + 1 }
 
-  itself : (counter : ℕ) → is_ahead state.vnode last_epoch None (record { actor = next last_epoch; counter = counter }) ≡ true
+  itself : (counter : ℕ) → is_ahead id last_epoch None (record { actor = next id last_epoch; counter = counter }) ≡ true
   itself counter =
-      let same : nat_eq state.vnode state.vnode ≡ true = grind (arith, nat_tests) in
+      let same : nat_eq id id ≡ true = grind (arith, nat_tests) in
       let above : nat_lt last_epoch (last_epoch + 1) ≡ true = grind (arith, nat_tests) in
       rw (same, above) refl
 
   rooms-begin : first_of (room_checks state key pairs) ≡ new_check (suc n) last_epoch
   rooms-begin =
       let none : stored state key ≡ None = is.stored in
-      let found : first_of (room_checks state key pairs) ≡ new_check (actors_after [] (Some pairs) (next state.last_epoch)) state.last_epoch = rw none refl in
-      found ∙ (λ i. new_check (actors_after [] (Some pairs) (next (is.epoch i))) (is.epoch i))
-      ∙ ap (λ m. new_check m last_epoch) (length-raise_new (next last_epoch) (is_ahead state.vnode last_epoch None) itself _ pairs is.behind ∙ ap suc (sym ns))
+      let found : first_of (room_checks state key pairs) ≡ new_check (actors_after [] (Some pairs) (next state.vnode state.last_epoch)) state.last_epoch = rw none refl in
+      found ∙ (λ i. new_check (actors_after [] (Some pairs) (next (is.vnode i) (is.epoch i))) (is.epoch i))
+      ∙ ap (λ m. new_check m last_epoch) (length-raise_new (next id last_epoch) (is_ahead id last_epoch None) itself _ pairs is.behind ∙ ap suc (sym ns))
 
   pub absent-full : MOST_ACTORS ≤ n → first_of (room_checks state key pairs) ≡ Some clock_full
   absent-full full = let b : nat_lt MOST_ACTORS (suc n) ≡ true = grind (arith, nat_tests) in rooms-begin ∙ rw b refl

@@ -15,8 +15,8 @@ use Rattle.riak_msgs.specs.declared.Content.{Content}
 use Rattle.riak_msgs.specs.KeyOrder.{key_cmp}
 use Rattle.actor_epoch.specs.declared.Actor.{Actor}
 use Rattle.actor_epoch.specs.declared.Dot.{Dot}
-use Rattle.dvv_set.specs.Clocks.{Meaning, event}
-use Rattle.dvv_set.specs.Held.{IsWithin, IsReady, without}
+use Rattle.dvv_set.specs.Clocks.{Meaning, discard, event}
+use Rattle.dvv_set.specs.Held.{IsWithin, IsReady}
 use Rattle.vnode_machine.specs.Machine.{Stored}
 use Rattle.vnode_machine.proofs.Keys.{key_cmp_total}
 use Rattle.vnode_core.specs.declared.place.Place.{Place}
@@ -24,7 +24,7 @@ use Rattle.vnode_core.specs.declared.place.Place.TheVariants.{At, New}
 use Rattle.vnode_core.specs.declared.shelf.Room.{Room}
 use Rattle.vnode_core.specs.declared.stored_key.StoredKey.{StoredKey}
 use Rattle.vnode_core.specs.Places.{place_in}
-use Rattle.vnode_core.specs.Shelves.{Keys, entry_of, stored_of, empty, clock_at, written, FitsAt, ReadyAt, IsRoom, IsShelf}
+use Rattle.vnode_core.specs.Shelves.{Keys, entry_of, stored_of, empty, clock_at, written, overwritten, FitsAt, ReadyAt, IsRoom, IsShelf}
 use Rattle.vnode_core.proofs.Finding.{at_place, new_place}
 
 -- a key stands at its place
@@ -101,41 +101,45 @@ module _ (seen : Option (List Dot)) (actor : Actor) where
       let clock : clock_at (map entry_of items) key ≡ empty = rw (sym none) refl in
       subst (λ (m : Meaning (Option Content)). IsWithin m.known seen actor) (clock ∙ sym is) fits
 
-  module _ (value : Option Content) where
-    pub written_at : (items : List StoredKey) (key : Key) (i : ℕ) (read new : StoredKey) → place_in key (map entry_of items) ≡ At i → read ≡ get_or items i read
-        → new.key ≡ read.key → new.actor ≡ actor → new.clock.meaning ≡ event actor value (without seen read.clock.meaning)
-        → map entry_of (set items i new) ≡ written (map entry_of items) key seen actor value
-    written_at items key i read new h is same own clock =
-        let at = stands items key i h in
-        let it : read ≡ at.stored = is ∙ get_or_from_slice_get items i at.stored read at.get in
-        let was : clock_at (map entry_of items) key ≡ read.clock.meaning = let o = at.find in rw (o, it) refl in
-        let stored : stored_of new ≡ record { own = Some actor; clock = event actor value (without seen (clock_at (map entry_of items) key)) } =
-        (λ j. record { own = Some (own j); clock = clock j }) ∙ (λ j. record { own = Some actor; clock = event actor value (without seen (sym was j)) }) in
-        map-set entry_of items i new
-        ∙ ap (λ k. set (map entry_of items) i (k, stored_of new)) (same ∙ ap (λ (s : StoredKey). s.key) it)
-        ∙ sym (at.put (stored_of new))
-        ∙ ap (λ s. put key_cmp key s (map entry_of items)) stored
+-- a write at an actor, of which this is left of a clock
+module _ (left : Meaning (Option Content) → Meaning (Option Content)) (actor : Actor) (value : Option Content) where
+  abbrev written_to : Keys → Key → Keys
+  written_to keys key = put key_cmp key (record { own = Some actor; clock = event actor value (left (clock_at keys key)) }) keys
 
-    mapped_insert : (items : List StoredKey) (i : ℕ) (stored : StoredKey) → map entry_of (insert items i stored) ≡ insert (map entry_of items) i (entry_of stored)
-    mapped_insert items i stored =
-        map-append entry_of (take i items) (stored ∷ drop i items)
-        ∙ ap (λ front. front ++ entry_of stored ∷ map entry_of (drop i items)) (sym (take-map entry_of i items))
-        ∙ ap (λ back. take i (map entry_of items) ++ entry_of stored ∷ back) (sym (drop-map entry_of i items))
+  pub written_at : (items : List StoredKey) (key : Key) (i : ℕ) (read new : StoredKey) → place_in key (map entry_of items) ≡ At i → read ≡ get_or items i read
+      → new.key ≡ read.key → new.actor ≡ actor → new.clock.meaning ≡ event actor value (left read.clock.meaning)
+      → map entry_of (set items i new) ≡ written_to (map entry_of items) key
+  written_at items key i read new h is same own clock =
+      let at = stands items key i h in
+      let it : read ≡ at.stored = is ∙ get_or_from_slice_get items i at.stored read at.get in
+      let was : clock_at (map entry_of items) key ≡ read.clock.meaning = let o = at.find in rw (o, it) refl in
+      let stored : stored_of new ≡ record { own = Some actor; clock = event actor value (left (clock_at (map entry_of items) key)) } =
+      (λ j. record { own = Some (own j); clock = clock j }) ∙ (λ j. record { own = Some actor; clock = event actor value (left (sym was j)) }) in
+      map-set entry_of items i new
+      ∙ ap (λ k. set (map entry_of items) i (k, stored_of new)) (same ∙ ap (λ (s : StoredKey). s.key) it)
+      ∙ sym (at.put (stored_of new))
+      ∙ ap (λ s. put key_cmp key s (map entry_of items)) stored
 
-    pub written_new : (items : List StoredKey) (i : ℕ) (made new : StoredKey) → IsTrue (is_sorted key_cmp (map entry_of items)) → place_in made.key (map entry_of items) ≡ New i
-        → made.clock.meaning ≡ empty → new.key ≡ made.key → new.actor ≡ actor → new.clock.meaning ≡ event actor value (without seen made.clock.meaning)
-        → map entry_of (insert items i new) ≡ written (map entry_of items) made.key seen actor value
-    written_new items i made new sorted h none same own clock =
-        let at = new_place 0 made.key (map entry_of items) i sorted h in
-        let k : at.k ≡ i = omega (arith, at.is) in
-        let was : clock_at (map entry_of items) made.key ≡ empty = let o = at.find in rw o refl in
-        let stored : stored_of new ≡ record { own = Some actor; clock = event actor value (without seen (clock_at (map entry_of items) made.key)) } =
-        (λ j. record { own = Some (own j); clock = clock j }) ∙ (λ j. record { own = Some actor; clock = event actor value (without seen ((none ∙ sym was) j)) }) in
-        mapped_insert items i new
-        ∙ ap (λ key. insert (map entry_of items) i (key, stored_of new)) same
-        ∙ ap (λ n. insert (map entry_of items) n (made.key, stored_of new)) (sym k)
-        ∙ sym (at.put (stored_of new))
-        ∙ ap (λ s. put key_cmp made.key s (map entry_of items)) stored
+  mapped_insert : (items : List StoredKey) (i : ℕ) (stored : StoredKey) → map entry_of (insert items i stored) ≡ insert (map entry_of items) i (entry_of stored)
+  mapped_insert items i stored =
+      map-append entry_of (take i items) (stored ∷ drop i items)
+      ∙ ap (λ front. front ++ entry_of stored ∷ map entry_of (drop i items)) (sym (take-map entry_of i items))
+      ∙ ap (λ back. take i (map entry_of items) ++ entry_of stored ∷ back) (sym (drop-map entry_of i items))
+
+  pub written_new : (items : List StoredKey) (i : ℕ) (made new : StoredKey) → IsTrue (is_sorted key_cmp (map entry_of items)) → place_in made.key (map entry_of items) ≡ New i
+      → made.clock.meaning ≡ empty → new.key ≡ made.key → new.actor ≡ actor → new.clock.meaning ≡ event actor value (left made.clock.meaning)
+      → map entry_of (insert items i new) ≡ written_to (map entry_of items) made.key
+  written_new items i made new sorted h none same own clock =
+      let at = new_place 0 made.key (map entry_of items) i sorted h in
+      let k : at.k ≡ i = omega (arith, at.is) in
+      let was : clock_at (map entry_of items) made.key ≡ empty = let o = at.find in rw o refl in
+      let stored : stored_of new ≡ record { own = Some actor; clock = event actor value (left (clock_at (map entry_of items) made.key)) } =
+      (λ j. record { own = Some (own j); clock = clock j }) ∙ (λ j. record { own = Some actor; clock = event actor value (left ((none ∙ sym was) j)) }) in
+      mapped_insert items i new
+      ∙ ap (λ key. insert (map entry_of items) i (key, stored_of new)) same
+      ∙ ap (λ n. insert (map entry_of items) n (made.key, stored_of new)) (sym k)
+      ∙ sym (at.put (stored_of new))
+      ∙ ap (λ s. put key_cmp made.key s (map entry_of items)) stored
 
 pub within_new : (items : List StoredKey) (key : Key) (i : ℕ) → IsTrue (is_sorted key_cmp (map entry_of items)) → place_in key (map entry_of items) ≡ New i → i ≤ length items
 within_new items key i sorted h =
@@ -145,6 +149,13 @@ within_new items key i sorted h =
 -- what an insertion that succeeds leaves
 pub inserted : {X : Type 0} (b : Bool) (after xs ys : List X) → b ≡ true → after ≡ cond b xs ys → after ≡ xs
 inserted b after xs ys t is = is ∙ ap (λ c. cond c xs ys) t
+
+-- in place of all values of a new key there are none
+pub overwritten_new : (keys : Keys) (key : Key) (actor : Actor) (value : Option Content) → find key_cmp key keys ≡ None → written keys key None actor value ≡ overwritten keys key actor value
+overwritten_new keys key actor value none =
+    let was : clock_at keys key ≡ empty = rw none refl in
+    let s : Meaning (Option Content) → Stored Content = λ m. record { own = Some actor; clock = event actor value m } in
+    ap (λ m. put key_cmp key (s m) keys) (was ∙ (λ i. discard (sym was i).known (sym was i)))
 
 -- one fact of a value that there is for another
 pub on_ok : {X E A B : Type 0} (r : Result X E) → (A → B) → OnOk r A → OnOk r B
@@ -156,9 +167,9 @@ true_from true t = refl
 true_from false t = absurd t
 
 -- what is always true of a shelf holds after a write
-pub shelf_after : (keys : Vec StoredKey Global) (room : Option Room) (old : Keys) (key : Key) (seen : Option (List Dot)) (actor : Actor) (value : Option Content) → room ≡ None
-    → map entry_of keys.items ≡ written old key seen actor value → IsTrue (is_sorted key_cmp old) → IsShelf (record { keys = keys; room = room })
-shelf_after keys room old key seen actor value none is sorted = record {
-  sorted = subst (λ es. IsTrue (is_sorted key_cmp es)) (sym is) (true_from _ (is_sorted-put key_cmp key_cmp_total key _ old (T_from_true _ sorted)));
+pub shelf_after : (keys : Vec StoredKey Global) (room : Option Room) (old : Keys) (key : Key) (s : Stored Content) → room ≡ None
+    → map entry_of keys.items ≡ put key_cmp key s old → IsTrue (is_sorted key_cmp old) → IsShelf (record { keys = keys; room = room })
+shelf_after keys room old key s none is sorted = record {
+  sorted = subst (λ es. IsTrue (is_sorted key_cmp es)) (sym is) (true_from _ (is_sorted-put key_cmp key_cmp_total key s old (T_from_true _ sorted)));
   room = subst (IsRoom keys) (sym none) tt;
 }

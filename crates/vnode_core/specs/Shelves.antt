@@ -9,7 +9,7 @@ use Rattle.riak_msgs.specs.declared.Content.{Content}
 use Rattle.riak_msgs.specs.KeyOrder.{key_cmp}
 use Rattle.actor_epoch.specs.declared.Actor.{Actor}
 use Rattle.actor_epoch.specs.declared.Dot.{Dot}
-use Rattle.dvv_set.specs.Clocks.{Meaning, event}
+use Rattle.dvv_set.specs.Clocks.{Meaning, discard, event}
 use Rattle.dvv_set.specs.Held.{Held as Clock, IsWithin, IsReady, without}
 use Rattle.vnode_machine.specs.Machine.{Stored}
 use Rattle.vnode_core.specs.declared.place.Place.{Place}
@@ -40,6 +40,17 @@ clock_at keys key = option_map_or (λ s. s.clock) (find key_cmp key keys) empty
 abbrev pub written : Keys → Key → Option (List Dot) → Actor → Option Content → Keys
 written keys key seen actor value =
     put key_cmp key (record { own = Some actor; clock = event actor value (without seen (clock_at keys key)) }) keys
+
+-- the keys after a write at this actor in place of all values of the key
+abbrev pub overwritten : Keys → Key → Actor → Option Content → Keys
+overwritten keys key actor value =
+    let clock = clock_at keys key in
+    put key_cmp key (record { own = Some actor; clock = event actor value (discard clock.known clock) }) keys
+
+-- the keys after a tombstone, which discards what its context has seen, or all without one
+abbrev pub deleted : Keys → Key → Option (List Dot) → Actor → Keys
+deleted keys key None actor = overwritten keys key actor None
+deleted keys key (Some pairs) actor = written keys key (Some pairs) actor None
 
 -- a place, and the clock that has room for a write there
 pub record Reserved : Type 0 where

@@ -1,21 +1,28 @@
 -- What a vnode's fields mean, and what is always true of them.
-use Rattle.std.specs.Prelude.{◌≡◌, ℕ, List, Option, Some, None}
+use Rattle.std.specs.Prelude.{◌≡◌, ℕ, true, false, List, Option, Some, None, Result, Ok, Err}
 use Rattle.riak_msgs.specs.declared.Key.{Key}
 use Rattle.riak_msgs.specs.declared.Content.{Content}
-use Rattle.sibling_register.specs.History.{Event}
+use Rattle.riak_msgs.specs.declared.DelAsk.{DelAsk}
+use Rattle.sibling_register.specs.History.{Event, Write, Tombstone}
 use Rattle.actor_epoch.specs.Given.{Context, context_of, pairs_read}
 use Rattle.actor_epoch.specs.declared.Actor.{Actor}
-use Rattle.vnode_machine.specs.Machine.{State, actor_for, epoch_after, changed_by}
-use Rattle.vnode_machine.specs.Registers.{key_of, context_in_ask}
+use Rattle.dvv_set.specs.Clocks.{join}
+use Rattle.vnode_machine.specs.Dead.{reaped}
+use Rattle.vnode_machine.specs.Machine.{State, is_held, clock_of, actor_for, epoch_after, update_check, changed_by, counted}
 use Rattle.vnode_machine.specs.Replay.{IsWithinLimits, IsAfter}
+use Rattle.vnode_machine.specs.Step.{DelDone, Answered}
 use Rattle.vnode_core.specs.declared.ask.Ask.{Ask}
-use Rattle.vnode_core.specs.declared.ask.Ask.TheVariants.{Put}
+use Rattle.vnode_core.specs.declared.ask.Ask.TheVariants.{Put, Del, Reap, ReapFirst}
 use Rattle.vnode_core.specs.declared.ask.Answer.{Answer}
+use Rattle.vnode_core.specs.declared.ask.Answer.TheVariants as answers
+use Rattle.vnode_core.specs.declared.refusal.Refusal.{Refusal}
 use Rattle.vnode_core.specs.declared.ready.Ready.{Ready}
 use Rattle.vnode_core.specs.declared.ready.Writer.{Writer}
 use Rattle.vnode_core.specs.declared.vnode.Vnode.TheInside.{Inside}
-use Rattle.vnode_core.specs.Plans.{View, Steps, command_of, deed_of}
-use Rattle.vnode_core.specs.Shelves.{Keys, Shelved, HasRoom, written}
+use Rattle.vnode_core.specs.Plans.{View, IsAccepted, IsWrite, Steps, Refuses, ask_outcome}
+use Rattle.vnode_core.specs.Reaping.{after_first_reap}
+use Rattle.vnode_core.specs.Refusals.{RefusedBy}
+use Rattle.vnode_core.specs.Shelves.{Keys, Shelved, HasRoom, written, deleted}
 
 abbrev pub state_of : Inside → State Content
 state_of v = record {
@@ -39,6 +46,13 @@ pub record IsReached (state : State Content) : Type 0 where
   pub limits : IsWithinLimits id opened
   pub after : IsAfter id opened history state
 
+-- the key of a write
+abbrev pub key_in : (ask : Ask) → IsWrite ask → Key
+key_in (Put put) write = put.key
+key_in (Del del) write = del.key
+key_in (Reap key) write = key
+key_in (ReapFirst from) write = absurd write
+
 -- who writes a key next
 abbrev pub writer_of : State Content → Key → Writer
 writer_of state key = record { actor = actor_for state key; last_epoch = epoch_after state key }
@@ -46,25 +60,68 @@ writer_of state key = record { actor = actor_for state key; last_epoch = epoch_a
 -- the keys after the write of a command at this actor, and the room for it
 abbrev pub written_by : Keys → Ask → Actor → Keys
 written_by keys (Put put) actor = written keys put.key (pairs_read (context_of put.context)) actor (Some put.content)
+written_by keys (Del del) actor = deleted keys del.key (pairs_read (context_of del.context)) actor
+written_by keys (Reap key) actor = keys
+written_by keys (ReapFirst from) actor = keys
 
 abbrev pub HasRoomFor : Shelved → Ask → Actor → Type 0
 HasRoomFor shelf (Put put) actor = HasRoom shelf put.key (pairs_read (context_of put.context)) actor
+HasRoomFor shelf (Del del) actor = HasRoom shelf del.key (pairs_read (context_of del.context)) actor
+HasRoomFor shelf (Reap key) actor = ⊥
+HasRoomFor shelf (ReapFirst from) actor = ⊥
 
 -- the state after a command that is accepted
 abbrev pub state_after : State Content → Ask → State Content
-state_after state ask = changed_by state (key_of (command_of ask)) (context_in_ask (command_of ask)) (deed_of ask)
+state_after state (Put put) = changed_by state put.key (context_of put.context) (Write put.content)
+state_after state (Del del) = changed_by state del.key (context_of del.context) Tombstone
+state_after state (Reap key) = reaped state key
+state_after state (ReapFirst from) = after_first_reap state from
 
--- the machine accepts the command, which has room, and its answer lies ready
-pub record IsReady (state : State Content) (shelf : Shelved) (ready : Option Ready) (ask : Ask) : Type 0 where
+-- how many writes and tombstones there are after a command
+abbrev pub writes_after : ℕ → Ask → ℕ
+writes_after writes (Put put) = counted writes
+writes_after writes (Del del) = writes
+writes_after writes (Reap key) = writes
+writes_after writes (ReapFirst from) = writes
+
+abbrev pub tombstones_after : ℕ → Ask → ℕ
+tombstones_after tombstones (Put put) = tombstones
+tombstones_after tombstones (Del del) = counted tombstones
+tombstones_after tombstones (Reap key) = tombstones
+tombstones_after tombstones (ReapFirst from) = tombstones
+
+-- who writes the tombstone of a delete, or nobody, where it does nothing; or its refusal
+abbrev pub DelGives : State Content → DelAsk → Result (Option Writer) Refusal → Type 0
+DelGives state del (Ok None) = ask_outcome state (Del del) ≡ Answered DelDone
+DelGives state del (Ok (Some writer)) = Steps state (Del del) answers.Del (state_after state (Del del)) × (writer ≡ writer_of state del.key)
+DelGives state del (Err refusal) = Refuses state (Del del) refusal
+
+-- the machine accepts a tombstone over all that is stored of a key, and this is who writes it
+pub record IsToOverwrite (state : State Content) (key : Key) (writer : Writer) : Type 0 where
+  pub held : is_held state key ≡ true
+  pub free : update_check state key None (join (clock_of state key)) ≡ None
+  pub is : writer ≡ writer_of state key
+
+-- the same of one without context
+abbrev pub DelOfAllGives : State Content → Key → Result (Option Writer) Refusal → Type 0
+DelOfAllGives state key (Ok None) = is_held state key ≡ false
+DelOfAllGives state key (Ok (Some writer)) = IsToOverwrite state key writer
+DelOfAllGives state key (Err refusal) = (is_held state key ≡ true) × RefusedBy refusal (update_check state key None (join (clock_of state key)))
+
+-- the machine accepts the write, which has room, and its answer lies ready
+pub record IsReady (state : State Content) (shelf : Shelved) (ready : Option Ready) (ask : Ask) (write : IsWrite ask) : Type 0 where
   pub answer : Answer
   pub step : Steps state ask answer (state_after state ask)
-  pub room : HasRoomFor shelf ask (actor_for state (key_of (command_of ask)))
-  pub made : ready ≡ Some (record { writer = writer_of state (key_of (command_of ask)); answer = answer })
+  pub room : HasRoomFor shelf ask (actor_for state (key_in ask write))
+  pub made : ready ≡ Some (record { writer = writer_of state (key_in ask write); answer = answer })
 
--- what is prepared is ready
+-- what is prepared is ready; a reap needs nothing but to be accepted
 abbrev pub IsReadyFor : State Content → Shelved → Option Ready → Option Ask → Type 0
 IsReadyFor state shelf ready None = Unit {0}
-IsReadyFor state shelf ready (Some ask) = IsReady state shelf ready ask
+IsReadyFor state shelf ready (Some (Put put)) = IsReady state shelf ready (Put put) tt
+IsReadyFor state shelf ready (Some (Del del)) = IsReady state shelf ready (Del del) tt
+IsReadyFor state shelf ready (Some (Reap key)) = IsAccepted (ask_outcome state (Reap key))
+IsReadyFor state shelf ready (Some (ReapFirst from)) = IsAccepted (ask_outcome state (ReapFirst from))
 
 pub record IsVnode (v : Inside) : Type 0 where
   pub reached : IsReached (state_of v)

@@ -1,28 +1,22 @@
 //! What a vnode is asked to change, and what it answers.
 
-ghost use Rattle.std.specs.Prelude.{◌≡◌};
-ghost use Rattle.vnode_core.specs.declared.ask.Ask.TheVariants.{Put};
-
-use riak_msgs::{PutAsk, PutReply};
+use riak_msgs::{DelAsk, Key, PutAsk, PutReply};
+pub use rw_gate::Plan;
 
 /// A command that may change a vnode.
 #[derive(Debug, Drop)]
 pub enum Ask {
     /// Write a content under a key.
     Put(PutAsk),
+    /// Write a tombstone over what the deleter has seen of a key.
+    Del(DelAsk),
+    /// Forget a key with its clock, where it is dead.
+    Reap(Key),
+    /// Forget the least dead key at or after this one, or of all where none is given.
+    ReapFirst(Option<Key>),
 }
 
-impl Ask {
-    /// The put that it is.
-    pub(crate) fn put(&self) -> &PutAsk
-        ensures { self.now ≡ Put result.now }
-    {
-        let Ask::Put(put) = self;
-        put
-    }
-}
-
-/// What became of a key that was to be forgotten. (No command asks for it yet.)
+/// What became of a key that was to be forgotten.
 #[derive(Clone, Copy, Debug, Drop, PartialEq, Eq)]
 pub enum Reaped {
     /// It was dead, and is forgotten with its clock.
@@ -42,13 +36,4 @@ pub enum Answer {
     Del,
     /// To a reap.
     Reaped(Reaped),
-}
-
-/// What a command comes to, before anything has changed.
-#[derive(Debug, Drop)]
-pub enum Plan<C, R> {
-    /// A change, which is still to be finished.
-    Change(C),
-    /// Nothing changes, and this is the answer.
-    Nothing(R),
 }

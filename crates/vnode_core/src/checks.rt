@@ -1,21 +1,24 @@
 //! The checks of a write, by what is stored of its key. They take no memory.
 
-ghost use Rattle.std.specs.Prelude.{◌≡◌, ◌<◌, Some, OnOk, IsTrue};
+ghost use Rattle.std.specs.Prelude.{◌≡◌, ◌<◌, ◌+◌, Some, None, IfOk, OnOk, IsTrue};
 ghost use Rattle.std.specs.Option.{option_map};
 ghost use Rattle.riak_msgs.specs.declared.Key.{Key};
 ghost use Rattle.riak_msgs.specs.declared.Content.{Content};
 ghost use Rattle.sibling_register.specs.Refusals.{first_of};
 ghost use Rattle.actor_epoch.specs.Contexts.{is_rising};
+ghost use Rattle.dvv_set.specs.Clocks.{join};
 ghost use Rattle.dvv_set.specs.Held.{pairs_of as seen_in};
 ghost use Rattle.vnode_machine.specs.Machine.{State, stored, room_checks};
-ghost use Rattle.vnode_core.specs.Checks.{pairs_in, last_dot, has_value_in, is_current_in, options_check, IsNew};
+ghost use Rattle.vnode_core.specs.Checks.{pairs_in, last_dot, has_value_in, is_current_in, options_check, IsFound, IsRising};
 ghost use Rattle.vnode_core.specs.Refusals.{GivenBy};
 ghost use Rattle.vnode_core.specs.Shelves.{stored_of};
+ghost use Rattle.vnode_core.specs.Vnodes.{writer_of};
 
 use crate::given;
+use crate::ready::Writer;
 use crate::refusal::Refusal;
 use crate::stored_key::StoredKey;
-use actor_epoch::{Context, Dot, GREATEST_COUNTER, GREATEST_EPOCH, MOST_ACTORS};
+use actor_epoch::{Actor, Context, Dot, GREATEST_COUNTER, GREATEST_EPOCH, MOST_ACTORS};
 use riak_msgs::PutAsk;
 
 /// The most siblings of a key.
@@ -23,7 +26,7 @@ const MAX_SIBLINGS: usize = 64;
 
 /// The last dot of a key's life, where it is stored.
 pub(crate) fn last_of(found: Option<&StoredKey>) -> Option<Dot>
-    ensures { result ≡ option_map (λ key. last_dot key.now) found.entry }
+    ensures { result ≡ last_dot (option_map (λ key. stored_of key.now) found.entry) }
 {
     let key = found?;
     Some(Dot {
@@ -81,7 +84,7 @@ pub(crate) fn check_options(
 }
 
 /// Whether a stored key has room for one write more, which discards what its context has seen.
-pub(crate) fn check_stored(key: &StoredKey, context: Option<&Context<'_>>) -> Result<(), Refusal>
+fn check_stored(key: &StoredKey, context: Option<&Context<'_>>) -> Result<(), Refusal>
     requires { IsTrue (is_rising key.now.clock.meaning.known) }
     ensures { (state : State Content) (k : Key) → stored state k ≡ Some (stored_of key.now) → GivenBy result (first_of (room_checks state k (pairs_in (seen_in context.entry)))) }
 {
@@ -97,10 +100,10 @@ pub(crate) fn check_stored(key: &StoredKey, context: Option<&Context<'_>>) -> Re
     Ok(())
 }
 
-/// Whether there is room for the first write of a life, where this epoch was given last, by a context that doesn't run
-/// ahead.
-pub(crate) fn check_new(last_epoch: u32, context: Option<&Context<'_>>) -> Result<(), Refusal>
-    ensures given { (state : State Content) (k : Key) → IsNew state k last_epoch (pairs_in (seen_in context.entry)) → GivenBy result (first_of (room_checks state k (pairs_in (seen_in context.entry)))) }
+/// Whether there is room for the first write of a life at a vnode that gave this epoch last, by a context that doesn't
+/// run ahead.
+fn check_new(id: u64, last_epoch: u32, context: Option<&Context<'_>>) -> Result<(), Refusal>
+    ensures given { (state : State Content) (k : Key) → IsFound state k id last_epoch None (pairs_in (seen_in context.entry)) → GivenBy result (first_of (room_checks state k (pairs_in (seen_in context.entry)))) }
     ensures left { OnOk result (last_epoch < GREATEST_EPOCH) }
 {
     if MOST_ACTORS <= given::len(context) {
@@ -108,6 +111,58 @@ pub(crate) fn check_new(last_epoch: u32, context: Option<&Context<'_>>) -> Resul
     }
     if last_epoch == GREATEST_EPOCH {
         return Err(Refusal::EpochsUsedUp);
+    }
+    Ok(())
+}
+
+/// Whether a key has room for one write more, which discards what its context has seen, and who makes it: where it was
+/// not found, the next life's actor.
+pub(crate) fn check_room(
+    id: u64,
+    last_epoch: u32,
+    found: Option<&StoredKey>,
+    context: Option<&Context<'_>>,
+) -> Result<Writer, Refusal>
+    requires { IsRising (option_map (λ key. stored_of key.now) found) }
+    ensures given { (state : State Content) (k : Key) → IsFound state k id last_epoch (option_map (λ key. stored_of key.now) found.entry) (pairs_in (seen_in context.entry)) → GivenBy result (first_of (room_checks state k (pairs_in (seen_in context.entry)))) }
+    ensures writer { (state : State Content) (k : Key) → IsFound state k id last_epoch (option_map (λ key. stored_of key.now) found.entry) (pairs_in (seen_in context.entry)) → IfOk result (λ writer. writer ≡ writer_of state k) }
+{
+    match found {
+        Some(key) => {
+            check_stored(key, context)?;
+            Ok(Writer {
+                actor: key.actor,
+                last_epoch,
+            })
+        }
+        None => {
+            check_new(id, last_epoch, context)?;
+            Ok(first_writer(id, last_epoch))
+        }
+    }
+}
+
+/// Who begins the next life.
+fn first_writer(id: u64, last_epoch: u32) -> Writer
+    requires { last_epoch < GREATEST_EPOCH }
+    ensures { result ≡ record { actor = record { vnode = id; epoch = last_epoch + 1 }; last_epoch = last_epoch + 1 } }
+{
+    let epoch = last_epoch + 1;
+    Writer {
+        actor: Actor { vnode: id, epoch },
+        last_epoch: epoch,
+    }
+}
+
+/// Whether a stored key has room for one write more in place of all its values.
+pub(crate) fn check_overwrite(key: &StoredKey) -> Result<(), Refusal>
+    ensures { (state : State Content) (k : Key) → stored state k ≡ Some (stored_of key.now) → GivenBy result (first_of (room_checks state k (join key.now.clock.meaning))) }
+{
+    if MOST_ACTORS < key.clock.needed(None, key.actor).actors {
+        return Err(Refusal::ClockFull);
+    }
+    if key.clock.counter_of(key.actor) == GREATEST_COUNTER {
+        return Err(Refusal::CounterUsedUp);
     }
     Ok(())
 }

@@ -1,4 +1,4 @@
-//! One vnode of a store that keeps siblings: gets and puts of its keys, as Riak answers them.
+//! One vnode of a store that keeps siblings: gets, puts, deletes and reaps of its keys, as Riak answers them.
 //!
 //! A [`Vnode`] is the vnode machine (`State` in `specs/Machine` of `vnode_machine`), and each call is the machine's step
 //! (`outcome` in its `specs/Step`): each key that it holds has the actor of its life, and a clock whose live dots are its
@@ -9,20 +9,29 @@
 //! [`Change`] is that command and nothing else. Room, the actor and the answer that were made for it lie in the vnode, so
 //! nothing that callers see is a place, an index or a number of actors; the next `prepare` or `finish` ends it.
 //!
+//! Behind a gate (`rw_gate`) a vnode is a [`Kept`] state. Its change there, a [`LoggedChange`], carries for clauses alone the
+//! vnode that it was prepared from, and the two name the [`Event`] that it makes in the gate's history, with its answer
+//! (`specs/Events`). [`histories_are_legal`] says what such a history is.
+//!
 //! Keys stand in a list in their order (`Shelf`). A call looks through it, and a new key moves those behind it; a get
-//! copies what it shows. A put takes memory in `prepare` alone: room at its place, and in its key's clock for the actors
-//! that are new to it, and for its siblings with one more. `finish` takes none, so an accepted put is never half made.
+//! copies what it shows, and so does a put that asks for it: the content that is put, and the siblings that stay, which
+//! it finds by a clock of references to them. A put or a delete takes memory in `prepare` alone: room at its place, and
+//! in its key's clock for the actors that are new to it, and for its siblings with one more. `finish` takes none, so
+//! what is accepted is never half made.
 //! The checks take none either: they look through the context's pairs once, and ask the clock how many siblings the
 //! context leaves uncovered and how many actors a write needs. Making a put moves the key's siblings once.
 //!
-//! Sources: the documentation of Riak's Protocol Buffers client API for get and put, and of its actor epochs; dotted
-//! version vector sets for clocks.
+//! Sources: the documentation of Riak's Protocol Buffers client API for get, put and delete, and of its actor epochs;
+//! dotted version vector sets for clocks.
 #![tactic(auto)]
 
 mod ask;
 mod change;
 mod checks;
+mod event;
 mod given;
+mod kept;
+mod laws;
 mod place;
 mod ready;
 mod refusal;
@@ -33,5 +42,13 @@ mod vnode;
 
 pub use ask::{Answer, Ask, Plan, Reaped};
 pub use change::Change;
+pub use event::{Event, histories_are_legal};
+pub use kept::LoggedChange;
+pub use laws::{
+    dots_are_of_lives, first_dead_is_least, machine_is_register, no_dot_is_issued_twice,
+    runs_are_histories, shown_context_is_the_name, shown_contexts_name_positions,
+    values_leave_only_covered,
+};
 pub use refusal::Refusal;
-pub use vnode::Vnode;
+pub use rw_gate::Kept;
+pub use vnode::{Tally, Vnode};

@@ -1,15 +1,21 @@
 //! What a vnode answers.
 
-ghost use Rattle.std.specs.Prelude.{◌≡◌, IfOk, IsTrue, map};
+ghost use Rattle.std.specs.Prelude.{◌≡◌, ◌||◌, Some, IfOk, IsTrue, map};
+ghost use Rattle.std.specs.Option.{option_map};
 ghost use Rattle.actor_epoch.specs.Contexts.{encoding, is_of_form};
+ghost use Rattle.dvv_set.specs.Clocks.{event};
+ghost use Rattle.dvv_set.specs.Held.{IsWithin, known_with, known_after, without, pairs_of as seen_in};
+ghost use Rattle.dvv_set.specs.References.{referred, with_values};
 ghost use Rattle.vnode_machine.specs.Replies.{shown};
-ghost use Rattle.vnode_core.specs.Replies.{nothing, nothing_after, siblings_of};
+ghost use Rattle.vnode_core.specs.Replies.{nothing, nothing_after, siblings_of, reply_after, filled, clock_found};
 ghost use Rattle.vnode_core.specs.Shelves.{stored_of};
 
 use crate::stored_key::StoredKey;
-use actor_epoch::Context;
-use riak_msgs::{Bytes, Content, GetAsk, GetReply, PutReply, Sequence, Shown};
+use actor_epoch::{Actor, Context};
+use dvv_set::Clock;
+use riak_msgs::{Bytes, Content, GetAsk, GetReply, PutAsk, PutReply, Sequence, Shown};
 use std::alloc::{AllocError, Global};
+use std::default::MadeWith;
 
 /// The answer to a get of an absent key.
 pub(crate) fn absent(alloc: Global) -> GetReply
@@ -26,9 +32,16 @@ pub(crate) fn absent(alloc: Global) -> GetReply
 fn show(alloc: Global, sibling: &Option<Content>, is_bare: bool) -> Result<Shown, AllocError>
     ensures { IfOk result (λ s. s ≡ shown is_bare sibling.now) }
 {
-    let Some(content) = sibling else {
-        return Ok(Shown::tombstone(alloc));
-    };
+    match sibling {
+        None => Ok(Shown::tombstone(alloc)),
+        Some(content) => show_content(alloc, content, is_bare),
+    }
+}
+
+/// A copy of a content as a reply shows it, without its value where it is to be bare.
+fn show_content(alloc: Global, content: &Content, is_bare: bool) -> Result<Shown, AllocError>
+    ensures { IfOk result (λ s. s ≡ shown is_bare (Some content.now)) }
+{
     let content = if is_bare {
         content.clone_head(alloc)?
     } else {
@@ -51,13 +64,16 @@ fn show_all(alloc: Global, key: &StoredKey, is_bare: bool) -> Result<Sequence<Sh
     Ok(all)
 }
 
-/// The bytes of a key's context.
-fn context_of(alloc: Global, key: &StoredKey) -> Result<Bytes, AllocError>
-    requires { IsTrue (is_of_form key.now.clock.meaning.known) }
-    ensures { IfOk result (λ bytes. bytes ≡ encoding key.now.clock.meaning.known) }
+/// The bytes of a clock's context.
+fn context_of<V: MadeWith<Global> + Drop>(
+    alloc: Global,
+    clock: &Clock<V>,
+) -> Result<Bytes, AllocError>
+    requires { IsTrue (is_of_form clock.now.meaning.known) }
+    ensures { IfOk result (λ bytes. bytes ≡ encoding clock.now.meaning.known) }
 {
     let mut pairs = Vec::new(alloc);
-    for pair in key.clock.join() {
+    for pair in clock.join() {
         pairs.push(pair)?;
     }
     let bytes = Context::write(alloc, pairs.as_slice())?;
@@ -81,17 +97,107 @@ pub(crate) fn siblings(alloc: Global, key: &StoredKey, ask: &GetAsk) -> Result<G
         reply.contents = show_all(alloc, key, ask.head)?;
     }
     if is_alive || ask.deletedvclock {
-        reply.context = context_of(alloc, key)?;
+        reply.context = context_of(alloc, &key.clock)?;
     }
     Ok(reply)
 }
 
 /// The answer to an accepted put that asked to be shown nothing.
-pub(crate) fn accepted(alloc: Global) -> PutReply
+fn accepted(alloc: Global) -> PutReply
     ensures { result ≡ nothing_after }
 {
     PutReply {
         contents: Sequence::new(alloc),
         context: Bytes::new(alloc),
     }
+}
+
+/// The clock of a key with references to its siblings; an empty one, where the key was not found.
+fn references(
+    alloc: Global,
+    found: Option<&StoredKey>,
+) -> Result<Clock<Option<&Option<Content>>>, AllocError>
+    ensures { IfOk result (λ clock. with_values referred clock.meaning ≡ with_values (λ sibling. Some sibling) (clock_found (option_map (λ key. stored_of key.now) found.entry))) }
+{
+    match found {
+        None => Ok(Clock::new(alloc)),
+        Some(key) => key.clock.references(alloc),
+    }
+}
+
+/// Whether a put asks to be shown siblings.
+fn shows_siblings(put: &PutAsk) -> bool
+    ensures { result ≡ (put.now.return_body || put.now.return_head) }
+{
+    put.return_body || put.return_head
+}
+
+/// The clock of a key as a put leaves it, with references to the siblings that stay, and none in the place of what is
+/// put.
+fn preview<'a>(
+    alloc: Global,
+    found: Option<&'a StoredKey>,
+    context: Option<&Context<'_>>,
+    actor: Actor,
+) -> Result<Clock<Option<&'a Option<Content>>>, AllocError>
+    requires { IsWithin (clock_found (option_map (λ key. stored_of key.now) found)).known (seen_in context) actor }
+    ensures { IfOk result (λ clock. (content : Content) → with_values (filled content) clock.meaning ≡ event actor (Some content) (without (seen_in context.entry) (clock_found (option_map (λ key. stored_of key.now) found.entry)))) }
+{
+    let mut clock = references(alloc, found)?;
+    clock.reserve(context, actor)?;
+    clock.put_ready(context, actor, None);
+    Ok(clock)
+}
+
+/// A copy of a sibling that stays, or where there is none of the content that is put, as a reply shows it.
+fn show_filled(
+    alloc: Global,
+    sibling: Option<&Option<Content>>,
+    content: &Content,
+    is_bare: bool,
+) -> Result<Shown, AllocError>
+    ensures { IfOk result (λ s. s ≡ shown is_bare (filled content.now sibling.entry)) }
+{
+    match sibling {
+        None => show_content(alloc, content, is_bare),
+        Some(sibling) => show(alloc, sibling, is_bare),
+    }
+}
+
+/// Copies of the siblings after a put as its reply shows them.
+fn show_after(
+    alloc: Global,
+    after: &Clock<Option<&Option<Content>>>,
+    content: &Content,
+    is_bare: bool,
+) -> Result<Sequence<Shown>, AllocError>
+    ensures { IfOk result (λ all. all ≡ map (λ entry. shown is_bare (filled content.now entry.1)) after.now.meaning.live) }
+{
+    let mut all = Sequence::with_capacity(alloc, after.uncovered(None))?;
+    for sibling in after.values() {
+        all.push(show_filled(alloc, *sibling, content, is_bare)?)?;
+    }
+    Ok(all)
+}
+
+/// The answer to an accepted put, by what was found of its key before it: nothing, or where it asked for them the
+/// siblings after it, with their values or without, and the context. No content is copied that isn't shown.
+pub(crate) fn put_reply(
+    alloc: Global,
+    found: Option<&StoredKey>,
+    put: &PutAsk,
+    context: Option<&Context<'_>>,
+    actor: Actor,
+) -> Result<PutReply, AllocError>
+    requires within { IsWithin (clock_found (option_map (λ key. stored_of key.now) found)).known (seen_in context) actor }
+    requires form { IsTrue (is_of_form (known_after actor (known_with (seen_in context) (clock_found (option_map (λ key. stored_of key.now) found)).known))) }
+    ensures { IfOk result (λ reply. reply ≡ reply_after (event actor (Some put.now.content) (without (seen_in context.entry) (clock_found (option_map (λ key. stored_of key.now) found.entry)))) put.now) }
+{
+    if !shows_siblings(put) {
+        return Ok(accepted(alloc));
+    }
+    let after = preview(alloc, found, context, actor)?;
+    let contents = show_after(alloc, &after, &put.content, !put.return_body)?;
+    let context = context_of(alloc, &after)?;
+    Ok(PutReply { contents, context })
 }

@@ -7,7 +7,9 @@ ghost use Rattle.riak_msgs.specs.KeyOrder.{key_cmp};
 ghost use Rattle.dvv_set.specs.Held.{IsWithin, IsReady, pairs_of as seen_in};
 ghost use Rattle.vnode_core.specs.declared.place.Place.TheVariants as places;
 ghost use Rattle.vnode_core.specs.Places.{place_in};
-ghost use Rattle.vnode_core.specs.Shelves.{entry_of, stored_of, clock_at, written, HasRoom, FitsAt, ReadyAt, FitsIn, IsRoom, shelved};
+ghost use Rattle.vnode_core.specs.Shelves.{entry_of, stored_of, clock_at, written, overwritten, HasRoom, FitsAt, ReadyAt, FitsIn, IsRoom, shelved};
+
+mod removal;
 
 use crate::place::{Place, place_of};
 use crate::stored_key::StoredKey;
@@ -103,6 +105,16 @@ fn write_at(
     keys[i].write(seen, actor, value);
 }
 
+/// Writes at the key at its place, over all that is there.
+fn overwrite_at(keys: &mut Vec<StoredKey>, i: usize, key: Key, actor: Actor, value: Option<Content>)
+    requires placed { place_in key (map entry_of keys.old.items) ≡ places.At i }
+    requires ready { ReadyAt keys.old.items i None actor }
+    ensures { map entry_of keys.new.items ≡ overwritten (map entry_of keys.old.items) key actor value }
+{
+    let _key = key;
+    keys[i].overwrite(actor, value);
+}
+
 /// Puts a key in at its place, with its first write.
 fn write_new(
     keys: &mut Vec<StoredKey>,
@@ -189,6 +201,22 @@ impl Shelf {
             Some(Room::New(i, clock)) => {
                 let stored = StoredKey { key, actor, clock };
                 write_new(&mut self.keys, i, stored, seen, actor, value);
+            }
+            None => unreachable!(),
+        }
+    }
+
+    /// Writes a value of a key, or a tombstone, in place of all its values, where there is room for it without a context.
+    /// It takes no memory.
+    pub(crate) fn overwrite(&mut self, key: Key, actor: Actor, value: Option<Content>)
+        requires { HasRoom self.old key None actor }
+        ensures { self.new.keys ≡ overwritten self.old.keys key actor value }
+    {
+        match self.room.take() {
+            Some(Room::At(i)) => overwrite_at(&mut self.keys, i, key, actor, value),
+            Some(Room::New(i, clock)) => {
+                let stored = StoredKey { key, actor, clock };
+                write_new(&mut self.keys, i, stored, None, actor, value);
             }
             None => unreachable!(),
         }

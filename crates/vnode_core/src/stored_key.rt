@@ -1,9 +1,9 @@
 //! A key of a vnode, with what is stored of it.
 
-ghost use Rattle.std.specs.Prelude.{◌≡◌, OnOk, is_some};
+ghost use Rattle.std.specs.Prelude.{◌≡◌, OnOk, None, is_some};
 ghost use Rattle.std.specs.List.{list_any};
 ghost use Rattle.actor_epoch.specs.Given.{context_of};
-ghost use Rattle.dvv_set.specs.Clocks.{event};
+ghost use Rattle.dvv_set.specs.Clocks.{event, discard};
 ghost use Rattle.dvv_set.specs.Held.{IsWithin, IsReady, without, pairs_of as seen_in};
 ghost use Rattle.vnode_machine.specs.Machine.{same_pairs};
 ghost use Rattle.vnode_core.specs.Shelves.{stored_of, entry_of};
@@ -87,5 +87,17 @@ impl StoredKey {
     {
         self.actor = actor;
         self.clock.put_ready(seen, actor, value);
+    }
+
+    /// Writes a value, or a tombstone, in place of all values, in the room that was made for it without a context. It
+    /// takes no memory.
+    pub(crate) fn overwrite(&mut self, actor: Actor, value: Option<Content>)
+        requires { IsReady self.old.clock None actor }
+        ensures key { self.new.key ≡ self.old.key }
+        ensures actor { self.new.actor ≡ actor }
+        ensures clock { self.new.clock.meaning ≡ event actor value (discard self.old.clock.meaning.known self.old.clock.meaning) }
+    {
+        self.actor = actor;
+        self.clock.overwrite_ready(actor, value);
     }
 }

@@ -6,26 +6,34 @@ ghost use Rattle.sibling_register.specs.Answers.{AskGet};
 ghost use Rattle.actor_epoch.specs.Given.{context_of, Pairs};
 ghost use Rattle.dvv_set.specs.Held.{pairs_of as seen_in};
 ghost use Rattle.vnode_machine.specs.Asks.{get_command, put_command};
-ghost use Rattle.vnode_machine.specs.Machine.{opening, put_check};
+ghost use Rattle.vnode_machine.specs.Machine.{opening, actor_for, put_check, update_check};
 ghost use Rattle.vnode_machine.specs.Replay.{IsAfter};
+ghost use Rattle.vnode_machine.specs.Replies.{put_reply};
 ghost use Rattle.vnode_machine.specs.Step.{outcome, Answered, Accepted, GetDone};
-ghost use Rattle.vnode_core.specs.Plans.{IsSilentAsk, IsPrepared, Plans, Refuses, Registers, Steps, planned, command_of, deed_of, response_of};
+ghost use Rattle.vnode_core.specs.declared.ask.Ask.TheVariants.{Put, Del};
+ghost use Rattle.vnode_core.specs.Plans.{IsPrepared, Plans, Refuses, Registers, RegistersAsk, Steps, planned, deed_of, response_of};
+ghost use Rattle.vnode_core.specs.Plans.{AcceptsPrepared, IsWrite};
+ghost use Rattle.vnode_core.specs.Readiness.{plan_in};
 ghost use Rattle.vnode_core.specs.Refusals.{GivenBy};
-ghost use Rattle.vnode_core.specs.Vnodes.{writer_of, written_by, HasRoomFor, IsReached};
+ghost use Rattle.vnode_core.specs.Vnodes.{writer_of, written_by, state_after, HasRoomFor, DelOfAllGives, DelGives, IsReached};
+
+mod reaping;
+mod tally;
 
 use crate::ask::{Answer, Ask, Plan};
 use crate::change::Change;
-use crate::checks::{check_new, check_options, check_stored, last_of};
+use crate::checks::{check_options, check_overwrite, check_room, last_of};
 use crate::given;
-use crate::ready::{Ready, Writer, set_ready};
+use crate::ready::{Readiness, Ready, Writer, plan_of, set_ready, tombstones_after, writes_after};
 use crate::refusal::Refusal;
-use crate::replies::{absent, accepted, siblings};
+use crate::replies::{absent, put_reply, siblings};
 use crate::shelf::Shelf;
 use actor_epoch::{Actor, Context, EpochSource};
 use ghost_state::GhostValue;
-use riak_msgs::{GetAsk, GetReply, PutAsk};
-use std::alloc::Global;
+use riak_msgs::{DelAsk, GetAsk, GetReply, Key, PutAsk, PutReply};
+use std::alloc::{AllocError, Global};
 use std::marker::Model;
+pub use tally::Tally;
 
 /// One vnode: the keys that it holds, each with its siblings. Contracts see the vnode machine's state, and the command
 /// that was prepared last and isn't made yet.
@@ -43,10 +51,14 @@ use std::marker::Model;
 ///   gives it leaves all siblings, and the clock of b/k knows that actor from then on.
 /// - 62 puts more on b/k without context are accepted. Then it has 64 siblings, and the next is refused:
 ///   `TooManySiblings`. What a get shows stays as it was; a put by the context that it shows leaves that put alone.
+/// - delete of b/j without a context: it sees all that is stored there. Its tombstone has dot 2 of (65536, 2), and b/j is
+///   dead: a get shows nothing, and with `deletedvclock` the context. Another delete is a tombstone more, with dot 3.
+/// - put "y" on b/j without a context, with `return_body`: it saw no tombstone. The reply shows "y" and, deleted, the
+///   tombstone, and the actor with counter 4, as a get shows them then.
+/// - delete of b/i, which is absent, without a context: it does nothing, and takes no epoch. By the context of b/j it is
+///   a tombstone, and begins a life at (65536, 3).
 ///
-/// So far a put doesn't ask to be shown what it wrote.
-///
-/// Sources: get and put are those of Riak's Protocol Buffers client API; dots, and which siblings stay, are those of
+/// Sources: get, put and delete are those of Riak's Protocol Buffers client API; dots, and which siblings stay, are those of
 /// dotted version vector sets (Preguiça, Baquero, Almeida, Fonte, Gonçalves); an actor for each life is Riak's actor
 /// epoch.
 #[derive(Drop)]
@@ -79,7 +91,18 @@ fn write(shelf: &mut Shelf, ask: Ask, actor: Actor)
     requires { HasRoomFor shelf.old ask actor }
     ensures { shelf.new.keys ≡ written_by shelf.old.keys ask actor }
 {
-    let Ask::Put(put) = ask;
+    match ask {
+        Ask::Put(put) => write_content(shelf, put, actor),
+        Ask::Del(del) => write_tombstone(shelf, del, actor),
+        Ask::Reap(_) | Ask::ReapFirst(_) => unreachable!(),
+    }
+}
+
+/// Writes the content of a put.
+fn write_content(shelf: &mut Shelf, put: PutAsk, actor: Actor)
+    requires { HasRoomFor shelf.old (Put put) actor }
+    ensures { shelf.new.keys ≡ written_by shelf.old.keys (Put put) actor }
+{
     let PutAsk {
         key,
         context,
@@ -88,6 +111,18 @@ fn write(shelf: &mut Shelf, ask: Ask, actor: Actor)
     } = put;
     let seen = Context::read(context.as_slice());
     shelf.write(key, seen.as_ref(), actor, Some(content));
+}
+
+/// Writes the tombstone of a delete: over what its context has seen, or without one over all.
+fn write_tombstone(shelf: &mut Shelf, del: DelAsk, actor: Actor)
+    requires { HasRoomFor shelf.old (Del del) actor }
+    ensures { shelf.new.keys ≡ written_by shelf.old.keys (Del del) actor }
+{
+    let DelAsk { key, context } = del;
+    match Context::read(context.as_slice()) {
+        None => shelf.overwrite(key, actor, None),
+        Some(seen) => shelf.write(key, Some(&seen), actor, None),
+    }
 }
 
 impl Vnode {
@@ -139,25 +174,48 @@ impl Vnode {
             return Err(Refusal::BadContext);
         }
         check_options(put, found, context)?;
-        match found {
-            Some(key) => {
-                check_stored(key, context)?;
-                Ok(Writer {
-                    actor: key.actor,
-                    last_epoch,
-                })
-            }
-            None => {
-                check_new(last_epoch, context)?;
-                let actor = Actor {
-                    vnode: self.id,
-                    epoch: last_epoch + 1,
-                };
-                Ok(Writer {
-                    actor,
-                    last_epoch: last_epoch + 1,
-                })
-            }
+        check_room(self.id, last_epoch, found, context)
+    }
+
+    /// Checks a delete by a context, and says who writes its tombstone.
+    fn check_del(&self, key: &Key, context: &Context<'_>) -> Result<Writer, Refusal>
+        ensures given { GivenBy result (update_check self.now.state key.now (Some (Pairs context.now)) context.now) }
+        ensures writer { IfOk result (λ writer. writer ≡ writer_of self.now.state key.now) }
+    {
+        let last_epoch = self.epochs.last();
+        let found = self.shelf.get(key);
+        if given::runs_ahead(Some(context), self.id, last_epoch, last_of(found)) {
+            return Err(Refusal::BadContext);
+        }
+        check_room(self.id, last_epoch, found, Some(context))
+    }
+
+    /// Checks a delete without context, and says who writes its tombstone: nobody, where the key is absent.
+    fn check_del_of_all(&self, key: &Key) -> Result<Option<Writer>, Refusal>
+        ensures { DelOfAllGives self.now.state key.now result }
+    {
+        let Some(found) = self.shelf.get(key) else {
+            return Ok(None);
+        };
+        check_overwrite(found)?;
+        Ok(Some(Writer {
+            actor: found.actor,
+            last_epoch: self.epochs.last(),
+        }))
+    }
+
+    /// Who writes the tombstone of a delete; nobody, where it does nothing.
+    fn tombstone_writer(
+        &self,
+        del: &DelAsk,
+        context: Option<&Context<'_>>,
+    ) -> Result<Option<Writer>, Refusal>
+        requires { context_of del.now.context ≡ option_map Pairs (seen_in context) }
+        ensures { DelGives self.now.state del.now result }
+    {
+        match context {
+            None => self.check_del_of_all(&del.key),
+            Some(context) => Ok(Some(self.check_del(&del.key, context)?)),
         }
     }
 
@@ -166,6 +224,7 @@ impl Vnode {
         ensures same { self.new.state ≡ self.old.state }
         ensures ended { self.new.prepared ≡ None }
         ensures reached { IsReached self.old.state }
+        ensures accepted { AcceptsPrepared self.old }
     {
         self.prepared = GhostValue::none(); // the earlier one is given up
         self.ready = None;
@@ -173,20 +232,82 @@ impl Vnode {
     }
 
     /// Makes ready all that a command needs, where nothing is prepared; then it is what is prepared.
-    fn make_ready(&mut self, alloc: Global, ask: &Ask) -> Result<(), Refusal>
-        requires silent { IsSilentAsk ask.now }
-        requires ended { self.old.prepared ≡ None }
+    fn make_ready(&mut self, alloc: Global, ask: &Ask) -> Result<Readiness, Refusal>
+        requires { self.old.prepared ≡ None }
         ensures same { self.new.state ≡ self.old.state }
-        ensures ok { OnOk result (IsPrepared self.new ask.now ask.now) }
+        ensures ok { IfOk result (λ readiness. Plans self.new ask.now (plan_in readiness ask.now)) }
         ensures err { IfErr result (λ refusal. Refuses self.old.state ask.now refusal) }
         ensures ended { IfErr result (λ refusal. self.new.prepared ≡ None) }
     {
-        let put = ask.put();
+        match ask {
+            Ask::Put(put) => {
+                self.make_put_ready(alloc, ask, put)?;
+                Ok(Readiness::Ready)
+            }
+            Ask::Del(del) => self.make_del_ready(alloc, ask, del),
+            Ask::Reap(key) => Ok(self.make_reap_ready(ask, key)),
+            Ask::ReapFirst(from) => Ok(self.make_first_reap_ready(ask, from.as_ref())),
+        }
+    }
+
+    /// Makes ready what a delete needs: room for its tombstone. One that does nothing needs nothing.
+    fn make_del_ready(
+        &mut self,
+        alloc: Global,
+        ask: &Ask,
+        del: &DelAsk,
+    ) -> Result<Readiness, Refusal>
+        requires is { ask.now ≡ Del del.now }
+        requires ended { self.old.prepared ≡ None }
+        ensures same { self.new.state ≡ self.old.state }
+        ensures ok { IfOk result (λ readiness. Plans self.new (Del del.now) (plan_in readiness (Del del.now))) }
+        ensures err { IfErr result (λ refusal. Refuses self.old.state (Del del.now) refusal) }
+        ensures ended { IfErr result (λ refusal. self.new.prepared ≡ None) }
+    {
+        let context = Context::given(del.context.as_slice())?;
+        let Some(writer) = self.tombstone_writer(del, context.as_ref())? else {
+            return Ok(Readiness::NothingToDelete);
+        };
+        self.shelf
+            .reserve(alloc, &del.key, context.as_ref(), writer.actor)?;
+        let answer = Answer::Del;
+        set_ready(&mut self.ready, Ready { writer, answer });
+        self.prepared = GhostValue::some(ask);
+        Ok(Readiness::Ready)
+    }
+
+    /// The reply to a put that the checks accept, as it will be once the put is made.
+    fn reply_to(
+        &self,
+        alloc: Global,
+        put: &PutAsk,
+        context: Option<&Context<'_>>,
+        actor: Actor,
+    ) -> Result<PutReply, AllocError>
+        requires given { context_of put.now.context ≡ option_map Pairs (seen_in context) }
+        requires free { put_check self.now.state (put_command put.now) ≡ None }
+        requires own { actor ≡ actor_for self.now.state put.now.key }
+        ensures { IfOk result (λ reply. reply ≡ put_reply (state_after self.now.state (Put put.now)) (put_command put.now)) }
+    {
+        let found = self.shelf.get(&put.key);
+        put_reply(alloc, found, put, context, actor)
+    }
+
+    /// Makes ready what a put needs: room for its content, and its answer.
+    fn make_put_ready(&mut self, alloc: Global, ask: &Ask, put: &PutAsk) -> Result<(), Refusal>
+        requires is { ask.now ≡ Put put.now }
+        requires ended { self.old.prepared ≡ None }
+        ensures same { self.new.state ≡ self.old.state }
+        ensures ok { OnOk result (IsPrepared self.new (Put put.now) (Put put.now)) }
+        ensures err { IfErr result (λ refusal. Refuses self.old.state (Put put.now) refusal) }
+        ensures ended { IfErr result (λ refusal. self.new.prepared ≡ None) }
+    {
         let context = Context::given(put.context.as_slice())?;
         let writer = self.check_put(put, context.as_ref())?;
+        let reply = self.reply_to(alloc, put, context.as_ref(), writer.actor)?;
         self.shelf
             .reserve(alloc, &put.key, context.as_ref(), writer.actor)?;
-        let answer = Answer::Put(accepted(alloc));
+        let answer = Answer::Put(reply);
         set_ready(&mut self.ready, Ready { writer, answer });
         self.prepared = GhostValue::some(ask);
         Ok(())
@@ -194,7 +315,10 @@ impl Vnode {
 
     /// Plans a command: checks it, makes all the room that it needs, and its answer. Nothing changes until the change is
     /// finished; a change that isn't finished is as if never asked for, and the next `prepare` ends it, also one that is
-    /// refused.
+    /// refused. A delete without context of an absent key does nothing: it is `Plan::Nothing`, whatever memory there is.
+    ///
+    /// The answer to a put shows nothing, or with `return_body` all siblings after it, the newest first, and the context;
+    /// with `return_head` alone the same with empty values.
     ///
     /// Refusals, the first that holds, by checks that take no memory: `BadContext`, where the context isn't of the
     /// form, or names an epoch of this vnode above the last one given, or the key's own actor with a counter above the
@@ -203,18 +327,19 @@ impl Vnode {
     /// key's clock; `TooManySiblings`, where more than 63 siblings aren't covered by the context; `ClockFull`, where the
     /// actors of the key's clock, of the context and the key's own are more than 64; `EpochsUsedUp`, where the key is
     /// absent and the epoch 4,294,967,295 was given; `CounterUsedUp`, where the key's actor has the dot 4,294,967,295.
-    /// `NoMemory`, where none of these holds and a growth was refused. Each leaves the state as it was.
+    /// `NoMemory`, where none of these holds and a growth was refused. Each leaves the state as it was. The options are
+    /// a put's alone. Without a context a put covers nothing, and a delete all that is stored: `BadContext` and
+    /// `TooManySiblings` never come of such a delete.
     pub fn prepare(&mut self, alloc: Global, ask: Ask) -> Result<Plan<Change, Answer>, Refusal>
-        requires { IsSilentAsk ask }
         ensures same { self.new.state ≡ self.old.state }
         ensures ok { IfOk result (λ plan. Plans self.new ask plan) }
         ensures err { IfErr result (λ refusal. Refuses self.old.state ask refusal) }
         ensures ended { IfErr result (λ refusal. self.new.prepared ≡ None) }
-        ensures register { Registers self.old.state (command_of ask) (planned self.old.state ask result) }
+        ensures register { RegistersAsk self.old.state ask (planned self.old.state ask result) }
     {
         self.drop_prepared();
-        self.make_ready(alloc, &ask)?;
-        Ok(Plan::Change(Change { ask }))
+        let readiness = self.make_ready(alloc, &ask)?;
+        Ok(plan_of(ask, readiness))
     }
 
     /// Makes the change that this vnode prepared last, and answers it. It takes no memory and is never refused.
@@ -222,15 +347,30 @@ impl Vnode {
         requires { self.old.prepared ≡ Some change }
         ensures step { Steps self.old.state change result self.new.state }
         ensures ended { self.new.prepared ≡ None }
-        ensures register { Registers self.old.state (command_of change) (Accepted (deed_of change) (response_of result) self.new.state) }
+        ensures register { RegistersAsk self.old.state change (Accepted (deed_of change) (response_of result) self.new.state) }
     {
-        let Change { ask } = change;
+        match change.ask {
+            Ask::Reap(key) => self.finish_reap(key),
+            Ask::ReapFirst(from) => self.finish_first_reap(from),
+            write => self.finish_write(write),
+        }
+    }
+
+    /// Makes the write that is prepared.
+    fn finish_write(&mut self, ask: Ask) -> Answer
+        requires write { IsWrite ask }
+        requires prepared { self.old.prepared ≡ Some ask }
+        ensures step { Steps self.old.state ask result self.new.state }
+        ensures ended { self.new.prepared ≡ None }
+        ensures register { RegistersAsk self.old.state ask (Accepted (deed_of ask) (response_of result) self.new.state) }
+    {
         self.prepared = GhostValue::none(); // it is made now
         let Some(Ready { writer, answer }) = self.ready.take() else {
             unreachable!()
         };
         self.epochs = EpochSource::after(writer.last_epoch);
-        self.writes = self.writes.saturating_add(1);
+        self.writes = writes_after(self.writes, &ask);
+        self.tombstones = tombstones_after(self.tombstones, &ask);
         write(&mut self.shelf, ask, writer.actor);
         answer
     }

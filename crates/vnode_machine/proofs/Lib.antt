@@ -27,3 +27,6 @@ pub mod RunLaw
 pub mod LiveDots
 pub mod LeavingLaw
 pub mod Seen
+pub mod DeadKeys
+pub mod Showing
+pub mod LeastDead

@@ -2,6 +2,8 @@ pub mod Machine
 pub mod Asks
 pub mod Lives
 pub mod Replay
+pub mod Dead
+pub mod Contexts
 pub mod Replies
 pub mod Step
 pub mod Registers

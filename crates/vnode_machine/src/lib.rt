@@ -33,6 +33,7 @@
 mod laws;
 
 pub use laws::{
-    dots_are_of_lives, machine_is_register, no_dot_is_issued_twice, runs_are_histories,
-    shown_context_is_the_name, values_leave_only_covered,
+    dots_are_of_lives, first_dead_is_least, machine_is_register, no_dot_is_issued_twice,
+    runs_are_histories, shown_context_is_the_name, shown_contexts_name_positions,
+    values_leave_only_covered,
 };

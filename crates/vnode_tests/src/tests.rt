@@ -2,5 +2,8 @@
 
 mod asking;
 mod contexts;
+mod deletes;
 mod limits;
+mod options;
+mod options_asked;
 mod plans;

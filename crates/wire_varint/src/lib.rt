@@ -5,7 +5,8 @@
 //! varint that the bytes begin with (`IsVarint`), in any spelling of at most ten bytes; [`write`] gives
 //! the shortest spelling of a value (`spelling`), which `read` reads back whatever follows it.
 //!
-//! Nothing here takes memory. The numbers below 128, nearly all that stand on a wire, take one test each way.
+//! Nothing here takes memory. The numbers below 128, nearly all that stand on a wire, take one test each way, and are read and
+//! written in the caller's own code (`inline(always)`, a hint to LLVM).
 //!
 //! Source: the Protocol Buffers documentation, "Encoding", section "Base 128 Varints".
 #![tactic(auto)]

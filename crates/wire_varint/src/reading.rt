@@ -12,6 +12,7 @@ use crate::{LONGEST_VARINT, VarintFault};
 ///
 /// Refused are bytes that end within the varint ([`VarintFault::Short`], no bytes among them) and bytes of which
 /// the first ten have the high bit ([`VarintFault::TooLong`]).
+#[inline(always)]
 pub fn read(bytes: &[u8]) -> Result<(u64, usize), VarintFault>
     ensures within { IfOk result (λ r. r.1 ≤ length bytes.now) }
     ensures varint { IfOk result (λ r. IsVarint (take r.1 bytes.now) r.0) }
@@ -27,6 +28,7 @@ pub fn read(bytes: &[u8]) -> Result<(u64, usize), VarintFault>
 }
 
 // One group after another.
+#[inline(never)]
 fn read_groups(bytes: &[u8]) -> Result<(u64, usize), VarintFault>
     ensures within { IfOk result (λ r. r.1 ≤ length bytes.now) }
     ensures varint { IfOk result (λ r. IsVarint (take r.1 bytes.now) r.0) }

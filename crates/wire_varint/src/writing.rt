@@ -6,6 +6,7 @@ ghost use Rattle.wire_varint.specs.Varint.{HasGroups, IsVarint, spelling};
 use crate::LONGEST_VARINT;
 
 /// How many bytes the shortest spelling of `value` has: 1 to 10.
+#[inline(always)]
 pub fn len(value: u64) -> usize
     ensures spelled { result ≡ length (spelling value) }
     ensures bounded { result ≤ LONGEST_VARINT }
@@ -14,6 +15,7 @@ pub fn len(value: u64) -> usize
 }
 
 // How many groups of seven bits the value has, and one for 0.
+#[inline(always)]
 fn groups(value: u64) -> usize
     ensures bounded { result ≤ LONGEST_VARINT }
     ensures fewest { HasGroups value result }
@@ -36,6 +38,7 @@ fn groups(value: u64) -> usize
 ///
 /// The caller has room: `out` has `len(value)` bytes at least, as any ten bytes have. What lies behind the
 /// spelling stays. [`read`](crate::read) reads the value back, whatever follows it.
+#[inline(always)]
 pub fn write(value: u64, out: &mut [u8]) -> usize
     requires room { length (spelling value) ≤ length out.old }
     ensures used { result ≡ length (spelling value) }

@@ -1,8 +1,7 @@
 //! Calls of tests, each made again where memory was refused, and what they show.
 
-use riak_msgs::{GetAsk, GetReply, PutAsk};
+use riak_msgs::{GetAsk, GetReply, PutAsk, Shown};
 use std::alloc::{AllocError, Global};
-use std::process::Abort;
 use vnode_core::{Answer, Ask, Change, Plan, Refusal, Vnode};
 
 /// The vnode id of every test: 00 00 00 00 00 01 00 00.
@@ -24,47 +23,67 @@ pub(crate) const SIXTY_FIFTH: &[u8] = b"\x01\0\0\0\0\0\x01\0\0\0\0\0\x01\0\0\0\x
 
 pub(crate) const SECOND_OF_LAST_EPOCH: &[u8] = b"\x01\0\0\0\0\0\x01\0\0\xff\xff\xff\xff\0\0\0\x02";
 
-/// Plans a put in the bucket b by a context, and makes it.
+/// Plans a command, and makes its change where there is one: why it is refused, where it is.
+fn make(vnode: &mut Vnode, alloc: Global, ask: Ask) -> Option<Refusal> {
+    match vnode.prepare(alloc, ask) {
+        Ok(Plan::Change(change)) => {
+            drop(vnode.finish(change));
+            None
+        }
+        Ok(Plan::Nothing(answer)) => {
+            drop(answer);
+            None
+        }
+        Err(refusal) => Some(refusal),
+    }
+}
+
+/// Plans a put in the bucket b by a context, and makes it: why it is refused, where it is.
 pub(crate) fn put_once(
     vnode: &mut Vnode,
     alloc: Global,
     key: &[u8],
     value: &[u8],
     context: &[u8],
-) -> Result<(), Refusal> {
-    let ask = PutAsk::plain(alloc, b"b", key, context, value)?;
-    if let Plan::Change(change) = vnode.prepare(alloc, Ask::Put(ask))? {
-        let _ = vnode.finish(change);
+) -> Option<Refusal> {
+    match PutAsk::plain(alloc, b"b", key, context, value) {
+        Ok(ask) => make(vnode, alloc, Ask::Put(ask)),
+        Err(_) => Some(Refusal::NoMemory),
     }
-    Ok(())
 }
 
 /// The same, and once more where memory was refused.
+pub(crate) fn refusal_of_seen(
+    vnode: &mut Vnode,
+    alloc: Global,
+    key: &[u8],
+    value: &[u8],
+    context: &[u8],
+) -> Option<Refusal> {
+    match put_once(vnode, alloc, key, value, context) {
+        Some(Refusal::NoMemory) => put_once(vnode, alloc, key, value, context),
+        other => other,
+    }
+}
+
+/// Whether such a put is made.
 pub(crate) fn put_seen(
     vnode: &mut Vnode,
     alloc: Global,
     key: &[u8],
     value: &[u8],
     context: &[u8],
-) -> Result<(), Refusal> {
-    match put_once(vnode, alloc, key, value, context) {
-        Err(Refusal::NoMemory) => put_once(vnode, alloc, key, value, context),
-        other => other,
-    }
+) -> bool {
+    refusal_of_seen(vnode, alloc, key, value, context).is_none()
 }
 
 /// The same without context.
-pub(crate) fn put(
-    vnode: &mut Vnode,
-    alloc: Global,
-    key: &[u8],
-    value: &[u8],
-) -> Result<(), Refusal> {
+pub(crate) fn put(vnode: &mut Vnode, alloc: Global, key: &[u8], value: &[u8]) -> bool {
     put_seen(vnode, alloc, key, value, b"")
 }
 
 /// The bytes of a context with so many entries, all of another vnode.
-pub(crate) fn foreign_once(alloc: Global, count: u8) -> Result<Vec<u8>, AllocError> {
+fn foreign_once(alloc: Global, count: u8) -> Result<Vec<u8>, AllocError> {
     let mut bytes = Vec::new(alloc);
     bytes.push(1)?;
     for epoch in 1..=count {
@@ -82,47 +101,37 @@ pub(crate) fn foreign(alloc: Global, count: u8) -> Result<Vec<u8>, AllocError> {
     }
 }
 
-/// A plan, or why there is none.
-pub(crate) type Planned = Result<Plan<Change, Answer>, Refusal>;
-
-/// Lets a plan go. (A function that does more while it holds one costs the prover half a minute.)
-pub(crate) fn let_go(_planned: Planned) {}
-
-pub(crate) fn refusal_of(planned: &Planned) -> Option<Refusal> {
-    match planned {
-        Ok(_) => None,
-        Err(refusal) => Some(*refusal),
+/// Plans a command, and lets the plan go: why it is refused, where it is.
+fn plan_of(vnode: &mut Vnode, alloc: Global, ask: Ask) -> Option<Refusal> {
+    match vnode.prepare(alloc, ask) {
+        Ok(Plan::Change(change)) => {
+            drop(change);
+            None
+        }
+        Ok(Plan::Nothing(answer)) => {
+            drop(answer);
+            None
+        }
+        Err(refusal) => Some(refusal),
     }
 }
 
-pub(crate) fn plan_once(
-    vnode: &mut Vnode,
-    alloc: Global,
-    key: &[u8],
-) -> Result<Option<Refusal>, Refusal> {
-    let ask = PutAsk::plain(alloc, b"b", key, b"", b"never written")?;
-    let planned = vnode.prepare(alloc, Ask::Put(ask));
-    let refusal = refusal_of(&planned);
-    let_go(planned);
-    Ok(refusal)
+fn plan_once(vnode: &mut Vnode, alloc: Global, key: &[u8]) -> Option<Refusal> {
+    match PutAsk::plain(alloc, b"b", key, b"", b"never written") {
+        Ok(ask) => plan_of(vnode, alloc, Ask::Put(ask)),
+        Err(_) => Some(Refusal::NoMemory),
+    }
 }
 
-/// Plans a put, and lets it go; once more where memory was refused.
-pub(crate) fn plan(vnode: &mut Vnode, alloc: Global, key: &[u8]) -> Result<(), Refusal> {
+/// Plans a put, and lets it go; once more where memory was refused. Whether there was a plan.
+pub(crate) fn plan(vnode: &mut Vnode, alloc: Global, key: &[u8]) -> bool {
     match plan_once(vnode, alloc, key) {
-        Ok(None) => Ok(()),
-        _ => plan_again(vnode, alloc, key),
+        None => true,
+        Some(_) => plan_once(vnode, alloc, key).is_none(),
     }
 }
 
-pub(crate) fn plan_again(vnode: &mut Vnode, alloc: Global, key: &[u8]) -> Result<(), Refusal> {
-    match plan_once(vnode, alloc, key)? {
-        None => Ok(()),
-        Some(refusal) => Err(refusal),
-    }
-}
-
-pub(crate) fn get_once(vnode: &Vnode, alloc: Global, key: &[u8]) -> Result<GetReply, Refusal> {
+fn get_once(vnode: &Vnode, alloc: Global, key: &[u8]) -> Result<GetReply, Refusal> {
     let ask = GetAsk::plain(alloc, b"b", key)?;
     vnode.get(alloc, &ask)
 }
@@ -134,26 +143,43 @@ pub(crate) fn get(vnode: &Vnode, alloc: Global, key: &[u8]) -> Result<GetReply, 
     }
 }
 
-/// A get shows these values, in this order, and this context.
+/// Whether a get shows these values, in this order, and this context.
 pub(crate) fn shows(
-    rt: &impl Abort,
     vnode: &Vnode,
     alloc: Global,
     key: &[u8],
     values: &[&[u8]],
     context: &[u8],
-) -> Result<(), Refusal> {
-    let reply = get(vnode, alloc, key)?;
-    is_shown(rt, &reply, values, context);
-    Ok(())
+) -> bool {
+    let read = get(vnode, alloc, key);
+    let is_so = is_shown(&read, values, context);
+    drop(read);
+    is_so
 }
 
-pub(crate) fn is_shown(rt: &impl Abort, reply: &GetReply, values: &[&[u8]], context: &[u8]) {
-    assert_eq!(rt; reply.contents.len(), values.len());
-    for (shown, value) in reply.contents.as_slice().iter().zip(values) {
-        assert_eq!(rt; shown.content.value.as_slice(), *value);
-        assert!(rt; !shown.deleted);
+fn is_shown(read: &Result<GetReply, Refusal>, values: &[&[u8]], context: &[u8]) -> bool {
+    match read {
+        Ok(reply) => {
+            are_shown(reply.contents.as_slice(), values)
+                && reply.context.as_slice() == context
+                && !reply.unchanged
+        }
+        Err(_) => false,
     }
-    assert_eq!(rt; reply.context.as_slice(), context);
-    assert!(rt; !reply.unchanged);
+}
+
+fn are_shown(shown: &[Shown], values: &[&[u8]]) -> bool {
+    if shown.len() != values.len() {
+        return false;
+    }
+    for (one, value) in shown.iter().zip(values) {
+        if !is_value(one, value) {
+            return false;
+        }
+    }
+    true
+}
+
+fn is_value(shown: &Shown, value: &[u8]) -> bool {
+    shown.content.value.as_slice() == value && !shown.deleted
 }

@@ -11,4 +11,4 @@ returns-in-Ok g c = record {
 
 pub returns-in-Err : goal.returns-in-Err
 returns-in-Err g c =
-    answered_error g.N.Node.step c.args.node.now (record { code = c.args.code; body = c.args.body.now }) c.in-Err.fault c.text_for.result c.error_frame.result.now _ _ c.send.result c.in-Err.ensures.said c.text_for.ensures c.error_frame.ensures c.send.ensures
+    answered_error g.N.Node.step c.args.node.now (record { code = c.args.code; body = c.args.body.now }) c.in-Err.fault c.message_fault_text.result c.error_frame.result.now _ _ c.send.result c.in-Err.ensures.said c.message_fault_text.ensures c.error_frame.ensures c.send.ensures

@@ -3,4 +3,4 @@ use Rattle.actor_epoch.specs.Entries.{entries_of}
 use Rattle.vnode_core.proofs.replies.context_of.Given as goal
 
 abbrev pub invariant-loop-pair : goal.invariant-loop-pair
-invariant-loop-pair l = entries_of l.pairs.items ++ l.pair-iterator ≡ l.initial.pair-iterator
+invariant-loop-pair g l = entries_of l.pairs.items ++ l.pair-iterator ≡ l.initial.pair-iterator

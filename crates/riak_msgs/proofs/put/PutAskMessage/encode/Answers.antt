@@ -12,9 +12,6 @@ returns g c =
     let named = joins _ _ _ _ _ c.in_ok-encode_bytes.ensures c.in_ok-encode_bytes-2.ensures in
     let seen = joins _ _ _ _ _ named c.in_ok-encode_context.ensures in
     let told = joins _ _ _ _ _ seen c.in_ok-encode_message.ensures in
-    let body = joins _ _ _ _ _ told c.in_ok-encode_bool.ensures in
-    let unmodified = joins _ _ _ _ _ body c.in_ok-encode_bool-2.ensures in
-    let unmatched = joins _ _ _ _ _ unmodified c.in_ok-encode_bool-3.ensures in
-    let head = joins _ _ _ _ _ unmatched c.in_ok-encode_bool-4.ensures in
+    let options = joins _ _ _ _ _ told c.in_ok-encode_options.ensures in
     rw (← c.as_slice.ensures, ← c.as_slice-2.ensures)
-    (OnOk-map c.encode_type.result _ _ (λ last. joins _ _ _ _ _ head last) c.encode_type.ensures)
+    (OnOk-map c.encode_type.result _ _ (λ last. joins _ _ _ _ _ options last) c.encode_type.ensures)

@@ -18,6 +18,7 @@ returns-in-Some-clause-ok c =
       record {
         names = c.merge_field.ensures put.own is.names;
         context = last_bytes-more 3 put.own field _ _ is.context c.last_of-self.ensures;
+        flags = c.merge_field-2.ensures put.own is.flags;
         content = now;
       },
     ))
@@ -33,6 +34,7 @@ returns-in-None-clause-ok c = λ fields before.
       record {
         names = c.merge_field.ensures put.own is.names;
         context = last_bytes-more 3 put.own field _ _ is.context c.last_of-self.ensures;
+        flags = c.merge_field-2.ensures put.own is.flags;
         content = is.content;
       },
     )

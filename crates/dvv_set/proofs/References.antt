@@ -1,0 +1,102 @@
+-- Entries with other values in the places of theirs: the same are entries, and their meaning has those values.
+use Rattle.std.proofs.Common.{◌≡◌, ℕ, ◌+◌, ◌-◌, Bool, true, false, not, ◌&&◌, cond, IsTrue, List, [], ◌∷◌, ◌++◌, length, map, refl, sym, ◌∙◌, ap, subst}
+use Rattle.std.specs.Prelude.{T, nat_le, filter, Option, Some, None}
+use Rattle.std.specs.List.{list_all}
+use Rattle.std.specs.declared.cmp.Ordering.{Ordering}
+use Rattle.std.specs.declared.cmp.Ordering.TheVariants.{Less, Equal, Greater}
+use Rattle.std.specs.Ordering.{is_lt}
+use Rattle.std.specs.FinMap.Entries.{by_order, put, is_sorted, below_all}
+use Rattle.std.proofs.lemmas.List.{map-append, length-map}
+use Rattle.actor_epoch.specs.declared.Actor.{Actor}
+use Rattle.actor_epoch.specs.declared.Dot.{Dot}
+use Rattle.actor_epoch.specs.Dots.{actor_cmp, covers, counter_in, raise, union}
+use Rattle.dvv_set.specs.Clocks.{Meaning, show_cmp, event}
+use Rattle.dvv_set.specs.Held.{without}
+use Rattle.dvv_set.specs.Rows.{values_from, known_of, live_of, meaning_of, is_row, AreRows}
+use Rattle.dvv_set.specs.References.{with_row, with_values}
+
+module _ {V W : Type 0} (f : V → W) where
+  abbrev Rows : Type 0 → Type 0
+  Rows X = List (Actor × (ℕ × List X))
+
+  below_all-with : (a : Actor) (rows : Rows V) → below_all actor_cmp a (map (with_row f) rows) ≡ below_all actor_cmp a rows
+  below_all-with a [] = refl
+  below_all-with a (row ∷ rows) = ap (λ b. is_lt (actor_cmp a row.0) && b) (below_all-with a rows)
+
+  is_sorted-with : (rows : Rows V) → is_sorted actor_cmp (map (with_row f) rows) ≡ is_sorted actor_cmp rows
+  is_sorted-with [] = refl
+  is_sorted-with (row ∷ rows) = λ i. below_all-with row.0 rows i && is_sorted-with rows i
+
+  each-with : (rows : Rows V) → list_all is_row (map (with_row f) rows) ≡ list_all is_row rows
+  each-with [] = refl
+  each-with (row ∷ rows) = λ i. (nat_le 1 row.1.0 && nat_le (length-map row.1.1 f i) row.1.0) && each-with rows i
+
+  known-with : (rows : Rows V) → known_of (map (with_row f) rows) ≡ known_of rows
+  known-with [] = refl
+  known-with (row ∷ rows) = ap (λ ps. (let d : Dot = record { actor = row.0; counter = row.1.0 } in d) ∷ ps) (known-with rows)
+
+  values-with : (a : Actor) (n : ℕ) (vs : List V) → values_from a n (map f vs) ≡ map (λ entry. (entry.0, f entry.1)) (values_from a n vs)
+  values-with a n [] = refl
+  values-with a n (v ∷ vs) = ap (λ es. ((let d : Dot = record { actor = a; counter = n } in d), f v) ∷ es) (values-with a (n - 1) vs)
+
+  live-with : (rows : Rows V) → live_of (map (with_row f) rows) ≡ map (λ entry. (entry.0, f entry.1)) (live_of rows)
+  live-with [] = refl
+  live-with (row ∷ rows) =
+      (λ i. values-with row.0 row.1.0 row.1.1 i ++ live-with rows i)
+      ∙ sym (map-append (λ (entry : Dot × V). (entry.0, f entry.1)) (values_from row.0 row.1.0 row.1.1) (live_of rows))
+
+  pub meaning-with : (rows : Rows V) → meaning_of (map (with_row f) rows) ≡ with_values f (meaning_of rows)
+  meaning-with rows = λ i. record { known = known-with rows i; live = live-with rows i }
+
+  pub are-with : (rows : Rows V) → AreRows rows → AreRows (map (with_row f) rows)
+  are-with rows h = record { sorted = subst T (sym (is_sorted-with rows)) h.sorted; each = each-with rows ∙ h.each }
+
+  pub are-from : (rows : Rows V) → AreRows (map (with_row f) rows) → AreRows rows
+  are-from rows h = record { sorted = subst T (is_sorted-with rows) h.sorted; each = sym (each-with rows) ∙ h.each }
+
+  abbrev to : Dot × V → Dot × W
+  to entry = (entry.0, f entry.1)
+
+  -- a value that is put among others, and values that pairs don't cover
+  put-with : (dot : Dot) (v : V) (live : List (Dot × V)) → map to (put show_cmp dot v live) ≡ put show_cmp dot (f v) (map to live)
+  put-with dot v [] = refl
+  put-with dot v (entry ∷ live) = by (show_cmp dot entry.0) (put-with dot v live)
+    where
+      by : (o : Ordering) → map to (put show_cmp dot v live) ≡ put show_cmp dot (f v) (map to live)
+          → map to (by_order o ((dot, v) ∷ entry ∷ live) ((entry.0, v) ∷ live) (entry ∷ put show_cmp dot v live))
+          ≡ by_order o ((dot, f v) ∷ (entry.0, f entry.1) ∷ map to live) ((entry.0, f v) ∷ map to live)
+          ((entry.0, f entry.1) ∷ put show_cmp dot (f v) (map to live))
+      by Less h = refl
+      by Equal h = refl
+      by Greater h = ap (λ es. (entry.0, f entry.1) ∷ es) h
+
+  kept-with : (pairs : List Dot) (live : List (Dot × V))
+      → map to (filter (λ entry. not (covers pairs entry.0)) live) ≡ filter (λ entry. not (covers pairs entry.0)) (map to live)
+  kept-with pairs [] = refl
+  kept-with pairs (entry ∷ live) = by (covers pairs entry.0) (kept-with pairs live)
+    where
+      by : (b : Bool) → map to (filter (λ entry. not (covers pairs entry.0)) live) ≡ filter (λ entry. not (covers pairs entry.0)) (map to live)
+          → map to (cond (not b) (entry ∷ filter (λ entry. not (covers pairs entry.0)) live) (filter (λ entry. not (covers pairs entry.0)) live))
+          ≡ cond (not b) ((entry.0, f entry.1) ∷ filter (λ entry. not (covers pairs entry.0)) (map to live)) (filter (λ entry. not (covers pairs entry.0)) (map to live))
+      by true h = h
+      by false h = ap (λ es. (entry.0, f entry.1) ∷ es) h
+
+  pub event-with : (actor : Actor) (v : V) (clock : Meaning V) → with_values f (event actor v clock) ≡ event actor (f v) (with_values f clock)
+  event-with actor v clock =
+      let dot : Dot = record { actor = actor; counter = counter_in clock.known actor + 1 } in
+      λ i. record { known = raise dot clock.known; live = put-with dot v clock.live i }
+
+  pub without-with : (seen : Option (List Dot)) (clock : Meaning V) → with_values f (without seen clock) ≡ without seen (with_values f clock)
+  without-with None clock = refl
+  without-with (Some pairs) clock = λ i. record { known = union clock.known pairs; live = kept-with pairs clock.live i }
+
+-- rows that are the same but for their values
+module _ {U V W : Type 0} (f : U → W) (g : V → W) (rows : List (Actor × (ℕ × List U))) (others : List (Actor × (ℕ × List V))) (same : map (with_row f) rows ≡ map (with_row g) others) where
+  pub are-same : AreRows others → AreRows rows
+  are-same h = are-from f rows (subst AreRows (sym same) (are-with g others h))
+
+  pub means-same : with_values f (meaning_of rows) ≡ with_values g (meaning_of others)
+  means-same = sym (meaning-with f rows) ∙ ap meaning_of same ∙ meaning-with g others
+
+  pub length-same : length rows ≡ length others
+  length-same = sym (length-map rows (with_row f)) ∙ ap length same ∙ length-map others (with_row g)

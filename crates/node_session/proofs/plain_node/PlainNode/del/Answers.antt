@@ -1,0 +1,18 @@
+use Rattle.std.proofs.Common.{◌∙◌, subst, arith, set}
+use Rattle.sibling_register.specs.Answers.{AskDel}
+use Rattle.vnode_machine.specs.Asks.{del_command}
+use Rattle.node_session.specs.PlainNodes.{NodeState, AnswersByKey, states_of}
+use Rattle.node_session.proofs.Asking.{asked}
+use Rattle.node_session.proofs.plain_node.PlainNode.del.Goals as goal
+
+pub returns : goal.returns
+returns c =
+    let ask = AskDel (del_command c.args.ask) in
+    let after : NodeState = record {
+      index_bits = c.self.inside.ring;
+      budget = c.self.inside.budget;
+      vnodes = states_of (set c.self.inside.vnodes.items c.from-index.result c.change_and_sweep.new.vnode);
+    } in
+    subst (λ (node : NodeState). AnswersByKey node ask c.change_and_sweep.result after) c.self.view_is
+    (asked c.self.inside.ring c.self.inside.budget c.self.inside.vnodes.items ask c.change_and_sweep.result c.from-index.result _ c.index_mut.result.now c.change_and_sweep.new.vnode
+    (c.from-index.ensures ∙ c.index.ensures.index) c.index_mut.ensures.value (omega (arith, c.from-index.ensures, c.index.ensures.below, c.self.invariant)) c.change_and_sweep.ensures)

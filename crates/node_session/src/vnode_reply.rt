@@ -1,0 +1,82 @@
+//! The replies of one vnode to what it is asked, and its sweeps.
+
+ghost use Rattle.std.specs.Prelude.{◌≡◌};
+ghost use Rattle.sibling_register.specs.Answers.{AskGet};
+ghost use Rattle.vnode_machine.specs.Asks.{get_command};
+ghost use Rattle.vnode_machine.specs.Step.{outcome};
+ghost use Rattle.vnode_core.specs.Plans.{ask_outcome, response_of};
+ghost use Rattle.vnode_core.specs.Refusals.{number_of};
+ghost use Rattle.node_session.specs.PlainStep.{refusal_text, response_reply, StepsBy};
+ghost use Rattle.node_session.specs.PlainNodes.{AnswersAndSweeps};
+
+use riak_msgs::{GetAsk, Reply, Text};
+use std::alloc::Global;
+use tomb_reaper::sweep;
+use vnode_core::{Answer, Ask, Plan, Reaped, Refusal, Vnode};
+
+/// The text of the error for a refusal.
+fn refusal_text(refusal: Refusal) -> Text
+    ensures { result ≡ refusal_text (number_of refusal) }
+{
+    match refusal {
+        Refusal::MatchFound => Text::MatchFound,
+        Refusal::Modified => Text::Modified,
+        Refusal::NotFound => Text::NotFound,
+        Refusal::BadContext => Text::BadContext,
+        Refusal::TooManySiblings => Text::TooManySiblings,
+        Refusal::ClockFull => Text::ClockFull,
+        Refusal::EpochsUsedUp => Text::EpochsUsedUp,
+        Refusal::CounterUsedUp => Text::CounterUsedUp,
+        Refusal::NoMemory => Text::NoMemory,
+    }
+}
+
+/// The reply for an answer.
+fn reply_of(answer: Answer) -> Reply
+    ensures { result ≡ response_reply (response_of answer) }
+{
+    match answer {
+        Answer::Put(reply) => Reply::Put(reply),
+        Answer::Del => Reply::Del,
+        Answer::Reaped(Reaped::Gone | Reaped::Kept | Reaped::Absent) => Reply::Del,
+    }
+}
+
+/// Answers a get.
+fn answer_get(vnode: &Vnode, alloc: Global, ask: &GetAsk) -> Reply
+    ensures { StepsBy vnode.now.state (outcome vnode.now.state (AskGet (get_command ask.now))) result vnode.now.state }
+{
+    match vnode.get(alloc, ask) {
+        Ok(reply) => Reply::Get(reply),
+        Err(refusal) => Reply::Error(refusal_text(refusal)),
+    }
+}
+
+/// Answers what may change the vnode, and makes the change where it is accepted.
+fn answer_change(vnode: &mut Vnode, alloc: Global, ask: Ask) -> Reply
+    ensures { StepsBy vnode.old.state (ask_outcome vnode.old.state ask) result vnode.new.state }
+{
+    match vnode.prepare(alloc, ask) {
+        Ok(Plan::Change(change)) => reply_of(vnode.finish(change)),
+        Ok(Plan::Nothing(answer)) => reply_of(answer),
+        Err(refusal) => Reply::Error(refusal_text(refusal)),
+    }
+}
+
+/// Answers a get, and forgets the vnode's first dead keys, so many at most.
+pub(crate) fn get_and_sweep(vnode: &mut Vnode, alloc: Global, ask: &GetAsk, budget: u32) -> Reply
+    ensures { AnswersAndSweeps budget vnode.old.state (outcome vnode.old.state (AskGet (get_command ask.now))) result vnode.new.state }
+{
+    let reply = answer_get(vnode, alloc, ask);
+    sweep(vnode, None, budget);
+    reply
+}
+
+/// Answers what may change the vnode, and forgets the vnode's first dead keys, so many at most.
+pub(crate) fn change_and_sweep(vnode: &mut Vnode, alloc: Global, ask: Ask, budget: u32) -> Reply
+    ensures { AnswersAndSweeps budget vnode.old.state (ask_outcome vnode.old.state ask) result vnode.new.state }
+{
+    let reply = answer_change(vnode, alloc, ask);
+    sweep(vnode, None, budget);
+    reply
+}

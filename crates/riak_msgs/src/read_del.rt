@@ -1,0 +1,88 @@
+//! Reading a delete.
+
+ghost use Rattle.std.specs.Prelude.{◌≡◌, List, [], IfOk, OnErr};
+ghost use Rattle.pb_fields.specs.Field.{WireField};
+ghost use Rattle.pb_fields.specs.Merging.{RefusesNone, Tracks};
+ghost use Rattle.pb_fields.specs.Message.{StandsFor};
+ghost use Rattle.riak_msgs.specs.Reading.{Reads, del_of};
+ghost use Rattle.riak_msgs.specs.SeenRequests.{IsSeenDelOf};
+
+use crate::bytes::Bytes;
+use crate::del::DelAsk;
+use crate::fault::MsgFault;
+use crate::field_access::last_of;
+use crate::key_view::KeyView;
+use crate::request::Request;
+use pb_fields::{Field, FieldFault, Merge, scan};
+use std::alloc::{AllocError, Global};
+
+/// The field numbers of a context and of a bucket type in a delete.
+const CONTEXT: u32 = 4;
+
+const BUCKET_TYPE: u32 = 13;
+
+/// The delete that a body says.
+pub(crate) fn read_del(alloc: Global, body: &[u8]) -> Result<Request, MsgFault>
+    ensures { Reads 13 body.now result }
+{
+    let view = DelView::of(body)?;
+    if let Some(fault) = view.names.fault() {
+        return Err(fault);
+    }
+    Ok(Request::Del(view.ask(alloc)?))
+}
+
+/// What a walk over a delete's fields sees, borrowed from its body.
+#[derive(Clone, Copy)]
+pub(crate) struct DelView<'a> {
+    pub(crate) names: KeyView<'a>,
+    pub(crate) context: Option<&'a [u8]>,
+}
+
+impl<'a> DelView<'a> {
+    /// What is seen in a body, where it stands for fields.
+    fn of(body: &'a [u8]) -> Result<DelView<'a>, FieldFault>
+        ensures ok { IfOk result (λ view. (fields : List WireField) × StandsFor body.now fields
+            × IsSeenDelOf view fields) }
+        ensures err { OnErr result ((fields : List WireField) → StandsFor body.now fields → ⊥) }
+    {
+        let mut view = DelView::new();
+        scan(body, &mut view)?;
+        Ok(view)
+    }
+
+    /// Nothing seen yet.
+    fn new() -> DelView<'a>
+        ensures { IsSeenDelOf result [] }
+    {
+        DelView {
+            names: KeyView::new(),
+            context: None,
+        }
+    }
+
+    /// A copy of what is asked.
+    fn ask(&self, alloc: Global) -> Result<DelAsk, AllocError>
+        ensures { (fields : List WireField) → IsSeenDelOf self.now fields
+            → IfOk result (λ ask. ask ≡ del_of fields) }
+    {
+        Ok(DelAsk {
+            key: self.names.key(alloc)?,
+            context: Bytes::from_slice(alloc, self.context.unwrap_or(&[]))?,
+        })
+    }
+}
+
+impl<'a> Merge<'a> for DelView<'a> {
+    type Fault = FieldFault;
+
+    ghost merges = { Tracks IsSeenDelOf };
+
+    ghost refuses = { RefusesNone };
+
+    fn merge_field(&mut self, field: Field<'a>) -> Result<(), FieldFault> {
+        self.names.merge_field(field, BUCKET_TYPE);
+        self.context = last_of(CONTEXT, field, self.context);
+        Ok(())
+    }
+}

@@ -1,0 +1,144 @@
+-- A delete: what the machine makes of it by what was found, and what it writes.
+use Rattle.std.proofs.Common.{◌≡◌, ℕ, Bool, true, false, not, ◌&&◌, cond, List, [], ◌∷◌, refl, sym, ◌∙◌, ap, subst}
+use Rattle.std.specs.Prelude.{◌≤◌, ◌<◌, nat_le, nat_lt, ◌^◌, Result, Ok, Err, Option, Some, None, is_none, length, option_map, IsTrue}
+use Rattle.std.specs.List.{list_all}
+use Rattle.std.specs.FinMap.Entries.{find}
+use Rattle.riak_msgs.specs.declared.Key.{Key}
+use Rattle.riak_msgs.specs.declared.Content.{Content}
+use Rattle.riak_msgs.specs.declared.DelAsk.{DelAsk}
+use Rattle.riak_msgs.specs.KeyOrder.{key_cmp}
+use Rattle.sibling_register.specs.History.{Tombstone}
+use Rattle.sibling_register.specs.Answers.{AskDel}
+use Rattle.actor_epoch.specs.declared.Actor.{Actor}
+use Rattle.actor_epoch.specs.declared.Dot.{Dot}
+use Rattle.actor_epoch.specs.Limits.{greatest_epoch, greatest_counter, most_actors}
+use Rattle.actor_epoch.specs.Dots.{counter_in, union}
+use Rattle.actor_epoch.specs.Contexts.{is_within_limits}
+use Rattle.actor_epoch.specs.Given.{Context, Malformed, Pairs, context_of, pairs_read}
+use Rattle.dvv_set.specs.Clocks.{Meaning, discard, event, join}
+use Rattle.dvv_set.specs.Held.{IsWithin, known_after}
+use Rattle.dvv_set.proofs.Discards.{union-itself}
+use Rattle.vnode_machine.specs.Asks.{del_command}
+use Rattle.vnode_machine.specs.Machine.{State, Stored, stored, is_held, clock_of, actor_for, del_pairs, update_check, updated, changed_by}
+use Rattle.vnode_machine.specs.Step.{StepOutcome, Refused, Answered, Accepted, DelDone, del_step, unless_refused, outcome}
+use Rattle.vnode_machine.proofs.Forms.{IsForm, IsFormed}
+use Rattle.vnode_machine.proofs.Keys.{find_stored, key_eq-refl}
+use Rattle.vnode_machine.proofs.Seen.{form-within}
+use Rattle.vnode_machine.proofs.Tests.{and_left, and_right, and_both}
+use Rattle.vnode_core.specs.declared.ask.Ask.TheVariants.{Del}
+use Rattle.vnode_core.specs.declared.ask.Answer.{Answer}
+use Rattle.vnode_core.specs.declared.ask.Answer.TheVariants as answers
+use Rattle.vnode_core.specs.declared.ready.Writer.{Writer}
+use Rattle.vnode_core.specs.declared.refusal.Refusal.{Refusal}
+use Rattle.vnode_core.specs.declared.refusal.Refusal.TheVariants.{NoMemory}
+use Rattle.vnode_core.specs.Plans.{Steps, Refuses, ask_outcome}
+use Rattle.vnode_core.specs.Refusals.{number_of, RefusedBy, GivenBy}
+use Rattle.vnode_core.specs.Shelves.{deleted}
+use Rattle.vnode_core.specs.Vnodes.{IsReached, DelGives, DelOfAllGives, IsToOverwrite, state_after, writer_of}
+use Rattle.vnode_core.proofs.Reached.{formed, rising-at, within-at, reached-next}
+
+-- a delete of a key by what was given as its context
+abbrev step_by : State Content → Key → Option Context → StepOutcome
+step_by state key given = del_step state (record { key = key; context = given })
+
+-- one that does something is checked
+does : (state : State Content) (key : Key) (given : Option Context) → (is_none given && not (is_held state key)) ≡ false
+    → step_by state key given
+    ≡ unless_refused (update_check state key given (del_pairs state key given)) (Accepted Tombstone DelDone (changed_by state key given Tombstone))
+does state key given h = ap (λ b. cond b (Answered DelDone)
+    (unless_refused (update_check state key given (del_pairs state key given)) (Accepted Tombstone DelDone (changed_by state key given Tombstone)))) h
+
+module _ (state : State Content) (del : DelAsk) (given : Option Context) (reads : context_of del.context ≡ given)
+    (something : (is_none given && not (is_held state del.key)) ≡ false) where
+  abbrev check : Option ℕ
+  check = update_check state del.key given (del_pairs state del.key given)
+
+  there : ask_outcome state (Del del) ≡ unless_refused check (Accepted Tombstone DelDone (changed_by state del.key given Tombstone))
+  there = ap (step_by state del.key) reads ∙ does state del.key given something
+
+  pub del-steps : check ≡ None → Steps state (Del del) answers.Del (state_after state (Del del))
+  del-steps free =
+      there ∙ ap (λ c. unless_refused c (Accepted Tombstone DelDone (changed_by state del.key given Tombstone))) free
+      ∙ ap (λ g. Accepted Tombstone DelDone (changed_by state del.key g Tombstone)) (sym reads)
+
+  pub del-refuses : (refusal : Refusal) → RefusedBy refusal check → Refuses state (Del del) refusal
+  del-refuses NoMemory h = absurd h
+  del-refuses refusal h = there ∙ ap (λ c. unless_refused c (Accepted Tombstone DelDone (changed_by state del.key given Tombstone))) h
+
+-- a delete without context
+pub del-of-all : (state : State Content) (del : DelAsk) → context_of del.context ≡ None → (r : Result (Option Writer) Refusal) → DelOfAllGives state del.key r → DelGives state del r
+del-of-all state del reads (Ok None) absent =
+    ap (step_by state del.key) reads
+    ∙ ap (λ b. cond (not b) (Answered DelDone) (unless_refused (update_check state del.key None (join (clock_of state del.key))) (Accepted Tombstone DelDone (changed_by state del.key None Tombstone)))) absent
+del-of-all state del reads (Ok (Some writer)) h = (del-steps state del None reads (ap not h.held) h.free, h.is)
+del-of-all state del reads (Err refusal) h = del-refuses state del None reads (ap not h.0) refusal h.1
+
+-- and by a context
+pub del-by-writer : (state : State Content) (del : DelAsk) (pairs : List Dot) → context_of del.context ≡ Some (Pairs pairs) → (writer : Writer)
+    → update_check state del.key (Some (Pairs pairs)) pairs ≡ None → writer ≡ writer_of state del.key → DelGives state del (Ok (Some writer))
+del-by-writer state del pairs reads writer free is = (del-steps state del (Some (Pairs pairs)) reads refl free, is)
+
+pub del-by-refused : (state : State Content) (del : DelAsk) (pairs : List Dot) → context_of del.context ≡ Some (Pairs pairs) → (refusal : Refusal)
+    → RefusedBy refusal (update_check state del.key (Some (Pairs pairs)) pairs) → DelGives state del (Err refusal)
+del-by-refused state del pairs reads refusal h = del-refuses state del (Some (Pairs pairs)) reads refl refusal h
+
+-- the context of a delete that the machine accepts is not malformed
+pub not-malformed : (state : State Content) (del : DelAsk) (answer : Answer) (next : State Content) → Steps state (Del del) answer next → context_of del.context ≡ Some Malformed → ⊥
+not-malformed state del answer next step reads =
+    let refused : step_by state del.key (Some Malformed) ≡ Refused 4 = refl in
+    let both = sym refused ∙ ap (step_by state del.key) (sym reads) ∙ step in
+    cc
+
+-- its tombstone is written as the machine has it
+pub written-del : (state : State Content) (key : Key) (given : Option Context) → (given ≡ Some Malformed → ⊥)
+    → deleted state.keys key (pairs_read given) (actor_for state key) ≡ updated state key (del_pairs state key given) None
+written-del state key None sound = refl
+written-del state key (Some Malformed) sound = absurd (sound refl)
+written-del state key (Some (Pairs pairs)) sound = refl
+
+-- pairs within limits have counters from 1 on
+positive : (pairs : List Dot) → IsTrue (list_all is_within_limits pairs) → IsTrue (list_all (λ pair. nat_le 1 pair.counter) pairs)
+positive [] h = refl
+positive (pair ∷ pairs) h =
+    and_both (nat_le 1 pair.counter) (list_all (λ pair. nat_le 1 pair.counter) pairs)
+    (first (nat_lt pair.actor.vnode (2 ^ 64)) (nat_le 1 pair.actor.epoch && nat_le pair.actor.epoch greatest_epoch) (nat_le 1 pair.counter) (nat_le pair.counter greatest_counter)
+    (and_left (is_within_limits pair) (list_all is_within_limits pairs) h))
+    (positive pairs (and_right (is_within_limits pair) (list_all is_within_limits pairs) h))
+  where
+    first : (a b c d : Bool) → (a && (b && (c && d))) ≡ true → c ≡ true
+    first true true c d h = and_left c d h
+    first true false c d h = cc
+    first false b c d h = cc
+
+-- a delete that the machine accepts
+module _ (state : State Content) (is : IsReached state) (del : DelAsk) (answer : Answer) (step : Steps state (Del del) answer (state_after state (Del del))) where
+  abbrev own : Actor
+  own = actor_for state del.key
+
+  abbrev clock : Meaning (Option Content)
+  clock = clock_of state del.key
+
+  abbrev next_by : Option Context → Stored Content
+  next_by given = record { own = Some own; clock = event own None (discard (del_pairs state del.key given) clock) }
+
+  -- what is stored next is of the form
+  form-del : IsForm (next_by (context_of del.context))
+  form-del =
+      subst IsFormed
+      (find_stored del.key del.key (next_by (context_of del.context)) state.keys
+      ∙ ap (λ b. cond b (Some (next_by (context_of del.context))) (find key_cmp del.key state.keys)) (key_eq-refl del.key))
+      (formed (state_after state (Del del)) (reached-next state is (AskDel (del_command del)) _ _ (state_after state (Del del)) step) del.key)
+
+  of-all : IsForm (next_by None) → IsWithin clock.known None own
+  of-all form =
+      let within = form-within own None clock (Some clock.known) (rising-at state is del.key) form in
+      let known = union-itself clock.known (rising-at state is del.key) (positive clock.known (within-at state is del.key)) in
+      record {
+        few = subst (λ (ps : List Dot). length (known_after own ps) ≤ most_actors) known within.few;
+        counter = subst (λ (ps : List Dot). counter_in ps own < greatest_counter) known within.counter;
+      }
+
+  -- so it is within the limits of its clock
+  pub within-del : (seen : Option (List Dot)) → context_of del.context ≡ option_map Pairs seen → IsWithin clock.known seen own
+  within-del None reads = of-all (subst (λ g. IsForm (next_by g)) reads form-del)
+  within-del (Some pairs) reads = form-within own None clock (Some pairs) (rising-at state is del.key) (subst (λ g. IsForm (next_by g)) reads form-del)

@@ -1,0 +1,192 @@
+-- What a reap leaves of a vnode, and that it is the register's.
+use Rattle.std.proofs.Common.{◌≡◌, ℕ, Bool, true, false, List, refl, sym, ◌∙◌, ap, subst, drop}
+use Rattle.std.specs.Prelude.{Option, Some, None, is_some, if◌then◌else◌, IsTrue}
+use Rattle.std.specs.Option.{option_map_or}
+use Rattle.std.specs.FinMap.Entries.{find, is_sorted}
+use Rattle.riak_msgs.specs.declared.Key.{Key}
+use Rattle.riak_msgs.specs.declared.Content.{Content}
+use Rattle.riak_msgs.specs.KeyOrder.{key_cmp}
+use Rattle.sibling_register.specs.History.{Reap}
+use Rattle.sibling_register.specs.Answers.{AskReap}
+use Rattle.vnode_machine.specs.Dead.{dead_keys, first_dead, has_dead, is_from, reaped}
+use Rattle.std.specs.List.{list_any}
+use Rattle.vnode_machine.specs.Machine.{State, Stored, counted, holds_dead, has_value}
+use Rattle.vnode_machine.specs.Runs.{state_after_step}
+use Rattle.vnode_machine.specs.Step.{ReapDone, ReapKept, StepOutcome, Answered, Accepted, outcome}
+use Rattle.vnode_machine.proofs.DeadKeys.{keys_sorted, dead_left, first_is_dead}
+use Rattle.vnode_machine.proofs.Tests.{and_right}
+use denote.Enum.Bare.{sameb}
+use Rattle.vnode_core.specs.contracts.ask.Reaped.{the_type}
+use Rattle.vnode_core.specs.declared.ask.Reaped.{Reaped}
+use Rattle.vnode_core.specs.declared.ask.Reaped.TheVariants.{Gone, Kept, Absent}
+use Rattle.vnode_core.specs.declared.vnode.Vnode.TheInside.{Inside}
+use Rattle.vnode_core.specs.declared.ask.Ask.TheVariants.{ReapFirst}
+use Rattle.vnode_core.specs.Plans.{IsAccepted, Registers, ask_outcome, reap_response}
+use Rattle.vnode_core.specs.Reaping.{holding, reap_result, reap_outcome, after_reap, after_first_reap}
+use Rattle.vnode_core.specs.Shelves.{Keys}
+use Rattle.vnode_core.specs.Vnodes.{IsReached, state_of}
+use Rattle.vnode_core.proofs.Reached.{registers-view, reached-next}
+
+-- the keys of a vnode stand in their order
+pub sorted-now : (state : State Content) → IsReached state → is_sorted key_cmp state.keys ≡ true
+sorted-now state is = ap (λ (s : State Content). is_sorted key_cmp s.keys) is.after.is ∙ keys_sorted is.id is.opened is.history
+
+-- a reap, by its result and the state after it
+module _ (state : State Content) (is : IsReached state) (key : Key) (result : Reaped) (after : State Content)
+    (exact : result ≡ reap_result state key) (leads : after ≡ after_reap state key) where
+  outcome-is : outcome state (AskReap key) ≡ reap_outcome result after
+  outcome-is = by (holds_dead state key) (has_value state key) (reaped state key) ∙ (λ i. reap_outcome (sym exact i) (sym leads i))
+    where
+      by : (dead value : Bool) (next : State Content)
+          → (let o : StepOutcome = if dead then Accepted Reap ReapDone next else Answered ReapKept in o)
+          ≡ reap_outcome (if dead then Gone else if value then Kept else Absent) (state_after_step state (if dead then Accepted Reap ReapDone next else Answered ReapKept))
+      by true value next = refl
+      by false true next = refl
+      by false false next = refl
+
+  pub register-reap : (seen : State Content) → state ≡ seen → Registers seen (AskReap key) (reap_outcome result after)
+  register-reap seen same = registers-view state seen same is (AskReap key) (reap_outcome result after) outcome-is
+
+  pub reached-reap : IsReached after
+  reached-reap = subst IsReached (sym leads) (by (holds_dead state key) refl)
+    where
+      by : (dead : Bool) → holds_dead state key ≡ dead → IsReached (state_after_step state (if dead then Accepted Reap ReapDone (reaped state key) else Answered ReapKept))
+      by true h = reached-next state is (AskReap key) Reap ReapDone (reaped state key) (ap (λ b. if b then Accepted Reap ReapDone (reaped state key) else Answered ReapKept) h)
+      by false h = is
+
+-- the fields of a vnode that has forgotten a key
+pub gone-is : (v : Inside) (key : Key) (reaps : ℕ) (keys : Keys) → reaps ≡ counted v.reaps → Gone ≡ reap_result (holding v.shelf.keys) key
+    → keys ≡ (after_reap (holding v.shelf.keys) key).keys → record (state_of v) { reaps = reaps; keys = keys } ≡ after_reap (state_of v) key
+gone-is v key reaps keys n gone k = by (holds_dead (state_of v) key) (has_value (state_of v) key) gone k
+  where
+    by : (dead value : Bool) → Gone ≡ (if dead then Gone else if value then Kept else Absent)
+        → keys ≡ (state_after_step (holding v.shelf.keys) (if dead then Accepted Reap ReapDone (reaped (holding v.shelf.keys) key) else Answered ReapKept)).keys
+        → record (state_of v) { reaps = reaps; keys = keys } ≡ state_after_step (state_of v) (if dead then Accepted Reap ReapDone (reaped (state_of v) key) else Answered ReapKept)
+    by true value gone k = λ i. record (state_of v) { reaps = n i; keys = k i }
+    by false true gone k = cc
+    by false false gone k = cc
+
+-- and of one that has forgotten none
+pub kept-is : (v : Inside) (key : Key) (keys : Keys) (result : Reaped) → (result ≡ Gone → ⊥) → result ≡ reap_result (holding v.shelf.keys) key
+    → keys ≡ (after_reap (holding v.shelf.keys) key).keys → record (state_of v) { keys = keys } ≡ after_reap (state_of v) key
+kept-is v key keys result not_gone exact k = by (holds_dead (state_of v) key) (has_value (state_of v) key) exact k
+  where
+    by : (dead value : Bool) → result ≡ (if dead then Gone else if value then Kept else Absent)
+        → keys ≡ (state_after_step (holding v.shelf.keys) (if dead then Accepted Reap ReapDone (reaped (holding v.shelf.keys) key) else Answered ReapKept)).keys
+        → record (state_of v) { keys = keys } ≡ state_after_step (state_of v) (if dead then Accepted Reap ReapDone (reaped (state_of v) key) else Answered ReapKept)
+    by true value e k = absurd (not_gone e)
+    by false value e k = λ i. record (state_of v) { keys = k i }
+
+-- a reap of the least dead key
+module _ (state : State Content) (is : IsReached state) (from : Option Key) (key : Key) (first : first_dead state from ≡ Some key) where
+  dead-now : holds_dead state key ≡ true
+  dead-now = and_right (is_from from key) (holds_dead state key) (first_is_dead state from key first)
+
+  pub accepts-first : outcome state (AskReap key) ≡ Accepted Reap ReapDone (reaped state key)
+  accepts-first = ap (λ b. if b then Accepted Reap ReapDone (reaped state key) else Answered ReapKept) dead-now
+
+  pub reached-first : IsReached (reaped state key)
+  reached-first = reached-next state is (AskReap key) Reap ReapDone (reaped state key) accepts-first
+
+  pub left-first : dead_keys (reaped state key) from ≡ drop 1 (dead_keys state from)
+  left-first = dead_left state key from (sorted-now state is) first
+
+  pub register-first : (after : State Content) → after ≡ reaped state key → (seen : State Content) → state ≡ seen
+      → (other : Key) → first_dead seen from ≡ Some other → Registers seen (AskReap other) (Accepted Reap ReapDone after)
+  register-first after leads seen sees other h =
+      let e : Some key ≡ Some other = sym first ∙ ap (λ state. first_dead state from) sees ∙ h in
+      let same : key ≡ other = cc in
+      subst (λ key. Registers seen (AskReap key) (Accepted Reap ReapDone after)) same
+      (registers-view state seen sees is (AskReap key) (Accepted Reap ReapDone after) (accepts-first ∙ ap (λ next. Accepted Reap ReapDone next) (sym leads)))
+
+-- the fields of a vnode that has forgotten the least dead key
+pub record IsFirstGone (state : State Content) (from : Option Key) (after : State Content) : Type 0 where
+  pub key : Key
+  pub first : first_dead state from ≡ Some key
+  pub is : after ≡ reaped state key
+
+pub first-gone : (v : Inside) (from : Option Key) (reaps : ℕ) (keys : Keys) → reaps ≡ counted v.reaps → true ≡ has_dead (holding v.shelf.keys) from
+    → keys ≡ (after_first_reap (holding v.shelf.keys) from).keys → IsFirstGone (state_of v) from (record (state_of v) { reaps = reaps; keys = keys })
+first-gone v from reaps keys n found k = by (first_dead (state_of v) from) refl found k
+  where
+    by : (o : Option Key) → first_dead (state_of v) from ≡ o → true ≡ is_some o → keys ≡ (option_map_or (reaped (holding v.shelf.keys)) o (holding v.shelf.keys)).keys
+        → IsFirstGone (state_of v) from (record (state_of v) { reaps = reaps; keys = keys })
+    by None e found k = cc
+    by (Some key) e found k = record { key = key; first = e; is = λ i. record (state_of v) { reaps = n i; keys = k i } }
+
+-- a result that is compared with gone
+pub gone-same : (result : Reaped) → sameb the_type result Gone ≡ true → result ≡ Gone
+gone-same Gone h = refl
+gone-same Kept h = cc
+gone-same Absent h = cc
+
+pub gone-not : (result : Reaped) → sameb the_type result Gone ≡ false → result ≡ Gone → ⊥
+gone-not Gone h e = cc
+gone-not Kept h e = cc
+gone-not Absent h e = cc
+
+-- what is found of a key says what its reap comes to
+pub result-none : (keys : Keys) (key : Key) → None ≡ find key_cmp key keys → Absent ≡ reap_result (holding keys) key
+result-none keys key h = rw (sym h) refl
+
+pub result-some : (keys : Keys) (key : Key) (s : Stored Content) (value : Bool) → Some s ≡ find key_cmp key keys → value ≡ list_any (λ entry. is_some entry.1) s.clock.live
+    → (if value then Kept else Gone) ≡ reap_result (holding keys) key
+result-some keys key s true h v = rw (sym h, sym v) refl
+result-some keys key s false h v = rw (sym h, sym v) refl
+
+-- a reap that is planned, by its result
+module _ (state : State Content) (key : Key) where
+  by-result : (dead value : Bool) (next : State Content) (result : Reaped) → result ≡ (if dead then Gone else if value then Kept else Absent) → (result ≡ Gone → ⊥)
+      → (let o : StepOutcome = if dead then Accepted Reap ReapDone next else Answered ReapKept in o) ≡ Answered (reap_response result)
+  by-result true value next result e not_gone = absurd (not_gone e)
+  by-result false true next result e not_gone = ap (λ r. Answered (reap_response r)) (sym e)
+  by-result false false next result e not_gone = ap (λ r. Answered (reap_response r)) (sym e)
+
+  pub not-accepted : (result : Reaped) → result ≡ reap_result state key → (result ≡ Gone → ⊥) → outcome state (AskReap key) ≡ Answered (reap_response result)
+  not-accepted result e not_gone = by-result (holds_dead state key) (has_value state key) (reaped state key) result e not_gone
+
+  pub is-accepted : Gone ≡ reap_result state key → IsAccepted (outcome state (AskReap key))
+  is-accepted e = by (holds_dead state key) (has_value state key) (reaped state key) e
+    where
+      by : (dead value : Bool) (next : State Content) → Gone ≡ (if dead then Gone else if value then Kept else Absent) → IsAccepted (if dead then Accepted Reap ReapDone next else Answered ReapKept)
+      by true value next e = tt
+      by false true next e = cc
+      by false false next e = cc
+
+  -- one that is accepted forgets its key
+  pub steps-reap : (result : Reaped) (after : State Content) → IsAccepted (outcome state (AskReap key)) → result ≡ reap_result state key → after ≡ after_reap state key
+      → outcome state (AskReap key) ≡ Accepted Reap (reap_response result) after
+  steps-reap result after accepted e leads = by (holds_dead state key) (has_value state key) (reaped state key) accepted e leads
+    where
+      by : (dead value : Bool) (next : State Content) → IsAccepted (if dead then Accepted Reap ReapDone next else Answered ReapKept)
+          → result ≡ (if dead then Gone else if value then Kept else Absent) → after ≡ state_after_step state (if dead then Accepted Reap ReapDone next else Answered ReapKept)
+          → (let o : StepOutcome = if dead then Accepted Reap ReapDone next else Answered ReapKept in o) ≡ Accepted Reap (reap_response result) after
+      by true value next a e leads = λ i. Accepted Reap (reap_response (sym e i)) (sym leads i)
+      by false value next a e leads = absurd a
+
+-- a reap of the first dead key that is planned
+module _ (state : State Content) (is : IsReached state) (from : Option Key) where
+  pub none-first : has_dead state from ≡ false → ask_outcome state (ReapFirst from) ≡ Answered ReapKept
+  none-first h = by (first_dead state from) h
+    where
+      by : (o : Option Key) → is_some o ≡ false → option_map_or (λ key. outcome state (AskReap key)) o (Answered ReapKept) ≡ Answered ReapKept
+      by None h = refl
+      by (Some key) h = cc
+
+  pub some-first : has_dead state from ≡ true → ask_outcome state (ReapFirst from) ≡ Accepted Reap ReapDone (after_first_reap state from)
+  some-first h = by (first_dead state from) refl h
+    where
+      by : (o : Option Key) → first_dead state from ≡ o → is_some o ≡ true
+          → option_map_or (λ key. outcome state (AskReap key)) o (Answered ReapKept) ≡ Accepted Reap ReapDone (option_map_or (reaped state) o state)
+      by None e h = cc
+      by (Some key) e h = accepts-first state is from key e
+
+  pub accepts-some : true ≡ has_dead state from → IsAccepted (ask_outcome state (ReapFirst from))
+  accepts-some h = subst IsAccepted (sym (some-first (sym h))) tt
+
+  pub found-first : IsAccepted (ask_outcome state (ReapFirst from)) → has_dead state from ≡ true
+  found-first a = by (first_dead state from) a
+    where
+      by : (o : Option Key) → IsAccepted (option_map_or (λ key. outcome state (AskReap key)) o (Answered ReapKept)) → is_some o ≡ true
+      by None a = absurd a
+      by (Some key) a = refl

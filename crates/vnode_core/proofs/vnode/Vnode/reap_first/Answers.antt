@@ -1,0 +1,35 @@
+use Rattle.std.proofs.Common.{◌∙◌, sym, ap, subst, drop}
+use Rattle.riak_msgs.specs.declared.Content.{Content}
+use Rattle.vnode_machine.specs.Dead.{dead_keys}
+use Rattle.vnode_machine.specs.Machine.{State}
+use Rattle.vnode_core.specs.Reaping.{key_given}
+use Rattle.vnode_core.specs.Vnodes.{IsReached, IsReadyFor, state_of}
+use Rattle.vnode_core.proofs.Reaping.{first-gone, reached-first, left-first, register-first}
+use Rattle.vnode_core.proofs.vnode.Vnode.reap_first.Goals as goal
+
+pub invariant_of-self : goal.invariant_of-self
+invariant_of-self c =
+    let forgot = c.forget_first_dead-found in
+    let gone = first-gone c.self.inside (key_given c.args.from) c.saturating_add-self-inside.result forgot.new.self.keys c.saturating_add-self-inside.ensures
+    (sym c.if-found.true ∙ forgot.ensures.found) forgot.ensures.keys in
+    record {
+      reached = subst IsReached (sym gone.is) (reached-first (state_of c.self.inside) c.self.invariant.reached (key_given c.args.from) gone.key gone.first);
+      ready = subst (IsReadyFor _ _ _) (sym (ap (λ w. w.prepared) c.self.view_is ∙ c.drop_prepared.ensures.ended)) tt;
+    }
+
+pub returns-then-found-clause-left : goal.returns-then-found-clause-left
+returns-then-found-clause-left c =
+    let forgot = c.forget_first_dead-found in
+    let from = key_given c.args.from in
+    let gone = first-gone c.self.inside from c.saturating_add-self-inside.result forgot.new.self.keys c.saturating_add-self-inside.ensures (sym c.if-found.true ∙ forgot.ensures.found) forgot.ensures.keys in
+    ap (λ (state : State Content). dead_keys state from) gone.is
+    ∙ left-first (state_of c.self.inside) c.self.invariant.reached from gone.key gone.first
+    ∙ ap (λ state. drop 1 (dead_keys state from)) (ap (λ w. w.state) c.self.view_is ∙ c.drop_prepared.ensures.same)
+
+pub returns-then-found-clause-register : goal.returns-then-found-clause-register
+returns-then-found-clause-register c =
+    let forgot = c.forget_first_dead-found in
+    let from = key_given c.args.from in
+    let gone = first-gone c.self.inside from c.saturating_add-self-inside.result forgot.new.self.keys c.saturating_add-self-inside.ensures (sym c.if-found.true ∙ forgot.ensures.found) forgot.ensures.keys in
+    register-first (state_of c.self.inside) c.self.invariant.reached from gone.key gone.first _ gone.is c.args.self.now.state
+    (ap (λ w. w.state) c.self.view_is ∙ c.drop_prepared.ensures.same)

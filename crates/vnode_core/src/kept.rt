@@ -1,0 +1,85 @@
+//! A vnode behind a gate.
+
+ghost use Rattle.std.specs.Prelude.{◌≡◌};
+
+use crate::ask::{Answer, Ask};
+use crate::change::Change;
+use crate::event::Event;
+use crate::refusal::Refusal;
+use crate::vnode::Vnode;
+use rw_gate::{Kept, Plan};
+use std::alloc::Global;
+use std::snapshot::Snapshot;
+
+/// A change, and for clauses alone the vnode as it was when the change was prepared: the two fix the event that the
+/// change makes in a gate's history, its answer too.
+#[derive(Drop)]
+pub struct LoggedChange {
+    change: Change,
+    before: Snapshot<Vnode>,
+}
+
+/// The machine's states are those of the vnode machine, and its step is the machine's: an event is accepted with the
+/// answer that it says, a command that changes nothing is answered, and a refusal is the machine's, or one for want of
+/// memory where the machine accepts. `prepare` and `apply` are the vnode's `prepare` and `finish`.
+impl Kept for Vnode {
+    type Ask = Ask;
+
+    type Change = LoggedChange;
+
+    type Reply = Answer;
+
+    type Refusal = Refusal;
+
+    type Event = Event;
+
+    ghost use Rattle.std.specs.Prelude.{◌≡◌};
+    ghost use Rattle.riak_msgs.specs.declared.Content.{Content};
+    ghost use Rattle.vnode_machine.specs.Machine.{State};
+    ghost use Rattle.vnode_core.specs.Plans.{Refuses};
+    ghost use Rattle.vnode_core.specs.Events.{Makes, IsAnswered, Asks, Tells, event_of, IsLoggable};
+
+    ghost State = { State Content };
+
+    ghost content = { λ vnode. vnode.state };
+
+    ghost accepts = { Makes };
+
+    ghost answers = { IsAnswered };
+
+    ghost refuses = { Refuses };
+
+    ghost asks = { Asks };
+
+    ghost tells = { Tells };
+
+    ghost event = { λ logged. event_of logged.before.value.state logged.change };
+
+    ghost ready = { λ vnode logged. IsLoggable vnode logged.change logged.before.value };
+
+    fn prepare(&mut self, alloc: Global, ask: Ask) -> Result<Plan<LoggedChange, Answer>, Refusal> {
+        match Vnode::prepare(self, alloc, ask) {
+            Ok(Plan::Change(change)) => Ok(Plan::Change(logged(change, self))),
+            Ok(Plan::Nothing(answer)) => Ok(Plan::Nothing(answer)),
+            Err(refusal) => Err(refusal),
+        }
+    }
+
+    fn apply(&mut self, change: LoggedChange) -> Answer {
+        let LoggedChange { change, before: _ } = change;
+        self.finish(change)
+    }
+
+    ghost sound = { λ vnode logged is. (is.next, is.makes) };
+}
+
+/// The change with the vnode that it was prepared from.
+fn logged(change: Change, vnode: &Vnode) -> LoggedChange
+    ensures change { result.change ≡ change }
+    ensures before { result.before.value ≡ vnode.now }
+{
+    LoggedChange {
+        change,
+        before: Snapshot::of(vnode),
+    }
+}
