@@ -177,7 +177,7 @@ module _ (w : World) (orderly : IsOrderly w) (step : Step) (place index : ℕ) (
     }
 
 -- one that passes is counted
-counted : (test : Worker → Bool) (workers : List Worker) (place : ℕ) (worker : Worker) → slice_get workers place ≡ Some worker → one (test worker) ≤ how_many test workers
+pub counted : (test : Worker → Bool) (workers : List Worker) (place : ℕ) (worker : Worker) → slice_get workers place ≡ Some worker → one (test worker) ≤ how_many test workers
 counted test workers place worker h = by (test worker) refl
   where
     by : (b : Bool) → test worker ≡ b → one b ≤ how_many test workers

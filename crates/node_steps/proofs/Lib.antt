@@ -7,4 +7,5 @@ pub mod Kept
 pub mod Lifting
 pub mod Leaving
 pub mod Showing
+pub mod Erasing
 pub mod Rows

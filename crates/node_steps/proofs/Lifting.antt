@@ -1,11 +1,11 @@
 -- The claims that speak of one step: from the turn to the world.
-use Rattle.std.proofs.Common.{◌≡◌, ◌≢◌, ◌⊎◌, inl, inr, ℕ, zero, suc, Bool, true, false, List, [], refl, sym, ◌∙◌, ap, subst}
+use Rattle.std.proofs.Common.{◌≡◌, ◌≢◌, ◌⊎◌, inl, inr, ℕ, zero, suc, [], refl, sym, ◌∙◌, ap, subst}
 use Rattle.std.specs.Prelude.{pred, Option, Some, None, Result, slice_get, slice_set}
 use Rattle.std.specs.Option.{option_map_or}
 use Rattle.std.proofs.lemmas.Option.{some_pair_parts}
 use Rattle.riak_msgs.specs.declared.Content.{Content}
 use Rattle.vnode_machine.specs.Machine.{State}
-use Rattle.vnode_machine.specs.Replay.{History, replay, HasReplay, IsAfter}
+use Rattle.vnode_machine.specs.Replay.{History, replay, HasReplay}
 use Rattle.vnode_machine.specs.Step.{Response}
 use Rattle.vnode_machine.specs.Runs.{IsAnswer}
 use Rattle.vnode_machine.proofs.Legals.{replay_is_legal}
@@ -14,7 +14,7 @@ use Rattle.vnode_machine.proofs.LiveDots.{dots_are_of_lives}
 use Rattle.node_steps.specs.World.{Phase, Idle, Asked, Reading, Holding, Done, Vnode, Worker, World, Call, worker_at, id_at, history_at, prefix_of, prefix_at, call_of, call_at}
 use Rattle.node_steps.specs.Steps.{Step, Outcome, NotPossible, Happened, Replied, Turn, turned, happens}
 use Rattle.node_steps.specs.Schedules.{IsPrefix}
-use Rattle.node_steps.specs.Claims.{HistoriesAreLegal, LooksShowReplays, state_shown, IsRegisters, RepliesAreRegisters, RepliesAt, NothingElseHappens, RepliesHaveSeen, NoDotIsIssuedTwice}
+use Rattle.node_steps.specs.Claims.{HistoriesAreLegal, LooksShowReplays, state_shown, RepliesAreRegisters, NothingElseHappens, RepliesHaveSeen, NoDotIsIssuedTwice}
 use Rattle.node_steps.proofs.Lists.{how_many, set-here, set-there, same_or_other, counted_one}
 use Rattle.node_steps.proofs.Inside.{is_reader, reads, holds, IsInHand, same_test, IsAware}
 use Rattle.node_steps.proofs.Turns.{IsReplyTo, Comes, IsTurn, place_read}

@@ -1,5 +1,5 @@
 -- Prefixes of a history.
-use Rattle.std.proofs.Common.{◌≡◌, List, [], ◌∷◌, ◌++◌, append_assoc, refl, ap}
+use Rattle.std.proofs.Common.{[], ◌∷◌, ◌++◌, append_assoc, refl, ap}
 use Rattle.riak_msgs.specs.declared.Content.{Content}
 use Rattle.sibling_register.specs.History.{Event}
 use Rattle.actor_epoch.specs.Given.{Context}

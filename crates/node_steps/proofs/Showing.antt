@@ -1,29 +1,29 @@
 -- Over a schedule in which each context that is given for a key was shown for it: the contexts of calls and of events name
 -- positions.
-use Rattle.std.proofs.Common.{◌≡◌, ◌⊎◌, inl, inr, ℕ, Bool, true, false, ◌&&◌, cond, List, [], ◌∷◌, ◌++◌, refl, sym, ◌∙◌, ap, subst}
-use Rattle.std.specs.Prelude.{pred, Option, Some, None, Result, Ok, Err, slice_get, slice_set, MatchOption}
+use Rattle.std.proofs.Common.{◌≡◌, ◌⊎◌, inl, inr, ℕ, ◌&&◌, cond, List, [], ◌∷◌, ◌++◌, refl, sym, ◌∙◌, ap, subst}
+use Rattle.std.specs.Prelude.{pred, Option, Some, None, Ok, slice_get, slice_set, MatchOption}
 use Rattle.std.specs.Option.{option_map_or}
 use Rattle.riak_msgs.specs.declared.Key.{Key}
 use Rattle.riak_msgs.specs.declared.Content.{Content}
 use Rattle.riak_msgs.specs.KeyOrder.{key_eq}
 use Rattle.sibling_register.specs.History.{Event}
 use Rattle.actor_epoch.specs.Given.{Context, context_of}
-use Rattle.vnode_machine.specs.Replay.{History, replay, HasReplay}
+use Rattle.vnode_machine.specs.Replay.{History, HasReplay}
 use Rattle.vnode_machine.specs.Step.{Response}
 use Rattle.vnode_machine.specs.Registers.{key_of, context_in_ask}
 use Rattle.vnode_machine.proofs.Keys.{key_eq-refl}
 use Rattle.node_steps.specs.World.{Phase, Idle, Asked, Reading, Holding, Done, Vnode, Worker, World, Call, fresh_worker, opening_world, opening_vnodes, id_at, history_at, call_of, call_at}
 use Rattle.node_steps.specs.Steps.{Asks, Step, Outcome, NotPossible, Happened, Replied, turned, happens, outcome}
 use Rattle.node_steps.specs.Schedules.{Start, IsStart, world_after, IsPrefix}
-use Rattle.node_steps.specs.Contexts.{context_bytes, given_by, Shows, WasShown, GivesShown}
+use Rattle.node_steps.specs.Contexts.{context_bytes, given_by, WasShown, GivesShown}
 use Rattle.node_steps.specs.Claims.{ValuesLeaveOnlySeen}
 use Rattle.node_steps.proofs.Lists.{set-here, set-there, same_or_other, get-replicate}
 use Rattle.node_steps.proofs.Prefixes.{prefix-whole}
 use Rattle.node_steps.proofs.Inside.{same_test, IsAbout}
-use Rattle.node_steps.proofs.Shown.{AreHeld, IsName, name-later, held_is_name, saw_position}
-use Rattle.node_steps.proofs.Turns.{CallIs, EventIs, ReplyShows, IsReplyTo, Comes}
-use Rattle.node_steps.proofs.Kept.{IsOrderly, IsPossible, possible, about_at, opened, orderly}
-use Rattle.node_steps.proofs.Lifting.{replays_at, here, turn, call_is, reply_is, id_before, id_next, before_is, after_is, elsewhere_is}
+use Rattle.node_steps.proofs.Shown.{IsName, name-later, held_is_name, saw_position}
+use Rattle.node_steps.proofs.Turns.{CallIs, EventIs, Comes}
+use Rattle.node_steps.proofs.Kept.{IsOrderly, IsPossible, possible, opened, orderly}
+use Rattle.node_steps.proofs.Lifting.{replays_at, here, turn, reply_is, id_before, id_next, before_is, after_is, elsewhere_is}
 use Rattle.node_steps.proofs.Leaving.{seen}
 
 -- a call is of the vnode that its phase is about

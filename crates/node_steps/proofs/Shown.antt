@@ -11,13 +11,13 @@ use Rattle.riak_msgs.specs.declared.PutReply.{PutReply}
 use Rattle.sibling_register.specs.History.{Event, Write, Tombstone, Reap, count_of, numbers_to}
 use Rattle.sibling_register.specs.Siblings.{is_defined}
 use Rattle.sibling_register.specs.Naming.{named}
-use Rattle.sibling_register.specs.Answers.{Ask, AskGet, AskPut, AskDel, AskReap, GetCommand, PutCommand, DelCommand}
+use Rattle.sibling_register.specs.Answers.{Ask, AskGet, AskPut, AskDel, AskReap, PutCommand, DelCommand}
 use Rattle.actor_epoch.specs.Dots.{covers}
 use Rattle.actor_epoch.specs.Given.{Context, context_of}
 use Rattle.vnode_machine.specs.Machine.{State, clock_of, is_held, holds_dead, is_current, put_check, del_check, changed_by, stored, pairs_of}
 use Rattle.vnode_machine.specs.Lives.{dot_of}
 use Rattle.vnode_machine.specs.Replay.{History, replay, naming, HasReplay, IsWithinLimits, seen_by}
-use Rattle.vnode_machine.specs.Replies.{contents_in, context_in, get_reply, put_reply}
+use Rattle.vnode_machine.specs.Replies.{contents_in, context_in, put_reply}
 use Rattle.vnode_machine.specs.Step.{DelDone, PutDone, ReapDone, ReapKept, StepOutcome, Refused, Answered, Accepted, unless_refused, outcome}
 use Rattle.vnode_machine.specs.Registers.{key_of}
 use Rattle.vnode_machine.proofs.Keys.{find_stored, key_eq-refl}

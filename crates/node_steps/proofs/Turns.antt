@@ -2,7 +2,7 @@
 use Rattle.std.proofs.Common.{◌≡◌, ◌⊎◌, inl, inr, ℕ, zero, suc, ◌+◌, ◌≤◌, Bool, true, false, ◌∷◌, refl, sym, ◌∙◌, ap, arith, subst}
 use Rattle.std.specs.Prelude.{◌==◌, Option, Some, None, Result, Ok, Err}
 use Rattle.riak_msgs.specs.declared.Content.{Content}
-use Rattle.sibling_register.specs.History.{Deed, Event}
+use Rattle.sibling_register.specs.History.{Event}
 use Rattle.sibling_register.specs.Answers.{Ask, AskGet, GetCommand, Refused as ToldRefused, Answers, Accepts}
 use Rattle.actor_epoch.specs.Given.{Context}
 use Rattle.vnode_machine.specs.Machine.{State}
@@ -12,7 +12,7 @@ use Rattle.vnode_machine.specs.Step.{Response, GetDone, StepOutcome, Refused, An
 use Rattle.vnode_machine.specs.Registers.{key_of, context_in_ask, next_event, IsRegisters, IsNext}
 use Rattle.vnode_machine.specs.Runs.{IsAnswer}
 use Rattle.vnode_machine.proofs.StepLaw.{registers-after}
-use Rattle.node_steps.specs.World.{Word, Open, Taken, Plan, Phase, Idle, Asked, Reading, Holding, Done, Vnode, Call, call_of}
+use Rattle.node_steps.specs.World.{Word, Open, Taken, Phase, Idle, Asked, Reading, Holding, Done, Vnode, Call, call_of}
 use Rattle.node_steps.specs.Steps.{Action, Asks, Enters, Leaves, Marks, Unmarks, Takes, Puts, Looks, Publishes, Outcome, NotPossible, Happened, Replied, Turn, left, moves, lays, answers, looks_by, publishes_by, turn_of, site_of}
 use Rattle.node_steps.specs.Schedules.{IsPrefix}
 use Rattle.node_steps.specs.Contexts.{context_bytes}

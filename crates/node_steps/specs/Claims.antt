@@ -16,7 +16,7 @@ use Rattle.vnode_machine.specs.Step.{Response}
 use Rattle.vnode_machine.specs.Runs.{IsAnswer}
 use Rattle.vnode_machine.specs.Laws.{NoDotTwice, DotsAreOfLives}
 use Rattle.vnode_machine.specs.Leaving.{is_taken_in}
-use Rattle.node_steps.specs.World.{Phase, Idle, Asked, Reading, Holding, Done, Vnode, Worker, World, Call, worker_at, id_at, history_at, prefix_at, call_at}
+use Rattle.node_steps.specs.World.{Phase, Reading, Holding, Vnode, Worker, World, Call, worker_at, id_at, history_at, prefix_at, call_at}
 use Rattle.node_steps.specs.Steps.{Step, Replied, after, outcome}
 use Rattle.node_steps.specs.Schedules.{Start, IsStart, world_after, IsPrefix}
 use Rattle.node_steps.specs.Contexts.{GivesShown}

@@ -3,3 +3,4 @@ pub mod Steps
 pub mod Schedules
 pub mod Contexts
 pub mod Claims
+pub mod Erased

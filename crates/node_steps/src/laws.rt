@@ -1,8 +1,9 @@
-//! The theorem, as a function that has nothing to run.
+//! The theorems, as functions that have nothing to run.
 
 ghost use Rattle.node_steps.specs.Claims.{Always, HistoriesAreLegal, LooksShowReplays, RepliesAreRegisters};
 ghost use Rattle.node_steps.specs.Claims.{NothingElseHappens, RepliesHaveSeen, NoDotIsIssuedTwice};
 ghost use Rattle.node_steps.specs.Claims.{ValuesLeaveOnlyCovered, ValuesLeaveOnlySeen};
+ghost use Rattle.node_steps.specs.Erased.{NeedsNoHistory};
 
 /// No accepted write is lost: in every run, for any number of workers and vnodes, and after every list of steps.
 ///
@@ -23,4 +24,12 @@ pub fn always()
     ensures dots { Always NoDotIsIssuedTwice }
     ensures covered { Always ValuesLeaveOnlyCovered }
     ensures left { ValuesLeaveOnlySeen }
+{}
+
+/// A world may be kept without its history: after every schedule, what comes of any step needs the words, the states in
+/// place and the phases alone, and so does what is left of them. The ids of vnodes, the histories and the prefixes that
+/// workers have seen are what the claims of [`always`] speak of, and no step looks at them; nor at the state in place
+/// while it is taken, which is in its holder's hand.
+pub fn needs_no_history()
+    ensures { Always NeedsNoHistory }
 {}

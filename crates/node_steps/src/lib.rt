@@ -27,9 +27,11 @@
 //! 2 puts back; 3 enters; looks               "v"
 //! ```
 //!
-//! This crate has definitions and a law alone: nothing in it runs.
+//! A world may be kept without its histories: no step looks at them ([`needs_no_history`], `specs/Erased`).
+//!
+//! This crate has definitions and laws alone: nothing in it runs.
 #![tactic(auto)]
 
 mod laws;
 
-pub use laws::always;
+pub use laws::{always, needs_no_history};

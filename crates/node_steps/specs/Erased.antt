@@ -1,0 +1,29 @@
+-- A world without what no step looks at: the ids, the histories and what workers have seen of them.
+use Rattle.std.specs.Prelude.{◌≡◌, [], map}
+use Rattle.riak_msgs.specs.declared.Content.{Content}
+use Rattle.vnode_machine.specs.Machine.{State, opening}
+use Rattle.node_steps.specs.World.{Word, Open, Taken, Vnode, Worker, World}
+use Rattle.node_steps.specs.Steps.{Step, after, outcome}
+
+-- no state
+abbrev pub blank : State Content
+blank = opening 0 0
+
+-- what lies in place, where the vnode is not taken
+abbrev pub erase_place : Word → State Content → State Content
+erase_place (Open readers marked) place = place
+erase_place Taken place = blank
+
+abbrev pub erase_vnode : Vnode → Vnode
+erase_vnode vnode = record { id = 0; word = vnode.word; history = []; place = erase_place vnode.word vnode.place }
+
+abbrev pub erase_worker : Worker → Worker
+erase_worker worker = record { phase = worker.phase; seen = [] }
+
+abbrev pub erase : World → World
+erase w = record { vnodes = map erase_vnode w.vnodes; workers = map erase_worker w.workers }
+
+-- the same comes of a step without it, and the same is left without it
+pub record NeedsNoHistory (w : World) (step : Step) : Type 0 where
+  pub outcome_is : outcome w step ≡ outcome (erase w) step
+  pub world_is : erase (after w step) ≡ erase (after (erase w) step)
