@@ -1,0 +1,13 @@
+//! Schedules, line by line.
+
+mod bad_steps;
+mod comparing;
+mod outcomes;
+mod reading;
+
+use std::process::Abort;
+
+/// Fails where something doesn't hold.
+fn check(rt: &impl Abort, holds: bool) {
+    assert!(rt; holds);
+}

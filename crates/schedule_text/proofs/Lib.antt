@@ -1,0 +1,6 @@
+mod Cutting
+mod Hexadecimal
+mod Messages
+mod Words
+mod LineOperands
+mod OneStep

@@ -1,0 +1,205 @@
+-- The operands of a line, and what they ask for.
+use Rattle.std.proofs.Common.{◌≡◌, ℕ, ◌<◌, List, [], ◌∷◌, ◌++◌, Some, Result, Ok, Err, codes, refl, sym, ap, ◌∙◌, subst, inl, inr, true, false, arith}
+use Rattle.std.specs.Prelude.{◌^◌, ◌≢◌, decimal}
+use Rattle.std.specs.Str.{bytes_eq}
+use Rattle.std.proofs.lemmas.Slice.Eq.{bytes_eq-Decides}
+use Rattle.hex.specs.Hex.{encode_lower}
+use Rattle.riak_msgs.specs.declared.get.GetAsk.{GetAsk}
+use Rattle.riak_msgs.specs.declared.request.Request.{Request}
+use Rattle.riak_msgs.specs.declared.request.Request.TheVariants as requests
+use Rattle.schedule_text.specs.declared.fault.LineFault.{LineFault}
+use Rattle.schedule_text.specs.declared.fault.LineFault.TheVariants.{BadStep, NoMemory}
+use Rattle.schedule_text.specs.declared.line.Line.{Line}
+use Rattle.schedule_text.specs.declared.line.Action.{Action}
+use Rattle.schedule_text.specs.declared.line.Action.TheVariants.{Ask, Reap, Gate}
+use Rattle.schedule_text.specs.declared.line.GateStep.{GateStep}
+use Rattle.schedule_text.specs.Cuts.{IsCut}
+use Rattle.schedule_text.specs.Lines.{gate_word, word_of, operand_text, IsWorker, HasOperands, IsLine}
+use Rattle.schedule_text.specs.Reading.{Reads, ReadsOperands, Asks, ReadsAsked, MakesReap, ReadsHexMessage}
+use Rattle.schedule_text.proofs.Cutting.{cut_once}
+use Rattle.schedule_text.proofs.Words.{word-lacks_space, decimal-lacks_space, gate_word-not_ask, gate_word-not_reap, reap-not_ask}
+use Rattle.schedule_text.proofs.Hexadecimal.{hex_once}
+use Rattle.schedule_text.proofs.Messages.{asks_once}
+
+-- a worker's number is small
+pub worker-small : (workers worker : ℕ) → workers < 2 ^ 16 → IsWorker workers worker → worker < 2 ^ 64
+worker-small workers worker few is =
+    let top = is.1 in
+    omega (arith, top)
+
+-- operands with a message are cut into its number and its hexadecimal
+pub operands_cut : (text number digits message : List ℕ) (worker : ℕ) → IsCut 32 text number digits → worker < 2 ^ 64
+    → text ≡ operand_text worker (Some message) → (number ≡ decimal worker) × (digits ≡ encode_lower message)
+operands_cut text number digits message worker cut small whole =
+    cut_once 32 number digits (decimal worker) (encode_lower message) cut.first (decimal-lacks_space worker small)
+    (sym cut.whole ∙ whole)
+
+-- the number of operands with a message is the worker's
+pub number_is : (workers worker : ℕ) (text number digits : List ℕ) (request : Request) → workers < 2 ^ 16
+    → IsCut 32 text number digits → Asks workers text worker request → number ≡ decimal worker
+number_is workers worker text number digits request few cut asks =
+    (operands_cut text number digits asks.message worker cut (worker-small workers worker few asks.is_worker) asks.whole).0
+
+-- operands are a number, a space and hexadecimal
+whole_operands : (text number digits message : List ℕ) (worker : ℕ) → IsCut 32 text number digits → number ≡ decimal worker
+    → digits ≡ encode_lower message → text ≡ operand_text worker (Some message)
+whole_operands text number digits message worker cut is hex = cut.whole ∙ rw (is, hex) refl
+
+pub asked_refused : (workers worker : ℕ) (text number digits : List ℕ) (fault : LineFault) → workers < 2 ^ 16
+    → IsCut 32 text number digits → number ≡ decimal worker → IsWorker workers worker
+    → ReadsHexMessage digits (Err fault) → ReadsAsked workers text (Err fault)
+asked_refused workers worker text number digits BadStep few cut is is_worker reads = λ other request asks.
+    let parts = operands_cut text number digits asks.message other cut (worker-small workers other few asks.is_worker) asks.whole in
+    reads asks.message request (record { whole = parts.1; bytes = asks.bytes }) asks.asks
+asked_refused workers worker text number digits NoMemory few cut is is_worker reads = record {
+  worker = worker;
+  message = reads.0;
+  whole = whole_operands text number digits reads.0 worker cut is reads.1.whole;
+  is_worker = is_worker;
+  bytes = reads.1.bytes;
+}
+
+-- the bytes behind a byte, and the byte
+abbrev behind : List ℕ → List ℕ
+behind [] = []
+behind (x ∷ xs) = xs
+
+-- operands ask for one request
+pub asks_one : (workers u v : ℕ) (text : List ℕ) (a b : Request) → workers < 2 ^ 16 → Asks workers text u a
+    → Asks workers text v b → a ≡ b
+asks_one workers u v text a b few x y =
+    let small = worker-small workers u few x.is_worker in
+    let cut : IsCut 32 text (decimal u) (encode_lower x.message) = record { whole = x.whole; first = decimal-lacks_space u small } in
+    let parts = operands_cut text (decimal u) (encode_lower x.message) y.message v cut (worker-small workers v few y.is_worker) y.whole in
+    let same : x.message ≡ y.message = hex_once (encode_lower x.message) x.message y.message
+    (record { whole = refl; bytes = x.bytes }) (record { whole = parts.1; bytes = y.bytes }) in
+    asks_once y.message a b (rw same at x.asks) y.asks
+
+-- the operands of an ask ask for its request
+ask_asks : (workers worker : ℕ) (text : List ℕ) (action : Action) → word_of action ≡ codes "ask"
+    → HasOperands workers text (record { worker = worker; action = action }) → (request : Request) × Asks workers text worker request
+ask_asks workers worker text (Ask request) word has = (
+  request,
+  record {
+    message = has.carries.message;
+    whole = has.whole ∙ ap (operand_text worker) has.carries.is;
+    is_worker = has.worker;
+    bytes = has.carries.bytes;
+    asks = has.carries.asks;
+  },
+)
+ask_asks workers worker text (Reap key) word has = absurd (reap-not_ask word)
+ask_asks workers worker text (Gate step) word has = absurd (gate_word-not_ask step word)
+
+-- the operands of a reap ask for a get
+reap_asks : (workers worker : ℕ) (text : List ℕ) (action : Action) → word_of action ≡ codes "reap"
+    → HasOperands workers text (record { worker = worker; action = action })
+    → (get : GetAsk) × Asks workers text worker (requests.Get get)
+reap_asks workers worker text (Ask request) word has = absurd (reap-not_ask (sym word))
+reap_asks workers worker text (Reap key) word has = (
+  has.carries.0,
+  record {
+    message = has.carries.2.message;
+    whole = has.whole ∙ ap (operand_text worker) has.carries.2.is;
+    is_worker = has.worker;
+    bytes = has.carries.2.bytes;
+    asks = has.carries.2.asks;
+  },
+)
+reap_asks workers worker text (Gate step) word has = absurd (gate_word-not_reap step word)
+
+pub ask_read : (workers worker : ℕ) (text : List ℕ) (request : Request) → Asks workers text worker request
+    → ReadsOperands (codes "ask") workers text (Ok (record { worker = worker; action = Ask request }))
+ask_read workers worker text request asks = (
+  refl,
+  record {
+    carried = Some asks.message;
+    whole = asks.whole;
+    worker = asks.is_worker;
+    carries = record { message = asks.message; is = refl; bytes = asks.bytes; asks = asks.asks };
+  },
+)
+
+pub ask_refused : (workers : ℕ) (text : List ℕ) (fault : LineFault) → ReadsAsked workers text (Err fault)
+    → ReadsOperands (codes "ask") workers text (Err fault)
+ask_refused workers text BadStep reads = λ line word has.
+    let asks = ask_asks workers line.worker text line.action word has in
+    reads line.worker asks.0 asks.1
+ask_refused workers text NoMemory reads = (inl refl, reads)
+
+pub reap_refused : (workers : ℕ) (text : List ℕ) (fault : LineFault) → ReadsAsked workers text (Err fault)
+    → ReadsOperands (codes "reap") workers text (Err fault)
+reap_refused workers text BadStep reads = λ line word has.
+    let asks = reap_asks workers line.worker text line.action word has in
+    reads line.worker (requests.Get asks.0) asks.1
+reap_refused workers text NoMemory reads = (inr refl, reads)
+
+-- a reap's line
+reap_line : (workers worker : ℕ) (text : List ℕ) (get : GetAsk) → Asks workers text worker (requests.Get get)
+    → ReadsOperands (codes "reap") workers text (Ok (record { worker = worker; action = Reap get.key }))
+reap_line workers worker text get asks = (
+  refl,
+  record {
+    carried = Some asks.message;
+    whole = asks.whole;
+    worker = asks.is_worker;
+    carries = (get, refl, record { message = asks.message; is = refl; bytes = asks.bytes; asks = asks.asks });
+  },
+)
+
+-- a request that is no get is no reap
+no_reap : (workers worker : ℕ) (text : List ℕ) (request : Request) → workers < 2 ^ 16 → Asks workers text worker request
+    → ((get : GetAsk) → request ≢ requests.Get get) → ReadsOperands (codes "reap") workers text (Err BadStep)
+no_reap workers worker text request few asks other = λ line word has.
+    let get = reap_asks workers line.worker text line.action word has in
+    other get.0 (asks_one workers worker line.worker text request (requests.Get get.0) few asks get.1)
+
+pub reap_read : (workers worker : ℕ) (text : List ℕ) (request : Request) (r : Result Line LineFault) → workers < 2 ^ 16
+    → Asks workers text worker request → MakesReap worker request r → ReadsOperands (codes "reap") workers text r
+reap_read workers worker text request (Ok line) few asks makes =
+    let get = makes.0 in
+    let asks_get : Asks workers text worker (requests.Get get) = subst (λ a. Asks workers text worker a) makes.1 asks in
+    subst (λ l. ReadsOperands (codes "reap") workers text (Ok l)) (sym makes.2) (reap_line workers worker text get asks_get)
+reap_read workers worker text request (Err fault) few asks makes =
+    subst (λ f. ReadsOperands (codes "reap") workers text (Err f)) (sym makes.0) (no_reap workers worker text request few asks makes.1)
+
+-- a line is read as the operands behind its word are
+pub whole_line : (workers : ℕ) (text word operands known : List ℕ) (r : Result Line LineFault) → IsCut 32 text word operands
+    → word ≡ known → ReadsOperands known workers operands r → Reads workers text r
+whole_line workers text word operands known (Ok line) cut is reads = record {
+  operands = operands;
+  whole = cut.whole ∙ ap (λ w. w ++ 32 ∷ operands) (is ∙ sym reads.0);
+  stand = reads.1;
+}
+whole_line workers text word operands known (Err BadStep) cut is reads = λ line has.
+    let parts = cut_once 32 word operands (word_of line.action) has.operands cut.first (word-lacks_space line.action) (sym cut.whole ∙ has.whole) in
+    reads line (sym parts.0 ∙ is) (subst (λ o. HasOperands workers o line) (sym parts.1) has.stand)
+whole_line workers text word operands known (Err NoMemory) cut is reads = record {
+  word = known;
+  operands = operands;
+  is_word = reads.0;
+  whole = cut.whole ∙ ap (λ w. w ++ 32 ∷ operands) is;
+  stand = reads.1;
+}
+
+-- two texts that are compared as equal are one
+pub same_text : (a b : List ℕ) → true ≡ bytes_eq a b → a ≡ b
+same_text a b e = (bytes_eq-Decides a b).0 (sym e)
+
+-- the word of an action, where it isn't one of these
+none_of : (action : Action) (word : List ℕ) → ((step : GateStep) → gate_word step ≢ word) → bytes_eq word (codes "ask") ≡ false
+    → bytes_eq word (codes "reap") ≡ false → word_of action ≢ word
+none_of (Ask request) word gate ask reap e =
+    let yes : bytes_eq word (codes "ask") ≡ true = (bytes_eq-Decides word (codes "ask")).1 (sym e) in
+    cc (sym yes ∙ ask)
+none_of (Reap key) word gate ask reap e =
+    let yes : bytes_eq word (codes "reap") ≡ true = (bytes_eq-Decides word (codes "reap")).1 (sym e) in
+    cc (sym yes ∙ reap)
+none_of (Gate step) word gate ask reap e = gate step e
+
+pub no_word : (workers : ℕ) (text word operands : List ℕ) → IsCut 32 text word operands
+    → ((step : GateStep) → gate_word step ≢ word) → bytes_eq word (codes "ask") ≡ false
+    → bytes_eq word (codes "reap") ≡ false → (line : Line) → ¬ (IsLine workers text line)
+no_word workers text word operands cut gate ask reap line has =
+    let parts = cut_once 32 word operands (word_of line.action) has.operands cut.first (word-lacks_space line.action) (sym cut.whole ∙ has.whole) in
+    none_of line.action word gate ask reap (sym parts.0)

@@ -1,0 +1,146 @@
+-- A line asks for one step.
+use Rattle.std.proofs.Common.{◌≡◌, ℕ, ◌<◌, List, Option, Some, None, if◌then◌else◌, refl, sym, ap, subst, ◌∙◌}
+use Rattle.std.specs.Prelude.{◌^◌, decimal, codes}
+use Rattle.std.specs.Str.{bytes_eq}
+use Rattle.std.proofs.lemmas.List.{append-nil}
+use Rattle.std.proofs.lemmas.Fmt.{decimal_injective}
+use Rattle.hex.specs.Hex.{encode_lower}
+use Rattle.riak_msgs.specs.declared.key.Key.{Key}
+use Rattle.riak_msgs.specs.declared.get.GetAsk.{GetAsk}
+use Rattle.riak_msgs.specs.declared.request.Request.{Request}
+use Rattle.riak_msgs.specs.declared.request.Request.TheVariants as requests
+use Rattle.schedule_text.specs.declared.line.Line.{Line}
+use Rattle.schedule_text.specs.declared.line.Action.{Action}
+use Rattle.schedule_text.specs.declared.line.Action.TheVariants.{Ask, Reap, Gate}
+use Rattle.schedule_text.specs.declared.line.GateStep.{GateStep}
+use Rattle.schedule_text.specs.declared.line.GateStep.TheVariants.{Enter, Leave, Mark, Unmark, Take, Put, Look, Publish}
+use Rattle.schedule_text.specs.Cuts.{IsCut}
+use Rattle.schedule_text.specs.Lines.{gate_word, word_of, operand_text, IsWorker, CarriesRequest, HasOperands, IsLine}
+use Rattle.schedule_text.specs.Reading.{Asks}
+use Rattle.schedule_text.proofs.Cutting.{cut_once}
+use Rattle.schedule_text.proofs.Words.{word-lacks_space, decimal-lacks_space, gate_word-not_ask, gate_word-not_reap, reap-not_ask}
+use Rattle.schedule_text.proofs.LineOperands.{worker-small, operands_cut, asks_one}
+
+-- the step of a word
+abbrev step_at : List ℕ → Option GateStep
+step_at word =
+    if bytes_eq word (codes "enter") then Some Enter
+    else if bytes_eq word (codes "leave") then Some Leave
+    else if bytes_eq word (codes "mark") then Some Mark
+    else if bytes_eq word (codes "unmark") then Some Unmark
+    else if bytes_eq word (codes "take") then Some Take
+    else if bytes_eq word (codes "put") then Some Put
+    else if bytes_eq word (codes "look") then Some Look
+    else Some Publish
+
+step_at-word : (step : GateStep) → step_at (gate_word step) ≡ Some step
+step_at-word Enter = refl
+step_at-word Leave = refl
+step_at-word Mark = refl
+step_at-word Unmark = refl
+step_at-word Take = refl
+step_at-word Put = refl
+step_at-word Look = refl
+step_at-word Publish = refl
+
+-- the value of an option, or another
+abbrev value_or : GateStep → Option GateStep → GateStep
+value_or other None = other
+value_or other (Some step) = step
+
+-- a word is of one step
+step_once : (s t : GateStep) → gate_word s ≡ gate_word t → s ≡ t
+step_once s t word = ap (value_or s) (sym (step_at-word s) ∙ ap step_at word ∙ step_at-word t)
+
+-- operands with a message name one worker
+worker_once : (workers u v : ℕ) (text : List ℕ) (a b : Request) → workers < 2 ^ 16 → Asks workers text u a
+    → Asks workers text v b → u ≡ v
+worker_once workers u v text a b few x y =
+    let su = worker-small workers u few x.is_worker in
+    let sv = worker-small workers v few y.is_worker in
+    let cut : IsCut 32 text (decimal u) (encode_lower x.message) = record { whole = x.whole; first = decimal-lacks_space u su } in
+    decimal_injective u v su sv (operands_cut text (decimal u) (encode_lower x.message) y.message v cut sv y.whole).0
+
+-- operands without a message are the worker's number
+number_alone : (text : List ℕ) (worker : ℕ) (carried : Option (List ℕ)) → text ≡ operand_text worker carried → carried ≡ None
+    → text ≡ decimal worker
+number_alone text worker carried whole none = whole ∙ ap (operand_text worker) none ∙ append-nil (decimal worker)
+
+-- the get of a request, or another
+abbrev get_in : GetAsk → Request → GetAsk
+get_in other requests.Ping = other
+get_in other (requests.Get get) = get
+get_in other (requests.Put put) = other
+get_in other (requests.Del del) = other
+
+-- the step of a worker
+abbrev line_of : ℕ → Action → Line
+line_of worker action = record { worker = worker; action = action }
+
+-- what operands with a request ask
+asks_carried : (workers worker : ℕ) (text : List ℕ) (carried : Option (List ℕ)) (request : Request)
+    → text ≡ operand_text worker carried → IsWorker workers worker → CarriesRequest carried request
+    → Asks workers text worker request
+asks_carried workers worker text carried request whole is_worker carries = record {
+  message = carries.message;
+  whole = whole ∙ ap (operand_text worker) carries.is;
+  is_worker = is_worker;
+  bytes = carries.bytes;
+  asks = carries.asks;
+}
+
+ask_once : (workers u v : ℕ) (text : List ℕ) (r s : Request) → workers < 2 ^ 16 → HasOperands workers text (line_of u (Ask r))
+    → HasOperands workers text (line_of v (Ask s)) → line_of u (Ask r) ≡ line_of v (Ask s)
+ask_once workers u v text r s few x y =
+    let left = asks_carried workers u text x.carried r x.whole x.worker x.carries in
+    let right = asks_carried workers v text y.carried s y.whole y.worker y.carries in
+    rw (worker_once workers u v text r s few left right, asks_one workers u v text r s few left right) refl
+
+-- the get that a reap carries
+reap_get : (workers worker : ℕ) (text : List ℕ) (key : Key) → HasOperands workers text (line_of worker (Reap key))
+    → (get : GetAsk) × (get.key ≡ key) × Asks workers text worker (requests.Get get)
+reap_get workers worker text key has = (
+  has.carries.0,
+  has.carries.1,
+  asks_carried workers worker text has.carried (requests.Get has.carries.0) has.whole has.worker has.carries.2,
+)
+
+reap_once : (workers u v : ℕ) (text : List ℕ) (k l : Key) → workers < 2 ^ 16 → HasOperands workers text (line_of u (Reap k))
+    → HasOperands workers text (line_of v (Reap l)) → line_of u (Reap k) ≡ line_of v (Reap l)
+reap_once workers u v text k l few x y =
+    let left = reap_get workers u text k x in
+    let right = reap_get workers v text l y in
+    let one = asks_one workers u v text (requests.Get left.0) (requests.Get right.0) few left.2 right.2 in
+    let get : left.0 ≡ right.0 = ap (get_in left.0) one in
+    let key : k ≡ l = sym left.1 ∙ ap (λ g. g.key) get ∙ right.1 in
+    rw (worker_once workers u v text (requests.Get left.0) (requests.Get right.0) few left.2 right.2, key) refl
+
+gate_once : (workers u v : ℕ) (text : List ℕ) (s t : GateStep) → workers < 2 ^ 16 → gate_word s ≡ gate_word t
+    → HasOperands workers text (line_of u (Gate s)) → HasOperands workers text (line_of v (Gate t))
+    → line_of u (Gate s) ≡ line_of v (Gate t)
+gate_once workers u v text s t few word x y =
+    let left = number_alone text u x.carried x.whole x.carries in
+    let right = number_alone text v y.carried y.whole y.carries in
+    let one : u ≡ v = decimal_injective u v (worker-small workers u few x.worker) (worker-small workers v few y.worker) (sym left ∙ right) in
+    rw (one, step_once s t word) refl
+
+-- behind one word stand the operands of one step
+action_once : (workers u v : ℕ) (text : List ℕ) (p q : Action) → workers < 2 ^ 16 → word_of p ≡ word_of q
+    → HasOperands workers text (line_of u p) → HasOperands workers text (line_of v q) → line_of u p ≡ line_of v q
+action_once workers u v text (Ask r) (Ask s) few word x y = ask_once workers u v text r s few x y
+action_once workers u v text (Ask r) (Reap l) few word x y = absurd (reap-not_ask (sym word))
+action_once workers u v text (Ask r) (Gate t) few word x y = absurd (gate_word-not_ask t (sym word))
+action_once workers u v text (Reap k) (Ask s) few word x y = absurd (reap-not_ask word)
+action_once workers u v text (Reap k) (Reap l) few word x y = reap_once workers u v text k l few x y
+action_once workers u v text (Reap k) (Gate t) few word x y = absurd (gate_word-not_reap t (sym word))
+action_once workers u v text (Gate s) (Ask r) few word x y = absurd (gate_word-not_ask s word)
+action_once workers u v text (Gate s) (Reap l) few word x y = absurd (gate_word-not_reap s word)
+action_once workers u v text (Gate s) (Gate t) few word x y = gate_once workers u v text s t few word x y
+
+pub one_step : (workers : ℕ) (text : List ℕ) (a b : Line) → workers < 2 ^ 16 → IsLine workers text a → IsLine workers text b
+    → a ≡ b
+one_step workers text a b few x y =
+    let parts = cut_once 32 (word_of a.action) x.operands (word_of b.action) y.operands
+    (word-lacks_space a.action) (word-lacks_space b.action) (sym x.whole ∙ y.whole) in
+    action_once workers a.worker b.worker y.operands a.action b.action few parts.0
+    (subst (λ o. HasOperands workers o a) parts.1 x.stand) y.stand

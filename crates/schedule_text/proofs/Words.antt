@@ -1,0 +1,72 @@
+-- The words of a line have no space, and tell the actions apart.
+use Rattle.std.proofs.Common.{◌≡◌, ℕ, ◌<◌, ◌==◌, true, not, List, [], ◌∷◌, codes, refl, sym, ap, ◌∙◌, false, arith}
+use Rattle.std.specs.Prelude.{decimal, ◌^◌, ◌≢◌}
+use Rattle.std.specs.Str.{bytes_eq}
+use Rattle.std.specs.Char.{digit_value}
+use Rattle.std.specs.Str.Parse.{AllDigits}
+use Rattle.std.proofs.lemmas.Fmt.{decimal_is_IsNumeral}
+use Rattle.std.proofs.lemmas.Str.Parse.{digit_from_value}
+use Rattle.schedule_text.specs.declared.line.Action.{Action}
+use Rattle.schedule_text.specs.declared.line.Action.TheVariants.{Ask, Reap, Gate}
+use Rattle.schedule_text.specs.declared.line.GateStep.{GateStep}
+use Rattle.schedule_text.specs.declared.line.GateStep.TheVariants.{Enter, Leave, Mark, Unmark, Take, Put, Look, Publish}
+use Rattle.schedule_text.specs.Cuts.{Lacks}
+use Rattle.schedule_text.specs.Lines.{gate_word, word_of}
+
+gate_word-lacks_space : (step : GateStep) → Lacks 32 (gate_word step)
+gate_word-lacks_space Enter = refl
+gate_word-lacks_space Leave = refl
+gate_word-lacks_space Mark = refl
+gate_word-lacks_space Unmark = refl
+gate_word-lacks_space Take = refl
+gate_word-lacks_space Put = refl
+gate_word-lacks_space Look = refl
+gate_word-lacks_space Publish = refl
+
+pub word-lacks_space : (action : Action) → Lacks 32 (word_of action)
+word-lacks_space (Ask request) = refl
+word-lacks_space (Reap key) = refl
+word-lacks_space (Gate step) = gate_word-lacks_space step
+
+-- a digit isn't a space
+not_space : (c : ℕ) → digit_value c < 10 → not (c == 32) ≡ true
+not_space c is =
+    let range = digit_from_value c is in
+    grind (arith)
+
+digits-lack_space : (ds : List ℕ) → AllDigits 10 ds → Lacks 32 ds
+digits-lack_space [] all = refl
+digits-lack_space (d ∷ ds) all = rw (not_space d all.0, digits-lack_space ds all.1) refl
+
+pub decimal-lacks_space : (n : ℕ) → n < 2 ^ 64 → Lacks 32 (decimal n)
+decimal-lacks_space n small = digits-lack_space (decimal n) (decimal_is_IsNumeral n small).0.1
+
+-- the word of a gate's step is neither `ask` nor `reap`
+other_than : (a b : List ℕ) → bytes_eq a b ≡ false → bytes_eq b b ≡ true → a ≢ b
+other_than a b unlike same e =
+    let yes : bytes_eq a b ≡ true = ap (λ x. bytes_eq x b) e ∙ same in
+    cc (sym yes ∙ unlike)
+
+pub gate_word-not_ask : (step : GateStep) → gate_word step ≢ codes "ask"
+gate_word-not_ask Enter = other_than (codes "enter") (codes "ask") refl refl
+gate_word-not_ask Leave = other_than (codes "leave") (codes "ask") refl refl
+gate_word-not_ask Mark = other_than (codes "mark") (codes "ask") refl refl
+gate_word-not_ask Unmark = other_than (codes "unmark") (codes "ask") refl refl
+gate_word-not_ask Take = other_than (codes "take") (codes "ask") refl refl
+gate_word-not_ask Put = other_than (codes "put") (codes "ask") refl refl
+gate_word-not_ask Look = other_than (codes "look") (codes "ask") refl refl
+gate_word-not_ask Publish = other_than (codes "publish") (codes "ask") refl refl
+
+pub gate_word-not_reap : (step : GateStep) → gate_word step ≢ codes "reap"
+gate_word-not_reap Enter = other_than (codes "enter") (codes "reap") refl refl
+gate_word-not_reap Leave = other_than (codes "leave") (codes "reap") refl refl
+gate_word-not_reap Mark = other_than (codes "mark") (codes "reap") refl refl
+gate_word-not_reap Unmark = other_than (codes "unmark") (codes "reap") refl refl
+gate_word-not_reap Take = other_than (codes "take") (codes "reap") refl refl
+gate_word-not_reap Put = other_than (codes "put") (codes "reap") refl refl
+gate_word-not_reap Look = other_than (codes "look") (codes "reap") refl refl
+gate_word-not_reap Publish = other_than (codes "publish") (codes "reap") refl refl
+
+-- the two others are different
+pub reap-not_ask : codes "reap" ≢ codes "ask"
+reap-not_ask = other_than (codes "reap") (codes "ask") refl refl

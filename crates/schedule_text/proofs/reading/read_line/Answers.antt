@@ -1,0 +1,41 @@
+use Rattle.std.proofs.Common.{◌≡◌, sym, ap, ◌∙◌, codes, true, false}
+use Rattle.std.specs.Str.{bytes_eq}
+use Rattle.schedule_text.specs.Lines.{gate_word}
+use Rattle.schedule_text.proofs.LineOperands.{whole_line, same_text, no_word}
+use Rattle.schedule_text.proofs.reading.read_line.Goals as goal
+
+pub returns-then-is_ask : goal.returns-then-is_ask
+returns-then-is_ask c =
+    let word = c.in-Some.word.now in
+    let is : true ≡ bytes_eq word (codes "ask") = sym c.if-is_ask.true ∙ c.eq-is_ask.ensures ∙ ap (bytes_eq word) c.as_slice.ensures in
+    record {
+      reads =
+          whole_line c.args.workers c.args.text.now word c.in-Some.operands.now (codes "ask") c.read_ask.result c.in-Some.ensures
+          (same_text word (codes "ask") is) c.read_ask.ensures;
+    }
+
+pub returns-then-is_reap : goal.returns-then-is_reap
+returns-then-is_reap c =
+    let word = c.in-Some.word.now in
+    let is : true ≡ bytes_eq word (codes "reap") = sym c.if-is_reap.true ∙ c.eq-is_reap.ensures ∙ ap (bytes_eq word) c.as_slice-2.ensures in
+    record {
+      reads =
+          whole_line c.args.workers c.args.text.now word c.in-Some.operands.now (codes "reap") c.read_reap.result c.in-Some.ensures
+          (same_text word (codes "reap") is) c.read_reap.ensures;
+    }
+
+pub returns-in-Some-named : goal.returns-in-Some-named
+returns-in-Some-named c = record {
+  reads =
+      whole_line c.args.workers c.args.text.now c.in-Some.word.now c.in-Some.operands.now (gate_word c.in-Some-named.step) c.read_gate_step.result
+      c.in-Some.ensures (sym c.in-Some-named.ensures) c.read_gate_step.ensures;
+}
+
+pub returns-in-None : goal.returns-in-None
+returns-in-None c =
+    let word = c.in-Some.word.now in
+    let other : bytes_eq word (codes "ask") ≡ false = sym (c.eq-is_ask.ensures ∙ ap (bytes_eq word) c.as_slice.ensures) ∙ c.if-is_ask.false in
+    let another : bytes_eq word (codes "reap") ≡ false = sym (c.eq-is_reap.ensures ∙ ap (bytes_eq word) c.as_slice-2.ensures) ∙ c.if-is_reap.false in
+    record {
+      reads = no_word c.args.workers c.args.text.now word c.in-Some.operands.now c.in-Some.ensures c.in-None.ensures other another;
+    }

@@ -1,0 +1,91 @@
+-- The text of a schedule's line, and the step that it asks for.
+use Rattle.std.specs.Prelude.{◌≡◌, ◌≢◌, ◌≤◌, ◌⊎◌, ℕ, List, [], ◌∷◌, ◌++◌, Option, Some, None, Ok, codes, decimal}
+use Rattle.hex.specs.Hex.{encode_lower, IsBytes}
+use Rattle.riak_msgs.specs.declared.get.GetAsk.{GetAsk}
+use Rattle.riak_msgs.specs.declared.request.Request.{Request}
+use Rattle.riak_msgs.specs.declared.request.Request.TheVariants as requests
+use Rattle.riak_msgs.specs.Reading.{Says}
+use Rattle.schedule_text.specs.declared.line.Line.{Line}
+use Rattle.schedule_text.specs.declared.line.Action.{Action}
+use Rattle.schedule_text.specs.declared.line.Action.TheVariants.{Ask, Reap, Gate}
+use Rattle.schedule_text.specs.declared.line.GateStep.{GateStep}
+use Rattle.schedule_text.specs.declared.line.GateStep.TheVariants.{Enter, Leave, Mark, Unmark, Take, Put, Look, Publish}
+
+-- the word of a gate's step
+abbrev pub gate_word : GateStep → List ℕ
+gate_word Enter = codes "enter"
+gate_word Leave = codes "leave"
+gate_word Mark = codes "mark"
+gate_word Unmark = codes "unmark"
+gate_word Take = codes "take"
+gate_word Put = codes "put"
+gate_word Look = codes "look"
+gate_word Publish = codes "publish"
+
+-- the step of this word, and none where no step has it
+abbrev pub NamesStep : List ℕ → Option GateStep → Type 0
+NamesStep word (Some step) = gate_word step ≡ word
+NamesStep word None = (step : GateStep) → gate_word step ≢ word
+
+-- the same of the steps that take the state out, see it, change it and put it back
+abbrev pub NamesInnerStep : List ℕ → Option GateStep → Type 0
+NamesInnerStep word (Some step) = gate_word step ≡ word
+NamesInnerStep word None =
+    (gate_word Take ≢ word) × (gate_word Put ≢ word) × (gate_word Look ≢ word) × (gate_word Publish ≢ word)
+
+-- the word of an action
+abbrev pub word_of : Action → List ℕ
+word_of (Ask request) = codes "ask"
+word_of (Reap key) = codes "reap"
+word_of (Gate step) = gate_word step
+
+-- a space and a message in lower-case hexadecimal; nothing where there is no message
+abbrev pub message_text : Option (List ℕ) → List ℕ
+message_text None = []
+message_text (Some message) = 32 ∷ encode_lower message
+
+-- what stands behind a word and its space: the worker's number in decimal, and a message
+abbrev pub operand_text : ℕ → Option (List ℕ) → List ℕ
+operand_text worker message = decimal worker ++ message_text message
+
+-- workers are numbered from 1
+abbrev pub IsWorker : ℕ → ℕ → Type 0
+IsWorker workers worker = (1 ≤ worker) × (worker ≤ workers)
+
+-- the code of a get, a put or a delete
+abbrev pub IsStoreCode : ℕ → Type 0
+IsStoreCode code = (code ≡ 9) ⊎ ((code ≡ 11) ⊎ (code ≡ 13))
+
+-- the message is a code of these and a body, which say the request
+pub record AsksFor (message : List ℕ) (request : Request) : Type 0 where
+  pub code : ℕ
+  pub body : List ℕ
+  pub whole : message ≡ code ∷ body
+  pub stored : IsStoreCode code
+  pub says : Says code body (Ok request)
+
+-- a line's message says this request
+pub record CarriesRequest (carried : Option (List ℕ)) (request : Request) : Type 0 where
+  pub message : List ℕ
+  pub is : carried ≡ Some message
+  pub bytes : IsBytes message
+  pub asks : AsksFor message request
+
+-- an ask carries its request, a reap a get of its key, and a gate's step nothing
+abbrev pub Carries : Action → Option (List ℕ) → Type 0
+Carries (Ask request) carried = CarriesRequest carried request
+Carries (Reap key) carried = (get : GetAsk) × (get.key ≡ key) × CarriesRequest carried (requests.Get get)
+Carries (Gate step) carried = carried ≡ None
+
+-- the text behind a line's word and its space
+pub record HasOperands (workers : ℕ) (text : List ℕ) (line : Line) : Type 0 where
+  pub carried : Option (List ℕ)
+  pub whole : text ≡ operand_text line.worker carried
+  pub worker : IsWorker workers line.worker
+  pub carries : Carries line.action carried
+
+-- the text asks for this line's step, where there are so many workers
+pub record IsLine (workers : ℕ) (text : List ℕ) (line : Line) : Type 0 where
+  pub operands : List ℕ
+  pub whole : text ≡ word_of line.action ++ 32 ∷ operands
+  pub stand : HasOperands workers operands line

@@ -1,0 +1,23 @@
+-- The line that a step's outcome is written as.
+use Rattle.std.specs.Prelude.{ℕ, List, [], ◌∷◌, ◌++◌, codes, decimal}
+use Rattle.hex.specs.Hex.{encode_lower}
+use Rattle.riak_msgs.specs.declared.reply.Reply.{Reply}
+use Rattle.riak_msgs.specs.Replies.{reply_code, reply_body}
+use Rattle.schedule_text.specs.declared.outcome.StepOutcome.{StepOutcome}
+use Rattle.schedule_text.specs.declared.outcome.StepOutcome.TheVariants as outcomes
+
+-- a reply's code and body in lower-case hexadecimal
+abbrev pub reply_text : Reply → List ℕ
+reply_text reply = encode_lower (reply_code reply ∷ reply_body reply)
+
+-- what a line says of an outcome
+abbrev pub outcome_text : StepOutcome → List ℕ
+outcome_text outcomes.No = codes "no"
+outcome_text outcomes.Done = codes "ok"
+outcome_text (outcomes.Reply reply) = codes "reply " ++ reply_text reply.now
+outcome_text outcomes.Reaped = codes "reaped"
+outcome_text outcomes.Kept = codes "kept"
+
+-- the line: its number in decimal, a space, the outcome, and a line feed
+abbrev pub outcome_line : ℕ → StepOutcome → List ℕ
+outcome_line number outcome = decimal number ++ 32 ∷ (outcome_text outcome ++ 10 ∷ [])

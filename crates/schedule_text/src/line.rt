@@ -1,0 +1,79 @@
+//! The step that a line asks for.
+
+ghost use Rattle.schedule_text.specs.Lines.{NamesInnerStep, NamesStep};
+
+use riak_msgs::{Key, Request};
+
+/// How many lines a schedule has at most: each further one is a bad step.
+pub const MAX_LINES: u64 = 100_000;
+
+/// The step that a line asks for.
+#[derive(Debug, Drop)]
+pub struct Line {
+    /// The number of the worker that takes it, from 1.
+    pub worker: u16,
+    pub action: Action,
+}
+
+/// What a worker does in a step.
+#[derive(Debug, Drop)]
+pub enum Action {
+    /// It is asked this get, put or delete.
+    Ask(Request),
+    /// It is asked to forget this key.
+    Reap(Key),
+    /// It takes a step at its vnode's gate.
+    Gate(GateStep),
+}
+
+/// A step of a worker at the gate of the vnode that it was asked for.
+#[derive(Clone, Copy, Debug, Drop, PartialEq, Eq)]
+pub enum GateStep {
+    /// Comes in as a reader.
+    Enter,
+    /// Goes out as a reader.
+    Leave,
+    /// Marks the gate, so that no reader comes in.
+    Mark,
+    /// Takes the mark away.
+    Unmark,
+    /// Takes the state out, to write.
+    Take,
+    /// Puts the state back, which unmarks the gate.
+    Put,
+    /// Looks at the state.
+    Look,
+    /// Publishes its command as the next event.
+    Publish,
+}
+
+impl GateStep {
+    /// The step that has this word.
+    pub(crate) fn named(word: &[u8]) -> Option<GateStep>
+        ensures { NamesStep word.now result }
+    {
+        match GateStep::named_inside(word) {
+            Some(step) => Some(step),
+            None => match word {
+                b"enter" => Some(GateStep::Enter),
+                b"leave" => Some(GateStep::Leave),
+                b"mark" => Some(GateStep::Mark),
+                b"unmark" => Some(GateStep::Unmark),
+                _ => None,
+            },
+        }
+    }
+
+    /// The step that has this word, of those that take the state out, see it, change it and put it back.
+    fn named_inside(word: &[u8]) -> Option<GateStep>
+        ensures { NamesInnerStep word.now result }
+    {
+        match word {
+            b"take" => Some(GateStep::Take),
+            b"put" => Some(GateStep::Put),
+            b"look" => Some(GateStep::Look),
+            b"publish" => Some(GateStep::Publish),
+            _ => None,
+        }
+    }
+}

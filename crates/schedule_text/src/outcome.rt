@@ -1,0 +1,73 @@
+//! The line that says what came of a step.
+
+ghost use Rattle.std.specs.Prelude.{◌≡◌, ◌++◌, IfOk, OnOk};
+ghost use Rattle.schedule_text.specs.Outcomes.{outcome_line, outcome_text, reply_text};
+
+use itoa::Buffer;
+use riak_msgs::{Reply, write_reply};
+use std::alloc::{AllocError, Global};
+
+/// What came of a step, as its line says it.
+#[derive(Clone, Copy)]
+pub enum StepOutcome<'a> {
+    /// The step was not possible, and nothing changed: `no`.
+    No,
+    /// The step was taken, and nobody was answered: `ok`.
+    Done,
+    /// The step answered a get, a put or a delete: `reply` and its code and body.
+    Reply(&'a Reply),
+    /// The step forgot a dead key: `reaped`.
+    Reaped,
+    /// The step found that a reap's key isn't dead: `kept`.
+    Kept,
+}
+
+/// Appends a reply's code and body in lower-case hexadecimal.
+fn append_reply(alloc: Global, out: &mut Vec<u8>, reply: &Reply) -> Result<(), AllocError>
+    ensures { OnOk result (out.new.items ≡ out.old.items ++ reply_text reply.now) }
+{
+    let Ok(message) = write_reply(alloc, reply) else {
+        return Err(AllocError);
+    };
+    let digits = hex::encode(alloc, message.as_slice())?;
+    out.extend_from_slice(digits.as_bytes())
+}
+
+/// Appends what a line says of an outcome.
+fn append_outcome(
+    alloc: Global,
+    out: &mut Vec<u8>,
+    outcome: StepOutcome<'_>,
+) -> Result<(), AllocError>
+    ensures { OnOk result (out.new.items ≡ out.old.items ++ outcome_text outcome.entry) }
+{
+    match outcome {
+        StepOutcome::No => out.extend_from_slice(b"no"),
+        StepOutcome::Done => out.extend_from_slice(b"ok"),
+        StepOutcome::Reply(reply) => {
+            out.extend_from_slice(b"reply ")?;
+            append_reply(alloc, out, reply)
+        }
+        StepOutcome::Reaped => out.extend_from_slice(b"reaped"),
+        StepOutcome::Kept => out.extend_from_slice(b"kept"),
+    }
+}
+
+/// The line of an outcome: the number of the step's line in decimal, one space, the outcome, and a line feed. A reply is
+/// written as its message code and its body, in lower-case hexadecimal.
+///
+/// It is refused where memory is.
+pub fn write_outcome(
+    alloc: Global,
+    number: u64,
+    outcome: StepOutcome<'_>,
+) -> Result<Vec<u8>, AllocError>
+    ensures line { IfOk result (λ line. line.items ≡ outcome_line number outcome.entry) }
+{
+    let mut buffer = Buffer::new();
+    let mut line = Vec::from_slice(alloc, buffer.format(number).as_bytes())?;
+    line.extend_from_slice(b" ")?;
+    append_outcome(alloc, &mut line, outcome)?;
+    line.extend_from_slice(b"\n")?;
+    Ok(line)
+}

@@ -1,0 +1,41 @@
+//! Reading a line of a schedule.
+
+ghost use Rattle.schedule_text.specs.Reading.{Reads};
+
+use crate::cut::cut_at;
+use crate::fault::LineFault;
+use crate::line::{GateStep, Line};
+use crate::operands::{read_ask, read_gate_step, read_reap};
+use std::alloc::Global;
+
+/// The step that a line asks for, where there are `workers` workers. The text is the line without its line feed.
+///
+/// A line is a word, one space, and the worker's number, from 1 to `workers`, in decimal without leading zeros: `enter`,
+/// `leave`, `mark`, `unmark`, `take`, `put`, `look`, `publish`. Behind `ask` and `reap` follow one more space and a
+/// message in lower-case hexadecimal: a message code and a body, which [`read_request`](riak_msgs::read_request) has to
+/// read. For `ask` it is a get (9), a put (11) or a delete (13); for `reap` it is a get, whose key is meant and whose
+/// options aren't looked at.
+///
+/// Refused by:
+/// - `BadStep`: exactly where the text is no such line. All but the message is looked at before any memory is taken.
+/// - `NoMemory`: memory was refused, for an `ask` or a `reap` of this form; whether its message is a request is then
+///   not known.
+pub fn read_line(alloc: Global, text: &[u8], workers: u16) -> Result<Line, LineFault>
+    ensures reads { Reads workers text.now result }
+{
+    let Some((word, operands)) = cut_at(text, b' ') else {
+        return Err(LineFault::BadStep);
+    };
+    let is_ask = word == b"ask".as_slice();
+    if is_ask {
+        return read_ask(alloc, operands, workers);
+    }
+    let is_reap = word == b"reap".as_slice();
+    if is_reap {
+        return read_reap(alloc, operands, workers);
+    }
+    match GateStep::named(word) {
+        Some(step) => read_gate_step(step, operands, workers),
+        None => Err(LineFault::BadStep),
+    }
+}
