@@ -1,0 +1,49 @@
+-- Lists: what each element has, and what stands at an index.
+use Rattle.std.proofs.Common.{◌≡◌, ◌<◌, ℕ, zero, suc, List, [], ◌∷◌, ◌++◌, length, arith, refl, subst}
+use Rattle.job_pool.specs.Lists.{Every}
+use Rattle.std.specs.Prelude.{Some, None, slice_get, slice_set, slice_index_or}
+
+none_some : {A : Type 0} (x : A) → None ≡ Some x → ⊥
+none_some x h = cc
+
+module _ {A : Type 0} where
+  pub get_more : (xs ys : List A) (k : ℕ) (x : A) → slice_get xs k ≡ Some x → slice_get (xs ++ ys) k ≡ Some x
+  get_more [] ys k x at = absurd (none_some x at)
+  get_more (y ∷ xs) ys zero x at = at
+  get_more (y ∷ xs) ys (suc k) x at = get_more xs ys k x at
+
+  pub get_last : (xs : List A) (x : A) → slice_get (xs ++ x ∷ []) (length xs) ≡ Some x
+  get_last [] x = refl
+  get_last (y ∷ xs) x = get_last xs x
+
+  pub set_length : (xs : List A) (n : ℕ) (x : A) → length (slice_set xs n x) ≡ length xs
+  set_length [] zero x = refl
+  set_length [] (suc n) x = refl
+  set_length (y ∷ xs) zero x = refl
+  set_length (y ∷ xs) (suc n) x = let h = set_length xs n x in omega (arith, h)
+
+  module _ {P Q : A → Type 0} where
+    pub all_more : ((x : A) → P x → Q x) → (xs : List A) → Every P xs → Every Q xs
+    all_more f [] h = tt
+    all_more f (x ∷ xs) h = (f x h.0, all_more f xs h.1)
+
+  module _ (P : A → Type 0) where
+    pub all_join : (xs ys : List A) → Every P xs → Every P ys → Every P (xs ++ ys)
+    all_join [] ys h k = k
+    all_join (x ∷ xs) ys h k = (h.0, all_join xs ys h.1 k)
+
+    pub all_snoc : (xs : List A) (x : A) → Every P xs → P x → Every P (xs ++ x ∷ [])
+    all_snoc xs x h p = all_join xs (x ∷ []) h (p, tt)
+
+    pub all_right : (xs ys : List A) → Every P (xs ++ ys) → Every P ys
+    all_right [] ys h = h
+    all_right (x ∷ xs) ys h = all_right xs ys h.1
+
+    pub all_at : (xs : List A) (k : ℕ) (x : A) → Every P xs → slice_get xs k ≡ Some x → P x
+    all_at [] k x h at = absurd (none_some x at)
+    all_at (y ∷ xs) zero x h at = let same : y ≡ x = cc in subst P same h.0
+    all_at (y ∷ xs) (suc k) x h at = all_at xs k x h.1 at
+
+pub all_one : {A : Type 0} (P : A → Type 0) (x : A) → P x → (k : ℕ) (d : A) → k < length (x ∷ []) → P (slice_index_or (x ∷ []) k d)
+all_one P x p zero d below = p
+all_one P x p (suc k) d below = absurd (omega (arith, below))

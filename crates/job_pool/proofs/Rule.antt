@@ -1,0 +1,88 @@
+-- Each move keeps the rule of the queue.
+use Rattle.std.proofs.Common.{◌≡◌, ◌≢◌, ◌∙◌, ℕ, zero, suc, true, true≢false, List, [], ◌∷◌, ◌++◌, length, set, sym, refl, ap, subst, ⊎_elim}
+use Rattle.job_pool.specs.Lists.{Every}
+use Rattle.std.specs.Prelude.{Some, slice_get}
+use mathlib.Core.Option.{some, some-ne-none, some-injective}
+use lib.ListN.{get_elem?}
+use Rattle.crossbeam_queue.specs.Fifo.{Pushes, Pops, Forks, Merges, Learns}
+use Rattle.crossbeam_queue.proofs.Lists.{at_set, at_snoc}
+use Rattle.job_pool.specs.declared.queue.NumberedJob.{NumberedJob}
+use Rattle.job_pool.specs.declared.queue.Task.{Task}
+use Rattle.job_pool.specs.declared.queue.Task.TheVariants.{Serve, Stop}
+use Rattle.job_pool.specs.declared.queue.Knowledge.{Knowledge}
+use Rattle.job_pool.specs.Queue.{leader, newcomer, after_push, after_pop, together, IsNumbered, IsAccepted, IsNext, WasGiven, Agrees, AllGiven}
+use Rattle.job_pool.proofs.Lists.{get_more, get_last, all_more, all_join, all_snoc}
+
+module _ {J : Type 0} where
+  abbrev Each : (ℕ → Knowledge J → Type 0) → List (Knowledge J) → Type 0
+  Each F views = (port : ℕ) (v : Knowledge J) → get_elem? views port ≡ some v → F port v
+
+  each_set : (F : ℕ → Knowledge J → Type 0) (views : List (Knowledge J)) (port : ℕ) (w : Knowledge J) → F port w → ((j : ℕ) (u : Knowledge J) → j ≢ port → get_elem? views j ≡ some u → F j u) → Each F (set views port w)
+  each_set F views port w mine others j u e = ⊎_elim (λ (x : (j ≡ port) × (w ≡ u)). subst (λ (y : ℕ × Knowledge J). F y.0 y.1) (λ i. (sym x.0 i, x.1 i)) mine)
+      (λ (x : (j ≢ port) × (get_elem? views j ≡ some u)). others j u x.0 x.1) (at_set views port j w u e)
+
+  -- who has taken none fits anywhere
+  new_agrees : (lead : ℕ) (jobs : List J) (j : ℕ) → Agrees lead jobs j newcomer
+  new_agrees lead jobs j = ((λ p. absurd (true≢false (sym p))), tt)
+
+  more_of : (jobs : List J) (job : J) (next : NumberedJob J) → IsNumbered jobs next → IsNumbered (jobs ++ job ∷ []) next
+  more_of jobs job next at = get_more jobs (job ∷ []) next.number next.job at
+
+  more_given : (Accepts : J → Type 0) (jobs : List J) (job : J) (x : Task J) → WasGiven Accepts jobs x → WasGiven Accepts (jobs ++ job ∷ []) x
+  more_given Accepts jobs job (Serve next) h = (more_of jobs job next h.0, h.1)
+  more_given Accepts jobs job Stop h = tt
+
+  module _ (Accepts : J → Type 0) where
+    pub begins : AllGiven {J = J} Accepts [] (leader ∷ [])
+    begins = (0, [], tt, first) where
+      first : Each (Agrees 0 []) (leader ∷ [])
+      first zero v e = subst (λ (u : Knowledge J). Agrees 0 [] 0 u) (some-injective leader v e) ((λ _. (refl, refl)), tt)
+      first (suc j) v e = absurd (some-ne-none v (sym e))
+
+    pub pushes : (n port : ℕ) (v : Knowledge J) (x : Task J) → v.leads ≡ true → IsNext v.given x → IsAccepted Accepts x → Pushes (AllGiven Accepts) n port v x (λ w. w ≡ after_push v x)
+    pushes n port v Stop leads come for items views room h at = let mine = h.3 port v at in (
+      v,
+      (h.0, h.1, all_snoc (WasGiven Accepts h.1) items Stop h.2 tt, each_set (Agrees h.0 h.1) views port v mine (λ j u other e. h.3 j u e)),
+      refl,
+    )
+    pushes n port v (Serve next) leads come for items views room h at =
+        let mine = h.3 port v at in
+        let jobs : List J = h.1 ++ next.job ∷ [] in
+        let w : Knowledge J = after_push v (Serve next) in
+        let number : next.number ≡ length h.1 = come ∙ ap length (mine.0 leads).1 in
+        let here : IsNumbered jobs next = subst (λ (k : ℕ). slice_get jobs k ≡ Some next.job) (sym number) (get_last h.1 next.job) in (
+          w,
+          (
+            h.0,
+            jobs,
+            all_snoc (WasGiven Accepts jobs) items (Serve next) (all_more (more_given Accepts h.1 next.job) items h.2) (here, for),
+            each_set (Agrees h.0 jobs) views port w ((λ _. ((mine.0 leads).0, ap (λ l. l ++ next.job ∷ []) (mine.0 leads).1)), all_more (more_of h.1 next.job) v.taken mine.1)
+                (λ j u other e. ((λ p. absurd (other (((h.3 j u e).0 p).0 ∙ sym (mine.0 leads).0))), all_more (more_of h.1 next.job) u.taken (h.3 j u e).1)),
+          ),
+          refl,
+        )
+
+    pub pops : (port : ℕ) (v : Knowledge J) → Pops (AllGiven Accepts) port v (λ x w. (w ≡ after_pop v x) × IsAccepted Accepts x)
+    pops port v Stop items views h at = let mine = h.3 port v at in (v, (h.0, h.1, h.2.1, each_set (Agrees h.0 h.1) views port v mine (λ j u other e. h.3 j u e)), (refl, tt))
+    pops port v (Serve next) items views h at =
+        let mine = h.3 port v at in
+        let w : Knowledge J = after_pop v (Serve next) in
+        (w, (h.0, h.1, h.2.1, each_set (Agrees h.0 h.1) views port w (mine.0, all_snoc (IsNumbered h.1) v.taken next mine.1 h.2.0.0) (λ j u other e. h.3 j u e)), (refl, h.2.0.1))
+
+    pub forks : (port : ℕ) (v : Knowledge J) → Forks (AllGiven Accepts) port v v newcomer
+    forks port v items views h at =
+        let vs : List (Knowledge J) = set views port v in
+        let old : Each (Agrees h.0 h.1) vs = each_set (Agrees h.0 h.1) views port v (h.3 port v at) (λ j u other e. h.3 j u e) in
+        (h.0, h.1, h.2, λ j u e. ⊎_elim (λ x. old j u x) (λ (is : newcomer ≡ u). subst (λ (y : Knowledge J). Agrees h.0 h.1 j y) is (new_agrees h.0 h.1 j)) (at_snoc vs newcomer u j e))
+
+    pub merges : (port : ℕ) (v : Knowledge J) (other : ℕ) (u : Knowledge J) → Merges (AllGiven Accepts) port v other u (together v u) newcomer
+    merges port v other u items views h at two at' =
+        let both : Knowledge J = together v u in
+        let mine = h.3 port v at in
+        let vs : List (Knowledge J) = set views port both in
+        let was : get_elem? views other ≡ some u = ⊎_elim (λ x. absurd (two x.0)) (λ x. x.1) (at_set views port other both u at') in
+        let now : Each (Agrees h.0 h.1) vs = each_set (Agrees h.0 h.1) views port both (mine.0, all_join (IsNumbered h.1) v.taken u.taken mine.1 (h.3 other u was).1) (λ j y apart e. h.3 j y e) in
+        (h.0, h.1, h.2, each_set (Agrees h.0 h.1) vs other newcomer (new_agrees h.0 h.1 other) (λ j y apart e. now j y e))
+
+    pub learns : (port : ℕ) (v : Knowledge J) → v.leads ≡ true → Learns (AllGiven Accepts) port v (λ items. Every (IsNumbered v.given) v.taken)
+    learns port v leads items views h at = let mine = h.3 port v at in subst (λ (jobs : List J). Every (IsNumbered jobs) v.taken) (sym (mine.0 leads).1) mine.1

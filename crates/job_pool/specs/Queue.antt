@@ -1,0 +1,62 @@
+-- What the queue of jobs holds, and what its passes know.
+use Rattle.std.specs.Prelude.{◌≡◌, ℕ, Bool, true, false, List, [], ◌∷◌, ◌++◌, Some, slice_get, length}
+use mathlib.Core.Option.{some}
+use lib.ListN.{get_elem?}
+use Rattle.job_pool.specs.Lists.{Every}
+use Rattle.job_pool.specs.declared.queue.NumberedJob.{NumberedJob}
+use Rattle.job_pool.specs.declared.queue.Task.{Task}
+use Rattle.job_pool.specs.declared.queue.Task.TheVariants.{Serve, Stop}
+use Rattle.job_pool.specs.declared.queue.Knowledge.{Knowledge}
+
+module _ {J : Type 0} where
+  abbrev pub knowledge : Bool → List J → List (NumberedJob J) → Knowledge J
+  knowledge leads given taken = record { leads = leads; given = given; taken = taken }
+
+  -- of the thread that gives the jobs, before it gave any
+  abbrev pub leader : Knowledge J
+  leader = knowledge true [] []
+
+  -- of a worker that has taken none
+  abbrev pub newcomer : Knowledge J
+  newcomer = knowledge false [] []
+
+  abbrev pub after_push : Knowledge J → Task J → Knowledge J
+  after_push v (Serve next) = knowledge v.leads (v.given ++ next.job ∷ []) v.taken
+  after_push v Stop = v
+
+  abbrev pub after_pop : Knowledge J → Task J → Knowledge J
+  after_pop v (Serve next) = knowledge v.leads v.given (v.taken ++ next ∷ [])
+  after_pop v Stop = v
+
+  -- with what another one took
+  abbrev pub together : Knowledge J → Knowledge J → Knowledge J
+  together v w = knowledge v.leads v.given (v.taken ++ w.taken)
+
+  -- it is the job of that number among these
+  abbrev pub IsNumbered : List J → NumberedJob J → Type 0
+  IsNumbered jobs next = slice_get jobs next.number ≡ Some next.job
+
+  -- a service that takes such jobs takes it
+  abbrev pub IsAccepted : (J → Type 0) → Task J → Type 0
+  IsAccepted Accepts (Serve next) = Accepts next.job
+  IsAccepted Accepts Stop = Unit {0}
+
+  -- after these jobs it may be given
+  abbrev pub IsNext : List J → Task J → Type 0
+  IsNext jobs (Serve next) = next.number ≡ length jobs
+  IsNext jobs Stop = Unit {0}
+
+  -- it was given, as one of these jobs or as a stop mark
+  abbrev pub WasGiven : (J → Type 0) → List J → Task J → Type 0
+  WasGiven Accepts jobs (Serve next) = IsNumbered jobs next × Accepts next.job
+  WasGiven Accepts jobs Stop = Unit {0}
+
+  -- this pass took some of these jobs; if it gives them it is the pass of that number, and knows them all
+  abbrev pub Agrees : ℕ → List J → ℕ → Knowledge J → Type 0
+  Agrees lead jobs port v = (v.leads ≡ true → (port ≡ lead) × (v.given ≡ jobs)) × Every (IsNumbered jobs) v.taken
+
+  -- there are jobs that one pass gave, of which are all that the queue holds and that each pass took
+  abbrev pub AllGiven : (J → Type 0) → List (Task J) → List (Knowledge J) → Type 0
+  AllGiven Accepts tasks views =
+      (lead : ℕ) × (jobs : List J) × Every (WasGiven Accepts jobs) tasks
+      × ((port : ℕ) (v : Knowledge J) → get_elem? views port ≡ some v → Agrees lead jobs port v)

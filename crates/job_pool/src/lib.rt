@@ -1,0 +1,43 @@
+//! A pool of workers: each job of a source is served once, by one of many threads, and its end stands in its place.
+//!
+//! What it means: [`run`] takes all jobs of a [`Jobs`] source and gives one end for each, in the order in which the source gave the
+//! jobs (`specs/Giving`: `AllServed`). Each end is one to which the [`Service`] may bring that job, so no end is made up, none is
+//! another job's, and no job comes twice. Each worker has a state of its own, which its calls of the service change in turn; all
+//! states come back, each as the service's calls may leave it (`keeps`). Nothing is said of which worker serves which job, nor when.
+//!
+//! What it costs: a job goes through one queue of [`MAX_WAITING`] places, is moved and not copied, and takes no lock. After each push all
+//! workers are woken; where the queue is full the leading thread yields and tries again. A run takes memory for the queue, a thread and a
+//! parker for each worker, and a place for each end, twice.
+//!
+//! How it is built: the queue is under a rule (`specs/Queue`: `AllGiven`): what lies in it, and what each worker took, is a job that was
+//! given, under its number. A worker promises that its ends are those of jobs that it took; the leading thread joins it, learns by the
+//! rule that these are the jobs that it gave, and puts each end into the place of its number. A source comes by `&mut`, and no clause
+//! follows a `&mut` through a scope of threads, so it goes through as a value that comes back (`Lent`).
+//!
+//! ```text
+//! source gives 5, 6, 7; the service doubles; two workers, which count what they served, from 0
+//! the leader pushes     (0, 5) (1, 6) (2, 7) stop stop
+//! worker a takes        (0, 5)        (2, 7)      stop      ends (0, 10) (2, 14), count 2
+//! worker b takes               (1, 6)        stop           ends (1, 12), count 1
+//! places after a, b     10 _ 14       10 12 14
+//! run returns           ends 10, 12, 14; workers 2, 1
+//! ```
+#![tactic(auto)]
+
+mod collect;
+mod fault;
+mod jobs;
+mod lent;
+mod pool;
+mod queue;
+mod service;
+mod sleepers;
+mod start;
+mod submit;
+mod worker;
+
+pub use collect::Finished;
+pub use fault::PoolFault;
+pub use jobs::{JobFault, Jobs};
+pub use pool::{MAX_WAITING, run};
+pub use service::Service;

@@ -1,0 +1,214 @@
+//! A run of the pool.
+ghost use Rattle.std.specs.Prelude.{◌≡◌, ◌<◌, length, map, IfOk, IfErr};
+ghost use Rattle.crossbeam_queue.specs.Passes.{view, IsPassOf};
+ghost use Rattle.job_pool.specs.Giving.{AllServed, GivesOnly, Leaves};
+ghost use Rattle.job_pool.specs.Lists.{Every, Pairwise};
+ghost use Rattle.job_pool.specs.Queue.{leader};
+ghost use Rattle.job_pool.specs.Workers.{IsOn, state_before};
+
+use crate::collect::{Child, Finished, collect_all, join_all};
+use crate::fault::PoolFault;
+use crate::jobs::Jobs;
+use crate::lent::{Lent, take_back};
+use crate::queue::{Accepts, JobQueue, QueuePass};
+use crate::service::Service;
+use crate::sleepers::Sleepers;
+use crate::start::start_all;
+use crate::submit::{submit_all, submit_stops};
+use std::alloc::Global;
+use std::marker::Brand;
+use std::snapshot::Snapshot;
+use std::sync::Wait;
+use std::thread;
+use std::thread::Threads;
+
+/// How many jobs wait in the queue at most.
+pub const MAX_WAITING: usize = 1024;
+
+/// Gives the jobs to the workers that were started, and a stop mark to each; then joins them and puts their ends in order.
+fn dispatch<H, S, G, T>(
+    rt: &T,
+    alloc: Global,
+    service: Snapshot<S>,
+    queue: &JobQueue<H, S::Job>,
+    pass: &mut QueuePass<S::Job>,
+    sleepers: &Sleepers,
+    jobs: &mut G,
+    children: Vec<Child<S>>,
+) -> Result<Finished<S::End, S::Worker>, PoolFault>
+where
+    H: Accepts<S::Job>,
+    S: Service,
+    G: Jobs<Job = S::Job>,
+    T: Threads + Wait,
+    requires queue { IsPassOf queue.now pass.old × (view pass.old ≡ leader) }
+    requires accepts { GivesOnly G.gives H.accepts jobs.old }
+    requires children { Every (IsOn queue.now.table.shared.table_id service.value) children.items }
+    ensures ends { IfOk result (λ done.
+        AllServed G.gives (S.serves service.value) jobs.old done.ends.items jobs.new) }
+    ensures workers { IfOk result (λ done.
+        Pairwise (S.keeps service.value) (map state_before children.items) done.workers.items) }
+    ensures fault { IfErr result (λ fault. Leaves G.gives fault jobs.old jobs.new) }
+{
+    let given = submit_all(rt, queue, pass, sleepers, jobs);
+    submit_stops(rt, queue, pass, sleepers, children.len());
+    match given {
+        Ok(count) => collect_all(rt, alloc, service, queue, pass, children, count),
+        Err(fault) => {
+            join_all(rt, children);
+            Err(fault)
+        }
+    }
+}
+
+/// Stops and joins the workers that were started.
+fn give_up<H: Accepts<S::Job>, S: Service, T: Threads + Wait>(
+    rt: &T,
+    queue: &JobQueue<H, S::Job>,
+    pass: &mut QueuePass<S::Job>,
+    sleepers: &Sleepers,
+    children: Vec<Child<S>>,
+)
+    requires queue { IsPassOf queue.now pass.old × (view pass.old ≡ leader) }
+{
+    submit_stops(rt, queue, pass, sleepers, children.len());
+    join_all(rt, children);
+}
+
+/// A run over a queue of which this pass gives the jobs. The source of jobs comes back.
+fn run_on<'a, H, S, G, T>(
+    rt: &'a T,
+    alloc: Global,
+    service: &'a S,
+    queue: &'a JobQueue<H, S::Job>,
+    pass: QueuePass<S::Job>,
+    jobs: G,
+    workers: Vec<S::Worker>,
+) -> (G, Result<Finished<S::End, S::Worker>, PoolFault>)
+where
+    H: Accepts<S::Job> + Send + Sync,
+    S: Service,
+    G: Jobs<Job = S::Job> + Drop,
+    T: Threads + Wait + Sync,
+    requires queue { IsPassOf queue.now pass × (view pass ≡ leader) }
+    requires accepts { (job : S.Job) → H.accepts job → S.accepts service.now job }
+    requires jobs { GivesOnly G.gives H.accepts jobs }
+    ensures ends { IfOk result.1 (λ done.
+        AllServed G.gives (S.serves service.now) jobs done.ends.items result.0) }
+    ensures workers { IfOk result.1 (λ done.
+        Pairwise (S.keeps service.now) workers.items done.workers.items) }
+    ensures fault { IfErr result.1 (λ fault. Leaves G.gives fault jobs result.0) }
+{
+    thread::scope(
+        thread::scope_env(),
+        rt,
+        |scope| -> (G, Result<Finished<S::End, S::Worker>, PoolFault>)
+            requires queue { IsPassOf queue.now pass × (view pass ≡ leader) }
+            requires accepts { (job : S.Job) → H.accepts job → S.accepts service.now job }
+            requires jobs { GivesOnly G.gives H.accepts jobs }
+            ensures ends { IfOk result.1 (λ done.
+                AllServed G.gives (S.serves service.entry.now) jobs done.ends.items result.0) }
+            ensures workers { IfOk result.1 (λ done.
+                Pairwise (S.keeps service.entry.now) workers.items done.workers.items) }
+            ensures fault { IfErr result.1 (λ fault. Leaves G.gives fault jobs result.0) }
+        {
+            let mut mine = pass;
+            let mut source = jobs;
+            let mut sleepers = Sleepers::new(alloc);
+            let mut children = Vec::new(alloc);
+            let started = start_all(
+                scope,
+                rt,
+                alloc,
+                service,
+                queue,
+                &mut mine,
+                &mut sleepers,
+                &mut children,
+                workers,
+            );
+            if let Err(fault) = started {
+                give_up(rt, queue, &mut mine, &sleepers, children);
+                return (source, Err(fault));
+            }
+            let service = Snapshot::of(service);
+            let done = dispatch(
+                rt,
+                alloc,
+                service,
+                queue,
+                &mut mine,
+                &sleepers,
+                &mut source,
+                children,
+            );
+            (source, done)
+        },
+    )
+}
+
+/// A run for a service that takes what `H` says. The source of jobs comes back.
+fn run_owned<H, S, G, T>(
+    rt: &T,
+    alloc: Global,
+    service: &S,
+    jobs: G,
+    workers: Vec<S::Worker>,
+) -> (G, Result<Finished<S::End, S::Worker>, PoolFault>)
+where
+    H: Accepts<S::Job> + Send + Sync,
+    S: Service,
+    G: Jobs<Job = S::Job> + Drop,
+    T: Threads + Wait + Sync,
+    requires accepts { (job : S.Job) → H.accepts job → S.accepts service.now job }
+    requires jobs { GivesOnly G.gives H.accepts jobs }
+    ensures ends { IfOk result.1 (λ done.
+        AllServed G.gives (S.serves service.now) jobs done.ends.items result.0) }
+    ensures workers { IfOk result.1 (λ done.
+        Pairwise (S.keeps service.now) workers.items done.workers.items) }
+    ensures fault { IfErr result.1 (λ fault. Leaves G.gives fault jobs result.0) }
+{
+    let Ok((queue, pass)) = JobQueue::<H, S::Job>::ruled(alloc, MAX_WAITING) else {
+        return (jobs, Err(PoolFault::NoMemory));
+    };
+    run_on(rt, alloc, service, &queue, pass, jobs, workers)
+}
+
+/// Serves all jobs of a source, each once, by as many workers as there are states.
+///
+/// The ends stand in the order of the jobs, and the workers' states, each as its worker left it, in the order in which they were
+/// handed in. There has to be a worker, and each job that the source may give is one that the service takes.
+///
+/// Where the run ends by a fault, the workers that were started have been joined, and their states and the ends are let go:
+///
+/// - `NoThread`: the system refused a thread. No job was taken from the source.
+/// - `JobsFailed`: the source gave some jobs and then a fault. The jobs that it gave were served.
+/// - `NoMemory`: memory was refused, to the run or to a worker for the end of a job, which was then not served.
+///
+/// It waits for the workers, and they for jobs. It returns if each call of `next` and of `serve` does.
+pub fn run<S, G, T>(
+    rt: &T,
+    alloc: Global,
+    service: &S,
+    jobs: &mut G,
+    workers: Vec<S::Worker>,
+) -> Result<Finished<S::End, S::Worker>, PoolFault>
+where
+    S: Service,
+    G: Jobs<Job = S::Job>,
+    T: Threads + Wait + Sync,
+    requires some { 0 < length workers.items }
+    requires jobs { GivesOnly G.gives (S.accepts service.now) jobs.old }
+    ensures ends { IfOk result (λ done.
+        AllServed G.gives (S.serves service.now) jobs.old done.ends.items jobs.new) }
+    ensures workers { IfOk result (λ done.
+        Pairwise (S.keeps service.now) workers.items done.workers.items) }
+    ensures fault { IfErr result (λ fault. Leaves G.gives fault jobs.old jobs.new) }
+{
+    let lent = Lent { jobs };
+    let (Lent { jobs }, done) = run_owned::<Brand, S, Lent<G>, T>(
+        rt, alloc, service, lent, workers,
+    );
+    take_back(jobs);
+    done
+}

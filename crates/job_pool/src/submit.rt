@@ -1,0 +1,97 @@
+//! How the jobs come into the queue.
+ghost use Rattle.std.specs.Prelude.{◌≡◌, true, length, IfOk, IfErr};
+ghost use Rattle.crossbeam_queue.specs.Passes.{view, IsPassOf};
+ghost use Rattle.job_pool.specs.Giving.{GaveAll, GivesOnly, Leaves};
+ghost use Rattle.job_pool.specs.Queue.{leader, after_push, IsAccepted, IsNext};
+
+use crate::fault::PoolFault;
+use crate::jobs::Jobs;
+use crate::queue::{Accepts, JobQueue, NumberedJob, Push, QueuePass, Task};
+use crate::sleepers::Sleepers;
+use std::sync::Wait;
+use std::thread;
+
+/// Puts a task into the queue, and wakes the workers. Where the queue is full it tries again.
+pub(crate) fn submit<H: Accepts<J>, J, T: Wait>(
+    rt: &T,
+    queue: &JobQueue<H, J>,
+    pass: &mut QueuePass<J>,
+    sleepers: &Sleepers,
+    task: Task<J>,
+)
+    requires queue { IsPassOf queue.now pass.old }
+    requires leads { (view pass.old).leads ≡ true }
+    requires next { IsNext (view pass.old).given task × IsAccepted H.accepts task }
+    ensures queue { IsPassOf queue.now pass.new }
+    ensures pushed { view pass.new ≡ after_push (view pass.old) task }
+{
+    let mut held = task;
+    for _ in rt.forever() {
+        match queue.push_as::<Push, T>(rt, pass, held) {
+            Ok(()) => {
+                sleepers.wake_all();
+                return;
+            }
+            Err(back) => {
+                held = back;
+                thread::yield_now();
+            }
+        }
+    }
+    unreachable!()
+}
+
+/// Takes all jobs and puts each into the queue under its number. Returns how many there were.
+pub(crate) fn submit_all<H, G, T>(
+    rt: &T,
+    queue: &JobQueue<H, G::Job>,
+    pass: &mut QueuePass<G::Job>,
+    sleepers: &Sleepers,
+    jobs: &mut G,
+) -> Result<usize, PoolFault>
+where
+    H: Accepts<G::Job>,
+    G: Jobs,
+    G::Job: Drop,
+    T: Wait,
+    requires queue { IsPassOf queue.now pass.old × (view pass.old ≡ leader) }
+    requires accepts { GivesOnly G.gives H.accepts jobs.old }
+    ensures queue { IsPassOf queue.now pass.new × ((view pass.new).leads ≡ true) }
+    ensures count { IfOk result (λ n. n ≡ length (view pass.new).given) }
+    ensures given { IfOk result (λ _. GaveAll G.gives jobs.old (view pass.new).given jobs.new) }
+    ensures fault { IfErr result (λ fault. Leaves G.gives fault jobs.old jobs.new) }
+{
+    let mut count: usize = 0;
+    for _ in rt.forever() {
+        match jobs.next() {
+            Ok(Some(job)) => {
+                let Some(more) = count.checked_add(1) else {
+                    return Err(PoolFault::NoMemory);
+                };
+                let task = Task::Serve(NumberedJob { number: count, job });
+                submit(rt, queue, pass, sleepers, task);
+                count = more;
+            }
+            Ok(None) => return Ok(count),
+            Err(_) => return Err(PoolFault::JobsFailed),
+        }
+    }
+    unreachable!()
+}
+
+/// Puts a stop mark into the queue for each worker.
+pub(crate) fn submit_stops<H: Accepts<J>, J, T: Wait>(
+    rt: &T,
+    queue: &JobQueue<H, J>,
+    pass: &mut QueuePass<J>,
+    sleepers: &Sleepers,
+    workers: usize,
+)
+    requires queue { IsPassOf queue.now pass.old × ((view pass.old).leads ≡ true) }
+    ensures queue { IsPassOf queue.now pass.new }
+    ensures same { view pass.new ≡ view pass.old }
+{
+    for _ in 0..workers {
+        submit(rt, queue, pass, sleepers, Task::Stop);
+    }
+}

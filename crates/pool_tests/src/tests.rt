@@ -1,0 +1,113 @@
+//! What the services and the sources of the tests are, and one run with them.
+ghost use Rattle.std.specs.Prelude.{◌≡◌, ◌<◌, length, IfOk};
+
+use job_pool::{Finished, JobFault, Jobs, PoolFault, Service, run};
+use std::alloc::{AllocError, Global};
+use std::sync::Wait;
+use std::test::*;
+use std::thread::Threads;
+
+mod faults;
+mod locking;
+mod order;
+
+/// How many jobs a worker has served.
+#[derive(Drop)]
+struct Tally {
+    served: usize,
+}
+
+/// Multiplies a job by a factor that all workers share.
+#[derive(Drop)]
+struct Multiplier<'a> {
+    factor: &'a u64,
+}
+
+impl<'a> Service for Multiplier<'a> {
+    type Job = u32;
+
+    type End = u64;
+
+    type Worker = Tally;
+
+    ghost use Rattle.std.proofs.Common.{rules};
+    ghost use Rattle.std.specs.Prelude.{◌≡◌, ◌*◌, ◌≤◌, ◌%◌, ◌^◌, ⊤};
+
+    ghost accepts = { λ service job. ⊤ };
+
+    ghost serves = { λ service job end. end ≡ (job * service.factor.now) % 2 ^ 64 };
+
+    ghost keeps = { λ service first last. first.served ≤ last.served };
+
+    fn serve(&self, _alloc: Global, worker: &mut Tally, job: u32) -> u64 {
+        worker.served = worker.served.saturating_add(1);
+        u64::from(job).wrapping_mul(*self.factor)
+    }
+
+    ghost keeps_same = { Prim.search rules };
+
+    ghost keeps_on = { Prim.search rules };
+}
+
+/// Gives the numbers from `next` on, as many as are left, and then none, or a fault.
+#[derive(Drop)]
+struct Numbers {
+    next: u32,
+    left: u32,
+    fails: bool,
+}
+
+impl Jobs for Numbers {
+    type Job = u32;
+
+    ghost use Rattle.std.specs.Prelude.{◌≡◌, ◌+◌, true, false, MatchResult, MatchOption};
+
+    ghost gives = { λ first given last. MatchResult given
+        (λ job. MatchOption job ((last ≡ first) × (first.left ≡ 0))
+        (λ number. (number ≡ first.next) × (last.left + 1 ≡ first.left)))
+        (λ fault. (last ≡ first) × (first.fails ≡ true)) };
+
+    fn next(&mut self) -> Result<Option<u32>, JobFault> {
+        if self.left == 0 {
+            return if self.fails { Err(JobFault) } else { Ok(None) };
+        }
+        let number = self.next;
+        self.left -= 1;
+        self.next = number.wrapping_add(1);
+        Ok(Some(number))
+    }
+}
+
+/// So many workers that have served nothing.
+fn tallies(alloc: Global, count: u16) -> Result<Vec<Tally>, AllocError> {
+    let mut workers = Vec::new(alloc);
+    for _ in 0..count {
+        workers.push(Tally { served: 0 })?;
+    }
+    Ok(workers)
+}
+
+/// A run that multiplies the numbers of the source by 2.
+fn doubled<T: Threads + Wait + Sync>(
+    rt: &T,
+    alloc: Global,
+    numbers: &mut Numbers,
+    workers: u16,
+) -> Result<Finished<u64, Tally>, PoolFault> {
+    let Ok(crew) = tallies(alloc, workers) else {
+        return Err(PoolFault::NoMemory);
+    };
+    if crew.is_empty() {
+        return Err(PoolFault::NoThread);
+    }
+    run(rt, alloc, &Multiplier { factor: &2 }, numbers, crew)
+}
+
+/// How many jobs all workers have served.
+fn served(workers: &[Tally]) -> usize {
+    let mut sum = 0usize;
+    for worker in workers {
+        sum = sum.saturating_add(worker.served);
+    }
+    sum
+}
