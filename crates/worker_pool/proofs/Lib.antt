@@ -1,0 +1,4 @@
+pub mod Keeping
+pub mod Legal
+pub mod Opened
+pub mod Reaping

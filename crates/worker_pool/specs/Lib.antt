@@ -1,0 +1,5 @@
+pub mod Asking
+pub mod Asked
+pub mod Gates
+pub mod GateStep
+pub mod Legal
