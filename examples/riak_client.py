@@ -1,0 +1,78 @@
+"""A small client of Riak's Protocol Buffers client API: frames over two byte streams, messages by Google's codec.
+
+It needs Debian's python3-protobuf and nothing else. `riak_pb2.py` and `riak_kv_pb2.py` are what `protoc --python_out=.` makes of
+`riak.proto` and `riak_kv.proto`.
+"""
+
+import struct
+import subprocess
+
+import riak_pb2
+import riak_kv_pb2
+
+# Message codes: one byte in front of each message.
+ERROR, PING, PONG, GET, GOT, PUT, PUT_DONE, DELETE, DELETED = 0, 1, 2, 9, 10, 11, 12, 13, 14
+
+
+class Refused(Exception):
+    """The node answered a request by an error; its text is the node's."""
+
+
+class Client:
+    """One connection: each call sends one request and waits for its reply."""
+
+    def __init__(self, to_node, from_node):
+        self.to_node = to_node
+        self.from_node = from_node
+
+    @classmethod
+    def of_pipe(cls, program):
+        """Starts `program pipe` and talks to it over its standard input and output."""
+        node = subprocess.Popen([program, "pipe"], stdin=subprocess.PIPE, stdout=subprocess.PIPE)
+        client = cls(node.stdin, node.stdout)
+        client.node = node
+        return client
+
+    def close(self):
+        """Ends the connection, and waits for the node to end. Its exit status is returned."""
+        self.to_node.close()
+        return self.node.wait()
+
+    def ping(self):
+        """Asks whether the node is there."""
+        self._ask(PING, b"", PONG)
+
+    def get(self, bucket, key, **options):
+        """The siblings of a key and their context: an RpbGetResp. Options are the request's other fields (`head=True`)."""
+        request = riak_kv_pb2.RpbGetReq(bucket=bucket, key=key, **options)
+        return riak_kv_pb2.RpbGetResp.FromString(self._ask(GET, request.SerializeToString(), GOT))
+
+    def put(self, bucket, key, value, context=None, **options):
+        """Stores a value. `context` is what a get showed: the value replaces what was seen there, and nothing else."""
+        content = riak_kv_pb2.RpbContent(value=value)
+        request = riak_kv_pb2.RpbPutReq(bucket=bucket, key=key, content=content, vclock=context, **options)
+        return riak_kv_pb2.RpbPutResp.FromString(self._ask(PUT, request.SerializeToString(), PUT_DONE))
+
+    def delete(self, bucket, key, context=None, **options):
+        """Deletes what the context has seen; without a context, all that is stored."""
+        request = riak_kv_pb2.RpbDelReq(bucket=bucket, key=key, vclock=context, **options)
+        self._ask(DELETE, request.SerializeToString(), DELETED)
+
+    def _ask(self, code, body, wanted):
+        """Sends one frame and returns the body of the reply, which has to be of the wanted code."""
+        self.to_node.write(struct.pack(">IB", len(body) + 1, code) + body)
+        self.to_node.flush()
+        length, answered = struct.unpack(">IB", self._read(5))
+        reply = self._read(length - 1)
+        if answered == ERROR:
+            raise Refused(riak_pb2.RpbErrorResp.FromString(reply).errmsg.decode())
+        if answered != wanted:
+            raise ConnectionError(f"reply of code {answered} to a request of code {code}")
+        return reply
+
+    def _read(self, length):
+        """Reads so many bytes, or says that the stream has ended."""
+        got = self.from_node.read(length)
+        if len(got) < length:
+            raise ConnectionError("the node ended the connection")
+        return got

@@ -1,0 +1,54 @@
+"""Two writers of one key who don't know of each other, and how their values are merged. Nothing that was stored is lost.
+
+    python3 examples/siblings.py PROGRAM
+
+PROGRAM is the built node; the example starts `PROGRAM pipe` and talks to it.
+"""
+
+import sys
+
+from riak_client import Client
+
+CART = (b"carts", b"ann")
+
+
+def items(content):
+    """The items of a cart: one a line."""
+    return set(content.value.decode().split())
+
+
+def show(line, reply):
+    """Prints the siblings that a get showed."""
+    carts = [" ".join(sorted(items(content))) for content in reply.content]
+    print(f"{line}: {' | '.join(carts)}")
+
+
+def add(client, seen, item):
+    """Adds an item to the cart as it was seen: the new cart replaces what was seen, and nothing else."""
+    cart = set().union(*(items(content) for content in seen.content)) | {item}
+    client.put(*CART, " ".join(sorted(cart)).encode(), context=seen.vclock)
+
+
+def main():
+    if len(sys.argv) != 2:
+        sys.exit(__doc__)
+    client = Client.of_pipe(sys.argv[1])
+
+    client.put(*CART, b"milk")
+    phone = client.get(*CART)
+    laptop = client.get(*CART)
+    show("both devices see", phone)
+
+    add(client, phone, "bread")
+    add(client, laptop, "tea")
+    both = client.get(*CART)
+    show("after the phone added bread and the laptop tea", both)
+
+    # Whoever meets siblings merges them, and writes by the context that showed them all.
+    add(client, both, "jam")
+    show("after a writer who saw both added jam", client.get(*CART))
+    client.close()
+
+
+if __name__ == "__main__":
+    main()
