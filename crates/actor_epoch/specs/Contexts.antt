@@ -5,7 +5,7 @@ use Rattle.std.specs.Int.{to_be_bytes, w32, w64}
 use Rattle.std.specs.Ordering.{is_lt}
 use Rattle.actor_epoch.specs.declared.actor.Actor.{Actor}
 use Rattle.actor_epoch.specs.declared.dot.Dot.{Dot}
-use Rattle.actor_epoch.specs.Limits.{greatest_epoch, greatest_counter, most_actors}
+use Rattle.actor_epoch.specs.Limits.{max_epoch, max_counter, max_actors}
 use Rattle.actor_epoch.specs.Dots.{actor_cmp}
 
 -- the bytes of one pair: vnode id, epoch, counter, big-endian
@@ -35,13 +35,13 @@ is_rising (pair ∷ next ∷ pairs) = is_lt (actor_cmp pair.actor next.actor) &&
 abbrev pub is_within_limits : Dot → Bool
 is_within_limits pair =
     nat_lt pair.actor.vnode (2 ^ 64)
-    && ((nat_le 1 pair.actor.epoch && nat_le pair.actor.epoch greatest_epoch) && (nat_le 1 pair.counter && nat_le pair.counter greatest_counter))
+    && ((nat_le 1 pair.actor.epoch && nat_le pair.actor.epoch max_epoch) && (nat_le 1 pair.counter && nat_le pair.counter max_counter))
 
 -- 1 to 64 pairs within their limits, strictly rising by actor
-abbrev pub is_of_form : List Dot → Bool
-is_of_form pairs = (nat_le 1 (length pairs) && nat_le (length pairs) most_actors) && (is_rising pairs && list_all is_within_limits pairs)
+abbrev pub is_well_formed : List Dot → Bool
+is_well_formed pairs = (nat_le 1 (length pairs) && nat_le (length pairs) max_actors) && (is_rising pairs && list_all is_within_limits pairs)
 
 -- what bytes read as: the pairs that they spell, or nothing where they are not of the form
 abbrev pub ReadsAs : List ℕ → Option (List Dot) → Type 0
-ReadsAs bytes (Some pairs) = IsTrue (is_of_form pairs) × (bytes ≡ spelling pairs)
-ReadsAs bytes None = (pairs : List Dot) → IsTrue (is_of_form pairs) → bytes ≡ spelling pairs → ⊥
+ReadsAs bytes (Some pairs) = IsTrue (is_well_formed pairs) × (bytes ≡ spelling pairs)
+ReadsAs bytes None = (pairs : List Dot) → IsTrue (is_well_formed pairs) → bytes ≡ spelling pairs → ⊥

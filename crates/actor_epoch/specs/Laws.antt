@@ -3,17 +3,17 @@ use Rattle.std.specs.Prelude.{◌≡◌, ◌&&◌, ◌++◌, ◌∷◌, ◌<◌,
 use Rattle.std.specs.List.{All}
 use Rattle.actor_epoch.specs.declared.dot.Dot.{Dot}
 use Rattle.actor_epoch.specs.Dots.{covers, counter_in}
-use Rattle.actor_epoch.specs.Contexts.{encoding, is_of_form, is_rising}
+use Rattle.actor_epoch.specs.Contexts.{encoding, is_well_formed, is_rising}
 use Rattle.actor_epoch.specs.Given.{Pairs, context_of}
 
 -- the bytes that encode pairs decode to them
 abbrev pub ReadsBack : List Dot → Type 0
-ReadsBack pairs = IsTrue (is_of_form pairs) → context_of (encoding pairs) ≡ Some (Pairs pairs)
+ReadsBack pairs = IsTrue (is_well_formed pairs) → context_of (encoding pairs) ≡ Some (Pairs pairs)
 
 -- and no others do
 abbrev pub ReadsNoOthers : List ℕ → List Dot → Type 0
 ReadsNoOthers bytes pairs =
-    All (λ b. b < 2 ^ 8) bytes → context_of bytes ≡ Some (Pairs pairs) → IsTrue (is_of_form pairs) × (bytes ≡ encoding pairs)
+    All (λ b. b < 2 ^ 8) bytes → context_of bytes ≡ Some (Pairs pairs) → IsTrue (is_well_formed pairs) × (bytes ≡ encoding pairs)
 
 -- pairs cover the dots from 1 to the greatest counter of the dot's actor in them
 abbrev pub CoversUpTo : List Dot → Dot → Type 0

@@ -2,13 +2,13 @@
 use Rattle.std.specs.Prelude.{ℕ}
 
 -- the greatest epoch of a vnode
-abbrev pub greatest_epoch : ℕ
-greatest_epoch = 4294967295
+abbrev pub max_epoch : ℕ
+max_epoch = 4294967295
 
 -- the greatest counter of an actor
-abbrev pub greatest_counter : ℕ
-greatest_counter = 4294967295
+abbrev pub max_counter : ℕ
+max_counter = 4294967295
 
 -- the most actors of a clock, and the most pairs of a context
-abbrev pub most_actors : ℕ
-most_actors = 64
+abbrev pub max_actors : ℕ
+max_actors = 64

@@ -6,6 +6,6 @@
 pub struct Actor {
     /// The vnode's id.
     pub vnode: u64,
-    /// The epoch that the vnode took for this life, from 1 to `GREATEST_EPOCH`.
+    /// The epoch that the vnode took for this life, from 1 to `MAX_EPOCH`.
     pub epoch: u32,
 }

@@ -5,13 +5,13 @@ ghost use Rattle.std.specs.Option.{option_map};
 ghost use Rattle.std.specs.List.{list_all};
 ghost use Rattle.actor_epoch.specs.Dots.{covers, counter_in};
 ghost use Rattle.actor_epoch.specs.Entries.{entry_of, entries_of};
-ghost use Rattle.actor_epoch.specs.Contexts.{goes_on, ReadsAs, encoding, is_of_form, is_rising, is_within_limits, entry_bytes};
+ghost use Rattle.actor_epoch.specs.Contexts.{goes_on, ReadsAs, encoding, is_well_formed, is_rising, is_within_limits, entry_bytes};
 ghost use Rattle.actor_epoch.specs.Given.{context_of, pairs_read, Malformed, Pairs};
 
 use crate::actor::Actor;
 use crate::context_pairs::{ContextPairs, ENTRY_LEN};
 use crate::dot::Dot;
-use crate::limits::{Counter, MOST_ACTORS};
+use crate::limits::{Counter, MAX_ACTORS};
 use byteorder::{BigEndian, ByteOrder};
 use std::alloc::{AllocError, Global};
 use std::marker::Model;
@@ -42,13 +42,13 @@ impl<'a> Model for Context<'a> {
     ghost use Rattle.std.specs.Prelude.{◌≡◌, List, ◌*◌, length, IsTrue};
     ghost use Rattle.actor_epoch.specs.declared.dot.Dot.{Dot};
     ghost use Rattle.actor_epoch.specs.Entries.{entries_in};
-    ghost use Rattle.actor_epoch.specs.Contexts.{is_of_form};
+    ghost use Rattle.actor_epoch.specs.Contexts.{is_well_formed};
 
     ghost Value = { List Dot };
 
     ghost view = { λ c. entries_in c.count c.entries.now };
 
-    ghost invariant = { λ c. (length c.entries.now ≡ 16 * c.count) × IsTrue (is_of_form (entries_in c.count c.entries.now)) };
+    ghost invariant = { λ c. (length c.entries.now ≡ 16 * c.count) × IsTrue (is_well_formed (entries_in c.count c.entries.now)) };
 }
 
 impl<'a> Context<'a> {
@@ -87,7 +87,7 @@ impl<'a> Context<'a> {
     /// Its pairs (actor, n), by rising actor.
     pub fn pairs(&self) -> ContextPairs<'a>
         ensures pairs { result ≡ self.now }
-        ensures of_form { IsTrue (is_of_form self.now) }
+        ensures of_form { IsTrue (is_well_formed self.now) }
     {
         ContextPairs {
             count: self.count,
@@ -123,7 +123,7 @@ impl<'a> Context<'a> {
     /// The bytes of a context of these pairs, which are 1 to 64, strictly rising by actor, with epochs and counters
     /// from 1 on (a condition). Refused where there is no memory for the bytes.
     pub fn write(alloc: Global, pairs: &[(Actor, Counter)]) -> Result<Vec<u8>, AllocError>
-        requires { IsTrue (is_of_form (entries_of pairs.now)) }
+        requires { IsTrue (is_well_formed (entries_of pairs.now)) }
         ensures { IfOk result (λ bytes. bytes.items ≡ encoding (entries_of pairs.now)) }
     {
         let mut bytes = Vec::with_capacity(alloc, 1 + ENTRY_LEN * pairs.len())?;
@@ -137,10 +137,10 @@ impl<'a> Context<'a> {
 
 /// Whether pairs are 1 to 64, strictly rising by actor, with epochs and counters from 1 on.
 fn are_of_form(pairs: ContextPairs<'_>) -> bool
-    ensures { result ≡ is_of_form pairs.entry }
+    ensures { result ≡ is_well_formed pairs.entry }
 {
     let count = pairs.len();
-    1 <= count && count <= MOST_ACTORS && are_rising(pairs)
+    1 <= count && count <= MAX_ACTORS && are_rising(pairs)
 }
 
 /// Whether pairs are strictly rising by actor, with epochs and counters from 1 on.

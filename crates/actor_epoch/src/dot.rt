@@ -8,6 +8,6 @@ use crate::limits::Counter;
 pub struct Dot {
     /// The life in which it was written.
     pub actor: Actor,
-    /// Its number among the writes and tombstones of that life, from 1 to `GREATEST_COUNTER`.
+    /// Its number among the writes and tombstones of that life, from 1 to `MAX_COUNTER`.
     pub counter: Counter,
 }

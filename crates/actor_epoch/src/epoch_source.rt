@@ -3,7 +3,7 @@
 ghost use Rattle.std.specs.Prelude.{◌≡◌, ◌+◌, ◌<◌, ◌≤◌, IfSome, IfNone};
 ghost use Rattle.actor_epoch.specs.Epochs.{next_epoch};
 
-use crate::limits::GREATEST_EPOCH;
+use crate::limits::MAX_EPOCH;
 use std::marker::Model;
 
 /// Gives the epochs of a vnode, rising, each once. Contracts see the last epoch given, 0 before the first.
@@ -46,18 +46,18 @@ impl EpochSource {
         self.last
     }
 
-    /// The epoch that `next` would give; None exactly where `GREATEST_EPOCH` was given.
+    /// The epoch that `next` would give; None exactly where `MAX_EPOCH` was given.
     pub fn peek(&self) -> Option<u32>
         ensures { result ≡ next_epoch self.now }
     {
-        if self.last < GREATEST_EPOCH {
+        if self.last < MAX_EPOCH {
             Some(self.last + 1)
         } else {
             None
         }
     }
 
-    /// Gives the next epoch, above all that were given; None exactly where `GREATEST_EPOCH` was given, and then
+    /// Gives the next epoch, above all that were given; None exactly where `MAX_EPOCH` was given, and then
     /// nothing changes.
     pub fn next(&mut self) -> Option<u32>
         ensures gives { result ≡ next_epoch self.old }

@@ -3,10 +3,10 @@
 ghost use Rattle.std.specs.Prelude.{◌≡◌, ◌↔◌, List, [], ℕ, None};
 ghost use Rattle.actor_epoch.specs.declared.dot.Dot.{Dot};
 ghost use Rattle.actor_epoch.specs.Given.{context_of};
-ghost use Rattle.actor_epoch.specs.Limits.{greatest_epoch, greatest_counter, most_actors};
+ghost use Rattle.actor_epoch.specs.Limits.{max_epoch, max_counter, max_actors};
 ghost use Rattle.actor_epoch.specs.Laws.{ReadsBack, ReadsNoOthers, CoversUpTo, HasItsCounter};
 
-use crate::limits::{GREATEST_COUNTER, GREATEST_EPOCH, MOST_ACTORS};
+use crate::limits::{MAX_COUNTER, MAX_EPOCH, MAX_ACTORS};
 
 /// The bytes that `Context::write` makes of pairs are read as these pairs, and no other bytes are; no bytes alone are no
 /// context.
@@ -25,7 +25,7 @@ pub fn pairs_cover_up_to_their_counters()
 
 /// The limits of the code are those of the definitions: 4,294,967,295 epochs and counters, and 64 actors.
 pub fn limits_are_those_of_the_definitions()
-    ensures epoch { GREATEST_EPOCH ≡ greatest_epoch }
-    ensures counter { GREATEST_COUNTER ≡ greatest_counter }
-    ensures actors { MOST_ACTORS ≡ most_actors }
+    ensures epoch { MAX_EPOCH ≡ max_epoch }
+    ensures counter { MAX_COUNTER ≡ max_counter }
+    ensures actors { MAX_ACTORS ≡ max_actors }
 {}

@@ -1,13 +1,13 @@
 //! The limits of epochs, counters and contexts, each stated here alone.
 
 /// The greatest epoch of a vnode.
-pub const GREATEST_EPOCH: u32 = 4_294_967_295;
+pub const MAX_EPOCH: u32 = 4_294_967_295;
 
 /// A counter: the number of a write or tombstone in the life of an actor.
 pub type Counter = u32;
 
 /// The greatest counter of an actor.
-pub const GREATEST_COUNTER: Counter = 4_294_967_295;
+pub const MAX_COUNTER: Counter = 4_294_967_295;
 
 /// The most actors of a clock, and the most entries of a context.
-pub const MOST_ACTORS: usize = 64;
+pub const MAX_ACTORS: usize = 64;

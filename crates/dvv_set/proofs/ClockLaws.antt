@@ -3,10 +3,10 @@ use Rattle.std.proofs.Common.{◌≡◌, Bool, true, false, not, cond, List, [],
 use Rattle.std.specs.Prelude.{nat_le, filter, map}
 use Rattle.actor_epoch.specs.declared.Dot.{Dot}
 use Rattle.actor_epoch.specs.Dots.{covers, counter_in, union}
-use Rattle.dvv_set.specs.Clocks.{Meaning, sync, discard, value_in}
+use Rattle.dvv_set.specs.Clocks.{DotState, sync, discard, value_in}
 
 -- to discard a context is to sync with its pairs, none live
-pub discard-sync : {V : Type 0} (pairs : List Dot) (clock : Meaning V) → discard pairs clock ≡ sync clock (record { known = pairs; live = [] })
+pub discard-sync : {V : Type 0} (pairs : List Dot) (clock : DotState V) → discard pairs clock ≡ sync clock (record { known = pairs; live = [] })
 discard-sync {V} pairs clock = λ i. record { known = union clock.known pairs; live = kept clock.live i }
   where
     either : (b : Bool) (v : V) → v ≡ cond b v v

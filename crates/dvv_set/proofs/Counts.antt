@@ -13,12 +13,12 @@ use Rattle.actor_epoch.specs.declared.Dot.{Dot}
 use Rattle.actor_epoch.specs.Dots.{actor_cmp, actor_eq}
 use Rattle.actor_epoch.proofs.Rising.{and_first, and_second}
 use Rattle.actor_epoch.proofs.Order.{actor_cmp_total, actor_eq-same}
-use Rattle.dvv_set.specs.Rows.{known_of, live_of, meaning_of, values_from, is_row, row_of, merged, absorb, absorb_all, AreRows, count_new, rows_of_pairs}
+use Rattle.dvv_set.specs.Rows.{known_of, live_of, dot_state_of, values_from, is_row, row_of, merged, absorb, absorb_all, AreRows, count_new, rows_of_pairs}
 use Rattle.dvv_set.specs.Held.{values_of}
-use Rattle.actor_epoch.specs.Contexts.{is_of_form}
+use Rattle.actor_epoch.specs.Contexts.{is_well_formed}
 use Rattle.dvv_set.specs.Clocks.{sync, discard}
-use Rattle.dvv_set.proofs.Events.{AreRows-pairs, meaning_of-without}
-use Rattle.dvv_set.proofs.Live.{meaning_of-absorb_all}
+use Rattle.dvv_set.proofs.Events.{AreRows-pairs, dot_state_of-without}
+use Rattle.dvv_set.proofs.Live.{dot_state_of-absorb_all}
 use Rattle.dvv_set.proofs.Orders.{eq_by_cmp-actor, T-first, T-second, T-less}
 use Rattle.dvv_set.proofs.Rows.{actor_eq-back, row_of-below}
 use Rattle.dvv_set.proofs.Absorb.{AreRows-tail, AreRows-absorb}
@@ -126,23 +126,23 @@ module _ {V : Type 0} where
 
   -- how many actors a sync knows
   pub length-sync : (rows others : List (Actor × (ℕ × List V))) → AreRows rows → AreRows others
-      → length (sync (meaning_of rows) (meaning_of others)).known ≡ length rows + count_new others rows
+      → length (sync (dot_state_of rows) (dot_state_of others)).known ≡ length rows + count_new others rows
   length-sync rows others h g =
-      ap (λ m. length m.known) (sym (meaning_of-absorb_all others rows g h)) ∙ length-known_of (absorb_all others rows) ∙ length-absorb_all others rows g h
+      ap (λ m. length m.known) (sym (dot_state_of-absorb_all others rows g h)) ∙ length-known_of (absorb_all others rows) ∙ length-absorb_all others rows g h
 
   -- the same for a context's pairs
-  pub length-discard : (rows : List (Actor × (ℕ × List V))) (pairs : List Dot) → AreRows rows → IsTrue (is_of_form pairs)
-      → length (discard pairs (meaning_of rows)).known ≡ length rows + count_new (rows_of_pairs pairs) rows
+  pub length-discard : (rows : List (Actor × (ℕ × List V))) (pairs : List Dot) → AreRows rows → IsTrue (is_well_formed pairs)
+      → length (discard pairs (dot_state_of rows)).known ≡ length rows + count_new (rows_of_pairs pairs) rows
   length-discard rows pairs h f =
-      ap (λ m. length m.known) (sym (meaning_of-without (Some pairs) rows (λ ps e. let same : pairs ≡ ps = cc in ap is_of_form (sym same) ∙ f) h))
+      ap (λ m. length m.known) (sym (dot_state_of-without (Some pairs) rows (λ ps e. let same : pairs ≡ ps = cc in ap is_well_formed (sym same) ∙ f) h))
       ∙ length-known_of (absorb_all (rows_of_pairs pairs) rows)
       ∙ length-absorb_all (rows_of_pairs pairs) rows (AreRows-pairs V pairs f) h
 
-  pub meaning_of-discard : (rows : List (Actor × (ℕ × List V))) (pairs : List Dot) → AreRows rows → IsTrue (is_of_form pairs)
-      → meaning_of (absorb_all (rows_of_pairs pairs) rows) ≡ discard pairs (meaning_of rows)
-  meaning_of-discard rows pairs h f = meaning_of-without (Some pairs) rows (λ ps e. let same : pairs ≡ ps = cc in ap is_of_form (sym same) ∙ f) h
+  pub dot_state_of-discard : (rows : List (Actor × (ℕ × List V))) (pairs : List Dot) → AreRows rows → IsTrue (is_well_formed pairs)
+      → dot_state_of (absorb_all (rows_of_pairs pairs) rows) ≡ discard pairs (dot_state_of rows)
+  dot_state_of-discard rows pairs h f = dot_state_of-without (Some pairs) rows (λ ps e. let same : pairs ≡ ps = cc in ap is_well_formed (sym same) ∙ f) h
 
-pub count_new-pairs-within : (V : Type 0) (pairs : List Dot) (rows : List (Actor × (ℕ × List V))) → IsTrue (is_of_form pairs) → count_new (rows_of_pairs {V = V} pairs) rows ≤ 64
+pub count_new-pairs-within : (V : Type 0) (pairs : List Dot) (rows : List (Actor × (ℕ × List V))) → IsTrue (is_well_formed pairs) → count_new (rows_of_pairs {V = V} pairs) rows ≤ 64
 count_new-pairs-within V pairs rows f =
     let within = count_new-within (rows_of_pairs {V = V} pairs) rows in
     let long : length (rows_of_pairs {V = V} pairs) ≡ length pairs = length-map pairs (λ pair. (pair.actor, (pair.counter, (let none : List V = [] in none)))) in

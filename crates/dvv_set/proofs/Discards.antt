@@ -12,7 +12,7 @@ use Rattle.actor_epoch.specs.Contexts.{is_rising}
 use Rattle.actor_epoch.proofs.Rising.{and_first, and_second}
 use Rattle.actor_epoch.proofs.Order.{is_below_all, rising-below, rising-tail}
 use Rattle.actor_epoch.proofs.Pairs.{counter_in-union}
-use Rattle.dvv_set.specs.Clocks.{Meaning, discard}
+use Rattle.dvv_set.specs.Clocks.{DotState, discard}
 use Rattle.dvv_set.specs.Laws.{IsClock}
 use Rattle.dvv_set.proofs.Orders.{T-both, T-is}
 use Rattle.dvv_set.proofs.Known.{ArePairs, ArePairs-union, as_entries, same_pairs}
@@ -57,7 +57,7 @@ module _ {V : Type 0} where
       later true b h = refl
       later false b h = h
 
-  pub discard-all : (clock : Meaning V) → IsClock clock → discard clock.known clock ≡ record { known = clock.known; live = [] }
+  pub discard-all : (clock : DotState V) → IsClock clock → discard clock.known clock ≡ record { known = clock.known; live = [] }
   discard-all clock is =
       let knows = union-itself clock.known is.rising is.positive in
       let lives = all_covered clock.known clock.live is.live_known in

@@ -15,14 +15,14 @@ use Rattle.actor_epoch.proofs.Order.{covers-counter_in}
 use Rattle.dvv_set.specs.declared.entry.Entry.{Entry}
 use Rattle.dvv_set.specs.Clocks.{discard, event}
 use Rattle.dvv_set.specs.Held.{actors_after, known_after}
-use Rattle.dvv_set.specs.Rows.{AreRows, meaning_of, known_of, live_of, values_from, is_row, row_of, with_value, emptied, newer, count_uncovered}
+use Rattle.dvv_set.specs.Rows.{AreRows, dot_state_of, known_of, live_of, values_from, is_row, row_of, with_value, emptied, newer, count_uncovered}
 use Rattle.dvv_set.specs.Stored.{as_row, as_rows}
 use Rattle.dvv_set.proofs.Orders.{T-first, T-second, T-both}
 use Rattle.dvv_set.proofs.Rows.{is_row-within, counter_in-known_of}
 use Rattle.dvv_set.proofs.Discards.{discard-all}
-use Rattle.dvv_set.proofs.Events.{AreRows-event, meaning_of-event}
+use Rattle.dvv_set.proofs.Events.{AreRows-event, dot_state_of-event}
 use Rattle.dvv_set.proofs.Counts.{length-known_of}
-use Rattle.dvv_set.proofs.Sound.{IsClock-meaning_of}
+use Rattle.dvv_set.proofs.Sound.{IsClock-dot_state_of}
 
 is_row-emptied : (n k : ℕ) → (nat_le 1 n && nat_le k n) ≡ true → (nat_le 1 n && nat_le 0 n) ≡ true
 is_row-emptied n k h = grind (arith, nat_tests)
@@ -99,9 +99,9 @@ module _ {V : Type 0} where
       by false h = h
 
   -- rows without their values mean that all is discarded
-  pub meaning_of-emptied : (rows : List (Actor × (ℕ × List V))) → AreRows rows → length rows ≤ 64 → meaning_of (map emptied rows) ≡ discard (known_of rows) (meaning_of rows)
-  meaning_of-emptied rows h few =
-      (λ i. record { known = known_of-emptied rows i; live = live_of-emptied rows i }) ∙ sym (discard-all (meaning_of rows) (IsClock-meaning_of rows h few))
+  pub dot_state_of-emptied : (rows : List (Actor × (ℕ × List V))) → AreRows rows → length rows ≤ 64 → dot_state_of (map emptied rows) ≡ discard (known_of rows) (dot_state_of rows)
+  dot_state_of-emptied rows h few =
+      (λ i. record { known = known_of-emptied rows i; live = live_of-emptied rows i }) ∙ sym (discard-all (dot_state_of rows) (IsClock-dot_state_of rows h few))
 
   newest : (pairs : List Dot) (a : Actor) (n : ℕ) (values : List V) → length values ≤ n
       → length (filter (λ entry. not (covers pairs entry.0)) (values_from a n values)) ≡ newer (counter_in pairs a) (n, values)
@@ -149,7 +149,7 @@ module _ {V : Type 0} where
       → length (put actor_cmp a (with_value value (row_of a (map emptied rows))) (map emptied rows)) ≡ actors_after (known_of rows) None a
   overwrite-length rows a value h =
       sym (length-known_of (put actor_cmp a (with_value value (row_of a (map emptied rows))) (map emptied rows)))
-      ∙ ap (λ m. length m.known) (meaning_of-event a value (map emptied rows) (AreRows-emptied rows h))
+      ∙ ap (λ m. length m.known) (dot_state_of-event a value (map emptied rows) (AreRows-emptied rows h))
       ∙ ap (λ k. length (known_after a k)) (known_of-emptied rows)
 
   pub overwrite-next : (rows : List (Actor × (ℕ × List V))) (a : Actor) (value : V) → AreRows rows
@@ -157,6 +157,6 @@ module _ {V : Type 0} where
   overwrite-next rows a value h = AreRows-event a value (map emptied rows) (AreRows-emptied rows h)
 
   pub overwrite-meaning : (rows : List (Actor × (ℕ × List V))) (a : Actor) (value : V) → AreRows rows → length rows ≤ 64
-      → meaning_of (put actor_cmp a (with_value value (row_of a (map emptied rows))) (map emptied rows)) ≡ event a value (discard (known_of rows) (meaning_of rows))
+      → dot_state_of (put actor_cmp a (with_value value (row_of a (map emptied rows))) (map emptied rows)) ≡ event a value (discard (known_of rows) (dot_state_of rows))
   overwrite-meaning rows a value h few =
-      meaning_of-event a value (map emptied rows) (AreRows-emptied rows h) ∙ ap (event a value) (meaning_of-emptied rows h few)
+      dot_state_of-event a value (map emptied rows) (AreRows-emptied rows h) ∙ ap (event a value) (dot_state_of-emptied rows h few)

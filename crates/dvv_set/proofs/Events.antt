@@ -8,19 +8,19 @@ use Rattle.std.proofs.lemmas.Bool.Decides.{nat_tests}
 use Rattle.actor_epoch.specs.declared.Actor.{Actor}
 use Rattle.actor_epoch.specs.declared.Dot.{Dot}
 use Rattle.actor_epoch.specs.Dots.{actor_cmp, actor_eq, counter_in, raise}
-use Rattle.actor_epoch.specs.Contexts.{is_rising, is_within_limits, is_of_form}
+use Rattle.actor_epoch.specs.Contexts.{is_rising, is_within_limits, is_well_formed}
 use Rattle.actor_epoch.proofs.Pairs.{counter_in-raise}
 use Rattle.actor_epoch.proofs.Rising.{and_first, and_second}
 use Rattle.actor_epoch.proofs.Order.{actor_cmp_total, actor_eq-same, rising-below, rising-tail, is_below_all}
 use Rattle.dvv_set.specs.Clocks.{show_cmp, sync, event}
 use Rattle.dvv_set.specs.Held.{without}
-use Rattle.dvv_set.specs.Rows.{AreRows, live_of, known_of, meaning_of, is_row, row_of, rows_of_pairs, rows_without, with_value}
+use Rattle.dvv_set.specs.Rows.{AreRows, live_of, known_of, dot_state_of, is_row, row_of, rows_of_pairs, rows_without, with_value}
 use Rattle.dvv_set.proofs.ClockLaws.{discard-sync}
 use Rattle.dvv_set.proofs.Orders.{show_cmp_total, eq_by_cmp-dot, T-both, T-is}
 use Rattle.dvv_set.proofs.Rows.{value_at, actor_eq-back, find-live_of, is_sorted-live_of, counter_in-known_of}
 use Rattle.dvv_set.proofs.Absorb.{AreRows-absorb_all, row_of-put, list_all-put, row_of-within}
 use Rattle.dvv_set.proofs.Known.{same_pairs, ArePairs-known_of, ArePairs-raise}
-use Rattle.dvv_set.proofs.Live.{meaning_of-absorb_all, show_cmp-same}
+use Rattle.dvv_set.proofs.Live.{dot_state_of-absorb_all, show_cmp-same}
 
 below_all-pairs : (V : Type 0) (a : Actor) (pairs : List Dot) → IsTrue (is_below_all a pairs) → T (below_all actor_cmp a (let rows : List (Actor × (ℕ × List V)) = rows_of_pairs pairs in rows))
 below_all-pairs V a [] h = tt
@@ -54,7 +54,7 @@ each-pairs V (pair ∷ pairs) h =
     least n = grind (arith, nat_tests)
 
 -- the pairs of a context are rows
-pub AreRows-pairs : (V : Type 0) (pairs : List Dot) → IsTrue (is_of_form pairs) → AreRows (let rows : List (Actor × (ℕ × List V)) = rows_of_pairs pairs in rows)
+pub AreRows-pairs : (V : Type 0) (pairs : List Dot) → IsTrue (is_well_formed pairs) → AreRows (let rows : List (Actor × (ℕ × List V)) = rows_of_pairs pairs in rows)
 AreRows-pairs V pairs h =
     let inner : IsTrue (is_rising pairs && list_all is_within_limits pairs) = and_second _ (is_rising pairs && list_all is_within_limits pairs) h in
     record {
@@ -63,8 +63,8 @@ AreRows-pairs V pairs h =
     }
 
 module _ {V : Type 0} where
-  meaning_of-pairs : (pairs : List Dot) → meaning_of (let rows : List (Actor × (ℕ × List V)) = rows_of_pairs pairs in rows) ≡ record { known = pairs; live = [] }
-  meaning_of-pairs pairs = λ i. record { known = knows pairs i; live = lives pairs i }
+  dot_state_of-pairs : (pairs : List Dot) → dot_state_of (let rows : List (Actor × (ℕ × List V)) = rows_of_pairs pairs in rows) ≡ record { known = pairs; live = [] }
+  dot_state_of-pairs pairs = λ i. record { known = knows pairs i; live = lives pairs i }
     where
       knows : (pairs : List Dot) → known_of (let rows : List (Actor × (ℕ × List V)) = rows_of_pairs pairs in rows) ≡ pairs
       knows [] = refl
@@ -75,17 +75,17 @@ module _ {V : Type 0} where
       lives (pair ∷ pairs) = lives pairs
 
   -- what a context saw leaves the rows
-  pub AreRows-without : (pairs : Option (List Dot)) (rows : List (Actor × (ℕ × List V))) → ((ps : List Dot) → pairs ≡ Some ps → IsTrue (is_of_form ps)) → AreRows rows → AreRows (rows_without pairs rows)
+  pub AreRows-without : (pairs : Option (List Dot)) (rows : List (Actor × (ℕ × List V))) → ((ps : List Dot) → pairs ≡ Some ps → IsTrue (is_well_formed ps)) → AreRows rows → AreRows (rows_without pairs rows)
   AreRows-without None rows f h = h
   AreRows-without (Some ps) rows f h = AreRows-absorb_all (rows_of_pairs ps) rows (AreRows-pairs V ps (f ps refl)) h
 
-  pub meaning_of-without : (pairs : Option (List Dot)) (rows : List (Actor × (ℕ × List V))) → ((ps : List Dot) → pairs ≡ Some ps → IsTrue (is_of_form ps)) → AreRows rows
-      → meaning_of (rows_without pairs rows) ≡ without pairs (meaning_of rows)
-  meaning_of-without None rows f h = refl
-  meaning_of-without (Some ps) rows f h =
-      meaning_of-absorb_all (rows_of_pairs ps) rows (AreRows-pairs V ps (f ps refl)) h
-      ∙ ap (sync (meaning_of rows)) (meaning_of-pairs ps)
-      ∙ sym (discard-sync ps (meaning_of rows))
+  pub dot_state_of-without : (pairs : Option (List Dot)) (rows : List (Actor × (ℕ × List V))) → ((ps : List Dot) → pairs ≡ Some ps → IsTrue (is_well_formed ps)) → AreRows rows
+      → dot_state_of (rows_without pairs rows) ≡ without pairs (dot_state_of rows)
+  dot_state_of-without None rows f h = refl
+  dot_state_of-without (Some ps) rows f h =
+      dot_state_of-absorb_all (rows_of_pairs ps) rows (AreRows-pairs V ps (f ps refl)) h
+      ∙ ap (sync (dot_state_of rows)) (dot_state_of-pairs ps)
+      ∙ sym (discard-sync ps (dot_state_of rows))
 
   is_row-with : (a : Actor) (value : V) (row : ℕ × List V) → length row.1 ≤ row.0 → IsTrue (is_row (a, with_value value row))
   is_row-with a value row h = by row.0 (length row.1) h
@@ -112,9 +112,9 @@ module _ {V : Type 0} where
       by false false false p q r = refl
 
   -- an event on rows
-  pub meaning_of-event : (a : Actor) (value : V) (rows : List (Actor × (ℕ × List V))) → AreRows rows
-      → meaning_of (put actor_cmp a (with_value value (row_of a rows)) rows) ≡ event a value (meaning_of rows)
-  meaning_of-event a value rows h = λ i. record { known = knows i; live = lives i }
+  pub dot_state_of-event : (a : Actor) (value : V) (rows : List (Actor × (ℕ × List V))) → AreRows rows
+      → dot_state_of (put actor_cmp a (with_value value (row_of a rows)) rows) ≡ event a value (dot_state_of rows)
+  dot_state_of-event a value rows h = λ i. record { known = knows i; live = lives i }
     where
       next : ℕ × List V
       next = with_value value (row_of a rows)

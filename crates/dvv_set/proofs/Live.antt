@@ -12,8 +12,8 @@ use Rattle.actor_epoch.specs.declared.Dot.{Dot}
 use Rattle.actor_epoch.specs.Dots.{actor_eq, dot_eq, covers}
 use Rattle.actor_epoch.proofs.Rising.{and_first, and_second}
 use Rattle.actor_epoch.proofs.Order.{actor_eq-same, covers-counter_in}
-use Rattle.dvv_set.specs.Clocks.{Meaning, show_cmp, is_live, put_all, value_in, sync}
-use Rattle.dvv_set.specs.Rows.{AreRows, live_of, meaning_of, row_of, absorb_all}
+use Rattle.dvv_set.specs.Clocks.{DotState, show_cmp, is_live, put_all, value_in, sync}
+use Rattle.dvv_set.specs.Rows.{AreRows, live_of, dot_state_of, row_of, absorb_all}
 use Rattle.dvv_set.proofs.Orders.{show_cmp_total, eq_by_cmp-dot, nat_eq-back, T-first, T-second, T-both}
 use Rattle.dvv_set.proofs.Rows.{value_at, actor_eq-back, find-live_of, is_sorted-live_of, counter_in-known_of}
 use Rattle.dvv_set.proofs.Merge.{value_at-merged, synced_value}
@@ -80,7 +80,7 @@ module _ {V : Type 0} where
       by false t h = h
 
   -- the value of a dot after a sync
-  pub find-sync : (own other : Meaning V) (d : Dot)
+  pub find-sync : (own other : DotState V) (d : Dot)
       → find show_cmp d (sync own other).live
       ≡ option_or
       (cond (not (covers own.known d)) (find show_cmp d other.live) None)
@@ -99,7 +99,7 @@ module _ {V : Type 0} where
           ∙ ap (option_map (λ v. value_in own other (d, v)))
           (find-where_key show_cmp (λ x. is_live other x || not (covers other.known x)) d (alike (λ x. is_live other x || not (covers other.known x)) d) own.live)
 
-  pub is_sorted-sync : (own other : Meaning V) → T (is_sorted show_cmp own.live) → T (is_sorted show_cmp (sync own other).live)
+  pub is_sorted-sync : (own other : DotState V) → T (is_sorted show_cmp own.live) → T (is_sorted show_cmp (sync own other).live)
   is_sorted-sync own other h =
       is_sorted-put_all (where_key show_cmp (λ x. not (covers own.known x)) other.live)
       (map (λ entry. (entry.0, value_in own other entry)) (where_key show_cmp (λ x. is_live other x || not (covers other.known x)) own.live))
@@ -107,8 +107,8 @@ module _ {V : Type 0} where
       (is_sorted-where_key show_cmp (λ x. is_live other x || not (covers other.known x)) own.live h))
 
   -- rows with others merged in mean a sync
-  pub meaning_of-absorb_all : (others rows : List (Actor × (ℕ × List V))) → AreRows others → AreRows rows → meaning_of (absorb_all others rows) ≡ sync (meaning_of rows) (meaning_of others)
-  meaning_of-absorb_all others rows g h = λ i. record { known = known_of-absorb_all others rows g h i; live = live i }
+  pub dot_state_of-absorb_all : (others rows : List (Actor × (ℕ × List V))) → AreRows others → AreRows rows → dot_state_of (absorb_all others rows) ≡ sync (dot_state_of rows) (dot_state_of others)
+  dot_state_of-absorb_all others rows g h = λ i. record { known = known_of-absorb_all others rows g h i; live = live i }
     where
       after : AreRows (absorb_all others rows)
       after = AreRows-absorb_all others rows g h
@@ -119,27 +119,27 @@ module _ {V : Type 0} where
       other : (d : Dot) → find show_cmp d (live_of others) ≡ value_at (row_of d.actor others) d.counter
       other d = find-live_of d others g.sorted g.each
 
-      counted : (d : Dot) → covers (meaning_of rows).known d ≡ (nat_le 1 d.counter && nat_le d.counter (row_of d.actor rows).0)
-      counted d = covers-counter_in (meaning_of rows).known d ∙ ap (λ n. nat_le 1 d.counter && nat_le d.counter n) (counter_in-known_of d.actor rows h.sorted)
+      counted : (d : Dot) → covers (dot_state_of rows).known d ≡ (nat_le 1 d.counter && nat_le d.counter (row_of d.actor rows).0)
+      counted d = covers-counter_in (dot_state_of rows).known d ∙ ap (λ n. nat_le 1 d.counter && nat_le d.counter n) (counter_in-known_of d.actor rows h.sorted)
 
-      counted_there : (d : Dot) → covers (meaning_of others).known d ≡ (nat_le 1 d.counter && nat_le d.counter (row_of d.actor others).0)
-      counted_there d = covers-counter_in (meaning_of others).known d ∙ ap (λ n. nat_le 1 d.counter && nat_le d.counter n) (counter_in-known_of d.actor others g.sorted)
+      counted_there : (d : Dot) → covers (dot_state_of others).known d ≡ (nat_le 1 d.counter && nat_le d.counter (row_of d.actor others).0)
+      counted_there d = covers-counter_in (dot_state_of others).known d ∙ ap (λ n. nat_le 1 d.counter && nat_le d.counter n) (counter_in-known_of d.actor others g.sorted)
 
-      value_of : (d : Dot) (v : V) → value_in (meaning_of rows) (meaning_of others) (d, v) ≡ cond (nat_le (row_of d.actor others).0 (row_of d.actor rows).0) v (unwrap_or (value_at (row_of d.actor others) d.counter) v)
+      value_of : (d : Dot) (v : V) → value_in (dot_state_of rows) (dot_state_of others) (d, v) ≡ cond (nat_le (row_of d.actor others).0 (row_of d.actor rows).0) v (unwrap_or (value_at (row_of d.actor others) d.counter) v)
       value_of d v = λ i. cond (nat_le (counter_in-known_of d.actor others g.sorted i) (counter_in-known_of d.actor rows h.sorted i)) v (unwrap_or (other d i) v)
 
-      synced : (d : Dot) → find show_cmp d (sync (meaning_of rows) (meaning_of others)).live ≡ synced_value (row_of d.actor rows) (row_of d.actor others) d.counter
+      synced : (d : Dot) → find show_cmp d (sync (dot_state_of rows) (dot_state_of others)).live ≡ synced_value (row_of d.actor rows) (row_of d.actor others) d.counter
       synced d =
-          find-sync (meaning_of rows) (meaning_of others) d
+          find-sync (dot_state_of rows) (dot_state_of others) d
           ∙ (λ i. option_or
           (cond (not (counted d i)) (other d i) None)
           (option_map (λ v. value_of d v i) (cond ((is_some-find d (live_of others) ∙ ap is_some (other d)) i || not (counted_there d i)) (own d i) None)))
 
-      live : live_of (absorb_all others rows) ≡ (sync (meaning_of rows) (meaning_of others)).live
+      live : live_of (absorb_all others rows) ≡ (sync (dot_state_of rows) (dot_state_of others)).live
       live =
-          same_entries show_cmp show_cmp_total show_cmp-same (live_of (absorb_all others rows)) (sync (meaning_of rows) (meaning_of others)).live
+          same_entries show_cmp show_cmp_total show_cmp-same (live_of (absorb_all others rows)) (sync (dot_state_of rows) (dot_state_of others)).live
           (is_sorted-live_of (absorb_all others rows) after.sorted after.each)
-          (is_sorted-sync (meaning_of rows) (meaning_of others) (is_sorted-live_of rows h.sorted h.each))
+          (is_sorted-sync (dot_state_of rows) (dot_state_of others) (is_sorted-live_of rows h.sorted h.each))
           (λ d. find-live_of d (absorb_all others rows) after.sorted after.each
           ∙ ap (λ r. value_at r d.counter) (row_of-absorb_all d.actor others rows g h)
           ∙ value_at-merged (row_of d.actor rows) (row_of d.actor others) d.counter (row_of-within d.actor rows h.each) (row_of-within d.actor others g.each)

@@ -6,15 +6,15 @@ use Rattle.std.specs.Ordering.{eq_by_cmp}
 use Rattle.actor_epoch.specs.declared.Actor.{Actor}
 use Rattle.actor_epoch.specs.declared.Dot.{Dot}
 use Rattle.actor_epoch.specs.Dots.{actor_cmp, counter_in, covers}
-use Rattle.actor_epoch.specs.Contexts.{is_of_form}
+use Rattle.actor_epoch.specs.Contexts.{is_well_formed}
 use Rattle.actor_epoch.proofs.Order.{actor_cmp_total, covers-counter_in}
 use Rattle.std.proofs.lemmas.Bool.Decides.{nat_tests}
-use Rattle.dvv_set.specs.Clocks.{Meaning, event}
+use Rattle.dvv_set.specs.Clocks.{DotState, event}
 use Rattle.dvv_set.specs.Held.{without, known_with, known_after, values_of}
-use Rattle.dvv_set.specs.Rows.{AreRows, meaning_of, known_of, live_of, row_of, merged, with_value, rows_of_pairs, rows_without, count_new}
+use Rattle.dvv_set.specs.Rows.{AreRows, dot_state_of, known_of, live_of, row_of, merged, with_value, rows_of_pairs, rows_without, count_new}
 use Rattle.dvv_set.proofs.Rows.{counter_in-known_of}
 use Rattle.dvv_set.proofs.Absorb.{row_of-absorb_all}
-use Rattle.dvv_set.proofs.Events.{AreRows-pairs, AreRows-without, AreRows-event, meaning_of-without, meaning_of-event}
+use Rattle.dvv_set.proofs.Events.{AreRows-pairs, AreRows-without, AreRows-event, dot_state_of-without, dot_state_of-event}
 use Rattle.actor_epoch.proofs.Pairs.{counter_in-union}
 use Rattle.dvv_set.proofs.Known.{ArePairs, ArePairs-known_of, length-raise}
 use Rattle.dvv_set.proofs.Counts.{length-discard, length-known_of, length-values_of, length-merged}
@@ -29,7 +29,7 @@ module _ {V : Type 0} where
   pub covers-rows : (rows : List (Actor × (ℕ × List V))) (d : Dot) → AreRows rows → covers (known_of rows) d ≡ (nat_le 1 d.counter && nat_le d.counter (row_of d.actor rows).0)
   covers-rows rows d h = covers-counter_in (known_of rows) d ∙ ap (λ n. nat_le 1 d.counter && nat_le d.counter n) (counter_in-known_of d.actor rows h.sorted)
 
-  known-without : (pairs : Option (List Dot)) (m : Meaning V) → (without pairs m).known ≡ known_with pairs m.known
+  known-without : (pairs : Option (List Dot)) (m : DotState V) → (without pairs m).known ≡ known_with pairs m.known
   known-without None m = refl
   known-without (Some ps) m = refl
 
@@ -44,7 +44,7 @@ module _ {V : Type 0} where
       by true h = refl
       by false h = h
 
-  fewer : (a : Actor) (pairs : Option (List Dot)) (rows : List (Actor × (ℕ × List V))) → ((ps : List Dot) → pairs ≡ Some ps → IsTrue (is_of_form ps)) → AreRows rows
+  fewer : (a : Actor) (pairs : Option (List Dot)) (rows : List (Actor × (ℕ × List V))) → ((ps : List Dot) → pairs ≡ Some ps → IsTrue (is_well_formed ps)) → AreRows rows
       → length (row_of a (rows_without pairs rows)).1 ≤ length (row_of a rows).1
   fewer a None rows f h = omega arith
   fewer a (Some ps) rows f h =
@@ -54,12 +54,12 @@ module _ {V : Type 0} where
       let long = ap (λ r. length r.1) is in
       omega (arith, long, length-merged (row_of a rows) (row_of a (let given : List (Actor × (ℕ × List V)) = rows_of_pairs ps in given)).0)
 
-  module _ (rows : List (Actor × (ℕ × List V))) (pairs : Option (List Dot)) (f : (ps : List Dot) → pairs ≡ Some ps → IsTrue (is_of_form ps)) (h : AreRows rows) where
+  module _ (rows : List (Actor × (ℕ × List V))) (pairs : Option (List Dot)) (f : (ps : List Dot) → pairs ≡ Some ps → IsTrue (is_well_formed ps)) (h : AreRows rows) where
     after : AreRows (rows_without pairs rows)
     after = AreRows-without pairs rows f h
 
     known_is : known_of (rows_without pairs rows) ≡ known_with pairs (known_of rows)
-    known_is = ap (λ m. m.known) (meaning_of-without pairs rows f h) ∙ known-without pairs (meaning_of rows)
+    known_is = ap (λ m. m.known) (dot_state_of-without pairs rows f h) ∙ known-without pairs (dot_state_of rows)
 
     pub ready-counter : (a : Actor) → (row_of a (rows_without pairs rows)).0 ≡ counter_in (known_with pairs (known_of rows)) a
     ready-counter a = sym (counter_in-known_of a (rows_without pairs rows) after.sorted) ∙ ap (λ k. counter_in k a) known_is
@@ -67,11 +67,11 @@ module _ {V : Type 0} where
     pub ready-length : (a : Actor) (value : V) → length (put actor_cmp a (with_value value (row_of a (rows_without pairs rows))) (rows_without pairs rows)) ≡ length (known_after a (known_with pairs (known_of rows)))
     ready-length a value =
         sym (length-known_of (put actor_cmp a (with_value value (row_of a (rows_without pairs rows))) (rows_without pairs rows)))
-        ∙ ap (λ m. length m.known) (meaning_of-event a value (rows_without pairs rows) after)
+        ∙ ap (λ m. length m.known) (dot_state_of-event a value (rows_without pairs rows) after)
         ∙ ap (λ k. length (known_after a k)) known_is
 
-    pub ready-meaning : (a : Actor) (value : V) → meaning_of (put actor_cmp a (with_value value (row_of a (rows_without pairs rows))) (rows_without pairs rows)) ≡ event a value (without pairs (meaning_of rows))
-    ready-meaning a value = meaning_of-event a value (rows_without pairs rows) after ∙ ap (event a value) (meaning_of-without pairs rows f h)
+    pub ready-meaning : (a : Actor) (value : V) → dot_state_of (put actor_cmp a (with_value value (row_of a (rows_without pairs rows))) (rows_without pairs rows)) ≡ event a value (without pairs (dot_state_of rows))
+    ready-meaning a value = dot_state_of-event a value (rows_without pairs rows) after ∙ ap (event a value) (dot_state_of-without pairs rows f h)
 
     pub ready-rows : AreRows (rows_without pairs rows)
     ready-rows = after
@@ -104,7 +104,7 @@ module _ {V : Type 0} where
     pub known-length : length (known_with pairs (known_of rows)) ≡ length rows + count_new (rows_of_pairs (unwrap_or pairs [])) rows
     known-length = by pairs f
       where
-        by : (ps : Option (List Dot)) → ((qs : List Dot) → ps ≡ Some qs → IsTrue (is_of_form qs)) → length (known_with ps (known_of rows)) ≡ length rows + count_new (rows_of_pairs (unwrap_or ps [])) rows
+        by : (ps : Option (List Dot)) → ((qs : List Dot) → ps ≡ Some qs → IsTrue (is_well_formed qs)) → length (known_with ps (known_of rows)) ≡ length rows + count_new (rows_of_pairs (unwrap_or ps [])) rows
         by None f = omega (arith, length-known_of rows)
         by (Some qs) f = length-discard rows qs h (f qs refl)
 

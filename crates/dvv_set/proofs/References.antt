@@ -10,9 +10,9 @@ use Rattle.std.proofs.lemmas.List.{map-append, length-map}
 use Rattle.actor_epoch.specs.declared.Actor.{Actor}
 use Rattle.actor_epoch.specs.declared.Dot.{Dot}
 use Rattle.actor_epoch.specs.Dots.{actor_cmp, covers, counter_in, raise, union}
-use Rattle.dvv_set.specs.Clocks.{Meaning, show_cmp, event}
+use Rattle.dvv_set.specs.Clocks.{DotState, show_cmp, event}
 use Rattle.dvv_set.specs.Held.{without}
-use Rattle.dvv_set.specs.Rows.{values_from, known_of, live_of, meaning_of, is_row, AreRows}
+use Rattle.dvv_set.specs.Rows.{values_from, known_of, live_of, dot_state_of, is_row, AreRows}
 use Rattle.dvv_set.specs.References.{with_row, with_values}
 
 module _ {V W : Type 0} (f : V → W) where
@@ -45,7 +45,7 @@ module _ {V W : Type 0} (f : V → W) where
       (λ i. values-with row.0 row.1.0 row.1.1 i ++ live-with rows i)
       ∙ sym (map-append (λ (entry : Dot × V). (entry.0, f entry.1)) (values_from row.0 row.1.0 row.1.1) (live_of rows))
 
-  pub meaning-with : (rows : Rows V) → meaning_of (map (with_row f) rows) ≡ with_values f (meaning_of rows)
+  pub meaning-with : (rows : Rows V) → dot_state_of (map (with_row f) rows) ≡ with_values f (dot_state_of rows)
   meaning-with rows = λ i. record { known = known-with rows i; live = live-with rows i }
 
   pub are-with : (rows : Rows V) → AreRows rows → AreRows (map (with_row f) rows)
@@ -81,12 +81,12 @@ module _ {V W : Type 0} (f : V → W) where
       by true h = h
       by false h = ap (λ es. (entry.0, f entry.1) ∷ es) h
 
-  pub event-with : (actor : Actor) (v : V) (clock : Meaning V) → with_values f (event actor v clock) ≡ event actor (f v) (with_values f clock)
+  pub event-with : (actor : Actor) (v : V) (clock : DotState V) → with_values f (event actor v clock) ≡ event actor (f v) (with_values f clock)
   event-with actor v clock =
       let dot : Dot = record { actor = actor; counter = counter_in clock.known actor + 1 } in
       λ i. record { known = raise dot clock.known; live = put-with dot v clock.live i }
 
-  pub without-with : (seen : Option (List Dot)) (clock : Meaning V) → with_values f (without seen clock) ≡ without seen (with_values f clock)
+  pub without-with : (seen : Option (List Dot)) (clock : DotState V) → with_values f (without seen clock) ≡ without seen (with_values f clock)
   without-with None clock = refl
   without-with (Some pairs) clock = λ i. record { known = union clock.known pairs; live = kept-with pairs clock.live i }
 
@@ -95,8 +95,8 @@ module _ {U V W : Type 0} (f : U → W) (g : V → W) (rows : List (Actor × (�
   pub are-same : AreRows others → AreRows rows
   are-same h = are-from f rows (subst AreRows (sym same) (are-with g others h))
 
-  pub means-same : with_values f (meaning_of rows) ≡ with_values g (meaning_of others)
-  means-same = sym (meaning-with f rows) ∙ ap meaning_of same ∙ meaning-with g others
+  pub means-same : with_values f (dot_state_of rows) ≡ with_values g (dot_state_of others)
+  means-same = sym (meaning-with f rows) ∙ ap dot_state_of same ∙ meaning-with g others
 
   pub length-same : length rows ≡ length others
   length-same = sym (length-map rows (with_row f)) ∙ ap length same ∙ length-map others (with_row g)

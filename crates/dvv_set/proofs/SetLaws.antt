@@ -10,7 +10,7 @@ use Rattle.actor_epoch.specs.declared.Dot.{Dot}
 use Rattle.actor_epoch.specs.Dots.{actor_eq, dot_eq, covers, covers_by, counter_in}
 use Rattle.actor_epoch.proofs.Pairs.{covers-union, covers-raise}
 use Rattle.actor_epoch.proofs.Order.{covers-counter_in, actor_eq-same}
-use Rattle.dvv_set.specs.Clocks.{Meaning, show_cmp, sync, discard, event, is_live, value_in}
+use Rattle.dvv_set.specs.Clocks.{DotState, show_cmp, sync, discard, event, is_live, value_in}
 use Rattle.dvv_set.specs.Laws.{KnowsItsLive, SameDots, SyncKnows, is_synced, DiscardKnows, DiscardKeeps, EventKnows, EventKeeps, next_dot}
 use Rattle.dvv_set.proofs.Orders.{show_cmp_total, eq_by_cmp-dot}
 use Rattle.dvv_set.proofs.Live.{is_some-find, find-sync, dot_eq-back, alike}
@@ -154,7 +154,7 @@ module _ {V : Type 0} where
   is_some-if false o = refl
 
   -- live after a sync, whatever the clocks are
-  live-sync : (own other : Meaning V) (dot : Dot) → is_live (sync own other) dot
+  live-sync : (own other : DotState V) (dot : Dot) → is_live (sync own other) dot
       ≡ ((not (covers own.known dot) && is_live other dot) || ((is_live other dot || not (covers other.known dot)) && is_live own dot))
   live-sync own other dot =
       is_some-find dot (sync own other).live
@@ -167,16 +167,16 @@ module _ {V : Type 0} where
       ∙ is_some-if (is_live other dot || not (covers other.known dot)) (find show_cmp dot own.live)) i)
       ∙ (λ i. (not (covers own.known dot) && sym (is_some-find dot other.live) i) || ((is_live other dot || not (covers other.known dot)) && sym (is_some-find dot own.live) i))
 
-  pub sync_knows : (own other : Meaning V) (dot : Dot) → SyncKnows own other dot
+  pub sync_knows : (own other : DotState V) (dot : Dot) → SyncKnows own other dot
   sync_knows own other dot = covers-union own.known other.known dot
 
-  pub sync_keeps : (own other : Meaning V) (dot : Dot) → is_live (sync own other) dot ≡ is_synced own other dot
+  pub sync_keeps : (own other : DotState V) (dot : Dot) → is_live (sync own other) dot ≡ is_synced own other dot
   sync_keeps own other dot = live-sync own other dot ∙ arranged (covers own.known dot) (covers other.known dot) (is_live own dot) (is_live other dot)
 
-  pub discard_knows : (pairs : List Dot) (clock : Meaning V) (dot : Dot) → DiscardKnows pairs clock dot
+  pub discard_knows : (pairs : List Dot) (clock : DotState V) (dot : Dot) → DiscardKnows pairs clock dot
   discard_knows pairs clock dot = covers-union clock.known pairs dot
 
-  pub discard_keeps : (pairs : List Dot) (clock : Meaning V) (dot : Dot) → DiscardKeeps pairs clock dot
+  pub discard_keeps : (pairs : List Dot) (clock : DotState V) (dot : Dot) → DiscardKeeps pairs clock dot
   discard_keeps pairs clock dot =
       is_some-find dot (discard pairs clock).live
       ∙ ap is_some (find-where_key show_cmp (λ x. not (covers pairs x)) dot (alike (λ x. not (covers pairs x)) dot) clock.live)
@@ -190,7 +190,7 @@ module _ {V : Type 0} where
       by false true = refl
       by false false = refl
 
-  pub event_keeps : (actor : Actor) (value : V) (clock : Meaning V) (dot : Dot) → EventKeeps actor value clock dot
+  pub event_keeps : (actor : Actor) (value : V) (clock : DotState V) (dot : Dot) → EventKeeps actor value clock dot
   event_keeps actor value clock dot =
       is_some-find dot (event actor value clock).live
       ∙ ap is_some (find-put show_cmp show_cmp_total dot (next_dot actor clock) value clock.live)
@@ -201,7 +201,7 @@ module _ {V : Type 0} where
       by true = refl
       by false = refl
 
-  pub event_knows : (actor : Actor) (value : V) (clock : Meaning V) (dot : Dot) → EventKnows actor value clock dot
+  pub event_knows : (actor : Actor) (value : V) (clock : DotState V) (dot : Dot) → EventKnows actor value clock dot
   event_knows actor value clock dot =
       covers-raise (next_dot actor clock) clock.known dot
       ∙ ap (λ b. covers_by (next_dot actor clock) dot || b) (covers-counter_in clock.known dot)
@@ -222,19 +222,19 @@ module _ {V : Type 0} where
           ∙ (λ i. nat_eq (counter_in clock.known (sym same i) + 1) dot.counter || (nat_le 1 dot.counter && nat_le dot.counter (counter_in clock.known dot.actor)))
       by false e = refl
 
-  pub sync_idempotent : (clock : Meaning V) → KnowsItsLive clock → SameDots (sync clock clock) clock
+  pub sync_idempotent : (clock : DotState V) → KnowsItsLive clock → SameDots (sync clock clock) clock
   sync_idempotent clock h = record {
     known = λ dot. sync_knows clock clock dot ∙ or_itself (covers clock.known dot);
     live = λ dot. sync_keeps clock clock dot ∙ itself (covers clock.known dot) (is_live clock dot);
   }
 
-  pub sync_commutative : (a b : Meaning V) → KnowsItsLive a → KnowsItsLive b → SameDots (sync a b) (sync b a)
+  pub sync_commutative : (a b : DotState V) → KnowsItsLive a → KnowsItsLive b → SameDots (sync a b) (sync b a)
   sync_commutative a b g h = record {
     known = λ dot. sync_knows a b dot ∙ or_turned (covers a.known dot) (covers b.known dot) ∙ sym (sync_knows b a dot);
     live = λ dot. sync_keeps a b dot ∙ turned (covers a.known dot) (is_live a dot) (covers b.known dot) (is_live b dot) ∙ sym (sync_keeps b a dot);
   }
 
-  pub sync_associative : (a b c : Meaning V) → KnowsItsLive a → KnowsItsLive b → KnowsItsLive c → SameDots (sync (sync a b) c) (sync a (sync b c))
+  pub sync_associative : (a b c : DotState V) → KnowsItsLive a → KnowsItsLive b → KnowsItsLive c → SameDots (sync (sync a b) c) (sync a (sync b c))
   sync_associative a b c f g h = record {
     known = λ dot.
         sync_knows (sync a b) c dot
@@ -250,5 +250,5 @@ module _ {V : Type 0} where
         ∙ sym (sync_keeps a (sync b c) dot);
   }
 
-  pub sync_above : (a b : Meaning V) (dot : Dot) → IsTrue (covers a.known dot) → IsTrue (covers (sync a b).known dot)
+  pub sync_above : (a b : DotState V) (dot : Dot) → IsTrue (covers a.known dot) → IsTrue (covers (sync a b).known dot)
   sync_above a b dot h = sync_knows a b dot ∙ ap (λ k. k || covers b.known dot) h

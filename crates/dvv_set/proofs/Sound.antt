@@ -8,7 +8,7 @@ use Rattle.std.proofs.lemmas.Bool.Decides.{nat_tests}
 use Rattle.actor_epoch.specs.declared.Actor.{Actor}
 use Rattle.actor_epoch.specs.Dots.{actor_cmp}
 use Rattle.actor_epoch.specs.Contexts.{is_rising}
-use Rattle.dvv_set.specs.Rows.{AreRows, meaning_of, known_of, live_of, row_of}
+use Rattle.dvv_set.specs.Rows.{AreRows, dot_state_of, known_of, live_of, row_of}
 use Rattle.dvv_set.specs.Laws.{IsClock}
 use Rattle.dvv_set.proofs.Orders.{T-first, T-second, T-true}
 use Rattle.dvv_set.proofs.Rows.{value_at, find-live_of, is_sorted-live_of}
@@ -35,8 +35,8 @@ module _ {V : Type 0} where
       by true e t = let within : nat_lt (n - c) (length vs) ≡ true = sym (is_some-slice_get vs (n - c)) ∙ t in grind (arith, nat_tests)
       by false e t = cc
 
-  pub IsClock-meaning_of : (rows : List (Actor × (ℕ × List V))) → AreRows rows → length rows ≤ 64 → IsClock (meaning_of rows)
-  IsClock-meaning_of rows h few = record {
+  pub IsClock-dot_state_of : (rows : List (Actor × (ℕ × List V))) → AreRows rows → length rows ≤ 64 → IsClock (dot_state_of rows)
+  IsClock-dot_state_of rows h few = record {
     rising = rising-known_of rows h.sorted;
     few = omega (arith, few, length-known_of rows);
     positive = (ArePairs-known_of rows h).positive;

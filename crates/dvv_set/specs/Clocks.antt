@@ -9,7 +9,7 @@ use Rattle.actor_epoch.specs.declared.Dot.{Dot}
 use Rattle.actor_epoch.specs.Dots.{actor_cmp, dot_eq, covers, counter_in, raise, union}
 
 -- the dots that it knows, as pairs, and those of them that are live, each with its value
-pub record Meaning (V : Type 0) : Type 0 where
+pub record DotState (V : Type 0) : Type 0 where
   pub known : List Dot
   pub live : List (Dot × V)
 
@@ -18,7 +18,7 @@ abbrev pub show_cmp : Dot → Dot → Ordering
 show_cmp a b = ordering_then (actor_cmp a.actor b.actor) (nat_cmp b.counter a.counter)
 
 module _ {V : Type 0} where
-  abbrev pub is_live : Meaning V → Dot → Bool
+  abbrev pub is_live : DotState V → Dot → Bool
   is_live clock dot = list_any (λ entry. dot_eq entry.0 dot) clock.live
 
   abbrev pub put_all : List (Dot × V) → List (Dot × V) → List (Dot × V)
@@ -26,7 +26,7 @@ module _ {V : Type 0} where
   put_all (entry ∷ entries) live = put show_cmp entry.0 entry.1 (put_all entries live)
 
   -- of a dot that is live on both sides, the value of the side with the greater counter of its actor
-  abbrev pub value_in : Meaning V → Meaning V → Dot × V → V
+  abbrev pub value_in : DotState V → DotState V → Dot × V → V
   value_in own other entry =
       if nat_le (counter_in other.known entry.0.actor) (counter_in own.known entry.0.actor)
       then entry.1
@@ -34,7 +34,7 @@ module _ {V : Type 0} where
 
   -- a dot is known where either side knows it; it is live where both have it live, or one has it live and the other
   -- doesn't know it
-  abbrev pub sync : Meaning V → Meaning V → Meaning V
+  abbrev pub sync : DotState V → DotState V → DotState V
   sync own other =
       let kept = filter (λ entry. is_live other entry.0 || not (covers other.known entry.0)) own.live in
       let new = filter (λ entry. not (covers own.known entry.0)) other.live in
@@ -44,17 +44,17 @@ module _ {V : Type 0} where
       }
 
   -- the dots of a context are known, and no longer live
-  abbrev pub discard : List Dot → Meaning V → Meaning V
+  abbrev pub discard : List Dot → DotState V → DotState V
   discard pairs clock = record {
     known = union clock.known pairs;
     live = filter (λ entry. not (covers pairs entry.0)) clock.live;
   }
 
   -- the next dot of an actor is known and live with the value
-  abbrev pub event : Actor → V → Meaning V → Meaning V
+  abbrev pub event : Actor → V → DotState V → DotState V
   event actor value clock =
       let dot : Dot = record { actor = actor; counter = counter_in clock.known actor + 1 } in
       record { known = raise dot clock.known; live = put show_cmp dot value clock.live }
 
-  abbrev pub join : Meaning V → List Dot
+  abbrev pub join : DotState V → List Dot
   join clock = clock.known

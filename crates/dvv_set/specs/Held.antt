@@ -4,10 +4,10 @@ use Rattle.std.specs.Option.{option_map}
 use Rattle.std.specs.Borrow.{Bor}
 use Rattle.actor_epoch.specs.declared.Actor.{Actor}
 use Rattle.actor_epoch.specs.declared.Dot.{Dot}
-use Rattle.actor_epoch.specs.Limits.{most_actors, greatest_counter}
+use Rattle.actor_epoch.specs.Limits.{max_actors, max_counter}
 use Rattle.actor_epoch.specs.Dots.{actor_eq, covers, counter_in, next_dot, raise, union}
-use Rattle.actor_epoch.specs.Contexts.{is_of_form}
-use Rattle.dvv_set.specs.Clocks.{Meaning, discard}
+use Rattle.actor_epoch.specs.Contexts.{is_well_formed}
+use Rattle.dvv_set.specs.Clocks.{DotState, discard}
 
 -- the pairs of a context that a call is given or not
 abbrev pub pairs_of : Option (Bor (List Dot)) → Option (List Dot)
@@ -19,7 +19,7 @@ known_with None known = known
 known_with (Some pairs) known = union known pairs
 
 -- what stays without what a context saw; no context saw nothing
-abbrev pub without : {V : Type 0} → Option (List Dot) → Meaning V → Meaning V
+abbrev pub without : {V : Type 0} → Option (List Dot) → DotState V → DotState V
 without None clock = clock
 without (Some pairs) clock = discard pairs clock
 
@@ -37,11 +37,11 @@ counter_before known pairs actor = counter_in (known_with pairs known) actor
 
 -- the limits leave the actor a next dot
 pub record IsWithin (known : List Dot) (pairs : Option (List Dot)) (actor : Actor) : Type 0 where
-  pub few : actors_after known pairs actor ≤ most_actors
-  pub counter : counter_before known pairs actor < greatest_counter
+  pub few : actors_after known pairs actor ≤ max_actors
+  pub counter : counter_before known pairs actor < max_counter
 
 -- how many live values pairs don't cover
-abbrev pub uncovered : {V : Type 0} → List Dot → Meaning V → ℕ
+abbrev pub uncovered : {V : Type 0} → List Dot → DotState V → ℕ
 uncovered pairs clock = length (filter (λ entry. not (covers pairs entry.0)) clock.live)
 
 -- the live dots of an actor
@@ -49,23 +49,23 @@ abbrev pub values_of : {V : Type 0} → Actor → List (Dot × V) → List (Dot 
 values_of actor live = filter (λ entry. actor_eq entry.0.actor actor) live
 
 pub record Held (V : Type 0) : Type 0 where
-  pub meaning : Meaning V
+  pub meaning : DotState V
   pub actors_room : ℕ
   pub values_room : ℕ
 
 -- more than 64 actors would be known
 abbrev pub IsActorsFull : List Dot → Option (List Dot) → Actor → Type 0
-IsActorsFull known pairs actor = most_actors < actors_after known pairs actor
+IsActorsFull known pairs actor = max_actors < actors_after known pairs actor
 
 -- the actor has no next counter, and there are not too many actors
 abbrev pub IsCounterFull : List Dot → Option (List Dot) → Actor → Type 0
 IsCounterFull known pairs actor =
-    (counter_before known pairs actor ≡ greatest_counter) × (actors_after known pairs actor ≤ most_actors)
+    (counter_before known pairs actor ≡ max_counter) × (actors_after known pairs actor ≤ max_actors)
 
 -- a value can be put for an actor without what a context saw: within the limits, and in room that is there
 pub record IsReady {V : Type 0} (held : Held V) (pairs : Option (List Dot)) (actor : Actor) : Type 0 where
-  pub of_form : (ps : List Dot) → pairs ≡ Some ps → IsTrue (is_of_form ps)
-  pub few : actors_after held.meaning.known pairs actor ≤ most_actors
-  pub counter : counter_before held.meaning.known pairs actor < greatest_counter
+  pub of_form : (ps : List Dot) → pairs ≡ Some ps → IsTrue (is_well_formed ps)
+  pub few : actors_after held.meaning.known pairs actor ≤ max_actors
+  pub counter : counter_before held.meaning.known pairs actor < max_counter
   pub actors : actors_after held.meaning.known pairs actor ≤ held.actors_room
   pub values : length (values_of actor held.meaning.live) + 1 ≤ held.values_room

@@ -3,7 +3,7 @@ use Rattle.std.specs.Prelude.{List, ℕ, map, Option}
 use Rattle.std.specs.Option.{option_map}
 use Rattle.std.specs.Borrow.{Bor}
 use Rattle.actor_epoch.specs.declared.Actor.{Actor}
-use Rattle.dvv_set.specs.Clocks.{Meaning}
+use Rattle.dvv_set.specs.Clocks.{DotState}
 
 -- what is referred to, where something is
 abbrev pub referred : {V : Type 0} → Option (Bor V) → Option V
@@ -14,5 +14,5 @@ module _ {V W : Type 0} (f : V → W) where
   with_row row = (row.0, (row.1.0, map f row.1.1))
 
   -- the same dots, with these values
-  abbrev pub with_values : Meaning V → Meaning W
+  abbrev pub with_values : DotState V → DotState W
   with_values clock = record { known = clock.known; live = map (λ entry. (entry.0, f entry.1)) clock.live }

@@ -5,7 +5,7 @@ use Rattle.std.specs.FinMap.Entries.{find, put, is_sorted}
 use Rattle.actor_epoch.specs.declared.Actor.{Actor}
 use Rattle.actor_epoch.specs.declared.Dot.{Dot}
 use Rattle.actor_epoch.specs.Dots.{actor_cmp, counter_in}
-use Rattle.dvv_set.specs.Clocks.{Meaning}
+use Rattle.dvv_set.specs.Clocks.{DotState}
 
 module _ {V : Type 0} where
   -- values, newest first, with their dots: n, n - 1, and so on
@@ -20,8 +20,8 @@ module _ {V : Type 0} where
   live_of rows = flat_map (λ row. values_from row.0 row.1.0 row.1.1) rows
 
   -- an entry has seen the dots 1 to n of its actor, and its values have the last of them
-  abbrev pub meaning_of : List (Actor × (ℕ × List V)) → Meaning V
-  meaning_of rows = record { known = known_of rows; live = live_of rows }
+  abbrev pub dot_state_of : List (Actor × (ℕ × List V)) → DotState V
+  dot_state_of rows = record { known = known_of rows; live = live_of rows }
 
   -- n is at least 1, and no value has a dot below 1
   abbrev pub is_row : Actor × (ℕ × List V) → Bool

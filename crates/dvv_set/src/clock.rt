@@ -8,14 +8,14 @@ use crate::join::Join;
 use crate::needed::Needed;
 use crate::room;
 use crate::values::Values;
-use actor_epoch::{Actor, Context, Counter, Dot, GREATEST_COUNTER, MOST_ACTORS};
+use actor_epoch::{Actor, Context, Counter, Dot, MAX_COUNTER, MAX_ACTORS};
 use std::alloc::{AllocError, Global};
 use std::default::MadeWith;
 use std::marker::Model;
 use std::mem;
 
 /// The clock of a key, with its concurrent values. Contracts see what it means, the dots that it knows and those of them
-/// that are live, each with its value (`Meaning`), and how much it has room for (`Held`).
+/// that are live, each with its value (`DotState`), and how much it has room for (`Held`).
 ///
 /// A life, at one actor a: new, it knows nothing. `event(a, v)`: it knows the dot (a, 1), live with v. `event(a, w)`, by a
 /// writer that had not seen v: it knows (a, 1) and (a, 2) and shows w, v. A writer that had seen v alone brings the context
@@ -34,10 +34,10 @@ impl<V: MadeWith<Global> + Drop> Model for Clock<V> {
 
     ghost Value = { Held V };
 
-    ghost use Rattle.dvv_set.specs.Rows.{meaning_of, AreRows};
+    ghost use Rattle.dvv_set.specs.Rows.{dot_state_of, AreRows};
     ghost use Rattle.dvv_set.specs.Stored.{as_rows};
 
-    ghost view = { λ c. record { meaning = meaning_of (as_rows c.entries.items); actors_room = vec_capacity c.entries; values_room = vec_capacity c.spare } };
+    ghost view = { λ c. record { meaning = dot_state_of (as_rows c.entries.items); actors_room = vec_capacity c.entries; values_room = vec_capacity c.spare } };
 
     ghost invariant = { λ c. record { rows : AreRows (as_rows c.entries.items); few : length c.entries.items ≤ 64; empty : c.spare.items ≡ [] } };
 }
@@ -66,9 +66,9 @@ impl<V: MadeWith<Global> + Drop> Clock<V> {
     pub fn sync(&mut self, other: Clock<V>) -> Result<(), Rejected<Clock<V>>>
         ensures synced { OnOk result (self.new.meaning ≡ sync self.old.meaning other.meaning) }
         ensures refused { IfErr result (λ refused. (refused.value ≡ other) × (self.new.meaning ≡ self.old.meaning)) }
-        ensures full { IfErr result (λ refused. (refused.fault ≡ ClockFault.ActorsFull) ↔ (MOST_ACTORS < length (sync self.old.meaning other.meaning).known)) }
+        ensures full { IfErr result (λ refused. (refused.fault ≡ ClockFault.ActorsFull) ↔ (MAX_ACTORS < length (sync self.old.meaning other.meaning).known)) }
         ensures never { IfErr result (λ refused. refused.fault ≡ ClockFault.CounterFull → ⊥) }
-        ensures within { OnOk result (length (sync self.old.meaning other.meaning).known ≤ MOST_ACTORS) }
+        ensures within { OnOk result (length (sync self.old.meaning other.meaning).known ≤ MAX_ACTORS) }
     {
         let new = room::count_new(&self.entries, &other.entries);
         if let Err(fault) = room::make_room(&mut self.entries, new) {
@@ -87,9 +87,9 @@ impl<V: MadeWith<Global> + Drop> Clock<V> {
     pub fn discard(&mut self, context: &Context<'_>) -> Result<(), ClockFault>
         ensures discarded { OnOk result (self.new.meaning ≡ discard context.now self.old.meaning) }
         ensures refused { OnErr result (self.new.meaning ≡ self.old.meaning) }
-        ensures full { IfErr result (λ fault. (fault ≡ ClockFault.ActorsFull) ↔ (MOST_ACTORS < length (discard context.now self.old.meaning).known)) }
+        ensures full { IfErr result (λ fault. (fault ≡ ClockFault.ActorsFull) ↔ (MAX_ACTORS < length (discard context.now self.old.meaning).known)) }
         ensures never { IfErr result (λ fault. fault ≡ ClockFault.CounterFull → ⊥) }
-        ensures within { OnOk result (length (discard context.now self.old.meaning).known ≤ MOST_ACTORS) }
+        ensures within { OnOk result (length (discard context.now self.old.meaning).known ≤ MAX_ACTORS) }
     {
         let new = room::count_new_pairs(&self.entries, context.pairs());
         if let Err(fault) = room::make_room(&mut self.entries, new) {
@@ -194,10 +194,10 @@ impl<V: MadeWith<Global> + Drop> Clock<V> {
         ensures counter_full { IfErr result (λ fault. (fault ≡ ClockFault.CounterFull) ↔ IsCounterFull self.old.meaning.known (pairs_of context.entry) actor) }
     {
         let needed = self.needed(context, actor);
-        if MOST_ACTORS < needed.actors {
+        if MAX_ACTORS < needed.actors {
             return Err(ClockFault::ActorsFull);
         }
-        if needed.counter == GREATEST_COUNTER {
+        if needed.counter == MAX_COUNTER {
             return Err(ClockFault::CounterFull);
         }
         if self.reserve(context, actor).is_err() {
@@ -210,8 +210,8 @@ impl<V: MadeWith<Global> + Drop> Clock<V> {
     /// is, with the value back.
     pub fn event(&mut self, actor: Actor, value: V) -> Result<(), Rejected<V>>
         ensures put { OnOk result (self.new.meaning ≡ event actor value self.old.meaning) }
-        ensures within { OnOk result (length (event actor value self.old.meaning).known ≤ MOST_ACTORS) }
-        ensures counter { OnOk result (counter_in self.old.meaning.known actor < GREATEST_COUNTER) }
+        ensures within { OnOk result (length (event actor value self.old.meaning).known ≤ MAX_ACTORS) }
+        ensures counter { OnOk result (counter_in self.old.meaning.known actor < MAX_COUNTER) }
         ensures refused { IfErr result (λ refused. (refused.value ≡ value) × (self.new.meaning ≡ self.old.meaning)) }
         ensures actors_full { IfErr result (λ refused. (refused.fault ≡ ClockFault.ActorsFull) ↔ IsActorsFull self.old.meaning.known None actor) }
         ensures counter_full { IfErr result (λ refused. (refused.fault ≡ ClockFault.CounterFull) ↔ IsCounterFull self.old.meaning.known None actor) }

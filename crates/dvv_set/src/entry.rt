@@ -5,13 +5,13 @@ ghost use Rattle.std.specs.FinMap.Entries.{find, put, is_sorted};
 ghost use Rattle.std.specs.List.{list_all, insert};
 ghost use Rattle.actor_epoch.specs.Dots.{actor_cmp};
 ghost use Rattle.dvv_set.specs.Rows.{is_row, row_of, merged, absorb, absorb_all, rows_of_pairs, with_value, AreRows, rows_without, emptied};
-ghost use Rattle.actor_epoch.specs.Contexts.{is_of_form};
+ghost use Rattle.actor_epoch.specs.Contexts.{is_well_formed};
 ghost use Rattle.actor_epoch.specs.declared.Dot.{Dot};
 ghost use Rattle.dvv_set.specs.Held.{pairs_of};
 ghost use Rattle.dvv_set.specs.References.{referred, with_row};
 ghost use Rattle.dvv_set.specs.Stored.{as_row, as_rows, seek};
 
-use actor_epoch::{Actor, Context, ContextPairs, Counter, GREATEST_COUNTER};
+use actor_epoch::{Actor, Context, ContextPairs, Counter, MAX_COUNTER};
 use std::alloc::{AllocError, Global};
 use std::cmp::Ordering;
 
@@ -145,7 +145,7 @@ pub(crate) fn absorb_pairs<V: Drop>(
     pairs: ContextPairs<'_>,
 )
     requires own_rows { AreRows (as_rows entries.old.items) }
-    requires of_form { IsTrue (is_of_form pairs) }
+    requires of_form { IsTrue (is_well_formed pairs) }
     requires room { length (absorb_all (rows_of_pairs pairs) (as_rows entries.old.items)) ≤ vec_capacity entries.old }
     ensures absorbed { as_rows entries.new.items ≡ absorb_all (rows_of_pairs pairs.entry) (as_rows entries.old.items) }
     ensures capacity { vec_capacity entries.old ≤ vec_capacity entries.new }
@@ -167,7 +167,7 @@ pub(crate) fn absorb_pairs<V: Drop>(
 pub(crate) fn size_of<V>(entries: &Vec<Entry<V>>, actor: Actor) -> (Counter, usize)
     requires { T (is_sorted actor_cmp (as_rows entries.now.items)) }
     ensures counter { result.0 ≡ (row_of actor (as_rows entries.now.items)).0 }
-    ensures greatest { result.0 ≤ GREATEST_COUNTER }
+    ensures greatest { result.0 ≤ MAX_COUNTER }
     ensures values { result.1 ≡ length (row_of actor (as_rows entries.now.items)).1 }
 {
     match seek(entries, actor) {
@@ -183,7 +183,7 @@ pub(crate) fn size_of<V>(entries: &Vec<Entry<V>>, actor: Actor) -> (Counter, usi
 pub(crate) fn put_value<V: Drop>(entries: &mut Vec<Entry<V>>, spare: Vec<V>, actor: Actor, value: V)
     requires rows { AreRows (as_rows entries.old.items) }
     requires empty { spare.items ≡ [] }
-    requires counter { (row_of actor (as_rows entries.old.items)).0 < GREATEST_COUNTER }
+    requires counter { (row_of actor (as_rows entries.old.items)).0 < MAX_COUNTER }
     requires values { length (row_of actor (as_rows entries.old.items)).1 + 1 ≤ vec_capacity spare }
     requires actors { length (put actor_cmp actor (with_value value (row_of actor (as_rows entries.old.items))) (as_rows entries.old.items)) ≤ vec_capacity entries.old }
     ensures { as_rows entries.new.items ≡ put actor_cmp actor (with_value value (row_of actor (as_rows entries.old.items))) (as_rows entries.old.items) }
@@ -209,7 +209,7 @@ pub(crate) fn put_value<V: Drop>(entries: &mut Vec<Entry<V>>, spare: Vec<V>, act
 
 /// Counts one more, and has the entry's values behind the new one, in its room.
 fn add_values<V: Drop>(entry: &mut Entry<V>, values: Vec<V>)
-    requires counter { entry.old.counter < GREATEST_COUNTER }
+    requires counter { entry.old.counter < MAX_COUNTER }
     requires room { length values.items + length entry.old.values.items ≤ vec_capacity values }
     ensures { as_row entry.new ≡ (entry.old.actor, (entry.old.counter + 1, values.items ++ entry.old.values.items)) }
 {
@@ -231,7 +231,7 @@ pub(crate) fn absorb_context<V: Drop>(
     requires room { length (rows_without (pairs_of context) (as_rows entries.old.items)) ≤ vec_capacity entries.old }
     ensures absorbed { as_rows entries.new.items ≡ rows_without (pairs_of context.entry) (as_rows entries.old.items) }
     ensures capacity { vec_capacity entries.old ≤ vec_capacity entries.new }
-    ensures of_form { (ps : List Dot) → pairs_of context.entry ≡ Some ps → IsTrue (is_of_form ps) }
+    ensures of_form { (ps : List Dot) → pairs_of context.entry ≡ Some ps → IsTrue (is_well_formed ps) }
 {
     if let Some(context) = context {
         absorb_pairs(alloc, entries, context.pairs());

@@ -1,6 +1,6 @@
 //! Dotted version vector sets: the clock of a key, with its concurrent values.
 //!
-//! A clock means a set of known dots, and those of them that are live, each with its value (`specs/Clocks`: `Meaning`).
+//! A clock means a set of known dots, and those of them that are live, each with its value (`specs/Clocks`: `DotState`).
 //! Its calls are `sync`, `discard` and `event` there, in `specs/Laws` said dot by dot. A sync is idempotent, commutative
 //! and associative in what is known and live (`sync_joins`). In code a clock is the module's entries (actor, n, values):
 //! the dots 1 to n are known, and the values, newest first, have the last of them (`specs/Rows`).

@@ -2,7 +2,7 @@
 
 ghost use Rattle.std.specs.Prelude.{◌≡◌, ◌≤◌, ◌<◌, ◌+◌, ◌-◌, List, [], IsTrue, length, min, unwrap_or, vec_capacity, ◌↔◌, OnOk, IfErr, Some};
 ghost use Rattle.actor_epoch.specs.declared.Dot.{Dot};
-ghost use Rattle.actor_epoch.specs.Contexts.{is_of_form};
+ghost use Rattle.actor_epoch.specs.Contexts.{is_well_formed};
 ghost use Rattle.actor_epoch.specs.Dots.{counter_in};
 ghost use Rattle.dvv_set.specs.Held.{pairs_of, actors_after, counter_before};
 ghost use Rattle.dvv_set.specs.Rows.{AreRows, known_of, rows_of_pairs, count_new, count_uncovered, newer};
@@ -10,7 +10,7 @@ ghost use Rattle.dvv_set.specs.Stored.{as_row, as_rows};
 
 use crate::entry::{Entry, has, size_of};
 use crate::fault::ClockFault;
-use actor_epoch::{Actor, Context, ContextPairs, Counter, GREATEST_COUNTER, MOST_ACTORS};
+use actor_epoch::{Actor, Context, ContextPairs, Counter, MAX_COUNTER, MAX_ACTORS};
 
 /// How many of other entries have actors that are new.
 pub(crate) fn count_new<V>(entries: &[Entry<V>], others: &[Entry<V>]) -> usize
@@ -27,7 +27,7 @@ pub(crate) fn count_new<V>(entries: &[Entry<V>], others: &[Entry<V>]) -> usize
 
 /// How many of the pairs have actors that are new.
 pub(crate) fn count_new_pairs<V>(entries: &[Entry<V>], pairs: ContextPairs<'_>) -> usize
-    requires { IsTrue (is_of_form pairs) }
+    requires { IsTrue (is_well_formed pairs) }
     ensures counted { result ≡ count_new (rows_of_pairs pairs.entry) (as_rows entries.now) }
     ensures few { result ≤ 64 }
 {
@@ -49,7 +49,7 @@ fn context_counts<V>(
     ensures counter { result.0 ≡ counter_in (unwrap_or (pairs_of context.entry) []) actor }
     ensures new { result.1 ≡ count_new (rows_of_pairs (unwrap_or (pairs_of context.entry) [])) (as_rows entries.now) }
     ensures few { result.1 ≤ 64 }
-    ensures of_form { (ps : List Dot) → pairs_of context.entry ≡ Some ps → IsTrue (is_of_form ps) }
+    ensures of_form { (ps : List Dot) → pairs_of context.entry ≡ Some ps → IsTrue (is_well_formed ps) }
 {
     match context {
         None => (0, 0),
@@ -71,9 +71,9 @@ pub(crate) fn required_room<V>(
     ensures counter { result.0 ≡ counter_before (known_of (as_rows entries.now.items)) (pairs_of context.entry) actor }
     ensures more { length entries.now.items + result.1
         ≡ actors_after (known_of (as_rows entries.now.items)) (pairs_of context.entry) actor }
-    ensures greatest { result.0 ≤ GREATEST_COUNTER }
+    ensures greatest { result.0 ≤ MAX_COUNTER }
     ensures few { result.1 ≤ 65 }
-    ensures of_form { (ps : List Dot) → pairs_of context.entry ≡ Some ps → IsTrue (is_of_form ps) }
+    ensures of_form { (ps : List Dot) → pairs_of context.entry ≡ Some ps → IsTrue (is_well_formed ps) }
 {
     let (own, _) = size_of(entries, actor);
     let (given, new) = context_counts(entries, context, actor);
@@ -99,7 +99,7 @@ pub(crate) fn uncovered<V>(entries: &[Entry<V>], context: Option<&Context<'_>>) 
 /// How many values of an entry a context doesn't cover: those above the actor's counter in it, which are the newest.
 fn newer<V>(entry: &Entry<V>, context: Option<&Context<'_>>) -> usize
     ensures newer { result ≡ newer (counter_in (unwrap_or (pairs_of context.entry) []) entry.now.actor) (as_row entry.now).1 }
-    ensures few { result ≤ GREATEST_COUNTER }
+    ensures few { result ≤ MAX_COUNTER }
 {
     let seen = match context {
         None => 0,
@@ -114,12 +114,12 @@ pub(crate) fn make_room<V>(entries: &mut Vec<Entry<V>>, more: usize) -> Result<(
     requires few { length entries.old.items ≤ 64 }
     requires more { more ≤ 65 }
     ensures unchanged { entries.new.items ≡ entries.old.items }
-    ensures ok { OnOk result ((length entries.old.items + more ≤ MOST_ACTORS)
+    ensures ok { OnOk result ((length entries.old.items + more ≤ MAX_ACTORS)
         × (length entries.old.items + more ≤ vec_capacity entries.new)) }
-    ensures full { IfErr result (λ fault. (fault ≡ ClockFault.ActorsFull) ↔ (MOST_ACTORS < length entries.old.items + more)) }
+    ensures full { IfErr result (λ fault. (fault ≡ ClockFault.ActorsFull) ↔ (MAX_ACTORS < length entries.old.items + more)) }
     ensures never { IfErr result (λ fault. fault ≡ ClockFault.CounterFull → ⊥) }
 {
-    if entries.len() + more > MOST_ACTORS {
+    if entries.len() + more > MAX_ACTORS {
         return Err(ClockFault::ActorsFull);
     }
     if entries.reserve(more).is_err() {

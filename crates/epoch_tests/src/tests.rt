@@ -1,6 +1,6 @@
 //! Contexts as their bytes, and the epochs of a vnode.
 
-use actor_epoch::{Actor, Context, Counter, Dot, EpochSource, GREATEST_EPOCH, MalformedContext};
+use actor_epoch::{Actor, Context, Counter, Dot, EpochSource, MAX_EPOCH, MalformedContext};
 use std::alloc::{AllocError, Global};
 use std::process::Abort;
 use std::test::Fail;
@@ -133,7 +133,7 @@ fn gives(epochs: &mut EpochSource, epoch: Option<u32>) -> bool {
 
 #[test]
 fn the_last_epoch_is_given_once(rt: HostRuntime) {
-    let mut epochs = EpochSource::new(GREATEST_EPOCH);
+    let mut epochs = EpochSource::new(MAX_EPOCH);
     let is_given = gives(&mut epochs, Some(4_294_967_295));
     let is_last = gives(&mut epochs, None) && epochs.last() == 4_294_967_295;
     assert!(rt; is_given && is_last);

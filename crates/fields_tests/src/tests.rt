@@ -58,7 +58,7 @@ fn reads_each_wire_type(rt: HostRuntime) {
     first(
         &rt,
         b"\xf8\xff\xff\xff\x0f\x00",
-        field(GREATEST_NUMBER, Value::Varint(0)),
+        field(MAX_FIELD_NUMBER, Value::Varint(0)),
     );
 }
 
@@ -144,7 +144,7 @@ fn writes_fields(out: &mut Vec<u8>) -> bool {
     append_bytes(out, 1, b"b")
         && append_bytes(out, 2, b"k")
         && append_varint(out, 16, 300)
-        && append_varint(out, GREATEST_NUMBER, u64::MAX)
+        && append_varint(out, MAX_FIELD_NUMBER, u64::MAX)
 }
 
 fn are_fields(bytes: &[u8]) -> bool {
@@ -158,7 +158,7 @@ fn are_read(bytes: &[u8]) -> bool {
     next_is(&mut fields, 1, Value::Bytes(b"b"))
         && next_is(&mut fields, 2, Value::Bytes(b"k"))
         && next_is(&mut fields, 16, Value::Varint(300))
-        && next_is(&mut fields, GREATEST_NUMBER, Value::Varint(u64::MAX))
+        && next_is(&mut fields, MAX_FIELD_NUMBER, Value::Varint(u64::MAX))
         && fields.next().is_none()
 }
 

@@ -1,6 +1,6 @@
 //! Streams of frames, cut and fed in any pieces, and frames made of messages.
 
-use pb_frame::{Frame, FrameFault, Framer, LONGEST_REQUEST, frame_of};
+use pb_frame::{Frame, FrameFault, Framer, MAX_REQUEST_LEN, frame_of};
 use std::alloc::{AllocError, Global};
 use std::process::Abort;
 use std::test::Fail;
@@ -53,7 +53,7 @@ fn come_byte_by_byte(framer: &mut Framer) -> Result<bool, FrameFault> {
 }
 
 fn new_framer(alloc: Global) -> Framer {
-    Framer::new(alloc, LONGEST_REQUEST)
+    Framer::new(alloc, MAX_REQUEST_LEN)
 }
 
 #[test]
@@ -143,7 +143,7 @@ fn three_bytes_are_no_frame(rt: HostRuntime) -> Result<(), Fail> {
 }
 
 /// The greatest length of a reply's frame that a client takes: 256 MiB.
-const LONGEST_REPLY: u32 = 268_435_456;
+const MAX_REPLY_LEN: u32 = 268_435_456;
 
 /// What a client's framer gives that was fed the length bytes and so many MiB of zeros, code and body.
 fn reply_of_length(
@@ -167,7 +167,7 @@ fn take_reply(
     want: Result<Option<usize>, FrameFault>,
 ) -> Result<(), AllocError> {
     let mebibyte = vec![in alloc; 0u8; 1_048_576]?;
-    let mut framer = Framer::new(alloc, LONGEST_REPLY);
+    let mut framer = Framer::new(alloc, MAX_REPLY_LEN);
     let got = reply_of_length(&mut framer, length, &mebibyte, count);
     assert!(rt; got == want, "at length {length:?}");
     Ok(())

@@ -8,7 +8,7 @@ use Rattle.std.proofs.lemmas.List.Concat.{flat_map-append}
 use Rattle.pb_frame.specs.Message.{Message, frame, IsWithin}
 use Rattle.riak_msgs.specs.declared.request.Request.{Request}
 use Rattle.riak_msgs.specs.declared.reply.Reply.{Reply}
-use Rattle.pb_frame.specs.Limits.{longest_request}
+use Rattle.pb_frame.specs.Limits.{max_request_len}
 use Rattle.node_session.specs.Answers.{Run, reply_frame}
 use Rattle.node_session.specs.Answered.{Answered, StandsAt}
 use Rattle.pb_frame.specs.Stream.{Stream}
@@ -40,7 +40,7 @@ module _ {S : Type 0} (Step : S → Request → Reply → S → Type 0) where
     rest = x;
     last = [];
     stream = refl;
-    each = All-nil (IsWithin longest_request);
+    each = All-nil (IsWithin max_request_len);
     run = refl;
     counted = refl;
     written = Appends-nil held;
@@ -61,7 +61,7 @@ module _ {S : Type 0} (Step : S → Request → Reply → S → Type 0) where
         ∙ ap (λ (t : List ℕ). flat_map frame p.messages ++ t) q.stream
         ∙ sym (append_assoc (flat_map frame p.messages) (flat_map frame q.messages) q.rest)
         ∙ ap (λ (t : List ℕ). t ++ q.rest) (sym (flat_map-append frame p.messages q.messages));
-    each = All-append (IsWithin longest_request) p.messages q.messages p.each q.each;
+    each = All-append (IsWithin max_request_len) p.messages q.messages p.each q.each;
     run = Run-append a b q.mid p.messages q.messages p.replies q.replies (subst (Run Step a p.messages p.replies) (sym p.ends.node) p.run) q.run;
     counted = length-append p.messages q.messages ∙ omega (arith, p.counted, q.counted);
     written =

@@ -9,7 +9,7 @@ use Rattle.std.proofs.lemmas.List.Elements.{All-head}
 use Rattle.std.proofs.Math.Seq.{take-append_seam}
 use Rattle.pb_frame.specs.declared.fault.FrameFault.{FrameFault}
 use Rattle.pb_frame.specs.declared.fault.FrameFault.TheVariants as frames
-use Rattle.pb_frame.specs.Limits.{longest_request}
+use Rattle.pb_frame.specs.Limits.{max_request_len}
 use Rattle.pb_frame.specs.Stream.{Stream}
 use Rattle.pb_frame.specs.Message.{Message, frame, IsWithin, IsPartial, IsFaulty}
 use Rattle.riak_msgs.specs.declared.request.Request.{Request}
@@ -28,14 +28,14 @@ unfolding frame
 some_frame m = omega arith
 
 -- nothing is wrong with nothing
-pub none_partial : IsPartial longest_request []
+pub none_partial : IsPartial max_request_len []
 none_partial = record {
   left = λ m more within e. absurd (omega (arith, ap length e ∙ length-append (frame m) more, some_frame m));
   short = λ long. absurd (omega (arith, long));
 }
 
 -- a frame at the front ends behind what has none
-behind : (y piece more : List ℕ) (m : Message) → IsPartial longest_request y → IsWithin longest_request m → y ++ piece ≡ frame m ++ more → length y < length (frame m)
+behind : (y piece more : List ℕ) (m : Message) → IsPartial max_request_len y → IsWithin max_request_len m → y ++ piece ≡ frame m ++ more → length y < length (frame m)
 behind y piece more m partial within e =
     let n = length (frame m) in
     elim (cases_lt (length y) n) [
@@ -46,13 +46,13 @@ behind y piece more m partial within e =
     ]
 
 -- what is left of a piece behind what has no frame, once some messages were answered
-just_read : (ms : List Message) (rest y piece : List ℕ) → y ++ piece ≡ flat_map frame ms ++ rest → All (IsWithin longest_request) ms
-    → IsPartial longest_request y → 0 < length piece → length piece ≤ 4096 → 0 < length rest → CameInLastRead rest
+just_read : (ms : List Message) (rest y piece : List ℕ) → y ++ piece ≡ flat_map frame ms ++ rest → All (IsWithin max_request_len) ms
+    → IsPartial max_request_len y → 0 < length piece → length piece ≤ 4096 → 0 < length rest → CameInLastRead rest
 just_read [] rest y piece e each partial some bound left = record { before = y; piece = piece; splits = sym e; some = some; bound = bound; partial = partial }
 just_read (m ∷ ms) rest y piece e each partial some bound left =
     let more = flat_map frame ms ++ rest in
     let front : y ++ piece ≡ frame m ++ more = e ∙ append_assoc (frame m) (flat_map frame ms) rest in
-    let ends = behind y piece more m partial (All-head (IsWithin longest_request) m ms each) front in
+    let ends = behind y piece more m partial (All-head (IsWithin max_request_len) m ms each) front in
     let len : length y + length piece ≡ length (frame m) + length more = sym (length-append y piece) ∙ ap length front ∙ length-append (frame m) more in
     let long : length more ≡ length (flat_map frame ms) + length rest = length-append (flat_map frame ms) rest in
     record { before = []; piece = rest; splits = refl; some = left; bound = omega (arith, ends, len, long, bound); partial = none_partial }
@@ -63,7 +63,7 @@ fed framer framer' (Ok u) piece e p = p
 fed framer framer' (Err f) piece e p = absurd (false≢true e)
 
 -- a bad length has a byte
-some_error : (rest : List ℕ) (fault : FrameFault) → IsFaulty longest_request rest fault → 0 < length rest
+some_error : (rest : List ℕ) (fault : FrameFault) → IsFaulty max_request_len rest fault → 0 < length rest
 some_error rest frames.Empty p = omega (arith, p.length.0)
 some_error rest frames.TooLarge p = omega (arith, p.length.0)
 some_error rest frames.NoMemory p = absurd p.length
@@ -80,14 +80,14 @@ module _ {S : Type 0} (Step : S → Request → Reply → S → Type 0) where
 
   -- a stop among the answers to what a framer holds and a piece behind it
   stops_at : (stop : Stop) (a b : S) (y piece : List ℕ) (h h' : Option (List ℕ)) (k : ℕ) (Ends : S → List ℕ → List ℕ → Type 0)
-      → ((mid : S) (rest last : List ℕ) → AtLastRead (StopEnds Step stop b) mid rest last → Ends mid rest last) → IsPartial longest_request y → 0 < length piece → length piece ≤ 4096
+      → ((mid : S) (rest last : List ℕ) → AtLastRead (StopEnds Step stop b) mid rest last → Ends mid rest last) → IsPartial max_request_len y → 0 < length piece → length piece ≤ 4096
       → Answered Step a (y ++ piece) h h' k (StopEnds Step stop b) → Answered Step a (y ++ piece) h h' k Ends
   stops_at stop a b y piece h h' k Ends weaker partial some bound p =
       Answered-as Step a (y ++ piece) h h' h' k (StopEnds Step stop b) Ends p (Keeps-refl h')
       (weaker p.mid p.rest p.last (just_read p.messages p.rest y piece p.stream p.each partial some bound (some_end stop b p.mid p.rest p.last p.ends), p.ends))
 
   pub pieces : (a b : S) (framer framer' : Stream) (piece : List ℕ) (h h' : Option (List ℕ)) (k : ℕ) (r : Result (Unit {0}) Stop)
-      → IsPartial longest_request framer.rest → 0 < length piece → length piece ≤ 4096
+      → IsPartial max_request_len framer.rest → 0 < length piece → length piece ≤ 4096
       → AnswersAll Step a b (record framer { rest = framer.rest ++ piece }) framer' h h' k r → AnswersPiece Step a b framer framer' piece h h' k r
   pieces a b framer framer' piece h h' k (Ok u) partial some bound p = p
   pieces a b framer framer' piece h h' k (Err stops.WriteFailed) partial some bound p = stops_at stops.WriteFailed a b framer.rest piece h h' k (WriteFailedAt Step b) (λ mid rest last x. inl x) partial some bound p
@@ -95,7 +95,7 @@ module _ {S : Type 0} (Step : S → Request → Reply → S → Type 0) where
   pieces a b framer framer' piece h h' k (Err stops.NoMemory) partial some bound p = stops_at stops.NoMemory a b framer.rest piece h h' k (AtLastRead (IsOutOfMemory Step b)) (λ mid rest last x. (x.0, inl x.1)) partial some bound p
 
   -- memory was refused for a piece
-  pub unkept : (a : S) (y piece : List ℕ) (h : Option (List ℕ)) → IsPartial longest_request y → 0 < length piece → length piece ≤ 4096 → Answered Step a (y ++ piece) h h 0 (AtLastRead (IsOutOfMemory Step a))
+  pub unkept : (a : S) (y piece : List ℕ) (h : Option (List ℕ)) → IsPartial max_request_len y → 0 < length piece → length piece ≤ 4096 → Answered Step a (y ++ piece) h h 0 (AtLastRead (IsOutOfMemory Step a))
   unkept a y piece h partial some bound =
       stopped Step a (y ++ piece) [] h h (AtLastRead (IsOutOfMemory Step a)) (Appends-nil h)
       (record { before = y; piece = piece; splits = refl; some = some; bound = bound; partial = partial }, inr (record { node = refl; nothing = refl }))

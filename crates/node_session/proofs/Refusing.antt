@@ -14,7 +14,7 @@ use Rattle.node_session.specs.PlainStep.{StepsBy, refusal_text}
 
 -- what the machine accepts may be refused memory
 gives_up : (state new : State Content) (o : StepOutcome) → IsAccepted o → new ≡ state → StepsBy state o (Error (refusal_text (number_of NoMemory))) new
-gives_up state new (Accepted deed response next) is same = inr (refl, same)
+gives_up state new (Accepted operation response next) is same = inr (refl, same)
 gives_up state new (Refused number) is same = elim is [ ]
 gives_up state new (Answered response) is same = elim is [ ]
 

@@ -43,9 +43,9 @@ turn_by old new ask reply (Refused number) e p =
 turn_by old new ask reply (Answered response) e (inl p) =
     record { result = Ok response; replied = p.0; takes = inl (ap result_of (sym e), subst (λ (o : StepOutcome). new ≡ state_after_step old o) (sym e) p.1) }
 turn_by old new ask reply (Answered response) e (inr p) = record { result = Err no_memory; replied = p.0; takes = inr (refl, p.1) }
-turn_by old new ask reply (Accepted deed response next) e (inl p) =
+turn_by old new ask reply (Accepted operation response next) e (inl p) =
     record { result = Ok response; replied = p.0; takes = inl (ap result_of (sym e), subst (λ (o : StepOutcome). new ≡ state_after_step old o) (sym e) p.1) }
-turn_by old new ask reply (Accepted deed response next) e (inr p) = record { result = Err no_memory; replied = p.0; takes = inr (refl, p.1) }
+turn_by old new ask reply (Accepted operation response next) e (inr p) = record { result = Err no_memory; replied = p.0; takes = inr (refl, p.1) }
 
 -- an ask and the reaps after it, as turns that a vnode takes
 record AreTurns (budget : ℕ) (old : State Content) (ask : Ask Content Context) (reply : Reply) (new : State Content) : Type 0 where

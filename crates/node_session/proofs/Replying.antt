@@ -14,7 +14,7 @@ use Rattle.riak_msgs.specs.declared.request.Request.{Request}
 use Rattle.riak_msgs.specs.Reading.{Reads}
 use Rattle.riak_msgs.specs.declared.reply.Reply.{Reply}
 use Rattle.riak_msgs.specs.declared.reply.Reply.TheVariants.{Error}
-use Rattle.pb_frame.specs.Limits.{longest_request}
+use Rattle.pb_frame.specs.Limits.{max_request_len}
 use Rattle.node_session.specs.declared.sending.Stop.{Stop}
 use Rattle.node_session.specs.declared.sending.Stop.TheVariants as stops
 use Rattle.node_session.specs.Answers.{Answers, reply_frame, message_fault_text, frame_fault_text}
@@ -53,7 +53,7 @@ module _ {S : Type 0} (Step : S → Request → Reply → S → Type 0) where
   }
 
   -- a message that was taken and answered
-  pub next_answered : (old new : S) (m : Message) (framer framer' : Stream) (a b : Option (List ℕ)) → framer.limit ≡ longest_request
+  pub next_answered : (old new : S) (m : Message) (framer framer' : Stream) (a b : Option (List ℕ)) → framer.limit ≡ max_request_len
       → IsTaken framer m framer' → Answering Step old m new a b (Ok tt) → IsNext Step old new framer framer' a b
   next_answered old new m framer framer' a b limit taken answered = record {
     stream = taken.stream;
@@ -64,7 +64,7 @@ module _ {S : Type 0} (Step : S → Request → Reply → S → Type 0) where
       rest = framer'.rest;
       last = [];
       stream = taken.front ∙ ap (λ (t : List ℕ). t ++ framer'.rest) (sym (append-nil (frame m)));
-      each = All-cons (IsWithin longest_request) m [] (subst (λ (n : ℕ). IsWithin n m) limit taken.within) (All-nil (IsWithin longest_request));
+      each = All-cons (IsWithin max_request_len) m [] (subst (λ (n : ℕ). IsWithin n m) limit taken.within) (All-nil (IsWithin max_request_len));
       run = (new, answered.answers, refl);
       counted = refl;
       written = subst (Appends a b) (sym (append-nil (reply_frame answered.reply)) ∙ sym (append-nil (reply_frame answered.reply ++ []))) answered.sends;
@@ -73,7 +73,7 @@ module _ {S : Type 0} (Step : S → Request → Reply → S → Type 0) where
   }
 
   -- a message that was taken, and whose reply didn't go out whole
-  abbrev due : (old new : S) (m : Message) (reply : Reply) (framer framer' : Stream) → framer.limit ≡ longest_request → IsTaken framer m framer' → Answers Step old m reply new → NextReply Step old framer.rest (reply_frame reply) new
+  abbrev due : (old new : S) (m : Message) (reply : Reply) (framer framer' : Stream) → framer.limit ≡ max_request_len → IsTaken framer m framer' → Answers Step old m reply new → NextReply Step old framer.rest (reply_frame reply) new
   due old new m reply framer framer' limit taken answers = record {
     message = m;
     reply = reply;
@@ -93,14 +93,14 @@ module _ {S : Type 0} (Step : S → Request → Reply → S → Type 0) where
     rest = input;
     last = last;
     stream = refl;
-    each = All-nil (IsWithin longest_request);
+    each = All-nil (IsWithin max_request_len);
     run = refl;
     counted = refl;
     written = written;
     ends = ends;
   }
 
-  pub next_stopped : (old new : S) (m : Message) (framer framer' : Stream) (a b : Option (List ℕ)) (stop : Stop) → framer.limit ≡ longest_request
+  pub next_stopped : (old new : S) (m : Message) (framer framer' : Stream) (a b : Option (List ℕ)) (stop : Stop) → framer.limit ≡ max_request_len
       → IsTaken framer m framer' → Answering Step old m new a b (Err stop) → Answered Step old framer.rest a b 0 (StopEnds Step stop new)
   next_stopped old new m framer framer' a b stops.WriteFailed limit taken answered =
       let cut : IsCutShort a b (reply_frame answered.reply) = answered.sends in
@@ -112,7 +112,7 @@ module _ {S : Type 0} (Step : S → Request → Reply → S → Type 0) where
       (record { nothing = refl; next = reply_frame answered.reply; due = due old new m answered.reply framer framer' limit taken answered.answers; no_error = answered.sends.0 })
 
   -- a bad length, whose error was sent
-  bad_error : (old : S) (fault : FrameFault) (text : Text) (bytes : List ℕ) (framer framer' : Stream) → framer.limit ≡ longest_request
+  bad_error : (old : S) (fault : FrameFault) (text : Text) (bytes : List ℕ) (framer framer' : Stream) → framer.limit ≡ max_request_len
       → IsRefused framer fault framer' → text ≡ frame_fault_text fault → bytes ≡ reply_frame (Error text) → IsError old framer.rest bytes old
   bad_error old fault text bytes framer framer' limit refused is spelled = record {
     fault = fault;
@@ -121,12 +121,12 @@ module _ {S : Type 0} (Step : S → Request → Reply → S → Type 0) where
     is = spelled ∙ ap (λ (t : Text). reply_frame (Error t)) is;
   }
 
-  pub bad_sent : (old : S) (fault : FrameFault) (text : Text) (bytes : List ℕ) (framer framer' : Stream) (a b : Option (List ℕ)) → framer.limit ≡ longest_request
+  pub bad_sent : (old : S) (fault : FrameFault) (text : Text) (bytes : List ℕ) (framer framer' : Stream) (a b : Option (List ℕ)) → framer.limit ≡ max_request_len
       → IsRefused framer fault framer' → text ≡ frame_fault_text fault → bytes ≡ reply_frame (Error text) → Appends a b bytes → Answered Step old framer.rest a b 0 (IsBad old)
   bad_sent old fault text bytes framer framer' a b limit refused is spelled sent =
       stopped old framer.rest bytes a b (IsBad old) sent (bad_error old fault text bytes framer framer' limit refused is spelled)
 
-  pub bad_stopped : (old : S) (fault : FrameFault) (text : Text) (bytes : List ℕ) (framer framer' : Stream) (a b : Option (List ℕ)) (stop : Stop) → framer.limit ≡ longest_request
+  pub bad_stopped : (old : S) (fault : FrameFault) (text : Text) (bytes : List ℕ) (framer framer' : Stream) (a b : Option (List ℕ)) (stop : Stop) → framer.limit ≡ max_request_len
       → IsRefused framer fault framer' → text ≡ frame_fault_text fault → bytes ≡ reply_frame (Error text) → Sends a b bytes (Err stop) → Answered Step old framer.rest a b 0 (StopEnds Step stop old)
   bad_stopped old fault text bytes framer framer' a b stops.WriteFailed limit refused is spelled sent =
       let cut : IsCutShort a b bytes = sent in

@@ -3,7 +3,7 @@ use Rattle.std.specs.Prelude.{◌≡◌, ℕ, ◌⊎◌, ◌<◌, ◌≤◌, ◌
 use Rattle.std.specs.List.{flat_map, All}
 use Rattle.std.specs.Io.KnownBytes.{Appends}
 use Rattle.pb_frame.specs.declared.fault.FrameFault.{FrameFault}
-use Rattle.pb_frame.specs.Limits.{longest_request}
+use Rattle.pb_frame.specs.Limits.{max_request_len}
 use Rattle.pb_frame.specs.Message.{Message, frame, IsWithin, IsPartial, IsFaulty}
 use Rattle.riak_msgs.specs.declared.request.Request.{Request}
 use Rattle.riak_msgs.specs.declared.reply.Reply.{Reply}
@@ -19,7 +19,7 @@ pub record Answered {S : Type 0} (Step : S → Request → Reply → S → Type 
   pub rest : List ℕ
   pub last : List ℕ
   pub stream : input ≡ flat_map frame messages ++ rest
-  pub each : All (IsWithin longest_request) messages
+  pub each : All (IsWithin max_request_len) messages
   pub run : Run Step node messages replies mid
   pub counted : length messages ≡ count
   pub written : Appends held held' (flat_map reply_frame replies ++ last)
@@ -34,7 +34,7 @@ pub record StandsAt {S : Type 0} (node' : S) (rest' : List ℕ) (mid : S) (rest 
 -- each whole message was answered, and nothing is wrong with what is left
 pub record AllAnswered {S : Type 0} (node' : S) (mid : S) (rest last : List ℕ) : Type 0 where
   pub node : node' ≡ mid
-  pub partial : IsPartial longest_request rest
+  pub partial : IsPartial max_request_len rest
   pub nothing : last ≡ []
 
 -- the next message, its answer, and the node after it
@@ -43,14 +43,14 @@ pub record NextReply {S : Type 0} (Step : S → Request → Reply → S → Type
   pub reply : Reply
   pub more : List ℕ
   pub front : rest ≡ frame message ++ more
-  pub within : IsWithin longest_request message
+  pub within : IsWithin max_request_len message
   pub answers : Answers Step mid message reply node'
   pub is : next ≡ reply_frame reply
 
 -- a bad length, and its error
 pub record IsError {S : Type 0} (mid : S) (rest : List ℕ) (next : List ℕ) (node' : S) : Type 0 where
   pub fault : FrameFault
-  pub faulty : IsFaulty longest_request rest fault
+  pub faulty : IsFaulty max_request_len rest fault
   pub node : node' ≡ mid
   pub is : next ≡ reply_frame (Error (frame_fault_text fault))
 
@@ -80,7 +80,7 @@ pub record CameInLastRead (rest : List ℕ) : Type 0 where
   pub splits : rest ≡ before ++ piece
   pub some : 0 < length piece
   pub bound : length piece ≤ 4096
-  pub partial : IsPartial longest_request before
+  pub partial : IsPartial max_request_len before
 
 -- what ended it came with the last 4,096 bytes at most, which is what a read takes
 abbrev pub AtLastRead : {S : Type 0} → (S → List ℕ → List ℕ → Type 0) → S → List ℕ → List ℕ → Type 0

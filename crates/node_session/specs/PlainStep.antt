@@ -55,4 +55,4 @@ GivesUp old reply new = (reply ≡ replies.Error texts.NoMemory) × (new ≡ old
 abbrev pub StepsBy : State Content → StepOutcome → Reply → State Content → Type 0
 StepsBy old (Refused number) reply new = (reply ≡ reply_of (Err number)) × (new ≡ old)
 StepsBy old (Answered response) reply new = ((reply ≡ reply_of (Ok response)) × (new ≡ old)) ⊎ GivesUp old reply new
-StepsBy old (Accepted deed response next) reply new = ((reply ≡ reply_of (Ok response)) × (new ≡ next)) ⊎ GivesUp old reply new
+StepsBy old (Accepted operation response next) reply new = ((reply ≡ reply_of (Ok response)) × (new ≡ next)) ⊎ GivesUp old reply new

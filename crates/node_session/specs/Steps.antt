@@ -5,7 +5,7 @@ use Rattle.pb_frame.specs.Message.{Message, IsPartial}
 use Rattle.pb_frame.specs.Stream.{Stream}
 use Rattle.riak_msgs.specs.declared.request.Request.{Request}
 use Rattle.riak_msgs.specs.declared.reply.Reply.{Reply}
-use Rattle.pb_frame.specs.Limits.{longest_request}
+use Rattle.pb_frame.specs.Limits.{max_request_len}
 use Rattle.node_session.specs.declared.sending.Stop.{Stop}
 use Rattle.node_session.specs.declared.sending.Stop.TheVariants.{WriteFailed, BadFrame, NoMemory}
 use Rattle.node_session.specs.Answers.{Answers, reply_frame, IsNoError}
@@ -47,7 +47,7 @@ module _ {S : Type 0} (Step : S → Request → Reply → S → Type 0) where
 
   -- nothing was left to answer
   pub record IsIdle (old new : S) (framer framer' : Stream) (held held' : Option (List ℕ)) : Type 0 where
-    pub partial : IsPartial longest_request framer.rest
+    pub partial : IsPartial max_request_len framer.rest
     pub stream : framer' ≡ framer
     pub node : new ≡ old
     pub written : Appends held held' []
@@ -65,7 +65,7 @@ module _ {S : Type 0} (Step : S → Request → Reply → S → Type 0) where
 
   -- each whole message was answered by a whole reply
   pub record IsAll (old new : S) (framer framer' : Stream) (held held' : Option (List ℕ)) (replies : ℕ) : Type 0 where
-    pub partial : IsPartial longest_request framer'.rest
+    pub partial : IsPartial max_request_len framer'.rest
     pub stream : framer' ≡ record framer { rest = framer'.rest }
     pub answered : Answered Step old framer.rest held held' replies (StandsAt new framer'.rest)
 

@@ -1,7 +1,7 @@
 //! Answers to the messages that have come.
 
 ghost use Rattle.std.specs.Prelude.{◌≡◌, ◌+◌, ◌<◌, ◌≤◌, ◌^◌, IfOk, IfErr, IfSome, None, length};
-ghost use Rattle.pb_frame.specs.Limits.{longest_request};
+ghost use Rattle.pb_frame.specs.Limits.{max_request_len};
 ghost use Rattle.pb_frame.specs.Message.{IsPartial};
 ghost use Rattle.node_session.specs.declared.sending.Stop.TheVariants.{NoMemory};
 ghost use Rattle.node_session.specs.Answers.{reply_frame, message_fault_text, frame_fault_text};
@@ -97,7 +97,7 @@ fn answer_next<W: Write, N: Node>(
     writer: &mut W,
     node: &mut N,
 ) -> Result<bool, Stop>
-    requires limit { framer.old.limit ≡ longest_request }
+    requires limit { framer.old.limit ≡ max_request_len }
     requires untold { framer.old.fault ≡ None }
     ensures { AnswersNext N.step node.old node.new framer.old framer.new (W.contents writer.old) (W.contents writer.new) result }
 {
@@ -121,7 +121,7 @@ fn answer_all<W: Write, N: Node>(
     writer: &mut W,
     node: &mut N,
 ) -> (u64, Result<(), Stop>)
-    requires limit { framer.old.limit ≡ longest_request }
+    requires limit { framer.old.limit ≡ max_request_len }
     requires untold { framer.old.fault ≡ None }
     requires room { length framer.old.rest < 2 ^ 64 }
     ensures { AnswersAll N.step node.old node.new framer.old framer.new (W.contents writer.old) (W.contents writer.new) result.0 result.1 }
@@ -145,9 +145,9 @@ pub(crate) fn answer_piece<W: Write, N: Node>(
     writer: &mut W,
     node: &mut N,
 ) -> (u64, Result<(), Stop>)
-    requires limit { framer.old.limit ≡ longest_request }
+    requires limit { framer.old.limit ≡ max_request_len }
     requires untold { framer.old.fault ≡ None }
-    requires partial { IsPartial longest_request framer.old.rest }
+    requires partial { IsPartial max_request_len framer.old.rest }
     requires some { 0 < length piece.now }
     requires bound { length piece.now ≤ 4096 }
     requires room { length framer.old.rest + length piece.now < 2 ^ 64 }

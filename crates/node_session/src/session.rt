@@ -1,7 +1,7 @@
 //! A session from its first read to its end.
 
 ghost use Rattle.std.specs.Prelude.{◌≡◌, ◌≤◌, ◌^◌, [], None, IfOk, IfErr};
-ghost use Rattle.pb_frame.specs.Limits.{longest_request};
+ghost use Rattle.pb_frame.specs.Limits.{max_request_len};
 ghost use Rattle.std.specs.Io.KnownBytes.{IsAtEnd, Keeps};
 ghost use Rattle.node_session.specs.Answered.{Answered};
 ghost use Rattle.node_session.specs.Session.{Given, IsEnd, IsTooManyReads, MadeReads, Stops, fault_for};
@@ -11,7 +11,7 @@ use crate::ended::Ended;
 use crate::fault::SessionFault;
 use crate::node::Node;
 use crate::sending::{Stop, flush};
-use pb_frame::{Framer, LONGEST_REQUEST};
+use pb_frame::{Framer, MAX_REQUEST_LEN};
 use std::alloc::Global;
 use std::io::{ErrorKind, Read, Write};
 
@@ -40,7 +40,7 @@ fn fault_of<W: Write>(writer: &mut W, stop: Stop, replies: u64) -> SessionFault
 /// them in order by `node`, and writes the replies to `writer`.
 ///
 /// A read takes up to 4,096 bytes, and each whole request that has come is answered before the next read. A request's
-/// frame has a length of at most [`LONGEST_REQUEST`]. A message that is no request is answered by its error, and the
+/// frame has a length of at most [`MAX_REQUEST_LEN`]. A message that is no request is answered by its error, and the
 /// session goes on. A read, write or flush that is interrupted is tried again; such a read counts as one. The writer is
 /// flushed before each read, so that at the end all is flushed, and, as far as that can be done, after a fault.
 pub fn serve<R: Read, W: Write, N: Node>(
@@ -69,7 +69,7 @@ pub fn serve<R: Read, W: Write, N: Node>(
     ensures too_many { IfErr result (λ fault. IsTooManyReads fault
         → MadeReads (R.remaining reader.old) (R.remaining reader.new) reads) }
 {
-    let mut framer = Framer::new(alloc, LONGEST_REQUEST);
+    let mut framer = Framer::new(alloc, MAX_REQUEST_LEN);
     serve_from(alloc, &mut framer, reader, writer, node, reads)
 }
 
@@ -83,7 +83,7 @@ fn serve_from<R: Read, W: Write, N: Node>(
     reads: u64,
 ) -> Result<Ended, SessionFault>
     requires reads { reads ≤ 2 ^ 32 }
-    requires new { framer.old ≡ record { limit = longest_request; rest = []; fault = None } }
+    requires new { framer.old ≡ record { limit = max_request_len; rest = []; fault = None } }
     ensures ended { IfOk result (λ e.
         Given (R.remaining reader.old) (R.remaining reader.new) reads (λ input.
         Answered N.step node.old input (W.contents writer.old) (W.contents writer.new)

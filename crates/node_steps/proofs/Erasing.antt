@@ -92,10 +92,10 @@ module _ (id : ℕ) (seen history : History) (place : State Content) where
       → erase_turn (looks_by seen (vnode_in word) index ask hand o) ≡ erase_turn (looks_by [] (erase_vnode (vnode_in word)) index ask hand o)
   held_look (Open n mark) index ask hand (Refused number) = refl
   held_look (Open n mark) index ask hand (Answered response) = refl
-  held_look (Open n mark) index ask hand (Accepted deed response next) = refl
+  held_look (Open n mark) index ask hand (Accepted operation response next) = refl
   held_look Taken index ask hand (Refused number) = refl
   held_look Taken index ask hand (Answered response) = refl
-  held_look Taken index ask hand (Accepted deed response next) = refl
+  held_look Taken index ask hand (Accepted operation response next) = refl
 
   looks : (word : Word) (phase : Phase) → IsShown word phase → Same word Looks phase
   looks word Idle p = refl

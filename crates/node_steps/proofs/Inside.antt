@@ -48,7 +48,7 @@ IsInPlace id Taken history place = Unit {0}
 -- a plan is what came of the call in the state in hand
 abbrev pub IsPlanOf : Ask Content Context → State Content → Option Plan → Type 0
 IsPlanOf ask hand None = Unit {0}
-IsPlanOf ask hand (Some plan) = outcome hand ask ≡ Accepted plan.deed plan.response plan.next
+IsPlanOf ask hand (Some plan) = outcome hand ask ≡ Accepted plan.operation plan.response plan.next
 
 -- the state in hand is the replay, and a plan was made from it
 abbrev pub IsInHand : ℕ → ℕ → History → Phase → Type 0

@@ -14,7 +14,7 @@ use Rattle.sibling_register.specs.Naming.{named}
 use Rattle.sibling_register.specs.Answers.{Ask, AskGet, AskPut, AskDel, AskReap, PutCommand, DelCommand}
 use Rattle.actor_epoch.specs.Dots.{covers}
 use Rattle.actor_epoch.specs.Given.{Context, context_of}
-use Rattle.vnode_machine.specs.Machine.{State, clock_of, is_held, holds_dead, is_current, put_check, del_check, changed_by, stored, pairs_of}
+use Rattle.vnode_machine.specs.Machine.{State, clock_of, is_held, holds_dead, matches_clock, put_check, del_check, apply_operation, stored, pairs_of}
 use Rattle.vnode_machine.specs.Lives.{dot_of}
 use Rattle.vnode_machine.specs.Replay.{History, replay, naming, HasReplay, IsWithinLimits, seen_by}
 use Rattle.vnode_machine.specs.Replies.{contents_in, context_in, put_reply}
@@ -57,7 +57,7 @@ held_by true false with_context true whole context h = inl refl
 held_by true false with_context false whole context h = inr (refl, h)
 
 -- a key is held after a write of it
-held_after : (state : State Content) (key : Key) (given : Option Context) (content : Content) → is_held (changed_by state key given (Write content)) key ≡ true
+held_after : (state : State Content) (key : Key) (given : Option Context) (content : Content) → is_held (apply_operation state key given (Write content)) key ≡ true
 held_after state key given content =
     ap is_some (find_stored key key _ state.keys) ∙ chosen (key_eq key key) _ (stored state key) (key_eq-refl key)
   where
@@ -69,15 +69,15 @@ held_after state key given content =
 abbrev pub ShowsHeld : State Content → Ask Content Context → StepOutcome → Type 0
 ShowsHeld state ask (Refused number) = Unit {0}
 ShowsHeld state ask (Answered response) = AreHeld state (key_of ask) (context_bytes response)
-ShowsHeld state ask (Accepted deed response next) = AreHeld next (key_of ask) (context_bytes response)
+ShowsHeld state ask (Accepted operation response next) = AreHeld next (key_of ask) (context_bytes response)
 
 module _ (state : State Content) where
   put_shows : (put : PutCommand Content Context) (check : Option ℕ)
-      → let next : State Content = changed_by state put.key put.context (Write put.value) in
+      → let next : State Content = apply_operation state put.key put.context (Write put.value) in
       ShowsHeld state (AskPut put) (unless_refused check (Accepted (Write put.value) (PutDone (put_reply next put)) next))
   put_shows put (Some number) = tt
   put_shows put None =
-      let next : State Content = changed_by state put.key put.context (Write put.value) in
+      let next : State Content = apply_operation state put.key put.context (Write put.value) in
       by (put.return_body || put.return_head) next (held_after state put.key put.context put.value) (contents_in next put.key (not put.return_body))
     where
       by : (b : Bool) (next : State Content) → is_held next put.key ≡ true → (contents : List Shown)
@@ -87,18 +87,18 @@ module _ (state : State Content) where
       by false next h contents = inl refl
 
   del_shows : (del : DelCommand Context) (b : Bool) (check : Option ℕ)
-      → ShowsHeld state (AskDel del) (cond b (Answered DelDone) (unless_refused check (Accepted Tombstone DelDone (changed_by state del.key del.context Tombstone))))
+      → ShowsHeld state (AskDel del) (cond b (Answered DelDone) (unless_refused check (Accepted Tombstone DelDone (apply_operation state del.key del.context Tombstone))))
   del_shows del true check = inl refl
   del_shows del false (Some number) = tt
   del_shows del false None = inl refl
 
-  reap_shows : (key : Key) (b : Bool) → ShowsHeld state (AskReap key) (cond b (Accepted Reap ReapDone (changed_by state key None Reap)) (Answered ReapKept))
+  reap_shows : (key : Key) (b : Bool) → ShowsHeld state (AskReap key) (cond b (Accepted Reap ReapDone (apply_operation state key None Reap)) (Answered ReapKept))
   reap_shows key true = inl refl
   reap_shows key false = inl refl
 
   pub outcome_shows : (ask : Ask Content Context) → ShowsHeld state ask (outcome state ask)
   outcome_shows (AskGet get) =
-      held_by (is_held state get.key) (holds_dead state get.key) get.deletedvclock (is_current state get.key get.if_modified)
+      held_by (is_held state get.key) (holds_dead state get.key) get.deletedvclock (matches_clock state get.key get.if_modified)
       (record { contents = contents_in state get.key get.head; context = context_in state get.key; unchanged = false }) (context_in state get.key) refl
   outcome_shows (AskPut put) = put_shows put (put_check state put)
   outcome_shows (AskDel del) = del_shows del (is_none del.context && not (is_held state del.key)) (del_check state del)
@@ -165,7 +165,7 @@ saw_position id history before event context replays p e n =
     record {
       position = o.0;
       is_name = is;
-      saw = there.2 ∙ ap (λ given. seen_by id 0 before event.key given event.deed) e
+      saw = there.2 ∙ ap (λ given. seen_by id 0 before event.key given event.operation) e
           ∙ ap (λ q. option_map_or (λ (position : History). numbers_to (count_of position event.key)) q
           (filter (λ number. option_map_or (covers (pairs_of (Some context))) (dot_of id 0 before event.key number) false) (numbers_to (count_of before event.key)))) is;
     }

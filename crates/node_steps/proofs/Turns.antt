@@ -263,7 +263,7 @@ module _ (id index readers holders : ℕ) where
           event = inl refl;
           shows = subst (λ s. AreHeld s (key_of ask) (context_bytes response)) is (shows ask hand (Answered response) h);
         })
-    look_held word f p other ask hand e is (Accepted deed response next) h = record {
+    look_held word f p other ask hand e is (Accepted operation response next) h = record {
       same_id = refl;
       replays = replays;
       same = inl refl;
@@ -313,11 +313,11 @@ module _ (id index readers holders : ℕ) where
     publish_turn word f (Reading other get) held at mine t h = cc
     publish_turn word f (Holding other ask hand None) held at mine t h = cc
     publish_turn word f (Holding other ask hand (Some plan)) held at mine t h =
-        let event : Event Content Context = next_event id 0 history ask plan.deed in
+        let event : Event Content Context = next_event id 0 history ask plan.operation in
         let turn : Turn = publishes_by seen (vnode_in word) other ask plan in
         let same_turn : turn ≡ t = cc in
-        let came : StepOutcome = Accepted plan.deed plan.response plan.next in
-        let next : IsNext id 0 history ask plan.deed plan.response plan.next = registers ask hand came (mine at).0 (mine at).1 in
+        let came : StepOutcome = Accepted plan.operation plan.response plan.next in
+        let next : IsNext id 0 history ask plan.operation plan.response plan.next = registers ask hand came (mine at).0 (mine at).1 in
         subst (λ u. IsTurn Publishes (Holding other ask hand (Some plan)) history u) same_turn (record {
           same_id = refl;
           replays = next.leads.replays;

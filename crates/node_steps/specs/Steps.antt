@@ -95,14 +95,14 @@ module _ (seen : History) (vnode : Vnode) where
   abbrev pub looks_by : ℕ → Ask Content Context → State Content → StepOutcome → Turn
   looks_by index ask hand (Refused number) = answers (Done index (Some hand)) (Err number)
   looks_by index ask hand (Answered response) = answers (Done index (Some hand)) (Ok response)
-  looks_by index ask hand (Accepted deed response next) =
-      let plan : Plan = record { deed = deed; response = response; next = next } in
+  looks_by index ask hand (Accepted operation response next) =
+      let plan : Plan = record { operation = operation; response = response; next = next } in
       record { phase = Holding index ask hand (Some plan); seen = vnode.history; vnode = vnode; outcome = Happened }
 
-  -- the planned deed is the history's next event, the state in hand is the one after it, and the call is answered
+  -- the planned operation is the history's next event, the state in hand is the one after it, and the call is answered
   abbrev pub publishes_by : ℕ → Ask Content Context → Plan → Turn
   publishes_by index ask plan =
-      let history : History = next_event vnode.id 0 vnode.history ask plan.deed ∷ vnode.history in
+      let history : History = next_event vnode.id 0 vnode.history ask plan.operation ∷ vnode.history in
       record {
         phase = Done index (Some plan.next);
         seen = history;

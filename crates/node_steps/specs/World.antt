@@ -2,7 +2,7 @@
 use Rattle.std.specs.Prelude.{Bool, false, ◌+◌, ◌*◌, List, [], ◌∷◌, ℕ, zero, suc, Option, Some, None, slice_get, replicate, unwrap_or}
 use Rattle.std.specs.Option.{option_map_or}
 use Rattle.riak_msgs.specs.declared.Content.{Content}
-use Rattle.sibling_register.specs.History.{Deed}
+use Rattle.sibling_register.specs.History.{Operation}
 use Rattle.sibling_register.specs.Answers.{Ask, AskGet, GetCommand}
 use Rattle.actor_epoch.specs.Given.{Context}
 use Rattle.vnode_machine.specs.Machine.{State, opening}
@@ -14,9 +14,9 @@ pub data Word : Type 0 where
   Open : (readers : ℕ) (marked : Bool) → Word
   Taken : Word
 
--- what a worker keeps of a look whose command the machine accepts: the deed, the response, and the state after it
+-- what a worker keeps of a look whose command the machine accepts: the operation, the response, and the state after it
 pub record Plan : Type 0 where
-  pub deed : Deed Content
+  pub operation : Operation Content
   pub response : Response
   pub next : State Content
 

@@ -1,6 +1,6 @@
 use Rattle.std.proofs.Common.{◌≡◌, ℕ, ◌+◌, ◌*◌, ◌/◌, ◌%◌, ◌≤◌, List, ◌++◌, Result, Ok, Err, IfOk, IfErr, length, refl, sym, ap, subst, arith, ◌∙◌, inl, inr}
 use Rattle.std.proofs.lemmas.List.{append_assoc, length-append}
-use Rattle.wire_varint.specs.Varint.{EndsWithin, RunsOn}
+use Rattle.wire_varint.specs.Varint.{IsTruncated, IsOverlong}
 use Rattle.wire_varint.proofs.Spelling.{IsVarint-ends_not_within, IsVarint-runs_not_on}
 use Rattle.pb_fields.specs.Field.{WireValue, value_seen, varint, eight_bytes, byte_string, four_bytes, WireField, wire_type, IsValue, IsNumber, BeginsWithField}
 use Rattle.pb_fields.specs.Faults.{BeginsWithVarint, WantsVarint, IsWireType, HasNoNumber, IsPastEnd, HasBadVarint, HasBadKey, HasBadWire, HasShortValue, FirstFault, ValueFails, BeginsNoField}
@@ -10,19 +10,19 @@ use Rattle.pb_fields.specs.declared.fault.FieldFault.TheVariants.{Short, BadVari
 use Rattle.pb_fields.proofs.Parts.{key_once, key_of, wire_type-lt}
 
 -- bytes that begin with a varint neither end within one nor run on
-runs_not : (bs behind : List ℕ) (n : ℕ) → BeginsWithVarint bs n behind → RunsOn bs → ⊥
-runs_not bs behind n (w, v, e) r = let P : List ℕ → Type 0 = RunsOn in IsVarint-runs_not_on w behind n v (subst P e r)
+runs_not : (bs behind : List ℕ) (n : ℕ) → BeginsWithVarint bs n behind → IsOverlong bs → ⊥
+runs_not bs behind n (w, v, e) r = let P : List ℕ → Type 0 = IsOverlong in IsVarint-runs_not_on w behind n v (subst P e r)
 
-ends_not : (bs behind : List ℕ) (n : ℕ) → BeginsWithVarint bs n behind → EndsWithin bs → ⊥
-ends_not bs behind n (w, v, e) r = let P : List ℕ → Type 0 = EndsWithin in IsVarint-ends_not_within w behind n v (subst P e r)
+ends_not : (bs behind : List ℕ) (n : ℕ) → BeginsWithVarint bs n behind → IsTruncated bs → ⊥
+ends_not bs behind n (w, v, e) r = let P : List ℕ → Type 0 = IsTruncated in IsVarint-ends_not_within w behind n v (subst P e r)
 
 no_bad_varint : (bs behind : List ℕ) (key : ℕ) → BeginsWithVarint bs key behind →
-    (WantsVarint (key % 8) × RunsOn behind → ⊥) → HasBadVarint bs → ⊥
+    (WantsVarint (key % 8) × IsOverlong behind → ⊥) → HasBadVarint bs → ⊥
 no_bad_varint bs behind key begins not (inl runs) = runs_not bs behind key begins runs
 no_bad_varint bs behind key begins not (inr (k, b, other, wants, runs)) =
     let one = key_once bs k key b behind other begins in
     let P : ℕ → Type 0 = λ n. WantsVarint (n % 8) in
-    let Q : List ℕ → Type 0 = RunsOn in
+    let Q : List ℕ → Type 0 = IsOverlong in
     not (subst P one.0 wants, subst Q one.1 runs)
 
 no_bad_key : (bs behind : List ℕ) (key : ℕ) → BeginsWithVarint bs key behind → (HasNoNumber key → ⊥) → HasBadKey bs → ⊥
@@ -38,7 +38,7 @@ no_bad_wire bs behind key begins is (k, b, other, bad) =
     bad (subst P (sym one.0) is)
 
 -- where a value goes past the end no varint of its own runs on, and the wire type is known
-past_runs_not : (wire : ℕ) (bs : List ℕ) → IsPastEnd wire bs → WantsVarint wire → RunsOn bs → ⊥
+past_runs_not : (wire : ℕ) (bs : List ℕ) → IsPastEnd wire bs → WantsVarint wire → IsOverlong bs → ⊥
 past_runs_not wire bs (inl (wants, ends)) _ runs = omega (arith, ends.few, runs.many)
 past_runs_not wire bs (inr (inl (one, less))) (inl zero) runs = omega arith
 past_runs_not wire bs (inr (inl (one, less))) (inr two) runs = omega arith
@@ -54,7 +54,7 @@ past_wire wire bs (inr (inr (inr (five, less)))) = inr (inr five)
 
 -- a whole value runs not on
 pub value_runs_not : (value : WireValue) (w bs rest : List ℕ) → IsValue w value → bs ≡ w ++ rest →
-    WantsVarint (wire_type value) × RunsOn bs → ⊥
+    WantsVarint (wire_type value) × IsOverlong bs → ⊥
 value_runs_not (varint n) w bs rest v e (wants, runs) = runs_not bs rest n (w, v, e) runs
 value_runs_not (eight_bytes s) w bs rest v e (inl t, runs) = omega arith
 value_runs_not (eight_bytes s) w bs rest v e (inr t, runs) = omega arith
@@ -103,7 +103,7 @@ number_has_key key number is e (inr small) = omega (arith, is.0, is.1)
 
 -- a bad key is the first fault where no varint behind it runs on
 pub bad_key_first : (bs behind : List ℕ) (key : ℕ) → BeginsWithVarint bs key behind → HasNoNumber key →
-    (WantsVarint (key % 8) × RunsOn behind → ⊥) → FirstFault bs BadKey
+    (WantsVarint (key % 8) × IsOverlong behind → ⊥) → FirstFault bs BadKey
 bad_key_first bs behind key begins bad not =
     inr (no_bad_varint bs behind key begins not, inr (ends_not bs behind key begins, inl ((key, behind, begins, bad), refl)))
 
@@ -134,7 +134,7 @@ value_fails_first bs behind key BadWire begins good bad =
 
 -- no value fails and runs on, but by a bad varint
 pub fails_runs_not : (wire : ℕ) (bs : List ℕ) (fault : FieldFault) → (fault ≡ BadVarint → ⊥) → ValueFails wire bs fault →
-    WantsVarint wire × RunsOn bs → ⊥
+    WantsVarint wire × IsOverlong bs → ⊥
 fails_runs_not wire bs Short other past (wants, runs) = past_runs_not wire bs past wants runs
 fails_runs_not wire bs BadVarint other fails both = other refl
 fails_runs_not wire bs BadKey other none both = none
@@ -160,7 +160,7 @@ fault_no_field bs rest fault field first begins = refuted first
     wire : (field.number * 8 + wire_type field.value) % 8 ≡ wire_type field.value
     wire = wire_of_key field.value field.number
 
-    not_runs : WantsVarint ((field.number * 8 + wire_type field.value) % 8) × RunsOn (begins.1.value ++ rest) → ⊥
+    not_runs : WantsVarint ((field.number * 8 + wire_type field.value) % 8) × IsOverlong (begins.1.value ++ rest) → ⊥
     not_runs (wants, runs) =
         let P : ℕ → Type 0 = WantsVarint in
         value_runs_not field.value begins.1.value (begins.1.value ++ rest) rest begins.1.value_is refl (subst P wire wants, runs)
@@ -193,7 +193,7 @@ fault_no_field bs rest fault field first begins = refuted first
 pub found_runs_not : {B : Type 0} (now : B → List ℕ) (wire : ℕ) (bs : List ℕ) (found : Result (Value × B) FieldFault) →
     (found ≡ Err BadVarint → ⊥) → IfOk found (λ r. wire_type (value_seen r.0) ≡ wire) →
     IfOk found (λ r. (w : List ℕ) × IsValue w (value_seen r.0) × (bs ≡ w ++ now r.1)) →
-    IfErr found (λ fault. ValueFails wire bs fault) → WantsVarint wire × RunsOn bs → ⊥
+    IfErr found (λ fault. ValueFails wire bs fault) → WantsVarint wire × IsOverlong bs → ⊥
 found_runs_not now wire bs (Ok (value, rest)) other type (w, is, e) none (wants, runs) =
     let P : ℕ → Type 0 = WantsVarint in
     value_runs_not (value_seen value) w bs (now rest) is e (subst P (sym type) wants, runs)

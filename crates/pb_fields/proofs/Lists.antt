@@ -1,7 +1,7 @@
 use Rattle.std.proofs.Common.{◌≡◌, ℕ, ◌+◌, ◌*◌, ◌^◌, ◌<◌, List, [], ◌∷◌, ◌++◌, length, refl, sym, ap, subst, arith, ◌∙◌}
 use Rattle.wire_varint.proofs.Spelling.{spelling-is_varint}
 use Rattle.pb_fields.specs.Field.{WireValue, varint, eight_bytes, byte_string, four_bytes, WireField, wire_type, IsValue, BeginsWithField}
-use Rattle.pb_fields.specs.Message.{BeginsWithFields, StandsFor}
+use Rattle.pb_fields.specs.Message.{BeginsWithFields, Encodes}
 use Rattle.pb_fields.specs.Faults.{BeginsNoField}
 use Rattle.pb_fields.specs.Encoding.{encoding, value_encoding, Fits, ValueFits}
 use Rattle.pb_fields.proofs.Parts.{field_once, field_some, wire_type-lt}
@@ -11,7 +11,7 @@ nothing : (rest : List ℕ) (field : WireField) → BeginsWithField [] field res
 nothing rest field begins = let some = field_some [] rest field begins in omega arith
 
 -- bytes stand for one list of fields at most
-pub fields_once : (bs : List ℕ) (fs gs : List WireField) → StandsFor bs fs → StandsFor bs gs → fs ≡ gs
+pub fields_once : (bs : List ℕ) (fs gs : List WireField) → Encodes bs fs → Encodes bs gs → fs ≡ gs
 fields_once bs [] [] a b = refl
 fields_once bs [] (g ∷ gs) a (behind, begins, others) =
     let P : List ℕ → Type 0 = λ cs. BeginsWithField cs g behind in absurd (nothing behind g (subst P a begins))
@@ -19,7 +19,7 @@ fields_once bs (f ∷ fs) [] (behind, begins, others) b =
     let P : List ℕ → Type 0 = λ cs. BeginsWithField cs f behind in absurd (nothing behind f (subst P b begins))
 fields_once bs (f ∷ fs) (g ∷ gs) (x, begins_f, a) (y, begins_g, b) =
     let one = field_once bs x y f g begins_f begins_g in
-    let P : List ℕ → Type 0 = λ cs. StandsFor cs gs in
+    let P : List ℕ → Type 0 = λ cs. Encodes cs gs in
     let tails : fs ≡ gs = fields_once x fs gs a (subst P (sym one.1) b) in
     rw (one.0, tails) refl
 
@@ -31,7 +31,7 @@ fields_more bs behind rest [] f a begins =
 fields_more bs behind rest (g ∷ gs) f (x, begins_g, a) begins = (x, begins_g, fields_more x behind rest gs f a begins)
 
 -- bytes that come to a place where no field begins stand for no list
-pub fields_stop : (bs rest : List ℕ) (fs gs : List WireField) → BeginsWithFields bs fs rest → BeginsNoField rest → StandsFor bs gs → ⊥
+pub fields_stop : (bs rest : List ℕ) (fs gs : List WireField) → BeginsWithFields bs fs rest → BeginsNoField rest → Encodes bs gs → ⊥
 fields_stop bs rest [] [] a none b =
     let same : [] ≡ rest = sym b ∙ a in
     let len : 0 ≡ length rest = ap length same in
@@ -42,7 +42,7 @@ fields_stop bs rest (f ∷ fs) [] (x, begins, a) none b =
     let P : List ℕ → Type 0 = λ cs. BeginsWithField cs f x in nothing x f (subst P b begins)
 fields_stop bs rest (f ∷ fs) (g ∷ gs) (x, begins_f, a) none (y, begins_g, b) =
     let one = field_once bs x y f g begins_f begins_g in
-    let P : List ℕ → Type 0 = λ cs. StandsFor cs gs in
+    let P : List ℕ → Type 0 = λ cs. Encodes cs gs in
     fields_stop x rest fs gs a none (subst P (sym one.1) b)
 
 -- a value's spelling is the value

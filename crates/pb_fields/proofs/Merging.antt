@@ -2,8 +2,8 @@
 use Rattle.std.proofs.Common.{◌≡◌, ℕ, List, [], ◌∷◌, ◌++◌, Some, Result, Ok, refl, sym, ap, subst, ◌∙◌, arith}
 use Rattle.std.proofs.lemmas.List.{append_assoc, append-nil}
 use Rattle.pb_fields.specs.Field.{WireField, BeginsWithField, seen}
-use Rattle.pb_fields.specs.Message.{BeginsWithFields, StandsFor}
-use Rattle.pb_fields.specs.Next.{Tells}
+use Rattle.pb_fields.specs.Message.{BeginsWithFields, Encodes}
+use Rattle.pb_fields.specs.Next.{Yields}
 use Rattle.pb_fields.specs.Merging.{MergesAll, RefusesOne, RefusesNone, Tracks}
 use Rattle.pb_fields.specs.declared.field.Field.{Field}
 use Rattle.pb_fields.specs.declared.fault.FieldFault.{FieldFault}
@@ -44,27 +44,27 @@ nothing : (rest : List ℕ) (field : WireField) → BeginsWithField [] field res
 nothing rest field begins = let some = field_some [] rest field begins in omega arith
 
 -- bytes that begin with some fields and stand for a list stand for these and more
-pub StandsFor-split : (bs rest : List ℕ) (fs gs : List WireField) → BeginsWithFields bs fs rest → StandsFor bs gs →
+pub Encodes-split : (bs rest : List ℕ) (fs gs : List WireField) → BeginsWithFields bs fs rest → Encodes bs gs →
     (more : List WireField) × (gs ≡ fs ++ more)
-StandsFor-split bs rest [] gs a b = (gs, refl)
-StandsFor-split bs rest (f ∷ fs) [] (x, begins, a) b =
+Encodes-split bs rest [] gs a b = (gs, refl)
+Encodes-split bs rest (f ∷ fs) [] (x, begins, a) b =
     let P : List ℕ → Type 0 = λ cs. BeginsWithField cs f x in absurd (nothing x f (subst P b begins))
-StandsFor-split bs rest (f ∷ fs) (g ∷ gs) (x, begins_f, a) (y, begins_g, b) =
+Encodes-split bs rest (f ∷ fs) (g ∷ gs) (x, begins_f, a) (y, begins_g, b) =
     let one = field_once bs x y f g begins_f begins_g in
-    let P : List ℕ → Type 0 = λ cs. StandsFor cs gs in
-    let more = StandsFor-split x rest fs gs a (subst P (sym one.1) b) in
+    let P : List ℕ → Type 0 = λ cs. Encodes cs gs in
+    let more = Encodes-split x rest fs gs a (subst P (sym one.1) b) in
     (more.0, ap (λ h. h ∷ gs) (sym one.0) ∙ ap (λ ts. f ∷ ts) more.1)
 
 -- the field that was told
-pub field_told : (before after : List ℕ) (told : Result Field FieldFault) (field : Field) → Tells before (Some told) after → told ≡ Ok field →
+pub field_told : (before after : List ℕ) (told : Result Field FieldFault) (field : Field) → Yields before (Some told) after → told ≡ Ok field →
     BeginsWithField before (seen field) after
 field_told before after told field tells e =
-    let P : Result Field FieldFault → Type 0 = λ r. Tells before (Some r) after in subst P e tells
+    let P : Result Field FieldFault → Type 0 = λ r. Yields before (Some r) after in subst P e tells
 
 -- a field was refused behind some others
 pub RefusesOne-here : {F : Type 0} (refuses : WireField → F → Type 0) (body before after : List ℕ) (fields others : List WireField)
     (field : WireField) (fault : F) → BeginsWithFields body fields before → BeginsWithField before field after →
-    refuses field fault → StandsFor body others → RefusesOne refuses others fault
+    refuses field fault → Encodes body others → RefusesOne refuses others fault
 RefusesOne-here refuses body before after fields others field fault read begins refused stands =
-    let split = StandsFor-split body after (fields ++ field ∷ []) others (fields_more body after before fields field read begins) stands in
+    let split = Encodes-split body after (fields ++ field ∷ []) others (fields_more body after before fields field read begins) stands in
     (fields, field, split.0, split.1 ∙ append_assoc fields (field ∷ []) split.0, refused)

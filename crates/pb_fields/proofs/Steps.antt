@@ -1,22 +1,22 @@
 use Rattle.std.proofs.Common.{◌≡◌, ℕ, List, [], ◌∷◌, ◌++◌, Some, Result, Ok, Err, subst}
 use Rattle.pb_fields.specs.Field.{WireField, seen}
-use Rattle.pb_fields.specs.Message.{BeginsWithFields, StandsFor}
-use Rattle.pb_fields.specs.Next.{Tells}
+use Rattle.pb_fields.specs.Message.{BeginsWithFields, Encodes}
+use Rattle.pb_fields.specs.Next.{Yields}
 use Rattle.pb_fields.specs.declared.field.Field.{Field}
 use Rattle.pb_fields.specs.declared.fault.FieldFault.{FieldFault}
 use Rattle.pb_fields.proofs.Lists.{fields_more, fields_stop}
 
 -- a loop over the fields has read one more
 pub read_more : (body before after : List ℕ) (fields : List WireField) (told : Result Field FieldFault) (field : Field) →
-    BeginsWithFields body fields before → Tells before (Some told) after → told ≡ Ok field →
+    BeginsWithFields body fields before → Yields before (Some told) after → told ≡ Ok field →
     BeginsWithFields body (fields ++ seen field ∷ []) after
 read_more body before after fields told field read tells e =
-    let P : Result Field FieldFault → Type 0 = λ r. Tells before (Some r) after in
+    let P : Result Field FieldFault → Type 0 = λ r. Yields before (Some r) after in
     fields_more body after before fields (seen field) read (subst P e tells)
 
 -- a loop over the fields has met a fault: the bytes stand for no list
 pub read_none : (body before after : List ℕ) (fields others : List WireField) (told : Result Field FieldFault) (fault : FieldFault) →
-    BeginsWithFields body fields before → Tells before (Some told) after → told ≡ Err fault → StandsFor body others → ⊥
+    BeginsWithFields body fields before → Yields before (Some told) after → told ≡ Err fault → Encodes body others → ⊥
 read_none body before after fields others told fault read tells e =
-    let P : Result Field FieldFault → Type 0 = λ r. Tells before (Some r) after in
+    let P : Result Field FieldFault → Type 0 = λ r. Yields before (Some r) after in
     fields_stop body before fields others read (subst P e tells).0

@@ -1,5 +1,5 @@
 use Rattle.std.specs.Prelude.{◌≡◌, ◌⊎◌, ℕ, ◌%◌, ◌^◌, ◌<◌, ◌≤◌, List, [], ◌∷◌, ◌++◌, length}
-use Rattle.wire_varint.specs.Varint.{IsVarint, EndsWithin, RunsOn}
+use Rattle.wire_varint.specs.Varint.{IsVarint, IsTruncated, IsOverlong}
 use Rattle.pb_fields.specs.Field.{WireField, BeginsWithField}
 use Rattle.pb_fields.specs.declared.fault.FieldFault.{FieldFault}
 use Rattle.pb_fields.specs.declared.fault.FieldFault.TheVariants.{Short, BadVarint, BadKey, BadWire}
@@ -23,7 +23,7 @@ HasNoNumber key = (2 ^ 32 ≤ key) ⊎ (key < 8)
 -- behind the key the value of this wire type goes past the end
 abbrev pub IsPastEnd : ℕ → List ℕ → Type 0
 IsPastEnd wire bs =
-    (WantsVarint wire × EndsWithin bs)
+    (WantsVarint wire × IsTruncated bs)
     ⊎ (((wire ≡ 1) × (length bs < 8))
     ⊎ (((wire ≡ 2) × (len : ℕ) × (behind : List ℕ) × BeginsWithVarint bs len behind × (length behind < len))
     ⊎ ((wire ≡ 5) × (length bs < 4))))
@@ -31,7 +31,7 @@ IsPastEnd wire bs =
 -- a varint of more than ten bytes stands in the key's place, or behind the key in a value's or length's
 abbrev pub HasBadVarint : List ℕ → Type 0
 HasBadVarint bs =
-    RunsOn bs ⊎ ((key : ℕ) × (behind : List ℕ) × BeginsWithVarint bs key behind × WantsVarint (key % 8) × RunsOn behind)
+    IsOverlong bs ⊎ ((key : ℕ) × (behind : List ℕ) × BeginsWithVarint bs key behind × WantsVarint (key % 8) × IsOverlong behind)
 
 -- the key has no number
 abbrev pub HasBadKey : List ℕ → Type 0
@@ -56,7 +56,7 @@ pub data Wrong : Type 0 where
 -- when each holds
 abbrev pub Holds : List ℕ → Wrong → Type 0
 Holds bs bad_varint = HasBadVarint bs
-Holds bs short_key = EndsWithin bs
+Holds bs short_key = IsTruncated bs
 Holds bs bad_key = HasBadKey bs
 Holds bs bad_wire = HasBadWire bs
 Holds bs short_value = HasShortValue bs
@@ -81,14 +81,14 @@ pub record BeginsNoField (bs : List ℕ) : Type 0 where
 
 -- why no varint is at the front
 abbrev pub VarintFails : List ℕ → FieldFault → Type 0
-VarintFails bs Short = EndsWithin bs
-VarintFails bs BadVarint = RunsOn bs
+VarintFails bs Short = IsTruncated bs
+VarintFails bs BadVarint = IsOverlong bs
 VarintFails bs BadKey = ⊥
 VarintFails bs BadWire = ⊥
 
 -- why no value of this wire type is at the front
 abbrev pub ValueFails : ℕ → List ℕ → FieldFault → Type 0
 ValueFails wire bs Short = IsPastEnd wire bs
-ValueFails wire bs BadVarint = WantsVarint wire × RunsOn bs
+ValueFails wire bs BadVarint = WantsVarint wire × IsOverlong bs
 ValueFails wire bs BadKey = ⊥
 ValueFails wire bs BadWire = ¬ IsWireType wire

@@ -3,7 +3,7 @@ use Rattle.wire_varint.specs.Varint.{IsVarint}
 use Rattle.pb_fields.specs.declared.value.Value.{Value}
 use Rattle.pb_fields.specs.declared.value.Value.TheVariants.{Varint, Eight, Bytes, Four}
 use Rattle.pb_fields.specs.declared.field.Field.{Field}
-use Rattle.pb_fields.specs.declared.field.TheConstants.{GREATEST_NUMBER}
+use Rattle.pb_fields.specs.declared.field.TheConstants.{MAX_FIELD_NUMBER}
 
 -- a field's value, apart from where it lies: a number, or bytes of one of three kinds
 pub data WireValue : Type 0 where
@@ -44,7 +44,7 @@ IsValue w (four_bytes s) = (w ≡ s) × (length s ≡ 4)
 
 -- the numbers that a field may have
 abbrev pub IsNumber : ℕ → Type 0
-IsNumber number = (1 ≤ number) × (number ≤ GREATEST_NUMBER)
+IsNumber number = (1 ≤ number) × (number ≤ MAX_FIELD_NUMBER)
 
 -- these bytes are the field: its key, a varint of number and wire type, and then its value
 pub record IsField (w : List ℕ) (field : WireField) : Type 0 where

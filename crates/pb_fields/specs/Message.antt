@@ -8,5 +8,5 @@ BeginsWithFields bs (field ∷ fields) rest =
     (behind : List ℕ) × BeginsWithField bs field behind × BeginsWithFields behind fields rest
 
 -- the bytes stand for this list of fields: they are its fields and nothing else
-abbrev pub StandsFor : List ℕ → List WireField → Type 0
-StandsFor bs fields = BeginsWithFields bs fields []
+abbrev pub Encodes : List ℕ → List WireField → Type 0
+Encodes bs fields = BeginsWithFields bs fields []

@@ -11,7 +11,7 @@ left fields = fields.rest.now
 
 -- What a step tells of the bytes that are left, and what is left behind it: nothing comes at the end, a field
 -- is what the bytes begin with, and a fault says why they begin with none and ends the list.
-abbrev pub Tells : List ℕ → Option (Result Field FieldFault) → List ℕ → Type 0
-Tells bs None behind = (bs ≡ []) × (behind ≡ [])
-Tells bs (Some (Ok field)) behind = BeginsWithField bs (seen field) behind
-Tells bs (Some (Err fault)) behind = BeginsNoField bs × FirstFault bs fault × (behind ≡ [])
+abbrev pub Yields : List ℕ → Option (Result Field FieldFault) → List ℕ → Type 0
+Yields bs None behind = (bs ≡ []) × (behind ≡ [])
+Yields bs (Some (Ok field)) behind = BeginsWithField bs (seen field) behind
+Yields bs (Some (Err fault)) behind = BeginsNoField bs × FirstFault bs fault × (behind ≡ [])

@@ -4,16 +4,16 @@ ghost use Rattle.std.specs.Prelude.{◌≡◌, ◌/◌, ℕ, IfOk, IfErr, IfSome
 ghost use Rattle.pb_fields.specs.Field.{BeginsWithField, IsNumber, seen};
 ghost use Rattle.pb_fields.specs.Faults.{FirstFault, HasNoNumber};
 
-use crate::value::{value_at, varint_at};
+use crate::value::{decode_value, varint_at};
 use crate::{FieldFault, Value};
 
 /// The greatest number that a field has: its key, the number times 8 and the wire type, fits in 32 bits.
-pub const GREATEST_NUMBER: u32 = 536_870_911;
+pub const MAX_FIELD_NUMBER: u32 = 536_870_911;
 
 /// A field of a message: its number and its value.
 #[derive(Clone, Copy, Debug, PartialEq, Eq)]
 pub struct Field<'a> {
-    /// From 1 to [`GREATEST_NUMBER`].
+    /// From 1 to [`MAX_FIELD_NUMBER`].
     pub number: u32,
     /// The value, in the input.
     pub value: Value<'a>,
@@ -22,12 +22,12 @@ pub struct Field<'a> {
 // The field at the front, and the bytes behind it. A value's varint comes before the key's number among the
 // faults, so the value is read first.
 #[inline(always)]
-pub(crate) fn field_at(bytes: &[u8]) -> Result<(Field<'_>, &[u8]), FieldFault>
+pub(crate) fn decode_field(bytes: &[u8]) -> Result<(Field<'_>, &[u8]), FieldFault>
     ensures field { IfOk result (λ r. BeginsWithField bytes.now (seen r.0) r.1.now) }
     ensures fault { IfErr result (λ fault. FirstFault bytes.now fault) }
 {
     let (key, behind) = varint_at(bytes)?;
-    match (value_at(key % 8, behind), number_of(key)) {
+    match (decode_value(key % 8, behind), number_of(key)) {
         (Err(FieldFault::BadVarint), _) => Err(FieldFault::BadVarint),
         (_, None) => Err(FieldFault::BadKey),
         (Err(fault), _) => Err(fault),

@@ -7,16 +7,16 @@ ghost use Rattle.pb_fields.specs.Encoding.{bytes_field, bytes_head, varint_field
 
 use crate::value::{BYTES, VARINT};
 use std::alloc::AllocError;
-use wire_varint::LONGEST_VARINT;
+use wire_varint::MAX_VARINT_LEN;
 
 // Room for a key and a varint behind it.
-const HEAD: usize = 2 * LONGEST_VARINT;
+const HEAD: usize = 2 * MAX_VARINT_LEN;
 
 /// Appends fields to a vector, each in its one encoding: every varint in its shortest form.
 ///
 /// Into an empty buffer `varint(out, 1, 150)` writes `08 96 01`, then `bytes(out, 2, b"b")` `12 01 62` behind it.
 /// Each call makes its growth first: where memory is refused the buffer's bytes are as before. The number is one
-/// that a field may have, from 1 to [`GREATEST_NUMBER`](crate::GREATEST_NUMBER).
+/// that a field may have, from 1 to [`MAX_FIELD_NUMBER`](crate::MAX_FIELD_NUMBER).
 pub struct FieldOut;
 
 impl FieldOut {

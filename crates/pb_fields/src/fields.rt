@@ -2,9 +2,9 @@
 
 ghost use Rattle.std.specs.Prelude.{◌≡◌, length};
 ghost use Rattle.std.specs.Iterator.{at_most};
-ghost use Rattle.pb_fields.specs.Next.{Tells, left};
+ghost use Rattle.pb_fields.specs.Next.{Yields, left};
 
-use crate::field::field_at;
+use crate::field::decode_field;
 use crate::{Field, FieldFault};
 
 /// The fields of a message, one after the other, borrowed from its bytes. After a fault the list has ended.
@@ -29,7 +29,7 @@ impl<'a> Fields<'a> {
 impl<'a> Iterator for Fields<'a> {
     type Item = Result<Field<'a>, FieldFault>;
 
-    ghost next_gives = { λ before item after. Tells (left before) item (left after) };
+    ghost next_gives = { λ before item after. Yields (left before) item (left after) };
 
     ghost remaining = { λ fields. at_most (length (left fields)) };
 
@@ -39,7 +39,7 @@ impl<'a> Iterator for Fields<'a> {
         if self.rest.is_empty() {
             return None;
         }
-        match field_at(self.rest) {
+        match decode_field(self.rest) {
             Ok((field, rest)) => {
                 self.rest = rest;
                 Some(Ok(field))

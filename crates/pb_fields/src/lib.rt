@@ -1,7 +1,7 @@
 //! Fields, the wire form of a Protocol Buffers message: one behind the other, each a key (its number and wire
 //! type in one varint) and a value.
 //!
-//! Bytes stand for a list of fields (`StandsFor`) by the grammar alone, and for one list at most. [`Fields`] gives that
+//! Bytes stand for a list of fields (`Encodes`) by the grammar alone, and for one list at most. [`Fields`] gives that
 //! list, borrowed, or the first fault of a table (`fault_table`). [`scan`] merges each field into a value, by the value's
 //! step for one field ([`Merge`]): what it did is the fold of that step over the list (`MergesAll`).
 //!
@@ -27,7 +27,7 @@ mod output;
 mod value;
 
 pub use fault::FieldFault;
-pub use field::{Field, GREATEST_NUMBER};
+pub use field::{Field, MAX_FIELD_NUMBER};
 pub use field_out::FieldOut;
 pub use fields::Fields;
 pub use laws::{fields_are_one, fields_go_on, fields_stop, written_is_read};

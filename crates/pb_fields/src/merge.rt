@@ -2,7 +2,7 @@
 
 ghost use Rattle.std.specs.Prelude.{List, IfErr, OnOk};
 ghost use Rattle.pb_fields.specs.Field.{WireField, seen};
-ghost use Rattle.pb_fields.specs.Message.{StandsFor};
+ghost use Rattle.pb_fields.specs.Message.{Encodes};
 ghost use Rattle.pb_fields.specs.Merging.{MergesAll, RefusesOne};
 
 use crate::{Field, FieldFault, Fields};
@@ -34,9 +34,9 @@ pub trait Merge<'a> {
 /// Refused by the first fault: where the bytes begin no further field, or where a field is refused. What was merged before it
 /// stays. It takes the time of one walk over the fields, and no memory of its own.
 pub fn scan<'a, M: Merge<'a>>(bytes: &'a [u8], into: &mut M) -> Result<(), M::Fault>
-    ensures ok { OnOk result ((fields : List WireField) × StandsFor bytes.now fields
+    ensures ok { OnOk result ((fields : List WireField) × Encodes bytes.now fields
         × MergesAll M.merges into.old fields into.new) }
-    ensures err { IfErr result (λ fault. (fields : List WireField) → StandsFor bytes.now fields
+    ensures err { IfErr result (λ fault. (fields : List WireField) → Encodes bytes.now fields
         → RefusesOne M.refuses fields fault) }
 {
     for field in Fields::new(bytes) {

@@ -15,7 +15,7 @@ use std::alloc::AllocError;
 ///
 /// A vector holds their bytes. A [`LengthCounter`] holds none and counts them, so that a message's length is known before room is
 /// made for it. Each call is refused only where memory is, or where the count passes the greatest `usize`. The numbers are
-/// those that a field may have, from 1 to [`GREATEST_NUMBER`](crate::GREATEST_NUMBER).
+/// those that a field may have, from 1 to [`MAX_FIELD_NUMBER`](crate::MAX_FIELD_NUMBER).
 pub trait Output {
     ghost use Rattle.std.specs.Prelude.{◌++◌, List, ℕ, [], OnOk};
     ghost use Rattle.pb_fields.specs.Field.{IsNumber};

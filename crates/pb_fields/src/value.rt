@@ -10,11 +10,11 @@ use wire_varint::VarintFault;
 // The wire types of a value, the lowest three bits of its key.
 pub(crate) const VARINT: u64 = 0;
 
-pub(crate) const EIGHT: u64 = 1;
+pub(crate) const I64: u64 = 1;
 
 pub(crate) const BYTES: u64 = 2;
 
-pub(crate) const FOUR: u64 = 5;
+pub(crate) const I32: u64 = 5;
 
 /// A field's value, as it lies in the input.
 #[derive(Clone, Copy, Debug, PartialEq, Eq)]
@@ -31,7 +31,7 @@ pub enum Value<'a> {
 
 // The value of this wire type at the front, and the bytes behind it.
 #[inline(always)]
-pub(crate) fn value_at(wire: u64, bytes: &[u8]) -> Result<(Value<'_>, &[u8]), FieldFault>
+pub(crate) fn decode_value(wire: u64, bytes: &[u8]) -> Result<(Value<'_>, &[u8]), FieldFault>
     ensures wire { IfOk result (λ r. wire_type (value_seen r.0) ≡ wire) }
     ensures value { IfOk result (λ r. (w : List ℕ) × IsValue w (value_seen r.0)
         × (bytes.now ≡ w ++ r.1.now)) }
@@ -42,7 +42,7 @@ pub(crate) fn value_at(wire: u64, bytes: &[u8]) -> Result<(Value<'_>, &[u8]), Fi
             let (number, rest) = varint_at(bytes)?;
             Ok((Value::Varint(number), rest))
         }
-        EIGHT => {
+        I64 => {
             let (eight, rest) = split(bytes, 8)?;
             Ok((Value::Eight(eight), rest))
         }
@@ -51,7 +51,7 @@ pub(crate) fn value_at(wire: u64, bytes: &[u8]) -> Result<(Value<'_>, &[u8]), Fi
             let (content, rest) = split(behind, len)?;
             Ok((Value::Bytes(content), rest))
         }
-        FOUR => {
+        I32 => {
             let (four, rest) = split(bytes, 4)?;
             Ok((Value::Four(four), rest))
         }

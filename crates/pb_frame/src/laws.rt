@@ -3,13 +3,13 @@
 ghost use Rattle.std.specs.Prelude.{ℕ, ◌≡◌, ◌++◌, ◌<◌, ◌^◌, List};
 ghost use Rattle.std.specs.List.{flat_map, All};
 ghost use Rattle.pb_frame.specs.declared.fault.FrameFault.{FrameFault};
-ghost use Rattle.pb_frame.specs.Limits.{longest_request};
+ghost use Rattle.pb_frame.specs.Limits.{max_request_len};
 ghost use Rattle.pb_frame.specs.Message.{Message, frame, IsWithin, Splits, IsFaultyStream};
 ghost use Rattle.pb_frame.specs.Stream.{Stream, opening};
 ghost use Rattle.pb_frame.specs.Taking.{IsOut, IsRefused};
 ghost use Rattle.pb_frame.specs.Run.{Event, Ran, fed_bytes, taken_messages};
 
-use crate::limits::LONGEST_REQUEST;
+use crate::limits::MAX_REQUEST_LEN;
 
 /// Each stream of bytes stands for a list of messages and a rest.
 pub fn every_stream()
@@ -65,5 +65,5 @@ pub fn bad_length()
 
 /// The request limit that servers pass to their framers is the one of the definitions.
 pub fn request_limit()
-    ensures { LONGEST_REQUEST ≡ longest_request }
+    ensures { MAX_REQUEST_LEN ≡ max_request_len }
 {}

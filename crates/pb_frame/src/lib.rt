@@ -31,5 +31,5 @@ pub use framer::Framer;
 pub use laws::{
     any_pieces, bad_length, every_stream, first_messages, none_left, one_split, request_limit,
 };
-pub use limits::{LONGEST_BODY, LONGEST_REQUEST};
+pub use limits::{MAX_BODY_LEN, MAX_REQUEST_LEN};
 pub use spelling::{HEADER_LEN, frame_of, header};

@@ -1,11 +1,11 @@
 //! A message as a frame.
 
 ghost use Rattle.std.specs.Prelude.{◌≡◌, ◌<◌, ◌≤◌, ◌++◌, List, ℕ, length, IfOk, IsOk, IsErrOf, IsOkUnless};
-ghost use Rattle.pb_frame.specs.Limits.{longest_body};
+ghost use Rattle.pb_frame.specs.Limits.{max_body_len};
 ghost use Rattle.pb_frame.specs.Message.{frame};
 
 use crate::fault::FrameFault;
-use crate::limits::LONGEST_BODY;
+use crate::limits::MAX_BODY_LEN;
 use byteorder::{BigEndian, ByteOrder};
 use std::alloc::Global;
 
@@ -15,15 +15,15 @@ pub const HEADER_LEN: usize = 5;
 /// The bytes in front of a message's body in its frame: how long code and body are in four bytes, the highest first,
 /// then the code. So the body is written behind them into the same buffer.
 ///
-/// `TooLarge` just where the body is longer than [`LONGEST_BODY`]. It takes no memory.
+/// `TooLarge` just where the body is longer than [`MAX_BODY_LEN`]. It takes no memory.
 #[tactic(auto, unfolding(crate::specs::Message::frame))]
 pub fn header(code: u8, body_len: usize) -> Result<[u8; HEADER_LEN], FrameFault>
     ensures ok { IfOk result (λ head. (body : List ℕ) → length body ≡ body_len
         → head ++ body ≡ frame (record { code = code; body = body })) }
-    ensures too_large { longest_body < body_len → IsErrOf result FrameFault.TooLarge }
-    ensures within { body_len ≤ longest_body → IsOk result }
+    ensures too_large { max_body_len < body_len → IsErrOf result FrameFault.TooLarge }
+    ensures within { body_len ≤ max_body_len → IsOk result }
 {
-    if body_len > LONGEST_BODY {
+    if body_len > MAX_BODY_LEN {
         return Err(FrameFault::TooLarge);
     }
     let mut header = [0, 0, 0, 0, code];
@@ -33,11 +33,11 @@ pub fn header(code: u8, body_len: usize) -> Result<[u8; HEADER_LEN], FrameFault>
 
 /// The frame of a message, as Riak's Protocol Buffers Client API has it: how long code and body are
 /// in four bytes, the highest first, then the code, then the body. `TooLarge` just where the body is
-/// longer than [`LONGEST_BODY`]; else only memory may be refused.
+/// longer than [`MAX_BODY_LEN`]; else only memory may be refused.
 pub fn frame_of(alloc: Global, code: u8, body: &[u8]) -> Result<Vec<u8>, FrameFault>
     ensures ok { IfOk result (λ v. v.items ≡ frame (record { code = code; body = body.now })) }
-    ensures too_large { longest_body < length body.now → IsErrOf result FrameFault.TooLarge }
-    ensures memory { length body.now ≤ longest_body → IsOkUnless result FrameFault.NoMemory }
+    ensures too_large { max_body_len < length body.now → IsErrOf result FrameFault.TooLarge }
+    ensures memory { length body.now ≤ max_body_len → IsOkUnless result FrameFault.NoMemory }
 {
     let header = header(code, body.len())?;
     let mut frame = Vec::with_capacity(alloc, HEADER_LEN.saturating_add(body.len()))?;

@@ -7,7 +7,7 @@ use Rattle.std.proofs.lemmas.List.{map-append, append-nil}
 use Rattle.std.proofs.lemmas.List.Elements.{filter_map-append}
 use Rattle.std.proofs.lemmas.Grind.{flat_map-append}
 use Rattle.pb_fields.specs.Field.{WireField}
-use Rattle.pb_fields.specs.Message.{StandsFor}
+use Rattle.pb_fields.specs.Message.{Encodes}
 use Rattle.pb_fields.proofs.Lists.{fields_once}
 use Rattle.riak_msgs.specs.declared.content.Content.{Content}
 use Rattle.riak_msgs.specs.declared.pair.Pair.{Pair}
@@ -22,7 +22,7 @@ same_content c d own links usermeta indexes = rw (own, links, usermeta, indexes)
 
 -- the fields that occurrences have are those of each of their fields
 abbrev pub EachStand : ℕ → List WireField → List (List WireField) → Type 0
-EachStand number fields parts = AllZip StandsFor (each_bytes number fields) parts
+EachStand number fields parts = AllZip Encodes (each_bytes number fields) parts
 
 -- no occurrence
 pub StandForContent-nil : StandForContent [] no_fields
@@ -31,15 +31,15 @@ StandForContent-nil = record { parts = []; each = tt; own = refl; links = tt; us
 pub each-append : (number : ℕ) (fs gs : List WireField) (us vs : List (List WireField)) → EachStand number fs us → EachStand number gs vs →
     EachStand number (fs ++ gs) (us ++ vs)
 each-append number fs gs us vs a b =
-    let P : List (List ℕ) → Type 0 = λ occurrences. AllZip StandsFor occurrences (us ++ vs) in
-    subst P (sym (each_bytes-append number fs gs)) (AllZip-append StandsFor (each_bytes number fs) (each_bytes number gs) us vs a b)
+    let P : List (List ℕ) → Type 0 = λ occurrences. AllZip Encodes occurrences (us ++ vs) in
+    subst P (sym (each_bytes-append number fs gs)) (AllZip-append Encodes (each_bytes number fs) (each_bytes number gs) us vs a b)
 
 -- occurrences, and later ones
 pub StandForContent-append : (xs ys : List (List ℕ)) (c part : ContentFields) → StandForContent xs c → StandForContent ys part →
     StandForContent (xs ++ ys) (merged c part)
 StandForContent-append xs ys c part a b = record {
   parts = a.parts ++ b.parts;
-  each = AllZip-append StandsFor xs ys a.parts b.parts a.each b.each;
+  each = AllZip-append Encodes xs ys a.parts b.parts a.each b.each;
   own = ap (λ fs. fs ++ part.own) a.own ∙ ap (λ gs. flat_map (λ p. p) a.parts ++ gs) b.own ∙ sym (flat_map-append (λ p. p) a.parts b.parts);
   links = each-append 6 c.own part.own c.links part.links a.links b.links;
   usermeta = each-append 9 c.own part.own c.usermeta part.usermeta a.usermeta b.usermeta;
@@ -54,15 +54,15 @@ StandForContent-more occurrences b c part seen more = StandForContent-append occ
 pub each-split : (number : ℕ) (fields fs gs : List WireField) (ws : List (List WireField)) → fields ≡ fs ++ gs → EachStand number fields ws →
     (us : List (List WireField)) × (vs : List (List WireField)) × (ws ≡ us ++ vs) × EachStand number fs us × EachStand number gs vs
 each-split number fields fs gs ws e a =
-    let P : List (List ℕ) → Type 0 = λ occurrences. AllZip StandsFor occurrences ws in
-    AllZip-split StandsFor (each_bytes number fs) (each_bytes number gs) ws
+    let P : List (List ℕ) → Type 0 = λ occurrences. AllZip Encodes occurrences ws in
+    AllZip-split Encodes (each_bytes number fs) (each_bytes number gs) ws
     (subst P (ap (each_bytes number) e ∙ each_bytes-append number fs gs) a)
 
 -- what stands for a content is two contents, that of the first occurrences and that of the later ones
 pub StandForContent-split : (xs ys : List (List ℕ)) (c : ContentFields) → StandForContent (xs ++ ys) c →
     (first : ContentFields) × (later : ContentFields) × (c ≡ merged first later) × StandForContent xs first × StandForContent ys later
 StandForContent-split xs ys c all =
-    let each = AllZip-split StandsFor xs ys all.parts all.each in
+    let each = AllZip-split Encodes xs ys all.parts all.each in
     let fs = flat_map (λ p. p) each.0 in
     let gs = flat_map (λ p. p) each.1 in
     let own : c.own ≡ fs ++ gs = all.own ∙ ap (flat_map (λ p. p)) each.2 ∙ flat_map-append (λ p. p) each.0 each.1 in
@@ -84,7 +84,7 @@ StandForContent-part before b behind c all =
     let one = StandForContent-split (b ∷ []) behind late.1 late.4 in
     (one.0, one.3)
 
-lists_once : (bss : List (List ℕ)) (us vs : List (List WireField)) → AllZip StandsFor bss us → AllZip StandsFor bss vs → us ≡ vs
+lists_once : (bss : List (List ℕ)) (us vs : List (List WireField)) → AllZip Encodes bss us → AllZip Encodes bss vs → us ≡ vs
 lists_once [] [] [] a b = refl
 lists_once [] [] (v ∷ vs) a b = absurd b
 lists_once [] (u ∷ us) vs a b = absurd a

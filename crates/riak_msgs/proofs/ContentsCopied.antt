@@ -3,7 +3,7 @@ use Rattle.std.proofs.Common.{◌≡◌, ℕ, List, [], ◌∷◌, ◌++◌, ref
 use Rattle.std.specs.Prelude.{filter_map}
 use Rattle.std.proofs.lemmas.List.{append-nil}
 use Rattle.pb_fields.specs.Field.{WireField}
-use Rattle.pb_fields.specs.Message.{StandsFor}
+use Rattle.pb_fields.specs.Message.{Encodes}
 use Rattle.riak_msgs.specs.declared.content.Content.{Content}
 use Rattle.riak_msgs.specs.declared.link.Link.{Link}
 use Rattle.riak_msgs.specs.declared.pair.Pair.{Pair}
@@ -24,7 +24,7 @@ merged-merged c d e = same_content (merged (merged c d) e) (merged c (merged d e
 
 -- a link, and a pair
 pub Copies-link : (content : Content) (field : WireField) (bytes : List ℕ) (links : List Link) (fields : List WireField) →
-    field ≡ string_at 6 bytes → StandsFor bytes fields → links ≡ content.links ++ link_of fields ∷ [] →
+    field ≡ string_at 6 bytes → Encodes bytes fields → links ≡ content.links ++ link_of fields ∷ [] →
     Copies content field (record content { links = links })
 Copies-link content field bytes links fields e stands is =
     let f = string_at 6 bytes in
@@ -36,7 +36,7 @@ Copies-link content field bytes links fields e stands is =
     )
 
 pub Copies-usermeta : (content : Content) (field : WireField) (bytes : List ℕ) (pairs : List Pair) (fields : List WireField) →
-    field ≡ string_at 9 bytes → StandsFor bytes fields → pairs ≡ content.usermeta ++ filter_map pair_of (fields ∷ []) →
+    field ≡ string_at 9 bytes → Encodes bytes fields → pairs ≡ content.usermeta ++ filter_map pair_of (fields ∷ []) →
     Copies content field (record content { usermeta = pairs })
 Copies-usermeta content field bytes pairs fields e stands is =
     let f = string_at 9 bytes in
@@ -48,7 +48,7 @@ Copies-usermeta content field bytes pairs fields e stands is =
     )
 
 pub Copies-index : (content : Content) (field : WireField) (bytes : List ℕ) (pairs : List Pair) (fields : List WireField) →
-    field ≡ string_at 10 bytes → StandsFor bytes fields → pairs ≡ content.indexes ++ filter_map pair_of (fields ∷ []) →
+    field ≡ string_at 10 bytes → Encodes bytes fields → pairs ≡ content.indexes ++ filter_map pair_of (fields ∷ []) →
     Copies content field (record content { indexes = pairs })
 Copies-index content field bytes pairs fields e stands is =
     let f = string_at 10 bytes in

@@ -9,7 +9,7 @@ use Rattle.std.proofs.lemmas.Bool.{false≢true}
 use Rattle.std.proofs.lemmas.List.{append-nil}
 use Rattle.std.proofs.lemmas.List.Folds.{list_any-append}
 use Rattle.pb_fields.specs.Field.{WireField, byte_string, varint}
-use Rattle.pb_fields.specs.Message.{StandsFor}
+use Rattle.pb_fields.specs.Message.{Encodes}
 use Rattle.riak_msgs.specs.declared.pairs_and_links.PairView.{PairView}
 use Rattle.riak_msgs.specs.declared.content_view.ContentView.{ContentView}
 use Rattle.riak_msgs.specs.Picking.{last_bytes, last_varint, bytes_at, varint_at, string_in, number_in, flag_of}
@@ -47,7 +47,7 @@ HoldContent-split fs gs c all =
     )
 
 -- one occurrence stands for the content that its fields hold
-pub StandForContent-one : (bs : List ℕ) (fields : List WireField) (c : ContentFields) → StandsFor bs fields → HoldContent fields c →
+pub StandForContent-one : (bs : List ℕ) (fields : List WireField) (c : ContentFields) → Encodes bs fields → HoldContent fields c →
     StandForContent (bs ∷ []) c
 StandForContent-one bs fields c stands holds =
     let P : ℕ → List (List WireField) → List WireField → Type 0 = λ number parts own. EachStand number own parts in
@@ -61,13 +61,13 @@ StandForContent-one bs fields c stands holds =
     }
 
 -- and the other way round
-pub HoldContent-one : (bs : List ℕ) (c : ContentFields) → StandForContent (bs ∷ []) c → StandsFor bs c.own × HoldContent c.own c
+pub HoldContent-one : (bs : List ℕ) (c : ContentFields) → StandForContent (bs ∷ []) c → Encodes bs c.own × HoldContent c.own c
 HoldContent-one bs c all = (stands all.parts all.each all.own, record { own = refl; links = all.links; usermeta = all.usermeta; indexes = all.indexes })
   where
-    stands : (parts : List (List WireField)) → AllZip StandsFor (bs ∷ []) parts → c.own ≡ flat_map (λ p. p) parts → StandsFor bs c.own
+    stands : (parts : List (List WireField)) → AllZip Encodes (bs ∷ []) parts → c.own ≡ flat_map (λ p. p) parts → Encodes bs c.own
     stands [] each own = absurd each
     stands (fields ∷ []) each own =
-        let P : List WireField → Type 0 = StandsFor bs in subst P (sym (own ∙ append-nil fields)) each.0
+        let P : List WireField → Type 0 = Encodes bs in subst P (sym (own ∙ append-nil fields)) each.0
     stands (fields ∷ gs ∷ more) each own = absurd each.1
 
 -- what was seen goes over to what is seen with one more field, in which these messages are
@@ -149,7 +149,7 @@ pub record IsSkipped (field : WireField) : Type 0 where
 pub alone-holds : (field : WireField) → bytes_at 6 field ≡ None → bytes_at 9 field ≡ None → bytes_at 10 field ≡ None →
     HoldContent (field ∷ []) (alone field)
 alone-holds field link usermeta index =
-    let P : Option (List ℕ) → Type 0 = λ o. AllZip StandsFor (cons_option o []) [] in
+    let P : Option (List ℕ) → Type 0 = λ o. AllZip Encodes (cons_option o []) [] in
     record { own = refl; links = subst P (sym link) tt; usermeta = subst P (sym usermeta) tt; indexes = subst P (sym index) tt }
 
 pub Sees-skipped : (seen : ContentView) (field : WireField) → IsSkipped field → Sees seen field seen
@@ -270,7 +270,7 @@ Sees-deleted seen field value flag e is =
     )
 
 -- a link, and a pair
-pub Sees-link : (seen : ContentView) (number : ℕ) (bytes : List ℕ) (fields : List WireField) → number ≡ 6 → StandsFor bytes fields →
+pub Sees-link : (seen : ContentView) (number : ℕ) (bytes : List ℕ) (fields : List WireField) → number ≡ 6 → Encodes bytes fields →
     Sees seen (string_at number bytes) (record seen { has_parts = true })
 Sees-link seen number bytes fields e stands =
     let f = string_at 6 bytes in
@@ -291,7 +291,7 @@ Sees-link seen number bytes fields e stands =
     )
 
 pub Sees-usermeta : (seen : ContentView) (number : ℕ) (bytes : List ℕ) (fields : List WireField) (flag : Bool) → number ≡ 9 →
-    StandsFor bytes fields → flag ≡ (seen.misses_key || is_none (pair_of fields)) →
+    Encodes bytes fields → flag ≡ (seen.misses_key || is_none (pair_of fields)) →
     Sees seen (string_at number bytes) (record seen { misses_key = flag; has_parts = true })
 Sees-usermeta seen number bytes fields flag e stands is =
     let f = string_at 9 bytes in
@@ -315,7 +315,7 @@ Sees-usermeta seen number bytes fields flag e stands is =
     )
 
 pub Sees-index : (seen : ContentView) (number : ℕ) (bytes : List ℕ) (fields : List WireField) (flag : Bool) → number ≡ 10 →
-    StandsFor bytes fields → flag ≡ (seen.misses_key || is_none (pair_of fields)) →
+    Encodes bytes fields → flag ≡ (seen.misses_key || is_none (pair_of fields)) →
     Sees seen (string_at number bytes) (record seen { misses_key = flag; has_parts = true })
 Sees-index seen number bytes fields flag e stands is =
     let f = string_at 10 bytes in

@@ -3,7 +3,7 @@ use Rattle.std.proofs.Common.{◌≡◌, ℕ, ◌+◌, ◌^◌, ◌<◌, false, 
 use Rattle.std.specs.List.{AllZip}
 use Rattle.std.proofs.lemmas.List.{append-nil}
 use Rattle.pb_fields.specs.Field.{WireField}
-use Rattle.pb_fields.specs.Message.{StandsFor}
+use Rattle.pb_fields.specs.Message.{Encodes}
 use Rattle.riak_msgs.specs.declared.link.Link.{Link}
 use Rattle.riak_msgs.specs.declared.pair.Pair.{Pair}
 use Rattle.riak_msgs.specs.declared.content.Content.{Content}
@@ -44,7 +44,7 @@ link_parts l = optional 1 l.bucket ∷ optional 2 l.key ∷ optional 3 l.tag ∷
 pub link_fields : Link → List WireField
 link_fields l = fields_of (link_parts l)
 
-link_stands : (l : Link) → length (link_message l) < 2 ^ 64 → StandsFor (link_message l) (link_fields l)
+link_stands : (l : Link) → length (link_message l) < 2 ^ 64 → Encodes (link_message l) (link_fields l)
 unfolding link_parts link_fields
 link_stands l short =
     stands (link_message l) (link_parts l) (encoded_behind-is (optional_field 1 l.bucket) (optional 2 l.key ∷ optional 3 l.tag ∷ []))
@@ -65,7 +65,7 @@ pair_parts p = string 1 p.key ∷ optional 2 p.value ∷ []
 pub pair_fields : Pair → List WireField
 pair_fields p = fields_of (pair_parts p)
 
-pair_stands : (p : Pair) → length (pair_message p) < 2 ^ 64 → StandsFor (pair_message p) (pair_fields p)
+pair_stands : (p : Pair) → length (pair_message p) < 2 ^ 64 → Encodes (pair_message p) (pair_fields p)
 unfolding pair_parts pair_fields
 pair_stands p short =
     stands (pair_message p) (pair_parts p) (encoded_behind-is (bytes_field 1 p.key) (optional 2 p.value ∷ []))
@@ -123,12 +123,12 @@ shown_stands s short =
       parts = fields_of parts ∷ [];
       each = (stands (shown_message s) parts (shown_encoded s) (search arith) short, tt);
       own = sym (append-nil (fields_of parts));
-      links = subst (λ bss. AllZip StandsFor bss (map link_fields s.content.links)) (sym (each_bytes-fields_of 6 parts ∙ append-nil _))
-          (each_stands StandsFor link_message link_fields 6 link_stands s.content.links each_short.1.1.1.1.0);
-      usermeta = subst (λ bss. AllZip StandsFor bss (map pair_fields s.content.usermeta)) (sym (each_bytes-fields_of 9 parts ∙ append-nil _))
-          (each_stands StandsFor pair_message pair_fields 9 pair_stands s.content.usermeta each_short.1.1.1.1.1.0);
-      indexes = subst (λ bss. AllZip StandsFor bss (map pair_fields s.content.indexes)) (sym (each_bytes-fields_of 10 parts ∙ append-nil _))
-          (each_stands StandsFor pair_message pair_fields 10 pair_stands s.content.indexes each_short.1.1.1.1.1.1.0);
+      links = subst (λ bss. AllZip Encodes bss (map link_fields s.content.links)) (sym (each_bytes-fields_of 6 parts ∙ append-nil _))
+          (each_stands Encodes link_message link_fields 6 link_stands s.content.links each_short.1.1.1.1.0);
+      usermeta = subst (λ bss. AllZip Encodes bss (map pair_fields s.content.usermeta)) (sym (each_bytes-fields_of 9 parts ∙ append-nil _))
+          (each_stands Encodes pair_message pair_fields 9 pair_stands s.content.usermeta each_short.1.1.1.1.1.0);
+      indexes = subst (λ bss. AllZip Encodes bss (map pair_fields s.content.indexes)) (sym (each_bytes-fields_of 10 parts ∙ append-nil _))
+          (each_stands Encodes pair_message pair_fields 10 pair_stands s.content.indexes each_short.1.1.1.1.1.1.0);
     }
 
 content_is : (c : Content) (f : ContentFields) → last_bytes 1 f.own ≡ Some c.value → last_bytes 2 f.own ≡ c.content_type →

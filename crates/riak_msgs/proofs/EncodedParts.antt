@@ -3,7 +3,7 @@ use Rattle.std.proofs.Common.{◌≡◌, ℕ, ◌+◌, ◌*◌, ◌^◌, ◌<◌
 use Rattle.std.specs.List.{flat_map, AllByRecursion}
 use Rattle.std.proofs.lemmas.List.{append-nil}
 use Rattle.pb_fields.specs.Field.{WireField, varint, byte_string, IsNumber}
-use Rattle.pb_fields.specs.Message.{StandsFor}
+use Rattle.pb_fields.specs.Message.{Encodes}
 use Rattle.pb_fields.specs.Encoding.{encoding, Fits}
 use Rattle.pb_fields.proofs.Lists.{encoding_is_read}
 use Rattle.wire_varint.specs.Varint.{spelling as varint_encoding}
@@ -67,8 +67,8 @@ encoded_behind-is bs [] = sym (append-nil bs)
 encoded_behind-is bs (p ∷ ps) = encoded_behind-is (bs ++ part_encoding p) ps ∙ append_assoc bs (part_encoding p) (encoded ps)
 
 -- one field in front of a message
-in_front : (field : WireField) (fields : List WireField) (rest : List ℕ) → Fits field → StandsFor rest fields →
-    StandsFor (encoding field ++ rest) (field ∷ fields)
+in_front : (field : WireField) (fields : List WireField) (rest : List ℕ) → Fits field → Encodes rest fields →
+    Encodes (encoding field ++ rest) (field ∷ fields)
 in_front field fields rest fits others = (rest, encoding_is_read field rest fits, others)
 
 -- the bytes of a field are fewer than those of the field
@@ -78,33 +78,33 @@ bytes_field-shorter n bs short =
     omega (arith, length-append (varint_encoding (n * 8 + 2)) behind, length-append (varint_encoding (length bs)) bs)
 
 string_in_front : (n : ℕ) (bs : List ℕ) → IsNumber n → length (bytes_field n bs) < 2 ^ 64 → (rest : List ℕ) (fields : List WireField) →
-    StandsFor rest fields → StandsFor (bytes_field n bs ++ rest) (string_at n bs ∷ fields)
+    Encodes rest fields → Encodes (bytes_field n bs ++ rest) (string_at n bs ∷ fields)
 string_in_front n bs number short rest fields others =
     in_front (string_at n bs) fields rest (record { number = number; value = bytes_field-shorter n bs short }) others
 
 number_in_front : (n value : ℕ) → IsNumber n → value < 2 ^ 64 → (rest : List ℕ) (fields : List WireField) →
-    StandsFor rest fields → StandsFor (varint_field n value ++ rest) (number_at n value ∷ fields)
+    Encodes rest fields → Encodes (varint_field n value ++ rest) (number_at n value ∷ fields)
 number_in_front n value number fits rest fields others =
     in_front (number_at n value) fields rest (record { number = number; value = fits }) others
 
 each_in_front : (n : ℕ) (xs : List (List ℕ)) → IsNumber n → length (repeated_field (λ x. x) n xs) < 2 ^ 64 → (rest : List ℕ) (fields : List WireField) →
-    StandsFor rest fields → StandsFor (repeated_field (λ x. x) n xs ++ rest) (map (string_at n) xs ++ fields)
+    Encodes rest fields → Encodes (repeated_field (λ x. x) n xs ++ rest) (map (string_at n) xs ++ fields)
 each_in_front n [] number short rest fields others = others
 each_in_front n (x ∷ xs) number short rest fields others =
     let behind = repeated_field (λ y. y) n xs in
     let len : length (bytes_field n x ++ behind) ≡ length (bytes_field n x) + length behind = length-append (bytes_field n x) behind in
-    subst (λ bs. StandsFor bs (string_at n x ∷ map (string_at n) xs ++ fields)) (sym (append_assoc (bytes_field n x) behind rest))
+    subst (λ bs. Encodes bs (string_at n x ∷ map (string_at n) xs ++ fields)) (sym (append_assoc (bytes_field n x) behind rest))
     (string_in_front n x number (omega arith) (behind ++ rest) (map (string_at n) xs ++ fields)
     (each_in_front n xs number (omega arith) rest fields others))
 
 -- a part in front of a message
 part_in_front : (p : Part) → IsNumber (number_of p) → length (part_encoding p) < 2 ^ 64 → (rest : List ℕ) (fields : List WireField) →
-    StandsFor rest fields → StandsFor (part_encoding p ++ rest) (part_fields p ++ fields)
+    Encodes rest fields → Encodes (part_encoding p ++ rest) (part_fields p ++ fields)
 part_in_front (string n bs) number short rest fields others = string_in_front n bs number short rest fields others
 part_in_front (optional n None) number short rest fields others = others
 part_in_front (optional n (Some bs)) number short rest fields others = string_in_front n bs number short rest fields others
 part_in_front (each n xs) number short rest fields others =
-    subst (λ fs. StandsFor (repeated_field (λ x. x) n xs ++ rest) (fs ++ fields)) (sym (append-nil (map (string_at n) xs)))
+    subst (λ fs. Encodes (repeated_field (λ x. x) n xs ++ rest) (fs ++ fields)) (sym (append-nil (map (string_at n) xs)))
     (each_in_front n xs number short rest fields others)
 part_in_front (flag n true) number short rest fields others = number_in_front n 1 number (omega arith) rest fields others
 part_in_front (flag n false) number short rest fields others = others
@@ -121,7 +121,7 @@ parts_short (p ∷ ps) short =
     length-append (part_encoding p) (encoded ps) in
     (omega arith, parts_short ps (omega arith))
 
-parts_stand : (ps : List Part) → AreNumbered ps → length (encoded ps) < 2 ^ 64 → StandsFor (encoded ps) (fields_of ps)
+parts_stand : (ps : List Part) → AreNumbered ps → length (encoded ps) < 2 ^ 64 → Encodes (encoded ps) (fields_of ps)
 parts_stand [] numbered short = refl
 parts_stand (p ∷ ps) numbered short =
     let len : length (part_encoding p ++ encoded ps) ≡ length (part_encoding p) + length (encoded ps) =
@@ -129,6 +129,6 @@ parts_stand (p ∷ ps) numbered short =
     part_in_front p numbered.0 (omega arith) (encoded ps) (fields_of ps) (parts_stand ps numbered.1 (omega arith))
 
 -- bytes that are encoded by parts stand for their fields
-pub stands : (bs : List ℕ) (ps : List Part) → bs ≡ encoded ps → AreNumbered ps → length bs < 2 ^ 64 → StandsFor bs (fields_of ps)
+pub stands : (bs : List ℕ) (ps : List Part) → bs ≡ encoded ps → AreNumbered ps → length bs < 2 ^ 64 → Encodes bs (fields_of ps)
 stands bs ps is numbered short =
-    subst (λ cs. StandsFor cs (fields_of ps)) (sym is) (parts_stand ps numbered (subst (λ cs. length cs < 2 ^ 64) is short))
+    subst (λ cs. Encodes cs (fields_of ps)) (sym is) (parts_stand ps numbered (subst (λ cs. length cs < 2 ^ 64) is short))

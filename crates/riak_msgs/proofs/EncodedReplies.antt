@@ -4,7 +4,7 @@ use Rattle.std.specs.List.{AllZip}
 use Rattle.std.specs.Option.{unwrap_or}
 use Rattle.std.proofs.lemmas.List.{append-nil}
 use Rattle.pb_fields.specs.Field.{WireField}
-use Rattle.pb_fields.specs.Message.{StandsFor}
+use Rattle.pb_fields.specs.Message.{Encodes}
 use Rattle.riak_msgs.specs.declared.text.Text.{Text}
 use Rattle.riak_msgs.specs.declared.text.Text.TheVariants.{UnknownCode, BadMessage, MissingField, EmptyName, NoKey, NoMemory, MatchFound, Modified, NotFound, BadContext, TooManySiblings, ClockFull, EpochsUsedUp, CounterUsedUp, Moved, HistoryFull, BadFrame, FrameTooLarge}
 use Rattle.riak_msgs.specs.declared.get.GetReply.{GetReply}
@@ -19,7 +19,7 @@ use Rattle.riak_msgs.specs.Replies.{error_body, get_reply_body, put_reply_body, 
 use Rattle.riak_msgs.specs.Picking.{last_bytes, last_varint, flag_of}
 use Rattle.riak_msgs.specs.Embedded.{ContentFields, StandForContent, shown_of}
 use Rattle.riak_msgs.specs.Reading.{first_fault, said_by}
-use Rattle.riak_msgs.specs.ReadingReplies.{text_named, text_in, error_fault, ShownFields, StandsForShown, contents_of, shown_fault, get_reply_of, put_reply_of, SaysReply}
+use Rattle.riak_msgs.specs.ReadingReplies.{text_named, text_in, error_fault, ShownFields, EncodesShown, contents_of, shown_fault, get_reply_of, put_reply_of, DecodesReply}
 use Rattle.riak_msgs.proofs.EncodedParts.{Part, string, optional, each, flag, encoded, encoded_behind-is, fields_of, parts_short, stands}
 use Rattle.riak_msgs.proofs.EncodedPicks.{each_bytes-fields_of, last_bytes-fields_of, last_varint-fields_of, flag_of-fields_of, last_or-only, some_bytes, context_field-is, unwrap_or-some_bytes, repeated_field-map}
 use Rattle.riak_msgs.proofs.EncodedContents.{each_stands, all_of-back, shown_fields, shown_stands, shown_back}
@@ -49,7 +49,7 @@ text_named-text_bytes FrameTooLarge = refl
 error_parts : Text → List Part
 error_parts t = string 1 (text_bytes t) ∷ flag 2 true ∷ []
 
-error_stands : (t : Text) → length (error_body t) < 2 ^ 64 → StandsFor (error_body t) (fields_of (error_parts t))
+error_stands : (t : Text) → length (error_body t) < 2 ^ 64 → Encodes (error_body t) (fields_of (error_parts t))
 unfolding error_parts
 error_stands t short =
     stands (error_body t) (error_parts t) (encoded_behind-is (bytes_field 1 (text_bytes t)) (flag 2 true ∷ [])) (search arith) short
@@ -90,7 +90,7 @@ get_reply_encoded r =
     rw (repeated_field-map shown_message 1 r.contents, context_field-is 2 r.context)
     (encoded_behind-is (repeated_field (λ x. x) 1 (map shown_message r.contents)) (optional 2 (some_bytes r.context) ∷ flag 3 r.unchanged ∷ []))
 
-get_reply_stands : (r : GetReply) → length (get_reply_body r) < 2 ^ 64 → StandsForShown (get_reply_body r) (get_reply_fields r)
+get_reply_stands : (r : GetReply) → length (get_reply_body r) < 2 ^ 64 → EncodesShown (get_reply_body r) (get_reply_fields r)
 unfolding get_reply_parts get_reply_fields
 get_reply_stands r short =
     let parts = get_reply_parts r in
@@ -133,11 +133,11 @@ get_reply_said f r told =
 shows : PutReply → GetReply
 shows r = record { contents = r.contents; context = r.context; unchanged = false }
 
-put_reply_stands : (r : PutReply) → length (put_reply_body r) < 2 ^ 64 → StandsForShown (put_reply_body r) (get_reply_fields (shows r))
+put_reply_stands : (r : PutReply) → length (put_reply_body r) < 2 ^ 64 → EncodesShown (put_reply_body r) (get_reply_fields (shows r))
 unfolding shows
 put_reply_stands r short =
     let same : put_reply_body r ++ [] ≡ put_reply_body r = append-nil (put_reply_body r) in
-    subst (λ bs. StandsForShown bs (get_reply_fields (shows r))) same
+    subst (λ bs. EncodesShown bs (get_reply_fields (shows r))) same
     (get_reply_stands (shows r) (subst (λ bs. length bs < 2 ^ 64) (sym same) short))
 
 put_reply_said : (f : ShownFields) (r : PutReply) → ReplyIn f (shows r) → Ok (replies.Put r) ≡ said_by (shown_fault f) (replies.Put (put_reply_of f))
@@ -146,7 +146,7 @@ put_reply_said f r told =
     said_ok (shown_fault f) (replies.Put r) (replies.Put (put_reply_of f)) (no_shown_fault f (shows r) told)
     (ap replies.Put (sym (put_reply_of-is f (shows r) told)))
 
-pub reply_says : (r : Reply) → length (reply_body r) < 2 ^ 64 → SaysReply (reply_code r) (reply_body r) (Ok r)
+pub reply_says : (r : Reply) → length (reply_body r) < 2 ^ 64 → DecodesReply (reply_code r) (reply_body r) (Ok r)
 reply_says (replies.Error t) short =
     inl (refl, inl (fields_of (error_parts t), error_stands t short, error_said t (fields_of (error_parts t)) (error_text t) (error_number t)))
 reply_says replies.Ping short = inr (inl (refl, refl))

@@ -4,7 +4,7 @@ use Rattle.std.specs.Option.{unwrap_or}
 use Rattle.std.proofs.Math.Dec.{eqb-suc-zero}
 use Rattle.std.specs.Str.{bytes_eq}
 use Rattle.pb_fields.specs.Field.{WireField}
-use Rattle.pb_fields.specs.Message.{StandsFor}
+use Rattle.pb_fields.specs.Message.{Encodes}
 use Rattle.riak_msgs.specs.declared.key.Key.{Key}
 use Rattle.riak_msgs.specs.declared.get.GetAsk.{GetAsk}
 use Rattle.riak_msgs.specs.declared.put.PutAsk.{PutAsk}
@@ -20,7 +20,7 @@ use Rattle.riak_msgs.specs.BucketTypes.{default_type}
 use Rattle.riak_msgs.specs.Requests.{get_body, put_body, del_body, request_code, request_body, IsNamed, HasNames}
 use Rattle.riak_msgs.specs.Picking.{last_bytes, flag_of}
 use Rattle.riak_msgs.specs.Embedded.{StandForContent, content_of}
-use Rattle.riak_msgs.specs.Reading.{first_fault, is_empty_name, has_empty_name, named_key, names_fault, get_of, del_of, PutFields, StandsForPut, put_fault, put_of, said_by, Says}
+use Rattle.riak_msgs.specs.Reading.{first_fault, is_empty_name, has_empty_name, named_key, names_fault, get_of, del_of, PutFields, EncodesPut, put_fault, put_of, said_by, Decodes}
 use Rattle.riak_msgs.proofs.EncodedParts.{Part, string, optional, flag, encoded, encoded_behind-is, fields_of, parts_short, stands, bytes_field-shorter}
 use Rattle.riak_msgs.proofs.EncodedPicks.{each_bytes-fields_of, last_bytes-fields_of, flag_of-fields_of, last_or-only, some_bytes, context_field-is, unwrap_or-some_bytes, some_type, type_field-is, unwrap_or-some_type}
 use Rattle.riak_msgs.proofs.EncodedContents.{alive, shown_fields, content_stands, content_back}
@@ -80,7 +80,7 @@ get_encoded g =
     ∷ optional 13 (some_type g.key.bucket_type)
     ∷ []))
 
-get_stands : (g : GetAsk) → length (get_body g) < 2 ^ 64 → StandsFor (get_body g) (fields_of (get_parts g))
+get_stands : (g : GetAsk) → length (get_body g) < 2 ^ 64 → Encodes (get_body g) (fields_of (get_parts g))
 unfolding get_parts
 get_stands g short = stands (get_body g) (get_parts g) (get_encoded g) (search arith) short
 
@@ -147,7 +147,7 @@ del_encoded d =
     ∷ optional 13 (some_type d.key.bucket_type)
     ∷ []))
 
-del_stands : (d : DelAsk) → length (del_body d) < 2 ^ 64 → StandsFor (del_body d) (fields_of (del_parts d))
+del_stands : (d : DelAsk) → length (del_body d) < 2 ^ 64 → Encodes (del_body d) (fields_of (del_parts d))
 unfolding del_parts
 del_stands d short = stands (del_body d) (del_parts d) (del_encoded d) (search arith) short
 
@@ -216,7 +216,7 @@ put_encoded p =
     ∷ optional 16 (some_type p.key.bucket_type)
     ∷ []))
 
-put_stands : (p : PutAsk) → length (put_body p) < 2 ^ 64 → StandsForPut (put_body p) (put_fields p)
+put_stands : (p : PutAsk) → length (put_body p) < 2 ^ 64 → EncodesPut (put_body p) (put_fields p)
 unfolding put_parts put_fields
 put_stands p short =
     let parts = put_parts p in
@@ -278,7 +278,7 @@ put_said : (p : PutAsk) (f : PutFields) → IsNamed p.key → PutIn f p →
 put_said p f named is =
     said_ok (put_fault f) (requests.Put p) (requests.Put (put_of f)) (no_put_fault f p named is) (ap requests.Put (sym (put_back f p is)))
 
-pub request_says : (q : Request) → HasNames q → length (request_body q) < 2 ^ 64 → Says (request_code q) (request_body q) (Ok q)
+pub request_says : (q : Request) → HasNames q → length (request_body q) < 2 ^ 64 → Decodes (request_code q) (request_body q) (Ok q)
 unfolding put_fields
 request_says requests.Ping named short = inl (refl, refl)
 request_says (requests.Get g) named short =

@@ -3,7 +3,7 @@ use Rattle.std.proofs.Common.{◌≡◌, ℕ, Bool, true, false, cond, List, [],
 use Rattle.std.specs.Prelude.{is_none, is_some, not, ◌&&◌, ◌||◌, unwrap_or, option_and_then, option_copied}
 use Rattle.std.proofs.lemmas.Bool.{false≢true}
 use Rattle.pb_fields.specs.Field.{WireField}
-use Rattle.pb_fields.specs.Message.{StandsFor}
+use Rattle.pb_fields.specs.Message.{Encodes}
 use Rattle.pb_fields.proofs.Lists.{fields_once}
 use Rattle.riak_msgs.specs.declared.get.GetReply.{GetReply}
 use Rattle.riak_msgs.specs.declared.put.PutReply.{PutReply}
@@ -15,18 +15,18 @@ use Rattle.riak_msgs.specs.declared.text.Text.TheVariants as texts
 use Rattle.riak_msgs.specs.declared.fault.MsgFault.{MsgFault}
 use Rattle.riak_msgs.specs.declared.fault.MsgFault.TheVariants.{UnknownCode, BadMessage, MissingField, EmptyName, NoKey, NoMemory}
 use Rattle.riak_msgs.specs.Picking.{last_bytes, last_varint, flag_of}
-use Rattle.riak_msgs.specs.Reading.{first_fault, said_by, SaysBy}
-use Rattle.riak_msgs.specs.ReadingReplies.{ShownFields, StandsForShown, contents_of, shown_fault, get_reply_of, text_in, text_named, IsReplyCode, SaysReply, ReadsReply}
-use Rattle.riak_msgs.specs.SeenReplies.{SaysError, SaysShown, ReadsShown, whole_of}
+use Rattle.riak_msgs.specs.Reading.{first_fault, said_by, DecodesBy}
+use Rattle.riak_msgs.specs.ReadingReplies.{ShownFields, EncodesShown, contents_of, shown_fault, get_reply_of, text_in, text_named, IsReplyCode, DecodesReply, ReadsReply}
+use Rattle.riak_msgs.specs.SeenReplies.{DecodesError, DecodesShown, ReadsShown, whole_of}
 use Rattle.riak_msgs.proofs.RepliesSteps.{shown_once, contents_of-whole}
 
 -- a body says one thing at most
-pub SaysBy-once : {A F : Type 0} (Stands : F → Type 0) (told : F → Result A MsgFault) (a b : Result A MsgFault) →
-    ((x y : F) → Stands x → Stands y → x ≡ y) → SaysBy Stands told a → SaysBy Stands told b → a ≡ b
-SaysBy-once Stands told a b once (inl (x, s, e)) (inl (y, t, f)) = e ∙ ap told (once x y s t) ∙ sym f
-SaysBy-once Stands told a b once (inl (x, s, e)) (inr (none, f)) = absurd (none x s)
-SaysBy-once Stands told a b once (inr (none, e)) (inl (y, t, f)) = absurd (none y t)
-SaysBy-once Stands told a b once (inr (none, e)) (inr (other, f)) = e ∙ sym f
+pub DecodesBy-once : {A F : Type 0} (Stands : F → Type 0) (told : F → Result A MsgFault) (a b : Result A MsgFault) →
+    ((x y : F) → Stands x → Stands y → x ≡ y) → DecodesBy Stands told a → DecodesBy Stands told b → a ≡ b
+DecodesBy-once Stands told a b once (inl (x, s, e)) (inl (y, t, f)) = e ∙ ap told (once x y s t) ∙ sym f
+DecodesBy-once Stands told a b once (inl (x, s, e)) (inr (none, f)) = absurd (none x s)
+DecodesBy-once Stands told a b once (inr (none, e)) (inl (y, t, f)) = absurd (none y t)
+DecodesBy-once Stands told a b once (inr (none, e)) (inr (other, f)) = e ∙ sym f
 
 -- what is said, as a part of something
 pub mapped : {A B : Type 0} → (A → B) → Result A MsgFault → Result B MsgFault
@@ -38,23 +38,23 @@ unfolding mapped
 said_by-mapped f None a = refl
 said_by-mapped f (Some fault) a = refl
 
-SaysBy-mapped : {A B F : Type 0} (f : A → B) (Stands : F → Type 0) (fault : F → Option MsgFault) (told : F → A) (said : Result A MsgFault) →
-    SaysBy Stands (λ x. said_by (fault x) (told x)) said → SaysBy Stands (λ x. said_by (fault x) (f (told x))) (mapped f said)
+DecodesBy-mapped : {A B F : Type 0} (f : A → B) (Stands : F → Type 0) (fault : F → Option MsgFault) (told : F → A) (said : Result A MsgFault) →
+    DecodesBy Stands (λ x. said_by (fault x) (told x)) said → DecodesBy Stands (λ x. said_by (fault x) (f (told x))) (mapped f said)
 unfolding mapped
-SaysBy-mapped f Stands fault told said (inl (x, s, e)) = inl (x, s, ap (mapped f) e ∙ said_by-mapped f (fault x) (told x))
-SaysBy-mapped f Stands fault told said (inr (none, e)) = inr (none, ap (mapped f) e)
+DecodesBy-mapped f Stands fault told said (inl (x, s, e)) = inl (x, s, ap (mapped f) e ∙ said_by-mapped f (fault x) (told x))
+DecodesBy-mapped f Stands fault told said (inr (none, e)) = inr (none, ap (mapped f) e)
 
 -- a reply whose contents are whole is said
-pub SaysShown-whole : (body : List ℕ) (fields : ShownFields) → StandsForShown body fields → is_none (contents_of fields) ≡ false →
-    SaysShown body (Ok (get_reply_of fields))
-SaysShown-whole body fields stands whole =
+pub DecodesShown-whole : (body : List ℕ) (fields : ShownFields) → EncodesShown body fields → is_none (contents_of fields) ≡ false →
+    DecodesShown body (Ok (get_reply_of fields))
+DecodesShown-whole body fields stands whole =
     let P : Bool → Result GetReply MsgFault = λ b. said_by (cond b (Some MissingField) None) (get_reply_of fields) in
     inl (fields, stands, ap P (sym whole))
 
 -- and where some content isn't, that is said
-pub SaysShown-missing : (body : List ℕ) (fields : ShownFields) → StandsForShown body fields → is_none (contents_of fields) ≡ true →
-    SaysShown body (Err MissingField)
-SaysShown-missing body fields stands missing =
+pub DecodesShown-missing : (body : List ℕ) (fields : ShownFields) → EncodesShown body fields → is_none (contents_of fields) ≡ true →
+    DecodesShown body (Err MissingField)
+DecodesShown-missing body fields stands missing =
     let P : Bool → Result GetReply MsgFault = λ b. said_by (cond b (Some MissingField) None) (get_reply_of fields) in
     inl (fields, stands, ap P (sym missing))
 
@@ -62,20 +62,20 @@ reply_made : List Shown → List ℕ → Bool → GetReply
 reply_made contents context unchanged = record { contents = contents; context = context; unchanged = unchanged }
 
 -- the reply that was copied is the one that is said
-pub SaysShown-copied : (body : List ℕ) (fields others : ShownFields) (contents : List Shown) (context : List ℕ) (unchanged : Bool) →
-    StandsForShown body fields → StandsForShown body others → is_none (contents_of fields) ≡ false →
+pub DecodesShown-copied : (body : List ℕ) (fields others : ShownFields) (contents : List Shown) (context : List ℕ) (unchanged : Bool) →
+    EncodesShown body fields → EncodesShown body others → is_none (contents_of fields) ≡ false →
     contents ≡ map whole_of others.contents → context ≡ unwrap_or (last_bytes 2 fields.own) [] → unchanged ≡ flag_of 3 fields.own →
-    SaysShown body (Ok (record { contents = contents; context = context; unchanged = unchanged }))
+    DecodesShown body (Ok (record { contents = contents; context = context; unchanged = unchanged }))
 unfolding reply_made
-SaysShown-copied body fields others contents context unchanged s t whole e f g =
+DecodesShown-copied body fields others contents context unchanged s t whole e f g =
     let shown : contents ≡ unwrap_or (contents_of fields) [] =
     e ∙ ap (λ (x : ShownFields). map whole_of x.contents) (shown_once body others fields t s)
     ∙ ap (λ o. unwrap_or o []) (sym (contents_of-whole fields whole)) in
-    let P : GetReply → Type 0 = λ r. SaysShown body (Ok r) in
+    let P : GetReply → Type 0 = λ r. DecodesShown body (Ok r) in
     let same : get_reply_of fields ≡ reply_made contents context unchanged =
     ap (λ x. reply_made x (unwrap_or (last_bytes 2 fields.own) []) (flag_of 3 fields.own)) (sym shown)
     ∙ ap (λ x. reply_made contents x (flag_of 3 fields.own)) (sym f) ∙ ap (reply_made contents context) (sym g) in
-    subst P same (SaysShown-whole body fields s whole)
+    subst P same (DecodesShown-whole body fields s whole)
 
 -- the bytes that were seen, or none
 pub now-unwrap_or : (o : Option (Bor (List ℕ))) (d r : Bor (List ℕ)) → r ≡ unwrap_or o d → d.now ≡ [] → r.now ≡ unwrap_or (option_copied o) []
@@ -86,33 +86,33 @@ abbrev pub as_put : GetReply → PutReply
 as_put r = record { contents = r.contents; context = r.context }
 
 -- a get's reply
-pub SaysReply-get : (code : ℕ) (body : List ℕ) (said : Result GetReply MsgFault) → code ≡ 10 → SaysShown body said →
-    SaysReply code body (mapped replies.Get said)
-SaysReply-get code body said e told = inr (inr (inl (e, SaysBy-mapped replies.Get (StandsForShown body) shown_fault get_reply_of said told)))
+pub DecodesReply-get : (code : ℕ) (body : List ℕ) (said : Result GetReply MsgFault) → code ≡ 10 → DecodesShown body said →
+    DecodesReply code body (mapped replies.Get said)
+DecodesReply-get code body said e told = inr (inr (inl (e, DecodesBy-mapped replies.Get (EncodesShown body) shown_fault get_reply_of said told)))
 
 -- a put's
-pub SaysReply-put : (code : ℕ) (body : List ℕ) (said : Result GetReply MsgFault) → code ≡ 12 → SaysShown body said →
-    SaysReply code body (mapped (λ r. replies.Put (as_put r)) said)
-SaysReply-put code body said e told =
-    inr (inr (inr (inl (e, SaysBy-mapped (λ r. replies.Put (as_put r)) (StandsForShown body) shown_fault get_reply_of said told))))
+pub DecodesReply-put : (code : ℕ) (body : List ℕ) (said : Result GetReply MsgFault) → code ≡ 12 → DecodesShown body said →
+    DecodesReply code body (mapped (λ r. replies.Put (as_put r)) said)
+DecodesReply-put code body said e told =
+    inr (inr (inr (inl (e, DecodesBy-mapped (λ r. replies.Put (as_put r)) (EncodesShown body) shown_fault get_reply_of said told))))
 
 pub ReadsReply-get_fault : (code : ℕ) (body : List ℕ) (fault : MsgFault) → code ≡ 10 → ReadsShown body (Err fault) → ReadsReply code body (Err fault)
 unfolding mapped
 ReadsReply-get_fault code body UnknownCode e told = absurd told
-ReadsReply-get_fault code body BadMessage e told = SaysReply-get code body (Err BadMessage) e told
-ReadsReply-get_fault code body MissingField e told = SaysReply-get code body (Err MissingField) e told
+ReadsReply-get_fault code body BadMessage e told = DecodesReply-get code body (Err BadMessage) e told
+ReadsReply-get_fault code body MissingField e told = DecodesReply-get code body (Err MissingField) e told
 ReadsReply-get_fault code body EmptyName e told = absurd told
 ReadsReply-get_fault code body NoKey e told = absurd told
-ReadsReply-get_fault code body NoMemory e (reply, told) = (replies.Get reply, SaysReply-get code body (Ok reply) e told)
+ReadsReply-get_fault code body NoMemory e (reply, told) = (replies.Get reply, DecodesReply-get code body (Ok reply) e told)
 
 pub ReadsReply-put_fault : (code : ℕ) (body : List ℕ) (fault : MsgFault) → code ≡ 12 → ReadsShown body (Err fault) → ReadsReply code body (Err fault)
 unfolding mapped
 ReadsReply-put_fault code body UnknownCode e told = absurd told
-ReadsReply-put_fault code body BadMessage e told = SaysReply-put code body (Err BadMessage) e told
-ReadsReply-put_fault code body MissingField e told = SaysReply-put code body (Err MissingField) e told
+ReadsReply-put_fault code body BadMessage e told = DecodesReply-put code body (Err BadMessage) e told
+ReadsReply-put_fault code body MissingField e told = DecodesReply-put code body (Err MissingField) e told
 ReadsReply-put_fault code body EmptyName e told = absurd told
 ReadsReply-put_fault code body NoKey e told = absurd told
-ReadsReply-put_fault code body NoMemory e (reply, told) = (replies.Put (as_put reply), SaysReply-put code body (Ok reply) e told)
+ReadsReply-put_fault code body NoMemory e (reply, told) = (replies.Put (as_put reply), DecodesReply-put code body (Ok reply) e told)
 
 wants_memory : {A : Type 0} → Result A MsgFault → Bool
 wants_memory (Ok a) = false
@@ -124,7 +124,7 @@ wants_memory (Err NoKey) = false
 wants_memory (Err NoMemory) = true
 
 -- no error wants memory
-error_no_memory : (body : List ℕ) → SaysError body (Err NoMemory) → ⊥
+error_no_memory : (body : List ℕ) → DecodesError body (Err NoMemory) → ⊥
 unfolding wants_memory
 error_no_memory body (inr (none, e)) = false≢true (sym (ap wants_memory e))
 error_no_memory body (inl (fields, s, e)) =
@@ -135,7 +135,7 @@ error_no_memory body (inl (fields, s, e)) =
     none false true r e = false≢true (sym e)
     none false false r e = false≢true (sym e)
 
-pub ReadsReply-error : (code : ℕ) (body : List ℕ) (said : Result Reply MsgFault) → code ≡ 0 → SaysError body said → ReadsReply code body said
+pub ReadsReply-error : (code : ℕ) (body : List ℕ) (said : Result Reply MsgFault) → code ≡ 0 → DecodesError body said → ReadsReply code body said
 ReadsReply-error code body (Ok reply) e told = inl (e, told)
 ReadsReply-error code body (Err UnknownCode) e told = inl (e, told)
 ReadsReply-error code body (Err BadMessage) e told = inl (e, told)
@@ -157,12 +157,12 @@ both (inr r) (inl (q, b)) x y f g = absurd (x q r)
 both (inr r) (inr s) x y f g = g r s
 
 -- a message says one reply at most
-pub SaysReply-once : (code : ℕ) (body : List ℕ) (a b : Result Reply MsgFault) → SaysReply code body a → SaysReply code body b → a ≡ b
-SaysReply-once code body a b s t =
-    both s t not_error not_error (SaysBy-once (StandsFor body) _ a b (fields_once body)) (λ s t.
+pub DecodesReply-once : (code : ℕ) (body : List ℕ) (a b : Result Reply MsgFault) → DecodesReply code body a → DecodesReply code body b → a ≡ b
+DecodesReply-once code body a b s t =
+    both s t not_error not_error (DecodesBy-once (Encodes body) _ a b (fields_once body)) (λ s t.
     both s t not_ping not_ping (λ e f. e ∙ sym f) (λ s t.
-    both s t not_get not_get (SaysBy-once (StandsForShown body) _ a b (shown_once body)) (λ s t.
-    both s t not_put not_put (SaysBy-once (StandsForShown body) _ a b (shown_once body)) (λ s t.
+    both s t not_get not_get (DecodesBy-once (EncodesShown body) _ a b (shown_once body)) (λ s t.
+    both s t not_put not_put (DecodesBy-once (EncodesShown body) _ a b (shown_once body)) (λ s t.
     both s t not_del not_del (λ e f. e ∙ sym f) (λ s t. s.1 ∙ sym t.1)))))
   where
     not_del : {N : Type 0} → code ≡ 14 → ¬ (IsReplyCode code) × N → ⊥
@@ -189,10 +189,10 @@ error_said bytes text has_number =
     said_by (first_fault ((is_some bytes && is_none text, BadMessage) ∷ (is_none bytes || not has_number, MissingField) ∷ []))
     (replies.Error (unwrap_or text texts.BadMessage))
 
-pub SaysError-is : (body : List ℕ) (fields : List WireField) (bytes : Option (List ℕ)) (text : Option Text) (has_number : Bool)
-    (said : Result Reply MsgFault) → StandsFor body fields → bytes ≡ last_bytes 1 fields → text ≡ option_and_then text_named bytes →
-    has_number ≡ is_some (last_varint 2 fields) → said ≡ error_said bytes text has_number → SaysError body said
-SaysError-is body fields bytes text has_number said stands b t n is =
+pub DecodesError-is : (body : List ℕ) (fields : List WireField) (bytes : Option (List ℕ)) (text : Option Text) (has_number : Bool)
+    (said : Result Reply MsgFault) → Encodes body fields → bytes ≡ last_bytes 1 fields → text ≡ option_and_then text_named bytes →
+    has_number ≡ is_some (last_varint 2 fields) → said ≡ error_said bytes text has_number → DecodesError body said
+DecodesError-is body fields bytes text has_number said stands b t n is =
     inl (
       fields,
       stands,

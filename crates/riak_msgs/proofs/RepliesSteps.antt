@@ -10,7 +10,7 @@ use Rattle.riak_msgs.specs.declared.content.Content.{Content}
 use Rattle.riak_msgs.specs.declared.shown.Shown.{Shown}
 use Rattle.riak_msgs.specs.Picking.{bytes_at, each_bytes, flag_of}
 use Rattle.riak_msgs.specs.Embedded.{ContentFields, StandForContent, all_of, content_of, shown_of}
-use Rattle.riak_msgs.specs.ReadingReplies.{ShownFields, StandsForShown, contents_of}
+use Rattle.riak_msgs.specs.ReadingReplies.{ShownFields, EncodesShown, contents_of}
 use Rattle.riak_msgs.specs.SeenReplies.{ContentsIn, whole_of}
 use Rattle.riak_msgs.proofs.Contents.{content_once, content_of-whole}
 
@@ -48,7 +48,7 @@ contents_once (x ∷ xs) (u ∷ us) [] a b = absurd b
 contents_once (x ∷ xs) (u ∷ us) (v ∷ vs) a b = rw (content_once (x ∷ []) u v a.0 b.0, contents_once xs us vs a.1 b.1) refl
 
 -- bytes stand for one reply at most
-pub shown_once : (body : List ℕ) (a b : ShownFields) → StandsForShown body a → StandsForShown body b → a ≡ b
+pub shown_once : (body : List ℕ) (a b : ShownFields) → EncodesShown body a → EncodesShown body b → a ≡ b
 shown_once body a b s t =
     let own : a.own ≡ b.own = fields_once body a.own b.own s.own t.own in
     let P : List WireField → Type 0 = λ fs. EachContent (each_bytes 1 fs) b.contents in

@@ -3,14 +3,14 @@ use Rattle.std.proofs.Common.{◌≡◌, ℕ, List, [], ◌∷◌, ◌++◌, Opt
 use Rattle.std.specs.List.{last_or, cons_option}
 use Rattle.std.proofs.lemmas.List.{append-nil}
 use Rattle.pb_fields.specs.Field.{WireField}
-use Rattle.pb_fields.specs.Message.{StandsFor}
+use Rattle.pb_fields.specs.Message.{Encodes}
 use Rattle.riak_msgs.specs.declared.request.Request.{Request}
 use Rattle.riak_msgs.specs.declared.request.Request.TheVariants.{Get, Put, Del}
 use Rattle.riak_msgs.specs.declared.fault.MsgFault.{MsgFault}
 use Rattle.riak_msgs.specs.declared.fault.MsgFault.TheVariants.{NoMemory}
 use Rattle.riak_msgs.specs.Picking.{bytes_at, each_bytes, last_bytes}
 use Rattle.riak_msgs.specs.Embedded.{ContentFields, StandForContent}
-use Rattle.riak_msgs.specs.Reading.{PutFields, StandsForPut, Says, Reads, said_by, names_fault, get_of, put_fault, put_of, del_of}
+use Rattle.riak_msgs.specs.Reading.{PutFields, EncodesPut, Decodes, Reads, said_by, names_fault, get_of, put_fault, put_of, del_of}
 use Rattle.riak_msgs.specs.Seen.{merged}
 use Rattle.riak_msgs.proofs.Picking.{each_bytes-append, last_bytes-append}
 use Rattle.riak_msgs.proofs.Contents.{StandForContent-more}
@@ -69,24 +69,24 @@ content-skip fields field c is all =
 
 -- what was refused for want of memory would have been this request
 pub reads_no_memory : (code : ℕ) (body : List ℕ) (request : Request) (r : Result Request MsgFault) → IsErrAnd r (λ fault. fault ≡ NoMemory) →
-    Says code body (Ok request) → Reads code body r
+    Decodes code body (Ok request) → Reads code body r
 reads_no_memory code body request (Ok other) none says = absurd none
 reads_no_memory code body request (Err fault) is says =
     let P : MsgFault → Type 0 = λ f. Reads code body (Err f) in
     subst P (sym is) (request, says)
 
 -- a get that says this
-pub says_get : (body : List ℕ) (fields : List WireField) → StandsFor body fields → None ≡ names_fault fields →
-    Says 9 body (Ok (Get (get_of fields)))
+pub says_get : (body : List ℕ) (fields : List WireField) → Encodes body fields → None ≡ names_fault fields →
+    Decodes 9 body (Ok (Get (get_of fields)))
 says_get body fields stands none = inr (inl (refl, inl (fields, stands, ap (λ fault. said_by fault (Get (get_of fields))) none)))
 
 -- a put that says this
-pub says_put : (body : List ℕ) (put : PutFields) → StandsForPut body put → None ≡ put_fault put →
-    Says 11 body (Ok (Put (put_of put)))
+pub says_put : (body : List ℕ) (put : PutFields) → EncodesPut body put → None ≡ put_fault put →
+    Decodes 11 body (Ok (Put (put_of put)))
 says_put body put stands none = inr (inr (inl (refl, inl (put, stands, ap (λ fault. said_by fault (Put (put_of put))) none))))
 
 -- a delete that says this
-pub says_del : (body : List ℕ) (fields : List WireField) → StandsFor body fields → None ≡ names_fault fields →
-    Says 13 body (Ok (Del (del_of fields)))
+pub says_del : (body : List ℕ) (fields : List WireField) → Encodes body fields → None ≡ names_fault fields →
+    Decodes 13 body (Ok (Del (del_of fields)))
 says_del body fields stands none =
     inr (inr (inr (inl (refl, inl (fields, stands, ap (λ fault. said_by fault (Del (del_of fields))) none)))))

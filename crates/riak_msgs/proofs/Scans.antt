@@ -3,7 +3,7 @@ use Rattle.std.proofs.Common.{◌≡◌, ℕ, List, [], ◌∷◌, ◌++◌, Opt
 use Rattle.std.specs.List.{AllZip, cons_option}
 use Rattle.pb_fields.specs.Field.{WireField}
 use Rattle.pb_fields.specs.Merging.{MergesAll, RefusesOne, Tracks}
-use Rattle.pb_fields.specs.Message.{StandsFor}
+use Rattle.pb_fields.specs.Message.{Encodes}
 use Rattle.pb_fields.proofs.Merging.{MergesAll-tracks}
 use Rattle.riak_msgs.specs.declared.content.Content.{Content}
 use Rattle.riak_msgs.specs.declared.content_view.ContentView.{ContentView}
@@ -14,7 +14,7 @@ use Rattle.riak_msgs.specs.Embedded.{ContentFields, StandForContent}
 use Rattle.riak_msgs.specs.Seen.{Copies, HoldContent, HoldsNone, IsSeenOf, RefusesToCopy, Sees, no_fields, merged, with_parts}
 use Rattle.riak_msgs.specs.SeenRequests.{CopiesOccurrence, HasBadContent, RefusesOccurrence}
 use Rattle.riak_msgs.specs.declared.reply_view.ReplyView.{ReplyView}
-use Rattle.riak_msgs.specs.ReadingReplies.{ShownFields, StandsForShown}
+use Rattle.riak_msgs.specs.ReadingReplies.{ShownFields, EncodesShown}
 use Rattle.riak_msgs.specs.SeenReplies.{ContentsIn, HasSeenReply, IsSeenReply, RefusesContent, no_reply}
 use Rattle.riak_msgs.proofs.Picking.{each_bytes-append, AllZip-append, AllZip-split}
 use Rattle.riak_msgs.proofs.Contents.{StandForContent-nil, StandForContent-append, StandForContent-split, with_parts-merged, with_parts-no_fields}
@@ -136,10 +136,10 @@ EachContent-more fields field contents more stands one =
     (AllZip-append (λ content c. StandForContent (content ∷ []) c) (each_bytes 1 fields) (each_bytes 1 (field ∷ [])) contents more stands one)
 
 -- the reply whose fields were all seen
-pub reply_seen : (body : List ℕ) (start view : ReplyView) (fields : List WireField) → IsSeenReply start no_reply → StandsFor body fields →
-    MergesAll (Tracks HasSeenReply) start fields view → (reply : ShownFields) × StandsForShown body reply × IsSeenReply view reply
+pub reply_seen : (body : List ℕ) (start view : ReplyView) (fields : List WireField) → IsSeenReply start no_reply → Encodes body fields →
+    MergesAll (Tracks HasSeenReply) start fields view → (reply : ShownFields) × EncodesShown body reply × IsSeenReply view reply
 reply_seen body start view fields none stands all =
     let (reply, own, each, is) = MergesAll-tracks HasSeenReply start view fields (no_reply, refl, tt, none) all in
-    let P : List WireField → Type 0 = StandsFor body in
+    let P : List WireField → Type 0 = Encodes body in
     let Q : List WireField → Type 0 = λ fs. EachContent (each_bytes 1 fs) reply.contents in
     (reply, record { own = subst P (sym own) stands; contents = subst Q (sym own) each }, is)

@@ -2,7 +2,7 @@
 use Rattle.std.specs.Prelude.{◌≡◌, ℕ, List, [], ◌∷◌, Option, Some, map, flat_map, option_map, option_and_then}
 use Rattle.std.specs.List.{AllZip}
 use Rattle.pb_fields.specs.Field.{WireField}
-use Rattle.pb_fields.specs.Message.{StandsFor}
+use Rattle.pb_fields.specs.Message.{Encodes}
 use Rattle.riak_msgs.specs.declared.link.Link.{Link}
 use Rattle.riak_msgs.specs.declared.pair.Pair.{Pair}
 use Rattle.riak_msgs.specs.declared.content.Content.{Content}
@@ -33,11 +33,11 @@ pub record ContentFields : Type 0 where
 -- other, and each message in it stands for its fields
 pub record StandForContent (occurrences : List (List ℕ)) (content : ContentFields) : Type 0 where
   pub parts : List (List WireField)
-  pub each : AllZip StandsFor occurrences parts
+  pub each : AllZip Encodes occurrences parts
   pub own : content.own ≡ flat_map (λ part. part) parts
-  pub links : AllZip StandsFor (each_bytes 6 content.own) content.links
-  pub usermeta : AllZip StandsFor (each_bytes 9 content.own) content.usermeta
-  pub indexes : AllZip StandsFor (each_bytes 10 content.own) content.indexes
+  pub links : AllZip Encodes (each_bytes 6 content.own) content.links
+  pub usermeta : AllZip Encodes (each_bytes 9 content.own) content.usermeta
+  pub indexes : AllZip Encodes (each_bytes 10 content.own) content.indexes
 
 -- RpbContent, where its value and the key of each pair are there
 abbrev pub content_of : ContentFields → Option Content

@@ -2,7 +2,7 @@
 use Rattle.std.specs.Prelude.{◌≡◌, ◌⊎◌, ℕ, ◌==◌, Bool, false, ◌||◌, List, [], ◌∷◌, length, Option, Some, None, is_none, unwrap_or, Result, Ok, Err, if◌then◌else◌}
 use Rattle.std.specs.Option.{option_map_or}
 use Rattle.pb_fields.specs.Field.{WireField}
-use Rattle.pb_fields.specs.Message.{StandsFor}
+use Rattle.pb_fields.specs.Message.{Encodes}
 use Rattle.riak_msgs.specs.declared.key.Key.{Key}
 use Rattle.riak_msgs.specs.declared.get.GetAsk.{GetAsk}
 use Rattle.riak_msgs.specs.declared.put.PutAsk.{PutAsk}
@@ -68,8 +68,8 @@ pub record PutFields : Type 0 where
   pub content : ContentFields
 
 -- the bytes stand for the put's fields, and the occurrences of its content together for the content's
-pub record StandsForPut (bs : List ℕ) (put : PutFields) : Type 0 where
-  pub own : StandsFor bs put.own
+pub record EncodesPut (bs : List ℕ) (put : PutFields) : Type 0 where
+  pub own : Encodes bs put.own
   pub content : StandForContent (each_bytes 4 put.own) put.content
 
 -- RpbPutReq: bucket and content are required, no name is empty, and the key isn't made here
@@ -97,8 +97,8 @@ said_by None asked = Ok asked
 said_by (Some fault) asked = Err fault
 
 -- a body says what its fields say; one that stands for no fields is a bad message
-abbrev pub SaysBy : {A F : Type 0} → (F → Type 0) → (F → Result A MsgFault) → Result A MsgFault → Type 0
-SaysBy {F = F} Stands told said =
+abbrev pub DecodesBy : {A F : Type 0} → (F → Type 0) → (F → Result A MsgFault) → Result A MsgFault → Type 0
+DecodesBy {F = F} Stands told said =
     ((fields : F) × Stands fields × (said ≡ told fields))
     ⊎ (((fields : F) → Stands fields → ⊥) × (said ≡ Err faults.BadMessage))
 
@@ -107,20 +107,20 @@ abbrev pub IsRequestCode : ℕ → Type 0
 IsRequestCode code = (code ≡ 1) ⊎ ((code ≡ 9) ⊎ ((code ≡ 11) ⊎ (code ≡ 13)))
 
 -- what a message says; a ping's body isn't looked at
-abbrev pub Says : ℕ → List ℕ → Result Request MsgFault → Type 0
-Says code body said =
+abbrev pub Decodes : ℕ → List ℕ → Result Request MsgFault → Type 0
+Decodes code body said =
     ((code ≡ 1) × (said ≡ Ok requests.Ping))
-    ⊎ (((code ≡ 9) × SaysBy (StandsFor body) (λ fields. said_by (names_fault fields) (requests.Get (get_of fields))) said)
-    ⊎ (((code ≡ 11) × SaysBy (StandsForPut body) (λ put. said_by (put_fault put) (requests.Put (put_of put))) said)
-    ⊎ (((code ≡ 13) × SaysBy (StandsFor body) (λ fields. said_by (names_fault fields) (requests.Del (del_of fields))) said)
+    ⊎ (((code ≡ 9) × DecodesBy (Encodes body) (λ fields. said_by (names_fault fields) (requests.Get (get_of fields))) said)
+    ⊎ (((code ≡ 11) × DecodesBy (EncodesPut body) (λ put. said_by (put_fault put) (requests.Put (put_of put))) said)
+    ⊎ (((code ≡ 13) × DecodesBy (Encodes body) (λ fields. said_by (names_fault fields) (requests.Del (del_of fields))) said)
     ⊎ (¬ (IsRequestCode code) × (said ≡ Err faults.UnknownCode)))))
 
 -- what was read is what the message says, and memory is refused only where it says a request
 abbrev pub Reads : ℕ → List ℕ → Result Request MsgFault → Type 0
-Reads code body (Ok request) = Says code body (Ok request)
-Reads code body (Err faults.UnknownCode) = Says code body (Err faults.UnknownCode)
-Reads code body (Err faults.BadMessage) = Says code body (Err faults.BadMessage)
-Reads code body (Err faults.MissingField) = Says code body (Err faults.MissingField)
-Reads code body (Err faults.EmptyName) = Says code body (Err faults.EmptyName)
-Reads code body (Err faults.NoKey) = Says code body (Err faults.NoKey)
-Reads code body (Err faults.NoMemory) = (request : Request) × Says code body (Ok request)
+Reads code body (Ok request) = Decodes code body (Ok request)
+Reads code body (Err faults.UnknownCode) = Decodes code body (Err faults.UnknownCode)
+Reads code body (Err faults.BadMessage) = Decodes code body (Err faults.BadMessage)
+Reads code body (Err faults.MissingField) = Decodes code body (Err faults.MissingField)
+Reads code body (Err faults.EmptyName) = Decodes code body (Err faults.EmptyName)
+Reads code body (Err faults.NoKey) = Decodes code body (Err faults.NoKey)
+Reads code body (Err faults.NoMemory) = (request : Request) × Decodes code body (Ok request)

@@ -3,7 +3,7 @@ use Rattle.std.specs.Prelude.{◌≡◌, ◌⊎◌, ℕ, ◌||◌, ◌&&◌, Lis
 use Rattle.std.specs.List.{AllZip}
 use Rattle.std.specs.Str.{bytes_eq}
 use Rattle.pb_fields.specs.Field.{WireField}
-use Rattle.pb_fields.specs.Message.{StandsFor}
+use Rattle.pb_fields.specs.Message.{Encodes}
 use Rattle.riak_msgs.specs.declared.text.Text.{Text}
 use Rattle.riak_msgs.specs.declared.text.Text.TheVariants.{UnknownCode, BadMessage, MissingField, EmptyName, NoKey, NoMemory, MatchFound, Modified, NotFound, BadContext, TooManySiblings, ClockFull, EpochsUsedUp, CounterUsedUp, Moved, HistoryFull, BadFrame, FrameTooLarge}
 use Rattle.riak_msgs.specs.declared.get.GetReply.{GetReply}
@@ -16,7 +16,7 @@ use Rattle.riak_msgs.specs.declared.fault.MsgFault.TheVariants as faults
 use Rattle.riak_msgs.specs.Text.{text_bytes}
 use Rattle.riak_msgs.specs.Picking.{each_bytes, last_bytes, last_varint, flag_of}
 use Rattle.riak_msgs.specs.Embedded.{ContentFields, StandForContent, all_of, shown_of}
-use Rattle.riak_msgs.specs.Reading.{first_fault, said_by, SaysBy}
+use Rattle.riak_msgs.specs.Reading.{first_fault, said_by, DecodesBy}
 
 abbrev pub all_texts : List Text
 all_texts = UnknownCode ∷ BadMessage ∷ MissingField ∷ EmptyName ∷ NoKey ∷ NoMemory ∷ MatchFound ∷ Modified ∷ NotFound ∷ BadContext
@@ -43,8 +43,8 @@ pub record ShownFields : Type 0 where
   pub contents : List ContentFields
 
 -- the bytes stand for the reply's fields, and each of its contents for its own
-pub record StandsForShown (bs : List ℕ) (reply : ShownFields) : Type 0 where
-  pub own : StandsFor bs reply.own
+pub record EncodesShown (bs : List ℕ) (reply : ShownFields) : Type 0 where
+  pub own : Encodes bs reply.own
   pub contents : AllZip (λ content fields. StandForContent (content ∷ []) fields) (each_bytes 1 reply.own) reply.contents
 
 -- the contents that are shown, where each is whole
@@ -71,21 +71,21 @@ abbrev pub IsReplyCode : ℕ → Type 0
 IsReplyCode code = (code ≡ 0) ⊎ ((code ≡ 2) ⊎ ((code ≡ 10) ⊎ ((code ≡ 12) ⊎ (code ≡ 14))))
 
 -- what a reply says; the body of a reply to a ping or a delete isn't looked at
-abbrev pub SaysReply : ℕ → List ℕ → Result Reply MsgFault → Type 0
-SaysReply code body said =
-    ((code ≡ 0) × SaysBy (StandsFor body) (λ fields. said_by (error_fault fields) (replies.Error (unwrap_or (text_in fields) BadMessage))) said)
+abbrev pub DecodesReply : ℕ → List ℕ → Result Reply MsgFault → Type 0
+DecodesReply code body said =
+    ((code ≡ 0) × DecodesBy (Encodes body) (λ fields. said_by (error_fault fields) (replies.Error (unwrap_or (text_in fields) BadMessage))) said)
     ⊎ (((code ≡ 2) × (said ≡ Ok replies.Ping))
-    ⊎ (((code ≡ 10) × SaysBy (StandsForShown body) (λ reply. said_by (shown_fault reply) (replies.Get (get_reply_of reply))) said)
-    ⊎ (((code ≡ 12) × SaysBy (StandsForShown body) (λ reply. said_by (shown_fault reply) (replies.Put (put_reply_of reply))) said)
+    ⊎ (((code ≡ 10) × DecodesBy (EncodesShown body) (λ reply. said_by (shown_fault reply) (replies.Get (get_reply_of reply))) said)
+    ⊎ (((code ≡ 12) × DecodesBy (EncodesShown body) (λ reply. said_by (shown_fault reply) (replies.Put (put_reply_of reply))) said)
     ⊎ (((code ≡ 14) × (said ≡ Ok replies.Del))
     ⊎ (¬ (IsReplyCode code) × (said ≡ Err faults.UnknownCode))))))
 
 -- what was read is what the reply says, and memory is refused only where it says one
 abbrev pub ReadsReply : ℕ → List ℕ → Result Reply MsgFault → Type 0
-ReadsReply code body (Ok reply) = SaysReply code body (Ok reply)
-ReadsReply code body (Err faults.UnknownCode) = SaysReply code body (Err faults.UnknownCode)
-ReadsReply code body (Err faults.BadMessage) = SaysReply code body (Err faults.BadMessage)
-ReadsReply code body (Err faults.MissingField) = SaysReply code body (Err faults.MissingField)
-ReadsReply code body (Err faults.EmptyName) = SaysReply code body (Err faults.EmptyName)
-ReadsReply code body (Err faults.NoKey) = SaysReply code body (Err faults.NoKey)
-ReadsReply code body (Err faults.NoMemory) = (reply : Reply) × SaysReply code body (Ok reply)
+ReadsReply code body (Ok reply) = DecodesReply code body (Ok reply)
+ReadsReply code body (Err faults.UnknownCode) = DecodesReply code body (Err faults.UnknownCode)
+ReadsReply code body (Err faults.BadMessage) = DecodesReply code body (Err faults.BadMessage)
+ReadsReply code body (Err faults.MissingField) = DecodesReply code body (Err faults.MissingField)
+ReadsReply code body (Err faults.EmptyName) = DecodesReply code body (Err faults.EmptyName)
+ReadsReply code body (Err faults.NoKey) = DecodesReply code body (Err faults.NoKey)
+ReadsReply code body (Err faults.NoMemory) = (reply : Reply) × DecodesReply code body (Ok reply)

@@ -2,7 +2,7 @@
 use Rattle.std.specs.Prelude.{◌≡◌, ◌||◌, ◌++◌, List, [], ◌∷◌, map, filter_map, Bool, false, option_copied, is_none, unwrap_or}
 use Rattle.std.specs.List.{AllZip, list_any}
 use Rattle.pb_fields.specs.Field.{WireField}
-use Rattle.pb_fields.specs.Message.{StandsFor}
+use Rattle.pb_fields.specs.Message.{Encodes}
 use Rattle.riak_msgs.specs.declared.content.Content.{Content}
 use Rattle.riak_msgs.specs.declared.fault.MsgFault.{MsgFault}
 use Rattle.riak_msgs.specs.declared.fault.MsgFault.TheVariants.{NoMemory}
@@ -38,9 +38,9 @@ pub record IsSeenOf (seen : ContentView) (c : ContentFields) : Type 0 where
 -- the content's fields are these, and each message in them stands for its fields
 pub record HoldContent (fields : List WireField) (c : ContentFields) : Type 0 where
   pub own : c.own ≡ fields
-  pub links : AllZip StandsFor (each_bytes 6 fields) c.links
-  pub usermeta : AllZip StandsFor (each_bytes 9 fields) c.usermeta
-  pub indexes : AllZip StandsFor (each_bytes 10 fields) c.indexes
+  pub links : AllZip Encodes (each_bytes 6 fields) c.links
+  pub usermeta : AllZip Encodes (each_bytes 9 fields) c.usermeta
+  pub indexes : AllZip Encodes (each_bytes 10 fields) c.indexes
 
 -- before any field
 abbrev pub no_fields : ContentFields

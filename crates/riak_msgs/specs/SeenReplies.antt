@@ -2,7 +2,7 @@
 use Rattle.std.specs.Prelude.{◌≡◌, ◌||◌, ◌++◌, false, List, [], ◌∷◌, ℕ, Result, Ok, Err, map, option_copied, is_none, is_some, unwrap_or}
 use Rattle.std.specs.List.{AllZip}
 use Rattle.pb_fields.specs.Field.{WireField}
-use Rattle.pb_fields.specs.Message.{StandsFor}
+use Rattle.pb_fields.specs.Message.{Encodes}
 use Rattle.riak_msgs.specs.declared.get.GetReply.{GetReply}
 use Rattle.riak_msgs.specs.declared.reply.Reply.{Reply}
 use Rattle.riak_msgs.specs.declared.reply.Reply.TheVariants as replies
@@ -15,8 +15,8 @@ use Rattle.riak_msgs.specs.declared.reply_view.ReplyView.{ReplyView}
 use Rattle.riak_msgs.specs.Picking.{each_bytes, last_bytes, last_varint, flag_of}
 use Rattle.riak_msgs.specs.Embedded.{ContentFields, StandForContent, content_of}
 use Rattle.riak_msgs.specs.Seen.{scalars_of, with_parts}
-use Rattle.riak_msgs.specs.Reading.{SaysBy, said_by}
-use Rattle.riak_msgs.specs.ReadingReplies.{ShownFields, StandsForShown, contents_of, shown_fault, get_reply_of, error_fault, text_in}
+use Rattle.riak_msgs.specs.Reading.{DecodesBy, said_by}
+use Rattle.riak_msgs.specs.ReadingReplies.{ShownFields, EncodesShown, contents_of, shown_fault, get_reply_of, error_fault, text_in}
 
 -- the last text was seen, and whether a number is there
 pub record IsSeenError (seen : ErrorView) (fields : List WireField) : Type 0 where
@@ -62,20 +62,20 @@ abbrev pub RefusesContent : WireField → Type 0
 RefusesContent field = (contents : List ContentFields) → ContentsIn field contents → ⊥
 
 -- what the body of an error says
-abbrev pub SaysError : List ℕ → Result Reply MsgFault → Type 0
-SaysError body said =
-    SaysBy (StandsFor body) (λ fields. said_by (error_fault fields) (replies.Error (unwrap_or (text_in fields) BadMessage))) said
+abbrev pub DecodesError : List ℕ → Result Reply MsgFault → Type 0
+DecodesError body said =
+    DecodesBy (Encodes body) (λ fields. said_by (error_fault fields) (replies.Error (unwrap_or (text_in fields) BadMessage))) said
 
 -- what the body of a get's reply says; that of a put's says no more
-abbrev pub SaysShown : List ℕ → Result GetReply MsgFault → Type 0
-SaysShown body said = SaysBy (StandsForShown body) (λ reply. said_by (shown_fault reply) (get_reply_of reply)) said
+abbrev pub DecodesShown : List ℕ → Result GetReply MsgFault → Type 0
+DecodesShown body said = DecodesBy (EncodesShown body) (λ reply. said_by (shown_fault reply) (get_reply_of reply)) said
 
 -- what was read is what the body says, and memory is refused only where it says a reply
 abbrev pub ReadsShown : List ℕ → Result GetReply MsgFault → Type 0
-ReadsShown body (Ok reply) = SaysShown body (Ok reply)
+ReadsShown body (Ok reply) = DecodesShown body (Ok reply)
 ReadsShown body (Err faults.UnknownCode) = ⊥
-ReadsShown body (Err faults.BadMessage) = SaysShown body (Err faults.BadMessage)
-ReadsShown body (Err faults.MissingField) = SaysShown body (Err faults.MissingField)
+ReadsShown body (Err faults.BadMessage) = DecodesShown body (Err faults.BadMessage)
+ReadsShown body (Err faults.MissingField) = DecodesShown body (Err faults.MissingField)
 ReadsShown body (Err faults.EmptyName) = ⊥
 ReadsShown body (Err faults.NoKey) = ⊥
-ReadsShown body (Err faults.NoMemory) = (reply : GetReply) × SaysShown body (Ok reply)
+ReadsShown body (Err faults.NoMemory) = (reply : GetReply) × DecodesShown body (Ok reply)

@@ -5,12 +5,12 @@ ghost use Rattle.riak_msgs.specs.KeyOrder.{key_cmp};
 ghost use Rattle.riak_msgs.specs.declared.key.Key.{Key};
 ghost use Rattle.riak_msgs.specs.declared.request.Request.{Request};
 ghost use Rattle.riak_msgs.specs.declared.fault.MsgFault.{MsgFault};
-ghost use Rattle.riak_msgs.specs.Reading.{Says};
+ghost use Rattle.riak_msgs.specs.Reading.{Decodes};
 
 /// A law: a message says one thing, a request or a fault.
 pub fn messages_say_one()
-    ensures { (code : ℕ) (body : List ℕ) (a b : Result Request MsgFault) → Says code body a
-        → Says code body b → a ≡ b }
+    ensures { (code : ℕ) (body : List ℕ) (a b : Result Request MsgFault) → Decodes code body a
+        → Decodes code body b → a ≡ b }
 {}
 
 /// A law: keys are ordered by bucket type, then by bucket, then by key, each by its bytes.

@@ -1,6 +1,6 @@
 //! The messages of Riak's Protocol Buffers client API: what a client asks and is told, and their bytes.
 //!
-//! A message says a request, or a reply, as a function of its list of fields (`Says`, `SaysReply`): the last occurrence
+//! A message says a request, or a reply, as a function of its list of fields (`Decodes`, `DecodesReply`): the last occurrence
 //! of a scalar, all of a repeated field in their order, the content of a put merged over its occurrences; everything else
 //! is skipped. Where it says none, the first fault that holds is told. It says one thing ([`messages_say_one`],
 //! [`replies_say_one`]), which [`read_request`] and [`read_reply`] give. Quorum and timeout fields are skipped.

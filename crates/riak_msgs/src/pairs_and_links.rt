@@ -3,7 +3,7 @@
 ghost use Rattle.std.specs.Prelude.{◌≡◌, ◌++◌, ◌∷◌, [], List, IfOk, IfErr, OnOk, OnErr, filter_map, option_copied};
 ghost use Rattle.pb_fields.specs.Field.{WireField};
 ghost use Rattle.pb_fields.specs.Merging.{RefusesNone, Tracks};
-ghost use Rattle.pb_fields.specs.Message.{StandsFor};
+ghost use Rattle.pb_fields.specs.Message.{Encodes};
 ghost use Rattle.riak_msgs.specs.Embedded.{link_of, pair_of};
 ghost use Rattle.riak_msgs.specs.Seen.{IsPartOf};
 
@@ -46,9 +46,9 @@ impl<'a> Merge<'a> for PairView<'a> {
 impl<'a> PairView<'a> {
     /// What these bytes have. Refused where they stand for no list of fields.
     pub(crate) fn read(bytes: &'a [u8]) -> Result<PairView<'a>, FieldFault>
-        ensures ok { IfOk result (λ part. (fields : List WireField) × StandsFor bytes.now fields
+        ensures ok { IfOk result (λ part. (fields : List WireField) × Encodes bytes.now fields
             × IsPartOf part fields) }
-        ensures err { OnErr result ((fields : List WireField) → StandsFor bytes.now fields → ⊥) }
+        ensures err { OnErr result ((fields : List WireField) → Encodes bytes.now fields → ⊥) }
     {
         let mut part = PairView {
             first: None,
@@ -92,9 +92,9 @@ pub(crate) fn copy_link(
     bytes: &[u8],
     links: &mut Sequence<Link>,
 ) -> Result<(), MsgFault>
-    ensures ok { OnOk result ((fields : List WireField) × StandsFor bytes.now fields
+    ensures ok { OnOk result ((fields : List WireField) × Encodes bytes.now fields
         × (links.new ≡ links.old ++ link_of fields ∷ [])) }
-    ensures err { (fields : List WireField) → StandsFor bytes.now fields
+    ensures err { (fields : List WireField) → Encodes bytes.now fields
         → IfErr result (λ fault. fault ≡ MsgFault.NoMemory) }
 {
     let Ok(part) = PairView::read(bytes) else {
@@ -111,9 +111,9 @@ pub(crate) fn copy_pair(
     bytes: &[u8],
     pairs: &mut Sequence<Pair>,
 ) -> Result<(), MsgFault>
-    ensures ok { OnOk result ((fields : List WireField) × StandsFor bytes.now fields
+    ensures ok { OnOk result ((fields : List WireField) × Encodes bytes.now fields
         × (pairs.new ≡ pairs.old ++ filter_map pair_of (fields ∷ []))) }
-    ensures err { (fields : List WireField) → StandsFor bytes.now fields
+    ensures err { (fields : List WireField) → Encodes bytes.now fields
         → IfErr result (λ fault. fault ≡ MsgFault.NoMemory) }
 {
     let Ok(part) = PairView::read(bytes) else {

@@ -3,7 +3,7 @@
 ghost use Rattle.std.specs.Prelude.{◌≡◌, List, [], IfOk, OnErr};
 ghost use Rattle.pb_fields.specs.Field.{WireField};
 ghost use Rattle.pb_fields.specs.Merging.{RefusesNone, Tracks};
-ghost use Rattle.pb_fields.specs.Message.{StandsFor};
+ghost use Rattle.pb_fields.specs.Message.{Encodes};
 ghost use Rattle.riak_msgs.specs.Reading.{Reads, del_of};
 ghost use Rattle.riak_msgs.specs.SeenRequests.{IsSeenDelOf};
 
@@ -42,9 +42,9 @@ pub(crate) struct DelView<'a> {
 impl<'a> DelView<'a> {
     /// What is seen in a body, where it stands for fields.
     fn of(body: &'a [u8]) -> Result<DelView<'a>, FieldFault>
-        ensures ok { IfOk result (λ view. (fields : List WireField) × StandsFor body.now fields
+        ensures ok { IfOk result (λ view. (fields : List WireField) × Encodes body.now fields
             × IsSeenDelOf view fields) }
-        ensures err { OnErr result ((fields : List WireField) → StandsFor body.now fields → ⊥) }
+        ensures err { OnErr result ((fields : List WireField) → Encodes body.now fields → ⊥) }
     {
         let mut view = DelView::new();
         scan(body, &mut view)?;

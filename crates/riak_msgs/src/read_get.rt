@@ -3,7 +3,7 @@
 ghost use Rattle.std.specs.Prelude.{◌≡◌, List, [], IfOk, OnErr};
 ghost use Rattle.pb_fields.specs.Field.{WireField};
 ghost use Rattle.pb_fields.specs.Merging.{RefusesNone, Tracks};
-ghost use Rattle.pb_fields.specs.Message.{StandsFor};
+ghost use Rattle.pb_fields.specs.Message.{Encodes};
 ghost use Rattle.riak_msgs.specs.Reading.{Reads, get_of};
 ghost use Rattle.riak_msgs.specs.SeenRequests.{IsSeenGetOf};
 
@@ -49,9 +49,9 @@ impl<'a> GetView<'a> {
     /// What is seen in a body, where it stands for fields.
     #[inline(always)]
     fn of(body: &'a [u8]) -> Result<GetView<'a>, FieldFault>
-        ensures ok { IfOk result (λ view. (fields : List WireField) × StandsFor body.now fields
+        ensures ok { IfOk result (λ view. (fields : List WireField) × Encodes body.now fields
             × IsSeenGetOf view fields) }
-        ensures err { OnErr result ((fields : List WireField) → StandsFor body.now fields → ⊥) }
+        ensures err { OnErr result ((fields : List WireField) → Encodes body.now fields → ⊥) }
     {
         let mut view = GetView::new();
         scan(body, &mut view)?;

@@ -3,7 +3,7 @@
 ghost use Rattle.std.specs.Prelude.{◌≡◌, ◌∷◌, ◌++◌, [], List, None, IfOk, IfErr, OnErr};
 ghost use Rattle.pb_fields.specs.Field.{WireField, seen};
 ghost use Rattle.pb_fields.specs.Merging.{Tracks};
-ghost use Rattle.riak_msgs.specs.Reading.{PutFields, StandsForPut, Reads, put_fault, put_of};
+ghost use Rattle.riak_msgs.specs.Reading.{PutFields, EncodesPut, Reads, put_fault, put_of};
 ghost use Rattle.riak_msgs.specs.Seen.{scalars_of, with_parts};
 ghost use Rattle.riak_msgs.specs.SeenRequests.{AreFlagsOf, CopiesOccurrence, HasBadContent, HasSeenPut, IsSeenPutOf};
 ghost use Rattle.riak_msgs.specs.SeenRequests.{RefusesOccurrence, no_put};
@@ -92,9 +92,9 @@ impl<'a> PutView<'a> {
     /// What is seen in a body, where it stands for a put's fields.
     #[inline(always)]
     fn of(body: &'a [u8]) -> Result<PutView<'a>, FieldFault>
-        ensures ok { IfOk result (λ view. (put : PutFields) × StandsForPut body.now put
+        ensures ok { IfOk result (λ view. (put : PutFields) × EncodesPut body.now put
             × IsSeenPutOf view put) }
-        ensures err { OnErr result ((put : PutFields) → StandsForPut body.now put → ⊥) }
+        ensures err { OnErr result ((put : PutFields) → EncodesPut body.now put → ⊥) }
     {
         let mut view = PutView::new();
         scan(body, &mut view)?;
@@ -131,9 +131,9 @@ impl<'a> PutView<'a> {
 
     /// A copy of what is asked, where nothing is missing.
     fn ask(&self, alloc: Global, body: &[u8]) -> Result<PutAsk, MsgFault>
-        ensures ok { (put : PutFields) → IsSeenPutOf self.now put → StandsForPut body.now put
+        ensures ok { (put : PutFields) → IsSeenPutOf self.now put → EncodesPut body.now put
             → None ≡ put_fault put → IfOk result (λ ask. ask ≡ put_of put) }
-        ensures err { (put : PutFields) → IsSeenPutOf self.now put → StandsForPut body.now put
+        ensures err { (put : PutFields) → IsSeenPutOf self.now put → EncodesPut body.now put
             → IfErr result (λ fault. fault ≡ MsgFault.NoMemory) }
     {
         Ok(PutAsk {
@@ -149,9 +149,9 @@ impl<'a> PutView<'a> {
 
     /// A copy of the content. Where links or pairs were seen in it the body is scanned once more, to copy them.
     fn content(&self, alloc: Global, body: &[u8]) -> Result<Content, MsgFault>
-        ensures ok { (put : PutFields) → IsSeenPutOf self.now put → StandsForPut body.now put
+        ensures ok { (put : PutFields) → IsSeenPutOf self.now put → EncodesPut body.now put
             → IfOk result (λ content. content ≡ with_parts (scalars_of put.content) put.content) }
-        ensures err { (put : PutFields) → IsSeenPutOf self.now put → StandsForPut body.now put
+        ensures err { (put : PutFields) → IsSeenPutOf self.now put → EncodesPut body.now put
             → IfErr result (λ fault. fault ≡ MsgFault.NoMemory) }
     {
         let content = self.content.scalars(alloc)?;
@@ -207,9 +207,9 @@ impl<'a> Merge<'a> for PutCopy {
 ///
 /// The body was seen before, so only memory can be refused.
 fn copy_contents(alloc: Global, body: &[u8], content: Content) -> Result<Content, MsgFault>
-    ensures ok { (put : PutFields) → StandsForPut body.now put
+    ensures ok { (put : PutFields) → EncodesPut body.now put
         → IfOk result (λ copied. copied ≡ with_parts content put.content) }
-    ensures err { (put : PutFields) → StandsForPut body.now put
+    ensures err { (put : PutFields) → EncodesPut body.now put
         → IfErr result (λ fault. fault ≡ MsgFault.NoMemory) }
 {
     let mut copy = PutCopy {

@@ -3,10 +3,10 @@
 ghost use Rattle.std.specs.Prelude.{◌≡◌, ℕ, List, Result};
 ghost use Rattle.riak_msgs.specs.declared.fault.MsgFault.{MsgFault};
 ghost use Rattle.riak_msgs.specs.declared.reply.Reply.{Reply};
-ghost use Rattle.riak_msgs.specs.ReadingReplies.{SaysReply};
+ghost use Rattle.riak_msgs.specs.ReadingReplies.{DecodesReply};
 
 /// A law: a message says one reply at most, or one fault.
 pub fn replies_say_one()
-    ensures { (code : ℕ) (body : List ℕ) (a b : Result Reply MsgFault) → SaysReply code body a
-        → SaysReply code body b → a ≡ b }
+    ensures { (code : ℕ) (body : List ℕ) (a b : Result Reply MsgFault) → DecodesReply code body a
+        → DecodesReply code body b → a ≡ b }
 {}

@@ -5,7 +5,7 @@ ghost use Rattle.pb_fields.specs.Merging.{RefusesNone, Tracks};
 ghost use Rattle.riak_msgs.specs.Embedded.{ContentFields, StandForContent};
 ghost use Rattle.riak_msgs.specs.Seen.{IsSeenOf, scalars_of, with_parts};
 ghost use Rattle.riak_msgs.specs.ReadingReplies.{ReadsReply};
-ghost use Rattle.riak_msgs.specs.SeenReplies.{SaysError, ReadsShown, HasSeenReply, IsSeenError, MergesContent, RefusesContent};
+ghost use Rattle.riak_msgs.specs.SeenReplies.{DecodesError, ReadsShown, HasSeenReply, IsSeenError, MergesContent, RefusesContent};
 ghost use Rattle.riak_msgs.specs.SeenReplies.{whole_of};
 
 use crate::bytes::Bytes;
@@ -78,7 +78,7 @@ impl<'a> Merge<'a> for ErrorView<'a> {
 
 // The error that a body says.
 fn read_error(body: &[u8]) -> Result<Reply, MsgFault>
-    ensures { SaysError body.now result }
+    ensures { DecodesError body.now result }
 {
     let mut error = ErrorView {
         text: None,

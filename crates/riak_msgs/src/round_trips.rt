@@ -1,8 +1,8 @@
 //! What is written is read again.
 
 ghost use Rattle.std.specs.Prelude.{◌≡◌, ℕ, ◌^◌, ◌<◌, length, Ok};
-ghost use Rattle.riak_msgs.specs.Reading.{Says};
-ghost use Rattle.riak_msgs.specs.ReadingReplies.{SaysReply};
+ghost use Rattle.riak_msgs.specs.Reading.{Decodes};
+ghost use Rattle.riak_msgs.specs.ReadingReplies.{DecodesReply};
 ghost use Rattle.riak_msgs.specs.Replies.{reply_body, reply_code};
 ghost use Rattle.riak_msgs.specs.Requests.{HasNames, request_body, request_code};
 ghost use Rattle.riak_msgs.specs.declared.reply.Reply.{Reply};
@@ -13,7 +13,7 @@ ghost use Rattle.riak_msgs.specs.declared.request.Request.{Request};
 /// Its body is shorter than 2^64 bytes, so that each length in it has a varint.
 pub fn requests_are_read_again()
     ensures { (q : Request) → HasNames q → length (request_body q) < 2 ^ 64
-        → Says (request_code q) (request_body q) (Ok q) }
+        → Decodes (request_code q) (request_body q) (Ok q) }
 {}
 
 /// A law: the encoding of a reply says this reply.
@@ -21,5 +21,5 @@ pub fn requests_are_read_again()
 /// Its body is shorter than 2^64 bytes, so that each length in it has a varint.
 pub fn replies_are_read_again()
     ensures { (r : Reply) → length (reply_body r) < 2 ^ 64
-        → SaysReply (reply_code r) (reply_body r) (Ok r) }
+        → DecodesReply (reply_code r) (reply_body r) (Ok r) }
 {}

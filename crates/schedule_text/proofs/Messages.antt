@@ -3,7 +3,7 @@ use Rattle.std.proofs.Common.{◌≡◌, ℕ, List, [], ◌∷◌, Result, Ok, E
 use Rattle.riak_msgs.specs.declared.request.Request.{Request}
 use Rattle.riak_msgs.specs.declared.fault.MsgFault.{MsgFault}
 use Rattle.riak_msgs.specs.declared.fault.MsgFault.TheVariants as faults
-use Rattle.riak_msgs.specs.Reading.{Says, Reads as ReadsRequest}
+use Rattle.riak_msgs.specs.Reading.{Decodes, Reads as ReadsRequest}
 use Rattle.riak_msgs.proofs.RequestsOnce.{says_once}
 use Rattle.schedule_text.specs.declared.fault.LineFault.{LineFault}
 use Rattle.schedule_text.specs.declared.fault.LineFault.TheVariants.{BadStep, NoMemory}
@@ -22,12 +22,12 @@ behind (x ∷ xs) = xs
 
 -- the code and the body of a message are its own
 says_of_message : (message body : List ℕ) (code : ℕ) (request : Request) → message ≡ code ∷ body
-    → AsksFor message request → Says code body (Ok request)
+    → AsksFor message request → Decodes code body (Ok request)
 says_of_message message body code request whole asks =
     let same : asks.code ∷ asks.body ≡ code ∷ body = sym asks.whole ∙ whole in
     let e : asks.code ≡ code = ap (head_or 0) same in
     let f : asks.body ≡ body = ap behind same in
-    subst (λ c. Says c body (Ok request)) e (subst (λ b. Says asks.code b (Ok request)) f asks.says)
+    subst (λ c. Decodes c body (Ok request)) e (subst (λ b. Decodes asks.code b (Ok request)) f asks.says)
 
 -- the value of a result, or another
 abbrev value_or : Request → Result Request MsgFault → Request
@@ -41,7 +41,7 @@ asks_once message a b x y =
     ap (value_or a) (says_once x.code x.body (Ok a) (Ok b) x.says says)
 
 -- a message that says a fault asks for nothing
-says_fault : (message body : List ℕ) (code : ℕ) (fault : MsgFault) → message ≡ code ∷ body → Says code body (Err fault)
+says_fault : (message body : List ℕ) (code : ℕ) (fault : MsgFault) → message ≡ code ∷ body → Decodes code body (Err fault)
     → (request : Request) → ¬ (AsksFor message request)
 says_fault message body code fault whole says request asks =
     let same : Err fault ≡ Ok request = says_once code body (Err fault) (Ok request) says (says_of_message message body code request whole asks) in

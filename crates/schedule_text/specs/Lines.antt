@@ -4,7 +4,7 @@ use Rattle.hex.specs.Hex.{encode_lower, IsBytes}
 use Rattle.riak_msgs.specs.declared.get.GetAsk.{GetAsk}
 use Rattle.riak_msgs.specs.declared.request.Request.{Request}
 use Rattle.riak_msgs.specs.declared.request.Request.TheVariants as requests
-use Rattle.riak_msgs.specs.Reading.{Says}
+use Rattle.riak_msgs.specs.Reading.{Decodes}
 use Rattle.schedule_text.specs.declared.line.Line.{Line}
 use Rattle.schedule_text.specs.declared.line.Action.{Action}
 use Rattle.schedule_text.specs.declared.line.Action.TheVariants.{Ask, Reap, Gate}
@@ -62,7 +62,7 @@ pub record AsksFor (message : List ℕ) (request : Request) : Type 0 where
   pub body : List ℕ
   pub whole : message ≡ code ∷ body
   pub stored : IsStoreCode code
-  pub says : Says code body (Ok request)
+  pub says : Decodes code body (Ok request)
 
 -- a line's message says this request
 pub record CarriesRequest (carried : Option (List ℕ)) (request : Request) : Type 0 where

@@ -16,10 +16,10 @@ abbrev j : Key
 j = record { bucket_type = 100 ∷ []; bucket = 98 ∷ []; key = 106 ∷ [] }
 
 abbrev write : ℕ → Option ℕ → List ℕ → Event ℕ ℕ
-write value context saw = record { key = k; deed = Write value; context = context; saw = saw }
+write value context saw = record { key = k; operation = Write value; context = context; saw = saw }
 
 abbrev tombstone : Option ℕ → List ℕ → Event ℕ ℕ
-tombstone context saw = record { key = k; deed = Tombstone; context = context; saw = saw }
+tombstone context saw = record { key = k; operation = Tombstone; context = context; saw = saw }
 
 abbrev get : Option ℕ → Bool → Bool → GetCommand ℕ
 get if_modified head deletedvclock = record { key = k; if_modified = if_modified; head = head; deletedvclock = deletedvclock }
@@ -49,7 +49,7 @@ abbrev after_delete : List (Event ℕ ℕ)
 after_delete = tombstone None (3 ∷ 2 ∷ 1 ∷ []) ∷ after_x
 
 abbrev after_reap : List (Event ℕ ℕ)
-after_reap = record { key = k; deed = Reap; context = None; saw = 4 ∷ 3 ∷ 2 ∷ 1 ∷ [] } ∷ after_delete
+after_reap = record { key = k; operation = Reap; context = None; saw = 4 ∷ 3 ∷ 2 ∷ 1 ∷ [] } ∷ after_delete
 
 -- a second life: a put of b without context
 abbrev second_life : List (Event ℕ ℕ)

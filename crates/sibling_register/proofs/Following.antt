@@ -40,15 +40,15 @@ module _ {V C : Type 0} where
       let number : ℕ = suc (length before) in
       let sees : Event V C → Bool = λ other. is_among other.saw number in
       rw (list_any-append sees later (last ∷ []), unseen_by-more (event ∷ later) last before)
-      (one_kept (is_update event.deed) (list_any sees later) (is_among last.saw number) last.saw number (unseen_by (event ∷ later) before) refl)
+      (one_kept (is_update event.operation) (list_any sees later) (is_among last.saw number) last.saw number (unseen_by (event ∷ later) before) refl)
 
   -- the siblings of the key after an event of it
   abbrev pub siblings_after : Event V C → ℕ → List ℕ → List ℕ
-  siblings_after event number before = cond (is_update event.deed) (number ∷ left_by event.saw before) (left_by event.saw before)
+  siblings_after event number before = cond (is_update event.operation) (number ∷ left_by event.saw before) (left_by event.saw before)
 
   pub siblings-own : (event : Event V C) (history : List (Event V C)) (key : Key) → key_eq event.key key ≡ true
       → siblings (event ∷ history) key ≡ siblings_after event (suc (count_of history key)) (siblings history key)
-  siblings-own event history key e = rw (e, and_true (is_update event.deed), unseen_by-more [] event (events_of history key)) refl
+  siblings-own event history key e = rw (e, and_true (is_update event.operation), unseen_by-more [] event (events_of history key)) refl
 
   pub siblings-other : (event : Event V C) (history : List (Event V C)) (key : Key) → key_eq event.key key ≡ false
       → siblings (event ∷ history) key ≡ siblings history key
@@ -120,5 +120,5 @@ module _ {V C : Type 0} where
   pub unseen_by-positive : (later events : List (Event V C)) → IsTrue (list_all (λ m. nat_lt 0 m) (unseen_by later events))
   unseen_by-positive later [] = refl
   unseen_by-positive later (event ∷ before) =
-      positive_more (is_update event.deed && not (list_any (λ other. is_among other.saw (suc (length before))) later))
+      positive_more (is_update event.operation && not (list_any (λ other. is_among other.saw (suc (length before))) later))
       (length before) (unseen_by (event ∷ later) before) (unseen_by-positive (event ∷ later) before)

@@ -85,7 +85,7 @@ module _ {V : Type 0} where
   put_decided : (history : List (Event V ℕ)) (put : PutCommand V ℕ) (r : Option ℕ) → DecidedBy r → IsDecided (put_outcome_by history put r)
   put_decided history put None d =
       put_by (put.return_body || put.return_head)
-      (let event : Event V ℕ = record { key = put.key; deed = Write put.value; context = put.context; saw = saw_by put.context } in all_shown (event ∷ history) put.key (not put.return_body)) refl
+      (let event : Event V ℕ = record { key = put.key; operation = Write put.value; context = put.context; saw = saw_by put.context } in all_shown (event ∷ history) put.key (not put.return_body)) refl
   put_decided history put (Some number) d = d
 
   del_decided : (history : List (Event V ℕ)) (del : DelCommand ℕ) (saw : List ℕ) (b : Bool)
@@ -116,7 +116,7 @@ module _ {V : Type 0} where
       let del : DelCommand ℕ = record { key = key; context = context_at history key context } in
       del_idle (does_nothing history del) (del_outcome_by history del (del_saw history del) (del_refusal history key (del_saw history del)))
       (del_decided history del (del_saw history del) (has_too_many history key (del_saw history del)))
-  decided history (Reap key) = reap_decided (is_dead history key) (record { key = key; deed = Forgotten; context = None; saw = numbers_to (count_of history key) })
+  decided history (Reap key) = reap_decided (is_dead history key) (record { key = key; operation = Forgotten; context = None; saw = numbers_to (count_of history key) })
 
   same_told : (old : List (Event V ℕ)) (outcome : Outcome V ℕ) (told : Told ℕ) (new : List (Event V ℕ)) → Follows old outcome told new → told ≡ told_of outcome
   same_told old (Answers given) told new f = f.0

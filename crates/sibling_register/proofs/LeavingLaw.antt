@@ -84,7 +84,7 @@ module _ {V C : Type 0} where
   among-bounded : (later events : List (Event V C)) (n : ℕ) → is_among (unseen_by later events) n ≡ true → n ≤ length events
   among-bounded later [] n h = cc
   among-bounded later (event ∷ before) n h =
-      by (is_update event.deed && not (list_any (λ other. is_among other.saw (suc (length before))) later)) (among-bounded (event ∷ later) before n) h
+      by (is_update event.operation && not (list_any (λ other. is_among other.saw (suc (length before))) later)) (among-bounded (event ∷ later) before n) h
     where
       by : (b : Bool) → (is_among (unseen_by (event ∷ later) before) n ≡ true → n ≤ length before)
           → is_among (cond b (suc (length before) ∷ unseen_by (event ∷ later) before) (unseen_by (event ∷ later) before)) n ≡ true → n ≤ suc (length before)
@@ -96,19 +96,19 @@ module _ {V C : Type 0} where
 
   -- an event that is no write or tombstone found its key dead
   found_dead : (naming : Naming V C) (history : List (Event V C)) (ask : Ask V C) (event : Event V C) (told : Told ℕ)
-      → MayGive naming history ask (Accepts event told) → is_update event.deed ≡ false → is_dead history event.key ≡ true
+      → MayGive naming history ask (Accepts event told) → is_update event.operation ≡ false → is_dead history event.key ≡ true
   found_dead naming history (AskGet get) event told g u = cc
-  found_dead naming history (AskPut put) event told g u = let e : is_update event.deed ≡ true = ap (λ (x : Event V C). is_update x.deed) g.2.1 in cc
+  found_dead naming history (AskPut put) event told g u = let e : is_update event.operation ≡ true = ap (λ (x : Event V C). is_update x.operation) g.2.1 in cc
   found_dead naming history (AskDel del) event told g u = by (does_nothing history del) g
     where
       by : (b : Bool) → MatchBool b (Accepts event told ≡ Answers Done) ((saw : List ℕ) × DelSees naming history del.key del.context saw × DelGives naming history del saw (Accepts event told))
           → is_dead history event.key ≡ true
       by true h = cc
-      by false h = let e : is_update event.deed ≡ true = ap (λ (x : Event V C). is_update x.deed) h.2.1 in cc
+      by false h = let e : is_update event.operation ≡ true = ap (λ (x : Event V C). is_update x.operation) h.2.1 in cc
   found_dead naming history (AskReap key) event told g u = by (is_dead history key) refl g
     where
       by : (b : Bool) → is_dead history key ≡ b
-          → Accepts event told ≡ cond b (Accepts (record { key = key; deed = Reap; context = None; saw = numbers_to (count_of history key) }) Reaped) (Answers Kept)
+          → Accepts event told ≡ cond b (Accepts (record { key = key; operation = Reap; context = None; saw = numbers_to (count_of history key) }) Reaped) (Answers Kept)
           → is_dead history event.key ≡ true
       by true d h = let same : event.key ≡ key = ap (λ (o : Outcome V C). key_of o) h in ap (is_dead history) same ∙ d
         where
@@ -120,33 +120,33 @@ module _ {V C : Type 0} where
   -- one event more
   one_more : (naming : Naming V C) (event : Event V C) (before : List (Event V C)) (key : Key) (number : ℕ) → IsAccepted naming before event
       → is_among (siblings before key) number ≡ true → content_of before key number ≢ None
-      → (is_among (siblings (event ∷ before) key) number ≡ true) ⊎ (((key_eq event.key key && is_update event.deed) && is_among event.saw number) ≡ true)
+      → (is_among (siblings (event ∷ before) key) number ≡ true) ⊎ (((key_eq event.key key && is_update event.operation) && is_among event.saw number) ≡ true)
   one_more naming event before key number accepted sibling content = own (key_eq event.key key) refl
     where
       kept : (u : Bool) (n : ℕ) (rest : List ℕ) → is_among rest number ≡ true → is_among (cond u (n ∷ rest) rest) number ≡ true
       kept true n rest h = or_right (nat_eq n number) (is_among rest number) h
       kept false n rest h = h
 
-      dead : key_eq event.key key ≡ true → is_update event.deed ≡ false → ⊥
+      dead : key_eq event.key key ≡ true → is_update event.operation ≡ false → ⊥
       dead e u =
           let is : is_dead before key ≡ true = ap (is_dead before) (sym (key_eq-same event.key key e)) ∙ found_dead naming before accepted.ask event accepted.told accepted.given u in
           let here : is_present before key ≡ true = any-among (λ n. is_some (content_of before key n)) (siblings before key) number sibling (some_of (content_of before key number) content) in
           clash (is_present before key) here (and_right (is_defined before key) _ is)
 
-      seen : (u : Bool) → is_update event.deed ≡ u → key_eq event.key key ≡ true → is_among event.saw number ≡ true
-          → ((key_eq event.key key && is_update event.deed) && is_among event.saw number) ≡ true
+      seen : (u : Bool) → is_update event.operation ≡ u → key_eq event.key key ≡ true → is_among event.saw number ≡ true
+          → ((key_eq event.key key && is_update event.operation) && is_among event.saw number) ≡ true
       seen true u e s = rw (e, u, s) refl
       seen false u e s = absurd (dead e u)
 
       sight : (s : Bool) → is_among event.saw number ≡ s → key_eq event.key key ≡ true
-          → (is_among (siblings (event ∷ before) key) number ≡ true) ⊎ (((key_eq event.key key && is_update event.deed) && is_among event.saw number) ≡ true)
-      sight true s e = inr (seen (is_update event.deed) refl e s)
+          → (is_among (siblings (event ∷ before) key) number ≡ true) ⊎ (((key_eq event.key key && is_update event.operation) && is_among event.saw number) ≡ true)
+      sight true s e = inr (seen (is_update event.operation) refl e s)
       sight false s e = inl (ap (λ xs. is_among xs number) (siblings-own event before key e)
-          ∙ kept (is_update event.deed) (suc (count_of before key)) (left_by event.saw (siblings before key))
+          ∙ kept (is_update event.operation) (suc (count_of before key)) (left_by event.saw (siblings before key))
           (among-filter (λ n. not (is_among event.saw n)) (siblings before key) number sibling (not_false (is_among event.saw number) s)))
 
       own : (b : Bool) → key_eq event.key key ≡ b
-          → (is_among (siblings (event ∷ before) key) number ≡ true) ⊎ (((key_eq event.key key && is_update event.deed) && is_among event.saw number) ≡ true)
+          → (is_among (siblings (event ∷ before) key) number ≡ true) ⊎ (((key_eq event.key key && is_update event.operation) && is_among event.saw number) ≡ true)
       own true e = sight (is_among event.saw number) refl e
       own false e = inl (ap (λ xs. is_among xs number) (siblings-other event before key e) ∙ sibling)
 
@@ -154,8 +154,8 @@ module _ {V C : Type 0} where
   content-later : (between early : List (Event V C)) (key : Key) (number : ℕ) → is_among (siblings early key) number ≡ true
       → content_of (between ++ early) key number ≡ content_of early key number
   content-later between early key number h =
-      ap (λ events. option_and_then (λ (event : Event V C). written event.deed) (numbered events number)) (filter-append (λ event. key_eq event.key key) between early)
-      ∙ ap (option_and_then (λ (event : Event V C). written event.deed)) (numbered-later (events_of between key) (events_of early key) number (among-bounded [] (events_of early key) number h))
+      ap (λ events. option_and_then (λ (event : Event V C). written event.operation) (numbered events number)) (filter-append (λ event. key_eq event.key key) between early)
+      ∙ ap (option_and_then (λ (event : Event V C). written event.operation)) (numbered-later (events_of between key) (events_of early key) number (among-bounded [] (events_of early key) number h))
 
   pub leaves_only_seen : (naming : Naming V C) (between early : List (Event V C)) → LeavesOnlySeen naming between early
   leaves_only_seen naming [] early legal key number sibling content = inl sibling

@@ -9,10 +9,10 @@ use Rattle.std.proofs.lemmas.Bool.Decides.{nat_tests}
 use Rattle.riak_msgs.specs.declared.key.Key.{Key}
 use Rattle.riak_msgs.specs.KeyOrder.{key_eq}
 use Rattle.sibling_register.specs.declared.entry.Entry.{Entry}
-use Rattle.sibling_register.specs.declared.deed.Deed.TheVariants.{Write as EntryWrite, Tombstone as EntryTombstone}
+use Rattle.sibling_register.specs.declared.operation.Operation.TheVariants.{Write as EntryWrite, Tombstone as EntryTombstone}
 use Rattle.sibling_register.specs.History.{Event, events_of, count_of, numbers_to}
 use Rattle.sibling_register.specs.Siblings.{siblings, is_present}
-use Rattle.sibling_register.specs.Refusals.{most_siblings}
+use Rattle.sibling_register.specs.Refusals.{max_siblings}
 use Rattle.sibling_register.specs.Answers.{Told, Refused, Shown, Done, PutCommand, DelCommand, AskDel, Answers, Accepts, is_name, has_too_many, put_refusal, does_nothing}
 use Rattle.sibling_register.specs.Entries.{event_of, history_of, follow_of}
 use Rattle.sibling_register.specs.Counting.{by_count}
@@ -37,9 +37,9 @@ key_eq-refl key = rw (bytes_eq-refl key.bucket_type, bytes_eq-refl key.bucket, b
 
 module _ {V : Type 0} where
   pub has_too_many-by : (history : List (Event V ℕ)) (key : Key) (saw : ℕ)
-      → nat_le most_siblings (count_by (λ n. nat_lt saw n) (siblings history key)) ≡ has_too_many history key (numbers_to saw)
+      → nat_le max_siblings (count_by (λ n. nat_lt saw n) (siblings history key)) ≡ has_too_many history key (numbers_to saw)
   has_too_many-by history key saw =
-      ap (nat_le most_siblings) (sym (length-filter _ (siblings history key))
+      ap (nat_le max_siblings) (sym (length-filter _ (siblings history key))
       ∙ ap length (sym (left_by-numbers_to saw (siblings history key) (unseen_by-positive [] (events_of history key))))
       ∙ length-filter _ (siblings history key))
 
@@ -62,11 +62,11 @@ module _ {V : Type 0} where
   -- the check that was found is the put's
   pub put_refusal-by : (history : List (Event V ℕ)) (put : PutCommand V ℕ) (numbers : List ℕ) (count : ℕ) (present : Bool)
       → numbers ≡ siblings history put.key → count ≡ count_of history put.key → present ≡ is_present history put.key
-      → first_check_of present (option_eq nat_eq put.context (Some count)) (nat_le most_siblings (count_by (λ n. nat_lt (unwrap_or put.context 0) n) numbers)) put.if_not_modified put.if_none_match
+      → first_check_of present (option_eq nat_eq put.context (Some count)) (nat_le max_siblings (count_by (λ n. nat_lt (unwrap_or put.context 0) n) numbers)) put.if_not_modified put.if_none_match
       ≡ put_refusal by_count history put (saw_by put.context)
   put_refusal-by history put numbers count present s n p =
       let check : Bool → Bool → Bool → Option ℕ = λ present is_name too_many. first_check_of present is_name too_many put.if_not_modified put.if_none_match in
-      let too_many : List ℕ → Bool = λ numbers. nat_le most_siblings (count_by (λ n. nat_lt (unwrap_or put.context 0) n) numbers) in
+      let too_many : List ℕ → Bool = λ numbers. nat_le max_siblings (count_by (λ n. nat_lt (unwrap_or put.context 0) n) numbers) in
       ap (λ b. check b (option_eq nat_eq put.context (Some count)) (too_many numbers)) p
       ∙ ap (λ n. check (is_present history put.key) (option_eq nat_eq put.context (Some n)) (too_many numbers)) n
       ∙ ap (λ b. check (is_present history put.key) b (too_many numbers)) (is_name-by history put.key put.context)
@@ -75,13 +75,13 @@ module _ {V : Type 0} where
 
   -- what an accepted put comes to
   pub put-kept : (history : List (Event V ℕ)) (put : PutCommand V ℕ) (numbers : List ℕ) (position : ℕ) (told : Told ℕ)
-      → let entry : Entry V = record { key = put.key; deed = EntryWrite put.value; context = put.context; saw = unwrap_or put.context 0 } in
+      → let entry : Entry V = record { key = put.key; operation = EntryWrite put.value; context = put.context; saw = unwrap_or put.context 0 } in
       numbers ≡ follow_of entry (count_of history put.key + 1) (siblings history put.key)
       → position ≡ length history + 1
       → told ≡ cond (put.return_body || put.return_head) (Shown numbers (Some position) false (not put.return_body)) Done
       → Accepts (event_of entry) told ≡ put_outcome_by history put None
   put-kept history put numbers position told n p t =
-      let entry : Entry V = record { key = put.key; deed = EntryWrite put.value; context = put.context; saw = unwrap_or put.context 0 } in
+      let entry : Entry V = record { key = put.key; operation = EntryWrite put.value; context = put.context; saw = unwrap_or put.context 0 } in
       let answer : List ℕ → ℕ → Told ℕ = λ numbers position. cond (put.return_body || put.return_head) (Shown numbers (Some position) false (not put.return_body)) Done in
       ap (Accepts (event_of entry)) (t ∙ ap (λ xs. answer xs position) (n ∙ siblings-kept history entry)
       ∙ ap (answer (siblings (event_of entry ∷ history) put.key)) (p ∙ add-one (length history)))
@@ -95,9 +95,9 @@ module _ {V : Type 0} where
   -- whether it would have too many siblings, by what was read
   pub del_refusal-by : (history : List (Event V ℕ)) (del : DelCommand ℕ) (numbers : List ℕ) (saw : ℕ) → numbers ≡ siblings history del.key
       → saw ≡ unwrap_or del.context (count_of history del.key)
-      → nat_le most_siblings (count_by (λ n. nat_lt saw n) numbers) ≡ has_too_many history del.key (del_saw history del)
+      → nat_le max_siblings (count_by (λ n. nat_lt saw n) numbers) ≡ has_too_many history del.key (del_saw history del)
   del_refusal-by history del numbers saw s w =
-      ap (λ xs. nat_le most_siblings (count_by (λ n. nat_lt saw n) xs)) s ∙ has_too_many-by history del.key saw
+      ap (λ xs. nat_le max_siblings (count_by (λ n. nat_lt saw n) xs)) s ∙ has_too_many-by history del.key saw
       ∙ ap (λ m. has_too_many history del.key (numbers_to m)) w
 
   pub del_refused : (history : List (Event V ℕ)) (del : DelCommand ℕ) → does_nothing history del ≡ false
@@ -106,5 +106,5 @@ module _ {V : Type 0} where
 
   pub del_kept : (history : List (Event V ℕ)) (del : DelCommand ℕ) (saw : ℕ) → does_nothing history del ≡ false
       → has_too_many history del.key (del_saw history del) ≡ false → saw ≡ unwrap_or del.context (count_of history del.key)
-      → Accepts (event_of (record { key = del.key; deed = EntryTombstone; context = del.context; saw = saw })) Done ≡ plain_outcome history (AskDel del)
+      → Accepts (event_of (record { key = del.key; operation = EntryTombstone; context = del.context; saw = saw })) Done ≡ plain_outcome history (AskDel del)
   del_kept history del saw idle many s = rw (idle, many, s) refl

@@ -11,7 +11,7 @@ use Rattle.riak_msgs.specs.KeyOrder.{key_eq}
 use Rattle.sibling_register.specs.declared.entry.Entry.{Entry}
 use Rattle.sibling_register.specs.History.{Event, events_of, count_of, numbered, is_update, written, content_of}
 use Rattle.sibling_register.specs.Siblings.{siblings}
-use Rattle.sibling_register.specs.Entries.{deed_of, event_of, history_of, follow_of}
+use Rattle.sibling_register.specs.Entries.{operation_of, event_of, history_of, follow_of}
 use Rattle.sibling_register.specs.Counting.{up_to}
 use Rattle.sibling_register.proofs.Following.{siblings_after, siblings-own, siblings-other, count_of-own, count_of-other, left_by-numbers_to, unseen_by-positive, numbered-later, numbered-past, numbered-zero}
 
@@ -40,7 +40,7 @@ module _ {V : Type 0} where
 
   pub follows : (entry : Entry V) (number : ℕ) (before : List ℕ) → IsTrue (list_all (λ m. nat_lt 0 m) before)
       → siblings_after (event_of entry) number before ≡ follow_of entry number before
-  follows entry number before h = ap (λ rest. cond (is_update (deed_of entry.deed)) (number ∷ rest) rest) (left_by-numbers_to entry.saw before h)
+  follows entry number before h = ap (λ rest. cond (is_update (operation_of entry.operation)) (number ∷ rest) rest) (left_by-numbers_to entry.saw before h)
 
   pub siblings-scan_own : (entries : List (Entry V)) (i : ℕ) (x : Entry V) (key : Key) → i < length entries → x ≡ get_or entries i x → key_eq x.key key ≡ true
       → siblings (history_of (take (i + 1) entries)) key
@@ -70,7 +70,7 @@ module _ {V : Type 0} where
   -- the entry that makes the count this number is the event of the number
   pub value-found : (entries : List (Entry V)) (i : ℕ) (x : Entry V) (key : Key) (number : ℕ) → i < length entries → x ≡ get_or entries i x
       → key_eq x.key key ≡ true → count_of (history_of (take i entries)) key + 1 ≡ number
-      → content_of (history_of entries) key number ≡ written (deed_of x.deed)
+      → content_of (history_of entries) key number ≡ written (operation_of x.operation)
   value-found entries i x key number h is e n =
       let last : Event V ℕ = event_of x in
       let before : List (Event V ℕ) = history_of (take i entries) in
@@ -80,8 +80,8 @@ module _ {V : Type 0} where
       let own : events_of (last ∷ before) key ≡ last ∷ events_of before key = rw e refl in
       let within : number ≤ length (events_of (last ∷ before) key) = rw own (omega (arith, n)) in
       ap (λ history. content_of history key number) parts
-      ∙ ap (λ events. option_and_then (λ event. written event.deed) (numbered events number)) (filter-append (λ event. key_eq event.key key) later (last ∷ before))
-      ∙ ap (option_and_then (λ event. written event.deed))
+      ∙ ap (λ events. option_and_then (λ event. written event.operation) (numbered events number)) (filter-append (λ event. key_eq event.key key) later (last ∷ before))
+      ∙ ap (option_and_then (λ event. written event.operation))
       (numbered-later (events_of later key) (events_of (last ∷ before) key) number within
       ∙ ap (λ events. numbered events number) own
       ∙ ap (λ m. cond (m == suc (count_of before key)) (Some last) (numbered (events_of before key) m)) (sym n ∙ add-one _)
@@ -97,7 +97,7 @@ module _ {V : Type 0} where
   pub value-none : (entries : List (Entry V)) (key : Key) (number : ℕ) → (number ≤ count_of (history_of entries) key → number ≡ 0)
       → content_of (history_of entries) key number ≡ None
   value-none entries key number h =
-      ap (option_and_then (λ event. written event.deed)) (none_there (events_of (history_of entries) key) number h)
+      ap (option_and_then (λ event. written event.operation)) (none_there (events_of (history_of entries) key) number h)
 
   -- the first entries are the history up to there
   pub up_to-history_of : (entries : List (Entry V)) (p : ℕ) → up_to (history_of entries) p ≡ history_of (take p entries)

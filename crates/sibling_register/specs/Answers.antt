@@ -4,7 +4,7 @@ use Rattle.riak_msgs.specs.declared.key.Key.{Key}
 use Rattle.sibling_register.specs.History.{Event, Write, Tombstone, Reap, count_of, numbers_to}
 use Rattle.sibling_register.specs.Siblings.{siblings, is_among, is_defined, is_present, is_dead}
 use Rattle.sibling_register.specs.Naming.{Naming, named, PutSees, DelSees}
-use Rattle.sibling_register.specs.Refusals.{match_found, modified, not_found, bad_context, too_many_siblings, most_siblings, is_free, first_of}
+use Rattle.sibling_register.specs.Refusals.{match_found, modified, not_found, bad_context, too_many_siblings, max_siblings, is_free, first_of}
 
 -- what the register answers, N being what its siblings' sequence numbers are: it refuses by the number of a check; it
 -- shows siblings in their order, and the name of a position where one is given, or that nothing was modified, or the
@@ -73,7 +73,7 @@ module _ {V C : Type 0} where
   -- as many siblings as a key may have aren't in what was seen, so that with one more they were too many
   abbrev pub has_too_many : List (Event V C) → Key → List ℕ → Bool
   has_too_many history key saw =
-      nat_le most_siblings (count_by (λ number. not (is_among saw number)) (siblings history key))
+      nat_le max_siblings (count_by (λ number. not (is_among saw number)) (siblings history key))
 
   -- the first of a put's checks that holds
   abbrev pub put_refusal : Naming V C → List (Event V C) → PutCommand V C → List ℕ → Option ℕ
@@ -107,7 +107,7 @@ module _ {V C : Type 0} where
       MayRefuse naming history put.key put.context (put_refusal naming history put saw) number
   PutGives naming history put saw (Accepts event told) =
       (put_refusal naming history put saw ≡ None)
-      × (event ≡ record { key = put.key; deed = Write put.value; context = put.context; saw = saw })
+      × (event ≡ record { key = put.key; operation = Write put.value; context = put.context; saw = saw })
       × (told ≡ put_told (event ∷ history) put)
   PutGives naming history put saw (Answers (Shown siblings position unchanged bare)) = ⊥
   PutGives naming history put saw (Answers Done) = ⊥
@@ -124,7 +124,7 @@ module _ {V C : Type 0} where
       MayRefuse naming history del.key del.context (del_refusal history del.key saw) number
   DelGives naming history del saw (Accepts event told) =
       (del_refusal history del.key saw ≡ None)
-      × (event ≡ record { key = del.key; deed = Tombstone; context = del.context; saw = saw })
+      × (event ≡ record { key = del.key; operation = Tombstone; context = del.context; saw = saw })
       × (told ≡ Done)
   DelGives naming history del saw (Answers (Shown siblings position unchanged bare)) = ⊥
   DelGives naming history del saw (Answers Done) = ⊥
@@ -139,7 +139,7 @@ module _ {V C : Type 0} where
   abbrev pub reap_outcome : List (Event V C) → Key → Outcome V C
   reap_outcome history key =
       if is_dead history key
-      then Accepts (record { key = key; deed = Reap; context = None; saw = numbers_to (count_of history key) }) Reaped
+      then Accepts (record { key = key; operation = Reap; context = None; saw = numbers_to (count_of history key) }) Reaped
       else Answers Kept
 
   -- what may come of an ask at the end of this history

@@ -1,30 +1,30 @@
 -- The plain register's list of accepted commands, oldest first, and the history that it stands for.
 use Rattle.std.specs.Prelude.{Bool, not, ◌&&◌, ◌==◌, List, ◌∷◌, ℕ, length, map, reverse, filter, nat_lt, if◌then◌else◌, Option, Some, None}
 use Rattle.sibling_register.specs.declared.entry.Entry.{Entry}
-use Rattle.sibling_register.specs.declared.deed.Deed.{Deed as EntryDeed}
-use Rattle.sibling_register.specs.declared.deed.Deed.TheVariants.{Write as EntryWrite, Tombstone as EntryTombstone, Reap as EntryReap}
+use Rattle.sibling_register.specs.declared.operation.Operation.{Operation as EntryOperation}
+use Rattle.sibling_register.specs.declared.operation.Operation.TheVariants.{Write as EntryWrite, Tombstone as EntryTombstone, Reap as EntryReap}
 use Rattle.sibling_register.specs.declared.planned.Planned.{Planned}
 use Rattle.sibling_register.specs.declared.put.Put.{Put}
-use Rattle.sibling_register.specs.declared.standing.Standing.{Standing}
-use Rattle.sibling_register.specs.History.{Deed, Write, Tombstone, Reap, Event, numbers_to, is_update}
+use Rattle.sibling_register.specs.declared.key_state.KeyState.{KeyState}
+use Rattle.sibling_register.specs.History.{Operation, Write, Tombstone, Reap, Event, numbers_to, is_update}
 use Rattle.sibling_register.specs.Answers.{Told, PutCommand, Outcome, Answers, Accepts}
 use Rattle.sibling_register.specs.Counting.{context_at}
 use Rattle.sibling_register.specs.Plain.{told_of}
 
 -- a key that stands so has a sibling, and no write among them
-abbrev pub is_dead_by : Standing → Bool
-is_dead_by standing = not (length standing.siblings.items == 0) && not standing.is_present
+abbrev pub is_dead_by : KeyState → Bool
+is_dead_by key_state = not (length key_state.siblings.items == 0) && not key_state.is_present
 
 module _ {V : Type 0} where
-  -- the deed that an entry's stands for
-  abbrev pub deed_of : EntryDeed V → Deed V
-  deed_of (EntryWrite content) = Write content
-  deed_of EntryTombstone = Tombstone
-  deed_of EntryReap = Reap
+  -- the operation that an entry's stands for
+  abbrev pub operation_of : EntryOperation V → Operation V
+  operation_of (EntryWrite content) = Write content
+  operation_of EntryTombstone = Tombstone
+  operation_of EntryReap = Reap
 
   -- an entry saw the sequence numbers up to one
   abbrev pub event_of : Entry V → Event V ℕ
-  event_of entry = record { key = entry.key; deed = deed_of entry.deed; context = entry.context; saw = numbers_to entry.saw }
+  event_of entry = record { key = entry.key; operation = operation_of entry.operation; context = entry.context; saw = numbers_to entry.saw }
 
   abbrev pub history_of : List (Entry V) → List (Event V ℕ)
   history_of entries = reverse (map event_of entries)
@@ -33,7 +33,7 @@ module _ {V : Type 0} where
   abbrev pub follow_of : Entry V → ℕ → List ℕ → List ℕ
   follow_of entry number before =
       let rest = filter (λ n. nat_lt entry.saw n) before in
-      if is_update (deed_of entry.deed) then number ∷ rest else rest
+      if is_update (operation_of entry.operation) then number ∷ rest else rest
 
   abbrev pub outcome_by : Told ℕ → Option (Entry V) → Outcome V ℕ
   outcome_by told None = Answers told

@@ -5,27 +5,27 @@ use Rattle.riak_msgs.specs.declared.key.Key.{Key}
 use Rattle.riak_msgs.specs.KeyOrder.{key_eq}
 
 -- what an accepted command did: a write of a content, a tombstone or a reap
-pub data Deed (V : Type 0) : Type 0 where
-  Write : V → Deed V
-  Tombstone : Deed V
-  Reap : Deed V
+pub data Operation (V : Type 0) : Type 0 where
+  Write : V → Operation V
+  Tombstone : Operation V
+  Reap : Operation V
 
--- an accepted command: its key, its deed, the context that was given, and the sequence numbers of the key that it saw
+-- an accepted command: its key, its operation, the context that was given, and the sequence numbers of the key that it saw
 pub record Event (V C : Type 0) : Type 0 where
   pub key : Key
-  pub deed : Deed V
+  pub operation : Operation V
   pub context : Option C
   pub saw : List ℕ
 
 module _ {V : Type 0} where
-  -- whether a deed is a write or a tombstone, and no reap
-  abbrev pub is_update : Deed V → Bool
+  -- whether a operation is a write or a tombstone, and no reap
+  abbrev pub is_update : Operation V → Bool
   is_update (Write content) = true
   is_update Tombstone = true
   is_update Reap = false
 
   -- what a write wrote
-  abbrev pub written : Deed V → Option V
+  abbrev pub written : Operation V → Option V
   written (Write content) = Some content
   written Tombstone = None
   written Reap = None
@@ -46,7 +46,7 @@ module _ {V C : Type 0} where
 
   -- the content of the key's write of this sequence number
   abbrev pub content_of : List (Event V C) → Key → ℕ → Option V
-  content_of history key number = option_and_then (λ event. written event.deed) (numbered (events_of history key) number)
+  content_of history key number = option_and_then (λ event. written event.operation) (numbered (events_of history key) number)
 
 -- the sequence numbers from n down to 1
 abbrev pub numbers_to : ℕ → List ℕ

@@ -12,7 +12,7 @@ module _ {V C : Type 0} where
   -- some write or tombstone of the key among these events saw the sequence number
   abbrev pub is_seen_in : List (Event V C) → Key → ℕ → Bool
   is_seen_in events key number =
-      list_any (λ event. (key_eq event.key key && is_update event.deed) && is_among event.saw number) events
+      list_any (λ event. (key_eq event.key key && is_update event.operation) && is_among event.saw number) events
 
   -- a write that is a sibling at one position, and none at the end of a history whose events are each accepted, was seen
   -- by a write or tombstone between

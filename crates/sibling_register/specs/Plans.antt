@@ -13,13 +13,13 @@ module _ {V : Type 0} where
   abbrev pub put_outcome_by : List (Event V ℕ) → PutCommand V ℕ → Option ℕ → Outcome V ℕ
   put_outcome_by history put (Some number) = Answers (Refused number)
   put_outcome_by history put None =
-      let event : Event V ℕ = record { key = put.key; deed = Write put.value; context = put.context; saw = saw_by put.context } in
+      let event : Event V ℕ = record { key = put.key; operation = Write put.value; context = put.context; saw = saw_by put.context } in
       Accepts event (put_told (event ∷ history) put)
 
   abbrev pub del_outcome_by : List (Event V ℕ) → DelCommand ℕ → List ℕ → Option ℕ → Outcome V ℕ
   del_outcome_by history del saw (Some number) = Answers (Refused number)
   del_outcome_by history del saw None =
-      Accepts (record { key = del.key; deed = Tombstone; context = del.context; saw = saw }) Done
+      Accepts (record { key = del.key; operation = Tombstone; context = del.context; saw = saw }) Done
 
   -- what a delete saw: all, where it gives no context
   abbrev pub del_saw : List (Event V ℕ) → DelCommand ℕ → List ℕ

@@ -42,8 +42,8 @@ abbrev pub is_free : ℕ → Bool
 is_free number = nat_le clock_full number && nat_le number no_memory
 
 -- how many siblings a key has at most
-abbrev pub most_siblings : ℕ
-most_siblings = 64
+abbrev pub max_siblings : ℕ
+max_siblings = 64
 
 -- the number of the first check that holds
 abbrev pub first_of : List (Bool × ℕ) → Option ℕ

@@ -15,7 +15,7 @@ module _ {V C : Type 0} where
   unseen_by later (event ∷ before) =
       let number = suc (length before) in
       let rest = unseen_by (event ∷ later) before in
-      if is_update event.deed && not (list_any (λ other. is_among other.saw number) later) then number ∷ rest else rest
+      if is_update event.operation && not (list_any (λ other. is_among other.saw number) later) then number ∷ rest else rest
 
   -- the writes and tombstones of the key that no later event saw, by their sequence numbers, greatest first
   abbrev pub siblings : List (Event V C) → Key → List ℕ

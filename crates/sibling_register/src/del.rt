@@ -7,21 +7,21 @@ ghost use Rattle.sibling_register.specs.Plain.{IsPosition};
 ghost use Rattle.sibling_register.specs.Plans.{plain_outcome};
 ghost use Rattle.sibling_register.specs.Entries.{history_of, outcome_of};
 
-use crate::deed::Deed;
+use crate::operation::Operation;
 use crate::entry::Entry;
 use crate::planned::Planned;
 use crate::refusals::TOO_MANY_SIBLINGS;
 use crate::scans::count_at;
-use crate::standing::Standing;
+use crate::key_state::KeyState;
 use crate::told::Told;
 use riak_msgs::Key;
 use std::alloc::{AllocError, Global};
 
 /// Whether a delete does nothing: it gives no context, and its key is absent.
-fn is_idle(named: Option<u64>, standing: &Standing) -> bool
-    ensures value { result ≡ (is_none named && (length standing.now.siblings.items == 0)) }
+fn is_idle(named: Option<u64>, key_state: &KeyState) -> bool
+    ensures value { result ≡ (is_none named && (length key_state.now.siblings.items == 0)) }
 {
-    named.is_none() && standing.siblings.is_empty()
+    named.is_none() && key_state.siblings.is_empty()
 }
 
 /// Up to which number a delete saw the key's events: all of them, where it gives no context.
@@ -41,18 +41,18 @@ pub(crate) fn plan_del<V>(
     requires { IsPosition (history_of entries.now) context }
     ensures value { IfOk result (λ planned. outcome_of planned ≡ plain_outcome (history_of entries.now) (AskDel (record { key = key; context = context_at (history_of entries.now) key context }))) }
 {
-    let standing = Standing::of(alloc, entries, &key)?;
+    let key_state = KeyState::of(alloc, entries, &key)?;
     let named = count_at(entries, &key, context);
-    if is_idle(named, &standing) {
+    if is_idle(named, &key_state) {
         return Ok(Planned::answer(Told::Done));
     }
-    let saw = seen_by_delete(named, standing.count);
-    if standing.has_too_many(saw) {
+    let saw = seen_by_delete(named, key_state.count);
+    if key_state.has_too_many(saw) {
         return Ok(Planned::answer(Told::Refused(TOO_MANY_SIBLINGS)));
     }
     let entry = Entry {
         key,
-        deed: Deed::Tombstone,
+        operation: Operation::Tombstone,
         context: named,
         saw,
     };

@@ -1,6 +1,6 @@
 //! An accepted command as it is kept.
 
-use crate::deed::Deed;
+use crate::operation::Operation;
 use riak_msgs::Key;
 
 /// An accepted command. Its context is how many events the key had at the position that it names, and it saw the key's
@@ -8,7 +8,7 @@ use riak_msgs::Key;
 #[derive(Drop)]
 pub(crate) struct Entry<V> {
     pub(crate) key: Key,
-    pub(crate) deed: Deed<V>,
+    pub(crate) operation: Operation<V>,
     pub(crate) context: Option<u64>,
     pub(crate) saw: u64,
 }

@@ -11,7 +11,7 @@ use crate::entry::Entry;
 use crate::numbers::Numbers;
 use crate::planned::Planned;
 use crate::scans::count_at;
-use crate::standing::Standing;
+use crate::key_state::KeyState;
 use crate::told::Told;
 use riak_msgs::Key;
 use std::alloc::{AllocError, Global};
@@ -40,18 +40,18 @@ pub(crate) fn plan_get<V>(
     requires { IsPosition (history_of entries.now) if_modified }
     ensures value { IfOk result (λ planned. outcome_of planned ≡ plain_outcome (history_of entries.now) (AskGet (record { key = key.now; if_modified = context_at (history_of entries.now) key.now if_modified; head = head; deletedvclock = deletedvclock }))) }
 {
-    let standing = Standing::of(alloc, entries, key)?;
-    let is_name = count_at(entries, key, if_modified) == Some(standing.count);
+    let key_state = KeyState::of(alloc, entries, key)?;
+    let is_name = count_at(entries, key, if_modified) == Some(key_state.count);
     let position = Some(entries.len() as u64);
-    let told = if standing.siblings.is_empty() {
+    let told = if key_state.siblings.is_empty() {
         none_shown(alloc, None, false)
-    } else if !standing.is_present {
+    } else if !key_state.is_present {
         none_shown(alloc, if deletedvclock { position } else { None }, false)
     } else if is_name {
         none_shown(alloc, None, true)
     } else {
         Told::Shown {
-            siblings: Numbers::new(standing.siblings),
+            siblings: Numbers::new(key_state.siblings),
             place: position,
             unchanged: false,
             bare: head,

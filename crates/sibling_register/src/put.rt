@@ -3,18 +3,18 @@
 ghost use Rattle.std.specs.Prelude.{◌≡◌, IfOk, Some, false, not, ◌||◌, if◌then◌else◌, count_by, nat_lt, nat_le, nat_eq, unwrap_or};
 ghost use Rattle.std.specs.Option.{option_eq};
 ghost use Rattle.sibling_register.specs.Answers.{AskPut, Shown, Done};
-ghost use Rattle.sibling_register.specs.Refusals.{most_siblings};
+ghost use Rattle.sibling_register.specs.Refusals.{max_siblings};
 ghost use Rattle.sibling_register.specs.Plain.{IsPosition, told_of};
 ghost use Rattle.sibling_register.specs.Plans.{plain_outcome, first_check_of};
 ghost use Rattle.sibling_register.specs.Entries.{history_of, outcome_of, put_of};
 
-use crate::deed::Deed;
+use crate::operation::Operation;
 use crate::entry::Entry;
 use crate::numbers::Numbers;
 use crate::planned::Planned;
 use crate::refusals::{MATCH_FOUND, MODIFIED, NOT_FOUND, TOO_MANY_SIBLINGS};
 use crate::scans::{count_at, follow};
-use crate::standing::Standing;
+use crate::key_state::KeyState;
 use crate::told::Told;
 use riak_msgs::Key;
 use std::alloc::{AllocError, Global};
@@ -40,18 +40,18 @@ fn seen_by_put(named: Option<u64>) -> u64
 
 /// The first check that holds, of a put whose context names the position with this count.
 fn first_check(
-    standing: &Standing,
+    key_state: &KeyState,
     named: Option<u64>,
     if_not_modified: bool,
     if_none_match: bool,
 ) -> Option<u8>
-    ensures value { result ≡ first_check_of standing.now.is_present (option_eq nat_eq named (Some standing.now.count)) (nat_le most_siblings (count_by (λ n. nat_lt (unwrap_or named 0) n) standing.now.siblings.items)) if_not_modified if_none_match }
+    ensures value { result ≡ first_check_of key_state.now.is_present (option_eq nat_eq named (Some key_state.now.count)) (nat_le max_siblings (count_by (λ n. nat_lt (unwrap_or named 0) n) key_state.now.siblings.items)) if_not_modified if_none_match }
 {
-    let is_name = named == Some(standing.count);
-    let too_many = standing.has_too_many(seen_by_put(named));
-    if if_none_match && standing.is_present {
+    let is_name = named == Some(key_state.count);
+    let too_many = key_state.has_too_many(seen_by_put(named));
+    if if_none_match && key_state.is_present {
         Some(MATCH_FOUND)
-    } else if if_not_modified && !if_none_match && !standing.is_present {
+    } else if if_not_modified && !if_none_match && !key_state.is_present {
         Some(NOT_FOUND)
     } else if if_not_modified && !if_none_match && !is_name {
         Some(MODIFIED)
@@ -87,20 +87,20 @@ pub(crate) fn plan_put<V: Drop>(
     requires { IsPosition (history_of entries.now) put.context }
     ensures value { IfOk result (λ planned. outcome_of planned ≡ plain_outcome (history_of entries.now) (AskPut (put_of (history_of entries.now) put))) }
 {
-    let standing = Standing::of(alloc, entries, &put.key)?;
+    let key_state = KeyState::of(alloc, entries, &put.key)?;
     let named = count_at(entries, &put.key, put.context);
-    if let Some(number) = first_check(&standing, named, put.if_not_modified, put.if_none_match) {
+    if let Some(number) = first_check(&key_state, named, put.if_not_modified, put.if_none_match) {
         return Ok(Planned::answer(Told::Refused(number)));
     }
     let entry = Entry {
         key: put.key,
-        deed: Deed::Write(put.value),
+        operation: Operation::Write(put.value),
         context: named,
         saw: seen_by_put(named),
     };
-    let number = standing.count + 1;
+    let number = key_state.count + 1;
     let position = entries.len() as u64 + 1;
-    let mut siblings = standing.siblings;
+    let mut siblings = key_state.siblings;
     follow(&mut siblings, &entry, number)?;
     let told = put_told(siblings, position, put.return_body, put.return_head);
     Ok(Planned {

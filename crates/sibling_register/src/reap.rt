@@ -5,10 +5,10 @@ ghost use Rattle.sibling_register.specs.Answers.{AskReap};
 ghost use Rattle.sibling_register.specs.Plans.{plain_outcome};
 ghost use Rattle.sibling_register.specs.Entries.{history_of, outcome_of};
 
-use crate::deed::Deed;
+use crate::operation::Operation;
 use crate::entry::Entry;
 use crate::planned::Planned;
-use crate::standing::Standing;
+use crate::key_state::KeyState;
 use crate::told::Told;
 use riak_msgs::Key;
 use std::alloc::{AllocError, Global};
@@ -21,15 +21,15 @@ pub(crate) fn plan_reap<V>(
 ) -> Result<Planned<V>, AllocError>
     ensures value { IfOk result (λ planned. outcome_of planned ≡ plain_outcome (history_of entries.now) (AskReap key)) }
 {
-    let standing = Standing::of(alloc, entries, &key)?;
-    if !standing.is_dead() {
+    let key_state = KeyState::of(alloc, entries, &key)?;
+    if !key_state.is_dead() {
         return Ok(Planned::answer(Told::Kept));
     }
     let entry = Entry {
         key,
-        deed: Deed::Reap,
+        operation: Operation::Reap,
         context: None,
-        saw: standing.count,
+        saw: key_state.count,
     };
     Ok(Planned {
         told: Told::Reaped,

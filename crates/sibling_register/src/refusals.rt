@@ -9,8 +9,8 @@ pub const MODIFIED: u8 = 2;
 /// A put with `if_not_modified` found its key absent or dead.
 pub const NOT_FOUND: u8 = 3;
 
-/// A put or a delete would have left its key with more than [`MOST_SIBLINGS`].
+/// A put or a delete would have left its key with more than [`MAX_SIBLINGS`].
 pub const TOO_MANY_SIBLINGS: u8 = 5;
 
 /// How many siblings a key has at most.
-pub const MOST_SIBLINGS: usize = 64;
+pub const MAX_SIBLINGS: usize = 64;

@@ -53,7 +53,7 @@ pub(crate) fn follow<V>(
     ensures value { OnOk result (numbers.new.items ≡ follow_of entry.now number numbers.old.items) }
 {
     forget(numbers, entry.saw);
-    if entry.deed.is_update() {
+    if entry.operation.is_update() {
         numbers.insert(0, number)?;
     }
     Ok(())
@@ -87,7 +87,7 @@ pub(crate) fn value_in<'a, V>(entries: &'a [Entry<V>], key: &Key, number: u64) -
         if entry.key.is_same(key) {
             count += 1;
             if count == number {
-                return entry.deed.written();
+                return entry.operation.written();
             }
         }
     }

@@ -11,15 +11,15 @@ use Rattle.sibling_register.specs.History.{Tombstone}
 use Rattle.sibling_register.specs.Answers.{AskDel}
 use Rattle.actor_epoch.specs.declared.Actor.{Actor}
 use Rattle.actor_epoch.specs.declared.Dot.{Dot}
-use Rattle.actor_epoch.specs.Limits.{greatest_epoch, greatest_counter, most_actors}
+use Rattle.actor_epoch.specs.Limits.{max_epoch, max_counter, max_actors}
 use Rattle.actor_epoch.specs.Dots.{counter_in, union}
 use Rattle.actor_epoch.specs.Contexts.{is_within_limits}
 use Rattle.actor_epoch.specs.Given.{Context, Malformed, Pairs, context_of, pairs_read}
-use Rattle.dvv_set.specs.Clocks.{Meaning, discard, event, join}
+use Rattle.dvv_set.specs.Clocks.{DotState, discard, event, join}
 use Rattle.dvv_set.specs.Held.{IsWithin, known_after}
 use Rattle.dvv_set.proofs.Discards.{union-itself}
 use Rattle.vnode_machine.specs.Asks.{del_command}
-use Rattle.vnode_machine.specs.Machine.{State, Stored, stored, is_held, clock_of, actor_for, del_pairs, update_check, updated, changed_by}
+use Rattle.vnode_machine.specs.Machine.{State, Stored, stored, is_held, clock_of, actor_for, del_pairs, update_check, updated, apply_operation}
 use Rattle.vnode_machine.specs.Step.{StepOutcome, Refused, Answered, Accepted, DelDone, del_step, unless_refused, outcome}
 use Rattle.vnode_machine.proofs.Forms.{IsForm, IsFormed}
 use Rattle.vnode_machine.proofs.Keys.{find_stored, key_eq-refl}
@@ -44,32 +44,32 @@ step_by state key given = del_step state (record { key = key; context = given })
 -- one that does something is checked
 does : (state : State Content) (key : Key) (given : Option Context) → (is_none given && not (is_held state key)) ≡ false
     → step_by state key given
-    ≡ unless_refused (update_check state key given (del_pairs state key given)) (Accepted Tombstone DelDone (changed_by state key given Tombstone))
+    ≡ unless_refused (update_check state key given (del_pairs state key given)) (Accepted Tombstone DelDone (apply_operation state key given Tombstone))
 does state key given h = ap (λ b. cond b (Answered DelDone)
-    (unless_refused (update_check state key given (del_pairs state key given)) (Accepted Tombstone DelDone (changed_by state key given Tombstone)))) h
+    (unless_refused (update_check state key given (del_pairs state key given)) (Accepted Tombstone DelDone (apply_operation state key given Tombstone)))) h
 
 module _ (state : State Content) (del : DelAsk) (given : Option Context) (reads : context_of del.context ≡ given)
     (something : (is_none given && not (is_held state del.key)) ≡ false) where
   abbrev check : Option ℕ
   check = update_check state del.key given (del_pairs state del.key given)
 
-  there : ask_outcome state (Del del) ≡ unless_refused check (Accepted Tombstone DelDone (changed_by state del.key given Tombstone))
+  there : ask_outcome state (Del del) ≡ unless_refused check (Accepted Tombstone DelDone (apply_operation state del.key given Tombstone))
   there = ap (step_by state del.key) reads ∙ does state del.key given something
 
   pub del-steps : check ≡ None → Steps state (Del del) answers.Del (state_after state (Del del))
   del-steps free =
-      there ∙ ap (λ c. unless_refused c (Accepted Tombstone DelDone (changed_by state del.key given Tombstone))) free
-      ∙ ap (λ g. Accepted Tombstone DelDone (changed_by state del.key g Tombstone)) (sym reads)
+      there ∙ ap (λ c. unless_refused c (Accepted Tombstone DelDone (apply_operation state del.key given Tombstone))) free
+      ∙ ap (λ g. Accepted Tombstone DelDone (apply_operation state del.key g Tombstone)) (sym reads)
 
   pub del-refuses : (refusal : Refusal) → RefusedBy refusal check → Refuses state (Del del) refusal
   del-refuses NoMemory h = absurd h
-  del-refuses refusal h = there ∙ ap (λ c. unless_refused c (Accepted Tombstone DelDone (changed_by state del.key given Tombstone))) h
+  del-refuses refusal h = there ∙ ap (λ c. unless_refused c (Accepted Tombstone DelDone (apply_operation state del.key given Tombstone))) h
 
 -- a delete without context
 pub del-of-all : (state : State Content) (del : DelAsk) → context_of del.context ≡ None → (r : Result (Option Writer) Refusal) → DelOfAllGives state del.key r → DelGives state del r
 del-of-all state del reads (Ok None) absent =
     ap (step_by state del.key) reads
-    ∙ ap (λ b. cond (not b) (Answered DelDone) (unless_refused (update_check state del.key None (join (clock_of state del.key))) (Accepted Tombstone DelDone (changed_by state del.key None Tombstone)))) absent
+    ∙ ap (λ b. cond (not b) (Answered DelDone) (unless_refused (update_check state del.key None (join (clock_of state del.key))) (Accepted Tombstone DelDone (apply_operation state del.key None Tombstone)))) absent
 del-of-all state del reads (Ok (Some writer)) h = (del-steps state del None reads (ap not h.held) h.free, h.is)
 del-of-all state del reads (Err refusal) h = del-refuses state del None reads (ap not h.0) refusal h.1
 
@@ -101,7 +101,7 @@ positive : (pairs : List Dot) → IsTrue (list_all is_within_limits pairs) → I
 positive [] h = refl
 positive (pair ∷ pairs) h =
     and_both (nat_le 1 pair.counter) (list_all (λ pair. nat_le 1 pair.counter) pairs)
-    (first (nat_lt pair.actor.vnode (2 ^ 64)) (nat_le 1 pair.actor.epoch && nat_le pair.actor.epoch greatest_epoch) (nat_le 1 pair.counter) (nat_le pair.counter greatest_counter)
+    (first (nat_lt pair.actor.vnode (2 ^ 64)) (nat_le 1 pair.actor.epoch && nat_le pair.actor.epoch max_epoch) (nat_le 1 pair.counter) (nat_le pair.counter max_counter)
     (and_left (is_within_limits pair) (list_all is_within_limits pairs) h))
     (positive pairs (and_right (is_within_limits pair) (list_all is_within_limits pairs) h))
   where
@@ -115,7 +115,7 @@ module _ (state : State Content) (is : IsReached state) (del : DelAsk) (answer :
   abbrev own : Actor
   own = actor_for state del.key
 
-  abbrev clock : Meaning (Option Content)
+  abbrev clock : DotState (Option Content)
   clock = clock_of state del.key
 
   abbrev next_by : Option Context → Stored Content
@@ -134,8 +134,8 @@ module _ (state : State Content) (is : IsReached state) (del : DelAsk) (answer :
       let within = form-within own None clock (Some clock.known) (rising-at state is del.key) form in
       let known = union-itself clock.known (rising-at state is del.key) (positive clock.known (within-at state is del.key)) in
       record {
-        few = subst (λ (ps : List Dot). length (known_after own ps) ≤ most_actors) known within.few;
-        counter = subst (λ (ps : List Dot). counter_in ps own < greatest_counter) known within.counter;
+        few = subst (λ (ps : List Dot). length (known_after own ps) ≤ max_actors) known within.few;
+        counter = subst (λ (ps : List Dot). counter_in ps own < max_counter) known within.counter;
       }
 
   -- so it is within the limits of its clock

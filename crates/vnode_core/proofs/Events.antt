@@ -5,7 +5,7 @@ use Rattle.std.specs.Option.{option_map_or}
 use Rattle.riak_msgs.specs.declared.Key.{Key}
 use Rattle.riak_msgs.specs.declared.Content.{Content}
 use Rattle.sibling_register.specs.Answers.{Ask as Command, AskReap}
-use Rattle.sibling_register.specs.History.{Deed, Reap as ReapDeed}
+use Rattle.sibling_register.specs.History.{Operation, Reap as ReapDeed}
 use Rattle.sibling_register.specs.Legal.{IsLegal}
 use Rattle.vnode_machine.specs.Asks.{put_command, del_command}
 use Rattle.vnode_machine.specs.Dead.{is_from, first_dead}
@@ -30,10 +30,10 @@ use Rattle.vnode_core.specs.Plans.{View, IsAccepted, IsPrepared, Plans, ask_outc
 use Rattle.vnode_core.specs.Events.{no_key, event_command, event_deed, event_response, Makes, Asks, event_of, IsLoggable, register_event, history_after, AreNext, GoesOnTo, RunIsLegal, IsMadeNew, GateHistoryIsLegal}
 
 -- no check refuses what is accepted
-unrefused : (check : Option ℕ) (deed : Deed Content) (response : Response) (next : State Content) → IsAccepted (unless_refused check (Accepted deed response next))
-    → unless_refused check (Accepted deed response next) ≡ Accepted deed response next
-unrefused None deed response next h = refl
-unrefused (Some number) deed response next h = absurd h
+unrefused : (check : Option ℕ) (operation : Operation Content) (response : Response) (next : State Content) → IsAccepted (unless_refused check (Accepted operation response next))
+    → unless_refused check (Accepted operation response next) ≡ Accepted operation response next
+unrefused None operation response next h = refl
+unrefused (Some number) operation response next h = absurd h
 
 -- a delete that is accepted does something
 busy : (idle : Bool) (made : StepOutcome) → IsAccepted (cond idle (Answered DelDone) made) → (cond idle (Answered DelDone) made ≡ made) × IsAccepted made

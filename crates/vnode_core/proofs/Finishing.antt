@@ -4,14 +4,14 @@ use Rattle.std.specs.Prelude.{Option, Some}
 use Rattle.riak_msgs.specs.declared.Content.{Content}
 use Rattle.actor_epoch.specs.Given.{context_of, pairs_read}
 use Rattle.vnode_machine.specs.Machine.{State, actor_for}
-use Rattle.sibling_register.specs.History.{Deed}
+use Rattle.sibling_register.specs.History.{Operation}
 use Rattle.vnode_machine.specs.Step.{Response, StepOutcome, Accepted}
 use Rattle.vnode_core.specs.declared.ask.Ask.{Ask}
 use Rattle.vnode_core.specs.declared.ask.Ask.TheVariants.{Put, Del, Reap, ReapFirst}
 use Rattle.vnode_core.specs.declared.ask.Answer.{Answer}
 use Rattle.vnode_core.specs.declared.ready.Ready.{Ready}
 use Rattle.vnode_core.specs.declared.vnode.Vnode.TheInside.{Inside}
-use Rattle.vnode_core.specs.Plans.{View, AcceptsPrepared, IsAccepted, IsWrite, ask_outcome, RegistersAsk, Steps, deed_of, response_of}
+use Rattle.vnode_core.specs.Plans.{View, AcceptsPrepared, IsAccepted, IsWrite, ask_outcome, RegistersAsk, Steps, operation_of, response_of}
 use Rattle.vnode_core.specs.Shelves.{Keys, Shelved}
 use Rattle.vnode_core.specs.Vnodes.{IsReached, IsReady, IsReadyFor, IsVnode, state_of, view_of, key_in, writer_of, written_by, state_after, writes_after, tombstones_after}
 use Rattle.vnode_core.proofs.Reached.{registers-ask, reached-after, written-put}
@@ -19,7 +19,7 @@ use Rattle.vnode_core.proofs.Deleting.{written-del, not-malformed}
 
 pub record IsFinished (state : State Content) (ask : Ask) (answer : Answer) (after : State Content) : Type 0 where
   pub step : Steps state ask answer after
-  pub register : RegistersAsk state ask (Accepted (deed_of ask) (response_of answer) after)
+  pub register : RegistersAsk state ask (Accepted (operation_of ask) (response_of answer) after)
   pub reached : IsReached after
 
 -- a vnode in which a command is ready
@@ -67,8 +67,8 @@ finished v is seen sees ask write prepared ready found epochs writes tombstones 
     let here = finished-here v is.reached ask write r ready found next (state-is v is.reached ask write r ready found epochs writes tombstones keys e n m k) in
     subst (λ (w : View). IsFinished w.state ask ready.answer next) sees here
 
-accepted-step : (outcome : StepOutcome) (deed : Deed Content) (response : Response) (next : State Content) → outcome ≡ Accepted deed response next → IsAccepted outcome
-accepted-step outcome deed response next h = subst IsAccepted (sym h) tt
+accepted-step : (outcome : StepOutcome) (operation : Operation Content) (response : Response) (next : State Content) → outcome ≡ Accepted operation response next → IsAccepted outcome
+accepted-step outcome operation response next h = subst IsAccepted (sym h) tt
 
 ready-accepted : (state : State Content) (shelf : Shelved) (ready : Option Ready) (ask : Ask) → IsReadyFor state shelf ready (Some ask) → IsAccepted (ask_outcome state ask)
 ready-accepted state shelf ready (Put put) r = accepted-step _ _ _ _ r.step

@@ -12,7 +12,7 @@ use Rattle.actor_epoch.specs.declared.Dot.{Dot}
 use Rattle.actor_epoch.specs.Dots.{actor_eq, counter_in}
 use Rattle.actor_epoch.specs.Given.{Context, Pairs, context_of}
 use Rattle.vnode_machine.specs.Asks.{put_command}
-use Rattle.vnode_machine.specs.Machine.{State, Stored, stored, is_bad, has_value, is_current, own_of, clock_of, put_check, update_check, pairs_of, room_checks, same_pairs}
+use Rattle.vnode_machine.specs.Machine.{State, Stored, stored, is_bad_context, has_value, matches_clock, own_of, clock_of, put_check, update_check, pairs_of, room_checks, same_pairs}
 use Rattle.vnode_core.specs.declared.refusal.Refusal.{Refusal}
 use Rattle.vnode_core.specs.declared.refusal.Refusal.TheVariants.{NoMemory}
 use Rattle.vnode_core.specs.Checks.{pairs_in, AreRead, is_ahead, last_dot, has_value_in, is_current_in, options_check}
@@ -59,10 +59,10 @@ module _ (state : State Content) (key : Key) (given : Option Context) (seen : Op
   last-is : last ≡ option_map (λ (own : Actor). (let d : Dot = record { actor = own; counter = counter_in (clock_of state key).known own } in d)) (own_of state key)
   last-is = ap last_dot found ∙ last-found (stored state key)
 
-  pub bad-is : is_bad state key given ≡ list_any (is_ahead state.vnode state.last_epoch last) (pairs_in seen)
-  bad-is = ap (is_bad state key) reads ∙ by seen read
+  pub bad-is : is_bad_context state key given ≡ list_any (is_ahead state.vnode state.last_epoch last) (pairs_in seen)
+  bad-is = ap (is_bad_context state key) reads ∙ by seen read
     where
-      by : (seen : Option (List Dot)) → AreRead seen → is_bad state key (option_map Pairs seen) ≡ list_any (is_ahead state.vnode state.last_epoch last) (pairs_in seen)
+      by : (seen : Option (List Dot)) → AreRead seen → is_bad_context state key (option_map Pairs seen) ≡ list_any (is_ahead state.vnode state.last_epoch last) (pairs_in seen)
       by None read = refl
       by (Some pairs) read =
           let runs = sym (ahead-same state.vnode state.last_epoch (own_of state key) (clock_of state key).known pairs)
@@ -81,7 +81,7 @@ module _ (state : State Content) (key : Key) (given : Option Context) (seen : Op
 module _ (state : State Content) (put : PutAsk) (seen : Option (List Dot)) (given : context_of put.context ≡ option_map Pairs seen) (read : AreRead seen)
     (o : Option (Stored Content)) (found : o ≡ stored state put.key)
     (behind : list_any (is_ahead state.vnode state.last_epoch (last_dot o)) (pairs_in seen) ≡ false) where
-  not-bad : is_bad state put.key (context_of put.context) ≡ false
+  not-bad : is_bad_context state put.key (context_of put.context) ≡ false
   not-bad = bad-is state put.key (context_of put.context) seen given read o found ∙ behind
 
   value-is : has_value_in o ≡ has_value state put.key
@@ -91,8 +91,8 @@ module _ (state : State Content) (put : PutAsk) (seen : Option (List Dot)) (give
       by None = refl
       by (Some s) = refl
 
-  current-is : is_current_in o seen ≡ is_current state put.key (context_of put.context)
-  current-is = ap (λ o. is_current_in o seen) found ∙ by seen ∙ ap (is_current state put.key) (sym given)
+  current-is : is_current_in o seen ≡ matches_clock state put.key (context_of put.context)
+  current-is = ap (λ o. is_current_in o seen) found ∙ by seen ∙ ap (matches_clock state put.key) (sym given)
     where
       some : (o : Option (Stored Content)) (pairs : List Dot)
           → is_current_in o (Some pairs) ≡ (is_some o && same_pairs pairs (option_map_or (λ (s : Stored Content). s.clock) o (record { known = []; live = [] })).known)
@@ -103,7 +103,7 @@ module _ (state : State Content) (put : PutAsk) (seen : Option (List Dot)) (give
       none None = refl
       none (Some s) = refl
 
-      by : (seen : Option (List Dot)) → is_current_in (stored state put.key) seen ≡ is_current state put.key (option_map Pairs seen)
+      by : (seen : Option (List Dot)) → is_current_in (stored state put.key) seen ≡ matches_clock state put.key (option_map Pairs seen)
       by None = none (stored state put.key)
       by (Some pairs) = some (stored state put.key) pairs
 

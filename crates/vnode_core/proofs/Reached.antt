@@ -8,17 +8,17 @@ use Rattle.riak_msgs.specs.declared.Key.{Key}
 use Rattle.riak_msgs.specs.declared.Content.{Content}
 use Rattle.riak_msgs.specs.declared.PutAsk.{PutAsk}
 use Rattle.riak_msgs.specs.KeyOrder.{key_cmp}
-use Rattle.sibling_register.specs.History.{Deed, Write, Reap as Forget}
+use Rattle.sibling_register.specs.History.{Operation, Write, Reap as Forget}
 use Rattle.sibling_register.specs.Answers.{Ask as Command, AskPut, AskDel, AskReap}
 use Rattle.actor_epoch.specs.declared.Actor.{Actor}
 use Rattle.actor_epoch.specs.declared.Dot.{Dot}
-use Rattle.actor_epoch.specs.Contexts.{is_rising, is_within_limits, is_of_form}
+use Rattle.actor_epoch.specs.Contexts.{is_rising, is_within_limits, is_well_formed}
 use Rattle.actor_epoch.specs.Given.{Context, Malformed, Pairs, context_of, pairs_read}
-use Rattle.dvv_set.specs.Clocks.{Meaning, discard, event}
+use Rattle.dvv_set.specs.Clocks.{DotState, discard, event}
 use Rattle.dvv_set.specs.Held.{IsWithin, known_after, known_with, without}
 use Rattle.vnode_machine.specs.Dead.{first_dead}
 use Rattle.vnode_machine.specs.Asks.{put_command, del_command}
-use Rattle.vnode_machine.specs.Machine.{State, Stored, stored, clock_of, actor_for, pairs_of, put_check, changed_by, updated}
+use Rattle.vnode_machine.specs.Machine.{State, Stored, stored, clock_of, actor_for, pairs_of, put_check, apply_operation, updated}
 use Rattle.vnode_machine.specs.Replay.{IsWithinLimits}
 use Rattle.vnode_machine.specs.Step.{Response, StepOutcome, Answered, Accepted, ReapKept, PutDone, outcome, unless_refused}
 use Rattle.vnode_machine.specs.Registers.{IsNext, next_event}
@@ -53,7 +53,7 @@ module _ (state : State Content) (is : IsReached state) where
       subst (λ (s : State Content). IsFormed (stored s key)) (sym is.after.is)
       ((all_formed is.id is.opened is.limits is.history is.after.replays).keys key)
 
-  pub of-form : (key : Key) (s : Stored Content) → stored state key ≡ Some s → is_of_form s.clock.known ≡ true
+  pub of-form : (key : Key) (s : Stored Content) → stored state key ≡ Some s → is_well_formed s.clock.known ≡ true
   of-form key s h = form-whole s (subst IsFormed h (formed key))
 
   pub rising-stored : (key : Key) (s : Stored Content) → stored state key ≡ Some s → is_rising s.clock.known ≡ true
@@ -75,11 +75,11 @@ module _ (state : State Content) (is : IsReached state) where
   registers command result h = subst (λ r. Registers state command r) h (step_is_registers state command limits-now)
 
   -- and the next state comes after some history too
-  pub reached-next : (command : Command Content Context) (deed : Deed Content) (response : Response) (next : State Content)
-      → outcome state command ≡ Accepted deed response next → IsReached next
-  reached-next command deed response next h =
-      let n : IsNext is.id is.opened is.history command deed response next = registers command (Accepted deed response next) h is.id is.opened is.history is.after in
-      record { id = is.id; opened = is.opened; history = next_event is.id is.opened is.history command deed ∷ is.history; limits = is.limits; after = n.leads }
+  pub reached-next : (command : Command Content Context) (operation : Operation Content) (response : Response) (next : State Content)
+      → outcome state command ≡ Accepted operation response next → IsReached next
+  reached-next command operation response next h =
+      let n : IsNext is.id is.opened is.history command operation response next = registers command (Accepted operation response next) h is.id is.opened is.history is.after in
+      record { id = is.id; opened = is.opened; history = next_event is.id is.opened is.history command operation ∷ is.history; limits = is.limits; after = n.leads }
 
   -- of what the vnode is asked
   pub registers-ask : (ask : Ask) (result : StepOutcome) → ask_outcome state ask ≡ result → RegistersAsk state ask result
@@ -125,20 +125,20 @@ pub written-put : (state : State Content) → IsReached state → (put : PutAsk)
     → written state.keys put.key seen (actor_for state put.key) (Some put.content) ≡ updated state put.key (pairs_of (context_of put.context)) (Some put.content)
 written-put state is put seen read =
     let own : Actor = actor_for state put.key in
-    let clock : Meaning (Option Content) = clock_of state put.key in
+    let clock : DotState (Option Content) = clock_of state put.key in
     let pairs : pairs_in seen ≡ pairs_of (context_of put.context) = ap pairs_in (sym read) ∙ sym (pairs-read (context_of put.context)) in
-    ap (λ (m : Meaning (Option Content)). insert_key key_cmp put.key (let s : Stored Content = record { own = Some own; clock = event own (Some put.content) m } in s) state.keys)
+    ap (λ (m : DotState (Option Content)). insert_key key_cmp put.key (let s : Stored Content = record { own = Some own; clock = event own (Some put.content) m } in s) state.keys)
     (without-pairs seen clock (rising-at state is put.key) ∙ ap (λ ps. discard ps clock) pairs)
 
 -- what is known after a write
-pub known-event : {V : Type 0} (own : Actor) (value : V) (seen : Option (List Dot)) (clock : Meaning V) → (event own value (without seen clock)).known ≡ known_after own (known_with seen clock.known)
+pub known-event : {V : Type 0} (own : Actor) (value : V) (seen : Option (List Dot)) (clock : DotState V) → (event own value (without seen clock)).known ≡ known_after own (known_with seen clock.known)
 known-event own value None clock = refl
 known-event own value (Some pairs) clock = refl
 
 -- a put that the machine accepts
 module _ (state : State Content) (is : IsReached state) (put : PutAsk) (accepted : put_check state (put_command put) ≡ None) where
   abbrev next : State Content
-  next = changed_by state put.key (context_of put.context) (Write put.content)
+  next = apply_operation state put.key (context_of put.context) (Write put.content)
 
   pub steps-put : outcome state (AskPut (put_command put)) ≡ Accepted (Write put.content) (PutDone (put_reply next (put_command put))) next
   steps-put = ap (λ check. unless_refused check (Accepted (Write put.content) (PutDone (put_reply next (put_command put))) next)) accepted
@@ -146,7 +146,7 @@ module _ (state : State Content) (is : IsReached state) (put : PutAsk) (accepted
   abbrev own : Actor
   own = actor_for state put.key
 
-  abbrev clock : Meaning (Option Content)
+  abbrev clock : DotState (Option Content)
   clock = clock_of state put.key
 
   -- it is stored next
@@ -171,15 +171,15 @@ module _ (state : State Content) (is : IsReached state) (put : PutAsk) (accepted
   module _ (seen : Option (List Dot)) (given : context_of put.context ≡ option_map Pairs seen) where
     after-is : event own (Some put.content) (without seen clock) ≡ next_stored.clock
     after-is =
-        ap (λ (m : Meaning (Option Content)). event own (Some put.content) m)
+        ap (λ (m : DotState (Option Content)). event own (Some put.content) m)
         (without-pairs seen clock (rising-at state is put.key) ∙ ap (λ ps. discard ps clock) (sym (ap pairs_of given ∙ pairs-given seen)))
 
     -- what is known next is of the form
-    pub form-after : is_of_form (known_after own (known_with seen clock.known)) ≡ true
-    form-after = ap is_of_form (sym (known-event own (Some put.content) seen clock) ∙ ap (λ (m : Meaning (Option Content)). m.known) after-is) ∙ form-whole next_stored form-put
+    pub form-after : is_well_formed (known_after own (known_with seen clock.known)) ≡ true
+    form-after = ap is_well_formed (sym (known-event own (Some put.content) seen clock) ∙ ap (λ (m : DotState (Option Content)). m.known) after-is) ∙ form-whole next_stored form-put
 
     -- and the reply shows it
     pub reply-put : reply_after (event own (Some put.content) (without seen clock)) put ≡ put_reply next (put_command put)
     reply-put =
-        ap (λ (m : Meaning (Option Content)). reply_after m put) after-is
+        ap (λ (m : DotState (Option Content)). reply_after m put) after-is
         ∙ ap (λ o. reply_after (clock_in o) put) (sym stored-next)

@@ -28,15 +28,15 @@ no-memory : (vnode last_epoch : ℕ) (history : History) (put : PutAsk) (result 
     → MayGive (naming vnode last_epoch) history (AskPut (put_command put)) (Answers (ToldRefused no_memory))
 no-memory vnode last_epoch history put (Refused number) h is = absurd h
 no-memory vnode last_epoch history put (Answered response) h is = absurd h
-no-memory vnode last_epoch history put (Accepted deed response next) h is = let g = is.given in (g.0, g.1, inr (rw g.2.0 refl))
+no-memory vnode last_epoch history put (Accepted operation response next) h is = let g = is.given in (g.0, g.1, inr (rw g.2.0 refl))
 
 -- and where it accepts a delete
 no-memory-del : (vnode last_epoch : ℕ) (history : History) (del : DelAsk) (result : StepOutcome) → IsAccepted result → IsRegisters vnode last_epoch history (AskDel (del_command del)) result
     → MayGive (naming vnode last_epoch) history (AskDel (del_command del)) (Answers (ToldRefused no_memory))
 no-memory-del vnode last_epoch history del (Refused number) h is = absurd h
 no-memory-del vnode last_epoch history del (Answered response) h is = absurd h
-no-memory-del vnode last_epoch history del (Accepted deed response next) h is =
-    by (does_nothing history (del_command del)) (next_event vnode last_epoch history (AskDel (del_command del)) deed) is.told is.given
+no-memory-del vnode last_epoch history del (Accepted operation response next) h is =
+    by (does_nothing history (del_command del)) (next_event vnode last_epoch history (AskDel (del_command del)) operation) is.told is.given
   where
     by : (b : Bool) (event : Event Content Context) (told : Told ℕ)
         → MatchBool b (◌≡◌ {A = Outcome Content Context} (Accepts event told) (Answers Done))

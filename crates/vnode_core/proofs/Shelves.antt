@@ -15,7 +15,7 @@ use Rattle.riak_msgs.specs.declared.Content.{Content}
 use Rattle.riak_msgs.specs.KeyOrder.{key_cmp}
 use Rattle.actor_epoch.specs.declared.Actor.{Actor}
 use Rattle.actor_epoch.specs.declared.Dot.{Dot}
-use Rattle.dvv_set.specs.Clocks.{Meaning, discard, event}
+use Rattle.dvv_set.specs.Clocks.{DotState, discard, event}
 use Rattle.dvv_set.specs.Held.{IsWithin, IsReady}
 use Rattle.vnode_machine.specs.Machine.{Stored}
 use Rattle.vnode_machine.proofs.Keys.{key_cmp_total}
@@ -88,21 +88,21 @@ module _ (seen : Option (List Dot)) (actor : Actor) where
   fits_at items key i h fits =
       let at = stands items key i h in
       let clock : clock_at (map entry_of items) key ≡ at.stored.clock.meaning = let o = at.find in rw o refl in
-      record { stored = at.stored; get = at.get; fits = subst (λ (m : Meaning (Option Content)). IsWithin m.known seen actor) clock fits }
+      record { stored = at.stored; get = at.get; fits = subst (λ (m : DotState (Option Content)). IsWithin m.known seen actor) clock fits }
 
   pub ready_at : (items : List StoredKey) (i : ℕ) (new : StoredKey) → i < length items → IsReady new.clock seen actor → ReadyAt (set items i new) i seen actor
   ready_at items i new h ready = record { stored = new; get = slice_get-set items i new h; ready = ready }
 
   -- a new key's clock is empty
-  pub fits_new : (items : List StoredKey) (key : Key) (i : ℕ) (new : Meaning (Option Content)) → IsTrue (is_sorted key_cmp (map entry_of items))
+  pub fits_new : (items : List StoredKey) (key : Key) (i : ℕ) (new : DotState (Option Content)) → IsTrue (is_sorted key_cmp (map entry_of items))
       → place_in key (map entry_of items) ≡ New i → new ≡ empty → IsWithin (clock_at (map entry_of items) key).known seen actor → IsWithin new.known seen actor
   fits_new items key i new sorted h is fits =
       let none = found_none items key i sorted h in
       let clock : clock_at (map entry_of items) key ≡ empty = rw (sym none) refl in
-      subst (λ (m : Meaning (Option Content)). IsWithin m.known seen actor) (clock ∙ sym is) fits
+      subst (λ (m : DotState (Option Content)). IsWithin m.known seen actor) (clock ∙ sym is) fits
 
 -- a write at an actor, of which this is left of a clock
-module _ (left : Meaning (Option Content) → Meaning (Option Content)) (actor : Actor) (value : Option Content) where
+module _ (left : DotState (Option Content) → DotState (Option Content)) (actor : Actor) (value : Option Content) where
   abbrev written_to : Keys → Key → Keys
   written_to keys key = put key_cmp key (record { own = Some actor; clock = event actor value (left (clock_at keys key)) }) keys
 
@@ -154,7 +154,7 @@ inserted b after xs ys t is = is ∙ ap (λ c. cond c xs ys) t
 pub overwritten_new : (keys : Keys) (key : Key) (actor : Actor) (value : Option Content) → find key_cmp key keys ≡ None → written keys key None actor value ≡ overwritten keys key actor value
 overwritten_new keys key actor value none =
     let was : clock_at keys key ≡ empty = rw none refl in
-    let s : Meaning (Option Content) → Stored Content = λ m. record { own = Some actor; clock = event actor value m } in
+    let s : DotState (Option Content) → Stored Content = λ m. record { own = Some actor; clock = event actor value m } in
     ap (λ m. put key_cmp key (s m) keys) (was ∙ (λ i. discard (sym was i).known (sym was i)))
 
 -- one fact of a value that there is for another

@@ -9,7 +9,7 @@ use Rattle.riak_msgs.specs.declared.GetReply.{GetReply}
 use Rattle.actor_epoch.specs.Contexts.{encoding}
 use Rattle.actor_epoch.specs.Given.{Context, Malformed, Pairs, context_of}
 use Rattle.vnode_machine.specs.Asks.{get_command}
-use Rattle.vnode_machine.specs.Machine.{State, Stored, stored, is_current}
+use Rattle.vnode_machine.specs.Machine.{State, Stored, stored, matches_clock}
 use Rattle.vnode_machine.specs.Replies.{get_reply, shown}
 use Rattle.vnode_machine.proofs.Invariants.{clock_in}
 use Rattle.vnode_core.specs.Replies.{nothing, is_its, siblings_of}
@@ -22,7 +22,7 @@ list_any-map p f (x ∷ xs) = ap (λ b. p (f x) || b) (list_any-map p f xs)
 pub get-absent : (state : State Content) (ask : GetAsk) → stored state ask.key ≡ None → get_reply state (get_command ask) ≡ nothing
 get-absent state ask h = rw h refl
 
-current-its : (state : State Content) (key : Key) (s : Stored Content) (given : Option Context) → stored state key ≡ Some s → is_current state key given ≡ is_its s given
+current-its : (state : State Content) (key : Key) (s : Stored Content) (given : Option Context) → stored state key ≡ Some s → matches_clock state key given ≡ is_its s given
 current-its state key s None h = refl
 current-its state key s (Some Malformed) h = refl
 current-its state key s (Some (Pairs pairs)) h = rw h refl

@@ -9,7 +9,7 @@ use Rattle.sibling_register.specs.Refusals.{match_found, not_found, modified, fi
 use Rattle.actor_epoch.specs.declared.Actor.{Actor}
 use Rattle.actor_epoch.specs.declared.Dot.{Dot}
 use Rattle.actor_epoch.specs.Dots.{actor_eq, counter_in}
-use Rattle.actor_epoch.specs.Contexts.{is_rising, is_of_form}
+use Rattle.actor_epoch.specs.Contexts.{is_rising, is_well_formed}
 use Rattle.vnode_machine.specs.Machine.{State, Stored, stored, same_pairs}
 
 abbrev pub pairs_in : Option (List Dot) → List Dot
@@ -18,7 +18,7 @@ pairs_in seen = unwrap_or seen []
 -- pairs that were read are of the form
 abbrev pub AreRead : Option (List Dot) → Type 0
 AreRead None = Unit {0}
-AreRead (Some pairs) = IsTrue (is_of_form pairs)
+AreRead (Some pairs) = IsTrue (is_well_formed pairs)
 
 -- a pair that no vnode of this id can have given, which gave this epoch last and this dot last in the key's life
 abbrev pub is_ahead : (vnode last_epoch : ℕ) → Option Dot → Dot → Bool

@@ -3,13 +3,13 @@
 use Rattle.std.specs.Prelude.{◌≡◌, List, [], ◌∷◌, ℕ, Option, Some, IsTrue, unwrap_or}
 use Rattle.riak_msgs.specs.declared.Key.{Key}
 use Rattle.riak_msgs.specs.declared.Content.{Content}
-use Rattle.sibling_register.specs.History.{Event as RegisterEvent, Deed, Write, Tombstone, Reap as ReapDeed}
+use Rattle.sibling_register.specs.History.{Event as RegisterEvent, Operation, Write, Tombstone, Reap as ReapDeed}
 use Rattle.sibling_register.specs.Answers.{Ask as Command, AskPut, AskDel, AskReap}
 use Rattle.sibling_register.specs.Legal.{IsLegal}
 use Rattle.actor_epoch.specs.Given.{Context, context_of}
 use Rattle.vnode_machine.specs.Asks.{put_command, del_command}
 use Rattle.vnode_machine.specs.Dead.{is_from, first_dead}
-use Rattle.vnode_machine.specs.Machine.{State, opening, changed_by}
+use Rattle.vnode_machine.specs.Machine.{State, opening, apply_operation}
 use Rattle.vnode_machine.specs.Registers.{next_event, IsNext}
 use Rattle.vnode_machine.specs.Replay.{History, naming, IsWithinLimits, IsAfter}
 use Rattle.vnode_machine.specs.Replies.{put_reply}
@@ -32,7 +32,7 @@ event_command (Put put reply) = AskPut (put_command put)
 event_command (Del del) = AskDel (del_command del)
 event_command (Reap key) = AskReap key
 
-abbrev pub event_deed : Event → Deed Content
+abbrev pub event_deed : Event → Operation Content
 event_deed (Put put reply) = Write put.content
 event_deed (Del del) = Tombstone
 event_deed (Reap key) = ReapDeed
@@ -76,7 +76,7 @@ no_key = record { bucket_type = []; bucket = []; key = [] }
 -- the event that an ask makes which the machine accepts in this state
 abbrev pub event_of : State Content → Ask → Event
 event_of state (asks.Put put) =
-    Put put (put_reply (changed_by state put.key (context_of put.context) (Write put.content)) (put_command put))
+    Put put (put_reply (apply_operation state put.key (context_of put.context) (Write put.content)) (put_command put))
 event_of state (asks.Del del) = Del del
 event_of state (asks.Reap key) = Reap key
 event_of state (asks.ReapFirst from) = Reap (unwrap_or (first_dead state from) no_key)

@@ -3,7 +3,7 @@ use Rattle.std.specs.Prelude.{◌≡◌, Option, Some, None, Result, Ok, Err}
 use Rattle.std.specs.Option.{option_map_or}
 use Rattle.riak_msgs.specs.declared.Key.{Key}
 use Rattle.riak_msgs.specs.declared.Content.{Content}
-use Rattle.sibling_register.specs.History.{Deed, Write, Tombstone, Reap as Forget}
+use Rattle.sibling_register.specs.History.{Operation, Write, Tombstone, Reap as Forget}
 use Rattle.sibling_register.specs.Answers.{Ask as Command, AskPut, AskDel, AskReap}
 use Rattle.actor_epoch.specs.Given.{Context}
 use Rattle.vnode_machine.specs.Asks.{put_command, del_command}
@@ -38,11 +38,11 @@ ask_outcome state (Reap key) = outcome state (AskReap key)
 ask_outcome state (ReapFirst from) = option_map_or (λ key. outcome state (AskReap key)) (first_dead state from) (Answered ReapKept)
 
 -- what it does where it is accepted
-abbrev pub deed_of : Ask → Deed Content
-deed_of (Put put) = Write put.content
-deed_of (Del del) = Tombstone
-deed_of (Reap key) = Forget
-deed_of (ReapFirst from) = Forget
+abbrev pub operation_of : Ask → Operation Content
+operation_of (Put put) = Write put.content
+operation_of (Del del) = Tombstone
+operation_of (Reap key) = Forget
+operation_of (ReapFirst from) = Forget
 
 -- a command that writes
 abbrev pub IsWrite : Ask → Type 0
@@ -65,7 +65,7 @@ response_of (answers.Reaped reaped) = reap_response reaped
 abbrev pub IsAccepted : StepOutcome → Type 0
 IsAccepted (Refused number) = ⊥
 IsAccepted (Answered response) = ⊥
-IsAccepted (Accepted deed response next) = Unit {0}
+IsAccepted (Accepted operation response next) = Unit {0}
 
 -- the change is the command, it is what is prepared, and the machine accepts it
 pub record IsPrepared (vnode : View) (ask : Ask) (change : Ask) : Type 0 where
@@ -103,7 +103,7 @@ Refuses state ask refusal = ask_outcome state ask ≡ Refused (number_of refusal
 
 -- finishing a change makes the machine's step
 abbrev pub Steps : State Content → Ask → Answer → State Content → Type 0
-Steps old change answer new = ask_outcome old change ≡ Accepted (deed_of change) (response_of answer) new
+Steps old change answer new = ask_outcome old change ≡ Accepted (operation_of change) (response_of answer) new
 
 -- the register may do so with its command, at each history that the vnode may have had
 abbrev pub Registers : State Content → Command Content Context → StepOutcome → Type 0

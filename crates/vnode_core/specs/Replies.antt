@@ -10,7 +10,7 @@ use Rattle.riak_msgs.specs.declared.PutAsk.{PutAsk}
 use Rattle.riak_msgs.specs.declared.PutReply.{PutReply}
 use Rattle.actor_epoch.specs.Contexts.{encoding}
 use Rattle.actor_epoch.specs.Given.{Context, Malformed, Pairs, context_of}
-use Rattle.dvv_set.specs.Clocks.{Meaning}
+use Rattle.dvv_set.specs.Clocks.{DotState}
 use Rattle.dvv_set.specs.References.{referred}
 use Rattle.vnode_machine.specs.Machine.{Stored, same_pairs}
 use Rattle.vnode_machine.specs.Replies.{shown}
@@ -24,7 +24,7 @@ abbrev pub nothing_after : PutReply
 nothing_after = record { contents = []; context = [] }
 
 -- the reply of a put, by the clock of its key after it
-abbrev pub reply_after : Meaning (Option Content) → PutAsk → PutReply
+abbrev pub reply_after : DotState (Option Content) → PutAsk → PutReply
 reply_after clock put =
     if put.return_body || put.return_head
     then record { contents = map (λ entry. shown (not put.return_body) entry.1) clock.live; context = encoding clock.known }
@@ -35,7 +35,7 @@ abbrev pub filled : Content → Option (Bor (Option Content)) → Option Content
 filled content sibling = unwrap_or (referred sibling) (Some content)
 
 -- the clock of a key that was found or not
-abbrev pub clock_found : Option (Stored Content) → Meaning (Option Content)
+abbrev pub clock_found : Option (Stored Content) → DotState (Option Content)
 clock_found found = option_map_or (λ s. s.clock) found (record { known = []; live = [] })
 
 -- whether a given context is the stored key's

@@ -9,7 +9,7 @@ use Rattle.riak_msgs.specs.declared.Content.{Content}
 use Rattle.riak_msgs.specs.KeyOrder.{key_cmp}
 use Rattle.actor_epoch.specs.declared.Actor.{Actor}
 use Rattle.actor_epoch.specs.declared.Dot.{Dot}
-use Rattle.dvv_set.specs.Clocks.{Meaning, discard, event}
+use Rattle.dvv_set.specs.Clocks.{DotState, discard, event}
 use Rattle.dvv_set.specs.Held.{Held as Clock, IsWithin, IsReady, without}
 use Rattle.vnode_machine.specs.Machine.{Stored}
 use Rattle.vnode_core.specs.declared.place.Place.{Place}
@@ -30,10 +30,10 @@ abbrev pub entry_of : StoredKey → Key × Stored Content
 entry_of stored = (stored.key, stored_of stored)
 
 -- the clock of an absent key
-abbrev pub empty : Meaning (Option Content)
+abbrev pub empty : DotState (Option Content)
 empty = record { known = []; live = [] }
 
-abbrev pub clock_at : Keys → Key → Meaning (Option Content)
+abbrev pub clock_at : Keys → Key → DotState (Option Content)
 clock_at keys key = option_map_or (λ s. s.clock) (find key_cmp key keys) empty
 
 -- the keys after a write at this actor, which discards what its context has seen

@@ -8,7 +8,7 @@ use Rattle.actor_epoch.specs.Given.{Context, context_of, pairs_read}
 use Rattle.actor_epoch.specs.declared.Actor.{Actor}
 use Rattle.dvv_set.specs.Clocks.{join}
 use Rattle.vnode_machine.specs.Dead.{reaped}
-use Rattle.vnode_machine.specs.Machine.{State, is_held, clock_of, actor_for, epoch_after, update_check, changed_by, counted}
+use Rattle.vnode_machine.specs.Machine.{State, is_held, clock_of, actor_for, epoch_after, update_check, apply_operation, counted}
 use Rattle.vnode_machine.specs.Replay.{IsWithinLimits, IsAfter}
 use Rattle.vnode_machine.specs.Step.{DelDone, Answered}
 use Rattle.vnode_core.specs.declared.ask.Ask.{Ask}
@@ -72,8 +72,8 @@ HasRoomFor shelf (ReapFirst from) actor = ⊥
 
 -- the state after a command that is accepted
 abbrev pub state_after : State Content → Ask → State Content
-state_after state (Put put) = changed_by state put.key (context_of put.context) (Write put.content)
-state_after state (Del del) = changed_by state del.key (context_of del.context) Tombstone
+state_after state (Put put) = apply_operation state put.key (context_of put.context) (Write put.content)
+state_after state (Del del) = apply_operation state del.key (context_of del.context) Tombstone
 state_after state (Reap key) = reaped state key
 state_after state (ReapFirst from) = after_first_reap state from
 

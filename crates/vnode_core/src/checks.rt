@@ -18,7 +18,7 @@ use crate::given;
 use crate::ready::Writer;
 use crate::refusal::Refusal;
 use crate::stored_key::StoredKey;
-use actor_epoch::{Actor, Context, Dot, GREATEST_COUNTER, GREATEST_EPOCH, MOST_ACTORS};
+use actor_epoch::{Actor, Context, Dot, MAX_COUNTER, MAX_EPOCH, MAX_ACTORS};
 use riak_msgs::PutAsk;
 
 /// The most siblings of a key.
@@ -46,14 +46,14 @@ fn has_value(found: Option<&StoredKey>) -> bool
 }
 
 /// Whether the context is the key's.
-fn is_current(found: Option<&StoredKey>, context: Option<&Context<'_>>) -> bool
+fn matches_clock(found: Option<&StoredKey>, context: Option<&Context<'_>>) -> bool
     ensures { result ≡ is_current_in (option_map (λ key. stored_of key.now) found.entry) (seen_in context.entry) }
 {
     match found {
         None => false,
         Some(key) => match context {
             None => false,
-            Some(context) => key.is_current(context),
+            Some(context) => key.matches_clock(context),
         },
     }
 }
@@ -76,7 +76,7 @@ pub(crate) fn check_options(
         if !has_value(found) {
             return Err(Refusal::NotFound);
         }
-        if !is_current(found, context) {
+        if !matches_clock(found, context) {
             return Err(Refusal::Modified);
         }
     }
@@ -91,10 +91,10 @@ fn check_stored(key: &StoredKey, context: Option<&Context<'_>>) -> Result<(), Re
     if MAX_SIBLINGS <= key.clock.uncovered(context) {
         return Err(Refusal::TooManySiblings);
     }
-    if MOST_ACTORS < key.clock.needed(context, key.actor).actors {
+    if MAX_ACTORS < key.clock.needed(context, key.actor).actors {
         return Err(Refusal::ClockFull);
     }
-    if key.clock.counter_of(key.actor) == GREATEST_COUNTER {
+    if key.clock.counter_of(key.actor) == MAX_COUNTER {
         return Err(Refusal::CounterUsedUp);
     }
     Ok(())
@@ -104,12 +104,12 @@ fn check_stored(key: &StoredKey, context: Option<&Context<'_>>) -> Result<(), Re
 /// run ahead.
 fn check_new(id: u64, last_epoch: u32, context: Option<&Context<'_>>) -> Result<(), Refusal>
     ensures given { (state : State Content) (k : Key) → IsFound state k id last_epoch None (pairs_in (seen_in context.entry)) → GivenBy result (first_of (room_checks state k (pairs_in (seen_in context.entry)))) }
-    ensures left { OnOk result (last_epoch < GREATEST_EPOCH) }
+    ensures left { OnOk result (last_epoch < MAX_EPOCH) }
 {
-    if MOST_ACTORS <= given::len(context) {
+    if MAX_ACTORS <= given::len(context) {
         return Err(Refusal::ClockFull);
     }
-    if last_epoch == GREATEST_EPOCH {
+    if last_epoch == MAX_EPOCH {
         return Err(Refusal::EpochsUsedUp);
     }
     Ok(())
@@ -144,7 +144,7 @@ pub(crate) fn check_room(
 
 /// Who begins the next life.
 fn first_writer(id: u64, last_epoch: u32) -> Writer
-    requires { last_epoch < GREATEST_EPOCH }
+    requires { last_epoch < MAX_EPOCH }
     ensures { result ≡ record { actor = record { vnode = id; epoch = last_epoch + 1 }; last_epoch = last_epoch + 1 } }
 {
     let epoch = last_epoch + 1;
@@ -158,10 +158,10 @@ fn first_writer(id: u64, last_epoch: u32) -> Writer
 pub(crate) fn check_overwrite(key: &StoredKey) -> Result<(), Refusal>
     ensures { (state : State Content) (k : Key) → stored state k ≡ Some (stored_of key.now) → GivenBy result (first_of (room_checks state k (join key.now.clock.meaning))) }
 {
-    if MOST_ACTORS < key.clock.needed(None, key.actor).actors {
+    if MAX_ACTORS < key.clock.needed(None, key.actor).actors {
         return Err(Refusal::ClockFull);
     }
-    if key.clock.counter_of(key.actor) == GREATEST_COUNTER {
+    if key.clock.counter_of(key.actor) == MAX_COUNTER {
         return Err(Refusal::CounterUsedUp);
     }
     Ok(())

@@ -19,7 +19,7 @@ pub(crate) fn len(context: Option<&Context<'_>>) -> usize
 
 /// Whether some pair can't have been given by a vnode of this id, which gave this epoch last and this dot last in the
 /// key's life.
-pub(crate) fn runs_ahead(
+pub(crate) fn names_unissued_dot(
     context: Option<&Context<'_>>,
     vnode: u64,
     last_epoch: u32,

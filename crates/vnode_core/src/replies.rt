@@ -2,7 +2,7 @@
 
 ghost use Rattle.std.specs.Prelude.{◌≡◌, ◌||◌, Some, IfOk, IsTrue, map};
 ghost use Rattle.std.specs.Option.{option_map};
-ghost use Rattle.actor_epoch.specs.Contexts.{encoding, is_of_form};
+ghost use Rattle.actor_epoch.specs.Contexts.{encoding, is_well_formed};
 ghost use Rattle.dvv_set.specs.Clocks.{event};
 ghost use Rattle.dvv_set.specs.Held.{IsWithin, known_with, known_after, without, pairs_of as seen_in};
 ghost use Rattle.dvv_set.specs.References.{referred, with_values};
@@ -69,7 +69,7 @@ fn context_of<V: MadeWith<Global> + Drop>(
     alloc: Global,
     clock: &Clock<V>,
 ) -> Result<Bytes, AllocError>
-    requires { IsTrue (is_of_form clock.now.meaning.known) }
+    requires { IsTrue (is_well_formed clock.now.meaning.known) }
     ensures { IfOk result (λ bytes. bytes ≡ encoding clock.now.meaning.known) }
 {
     let mut pairs = Vec::new(alloc);
@@ -84,7 +84,7 @@ fn context_of<V: MadeWith<Global> + Drop>(
 /// tombstones, it shows no sibling, and the context where the get asks for it. Where it isn't, and the get gives the
 /// key's own context, it tells that nothing changed.
 pub(crate) fn siblings(alloc: Global, key: &StoredKey, ask: &GetAsk) -> Result<GetReply, AllocError>
-    requires { IsTrue (is_of_form key.now.clock.meaning.known) }
+    requires { IsTrue (is_well_formed key.now.clock.meaning.known) }
     ensures { IfOk result (λ reply. reply ≡ siblings_of (stored_of key.now) ask.now) }
 {
     let mut reply = absent(alloc);
@@ -190,7 +190,7 @@ pub(crate) fn put_reply(
     actor: Actor,
 ) -> Result<PutReply, AllocError>
     requires within { IsWithin (clock_found (option_map (λ key. stored_of key.now) found)).known (seen_in context) actor }
-    requires form { IsTrue (is_of_form (known_after actor (known_with (seen_in context) (clock_found (option_map (λ key. stored_of key.now) found)).known))) }
+    requires form { IsTrue (is_well_formed (known_after actor (known_with (seen_in context) (clock_found (option_map (λ key. stored_of key.now) found)).known))) }
     ensures { IfOk result (λ reply. reply ≡ reply_after (event actor (Some put.now.content) (without (seen_in context.entry) (clock_found (option_map (λ key. stored_of key.now) found.entry)))) put.now) }
 {
     if !shows_siblings(put) {

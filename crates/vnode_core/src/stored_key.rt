@@ -37,7 +37,7 @@ impl StoredKey {
     }
 
     /// Whether a context has the pairs that the clock knows.
-    pub(crate) fn is_current(&self, context: &Context<'_>) -> bool
+    pub(crate) fn matches_clock(&self, context: &Context<'_>) -> bool
         ensures { result ≡ same_pairs context.now self.now.clock.meaning.known }
     {
         let mut known = self.clock.join();
@@ -60,7 +60,7 @@ impl StoredKey {
     {
         match Context::read(given) {
             None => false,
-            Some(context) => self.is_current(&context),
+            Some(context) => self.matches_clock(&context),
         }
     }
 

@@ -11,7 +11,7 @@ ghost use Rattle.vnode_machine.specs.Replay.{IsAfter};
 ghost use Rattle.vnode_machine.specs.Replies.{put_reply};
 ghost use Rattle.vnode_machine.specs.Step.{outcome, Answered, Accepted, GetDone};
 ghost use Rattle.vnode_core.specs.declared.ask.Ask.TheVariants.{Put, Del};
-ghost use Rattle.vnode_core.specs.Plans.{IsPrepared, Plans, Refuses, Registers, RegistersAsk, Steps, planned, deed_of, response_of};
+ghost use Rattle.vnode_core.specs.Plans.{IsPrepared, Plans, Refuses, Registers, RegistersAsk, Steps, planned, operation_of, response_of};
 ghost use Rattle.vnode_core.specs.Plans.{AcceptsPrepared, IsWrite};
 ghost use Rattle.vnode_core.specs.Readiness.{plan_in};
 ghost use Rattle.vnode_core.specs.Refusals.{GivenBy};
@@ -170,7 +170,7 @@ impl Vnode {
     {
         let last_epoch = self.epochs.last();
         let found = self.shelf.get(&put.key);
-        if given::runs_ahead(context, self.id, last_epoch, last_of(found)) {
+        if given::names_unissued_dot(context, self.id, last_epoch, last_of(found)) {
             return Err(Refusal::BadContext);
         }
         check_options(put, found, context)?;
@@ -184,7 +184,7 @@ impl Vnode {
     {
         let last_epoch = self.epochs.last();
         let found = self.shelf.get(key);
-        if given::runs_ahead(Some(context), self.id, last_epoch, last_of(found)) {
+        if given::names_unissued_dot(Some(context), self.id, last_epoch, last_of(found)) {
             return Err(Refusal::BadContext);
         }
         check_room(self.id, last_epoch, found, Some(context))
@@ -347,7 +347,7 @@ impl Vnode {
         requires { self.old.prepared ≡ Some change }
         ensures step { Steps self.old.state change result self.new.state }
         ensures ended { self.new.prepared ≡ None }
-        ensures register { RegistersAsk self.old.state change (Accepted (deed_of change) (response_of result) self.new.state) }
+        ensures register { RegistersAsk self.old.state change (Accepted (operation_of change) (response_of result) self.new.state) }
     {
         match change.ask {
             Ask::Reap(key) => self.finish_reap(key),
@@ -362,7 +362,7 @@ impl Vnode {
         requires prepared { self.old.prepared ≡ Some ask }
         ensures step { Steps self.old.state ask result self.new.state }
         ensures ended { self.new.prepared ≡ None }
-        ensures register { RegistersAsk self.old.state ask (Accepted (deed_of ask) (response_of result) self.new.state) }
+        ensures register { RegistersAsk self.old.state ask (Accepted (operation_of ask) (response_of result) self.new.state) }
     {
         self.prepared = GhostValue::none(); // it is made now
         let Some(Ready { writer, answer }) = self.ready.take() else {

@@ -11,9 +11,9 @@ use Rattle.sibling_register.specs.Answers.{NamesNone}
 use Rattle.actor_epoch.specs.declared.Actor.{Actor}
 use Rattle.actor_epoch.specs.declared.Dot.{Dot}
 use Rattle.actor_epoch.specs.Dots.{actor_eq, counter_in}
-use Rattle.actor_epoch.specs.Contexts.{is_of_form}
+use Rattle.actor_epoch.specs.Contexts.{is_well_formed}
 use Rattle.actor_epoch.specs.Given.{Context, Malformed, Pairs}
-use Rattle.vnode_machine.specs.Machine.{Stored, State, stored, runs_ahead, is_bad}
+use Rattle.vnode_machine.specs.Machine.{Stored, State, stored, names_unissued_dot, is_bad_context}
 use Rattle.vnode_machine.specs.Replay.{replay, naming, HasReplay, IsWithinLimits}
 use Rattle.vnode_machine.proofs.Invariants.{actor_of, H, HasGrown, IsEarlier}
 use Rattle.vnode_machine.proofs.Bases.{IsOwned}
@@ -84,12 +84,12 @@ module _ (v l : ℕ) (limits : IsWithinLimits v l) (history : H) (replays : HasR
   state = replay v l history
 
   -- the context of a position is not bad
-  good : (q : H) → HasReplay v l q → is_of_form (known_at v l q key) ≡ true
+  good : (q : H) → HasReplay v l q → is_well_formed (known_at v l q key) ≡ true
       → IsEarlier v l (last_of v l history) history key (stored state key) (known_at v l q key) (count_of q key)
-      → is_bad state key (Some (Pairs (known_at v l q key))) ≡ false
+      → is_bad_context state key (Some (Pairs (known_at v l q key))) ≡ false
   good q q_replays form earlier =
       let k = known v l history replays in
-      let ahead : list_any (runs_ahead state key) (known_at v l q key) ≡ false =
+      let ahead : list_any (names_unissued_dot state key) (known_at v l q key) ≡ false =
       none_of (λ pair. (pair.actor.vnode == state.vnode) && nat_lt state.last_epoch pair.actor.epoch) (ahead_of (stored state key)) (known_at v l q key)
       (none_early v state.vnode state.last_epoch (known_at v l q key) k.vnode earlier.low)
       (none_ahead (known_at v l q key) (count_of q key) (count_of history key) (stored state key) (owned-kept v l (last_of v l history) history key (stored state key) (k.keys key)) earlier.grown) in
@@ -98,15 +98,15 @@ module _ (v l : ℕ) (limits : IsWithinLimits v l) (history : H) (replays : HasR
   abbrev IsPosition : H → Type 0
   IsPosition q = IsEarlier v l (last_of v l history) history key (stored state key) (known_at v l q key) (count_of q key)
 
-  good_named : (pairs : List Dot) (q : H) → named (naming v l) history key (Pairs pairs) ≡ Some q → is_bad state key (Some (Pairs pairs)) ≡ false
+  good_named : (pairs : List Dot) (q : H) → named (naming v l) history key (Pairs pairs) ≡ Some q → is_bad_context state key (Some (Pairs pairs)) ≡ false
   good_named pairs q e =
       let found = named-position v l IsPosition history key (Pairs pairs) ((known v l history replays).earlier key) q e in
       let q_replays = (named-position v l (λ p. HasReplay v l p) history key (Pairs pairs) (Each-replay v l history replays) q e).0 in
-      subst (λ ps. is_bad state key (Some (Pairs ps)) ≡ false) (sym (same_pairs-same pairs (known_at v l q key) found.2))
+      subst (λ ps. is_bad_context state key (Some (Pairs ps)) ≡ false) (sym (same_pairs-same pairs (known_at v l q key) found.2))
       (good q q_replays (known-of-form v l limits q q_replays key found.1) found.0)
 
   -- so a bad context names none
-  pub bad-names-none : (given : Option Context) → is_bad state key given ≡ true → NamesNone (naming v l) history key given
+  pub bad-names-none : (given : Option Context) → is_bad_context state key given ≡ true → NamesNone (naming v l) history key given
   bad-names-none None h = cc
   bad-names-none (Some Malformed) h = by (named (naming v l) history key Malformed) refl
     where

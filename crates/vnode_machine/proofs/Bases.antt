@@ -19,7 +19,7 @@ use Rattle.vnode_machine.proofs.Counters.{is_low, are_low, are_low-more, all-uni
 -- a key without siblings is in no life
 pub not-alive : (events : H) → unseen_by [] events ≡ [] → ends_in_update events ≡ false
 not-alive [] h = refl
-not-alive (event ∷ before) h = by (is_update event.deed) h
+not-alive (event ∷ before) h = by (is_update event.operation) h
   where
     by : (b : Bool) → cond (b && true) (suc (length before) ∷ unseen_by (event ∷ []) before) (unseen_by (event ∷ []) before) ≡ [] → b ≡ false
     by true e = cc
@@ -60,10 +60,10 @@ module _ (v l : ℕ) where
     pub live : AreLiveOf v l history key own (counter_in known own) (clock_in o).live (siblings history key)
     pub fresh : (old : List Dot) (count : ℕ) → IsEarlier v l last history key o old count → counter_in old own ≤ counter_in known own
 
-  latest-own : (event : Event Content Context) (history : H) (key : Key) → key_eq event.key key ≡ true → is_update event.deed ≡ true
+  latest-own : (event : Event Content Context) (history : H) (key : Key) → key_eq event.key key ≡ true → is_update event.operation ≡ true
       → latest_dot v l (event ∷ history) key
       ≡ cond (is_alive history key) (option_map next_of (latest_dot v l history key)) (Some (record { actor = record { vnode = v; epoch = (l + lives_begun history) + 1 }; counter = 1 }))
-  latest-own event history key e u = by (key_eq event.key key) (is_update event.deed) e u
+  latest-own event history key e u = by (key_eq event.key key) (is_update event.operation) e u
     where
       by : (a b : Bool) → a ≡ true → b ≡ true
           → cond (not (a && b)) (latest_dot v l history key) (cond (is_alive history key) (option_map next_of (latest_dot v l history key)) (Some (record { actor = record { vnode = v; epoch = (l + lives_begun history) + 1 }; counter = 1 })))
@@ -72,7 +72,7 @@ module _ (v l : ℕ) where
       by true false p q = cc
       by false b p q = cc
 
-  module _ (event : Event Content Context) (history : H) (key : Key) (itself : key_eq event.key key ≡ true) (update : is_update event.deed ≡ true)
+  module _ (event : Event Content Context) (history : H) (key : Key) (itself : key_eq event.key key ≡ true) (update : is_update event.operation ≡ true)
       (vnode last : ℕ) (vnode_is : vnode ≡ v) (last_is : last ≡ l + lives_begun history) (pairs : List Dot) (low : IsTrue (are_low v last pairs)) where
     abbrev new : Actor
     new = record { vnode = vnode; epoch = last + 1 }

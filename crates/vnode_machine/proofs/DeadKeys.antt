@@ -12,9 +12,9 @@ use Rattle.std.specs.FinMap.Entries.{find, where_key, is_sorted, below_all, is_s
 use Rattle.riak_msgs.specs.declared.Key.{Key}
 use Rattle.riak_msgs.specs.declared.Content.{Content}
 use Rattle.riak_msgs.specs.KeyOrder.{key_cmp, key_eq}
-use Rattle.sibling_register.specs.History.{Event, Deed, Write, Tombstone, Reap}
+use Rattle.sibling_register.specs.History.{Event, Operation, Write, Tombstone, Reap}
 use Rattle.actor_epoch.specs.Given.{Context}
-use Rattle.vnode_machine.specs.Machine.{State, Stored, stored, is_held, has_value, holds_dead, changed_by}
+use Rattle.vnode_machine.specs.Machine.{State, Stored, stored, is_held, has_value, holds_dead, apply_operation}
 use Rattle.vnode_machine.specs.Replay.{History, replay}
 use Rattle.vnode_machine.specs.Dead.{is_from, dead_keys, first_dead, reaped}
 use Rattle.vnode_machine.proofs.Keys.{key_cmp_total, key_eq-same, eq_by_key_cmp, key_eq-refl, find_reaped}
@@ -26,8 +26,8 @@ true_from true t = refl
 true_from false t = absurd t
 
 -- an event leaves the keys in order
-sorted-step : (state : State Content) (key : Key) (given : Option Context) (deed : Deed Content) → is_sorted key_cmp state.keys ≡ true
-    → is_sorted key_cmp (changed_by state key given deed).keys ≡ true
+sorted-step : (state : State Content) (key : Key) (given : Option Context) (operation : Operation Content) → is_sorted key_cmp state.keys ≡ true
+    → is_sorted key_cmp (apply_operation state key given operation).keys ≡ true
 sorted-step state key given (Write content) h = true_from _ (is_sorted-put key_cmp key_cmp_total key _ state.keys (T_from_true _ h))
 sorted-step state key given Tombstone h = true_from _ (is_sorted-put key_cmp key_cmp_total key _ state.keys (T_from_true _ h))
 sorted-step state key given Reap h = true_from _ (is_sorted-where_key key_cmp (λ other. not (eq_by_cmp key_cmp key other)) state.keys (T_from_true _ h))
@@ -36,7 +36,7 @@ sorted-step state key given Reap h = true_from _ (is_sorted-where_key key_cmp (�
 pub keys_sorted : (vnode last_epoch : ℕ) (history : History) → is_sorted key_cmp (replay vnode last_epoch history).keys ≡ true
 keys_sorted vnode last_epoch [] = refl
 keys_sorted vnode last_epoch (event ∷ before) =
-    sorted-step (replay vnode last_epoch before) event.key event.context event.deed (keys_sorted vnode last_epoch before)
+    sorted-step (replay vnode last_epoch before) event.key event.context event.operation (keys_sorted vnode last_epoch before)
 
 -- a key below another isn't it, on either side
 pub not_eq-below : (key other : Key) → key_cmp key other ≡ Less → eq_by_cmp key_cmp key other ≡ false

@@ -8,13 +8,13 @@ use Rattle.std.proofs.lemmas.Bool.Decides.{nat_tests}
 use Rattle.riak_msgs.specs.declared.Key.{Key}
 use Rattle.riak_msgs.specs.declared.Content.{Content}
 use Rattle.riak_msgs.specs.KeyOrder.{key_cmp, key_eq}
-use Rattle.sibling_register.specs.History.{Event, Deed, Write, Tombstone, Reap}
+use Rattle.sibling_register.specs.History.{Event, Operation, Write, Tombstone, Reap}
 use Rattle.actor_epoch.specs.declared.Actor.{Actor}
 use Rattle.actor_epoch.specs.declared.Dot.{Dot}
 use Rattle.actor_epoch.specs.Dots.{actor_eq, dot_eq, counter_in, raise, union, next_dot}
 use Rattle.dvv_set.specs.Clocks.{discard, event}
 use Rattle.actor_epoch.specs.Given.{Context}
-use Rattle.vnode_machine.specs.Machine.{Stored, State, opening, stored, clock_of, actor_for, next_actor, epoch_after, pairs_of, del_pairs, updated, changed_by, state_after, known_by, issued_at, issued}
+use Rattle.vnode_machine.specs.Machine.{Stored, State, opening, stored, clock_of, actor_for, next_actor, epoch_after, pairs_of, del_pairs, updated, apply_operation, state_after, known_by, issued_at, issued}
 use Rattle.vnode_machine.specs.Laws.{AreDifferent, NoDotTwice}
 use Rattle.vnode_machine.proofs.Invariants.{actor_of}
 use Rattle.vnode_machine.proofs.Bases.{own_in, own-owned, last-owned}
@@ -221,19 +221,19 @@ module _ (state : State Content) (ds : List Dot) (at : Key) where
       top c known own = rw (counter_in-raise (record { actor = own; counter = c + 1 }) known own, actor_eq-refl own) (omega arith)
 
   -- any event
-  step_sound : (given : Option Context) (deed : Deed Content) → IsSound (stored state) state.last_epoch ds
-      → IsSound (stored (changed_by state at given deed)) (changed_by state at given deed).last_epoch (issued_at state at given deed ds)
+  step_sound : (given : Option Context) (operation : Operation Content) → IsSound (stored state) state.last_epoch ds
+      → IsSound (stored (apply_operation state at given operation)) (apply_operation state at given operation).last_epoch (issued_at state at given operation ds)
   step_sound given (Write content) sound = update_sound (pairs_of given) (Some content) sound
   step_sound given Tombstone sound = update_sound (del_pairs state at given) None sound
   step_sound given Reap sound =
-      reap_sound (stored state) (stored (changed_by state at given Reap)) state.last_epoch ds (λ other. key_eq at other) sound (λ k. find_reaped at k state.keys)
+      reap_sound (stored state) (stored (apply_operation state at given Reap)) state.last_epoch ds (λ other. key_eq at other) sound (λ k. find_reaped at k state.keys)
 
 opening_sound : (v f : ℕ) → IsSound (stored (opening v f)) (opening {V = Content} v f).last_epoch []
 opening_sound v f = record { low = refl; owned = λ k s e. cc; own = λ k s e. cc; top = λ k s e. cc; apart = λ k j s t e f d. cc; different = tt }
 
 sound_after : (v f : ℕ) (history : List (Event Content Context)) → IsSound (stored (state_after (opening v f) history)) (state_after (opening v f) history).last_epoch (issued (opening v f) history)
 sound_after v f [] = opening_sound v f
-sound_after v f (event ∷ before) = step_sound (state_after (opening v f) before) (issued (opening v f) before) event.key event.context event.deed (sound_after v f before)
+sound_after v f (event ∷ before) = step_sound (state_after (opening v f) before) (issued (opening v f) before) event.key event.context event.operation (sound_after v f before)
 
 pub no_dot_twice : (v f : ℕ) (history : List (Event Content Context)) → NoDotTwice v f history
 no_dot_twice v f history = (sound_after v f history).different

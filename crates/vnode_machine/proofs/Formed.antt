@@ -5,14 +5,14 @@ use Rattle.std.specs.List.{list_any}
 use Rattle.riak_msgs.specs.declared.Key.{Key}
 use Rattle.riak_msgs.specs.declared.Content.{Content}
 use Rattle.riak_msgs.specs.KeyOrder.{key_eq}
-use Rattle.sibling_register.specs.History.{Event, Deed, Write, Tombstone, Reap}
+use Rattle.sibling_register.specs.History.{Event, Operation, Write, Tombstone, Reap}
 use Rattle.sibling_register.specs.Siblings.{is_defined}
 use Rattle.actor_epoch.specs.declared.Dot.{Dot}
-use Rattle.actor_epoch.specs.Limits.{greatest_epoch}
-use Rattle.actor_epoch.specs.Contexts.{is_of_form}
+use Rattle.actor_epoch.specs.Limits.{max_epoch}
+use Rattle.actor_epoch.specs.Contexts.{is_well_formed}
 use Rattle.actor_epoch.specs.Given.{Context, Malformed, Pairs}
 use Rattle.actor_epoch.proofs.Given.{context_of-encoding}
-use Rattle.vnode_machine.specs.Machine.{Stored, State, stored, clock_of, next_actor, is_bad, runs_ahead, is_crowded, is_full, is_out_of_epochs, is_out_of_counters, update_check, pairs_of, del_pairs, changed_by}
+use Rattle.vnode_machine.specs.Machine.{Stored, State, stored, clock_of, next_actor, is_bad_context, names_unissued_dot, has_too_many_siblings, has_too_many_actors, is_out_of_epochs, is_out_of_counters, update_check, pairs_of, del_pairs, apply_operation}
 use Rattle.vnode_machine.specs.Replay.{replay, Accepts, HasReplay, IsWithinLimits}
 use Rattle.vnode_machine.specs.Laws.{ShownContextIsName}
 use Rattle.vnode_machine.proofs.Keys.{find_stored, find_reaped}
@@ -38,7 +38,7 @@ rooms false false false false false h = (refl, refl, refl, refl)
 
 module _ (v l : ℕ) where
   pub record AllFormed (history : H) : Type 0 where
-    pub last : last_of v l history ≤ greatest_epoch
+    pub last : last_of v l history ≤ max_epoch
     pub keys : (key : Key) → IsFormed (stored (replay v l history) key)
 
   module _ (small : v < 2 ^ 64) (history : H) (known : IsKnown v l history) (formed : AllFormed history) (at : Key) where
@@ -55,22 +55,22 @@ module _ (v l : ℕ) where
     shown_true true h = refl
     shown_true false h = cc
 
-    fit_put : (given : Option Context) → is_bad state at given ≡ false → AreFit state.vnode state.last_epoch before (pairs_of given)
+    fit_put : (given : Option Context) → is_bad_context state at given ≡ false → AreFit state.vnode state.last_epoch before (pairs_of given)
     fit_put None h = record { low = refl; behind = behind_none v l history known at before; are = record { rising = refl; within = refl } }
     fit_put (Some Malformed) h = cc
     fit_put (Some (Pairs pairs)) h =
-        let behind = or_right (not (is_of_form pairs)) (list_any (runs_ahead state at) pairs) h in
+        let behind = or_right (not (is_well_formed pairs)) (list_any (names_unissued_dot state at) pairs) h in
         record {
           low = low-ahead state.vnode state at pairs refl behind;
           behind = behind-of state at pairs (owned-kept v l state.last_epoch history at before (known.keys at)) behind;
-          are = form-parts pairs (shown_true (is_of_form pairs) (or_left (not (is_of_form pairs)) (list_any (runs_ahead state at) pairs) h));
+          are = form-parts pairs (shown_true (is_well_formed pairs) (or_left (not (is_well_formed pairs)) (list_any (names_unissued_dot state at) pairs) h));
         }
 
     own_pairs : (o : Option (Stored Content)) → IsFormed o → ArePairs (clock_in o).known
     own_pairs None h = record { rising = refl; within = refl }
     own_pairs (Some s) h = h.pairs
 
-    fit_del : (given : Option Context) → is_bad state at given ≡ false → AreFit state.vnode state.last_epoch before (del_pairs state at given)
+    fit_del : (given : Option Context) → is_bad_context state at given ≡ false → AreFit state.vnode state.last_epoch before (del_pairs state at given)
     fit_del None h = record {
       low = subst (λ n. IsTrue (are_low n state.last_epoch (clock_in before).known)) (sym known.vnode) (low_own v l history known at before (known.keys at));
       behind = behind_own v l history known at before;
@@ -82,10 +82,10 @@ module _ (v l : ℕ) where
     abbrev next : List Dot → Option Content → Stored Content
     next pairs value = next_in (own_in (next_actor state) before) pairs value before
 
-    next_fits : (given : Option Context) (pairs : List Dot) (value : Option Content) → (is_bad state at given ≡ false → AreFit state.vnode state.last_epoch before pairs)
-        → update_check state at given pairs ≡ None → IsForm (next pairs value) × (last_in state.last_epoch before ≤ greatest_epoch)
+    next_fits : (given : Option Context) (pairs : List Dot) (value : Option Content) → (is_bad_context state at given ≡ false → AreFit state.vnode state.last_epoch before pairs)
+        → update_check state at given pairs ≡ None → IsForm (next pairs value) × (last_in state.last_epoch before ≤ max_epoch)
     next_fits given pairs value fit h =
-        let r = rooms (is_bad state at given) (is_crowded state at pairs) (is_full state at pairs) (is_out_of_epochs state at) (is_out_of_counters state at) h in
+        let r = rooms (is_bad_context state at given) (has_too_many_siblings state at pairs) (has_too_many_actors state at pairs) (is_out_of_epochs state at) (is_out_of_counters state at) h in
         room_left state.vnode state.last_epoch within pairs value before (formed.keys at) (fit r.0) r.1 r.2 r.3
 
     chosen : (b : Bool) (s : Stored Content) (o : Option (Stored Content)) → IsForm s → IsFormed o → IsFormed (cond b (Some s) o)
@@ -100,17 +100,17 @@ module _ (v l : ℕ) where
     left true o h = tt
     left false o h = h
 
-    formed_step : (deed : Deed Content) (given : Option Context) (saw : List ℕ) → Accepts state at given deed
-        → AllFormed ((let event : Event Content Context = record { key = at; deed = deed; context = given; saw = saw } in event) ∷ history)
+    formed_step : (operation : Operation Content) (given : Option Context) (saw : List ℕ) → Accepts state at given operation
+        → AllFormed ((let event : Event Content Context = record { key = at; operation = operation; context = given; saw = saw } in event) ∷ history)
     formed_step (Write content) given saw h =
         let fits = next_fits given (pairs_of given) (Some content) (fit_put given) h in
-        record { last = fits.1; keys = updated (pairs_of given) (Some content) (stored (changed_by state at given (Write content))) (λ key. find_stored key at _ state.keys) fits.0 }
+        record { last = fits.1; keys = updated (pairs_of given) (Some content) (stored (apply_operation state at given (Write content))) (λ key. find_stored key at _ state.keys) fits.0 }
     formed_step Tombstone None saw h =
         let fits = next_fits None (del_pairs state at None) None (fit_del None) h.1 in
-        record { last = fits.1; keys = updated (del_pairs state at None) None (stored (changed_by state at None Tombstone)) (λ key. find_stored key at _ state.keys) fits.0 }
+        record { last = fits.1; keys = updated (del_pairs state at None) None (stored (apply_operation state at None Tombstone)) (λ key. find_stored key at _ state.keys) fits.0 }
     formed_step Tombstone (Some context) saw h =
         let fits = next_fits (Some context) (pairs_of (Some context)) None (fit_del (Some context)) h in
-        record { last = fits.1; keys = updated (pairs_of (Some context)) None (stored (changed_by state at (Some context) Tombstone)) (λ key. find_stored key at _ state.keys) fits.0 }
+        record { last = fits.1; keys = updated (pairs_of (Some context)) None (stored (apply_operation state at (Some context) Tombstone)) (λ key. find_stored key at _ state.keys) fits.0 }
     formed_step Reap None saw h = record {
       last = formed.last;
       keys = λ key. subst IsFormed (sym (find_reaped at key state.keys)) (left (key_eq at key) (stored state key) (formed.keys key));
@@ -120,15 +120,15 @@ module _ (v l : ℕ) where
   pub all_formed : IsWithinLimits v l → (history : H) → HasReplay v l history → AllFormed history
   all_formed within [] replays = record { last = within.1; keys = λ key. tt }
   all_formed within (event ∷ before) replays =
-      formed_step within.0 before (known v l before replays.0) (all_formed within before replays.0) event.key event.deed event.context event.saw replays.1
+      formed_step within.0 before (known v l before replays.0) (all_formed within before replays.0) event.key event.operation event.context event.saw replays.1
 
   -- where a key is defined, what is known of it is of the form
   pub known-of-form : IsWithinLimits v l → (history : H) → HasReplay v l history → (key : Key) → is_defined history key ≡ true
-      → is_of_form (clock_of (replay v l history) key).known ≡ true
+      → is_well_formed (clock_of (replay v l history) key).known ≡ true
   known-of-form within history replays key defined =
       by (stored (replay v l history) key) (held-same v l history (known v l history replays) key ∙ defined) ((all_formed within history replays).keys key)
     where
-      by : (o : Option (Stored Content)) → is_some o ≡ true → IsFormed o → is_of_form (clock_in o).known ≡ true
+      by : (o : Option (Stored Content)) → is_some o ≡ true → IsFormed o → is_well_formed (clock_in o).known ≡ true
       by None h f = cc
       by (Some s) h f = form-whole s f
 

@@ -10,7 +10,7 @@ use Rattle.sibling_register.specs.Siblings.{siblings, is_defined}
 use Rattle.actor_epoch.specs.declared.Actor.{Actor}
 use Rattle.actor_epoch.specs.declared.Dot.{Dot}
 use Rattle.actor_epoch.specs.Dots.{counter_in}
-use Rattle.dvv_set.specs.Clocks.{Meaning}
+use Rattle.dvv_set.specs.Clocks.{DotState}
 use Rattle.actor_epoch.specs.Given.{Context}
 use Rattle.vnode_machine.specs.Machine.{Stored}
 use Rattle.vnode_machine.specs.Lives.{is_alive, latest_dot, dot_of}
@@ -26,7 +26,7 @@ abbrev pub Entry : Type 0
 Entry = Dot × Option Content
 
 -- the clock of what is stored or not
-abbrev pub clock_in : Option (Stored Content) → Meaning (Option Content)
+abbrev pub clock_in : Option (Stored Content) → DotState (Option Content)
 clock_in o = option_map_or (λ s. s.clock) o (record { known = []; live = [] })
 
 -- the actor of what is stored; of a key without one, whichever

@@ -6,13 +6,13 @@ use Rattle.riak_msgs.specs.declared.Key.{Key}
 use Rattle.riak_msgs.specs.declared.Content.{Content}
 use Rattle.sibling_register.specs.History.{content_of}
 use Rattle.sibling_register.specs.Siblings.{siblings, is_among, is_defined, is_present, is_dead}
-use Rattle.sibling_register.specs.Refusals.{most_siblings}
+use Rattle.sibling_register.specs.Refusals.{max_siblings}
 use Rattle.sibling_register.specs.Answers.{is_name, has_too_many}
 use Rattle.actor_epoch.specs.declared.Dot.{Dot}
 use Rattle.actor_epoch.specs.Dots.{covers}
 use Rattle.dvv_set.specs.Clocks.{join}
 use Rattle.actor_epoch.specs.Given.{Context, Malformed, Pairs}
-use Rattle.vnode_machine.specs.Machine.{State, stored, clock_of, same_pairs, is_held, has_value, holds_dead, is_crowded, is_current}
+use Rattle.vnode_machine.specs.Machine.{State, stored, clock_of, same_pairs, is_held, has_value, holds_dead, has_too_many_siblings, matches_clock}
 use Rattle.vnode_machine.specs.Replay.{replay, naming}
 use Rattle.vnode_machine.specs.Replies.{shown, contents_in, siblings_shown, position_at}
 use Rattle.vnode_machine.proofs.Pairwise.{Pairwise, Pairwise-map, Pairwise-filter, Pairwise-length, Pairwise-any, Pairwise-images}
@@ -52,16 +52,16 @@ module _ (v l : ℕ) (history : H) (known : IsKnown v l history) (key : Key) whe
       (Pairwise-map HasContent (λ entry number. shown without entry.1 ≡ shown without (content_of history key number)) (λ entry number h. ap (shown without) (sym h)) (clock_of state key).live (siblings history key) contents)
 
   -- a context is current at the machine where it is the name of this position
-  pub current-same : (given : Option Context) → is_held state key ≡ true → is_current state key given ≡ is_name (naming v l) history key given
+  pub current-same : (given : Option Context) → is_held state key ≡ true → matches_clock state key given ≡ is_name (naming v l) history key given
   current-same None h = refl
   current-same (Some Malformed) h = refl
   current-same (Some (Pairs pairs)) h = ap (λ b. b && same_pairs pairs (join (clock_of state key))) h
 
   -- as many siblings are uncovered as were not seen
   pub crowded-same : (pairs : List Dot) (saw : List ℕ) → Pairwise (IsSeen pairs saw) (clock_of state key).live (siblings history key)
-      → is_crowded state key pairs ≡ has_too_many history key saw
+      → has_too_many_siblings state key pairs ≡ has_too_many history key saw
   crowded-same pairs saw seen =
-      ap (λ n. nat_le most_siblings n)
+      ap (λ n. nat_le max_siblings n)
       (Pairwise-length (filter (λ entry. not (covers pairs entry.0)) (clock_of state key).live) (filter (λ n. not (is_among saw n)) (siblings history key))
       (Pairwise-filter (λ entry number. Unit {0}) (λ entry. not (covers pairs entry.0)) (λ n. not (is_among saw n)) (clock_of state key).live (siblings history key)
       (Pairwise-map (IsSeen pairs saw) (λ entry number. not (covers pairs entry.0) ≡ not (is_among saw number)) (λ entry number h. ap not h) (clock_of state key).live (siblings history key) seen)

@@ -6,13 +6,13 @@ use Rattle.std.proofs.lemmas.Bool.Decides.{nat_tests}
 use Rattle.riak_msgs.specs.declared.Key.{Key}
 use Rattle.riak_msgs.specs.declared.Content.{Content}
 use Rattle.riak_msgs.specs.KeyOrder.{key_eq}
-use Rattle.sibling_register.specs.History.{Event, Deed, Write, Tombstone, Reap, events_of, count_of}
+use Rattle.sibling_register.specs.History.{Event, Operation, Write, Tombstone, Reap, events_of, count_of}
 use Rattle.sibling_register.specs.Siblings.{is_defined}
 use Rattle.sibling_register.specs.Naming.{IsEquivalence, IsNamingOf, is_untouched}
 use Rattle.actor_epoch.specs.declared.Dot.{Dot}
 use Rattle.actor_epoch.specs.Dots.{counter_in}
 use Rattle.actor_epoch.specs.Given.{Context, Malformed, Pairs}
-use Rattle.vnode_machine.specs.Machine.{Stored, State, stored, same_pairs, same_context, changed_by}
+use Rattle.vnode_machine.specs.Machine.{Stored, State, stored, same_pairs, same_context, apply_operation}
 use Rattle.vnode_machine.specs.Replay.{replay, naming, HasReplay}
 use Rattle.vnode_machine.proofs.Keys.{find_stored, find_reaped}
 use Rattle.vnode_machine.proofs.Invariants.{actor_of, H, clock_in, HasGrown, IsEarlier}
@@ -47,8 +47,8 @@ same-equivalence = record { reflexive = reflexive; symmetric = symmetric; transi
     transitive (Pairs a) (Pairs b) (Pairs c) h k = subst (λ x. same_pairs x c ≡ true) (sym (same_pairs-same a b h)) k
 
 -- an event of another key leaves what is stored
-stored-elsewhere : (state : State Content) (at : Key) (given : Option Context) (deed : Deed Content) (key : Key) → key_eq at key ≡ false
-    → stored (changed_by state at given deed) key ≡ stored state key
+stored-elsewhere : (state : State Content) (at : Key) (given : Option Context) (operation : Operation Content) (key : Key) → key_eq at key ≡ false
+    → stored (apply_operation state at given operation) key ≡ stored state key
 stored-elsewhere state at given (Write content) key e = find_stored key at _ state.keys ∙ rw e refl
 stored-elsewhere state at given Tombstone key e = find_stored key at _ state.keys ∙ rw e refl
 stored-elsewhere state at given Reap key e = find_reaped at key state.keys ∙ rw e refl
@@ -90,7 +90,7 @@ module _ (v l : ℕ) where
   stored-between : (between position : H) (key : Key) → is_untouched between key ≡ true → stored (replay v l (between ++ position)) key ≡ stored (replay v l position) key
   stored-between [] position key h = refl
   stored-between (event ∷ between) position key h =
-      stored-elsewhere (replay v l (between ++ position)) event.key event.context event.deed key (neither (key_eq event.key key) (list_any (λ (e : Event Content Context). key_eq e.key key) between) h)
+      stored-elsewhere (replay v l (between ++ position)) event.key event.context event.operation key (neither (key_eq event.key key) (list_any (λ (e : Event Content Context). key_eq e.key key) between) h)
       ∙ stored-between between position key (nor (key_eq event.key key) (list_any (λ (e : Event Content Context). key_eq e.key key) between) h)
     where
       neither : (a b : Bool) → not (a || b) ≡ true → a ≡ false

@@ -72,7 +72,7 @@ module _ (v l : ℕ) where
       within : (a b : ℕ) → a ≤ b → nat_le a b ≡ true
       within a b h = grind (arith, nat_tests)
 
-  module _ (last : ℕ) (event : Event Content Context) (history : H) (key : Key) (itself : key_eq event.key key ≡ true) (reap : is_update event.deed ≡ false)
+  module _ (last : ℕ) (event : Event Content Context) (history : H) (key : Key) (itself : key_eq event.key key ≡ true) (reap : is_update event.operation ≡ false)
       (all : event.saw ≡ numbers_to (count_of history key)) where
     all_left : (o : Option (Stored Content)) → IsKept v l last history key o → left_by (numbers_to (count_of history key)) (siblings history key) ≡ []
     all_left None h = ap (left_by (numbers_to (count_of history key))) h

@@ -40,8 +40,8 @@ module _ (v l : ℕ) (limits : IsWithinLimits v l) where
     stays history state after h e,
     inl (record { given = Answers given.told; may = given.given; leads = refl; shown = given.shown ∙ sym reply }),
   )
-  step history state after turn (Accepted deed response next) h given reply e =
-      let event = next_event v l history turn.ask deed in (
+  step history state after turn (Accepted operation response next) h given reply e =
+      let event = next_event v l history turn.ask operation in (
         event ∷ history,
         stays (event ∷ history) next after given.leads e,
         inl (record { given = Accepts event given.told; may = given.given; leads = refl; shown = given.shown ∙ sym reply }),

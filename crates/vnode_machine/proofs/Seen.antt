@@ -14,7 +14,7 @@ use Rattle.actor_epoch.specs.Contexts.{is_rising}
 use Rattle.actor_epoch.proofs.Order.{actor_eq-itself, rising-tail}
 use Rattle.actor_epoch.proofs.Pairs.{actor_cmp-same, counter_in-raise}
 use Rattle.actor_epoch.proofs.Rising.{and_first}
-use Rattle.dvv_set.specs.Clocks.{Meaning, discard, event}
+use Rattle.dvv_set.specs.Clocks.{DotState, discard, event}
 use Rattle.dvv_set.specs.Held.{IsWithin, actors_after, known_after, known_with, without}
 use Rattle.vnode_machine.proofs.Forms.{IsForm, counter-most}
 use Rattle.vnode_machine.proofs.Tests.{or_left, or_right}
@@ -43,7 +43,7 @@ known_with-pairs : (seen : Option (List Dot)) (known : List Dot) → is_rising k
 known_with-pairs None known h = sym (union-nil known h)
 known_with-pairs (Some pairs) known h = refl
 
-pub without-pairs : {X : Type 0} (seen : Option (List Dot)) (clock : Meaning X) → is_rising clock.known ≡ true → without seen clock ≡ discard (unwrap_or seen []) clock
+pub without-pairs : {X : Type 0} (seen : Option (List Dot)) (clock : DotState X) → is_rising clock.known ≡ true → without seen clock ≡ discard (unwrap_or seen []) clock
 without-pairs None clock h = λ i. record { known = sym (union-nil clock.known h) i; live = sym (uncovered-nil clock.live) i }
 without-pairs (Some pairs) clock h = refl
 
@@ -80,7 +80,7 @@ counter_in-next own pairs =
     greatest n = omega arith
 
 -- a write whose result is of the form is within the limits
-pub form-within : (own : Actor) (value : Option Content) (clock : Meaning (Option Content)) (seen : Option (List Dot)) → is_rising clock.known ≡ true
+pub form-within : (own : Actor) (value : Option Content) (clock : DotState (Option Content)) (seen : Option (List Dot)) → is_rising clock.known ≡ true
     → IsForm (record { own = Some own; clock = event own value (discard (unwrap_or seen []) clock) }) → IsWithin clock.known seen own
 form-within own value clock seen rising form =
     let all : List Dot = union clock.known (unwrap_or seen []) in

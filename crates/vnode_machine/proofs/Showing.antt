@@ -62,7 +62,7 @@ module _ (v l : ℕ) where
       record {
         position = o.0;
         is_name = is;
-        saw = there.2 ∙ ap (λ given. seen_by v l before event.key given event.deed) e
+        saw = there.2 ∙ ap (λ given. seen_by v l before event.key given event.operation) e
             ∙ ap (λ q. option_map_or (λ (position : History). numbers_to (count_of position event.key)) q
             (filter (λ number. option_map_or (covers (pairs_of (Some context))) (dot_of v l before event.key number) false) (numbers_to (count_of before event.key)))) is;
       }

@@ -14,7 +14,7 @@ use Rattle.actor_epoch.specs.declared.Actor.{Actor}
 use Rattle.actor_epoch.specs.declared.Dot.{Dot}
 use Rattle.actor_epoch.specs.Dots.{actor_eq, dot_eq, covers, counter_in}
 use Rattle.actor_epoch.specs.Given.{Context, Pairs}
-use Rattle.vnode_machine.specs.Machine.{Stored, State, clock_of, stored, same_pairs, runs_ahead}
+use Rattle.vnode_machine.specs.Machine.{Stored, State, clock_of, stored, same_pairs, names_unissued_dot}
 use Rattle.vnode_machine.specs.Lives.{dot_of}
 use Rattle.vnode_machine.specs.Replay.{replay, naming, seen_by_context}
 use Rattle.vnode_machine.proofs.Pairwise.{Pairwise, Pairwise-map, Pairwise-both}
@@ -26,14 +26,14 @@ use Rattle.vnode_machine.proofs.Counters.{actor_eq-same, covers-counter, is_low,
 use Rattle.vnode_machine.proofs.Tests.{and_both, and_left, and_right, or_left, or_right, nat_eq-same}
 
 -- pairs that don't run ahead name no later epoch
-pub low-ahead : (v : ℕ) (state : State Content) (key : Key) (pairs : List Dot) → state.vnode ≡ v → list_any (runs_ahead state key) pairs ≡ false
+pub low-ahead : (v : ℕ) (state : State Content) (key : Key) (pairs : List Dot) → state.vnode ≡ v → list_any (names_unissued_dot state key) pairs ≡ false
     → IsTrue (are_low v state.last_epoch pairs)
 low-ahead v state key [] vnode h = refl
 low-ahead v state key (pair ∷ pairs) vnode h =
-    let one = or_left ((pair.actor.vnode == state.vnode) && nat_lt state.last_epoch pair.actor.epoch) _ (or_left (runs_ahead state key pair) (list_any (runs_ahead state key) pairs) h) in
+    let one = or_left ((pair.actor.vnode == state.vnode) && nat_lt state.last_epoch pair.actor.epoch) _ (or_left (names_unissued_dot state key pair) (list_any (names_unissued_dot state key) pairs) h) in
     and_both (is_low v state.last_epoch pair) (are_low v state.last_epoch pairs)
     (ap (λ n. not ((pair.actor.vnode == n) && nat_lt state.last_epoch pair.actor.epoch)) (sym vnode) ∙ ap not one)
-    (low-ahead v state key pairs vnode (or_right (runs_ahead state key pair) (list_any (runs_ahead state key) pairs) h))
+    (low-ahead v state key pairs vnode (or_right (names_unissued_dot state key pair) (list_any (names_unissued_dot state key) pairs) h))
 
 -- a pair that runs ahead of what is stored
 abbrev pub ahead_of : Option (Stored Content) → Dot → Bool
@@ -59,7 +59,7 @@ behind-ahead early (Some s) (pair ∷ pairs) owned h =
     by true n rest top h k = grind (arith, nat_tests)
     by false n rest top h k = k
 
-pub behind-of : (state : State Content) (key : Key) (pairs : List Dot) → IsOwned (stored state key) → list_any (runs_ahead state key) pairs ≡ false → IsBehind pairs (stored state key)
+pub behind-of : (state : State Content) (key : Key) (pairs : List Dot) → IsOwned (stored state key) → list_any (names_unissued_dot state key) pairs ≡ false → IsBehind pairs (stored state key)
 behind-of state key pairs owned h = behind-ahead (λ pair. (pair.actor.vnode == state.vnode) && nat_lt state.last_epoch pair.actor.epoch) (stored state key) pairs owned h
 
 -- the same pairs are equal

@@ -3,7 +3,7 @@ use Rattle.std.proofs.Common.{◌≡◌, ℕ, ◌+◌, ◌≤◌, sym, subst, ar
 use Rattle.std.specs.Prelude.{◌<◌, ◌^◌}
 use Rattle.riak_msgs.specs.declared.Content.{Content}
 use Rattle.sibling_register.specs.Answers.{Ask, AskGet, AskPut, AskDel, AskReap}
-use Rattle.actor_epoch.specs.Limits.{greatest_epoch}
+use Rattle.actor_epoch.specs.Limits.{max_epoch}
 use Rattle.actor_epoch.specs.Given.{Context}
 use Rattle.vnode_machine.specs.Machine.{State}
 use Rattle.vnode_machine.specs.Lives.{lives_begun}
@@ -22,7 +22,7 @@ limits-opening v l history replays limits =
     let k = known v l history replays in
     (subst (λ (n : ℕ). n < 2 ^ 64) k.vnode limits.0, less l (lives_begun history) (replay v l history).last_epoch k.epochs limits.1)
   where
-    less : (l b last : ℕ) → last ≡ l + b → last ≤ greatest_epoch → l ≤ greatest_epoch
+    less : (l b last : ℕ) → last ≡ l + b → last ≤ max_epoch → l ≤ max_epoch
     less l b last e h = omega (arith, e, h)
 
 registers-at : (v l : ℕ) (history : H) (ask : Ask Content Context) → IsWithinLimits v l → HasReplay v l history → IsRegisters v l history ask (outcome (replay v l history) ask)

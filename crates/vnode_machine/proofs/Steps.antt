@@ -5,13 +5,13 @@ use Rattle.std.specs.List.{list_any}
 use Rattle.riak_msgs.specs.declared.Key.{Key}
 use Rattle.riak_msgs.specs.declared.Content.{Content}
 use Rattle.riak_msgs.specs.KeyOrder.{key_eq}
-use Rattle.sibling_register.specs.History.{Event, Deed, Write, Tombstone, Reap, is_update, written, events_of, count_of, numbers_to}
+use Rattle.sibling_register.specs.History.{Event, Operation, Write, Tombstone, Reap, is_update, written, events_of, count_of, numbers_to}
 use Rattle.sibling_register.specs.Siblings.{siblings, is_defined}
 use Rattle.actor_epoch.specs.declared.Actor.{Actor}
 use Rattle.actor_epoch.specs.declared.Dot.{Dot}
-use Rattle.actor_epoch.specs.Contexts.{is_of_form}
+use Rattle.actor_epoch.specs.Contexts.{is_well_formed}
 use Rattle.actor_epoch.specs.Given.{Context, Malformed, Pairs}
-use Rattle.vnode_machine.specs.Machine.{Stored, State, stored, next_actor, is_held, has_value, holds_dead, is_bad, runs_ahead, changed_by}
+use Rattle.vnode_machine.specs.Machine.{Stored, State, stored, next_actor, is_held, has_value, holds_dead, is_bad_context, names_unissued_dot, apply_operation}
 use Rattle.vnode_machine.specs.Lives.{lives_begun, is_alive}
 use Rattle.vnode_machine.specs.Replay.{replay, seen_by, Accepts, HasReplay}
 use Rattle.vnode_machine.proofs.Keys.{find_stored, find_reaped, key_eq-same, key_eq-refl}
@@ -115,15 +115,15 @@ module _ (v l : ℕ) where
     own = own_in (next_actor state) before
 
     -- a write or tombstone that discards these pairs
-    update_step : (deed : Deed Content) (given : Option Context) (saw : List ℕ) (pairs : List Dot)
-        → let event : Event Content Context = record { key = at; deed = deed; context = given; saw = saw } in
-        is_update deed ≡ true
+    update_step : (operation : Operation Content) (given : Option Context) (saw : List ℕ) (pairs : List Dot)
+        → let event : Event Content Context = record { key = at; operation = operation; context = given; saw = saw } in
+        is_update operation ≡ true
         → (replay v l (event ∷ history)).vnode ≡ state.vnode → last_of (event ∷ history) ≡ last_in state.last_epoch before
-        → ((key : Key) → stored (replay v l (event ∷ history)) key ≡ cond (key_eq at key) (Some (next_in own pairs (written deed) before)) (stored state key))
+        → ((key : Key) → stored (replay v l (event ∷ history)) key ≡ cond (key_eq at key) (Some (next_in own pairs (written operation) before)) (stored state key))
         → IsTrue (are_low v state.last_epoch pairs) → IsBehind pairs before → Pairwise (IsSeen pairs saw) (clock_in before).live (siblings history at)
-        → IsStep event history (last_in state.last_epoch before) (Some (next_in own pairs (written deed) before))
-    update_step deed given saw pairs update vnode last found low behind seen =
-        let event : Event Content Context = record { key = at; deed = deed; context = given; saw = saw } in
+        → IsStep event history (last_in state.last_epoch before) (Some (next_in own pairs (written operation) before))
+    update_step operation given saw pairs update vnode last found low behind seen =
+        let event : Event Content Context = record { key = at; operation = operation; context = given; saw = saw } in
         let b = base v l event history at (key_eq-refl at) update state.vnode state.last_epoch known.vnode known.epochs pairs low before (known.keys at) behind in
         record {
           vnode = vnode;
@@ -136,20 +136,20 @@ module _ (v l : ℕ) where
         }
 
     write_step : (content : Content) (given : Option Context) (saw : List ℕ) (pairs : List Dot)
-        → ((key : Key) → stored (changed_by state at given (Write content)) key ≡ cond (key_eq at key) (Some (next_in own pairs (Some content) before)) (stored state key))
+        → ((key : Key) → stored (apply_operation state at given (Write content)) key ≡ cond (key_eq at key) (Some (next_in own pairs (Some content) before)) (stored state key))
         → IsTrue (are_low v state.last_epoch pairs) → IsBehind pairs before → Pairwise (IsSeen pairs saw) (clock_in before).live (siblings history at)
-        → IsKnown ((let event : Event Content Context = record { key = at; deed = Write content; context = given; saw = saw } in event) ∷ history)
+        → IsKnown ((let event : Event Content Context = record { key = at; operation = Write content; context = given; saw = saw } in event) ∷ history)
     write_step content given saw pairs found low behind seen =
-        let event : Event Content Context = record { key = at; deed = Write content; context = given; saw = saw } in
+        let event : Event Content Context = record { key = at; operation = Write content; context = given; saw = saw } in
         known-step event history (last_in state.last_epoch before) (Some (next_in own pairs (Some content) before)) known
         (update_step (Write content) given saw pairs refl refl refl found low behind seen)
 
     tombstone_step : (given : Option Context) (saw : List ℕ) (pairs : List Dot)
-        → ((key : Key) → stored (changed_by state at given Tombstone) key ≡ cond (key_eq at key) (Some (next_in own pairs None before)) (stored state key))
+        → ((key : Key) → stored (apply_operation state at given Tombstone) key ≡ cond (key_eq at key) (Some (next_in own pairs None before)) (stored state key))
         → IsTrue (are_low v state.last_epoch pairs) → IsBehind pairs before → Pairwise (IsSeen pairs saw) (clock_in before).live (siblings history at)
-        → IsKnown ((let event : Event Content Context = record { key = at; deed = Tombstone; context = given; saw = saw } in event) ∷ history)
+        → IsKnown ((let event : Event Content Context = record { key = at; operation = Tombstone; context = given; saw = saw } in event) ∷ history)
     tombstone_step given saw pairs found low behind seen =
-        let event : Event Content Context = record { key = at; deed = Tombstone; context = given; saw = saw } in
+        let event : Event Content Context = record { key = at; operation = Tombstone; context = given; saw = saw } in
         known-step event history (last_in state.last_epoch before) (Some (next_in own pairs None before)) known
         (update_step Tombstone given saw pairs refl refl refl found low behind seen)
 
@@ -165,16 +165,16 @@ module _ (v l : ℕ) where
     low_own None h = refl
     low_own (Some s) h = h.low
 
-    good : (pairs : List Dot) (rest : Option ℕ) → cond (is_bad state at (Some (Pairs pairs))) (Some 4) rest ≡ None → list_any (runs_ahead state at) pairs ≡ false
-    good pairs rest h = or_right (not (is_of_form pairs)) (list_any (runs_ahead state at) pairs) (not_first (is_bad state at (Some (Pairs pairs))) 4 rest h)
+    good : (pairs : List Dot) (rest : Option ℕ) → cond (is_bad_context state at (Some (Pairs pairs))) (Some 4) rest ≡ None → list_any (names_unissued_dot state at) pairs ≡ false
+    good pairs rest h = or_right (not (is_well_formed pairs)) (list_any (names_unissued_dot state at) pairs) (not_first (is_bad_context state at (Some (Pairs pairs))) 4 rest h)
 
     held : (b : Bool) → (is_held state at && b) ≡ true → is_held state at ≡ true
     held b h = and_left (is_held state at) b h
 
     reap_step : (saw : List ℕ) → IsTrue (holds_dead state at) → saw ≡ numbers_to (count_of history at)
-        → IsStep (record { key = at; deed = Reap; context = None; saw = saw }) history state.last_epoch None
+        → IsStep (record { key = at; operation = Reap; context = None; saw = saw }) history state.last_epoch None
     reap_step saw dead all =
-        let event : Event Content Context = record { key = at; deed = Reap; context = None; saw = saw } in
+        let event : Event Content Context = record { key = at; operation = Reap; context = None; saw = saw } in
         record {
           vnode = refl;
           last_is = refl;
@@ -186,8 +186,8 @@ module _ (v l : ℕ) where
         }
 
     -- an accepted event
-    pub accepted-step : (deed : Deed Content) (given : Option Context) (saw : List ℕ) → Accepts state at given deed → saw ≡ seen_by v l history at given deed
-        → IsKnown ((let event : Event Content Context = record { key = at; deed = deed; context = given; saw = saw } in event) ∷ history)
+    pub accepted-step : (operation : Operation Content) (given : Option Context) (saw : List ℕ) → Accepts state at given operation → saw ≡ seen_by v l history at given operation
+        → IsKnown ((let event : Event Content Context = record { key = at; operation = operation; context = given; saw = saw } in event) ∷ history)
     accepted-step (Write content) None saw accepts e =
         write_step content None saw [] (λ key. find_stored key at _ state.keys) refl (behind_none before)
         (subst (λ ns. Pairwise (IsSeen [] ns) (clock_in before).live (siblings history at)) (sym e)
@@ -210,7 +210,7 @@ module _ (v l : ℕ) where
         (subst (λ ns. Pairwise (IsSeen pairs ns) (clock_in before).live (siblings history at)) (sym e)
         (seen-context v l state.last_epoch history at before (known.keys at) pairs (known.earlier at)))
     accepted-step Reap None saw accepts e =
-        known-step (record { key = at; deed = Reap; context = None; saw = saw }) history state.last_epoch None known (reap_step saw accepts e)
+        known-step (record { key = at; operation = Reap; context = None; saw = saw }) history state.last_epoch None known (reap_step saw accepts e)
     accepted-step Reap (Some context) saw accepts e = absurd accepts
 
   known-opening : IsKnown []
@@ -226,4 +226,4 @@ module _ (v l : ℕ) where
 
   pub known : (history : H) → HasReplay v l history → IsKnown history
   known [] replays = known-opening
-  known (event ∷ before) replays = accepted-step before (known before replays.0) event.key event.deed event.context event.saw replays.1 replays.2
+  known (event ∷ before) replays = accepted-step before (known before replays.0) event.key event.operation event.context event.saw replays.1 replays.2

@@ -54,7 +54,7 @@ module _ (v l : ℕ) where
       let same : actor_cmp own entry.0.actor ≡ Equal = ap (actor_cmp own) h.0.actor ∙ actor_cmp-refl own in
       rw (same, nat_cmp-less entry.0.counter (top + 1) (omega (arith, within))) refl
 
-  module _ (last last' : ℕ) (event : Event Content Context) (history : H) (key : Key) (itself : key_eq event.key key ≡ true) (update : is_update event.deed ≡ true)
+  module _ (last last' : ℕ) (event : Event Content Context) (history : H) (key : Key) (itself : key_eq event.key key ≡ true) (update : is_update event.operation ≡ true)
       (o : Option (Stored Content)) (own : Actor) (pairs : List Dot)
       (base : IsBase v l last last' event history key o own (union (clock_in o).known pairs))
       (seen : Pairwise (IsSeen pairs event.saw) (clock_in o).live (siblings history key)) where
@@ -71,7 +71,7 @@ module _ (v l : ℕ) where
     left = filter (λ entry. not (covers pairs entry.0)) (clock_in o).live
 
     abbrev next : Stored Content
-    next = next_in own pairs (written event.deed) o
+    next = next_in own pairs (written event.operation) o
 
     abbrev numbers : List ℕ
     numbers = suc (count_of history key) ∷ left_by event.saw (siblings history key)
@@ -84,8 +84,8 @@ module _ (v l : ℕ) where
     left_are = Pairwise-filter (IsLiveOf v l history key own top) (λ entry. not (covers pairs entry.0)) (λ n. not (is_among event.saw n))
         (clock_in o).live (siblings history key) kept base.live
 
-    live_is : next.clock.live ≡ (dot, written event.deed) ∷ left
-    live_is = put-front history key own top (written event.deed) left (left_by event.saw (siblings history key)) left_are
+    live_is : next.clock.live ≡ (dot, written event.operation) ∷ left
+    live_is = put-front history key own top (written event.operation) left (left_by event.saw (siblings history key)) left_are
 
     siblings_are : siblings (event ∷ history) key ≡ numbers
     siblings_are = siblings-own event history key itself ∙ ap (λ b. cond b numbers (left_by event.saw (siblings history key))) update
@@ -99,7 +99,7 @@ module _ (v l : ℕ) where
         max_more : (n : ℕ) → max (n + 1) n ≡ n + 1
         max_more n = omega arith
 
-    newest : IsLiveOf v l (event ∷ history) key own (top + 1) (dot, written event.deed) (suc (count_of history key))
+    newest : IsLiveOf v l (event ∷ history) key own (top + 1) (dot, written event.operation) (suc (count_of history key))
     newest =
         let count = count_of-own event history key itself in
         record {
@@ -121,8 +121,8 @@ module _ (v l : ℕ) where
       latest = base.latest ∙ (λ i. Some (record { actor = own; counter = sym counter_is i }));
       live = let P : List Entry → List ℕ → ℕ → Type 0 = λ live ns n. AreLiveOf v l (event ∷ history) key own n live ns in
           subst (λ live. P live (siblings (event ∷ history) key) (counter_in next.clock.known own)) (sym live_is)
-          (subst (λ ns. P ((dot, written event.deed) ∷ left) ns (counter_in next.clock.known own)) (sym siblings_are)
-          (subst (λ n. P ((dot, written event.deed) ∷ left) numbers n) (sym counter_is) (
+          (subst (λ ns. P ((dot, written event.operation) ∷ left) ns (counter_in next.clock.known own)) (sym siblings_are)
+          (subst (λ n. P ((dot, written event.operation) ∷ left) numbers n) (sym counter_is) (
             newest,
             Pairwise-map (IsLiveOf v l history key own top) (IsLiveOf v l (event ∷ history) key own (top + 1))
                 (live-more v l event history key own top (top + 1) (omega arith)) left (left_by event.saw (siblings history key)) left_are,
@@ -151,7 +151,7 @@ module _ (v l : ℕ) where
           low = are_low-more v last last' old base.le earlier.low;
           counted = omega (arith, counted, more);
           split = subst (λ live. Pairwise (IsSplit old count) live (siblings (event ∷ history) key)) (sym live_is)
-              (subst (λ ns. Pairwise (IsSplit old count) ((dot, written event.deed) ∷ left) ns) (sym siblings_are) (
+              (subst (λ ns. Pairwise (IsSplit old count) ((dot, written event.operation) ∷ left) ns) (sym siblings_are) (
                 not_later (count_of history key) count top (counter_in old own) counted fresh,
                 Pairwise-filter (IsSplit old count) (λ entry. not (covers pairs entry.0)) (λ n. not (is_among event.saw n))
                     (clock_in o).live (siblings history key) kept earlier.split,

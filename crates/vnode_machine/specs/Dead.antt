@@ -4,7 +4,7 @@ use Rattle.std.specs.Ordering.{is_le}
 use Rattle.riak_msgs.specs.declared.Key.{Key}
 use Rattle.riak_msgs.specs.KeyOrder.{key_cmp}
 use Rattle.sibling_register.specs.History.{Reap}
-use Rattle.vnode_machine.specs.Machine.{State, holds_dead, changed_by}
+use Rattle.vnode_machine.specs.Machine.{State, holds_dead, apply_operation}
 use Rattle.vnode_machine.specs.Replay.{History, replay}
 
 -- whether a key is at or after another, where one is given
@@ -27,7 +27,7 @@ module _ {V : Type 0} where
 
   -- after the reap of a dead key
   abbrev pub reaped : State V → Key → State V
-  reaped state key = changed_by state key None Reap
+  reaped state key = apply_operation state key None Reap
 
   -- after the reaps of dead keys, one by one
   abbrev pub reaped_each : State V → List Key → State V

@@ -13,7 +13,7 @@ module _ {V C : Type 0} where
   -- whether events, newest first, begin with a write or tombstone
   abbrev pub ends_in_update : List (Event V C) → Bool
   ends_in_update [] = false
-  ends_in_update (event ∷ before) = is_update event.deed
+  ends_in_update (event ∷ before) = is_update event.operation
 
   -- whether the key is in a life at the end of the history: its latest event is no reap
   abbrev pub is_alive : List (Event V C) → Key → Bool
@@ -30,7 +30,7 @@ module _ {V C : Type 0} where
   latest_dot vnode last_epoch [] key = None
   latest_dot vnode last_epoch (event ∷ before) key =
       let earlier = latest_dot vnode last_epoch before key in
-      if not (key_eq event.key key && is_update event.deed) then earlier
+      if not (key_eq event.key key && is_update event.operation) then earlier
       else if is_alive before key then option_map next_of earlier
       else Some (record { actor = record { vnode = vnode; epoch = (last_epoch + lives_begun before) + 1 }; counter = 1 })
 
@@ -38,7 +38,7 @@ module _ {V C : Type 0} where
   abbrev pub dot_of : (vnode last_epoch : ℕ) → List (Event V C) → Key → ℕ → Option Dot
   dot_of vnode last_epoch [] key number = None
   dot_of vnode last_epoch (event ∷ before) key number =
-      if (key_eq event.key key && is_update event.deed) && (count_of (event ∷ before) key == number)
+      if (key_eq event.key key && is_update event.operation) && (count_of (event ∷ before) key == number)
       then latest_dot vnode last_epoch (event ∷ before) key
       else dot_of vnode last_epoch before key number
 
@@ -46,5 +46,5 @@ module _ {V C : Type 0} where
   abbrev pub dots : (vnode last_epoch : ℕ) → List (Event V C) → List (Option Dot)
   dots vnode last_epoch [] = []
   dots vnode last_epoch (event ∷ before) =
-      if is_update event.deed then latest_dot vnode last_epoch (event ∷ before) event.key ∷ dots vnode last_epoch before
+      if is_update event.operation then latest_dot vnode last_epoch (event ∷ before) event.key ∷ dots vnode last_epoch before
       else dots vnode last_epoch before

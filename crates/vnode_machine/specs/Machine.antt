@@ -7,23 +7,23 @@ use Rattle.std.specs.Cmp.Lexicographic.{pointwise}
 use Rattle.std.specs.FinMap.Entries.{find, put, where_key}
 use Rattle.riak_msgs.specs.declared.Key.{Key}
 use Rattle.riak_msgs.specs.KeyOrder.{key_cmp}
-use Rattle.sibling_register.specs.History.{Event, Deed, Write, Tombstone, Reap}
-use Rattle.sibling_register.specs.Refusals.{match_found, modified, not_found, bad_context, too_many_siblings, clock_full, epochs_used_up, counter_used_up, most_siblings, first_of}
+use Rattle.sibling_register.specs.History.{Event, Operation, Write, Tombstone, Reap}
+use Rattle.sibling_register.specs.Refusals.{match_found, modified, not_found, bad_context, too_many_siblings, clock_full, epochs_used_up, counter_used_up, max_siblings, first_of}
 use Rattle.sibling_register.specs.Answers.{PutCommand, DelCommand}
 use Rattle.actor_epoch.specs.declared.Actor.{Actor}
 use Rattle.actor_epoch.specs.declared.Dot.{Dot}
-use Rattle.actor_epoch.specs.Limits.{greatest_epoch, greatest_counter, most_actors}
+use Rattle.actor_epoch.specs.Limits.{max_epoch, max_counter, max_actors}
 use Rattle.actor_epoch.specs.Dots.{actor_eq, dot_eq, counter_in, next_dot}
-use Rattle.actor_epoch.specs.Contexts.{is_of_form}
+use Rattle.actor_epoch.specs.Contexts.{is_well_formed}
 use Rattle.actor_epoch.specs.Given.{Context, Malformed, Pairs}
-use Rattle.dvv_set.specs.Clocks.{Meaning, discard, event, join}
+use Rattle.dvv_set.specs.Clocks.{DotState, discard, event, join}
 use Rattle.dvv_set.specs.Held.{actors_after, uncovered}
 
 -- a stored key: the actor of its life at this vnode, where it has one, and what its clock means, with no content as a
 -- tombstone's value
 pub record Stored (V : Type 0) : Type 0 where
   pub own : Option Actor
-  pub clock : Meaning (Option V)
+  pub clock : DotState (Option V)
 
 -- a vnode: its id, the last epoch that it gave (0 before any), how many events of each kind it accepted, the stored keys
 -- in their order, and the number of its close where it is closed, which no event here does
@@ -69,7 +69,7 @@ module _ {V : Type 0} where
   is_held state key = is_some (stored state key)
 
   -- the key's clock, an empty one where the key is absent
-  abbrev pub clock_of : State V → Key → Meaning (Option V)
+  abbrev pub clock_of : State V → Key → DotState (Option V)
   clock_of state key = option_map_or (λ s. s.clock) (stored state key) (record { known = []; live = [] })
 
   -- the actor of the key's life, where it has one
@@ -92,38 +92,38 @@ module _ {V : Type 0} where
   holds_dead state key = is_held state key && not (has_value state key)
 
   -- names an epoch of this vnode above the last one given, or the key's own actor with a counter above the stored one
-  abbrev pub runs_ahead : State V → Key → Dot → Bool
-  runs_ahead state key pair =
+  abbrev pub names_unissued_dot : State V → Key → Dot → Bool
+  names_unissued_dot state key pair =
       ((pair.actor.vnode == state.vnode) && nat_lt state.last_epoch pair.actor.epoch)
       || option_map_or (λ own. actor_eq pair.actor own && nat_lt (counter_in (clock_of state key).known own) pair.counter) (own_of state key) false
 
   -- a given context that is malformed, or has a pair that runs ahead
-  abbrev pub is_bad : State V → Key → Option Context → Bool
-  is_bad state key None = false
-  is_bad state key (Some Malformed) = true
-  is_bad state key (Some (Pairs pairs)) = not (is_of_form pairs) || list_any (runs_ahead state key) pairs
+  abbrev pub is_bad_context : State V → Key → Option Context → Bool
+  is_bad_context state key None = false
+  is_bad_context state key (Some Malformed) = true
+  is_bad_context state key (Some (Pairs pairs)) = not (is_well_formed pairs) || list_any (names_unissued_dot state key) pairs
 
   -- as many siblings as a key may have aren't covered, so that with one more they were too many
-  abbrev pub is_crowded : State V → Key → List Dot → Bool
-  is_crowded state key pairs = nat_le most_siblings (uncovered pairs (clock_of state key))
+  abbrev pub has_too_many_siblings : State V → Key → List Dot → Bool
+  has_too_many_siblings state key pairs = nat_le max_siblings (uncovered pairs (clock_of state key))
 
   -- too many actors: of the stored clock, of the context, and the key's own
-  abbrev pub is_full : State V → Key → List Dot → Bool
-  is_full state key pairs =
-      nat_lt most_actors (actors_after (clock_of state key).known (Some pairs) (actor_for state key))
+  abbrev pub has_too_many_actors : State V → Key → List Dot → Bool
+  has_too_many_actors state key pairs =
+      nat_lt max_actors (actors_after (clock_of state key).known (Some pairs) (actor_for state key))
 
   abbrev pub is_out_of_epochs : State V → Key → Bool
-  is_out_of_epochs state key = not (is_some (own_of state key)) && (state.last_epoch == greatest_epoch)
+  is_out_of_epochs state key = not (is_some (own_of state key)) && (state.last_epoch == max_epoch)
 
   abbrev pub is_out_of_counters : State V → Key → Bool
   is_out_of_counters state key =
-      option_map_or (λ own. counter_in (clock_of state key).known own == greatest_counter) (own_of state key) false
+      option_map_or (λ own. counter_in (clock_of state key).known own == max_counter) (own_of state key) false
 
   -- whether the given context's entries are the stored clock's
-  abbrev pub is_current : State V → Key → Option Context → Bool
-  is_current state key None = false
-  is_current state key (Some Malformed) = false
-  is_current state key (Some (Pairs pairs)) = is_held state key && same_pairs pairs (join (clock_of state key))
+  abbrev pub matches_clock : State V → Key → Option Context → Bool
+  matches_clock state key None = false
+  matches_clock state key (Some Malformed) = false
+  matches_clock state key (Some (Pairs pairs)) = is_held state key && same_pairs pairs (join (clock_of state key))
 
   -- what a delete discards: its context's pairs, or without a context all that is stored
   abbrev pub del_pairs : State V → Key → Option Context → List Dot
@@ -133,22 +133,22 @@ module _ {V : Type 0} where
   -- the checks of a put or delete that discards these pairs, in their order
   abbrev pub room_checks : State V → Key → List Dot → List (Bool × ℕ)
   room_checks state key pairs =
-      (is_crowded state key pairs, too_many_siblings) ∷ (is_full state key pairs, clock_full)
+      (has_too_many_siblings state key pairs, too_many_siblings) ∷ (has_too_many_actors state key pairs, clock_full)
       ∷ (is_out_of_epochs state key, epochs_used_up) ∷ (is_out_of_counters state key, counter_used_up) ∷ []
 
   -- the refusal of a write or tombstone, where there is one
   abbrev pub update_check : State V → Key → Option Context → List Dot → Option ℕ
-  update_check state key given pairs = first_of ((is_bad state key given, bad_context) ∷ room_checks state key pairs)
+  update_check state key given pairs = first_of ((is_bad_context state key given, bad_context) ∷ room_checks state key pairs)
 
   abbrev pub put_check : State V → PutCommand V Context → Option ℕ
   put_check state put =
       let present = has_value state put.key in
       let if_not_modified = put.if_not_modified && not put.if_none_match in
       first_of (
-      (is_bad state put.key put.context, bad_context)
+      (is_bad_context state put.key put.context, bad_context)
       ∷ (put.if_none_match && present, match_found)
       ∷ (if_not_modified && not present, not_found)
-      ∷ (if_not_modified && not (is_current state put.key put.context), modified)
+      ∷ (if_not_modified && not (matches_clock state put.key put.context), modified)
       ∷ room_checks state put.key (pairs_of put.context))
 
   abbrev pub del_check : State V → DelCommand Context → Option ℕ
@@ -169,18 +169,18 @@ module _ {V : Type 0} where
   epoch_after state key = if is_some (own_of state key) then state.last_epoch else state.last_epoch + 1
 
   -- what an accepted event changes
-  abbrev pub changed_by : State V → Key → Option Context → Deed V → State V
-  changed_by state key given (Write content) = record state {
+  abbrev pub apply_operation : State V → Key → Option Context → Operation V → State V
+  apply_operation state key given (Write content) = record state {
     last_epoch = epoch_after state key;
     writes = counted state.writes;
     keys = updated state key (pairs_of given) (Some content);
   }
-  changed_by state key given Tombstone = record state {
+  apply_operation state key given Tombstone = record state {
     last_epoch = epoch_after state key;
     tombstones = counted state.tombstones;
     keys = updated state key (del_pairs state key given) None;
   }
-  changed_by state key given Reap = record state {
+  apply_operation state key given Reap = record state {
     reaps = counted state.reaps;
     keys = where_key key_cmp (λ other. not (eq_by_cmp key_cmp key other)) state.keys;
   }
@@ -188,9 +188,9 @@ module _ {V : Type 0} where
   -- the state after a list of events
   abbrev pub state_after : State V → List (Event V Context) → State V
   state_after first [] = first
-  state_after first (event ∷ before) = changed_by (state_after first before) event.key event.context event.deed
+  state_after first (event ∷ before) = apply_operation (state_after first before) event.key event.context event.operation
 
-  abbrev pub issued_at : State V → Key → Option Context → Deed V → List Dot → List Dot
+  abbrev pub issued_at : State V → Key → Option Context → Operation V → List Dot → List Dot
   issued_at state key given (Write content) earlier = next_dot (actor_for state key) (known_by state key (pairs_of given)) ∷ earlier
   issued_at state key given Tombstone earlier = next_dot (actor_for state key) (known_by state key (del_pairs state key given)) ∷ earlier
   issued_at state key given Reap earlier = earlier
@@ -198,4 +198,4 @@ module _ {V : Type 0} where
   -- the dots that the machine gave to a list of events, of whatever keys and lives, the latest first
   abbrev pub issued : State V → List (Event V Context) → List Dot
   issued first [] = []
-  issued first (event ∷ before) = issued_at (state_after first before) event.key event.context event.deed (issued first before)
+  issued first (event ∷ before) = issued_at (state_after first before) event.key event.context event.operation (issued first before)

@@ -2,7 +2,7 @@
 use Rattle.std.specs.Prelude.{◌≡◌, ◌∷◌, ℕ, Option, None, Result, Ok, Err}
 use Rattle.riak_msgs.specs.declared.Key.{Key}
 use Rattle.riak_msgs.specs.declared.Content.{Content}
-use Rattle.sibling_register.specs.History.{Event, Deed}
+use Rattle.sibling_register.specs.History.{Event, Operation}
 use Rattle.sibling_register.specs.Answers.{Ask, AskGet, AskPut, AskDel, AskReap, Told, Refused as ToldRefused, Reaped, Answers, Accepts, MayGive}
 use Rattle.sibling_register.specs.Legal.{IsLegal}
 use Rattle.actor_epoch.specs.Given.{Context}
@@ -31,13 +31,13 @@ reap_shown Reaped = ReapDone
 reap_shown told = ReapKept
 
 module _ (vnode last_epoch : ℕ) where
-  -- the event of an ask that does this deed at the end of the history
-  abbrev pub next_event : History → Ask Content Context → Deed Content → Event Content Context
-  next_event history ask deed = record {
+  -- the event of an ask that does this operation at the end of the history
+  abbrev pub next_event : History → Ask Content Context → Operation Content → Event Content Context
+  next_event history ask operation = record {
     key = key_of ask;
-    deed = deed;
+    operation = operation;
     context = context_in_ask ask;
-    saw = seen_by vnode last_epoch history (key_of ask) (context_in_ask ask) deed;
+    saw = seen_by vnode last_epoch history (key_of ask) (context_in_ask ask) operation;
   }
 
   -- the response to an ask that shows the register's answer at the end of the history
@@ -60,18 +60,18 @@ module _ (vnode last_epoch : ℕ) where
 
   -- the register may accept the ask as its next event, after which the list is a legal history and the machine is in this
   -- state, and the response shows its answer there
-  pub record IsNext (history : History) (ask : Ask Content Context) (deed : Deed Content) (response : Response) (next : State Content) : Type 0 where
+  pub record IsNext (history : History) (ask : Ask Content Context) (operation : Operation Content) (response : Response) (next : State Content) : Type 0 where
     pub told : Told ℕ
-    pub given : MayGive (naming vnode last_epoch) history ask (Accepts (next_event history ask deed) told)
-    pub leads : IsAfter vnode last_epoch (next_event history ask deed ∷ history) next
-    pub legal : IsLegal (naming vnode last_epoch) (next_event history ask deed ∷ history)
-    pub shown : reply_shown (next_event history ask deed ∷ history) ask told ≡ Ok response
+    pub given : MayGive (naming vnode last_epoch) history ask (Accepts (next_event history ask operation) told)
+    pub leads : IsAfter vnode last_epoch (next_event history ask operation ∷ history) next
+    pub legal : IsLegal (naming vnode last_epoch) (next_event history ask operation ∷ history)
+    pub shown : reply_shown (next_event history ask operation ∷ history) ask told ≡ Ok response
 
   -- what comes of an ask is what the register may give at the end of the history
   abbrev pub IsRegisters : History → Ask Content Context → StepOutcome → Type 0
   IsRegisters history ask (Refused number) = MayGive (naming vnode last_epoch) history ask (Answers (ToldRefused number))
   IsRegisters history ask (Answered response) = IsTold history ask response
-  IsRegisters history ask (Accepted deed response next) = IsNext history ask deed response next
+  IsRegisters history ask (Accepted operation response next) = IsNext history ask operation response next
 
 -- of a state within limits, what comes of an ask is the register's at each history that may have led there
 abbrev pub StepIsRegisters : State Content → Ask Content Context → Type 0

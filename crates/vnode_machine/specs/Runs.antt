@@ -30,13 +30,13 @@ IsOutOfMemory state turn after = (turn.reply ≡ Err no_memory) × (after ≡ st
 abbrev pub reply_of : StepOutcome → Result Response ℕ
 reply_of (Refused number) = Err number
 reply_of (Answered response) = Ok response
-reply_of (Accepted deed response next) = Ok response
+reply_of (Accepted operation response next) = Ok response
 
 -- and the state after it
 abbrev pub state_after_step : State Content → StepOutcome → State Content
 state_after_step state (Refused number) = state
 state_after_step state (Answered response) = state
-state_after_step state (Accepted deed response next) = next
+state_after_step state (Accepted operation response next) = next
 
 -- the turn is a step of the machine
 abbrev pub MakesStep : State Content → Turn → State Content → Type 0

@@ -4,10 +4,10 @@ use Rattle.riak_msgs.specs.declared.Key.{Key}
 use Rattle.riak_msgs.specs.declared.Content.{Content}
 use Rattle.riak_msgs.specs.declared.GetReply.{GetReply}
 use Rattle.riak_msgs.specs.declared.PutReply.{PutReply}
-use Rattle.sibling_register.specs.History.{Deed, Write, Tombstone, Reap}
+use Rattle.sibling_register.specs.History.{Operation, Write, Tombstone, Reap}
 use Rattle.sibling_register.specs.Answers.{PutCommand, DelCommand, Ask, AskGet, AskPut, AskDel, AskReap}
 use Rattle.actor_epoch.specs.Given.{Context}
-use Rattle.vnode_machine.specs.Machine.{State, is_held, holds_dead, put_check, del_check, changed_by}
+use Rattle.vnode_machine.specs.Machine.{State, is_held, holds_dead, put_check, del_check, apply_operation}
 use Rattle.vnode_machine.specs.Replies.{get_reply, put_reply}
 
 -- the answer to an ask that isn't refused; a reap forgot its key, or kept it, which wasn't dead
@@ -18,12 +18,12 @@ pub data Response : Type 0 where
   ReapDone : Response
   ReapKept : Response
 
--- an ask is refused by a number, or answered with nothing changed, or it is accepted: it does a deed, and is answered,
+-- an ask is refused by a number, or answered with nothing changed, or it is accepted: it does a operation, and is answered,
 -- and the machine is in its next state
 pub data StepOutcome : Type 0 where
   Refused : (number : ℕ) → StepOutcome
   Answered : (response : Response) → StepOutcome
-  Accepted : (deed : Deed Content) (response : Response) (next : State Content) → StepOutcome
+  Accepted : (operation : Operation Content) (response : Response) (next : State Content) → StepOutcome
 
 -- the first check that holds refuses
 abbrev pub unless_refused : Option ℕ → StepOutcome → StepOutcome
@@ -32,18 +32,18 @@ unless_refused (Some number) outcome = Refused number
 
 abbrev pub put_step : State Content → PutCommand Content Context → StepOutcome
 put_step state put =
-    let next = changed_by state put.key put.context (Write put.value) in
+    let next = apply_operation state put.key put.context (Write put.value) in
     unless_refused (put_check state put) (Accepted (Write put.value) (PutDone (put_reply next put)) next)
 
 -- a delete without context of an absent key does nothing
 abbrev pub del_step : State Content → DelCommand Context → StepOutcome
 del_step state del =
     if is_none del.context && not (is_held state del.key) then Answered DelDone
-    else unless_refused (del_check state del) (Accepted Tombstone DelDone (changed_by state del.key del.context Tombstone))
+    else unless_refused (del_check state del) (Accepted Tombstone DelDone (apply_operation state del.key del.context Tombstone))
 
 abbrev pub reap_step : State Content → Key → StepOutcome
 reap_step state key =
-    if holds_dead state key then Accepted Reap ReapDone (changed_by state key None Reap) else Answered ReapKept
+    if holds_dead state key then Accepted Reap ReapDone (apply_operation state key None Reap) else Answered ReapKept
 
 -- what comes of an ask
 abbrev pub outcome : State Content → Ask Content Context → StepOutcome

@@ -2,7 +2,7 @@
 //!
 //! A vnode keeps for each stored key an actor and a dotted version vector set (`specs/Machine`, `State`). A write or
 //! tombstone discards what its context covers and then takes the next dot of the key's actor, a new actor where the key
-//! has none; a reap forgets a dead key whole (`changed_by`). What it refuses, in which order, is `put_check` and
+//! has none; a reap forgets a dead key whole (`apply_operation`). What it refuses, in which order, is `put_check` and
 //! `del_check`; what it shows is `get_reply` and `put_reply` (`specs/Replies`). What comes of an ask in a state is one
 //! function, `outcome` (`specs/Step`): refused, answered with nothing changed, or accepted, with the next state. The
 //! replay of a list of events is the machine's state after them (`specs/Replay`, `replay`, `HasReplay`).

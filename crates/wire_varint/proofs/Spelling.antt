@@ -5,7 +5,7 @@ use Rattle.std.proofs.lemmas.Bool.{cases_lt, cond-true, cond-false, lt-ltb, le-l
 use Rattle.std.proofs.lemmas.Grind.{common_steps}
 use Rattle.std.proofs.lemmas.List.{append_assoc, length-append, length-take-le, take_more_set, drop-drop, drop-set-lt, set_split, get_or-take, get_or_append_left, take_at, drop_at}
 use Rattle.std.proofs.Math.Nat.{div-add-mod, div-lt_iff_lt-mul, pow-le-pow_right, le-div_iff_mul-le, mul-le-mul_right, mod-le}
-use Rattle.wire_varint.specs.Varint.{groups_from, value_of, GoesOn, IsVarint, HasGroups, EndsWithin, RunsOn, spelled, spelling}
+use Rattle.wire_varint.specs.Varint.{groups_from, value_of, GoesOn, IsVarint, HasGroups, IsTruncated, IsOverlong, spelled, spelling}
 
 -- a value below 128 is its own byte
 pub spelled-small : (n value : ℕ) → value < 128 → spelled n value ≡ value ∷ []
@@ -264,7 +264,7 @@ IsVarint-unique a b x y m n va vb e =
     (same, va.value_is ∙ ap value_of same ∙ sym vb.value_is, behind)
 
 -- bytes that begin with a varint don't end within one
-pub IsVarint-ends_not_within : (a x : List ℕ) (m : ℕ) → IsVarint a m → EndsWithin (a ++ x) → ⊥
+pub IsVarint-ends_not_within : (a x : List ℕ) (m : ℕ) → IsVarint a m → IsTruncated (a ++ x) → ⊥
 IsVarint-ends_not_within a x m v w =
     let last = length a - 1 in
     let below : last < length a = omega (arith, v.not_empty) in
@@ -273,7 +273,7 @@ IsVarint-ends_not_within a x m v w =
     omega (arith, v.ends)
 
 -- nor do they run on
-pub IsVarint-runs_not_on : (a x : List ℕ) (m : ℕ) → IsVarint a m → RunsOn (a ++ x) → ⊥
+pub IsVarint-runs_not_on : (a x : List ℕ) (m : ℕ) → IsVarint a m → IsOverlong (a ++ x) → ⊥
 IsVarint-runs_not_on a x m v r =
     let last = length a - 1 in
     let below : last < length a = omega (arith, v.not_empty) in

@@ -2,8 +2,8 @@
 use Rattle.std.specs.Prelude.{◌≡◌, ℕ, ◌+◌, ◌-◌, ◌*◌, ◌/◌, ◌%◌, ◌^◌, ◌<◌, ◌≤◌, suc, zero, List, [], ◌∷◌, length, slice_index, nat_lt, if◌then◌else◌}
 
 -- the most bytes that a varint has
-abbrev pub longest_varint : ℕ
-longest_varint = 10
+abbrev pub max_varint_len : ℕ
+max_varint_len = 10
 
 -- the sum of the seven-bit groups, the first of them times 128 to the `i`
 abbrev pub groups_from : ℕ → List ℕ → ℕ
@@ -21,20 +21,20 @@ GoesOn bs n = (k : ℕ) → k < n → 128 ≤ slice_index bs k
 -- the bytes are one varint of this value: one to ten bytes, and each but the last has the high bit
 pub record IsVarint (bs : List ℕ) (value : ℕ) : Type 0 where
   pub not_empty : 1 ≤ length bs
-  pub bounded : length bs ≤ longest_varint
+  pub bounded : length bs ≤ max_varint_len
   pub goes_on : GoesOn bs (length bs - 1)
   pub ends : slice_index bs (length bs - 1) < 128
   pub value_is : value ≡ value_of bs
 
 -- the bytes end before a varint does
-pub record EndsWithin (bs : List ℕ) : Type 0 where
-  pub few : length bs < longest_varint
+pub record IsTruncated (bs : List ℕ) : Type 0 where
+  pub few : length bs < max_varint_len
   pub goes_on : GoesOn bs (length bs)
 
 -- the first ten bytes have the high bit, and no varint is so long
-pub record RunsOn (bs : List ℕ) : Type 0 where
-  pub many : longest_varint ≤ length bs
-  pub goes_on : GoesOn bs longest_varint
+pub record IsOverlong (bs : List ℕ) : Type 0 where
+  pub many : max_varint_len ≤ length bs
+  pub goes_on : GoesOn bs max_varint_len
 
 -- a value below 128 is its own byte; any other has its lowest seven bits with the high bit, then the rest's bytes
 unfoldable pub spelled : ℕ → ℕ → List ℕ

@@ -1,9 +1,9 @@
 //! Laws of varints.
 
 ghost use Rattle.std.specs.Prelude.{◌≡◌, ℕ, ◌<◌, ◌≤◌, ◌^◌, ◌++◌, List, length};
-ghost use Rattle.wire_varint.specs.Varint.{IsVarint, longest_varint, spelling};
+ghost use Rattle.wire_varint.specs.Varint.{IsVarint, max_varint_len, spelling};
 
-use crate::LONGEST_VARINT;
+use crate::MAX_VARINT_LEN;
 
 /// A law: no varint begins another. So bytes begin with one varint at most, and what follows it doesn't matter.
 pub fn varints_are_one()
@@ -21,5 +21,5 @@ pub fn spelling_is_shortest()
 
 /// A law: the limit of the code is that of the definitions, ten bytes.
 pub fn longest_is_that_of_the_definitions()
-    ensures { LONGEST_VARINT ≡ longest_varint }
+    ensures { MAX_VARINT_LEN ≡ max_varint_len }
 {}

@@ -24,4 +24,4 @@ pub use reading::read;
 pub use writing::{len, write};
 
 /// The most bytes that a varint has: ten groups of seven bits hold any 64-bit value.
-pub const LONGEST_VARINT: usize = 10;
+pub const MAX_VARINT_LEN: usize = 10;

@@ -1,9 +1,9 @@
 //! Reading a varint.
 
 ghost use Rattle.std.specs.Prelude.{◌≡◌, ◌≤◌, ◌↔◌, IfOk, IsErrOf, length, take};
-ghost use Rattle.wire_varint.specs.Varint.{EndsWithin, IsVarint, RunsOn};
+ghost use Rattle.wire_varint.specs.Varint.{IsTruncated, IsVarint, IsOverlong};
 
-use crate::{LONGEST_VARINT, VarintFault};
+use crate::{MAX_VARINT_LEN, VarintFault};
 
 /// Reads the varint at the front of `bytes`: its value, and how many bytes it has.
 ///
@@ -16,8 +16,8 @@ use crate::{LONGEST_VARINT, VarintFault};
 pub fn read(bytes: &[u8]) -> Result<(u64, usize), VarintFault>
     ensures within { IfOk result (λ r. r.1 ≤ length bytes.now) }
     ensures varint { IfOk result (λ r. IsVarint (take r.1 bytes.now) r.0) }
-    ensures short { IsErrOf result VarintFault.Short ↔ EndsWithin bytes.now }
-    ensures too_long { IsErrOf result VarintFault.TooLong ↔ RunsOn bytes.now }
+    ensures short { IsErrOf result VarintFault.Short ↔ IsTruncated bytes.now }
+    ensures too_long { IsErrOf result VarintFault.TooLong ↔ IsOverlong bytes.now }
 {
     if let Some(&first) = bytes.first() {
         if first < 128 {
@@ -32,12 +32,12 @@ pub fn read(bytes: &[u8]) -> Result<(u64, usize), VarintFault>
 fn read_groups(bytes: &[u8]) -> Result<(u64, usize), VarintFault>
     ensures within { IfOk result (λ r. r.1 ≤ length bytes.now) }
     ensures varint { IfOk result (λ r. IsVarint (take r.1 bytes.now) r.0) }
-    ensures short { IsErrOf result VarintFault.Short ↔ EndsWithin bytes.now }
-    ensures too_long { IsErrOf result VarintFault.TooLong ↔ RunsOn bytes.now }
+    ensures short { IsErrOf result VarintFault.Short ↔ IsTruncated bytes.now }
+    ensures too_long { IsErrOf result VarintFault.TooLong ↔ IsOverlong bytes.now }
 {
     let mut value = 0u64;
     let mut weight = 1u64;
-    for i in 0..LONGEST_VARINT {
+    for i in 0..MAX_VARINT_LEN {
         if i >= bytes.len() {
             return Err(VarintFault::Short);
         }

@@ -3,13 +3,13 @@
 ghost use Rattle.std.specs.Prelude.{◌≡◌, ℕ, ◌<◌, ◌≤◌, ◌++◌, List, length, drop};
 ghost use Rattle.wire_varint.specs.Varint.{HasGroups, IsVarint, spelling};
 
-use crate::LONGEST_VARINT;
+use crate::MAX_VARINT_LEN;
 
 /// How many bytes the shortest spelling of `value` has: 1 to 10.
 #[inline(always)]
 pub fn len(value: u64) -> usize
     ensures spelled { result ≡ length (spelling value) }
-    ensures bounded { result ≤ LONGEST_VARINT }
+    ensures bounded { result ≤ MAX_VARINT_LEN }
 {
     groups(value)
 }
@@ -17,7 +17,7 @@ pub fn len(value: u64) -> usize
 // How many groups of seven bits the value has, and one for 0.
 #[inline(always)]
 fn groups(value: u64) -> usize
-    ensures bounded { result ≤ LONGEST_VARINT }
+    ensures bounded { result ≤ MAX_VARINT_LEN }
     ensures fewest { HasGroups value result }
 {
     match value {

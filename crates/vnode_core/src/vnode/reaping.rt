@@ -5,7 +5,7 @@ ghost use Rattle.vnode_machine.specs.Dead.{has_dead};
 ghost use Rattle.vnode_machine.specs.Step.{Accepted};
 ghost use Rattle.vnode_core.specs.declared.ask.Ask.TheVariants.{Reap, ReapFirst};
 ghost use Rattle.vnode_core.specs.Plans.{Plans, RegistersAsk, RegistersReap, RegistersFirstReap, Steps};
-ghost use Rattle.vnode_core.specs.Plans.{deed_of, response_of};
+ghost use Rattle.vnode_core.specs.Plans.{operation_of, response_of};
 ghost use Rattle.vnode_core.specs.Readiness.{plan_in};
 ghost use Rattle.vnode_core.specs.Reaping.{key_given, reap_result, after_reap, after_first_reap};
 ghost use Rattle.vnode_core.specs.Reaping.{LosesFirstDead};
@@ -94,7 +94,7 @@ impl Vnode {
         requires { self.old.prepared ≡ Some (Reap key) }
         ensures step { Steps self.old.state (Reap key) result self.new.state }
         ensures ended { self.new.prepared ≡ None }
-        ensures register { RegistersAsk self.old.state (Reap key) (Accepted (deed_of (Reap key)) (response_of result) self.new.state) }
+        ensures register { RegistersAsk self.old.state (Reap key) (Accepted (operation_of (Reap key)) (response_of result) self.new.state) }
     {
         self.drop_prepared();
         let reaped = self.reap(&key);
@@ -106,7 +106,7 @@ impl Vnode {
         requires { self.old.prepared ≡ Some (ReapFirst from) }
         ensures step { Steps self.old.state (ReapFirst from) result self.new.state }
         ensures ended { self.new.prepared ≡ None }
-        ensures register { RegistersAsk self.old.state (ReapFirst from) (Accepted (deed_of (ReapFirst from)) (response_of result) self.new.state) }
+        ensures register { RegistersAsk self.old.state (ReapFirst from) (Accepted (operation_of (ReapFirst from)) (response_of result) self.new.state) }
     {
         self.drop_prepared();
         if self.reap_first(from.as_ref()) {

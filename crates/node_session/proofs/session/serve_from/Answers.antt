@@ -1,6 +1,6 @@
 use Rattle.std.proofs.Common.{◌≡◌, ◌+◌, ◌*◌, ◌<◌, ◌≤◌, List, ℕ, [], ◌++◌, length, take, None, refl, sym, ap, subst, ◌∙◌, arith, length-append}
 use Rattle.std.proofs.lemmas.List.{length-take-le}
-use Rattle.pb_frame.specs.Limits.{longest_request}
+use Rattle.pb_frame.specs.Limits.{max_request_len}
 use Rattle.pb_frame.specs.Stream.{Stream}
 use Rattle.pb_frame.specs.Message.{IsPartial}
 use Rattle.node_session.specs.Answered.{StandsAt}
@@ -15,12 +15,12 @@ loop-init g c =
     let a = c.args.node.now in
     let unread = g.R.Read.remaining c.args.reader.now in
     let h = g.W.Write.contents c.args.writer.now in
-    let new : c.args.framer.now ≡ record { limit = longest_request; rest = []; fault = None } = c.requires.new in
+    let new : c.args.framer.now ≡ record { limit = max_request_len; rest = []; fault = None } = c.requires.new in
     let empty : c.args.framer.now.rest ≡ [] = ap (λ (s : Stream). s.rest) new in
     record {
       room = refl;
-      stream = new ∙ ap (λ (r : List ℕ). record { limit = longest_request; rest = r; fault = None }) (sym empty);
-      partial = subst (IsPartial longest_request) (sym empty) none_partial;
+      stream = new ∙ ap (λ (r : List ℕ). record { limit = max_request_len; rest = r; fault = None }) (sym empty);
+      partial = subst (IsPartial max_request_len) (sym empty) none_partial;
       made = MadeReads-none unread;
       reached = subst (λ (r : List ℕ). Reached step a unread h unread h 0 0 (StandsAt a r)) (sym empty) (Reached-none step a unread h);
     }

@@ -1,5 +1,5 @@
 use Rattle.std.proofs.Common.{◌≡◌, None, length}
-use Rattle.pb_frame.specs.Limits.{longest_request}
+use Rattle.pb_frame.specs.Limits.{max_request_len}
 use Rattle.pb_frame.specs.Message.{IsPartial}
 use Rattle.node_session.specs.Answered.{StandsAt}
 use Rattle.node_session.specs.Session.{MadeReads}
@@ -9,8 +9,8 @@ use Rattle.node_session.proofs.session.serve_from.Given as goal
 abbrev pub invariant-loop : goal.invariant-loop
 invariant-loop g l = record {
   room : length l.piece ≡ 4096;
-  stream : l.framer ≡ record { limit = longest_request; rest = l.framer.rest; fault = None };
-  partial : IsPartial longest_request l.framer.rest;
+  stream : l.framer ≡ record { limit = max_request_len; rest = l.framer.rest; fault = None };
+  partial : IsPartial max_request_len l.framer.rest;
   made : MadeReads (g.R.Read.remaining l.fn.reader) (g.R.Read.remaining l.reader) l.counter;
   reached : Reached g.N.Node.step l.fn.node (g.R.Read.remaining l.fn.reader) (g.W.Write.contents l.fn.writer) (g.R.Read.remaining l.reader) (g.W.Write.contents l.writer) l.counter l.replies (StandsAt l.node l.framer.rest);
 }

@@ -11,7 +11,7 @@ pub returns-then-has_too_many : goal.returns-then-has_too_many
 returns-then-has_too_many g c =
     let history : List (Event g.row.V.Denot ℕ) = history_of c.args.entries.now in
     let del : Option ℕ → DelCommand ℕ = λ context. record { key = c.args.key; context = context } in
-    let read = c.in_ok-standing.ensures in
+    let read = c.in_ok-key_state.ensures in
     let idle = c.is_idle.ensures.value ∙ does_nothing-by history (del c.count_at-named.result) _ read.siblings in
     let saw = c.seen_by_delete-saw.ensures.value ∙ ap (unwrap_or c.count_at-named.result) read.count in
     let many = c.has_too_many.ensures.value ∙ del_refusal-by history (del c.count_at-named.result) _ _ read.siblings saw in
@@ -25,7 +25,7 @@ pub returns : goal.returns
 returns g c =
     let history : List (Event g.row.V.Denot ℕ) = history_of c.args.entries.now in
     let del : Option ℕ → DelCommand ℕ = λ context. record { key = c.args.key; context = context } in
-    let read = c.in_ok-standing.ensures in
+    let read = c.in_ok-key_state.ensures in
     let idle = c.is_idle.ensures.value ∙ does_nothing-by history (del c.count_at-named.result) _ read.siblings in
     let saw = c.seen_by_delete-saw.ensures.value ∙ ap (unwrap_or c.count_at-named.result) read.count in
     let many = c.has_too_many.ensures.value ∙ del_refusal-by history (del c.count_at-named.result) _ _ read.siblings saw in

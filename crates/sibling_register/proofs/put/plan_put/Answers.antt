@@ -1,6 +1,6 @@
 use Rattle.std.proofs.Common.{◌∙◌, ap, sym, ℕ, List, ◌+◌}
 use Rattle.std.specs.Prelude.{Option, unwrap_or}
-use Rattle.sibling_register.specs.declared.deed.Deed.TheVariants.{Write}
+use Rattle.sibling_register.specs.declared.operation.Operation.TheVariants.{Write}
 use Rattle.sibling_register.specs.declared.entry.Entry.{Entry}
 use Rattle.sibling_register.specs.History.{Event, count_of}
 use Rattle.sibling_register.specs.Answers.{PutCommand, Accepts, put_refusal}
@@ -16,7 +16,7 @@ returns-in-Some g c =
     let history : List (Event g.row.V.Denot ℕ) = history_of c.args.entries.now in
     let given = c.args.put in
     let put : Option ℕ → PutCommand g.row.V.Denot ℕ = λ context. record { key = given.key; context = context; value = given.value; return_body = given.return_body; return_head = given.return_head; if_not_modified = given.if_not_modified; if_none_match = given.if_none_match } in
-    let read = c.in_ok-standing.ensures in
+    let read = c.in_ok-key_state.ensures in
     let check = c.first_check.ensures.value ∙ put_refusal-by history (put c.count_at-named.result) _ _ _ read.siblings read.count read.present in
     record {
       value = c.answer.ensures.value
@@ -29,13 +29,13 @@ returns g c =
     let history : List (Event g.row.V.Denot ℕ) = history_of c.args.entries.now in
     let given = c.args.put in
     let put : Option ℕ → PutCommand g.row.V.Denot ℕ = λ context. record { key = given.key; context = context; value = given.value; return_body = given.return_body; return_head = given.return_head; if_not_modified = given.if_not_modified; if_none_match = given.if_none_match } in
-    let read = c.in_ok-standing.ensures in
+    let read = c.in_ok-key_state.ensures in
     let check = c.first_check.ensures.value ∙ put_refusal-by history (put c.count_at-named.result) _ _ _ read.siblings read.count read.present in
-    let entry : ℕ → Entry g.row.V.Denot = λ saw. record { key = given.key; deed = Write given.value; context = c.count_at-named.result; saw = saw } in
+    let entry : ℕ → Entry g.row.V.Denot = λ saw. record { key = given.key; operation = Write given.value; context = c.count_at-named.result; saw = saw } in
     let saw = c.seen_by_put.ensures.value in
     let numbers = c.in_ok-follow.ensures.value
-    ∙ ap (λ m. follow_of (entry m) (c.in_ok-standing.standing.count + 1) c.in_ok-standing.standing.siblings.items) saw
-    ∙ ap (λ n. follow_of (entry (unwrap_or c.count_at-named.result 0)) (n + 1) c.in_ok-standing.standing.siblings.items) read.count
+    ∙ ap (λ m. follow_of (entry m) (c.in_ok-key_state.key_state.count + 1) c.in_ok-key_state.key_state.siblings.items) saw
+    ∙ ap (λ n. follow_of (entry (unwrap_or c.count_at-named.result 0)) (n + 1) c.in_ok-key_state.key_state.siblings.items) read.count
     ∙ ap (follow_of (entry (unwrap_or c.count_at-named.result 0)) (count_of history given.key + 1)) read.siblings in
     record {
       value = ap (λ m. Accepts (event_of (entry m)) (told_of c.put_told-told.result)) saw

@@ -2,7 +2,7 @@ use Rattle.std.proofs.Common.{◌≡◌, ◌||◌, true, ◌∙◌, refl, sym, a
 use Rattle.std.specs.Prelude.{Some}
 use Rattle.std.specs.Option.{option_map}
 use Rattle.std.proofs.lemmas.Simd.{map-map}
-use Rattle.actor_epoch.specs.Contexts.{encoding, is_of_form}
+use Rattle.actor_epoch.specs.Contexts.{encoding, is_well_formed}
 use Rattle.dvv_set.specs.Held.{pairs_of as seen_in}
 use Rattle.vnode_core.specs.Replies.{clock_found}
 use Rattle.vnode_core.specs.Shelves.{stored_of}
@@ -14,7 +14,7 @@ pub context_of-requires : goal.context_of-requires
 context_of-requires c =
     let content = c.args.put.now.content in
     let clock = clock_found (option_map (λ key. stored_of key.now) c.args.found) in
-    ap is_of_form (ap (λ m. m.known) (c.in_ok-after.ensures content) ∙ known-event c.args.actor (Some content) (seen_in c.args.context) clock) ∙ c.requires.form
+    ap is_well_formed (ap (λ m. m.known) (c.in_ok-after.ensures content) ∙ known-event c.args.actor (Some content) (seen_in c.args.context) clock) ∙ c.requires.form
 
 pub returns : goal.returns
 returns c =

@@ -1,11 +1,11 @@
 use Rattle.std.proofs.Common.{◌∙◌, sym, ap, arith, length}
 use Rattle.dvv_set.specs.Clocks.{discard}
-use Rattle.dvv_set.specs.Rows.{meaning_of, absorb_all, count_new, rows_of_pairs}
+use Rattle.dvv_set.specs.Rows.{dot_state_of, absorb_all, count_new, rows_of_pairs}
 use Rattle.dvv_set.specs.Stored.{as_rows}
 use Rattle.dvv_set.proofs.Stored.{length-as_rows}
 use Rattle.dvv_set.proofs.Absorb.{AreRows-absorb_all}
 use Rattle.dvv_set.proofs.Events.{AreRows-pairs}
-use Rattle.dvv_set.proofs.Counts.{length-discard, count_new-pairs-within, meaning_of-discard, length-absorb_all}
+use Rattle.dvv_set.proofs.Counts.{length-discard, count_new-pairs-within, dot_state_of-discard, length-absorb_all}
 use Rattle.dvv_set.proofs.clock.Clock.discard.Goals as goal
 
 pub make_room-requires-clause-more : goal.make_room-requires-clause-more
@@ -60,8 +60,8 @@ returns-clause-discarded g c =
     let absorbed =
     c.absorb_pairs.ensures.absorbed
     ∙ (λ i. absorb_all (rows_of_pairs (c.pairs-2.ensures.pairs i)) (as_rows (c.in_default.ensures.unchanged i))) in
-    ap meaning_of absorbed
-    ∙ meaning_of-discard (as_rows own) pairs c.self.invariant.rows c.pairs.ensures.of_form
+    ap dot_state_of absorbed
+    ∙ dot_state_of-discard (as_rows own) pairs c.self.invariant.rows c.pairs.ensures.of_form
     ∙ (λ i. discard pairs (c.self.view_is i).meaning)
 
 pub returns-clause-within : goal.returns-clause-within

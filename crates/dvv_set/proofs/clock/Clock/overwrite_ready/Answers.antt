@@ -3,7 +3,7 @@ use Rattle.std.specs.FinMap.Entries.{put}
 use Rattle.actor_epoch.specs.Dots.{actor_cmp}
 use Rattle.dvv_set.specs.Clocks.{event, discard}
 use Rattle.dvv_set.specs.Held.{actors_after, counter_before}
-use Rattle.dvv_set.specs.Rows.{meaning_of, row_of, with_value}
+use Rattle.dvv_set.specs.Rows.{dot_state_of, row_of, with_value}
 use Rattle.dvv_set.specs.Stored.{as_rows}
 use Rattle.dvv_set.proofs.Stored.{length-as_rows}
 use Rattle.dvv_set.proofs.Emptied.{overwrite-rows, overwrite-counter, overwrite-values, overwrite-length, overwrite-next, overwrite-meaning}
@@ -58,6 +58,6 @@ returns g c =
     let put_is =
     c.put_value.ensures
     ∙ ap (λ rows. put actor_cmp c.args.actor (with_value c.args.value (row_of c.args.actor rows)) rows) c.drop_values.ensures.emptied in
-    ap meaning_of put_is
+    ap dot_state_of put_is
     ∙ overwrite-meaning own c.args.actor c.args.value c.self.invariant.rows (omega (arith, c.self.invariant.few, length-as_rows c.self.inside.entries.items))
     ∙ ap (λ held. event c.args.actor c.args.value (discard held.meaning.known held.meaning)) c.self.view_is

@@ -4,7 +4,7 @@ use Rattle.std.specs.FinMap.Entries.{put}
 use Rattle.actor_epoch.specs.Dots.{actor_cmp, counter_in}
 use Rattle.dvv_set.specs.Clocks.{event}
 use Rattle.dvv_set.specs.Held.{without, known_with, known_after, values_of}
-use Rattle.dvv_set.specs.Rows.{meaning_of, row_of, with_value}
+use Rattle.dvv_set.specs.Rows.{dot_state_of, row_of, with_value}
 use Rattle.dvv_set.specs.Stored.{as_rows}
 use Rattle.dvv_set.proofs.Stored.{length-as_rows}
 use Rattle.dvv_set.proofs.Ready.{ready-rows, ready-next, ready-counter, ready-length, ready-values, ready-room, ready-meaning}
@@ -76,6 +76,6 @@ returns g c =
     let put_is =
     c.put_value.ensures
     ∙ ap (λ rows. put actor_cmp c.args.actor (with_value c.args.value (row_of c.args.actor rows)) rows) c.absorb_context.ensures.absorbed in
-    ap meaning_of put_is
+    ap dot_state_of put_is
     ∙ ready-meaning own pairs c.requires.of_form c.self.invariant.rows c.args.actor c.args.value
     ∙ ap (λ held. event c.args.actor c.args.value (without pairs held.meaning)) c.self.view_is

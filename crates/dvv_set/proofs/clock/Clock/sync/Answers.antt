@@ -1,9 +1,9 @@
 use Rattle.std.proofs.Common.{◌∙◌, sym, ap, arith, length}
 use Rattle.dvv_set.specs.Clocks.{sync}
-use Rattle.dvv_set.specs.Rows.{meaning_of, absorb_all, count_new}
+use Rattle.dvv_set.specs.Rows.{dot_state_of, absorb_all, count_new}
 use Rattle.dvv_set.specs.Stored.{as_rows}
 use Rattle.dvv_set.proofs.Stored.{length-as_rows}
-use Rattle.dvv_set.proofs.Live.{meaning_of-absorb_all}
+use Rattle.dvv_set.proofs.Live.{dot_state_of-absorb_all}
 use Rattle.dvv_set.proofs.Absorb.{AreRows-absorb_all}
 use Rattle.dvv_set.proofs.Counts.{count_new-within, length-sync, length-absorb_all}
 use Rattle.dvv_set.proofs.clock.Clock.sync.Goals as goal
@@ -54,8 +54,8 @@ returns-clause-synced g c =
     let own = c.self.inside.entries.items in
     let others = c.other.inside.entries.items in
     let absorbed = c.absorb_all.ensures.absorbed ∙ ap (λ es. absorb_all (as_rows others) (as_rows es)) c.in_default.ensures.unchanged in
-    ap meaning_of absorbed
-    ∙ meaning_of-absorb_all (as_rows others) (as_rows own) c.other.invariant.rows c.self.invariant.rows
+    ap dot_state_of absorbed
+    ∙ dot_state_of-absorb_all (as_rows others) (as_rows own) c.other.invariant.rows c.self.invariant.rows
     ∙ (λ i. sync (c.self.view_is i).meaning (c.other.view_is i).meaning)
 
 pub returns-clause-within : goal.returns-clause-within

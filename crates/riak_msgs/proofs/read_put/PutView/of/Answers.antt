@@ -1,6 +1,6 @@
 use Rattle.std.proofs.Common.{List, refl, sym, subst}
 use Rattle.pb_fields.specs.Field.{WireField}
-use Rattle.pb_fields.specs.Message.{StandsFor}
+use Rattle.pb_fields.specs.Message.{Encodes}
 use Rattle.pb_fields.proofs.Merging.{MergesAll-tracks}
 use Rattle.riak_msgs.specs.Picking.{each_bytes}
 use Rattle.riak_msgs.specs.Embedded.{StandForContent}
@@ -19,6 +19,6 @@ pub returns-clause-ok : goal.returns-clause-ok
 returns-clause-ok c =
     let (fields, stands, all) = c.in_ok-scan.ensures.ok in
     let (put, own, content, is) = MergesAll-tracks HasSeenPut c.new-view.result c.scan.new.into fields (no_put, refl, StandForContent-nil, c.new-view.ensures) all in
-    let P : List WireField → Type 0 = StandsFor c.args.body.now in
+    let P : List WireField → Type 0 = Encodes c.args.body.now in
     let Q : List WireField → Type 0 = λ fs. StandForContent (each_bytes 4 fs) put.content in
     (put, record { own = subst P (sym own) stands; content = subst Q (sym own) content }, is)

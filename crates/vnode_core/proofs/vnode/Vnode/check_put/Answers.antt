@@ -18,10 +18,10 @@ returns-in_err-check_options-clause-given c =
     let p = err_from_is_err_and c.from_residual.result c.from_residual.ensures.1 in
     let found = option_map (λ key. stored_of key.now) c.get-found.result in
     let behind = (λ i. list_any (is_ahead c.self.inside.id (sym c.last-last_epoch.ensures i) (sym c.last_of.ensures i)) (pairs_in (seen_in c.args.context)))
-    ∙ sym c.runs_ahead.ensures.ahead ∙ c.if-runs_ahead.false in
+    ∙ sym c.names_unissued_dot.ensures.ahead ∙ c.if-names_unissued_dot.false in
     rw (p.1, p.2)
     (subst (λ w. RefusedBy c.in_err-check_options.field-0.0 (put_check w.state (put_command c.args.put.now))) c.self.view_is
-    (options-refuse (state_of c.self.inside) c.args.put.now (seen_in c.args.context) c.requires c.runs_ahead.ensures.read found c.get-found.ensures
+    (options-refuse (state_of c.self.inside) c.args.put.now (seen_in c.args.context) c.requires c.names_unissued_dot.ensures.read found c.get-found.ensures
     behind c.in_err-check_options.field-0.0 c.in_err-check_options.ensures))
 
 pub check_room-requires : goal.check_room-requires
@@ -31,9 +31,9 @@ pub returns-clause-given : goal.returns-clause-given
 returns-clause-given c =
     let found = option_map (λ key. stored_of key.now) c.get-found.result in
     let behind = (λ i. list_any (is_ahead c.self.inside.id (sym c.last-last_epoch.ensures i) (sym c.last_of.ensures i)) (pairs_in (seen_in c.args.context)))
-    ∙ sym c.runs_ahead.ensures.ahead ∙ c.if-runs_ahead.false in
+    ∙ sym c.names_unissued_dot.ensures.ahead ∙ c.if-names_unissued_dot.false in
     subst (λ w. GivenBy c.check_room.result (put_check w.state (put_command c.args.put.now))) c.self.view_is
     (rooms-give (state_of c.self.inside) c.args.put.now _
-    (rooms-follow (state_of c.self.inside) c.args.put.now (seen_in c.args.context) c.requires c.runs_ahead.ensures.read found c.get-found.ensures behind c.in_ok-check_options.ensures)
+    (rooms-follow (state_of c.self.inside) c.args.put.now (seen_in c.args.context) c.requires c.names_unissued_dot.ensures.read found c.get-found.ensures behind c.in_ok-check_options.ensures)
     c.check_room.result (c.check_room.ensures.given (state_of c.self.inside) c.args.put.now.key
-    (record { stored = sym c.get-found.ensures; vnode = refl; epoch = sym c.last-last_epoch.ensures; behind = sym (ap (λ last. list_any (is_ahead c.self.inside.id c.last-last_epoch.result last) (pairs_in (seen_in c.args.context))) c.last_of.ensures) ∙ sym c.runs_ahead.ensures.ahead ∙ c.if-runs_ahead.false })))
+    (record { stored = sym c.get-found.ensures; vnode = refl; epoch = sym c.last-last_epoch.ensures; behind = sym (ap (λ last. list_any (is_ahead c.self.inside.id c.last-last_epoch.result last) (pairs_in (seen_in c.args.context))) c.last_of.ensures) ∙ sym c.names_unissued_dot.ensures.ahead ∙ c.if-names_unissued_dot.false })))

@@ -4,7 +4,7 @@ use Rattle.riak_msgs.specs.declared.Content.{Content}
 use Rattle.riak_msgs.specs.declared.PutReply.{PutReply}
 use Rattle.dvv_set.specs.Clocks.{event}
 use Rattle.actor_epoch.specs.declared.Actor.{Actor}
-use Rattle.actor_epoch.specs.Contexts.{is_of_form}
+use Rattle.actor_epoch.specs.Contexts.{is_well_formed}
 use Rattle.dvv_set.specs.Held.{IsWithin, known_after, known_with, without, pairs_of as seen_in}
 use Rattle.vnode_machine.specs.Machine.{State, stored, clock_of}
 use Rattle.vnode_core.specs.Replies.{clock_found, reply_after}
@@ -31,7 +31,7 @@ put_reply-requires-clause-form c =
     let is = subst (λ w. IsReached w.state) c.self.view_is c.self.invariant.reached in
     let form = form-after state is put c.requires.free seen c.requires.given in
     let found = c.get-found.ensures ∙ ap (λ w. stored w.state put.key) c.self.view_is in
-    (λ i. is_of_form (known_after (c.requires.own i) (known_with seen (clock_found (found i)).known))) ∙ form
+    (λ i. is_well_formed (known_after (c.requires.own i) (known_with seen (clock_found (found i)).known))) ∙ form
 
 pub returns : goal.returns
 returns c =

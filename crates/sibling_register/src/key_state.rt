@@ -3,11 +3,11 @@
 ghost use Rattle.std.specs.Prelude.{◌≡◌, ◌≤◌, IfOk, length, nat_le, nat_lt, count_by};
 ghost use Rattle.sibling_register.specs.History.{count_of};
 ghost use Rattle.sibling_register.specs.Siblings.{siblings, is_present};
-ghost use Rattle.sibling_register.specs.Refusals.{most_siblings};
+ghost use Rattle.sibling_register.specs.Refusals.{max_siblings};
 ghost use Rattle.sibling_register.specs.Entries.{history_of, is_dead_by};
 
 use crate::entry::Entry;
-use crate::refusals::MOST_SIBLINGS;
+use crate::refusals::MAX_SIBLINGS;
 use crate::scans::{count_in, has_write, siblings_in};
 use riak_msgs::Key;
 use std::alloc::{AllocError, Global};
@@ -15,19 +15,19 @@ use std::alloc::{AllocError, Global};
 /// How a key stands at the end of the history: its siblings, newest first; how many events it has; and whether one of
 /// the siblings is a write.
 #[derive(Drop)]
-pub(crate) struct Standing {
+pub(crate) struct KeyState {
     pub(crate) siblings: Vec<u64>,
     pub(crate) count: u64,
     pub(crate) is_present: bool,
 }
 
-impl Standing {
+impl KeyState {
     /// How the key stands after these entries.
     pub(crate) fn of<V>(
         alloc: Global,
         entries: &[Entry<V>],
         key: &Key,
-    ) -> Result<Standing, AllocError>
+    ) -> Result<KeyState, AllocError>
         ensures siblings { IfOk result (λ s. s.siblings.items ≡ siblings (history_of entries.now) key.now) }
         ensures count { IfOk result (λ s. s.count ≡ count_of (history_of entries.now) key.now) }
         ensures bound { IfOk result (λ s. s.count ≤ length entries.now) }
@@ -36,7 +36,7 @@ impl Standing {
         let siblings = siblings_in(alloc, entries, key)?;
         let count = count_in(entries, key);
         let is_present = has_write(entries, key, siblings.as_slice());
-        Ok(Standing {
+        Ok(KeyState {
             siblings,
             count,
             is_present,
@@ -52,8 +52,8 @@ impl Standing {
 
     /// Whether as many siblings as the limit are past the number that was seen.
     pub(crate) fn has_too_many(&self, saw: u64) -> bool
-        ensures value { result ≡ nat_le most_siblings (count_by (λ n. nat_lt saw n) self.now.siblings.items) }
+        ensures value { result ≡ nat_le max_siblings (count_by (λ n. nat_lt saw n) self.now.siblings.items) }
     {
-        self.siblings.iter().filter(|number| **number > saw).count() >= MOST_SIBLINGS
+        self.siblings.iter().filter(|number| **number > saw).count() >= MAX_SIBLINGS
     }
 }

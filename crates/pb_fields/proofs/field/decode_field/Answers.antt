@@ -4,8 +4,8 @@ use Rattle.pb_fields.specs.Faults.{HasNoNumber}
 use Rattle.pb_fields.specs.declared.fault.FieldFault.TheVariants.{BadVarint}
 use Rattle.pb_fields.proofs.Cases.{value_fails_first, bad_key_first, found_runs_not, number_has_key}
 use Rattle.pb_fields.proofs.Parts.{field_from}
-use Rattle.pb_fields.proofs.field.field_at.Goals as goal
-use Rattle.pb_fields.proofs.field.field_at.Goals.{in_default-None-via-in-Err+in_default+in-None, in_default-None-via-in-Ok+in-None}
+use Rattle.pb_fields.proofs.field.decode_field.Goals as goal
+use Rattle.pb_fields.proofs.field.decode_field.Goals.{in_default-None-via-in-Err+in_default+in-None, in_default-None-via-in-Ok+in-None}
 
 pub returns-in-Err-default : goal.returns-in-Err-default
 returns-in-Err-default c =
@@ -28,12 +28,12 @@ returns-in_default-None-clause-fault c =
     elim c.in_default-None.branch [
       | in_default-None-via-in-Err+in_default+in-None w ↦
           let none : HasNoNumber c.in_ok-key.key = w.in_default-None.ensures.none in
-          let other : c.value_at.result ≡ Err BadVarint → ⊥ = search rules in
+          let other : c.decode_value.result ≡ Err BadVarint → ⊥ = search rules in
           bad_key_first c.args.bytes.now c.in_ok-key.behind.now c.in_ok-key.key c.in_ok-key.ensures.varint none
-          (found_runs_not (λ r. r.now) (c.in_ok-key.key % 8) c.in_ok-key.behind.now c.value_at.result other c.value_at.ensures.wire c.value_at.ensures.value c.value_at.ensures.fault)
+          (found_runs_not (λ r. r.now) (c.in_ok-key.key % 8) c.in_ok-key.behind.now c.decode_value.result other c.decode_value.ensures.wire c.decode_value.ensures.value c.decode_value.ensures.fault)
       | in_default-None-via-in-Ok+in-None w ↦
           let none : HasNoNumber c.in_ok-key.key = w.in_default-None.ensures.none in
-          let other : c.value_at.result ≡ Err BadVarint → ⊥ = search rules in
+          let other : c.decode_value.result ≡ Err BadVarint → ⊥ = search rules in
           bad_key_first c.args.bytes.now c.in_ok-key.behind.now c.in_ok-key.key c.in_ok-key.ensures.varint none
-          (found_runs_not (λ r. r.now) (c.in_ok-key.key % 8) c.in_ok-key.behind.now c.value_at.result other c.value_at.ensures.wire c.value_at.ensures.value c.value_at.ensures.fault)
+          (found_runs_not (λ r. r.now) (c.in_ok-key.key % 8) c.in_ok-key.behind.now c.decode_value.result other c.decode_value.ensures.wire c.decode_value.ensures.value c.decode_value.ensures.fault)
     ]

@@ -1,7 +1,7 @@
 use Rattle.std.proofs.Common.{ℕ, ◌++◌, refl, sym, subst}
 use Rattle.std.proofs.lemmas.List.{append_assoc}
 use Rattle.wire_varint.specs.Varint.{IsVarint}
-use Rattle.pb_fields.proofs.value.value_at.Goals as goal
+use Rattle.pb_fields.proofs.value.decode_value.Goals as goal
 
 pub returns-in_ok-content-in-2-clause-value : goal.returns-in_ok-content-in-2-clause-value
 returns-in_ok-content-in-2-clause-value c =
