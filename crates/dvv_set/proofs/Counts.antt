@@ -13,39 +13,39 @@ use Rattle.actor_epoch.specs.declared.Dot.{Dot}
 use Rattle.actor_epoch.specs.Dots.{actor_cmp, actor_eq}
 use Rattle.actor_epoch.proofs.Rising.{and_first, and_second}
 use Rattle.actor_epoch.proofs.Order.{actor_cmp_total, actor_eq-same}
-use Rattle.dvv_set.specs.Rows.{known_of, live_of, dot_state_of, values_from, is_row, row_of, merged, absorb, absorb_all, AreRows, count_new, rows_of_pairs}
+use Rattle.dvv_set.specs.ClockEntries.{ClockEntries, known_of, live_of, dot_state_of, values_from, is_entry, entry_for, merged, merge_entry, merge_all, AreEntries, count_new, entries_of_pairs}
 use Rattle.dvv_set.specs.Held.{values_of}
 use Rattle.actor_epoch.specs.Contexts.{is_well_formed}
 use Rattle.dvv_set.specs.Clocks.{sync, discard}
-use Rattle.dvv_set.proofs.Events.{AreRows-pairs, dot_state_of-without}
-use Rattle.dvv_set.proofs.Live.{dot_state_of-absorb_all}
+use Rattle.dvv_set.proofs.Events.{AreEntries-pairs, dot_state_of-without}
+use Rattle.dvv_set.proofs.Live.{dot_state_of-merge_all}
 use Rattle.dvv_set.proofs.Orders.{eq_by_cmp-actor, T-first, T-second, T-less}
-use Rattle.dvv_set.proofs.Rows.{actor_eq-back, row_of-below}
-use Rattle.dvv_set.proofs.Absorb.{AreRows-tail, AreRows-absorb}
+use Rattle.dvv_set.proofs.ClockEntries.{actor_eq-back, entry_for-below}
+use Rattle.dvv_set.proofs.Merges.{AreEntries-tail, AreEntries-merge_entry}
 
 module _ {V : Type 0} where
-  pub length-known_of : (rows : List (Actor × (ℕ × List V))) → length (known_of rows) ≡ length rows
+  pub length-known_of : (entries : ClockEntries V) → length (known_of entries) ≡ length entries
   length-known_of [] = refl
-  length-known_of (row ∷ rows) = ap suc (length-known_of rows)
+  length-known_of (entry ∷ entries) = ap suc (length-known_of entries)
 
-  count_new-absorb : (row : Actor × (ℕ × List V)) (others rows : List (Actor × (ℕ × List V))) → T (below_all actor_cmp row.0 others) → count_new others (absorb row rows) ≡ count_new others rows
-  count_new-absorb row [] rows h = refl
-  count_new-absorb row (other ∷ others) rows h =
-      let less : actor_cmp row.0 other.0 ≡ Less = T-less _ (T-first (is_lt (actor_cmp row.0 other.0)) _ h) in
-      let greater : actor_cmp other.0 row.0 ≡ Greater = actor_cmp_total.antisymm other.0 row.0 ∙ ap ordering_reverse less in
-      let same : find actor_cmp other.0 (absorb row rows) ≡ find actor_cmp other.0 rows =
-      find-put actor_cmp actor_cmp_total other.0 row.0 (merged (row_of row.0 rows) row.1) rows
-      ∙ ap (λ o. cond (is_eq o) (Some (merged (row_of row.0 rows) row.1)) (find actor_cmp other.0 rows)) greater in
-      let rest = count_new-absorb row others rows (T-second (is_lt (actor_cmp row.0 other.0)) _ h) in
+  count_new-merge_entry : (entry : Actor × (ℕ × List V)) (others entries : ClockEntries V) → T (below_all actor_cmp entry.0 others) → count_new others (merge_entry entry entries) ≡ count_new others entries
+  count_new-merge_entry entry [] entries h = refl
+  count_new-merge_entry entry (other ∷ others) entries h =
+      let less : actor_cmp entry.0 other.0 ≡ Less = T-less _ (T-first (is_lt (actor_cmp entry.0 other.0)) _ h) in
+      let greater : actor_cmp other.0 entry.0 ≡ Greater = actor_cmp_total.antisymm other.0 entry.0 ∙ ap ordering_reverse less in
+      let same : find actor_cmp other.0 (merge_entry entry entries) ≡ find actor_cmp other.0 entries =
+      find-put actor_cmp actor_cmp_total other.0 entry.0 (merged (entry_for entry.0 entries) entry.1) entries
+      ∙ ap (λ o. cond (is_eq o) (Some (merged (entry_for entry.0 entries) entry.1)) (find actor_cmp other.0 entries)) greater in
+      let rest = count_new-merge_entry entry others entries (T-second (is_lt (actor_cmp entry.0 other.0)) _ h) in
       λ i. cond (is_some (same i)) 0 1 + rest i
 
-  pub length-absorb_all : (others rows : List (Actor × (ℕ × List V))) → AreRows others → AreRows rows → length (absorb_all others rows) ≡ length rows + count_new others rows
-  length-absorb_all [] rows g h = omega arith
-  length-absorb_all (row ∷ others) rows g h =
-      length-absorb_all others (absorb row rows) (AreRows-tail row others g) (AreRows-absorb row rows (and_first (is_row row) (list_all is_row others) g.each) h)
-      ∙ (λ i. length-put actor_cmp actor_cmp_total row.0 (merged (row_of row.0 rows) row.1) rows h.sorted i
-      + count_new-absorb row others rows (T-first (below_all actor_cmp row.0 others) _ g.sorted) i)
-      ∙ by (is_some (find actor_cmp row.0 rows)) (length rows) (count_new others rows)
+  pub length-merge_all : (others entries : ClockEntries V) → AreEntries others → AreEntries entries → length (merge_all others entries) ≡ length entries + count_new others entries
+  length-merge_all [] entries g h = omega arith
+  length-merge_all (entry ∷ others) entries g h =
+      length-merge_all others (merge_entry entry entries) (AreEntries-tail entry others g) (AreEntries-merge_entry entry entries (and_first (is_entry entry) (list_all is_entry others) g.each) h)
+      ∙ (λ i. length-put actor_cmp actor_cmp_total entry.0 (merged (entry_for entry.0 entries) entry.1) entries h.sorted i
+      + count_new-merge_entry entry others entries (T-first (below_all actor_cmp entry.0 others) _ g.sorted) i)
+      ∙ by (is_some (find actor_cmp entry.0 entries)) (length entries) (count_new others entries)
     where
       by : (b : Bool) (n k : ℕ) → cond b n (n + 1) + k ≡ n + (cond b 0 1 + k)
       by true n k = omega arith
@@ -65,22 +65,22 @@ module _ {V : Type 0} where
       by false h = h
 
   -- the live dots of an actor are its entry's values
-  pub length-values_of : (a : Actor) (rows : List (Actor × (ℕ × List V))) → T (is_sorted actor_cmp rows) → length (values_of a (live_of rows)) ≡ length (row_of a rows).1
+  pub length-values_of : (a : Actor) (entries : ClockEntries V) → T (is_sorted actor_cmp entries) → length (values_of a (live_of entries)) ≡ length (entry_for a entries).1
   length-values_of a [] h = refl
-  length-values_of a (row ∷ rows) h =
-      ap length (filter-append (λ entry. actor_eq entry.0.actor a) (values_from row.0 row.1.0 row.1.1) (live_of rows))
-      ∙ length-append (values_of a (values_from row.0 row.1.0 row.1.1)) (values_of a (live_of rows))
-      ∙ (λ i. (length-values_from a row.0 row.1.0 row.1.1 ∙ ap (λ t. cond t (length row.1.1) 0) (actor_eq-back row.0 a)) i
-      + length-values_of a rows (T-second (below_all actor_cmp row.0 rows) _ h) i)
-      ∙ by (actor_eq a row.0) refl
-      ∙ ap (λ t. length (unwrap_or (cond t (Some row.1) (find actor_cmp a rows)) (0, [])).1) (sym (eq_by_cmp-actor a row.0))
+  length-values_of a (entry ∷ entries) h =
+      ap length (filter-append (λ entry. actor_eq entry.0.actor a) (values_from entry.0 entry.1.0 entry.1.1) (live_of entries))
+      ∙ length-append (values_of a (values_from entry.0 entry.1.0 entry.1.1)) (values_of a (live_of entries))
+      ∙ (λ i. (length-values_from a entry.0 entry.1.0 entry.1.1 ∙ ap (λ t. cond t (length entry.1.1) 0) (actor_eq-back entry.0 a)) i
+      + length-values_of a entries (T-second (below_all actor_cmp entry.0 entries) _ h) i)
+      ∙ by (actor_eq a entry.0) refl
+      ∙ ap (λ t. length (unwrap_or (cond t (Some entry.1) (find actor_cmp a entries)) (0, [])).1) (sym (eq_by_cmp-actor a entry.0))
     where
-      by : (t : Bool) → actor_eq a row.0 ≡ t
-          → cond t (length row.1.1) 0 + length (row_of a rows).1 ≡ length (unwrap_or (cond t (Some row.1) (find actor_cmp a rows)) (0, [])).1
+      by : (t : Bool) → actor_eq a entry.0 ≡ t
+          → cond t (length entry.1.1) 0 + length (entry_for a entries).1 ≡ length (unwrap_or (cond t (Some entry.1) (find actor_cmp a entries)) (0, [])).1
       by true e =
-          let same : a ≡ row.0 = actor_eq-same a row.0 e in
-          let gone : row_of a rows ≡ (0, []) = ap (λ k. row_of k rows) same ∙ row_of-below row.0 rows (T-first _ (is_sorted actor_cmp rows) h) in
-          ap (λ r. length row.1.1 + length r.1) gone ∙ omega arith
+          let same : a ≡ entry.0 = actor_eq-same a entry.0 e in
+          let gone : entry_for a entries ≡ (0, []) = ap (λ k. entry_for k entries) same ∙ entry_for-below entry.0 entries (T-first _ (is_sorted actor_cmp entries) h) in
+          ap (λ r. length entry.1.1 + length r.1) gone ∙ omega arith
       by false e = omega arith
 
   -- a merge with an entry without values leaves no more values
@@ -95,57 +95,57 @@ module _ {V : Type 0} where
           ap_le k = omega (arith, length-take k (let none : List V = [] in none))
 
   -- the first of others, and those after it
-  pub AreRows-rest : (all : List (Actor × (ℕ × List V))) (row : Actor × (ℕ × List V)) (others : List (Actor × (ℕ × List V))) → all ≡ row ∷ others → AreRows all → AreRows others
-  AreRows-rest all row others e g = let g' : AreRows (row ∷ others) = rw (← e) g in AreRows-tail row others g'
+  pub AreEntries-rest : (all : ClockEntries V) (entry : Actor × (ℕ × List V)) (others : ClockEntries V) → all ≡ entry ∷ others → AreEntries all → AreEntries others
+  AreEntries-rest all entry others e g = let g' : AreEntries (entry ∷ others) = rw (← e) g in AreEntries-tail entry others g'
 
-  pub is_row-first : (all : List (Actor × (ℕ × List V))) (row : Actor × (ℕ × List V)) (others : List (Actor × (ℕ × List V))) → all ≡ row ∷ others → AreRows all → IsTrue (is_row row)
-  is_row-first all row others e g = let g' : AreRows (row ∷ others) = rw (← e) g in and_first (is_row row) (list_all is_row others) g'.each
+  pub is_entry-first : (all : ClockEntries V) (entry : Actor × (ℕ × List V)) (others : ClockEntries V) → all ≡ entry ∷ others → AreEntries all → IsTrue (is_entry entry)
+  is_entry-first all entry others e g = let g' : AreEntries (entry ∷ others) = rw (← e) g in and_first (is_entry entry) (list_all is_entry others) g'.each
 
-  pub AreRows-next : (all : List (Actor × (ℕ × List V))) (row : Actor × (ℕ × List V)) (others rows next : List (Actor × (ℕ × List V))) → all ≡ row ∷ others → next ≡ absorb row rows
-      → AreRows all → AreRows rows → AreRows next
-  AreRows-next all row others rows next e n g h = rw n (AreRows-absorb row rows (is_row-first all row others e g) h)
+  pub AreEntries-next : (all : ClockEntries V) (entry : Actor × (ℕ × List V)) (others entries next : ClockEntries V) → all ≡ entry ∷ others → next ≡ merge_entry entry entries
+      → AreEntries all → AreEntries entries → AreEntries next
+  AreEntries-next all entry others entries next e n g h = rw n (AreEntries-merge_entry entry entries (is_entry-first all entry others e g) h)
 
-  pub absorb-fits : (all : List (Actor × (ℕ × List V))) (row : Actor × (ℕ × List V)) (others rows : List (Actor × (ℕ × List V))) (n : ℕ) → all ≡ row ∷ others
-      → AreRows all → AreRows rows → length (absorb_all all rows) ≤ n → length (absorb row rows) ≤ n
-  absorb-fits all row others rows n e g h fits =
-      let more = length-absorb_all others (absorb row rows) (AreRows-rest all row others e g) (AreRows-absorb row rows (is_row-first all row others e g) h) in
-      let same = ap (λ rs. length (absorb_all rs rows)) e in
+  pub merge_entry-fits : (all : ClockEntries V) (entry : Actor × (ℕ × List V)) (others entries : ClockEntries V) (n : ℕ) → all ≡ entry ∷ others
+      → AreEntries all → AreEntries entries → length (merge_all all entries) ≤ n → length (merge_entry entry entries) ≤ n
+  merge_entry-fits all entry others entries n e g h fits =
+      let more = length-merge_all others (merge_entry entry entries) (AreEntries-rest all entry others e g) (AreEntries-merge_entry entry entries (is_entry-first all entry others e g) h) in
+      let same = ap (λ rs. length (merge_all rs entries)) e in
       omega arith
 
-  pub absorb_all-next : (all : List (Actor × (ℕ × List V))) (row : Actor × (ℕ × List V)) (others rows next : List (Actor × (ℕ × List V))) → all ≡ row ∷ others → next ≡ absorb row rows
-      → absorb_all others next ≡ absorb_all all rows
-  absorb_all-next all row others rows next e n = rw (e, n) refl
+  pub merge_all-next : (all : ClockEntries V) (entry : Actor × (ℕ × List V)) (others entries next : ClockEntries V) → all ≡ entry ∷ others → next ≡ merge_entry entry entries
+      → merge_all others next ≡ merge_all all entries
+  merge_all-next all entry others entries next e n = rw (e, n) refl
 
-  pub count_new-within : (others rows : List (Actor × (ℕ × List V))) → count_new others rows ≤ length others
-  count_new-within [] rows = omega arith
-  count_new-within (row ∷ others) rows = by (is_some (find actor_cmp row.0 rows)) (count_new-within others rows)
+  pub count_new-within : (others entries : ClockEntries V) → count_new others entries ≤ length others
+  count_new-within [] entries = omega arith
+  count_new-within (entry ∷ others) entries = by (is_some (find actor_cmp entry.0 entries)) (count_new-within others entries)
     where
-      by : (b : Bool) → count_new others rows ≤ length others → cond b 0 1 + count_new others rows ≤ suc (length others)
+      by : (b : Bool) → count_new others entries ≤ length others → cond b 0 1 + count_new others entries ≤ suc (length others)
       by true h = omega arith
       by false h = omega arith
 
   -- how many actors a sync knows
-  pub length-sync : (rows others : List (Actor × (ℕ × List V))) → AreRows rows → AreRows others
-      → length (sync (dot_state_of rows) (dot_state_of others)).known ≡ length rows + count_new others rows
-  length-sync rows others h g =
-      ap (λ m. length m.known) (sym (dot_state_of-absorb_all others rows g h)) ∙ length-known_of (absorb_all others rows) ∙ length-absorb_all others rows g h
+  pub length-sync : (entries others : ClockEntries V) → AreEntries entries → AreEntries others
+      → length (sync (dot_state_of entries) (dot_state_of others)).known ≡ length entries + count_new others entries
+  length-sync entries others h g =
+      ap (λ m. length m.known) (sym (dot_state_of-merge_all others entries g h)) ∙ length-known_of (merge_all others entries) ∙ length-merge_all others entries g h
 
   -- the same for a context's pairs
-  pub length-discard : (rows : List (Actor × (ℕ × List V))) (pairs : List Dot) → AreRows rows → IsTrue (is_well_formed pairs)
-      → length (discard pairs (dot_state_of rows)).known ≡ length rows + count_new (rows_of_pairs pairs) rows
-  length-discard rows pairs h f =
-      ap (λ m. length m.known) (sym (dot_state_of-without (Some pairs) rows (λ ps e. let same : pairs ≡ ps = cc in ap is_well_formed (sym same) ∙ f) h))
-      ∙ length-known_of (absorb_all (rows_of_pairs pairs) rows)
-      ∙ length-absorb_all (rows_of_pairs pairs) rows (AreRows-pairs V pairs f) h
+  pub length-discard : (entries : ClockEntries V) (pairs : List Dot) → AreEntries entries → IsTrue (is_well_formed pairs)
+      → length (discard pairs (dot_state_of entries)).known ≡ length entries + count_new (entries_of_pairs pairs) entries
+  length-discard entries pairs h f =
+      ap (λ m. length m.known) (sym (dot_state_of-without (Some pairs) entries (λ ps e. let same : pairs ≡ ps = cc in ap is_well_formed (sym same) ∙ f) h))
+      ∙ length-known_of (merge_all (entries_of_pairs pairs) entries)
+      ∙ length-merge_all (entries_of_pairs pairs) entries (AreEntries-pairs V pairs f) h
 
-  pub dot_state_of-discard : (rows : List (Actor × (ℕ × List V))) (pairs : List Dot) → AreRows rows → IsTrue (is_well_formed pairs)
-      → dot_state_of (absorb_all (rows_of_pairs pairs) rows) ≡ discard pairs (dot_state_of rows)
-  dot_state_of-discard rows pairs h f = dot_state_of-without (Some pairs) rows (λ ps e. let same : pairs ≡ ps = cc in ap is_well_formed (sym same) ∙ f) h
+  pub dot_state_of-discard : (entries : ClockEntries V) (pairs : List Dot) → AreEntries entries → IsTrue (is_well_formed pairs)
+      → dot_state_of (merge_all (entries_of_pairs pairs) entries) ≡ discard pairs (dot_state_of entries)
+  dot_state_of-discard entries pairs h f = dot_state_of-without (Some pairs) entries (λ ps e. let same : pairs ≡ ps = cc in ap is_well_formed (sym same) ∙ f) h
 
-pub count_new-pairs-within : (V : Type 0) (pairs : List Dot) (rows : List (Actor × (ℕ × List V))) → IsTrue (is_well_formed pairs) → count_new (rows_of_pairs {V = V} pairs) rows ≤ 64
-count_new-pairs-within V pairs rows f =
-    let within = count_new-within (rows_of_pairs {V = V} pairs) rows in
-    let long : length (rows_of_pairs {V = V} pairs) ≡ length pairs = length-map pairs (λ pair. (pair.actor, (pair.counter, (let none : List V = [] in none)))) in
+pub count_new-pairs-within : (V : Type 0) (pairs : List Dot) (entries : ClockEntries V) → IsTrue (is_well_formed pairs) → count_new (entries_of_pairs {V = V} pairs) entries ≤ 64
+count_new-pairs-within V pairs entries f =
+    let within = count_new-within (entries_of_pairs {V = V} pairs) entries in
+    let long : length (entries_of_pairs {V = V} pairs) ≡ length pairs = length-map pairs (λ pair. (pair.actor, (pair.counter, (let none : List V = [] in none)))) in
     let few : nat_le (length pairs) 64 ≡ true = and_second (nat_le 1 (length pairs)) _ (and_first (nat_le 1 (length pairs) && nat_le (length pairs) 64) _ f) in
     let fits : length pairs ≤ 64 = grind (arith, nat_tests) in
     omega arith

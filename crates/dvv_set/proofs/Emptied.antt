@@ -1,4 +1,4 @@
--- Rows without their values, and how many values are uncovered.
+-- Entries without their values, and how many values are uncovered.
 use Rattle.std.proofs.Common.{◌≡◌, ℕ, zero, suc, ◌+◌, ◌-◌, ◌<◌, ◌≤◌, Bool, true, false, not, ◌&&◌, cond, IsTrue, List, [], ◌∷◌, length, get_or, map, refl, sym, ◌∙◌, ap, arith, length-append}
 use Rattle.std.specs.Prelude.{T, nat_le, min, filter, Some, None, unwrap_or}
 use Rattle.std.specs.List.{list_all}
@@ -15,93 +15,93 @@ use Rattle.actor_epoch.proofs.Order.{covers-counter_in}
 use Rattle.dvv_set.specs.declared.entry.Entry.{Entry}
 use Rattle.dvv_set.specs.Clocks.{discard, event}
 use Rattle.dvv_set.specs.Held.{actors_after, known_after}
-use Rattle.dvv_set.specs.Rows.{AreRows, dot_state_of, known_of, live_of, values_from, is_row, row_of, with_value, emptied, newer, count_uncovered}
-use Rattle.dvv_set.specs.Stored.{as_row, as_rows}
+use Rattle.dvv_set.specs.ClockEntries.{ClockEntries, AreEntries, dot_state_of, known_of, live_of, values_from, is_entry, entry_for, with_value, emptied, newer, count_uncovered}
+use Rattle.dvv_set.specs.Stored.{clock_entry, clock_entries}
 use Rattle.dvv_set.proofs.Orders.{T-first, T-second, T-both}
-use Rattle.dvv_set.proofs.Rows.{is_row-within, counter_in-known_of}
+use Rattle.dvv_set.proofs.ClockEntries.{is_entry-within, counter_in-known_of}
 use Rattle.dvv_set.proofs.Discards.{discard-all}
-use Rattle.dvv_set.proofs.Events.{AreRows-event, dot_state_of-event}
+use Rattle.dvv_set.proofs.Events.{AreEntries-event, dot_state_of-event}
 use Rattle.dvv_set.proofs.Counts.{length-known_of}
 use Rattle.dvv_set.proofs.Sound.{IsClock-dot_state_of}
 
-is_row-emptied : (n k : ℕ) → (nat_le 1 n && nat_le k n) ≡ true → (nat_le 1 n && nat_le 0 n) ≡ true
-is_row-emptied n k h = grind (arith, nat_tests)
+is_entry-emptied : (n k : ℕ) → (nat_le 1 n && nat_le k n) ≡ true → (nat_le 1 n && nat_le 0 n) ≡ true
+is_entry-emptied n k h = grind (arith, nat_tests)
 
 module _ {V : Type 0} where
-  -- the first so many of rows without their values
-  abbrev pub emptied_to : ℕ → List (Actor × (ℕ × List V)) → List (Actor × (ℕ × List V))
-  emptied_to zero rows = rows
+  -- the first so many of entries without their values
+  abbrev pub emptied_to : ℕ → ClockEntries V → ClockEntries V
+  emptied_to zero entries = entries
   emptied_to (suc n) [] = []
-  emptied_to (suc n) (row ∷ rows) = emptied row ∷ emptied_to n rows
+  emptied_to (suc n) (entry ∷ entries) = emptied entry ∷ emptied_to n entries
 
-  pub emptied_to-all : (rows : List (Actor × (ℕ × List V))) → emptied_to (length rows) rows ≡ map emptied rows
+  pub emptied_to-all : (entries : ClockEntries V) → emptied_to (length entries) entries ≡ map emptied entries
   emptied_to-all [] = refl
-  emptied_to-all (row ∷ rows) = ap (λ rest. emptied row ∷ rest) (emptied_to-all rows)
+  emptied_to-all (entry ∷ entries) = ap (λ rest. emptied entry ∷ rest) (emptied_to-all entries)
 
   -- the entry at an index without its values
-  pub set-emptied_to : (entries : List (Entry V)) (i : ℕ) (rows : List (Actor × (ℕ × List V))) (d next : Entry V) → i < length entries
-      → as_rows entries ≡ emptied_to i rows → as_row next ≡ emptied (as_row (get_or entries i d)) → as_rows (set entries i next) ≡ emptied_to (suc i) rows
-  set-emptied_to [] i rows d next h e n = absurd (omega arith)
+  pub set-emptied_to : (entries : List (Entry V)) (i : ℕ) (own : ClockEntries V) (d next : Entry V) → i < length entries
+      → clock_entries entries ≡ emptied_to i own → clock_entry next ≡ emptied (clock_entry (get_or entries i d)) → clock_entries (set entries i next) ≡ emptied_to (suc i) own
+  set-emptied_to [] i own d next h e n = absurd (omega arith)
   set-emptied_to (entry ∷ entries) zero [] d next h e n = cc
-  set-emptied_to (entry ∷ entries) zero (row ∷ rows) d next h e n =
-      let first : as_row entry ≡ row = cc in
-      let rest : as_rows entries ≡ rows = cc in
+  set-emptied_to (entry ∷ entries) zero (first_own ∷ own) d next h e n =
+      let first : clock_entry entry ≡ first_own = cc in
+      let rest : clock_entries entries ≡ own = cc in
       λ i. (n ∙ ap emptied first) i ∷ rest i
   set-emptied_to (entry ∷ entries) (suc i) [] d next h e n = cc
-  set-emptied_to (entry ∷ entries) (suc i) (row ∷ rows) d next h e n =
-      let first : as_row entry ≡ emptied row = cc in
-      let rest : as_rows entries ≡ emptied_to i rows = cc in
-      λ j. first j ∷ set-emptied_to entries i rows d next (omega arith) rest n j
+  set-emptied_to (entry ∷ entries) (suc i) (first_own ∷ own) d next h e n =
+      let first : clock_entry entry ≡ emptied first_own = cc in
+      let rest : clock_entries entries ≡ emptied_to i own = cc in
+      λ j. first j ∷ set-emptied_to entries i own d next (omega arith) rest n j
 
-  pub set-emptied_next : (entries : List (Entry V)) (i : ℕ) (rows : List (Actor × (ℕ × List V))) (d next : Entry V) → i < length entries
-      → as_rows entries ≡ emptied_to i rows → as_row next ≡ emptied (as_row (get_or entries i d)) → as_rows (set entries i next) ≡ emptied_to (i + 1) rows
-  set-emptied_next entries i rows d next h e n = let one : i + 1 ≡ suc i = omega arith in rw one (set-emptied_to entries i rows d next h e n)
+  pub set-emptied_next : (entries : List (Entry V)) (i : ℕ) (own : ClockEntries V) (d next : Entry V) → i < length entries
+      → clock_entries entries ≡ emptied_to i own → clock_entry next ≡ emptied (clock_entry (get_or entries i d)) → clock_entries (set entries i next) ≡ emptied_to (i + 1) own
+  set-emptied_next entries i own d next h e n = let one : i + 1 ≡ suc i = omega arith in rw one (set-emptied_to entries i own d next h e n)
 
-  known_of-emptied : (rows : List (Actor × (ℕ × List V))) → known_of (map emptied rows) ≡ known_of rows
+  known_of-emptied : (entries : ClockEntries V) → known_of (map emptied entries) ≡ known_of entries
   known_of-emptied [] = refl
-  known_of-emptied (row ∷ rows) = ap (λ pairs. record { actor = row.0; counter = row.1.0 } ∷ pairs) (known_of-emptied rows)
+  known_of-emptied (entry ∷ entries) = ap (λ pairs. record { actor = entry.0; counter = entry.1.0 } ∷ pairs) (known_of-emptied entries)
 
-  live_of-emptied : (rows : List (Actor × (ℕ × List V))) → live_of (map emptied rows) ≡ []
+  live_of-emptied : (entries : ClockEntries V) → live_of (map emptied entries) ≡ []
   live_of-emptied [] = refl
-  live_of-emptied (row ∷ rows) = live_of-emptied rows
+  live_of-emptied (entry ∷ entries) = live_of-emptied entries
 
-  pub length-emptied : (rows : List (Actor × (ℕ × List V))) → length (map emptied rows) ≡ length rows
+  pub length-emptied : (entries : ClockEntries V) → length (map emptied entries) ≡ length entries
   length-emptied [] = refl
-  length-emptied (row ∷ rows) = ap suc (length-emptied rows)
+  length-emptied (entry ∷ entries) = ap suc (length-emptied entries)
 
-  below_all-emptied : (a : Actor) (rows : List (Actor × (ℕ × List V))) → T (below_all actor_cmp a rows) → T (below_all actor_cmp a (map emptied rows))
+  below_all-emptied : (a : Actor) (entries : ClockEntries V) → T (below_all actor_cmp a entries) → T (below_all actor_cmp a (map emptied entries))
   below_all-emptied a [] h = tt
-  below_all-emptied a (row ∷ rows) h = T-both (is_lt (actor_cmp a row.0)) _ (T-first (is_lt (actor_cmp a row.0)) _ h) (below_all-emptied a rows (T-second (is_lt (actor_cmp a row.0)) _ h))
+  below_all-emptied a (entry ∷ entries) h = T-both (is_lt (actor_cmp a entry.0)) _ (T-first (is_lt (actor_cmp a entry.0)) _ h) (below_all-emptied a entries (T-second (is_lt (actor_cmp a entry.0)) _ h))
 
-  is_sorted-emptied : (rows : List (Actor × (ℕ × List V))) → T (is_sorted actor_cmp rows) → T (is_sorted actor_cmp (map emptied rows))
+  is_sorted-emptied : (entries : ClockEntries V) → T (is_sorted actor_cmp entries) → T (is_sorted actor_cmp (map emptied entries))
   is_sorted-emptied [] h = tt
-  is_sorted-emptied (row ∷ rows) h =
-      T-both (below_all actor_cmp row.0 (map emptied rows)) _ (below_all-emptied row.0 rows (T-first _ (is_sorted actor_cmp rows) h))
-      (is_sorted-emptied rows (T-second (below_all actor_cmp row.0 rows) _ h))
+  is_sorted-emptied (entry ∷ entries) h =
+      T-both (below_all actor_cmp entry.0 (map emptied entries)) _ (below_all-emptied entry.0 entries (T-first _ (is_sorted actor_cmp entries) h))
+      (is_sorted-emptied entries (T-second (below_all actor_cmp entry.0 entries) _ h))
 
-  each-emptied : (rows : List (Actor × (ℕ × List V))) → IsTrue (list_all is_row rows) → IsTrue (list_all is_row (map emptied rows))
+  each-emptied : (entries : ClockEntries V) → IsTrue (list_all is_entry entries) → IsTrue (list_all is_entry (map emptied entries))
   each-emptied [] h = refl
-  each-emptied (row ∷ rows) h =
-      λ i. is_row-emptied row.1.0 (length row.1.1) (and_first (is_row row) (list_all is_row rows) h) i
-      && each-emptied rows (and_second (is_row row) (list_all is_row rows) h) i
+  each-emptied (entry ∷ entries) h =
+      λ i. is_entry-emptied entry.1.0 (length entry.1.1) (and_first (is_entry entry) (list_all is_entry entries) h) i
+      && each-emptied entries (and_second (is_entry entry) (list_all is_entry entries) h) i
 
-  pub AreRows-emptied : (rows : List (Actor × (ℕ × List V))) → AreRows rows → AreRows (map emptied rows)
-  AreRows-emptied rows h = record { sorted = is_sorted-emptied rows h.sorted; each = each-emptied rows h.each }
+  pub AreEntries-emptied : (entries : ClockEntries V) → AreEntries entries → AreEntries (map emptied entries)
+  AreEntries-emptied entries h = record { sorted = is_sorted-emptied entries h.sorted; each = each-emptied entries h.each }
 
-  pub row_of-emptied : (a : Actor) (rows : List (Actor × (ℕ × List V))) → row_of a (map emptied rows) ≡ ((row_of a rows).0, [])
-  row_of-emptied a [] = refl
-  row_of-emptied a (row ∷ rows) = by (eq_by_cmp actor_cmp a row.0) (row_of-emptied a rows)
+  pub entry_for-emptied : (a : Actor) (entries : ClockEntries V) → entry_for a (map emptied entries) ≡ ((entry_for a entries).0, [])
+  entry_for-emptied a [] = refl
+  entry_for-emptied a (entry ∷ entries) = by (eq_by_cmp actor_cmp a entry.0) (entry_for-emptied a entries)
     where
-      by : (b : Bool) → row_of a (map emptied rows) ≡ ((row_of a rows).0, [])
-          → unwrap_or (cond b (Some (emptied row).1) (find actor_cmp a (map emptied rows))) (0, [])
-          ≡ ((unwrap_or (cond b (Some row.1) (find actor_cmp a rows)) (0, [])).0, [])
+      by : (b : Bool) → entry_for a (map emptied entries) ≡ ((entry_for a entries).0, [])
+          → unwrap_or (cond b (Some (emptied entry).1) (find actor_cmp a (map emptied entries))) (0, [])
+          ≡ ((unwrap_or (cond b (Some entry.1) (find actor_cmp a entries)) (0, [])).0, [])
       by true h = refl
       by false h = h
 
-  -- rows without their values mean that all is discarded
-  pub dot_state_of-emptied : (rows : List (Actor × (ℕ × List V))) → AreRows rows → length rows ≤ 64 → dot_state_of (map emptied rows) ≡ discard (known_of rows) (dot_state_of rows)
-  dot_state_of-emptied rows h few =
-      (λ i. record { known = known_of-emptied rows i; live = live_of-emptied rows i }) ∙ sym (discard-all (dot_state_of rows) (IsClock-dot_state_of rows h few))
+  -- entries without their values mean that all is discarded
+  pub dot_state_of-emptied : (entries : ClockEntries V) → AreEntries entries → length entries ≤ 64 → dot_state_of (map emptied entries) ≡ discard (known_of entries) (dot_state_of entries)
+  dot_state_of-emptied entries h few =
+      (λ i. record { known = known_of-emptied entries i; live = live_of-emptied entries i }) ∙ sym (discard-all (dot_state_of entries) (IsClock-dot_state_of entries h few))
 
   newest : (pairs : List Dot) (a : Actor) (n : ℕ) (values : List V) → length values ≤ n
       → length (filter (λ entry. not (covers pairs entry.0)) (values_from a n values)) ≡ newer (counter_in pairs a) (n, values)
@@ -125,38 +125,38 @@ module _ {V : Type 0} where
           over n k p h = grind (arith, nat_tests)
 
   -- the values that pairs don't cover
-  pub length-uncovered : (pairs : List Dot) (rows : List (Actor × (ℕ × List V))) → IsTrue (list_all is_row rows)
-      → count_uncovered pairs rows ≡ length (filter (λ entry. not (covers pairs entry.0)) (live_of rows))
+  pub length-uncovered : (pairs : List Dot) (entries : ClockEntries V) → IsTrue (list_all is_entry entries)
+      → count_uncovered pairs entries ≡ length (filter (λ entry. not (covers pairs entry.0)) (live_of entries))
   length-uncovered pairs [] h = refl
-  length-uncovered pairs (row ∷ rows) h =
-      let within : length row.1.1 ≤ row.1.0 = is_row-within row.1.0 (length row.1.1) (and_first (is_row row) (list_all is_row rows) h) in
+  length-uncovered pairs (entry ∷ entries) h =
+      let within : length entry.1.1 ≤ entry.1.0 = is_entry-within entry.1.0 (length entry.1.1) (and_first (is_entry entry) (list_all is_entry entries) h) in
       sym (
-      ap length (filter-append (λ entry. not (covers pairs entry.0)) (values_from row.0 row.1.0 row.1.1) (live_of rows))
-      ∙ length-append (filter (λ entry. not (covers pairs entry.0)) (values_from row.0 row.1.0 row.1.1)) _
-      ∙ (λ i. newest pairs row.0 row.1.0 row.1.1 within i + sym (length-uncovered pairs rows (and_second (is_row row) (list_all is_row rows) h)) i))
+      ap length (filter-append (λ entry. not (covers pairs entry.0)) (values_from entry.0 entry.1.0 entry.1.1) (live_of entries))
+      ∙ length-append (filter (λ entry. not (covers pairs entry.0)) (values_from entry.0 entry.1.0 entry.1.1)) _
+      ∙ (λ i. newest pairs entry.0 entry.1.0 entry.1.1 within i + sym (length-uncovered pairs entries (and_second (is_entry entry) (list_all is_entry entries) h)) i))
 
   -- a value in place of all
-  pub overwrite-rows : (rows : List (Actor × (ℕ × List V))) → AreRows rows → AreRows (map emptied rows)
-  overwrite-rows rows h = AreRows-emptied rows h
+  pub overwrite-entries : (entries : ClockEntries V) → AreEntries entries → AreEntries (map emptied entries)
+  overwrite-entries entries h = AreEntries-emptied entries h
 
-  pub overwrite-counter : (rows : List (Actor × (ℕ × List V))) (a : Actor) → AreRows rows → (row_of a (map emptied rows)).0 ≡ counter_in (known_of rows) a
-  overwrite-counter rows a h = ap (λ row. row.0) (row_of-emptied a rows) ∙ sym (counter_in-known_of a rows h.sorted)
+  pub overwrite-counter : (entries : ClockEntries V) (a : Actor) → AreEntries entries → (entry_for a (map emptied entries)).0 ≡ counter_in (known_of entries) a
+  overwrite-counter entries a h = ap (λ entry. entry.0) (entry_for-emptied a entries) ∙ sym (counter_in-known_of a entries h.sorted)
 
-  pub overwrite-values : (rows : List (Actor × (ℕ × List V))) (a : Actor) → length (row_of a (map emptied rows)).1 ≡ 0
-  overwrite-values rows a = ap (λ row. length row.1) (row_of-emptied a rows)
+  pub overwrite-values : (entries : ClockEntries V) (a : Actor) → length (entry_for a (map emptied entries)).1 ≡ 0
+  overwrite-values entries a = ap (λ entry. length entry.1) (entry_for-emptied a entries)
 
-  pub overwrite-length : (rows : List (Actor × (ℕ × List V))) (a : Actor) (value : V) → AreRows rows
-      → length (put actor_cmp a (with_value value (row_of a (map emptied rows))) (map emptied rows)) ≡ actors_after (known_of rows) None a
-  overwrite-length rows a value h =
-      sym (length-known_of (put actor_cmp a (with_value value (row_of a (map emptied rows))) (map emptied rows)))
-      ∙ ap (λ m. length m.known) (dot_state_of-event a value (map emptied rows) (AreRows-emptied rows h))
-      ∙ ap (λ k. length (known_after a k)) (known_of-emptied rows)
+  pub overwrite-length : (entries : ClockEntries V) (a : Actor) (value : V) → AreEntries entries
+      → length (put actor_cmp a (with_value value (entry_for a (map emptied entries))) (map emptied entries)) ≡ actors_after (known_of entries) None a
+  overwrite-length entries a value h =
+      sym (length-known_of (put actor_cmp a (with_value value (entry_for a (map emptied entries))) (map emptied entries)))
+      ∙ ap (λ m. length m.known) (dot_state_of-event a value (map emptied entries) (AreEntries-emptied entries h))
+      ∙ ap (λ k. length (known_after a k)) (known_of-emptied entries)
 
-  pub overwrite-next : (rows : List (Actor × (ℕ × List V))) (a : Actor) (value : V) → AreRows rows
-      → AreRows (put actor_cmp a (with_value value (row_of a (map emptied rows))) (map emptied rows))
-  overwrite-next rows a value h = AreRows-event a value (map emptied rows) (AreRows-emptied rows h)
+  pub overwrite-next : (entries : ClockEntries V) (a : Actor) (value : V) → AreEntries entries
+      → AreEntries (put actor_cmp a (with_value value (entry_for a (map emptied entries))) (map emptied entries))
+  overwrite-next entries a value h = AreEntries-event a value (map emptied entries) (AreEntries-emptied entries h)
 
-  pub overwrite-meaning : (rows : List (Actor × (ℕ × List V))) (a : Actor) (value : V) → AreRows rows → length rows ≤ 64
-      → dot_state_of (put actor_cmp a (with_value value (row_of a (map emptied rows))) (map emptied rows)) ≡ event a value (discard (known_of rows) (dot_state_of rows))
-  overwrite-meaning rows a value h few =
-      dot_state_of-event a value (map emptied rows) (AreRows-emptied rows h) ∙ ap (event a value) (dot_state_of-emptied rows h few)
+  pub overwrite-meaning : (entries : ClockEntries V) (a : Actor) (value : V) → AreEntries entries → length entries ≤ 64
+      → dot_state_of (put actor_cmp a (with_value value (entry_for a (map emptied entries))) (map emptied entries)) ≡ event a value (discard (known_of entries) (dot_state_of entries))
+  overwrite-meaning entries a value h few =
+      dot_state_of-event a value (map emptied entries) (AreEntries-emptied entries h) ∙ ap (event a value) (dot_state_of-emptied entries h few)

@@ -13,10 +13,10 @@ use Rattle.actor_epoch.specs.Dots.{actor_cmp, actor_eq, counter_in, raise, union
 use Rattle.actor_epoch.proofs.Pairs.{actor_cmp-same, counter_in-union}
 use Rattle.actor_epoch.proofs.Rising.{and_first, and_second}
 use Rattle.actor_epoch.proofs.Order.{actor_cmp_total, actor_eq-same}
-use Rattle.dvv_set.specs.Rows.{AreRows, known_of, is_row, row_of, merged, absorb_all}
+use Rattle.dvv_set.specs.ClockEntries.{ClockEntries, AreEntries, known_of, is_entry, entry_for, merged, merge_all}
 use Rattle.dvv_set.proofs.Orders.{T-first, T-second, T-both, T-is, find-below, below_all-less, eq_by_cmp-actor}
-use Rattle.dvv_set.proofs.Rows.{actor_eq-back, counter_in-known_of}
-use Rattle.dvv_set.proofs.Absorb.{row_of-absorb_all, AreRows-absorb_all}
+use Rattle.dvv_set.proofs.ClockEntries.{actor_eq-back, counter_in-known_of}
+use Rattle.dvv_set.proofs.Merges.{entry_for-merge_all, AreEntries-merge_all}
 
 -- pairs as a map from actors to counters
 abbrev pub as_entries : List Dot → List (Actor × ℕ)
@@ -163,26 +163,26 @@ ArePairs-union (pair ∷ ps) qs g h =
     ArePairs-raise pair (union ps qs) (and_first (is_positive pair) (list_all is_positive ps) g.positive) (ArePairs-union ps qs (ArePairs-tail pair ps g) h)
 
 module _ {V : Type 0} where
-  below_all-known_of : (x : Actor) (rows : List (Actor × (ℕ × List V))) → T (below_all actor_cmp x rows) → T (below_all actor_cmp x (as_entries (known_of rows)))
+  below_all-known_of : (x : Actor) (entries : ClockEntries V) → T (below_all actor_cmp x entries) → T (below_all actor_cmp x (as_entries (known_of entries)))
   below_all-known_of x [] h = tt
-  below_all-known_of x (row ∷ rows) h =
-      T-both (is_lt (actor_cmp x row.0)) _ (T-first (is_lt (actor_cmp x row.0)) _ h) (below_all-known_of x rows (T-second (is_lt (actor_cmp x row.0)) _ h))
+  below_all-known_of x (entry ∷ entries) h =
+      T-both (is_lt (actor_cmp x entry.0)) _ (T-first (is_lt (actor_cmp x entry.0)) _ h) (below_all-known_of x entries (T-second (is_lt (actor_cmp x entry.0)) _ h))
 
-  is_sorted-known_of : (rows : List (Actor × (ℕ × List V))) → T (is_sorted actor_cmp rows) → T (is_sorted actor_cmp (as_entries (known_of rows)))
+  is_sorted-known_of : (entries : ClockEntries V) → T (is_sorted actor_cmp entries) → T (is_sorted actor_cmp (as_entries (known_of entries)))
   is_sorted-known_of [] h = tt
-  is_sorted-known_of (row ∷ rows) h =
-      T-both (below_all actor_cmp row.0 (as_entries (known_of rows))) _
-      (below_all-known_of row.0 rows (T-first _ (is_sorted actor_cmp rows) h)) (is_sorted-known_of rows (T-second (below_all actor_cmp row.0 rows) _ h))
+  is_sorted-known_of (entry ∷ entries) h =
+      T-both (below_all actor_cmp entry.0 (as_entries (known_of entries))) _
+      (below_all-known_of entry.0 entries (T-first _ (is_sorted actor_cmp entries) h)) (is_sorted-known_of entries (T-second (below_all actor_cmp entry.0 entries) _ h))
 
-  positive-known_of : (rows : List (Actor × (ℕ × List V))) → IsTrue (list_all is_row rows) → IsTrue (list_all is_positive (known_of rows))
+  positive-known_of : (entries : ClockEntries V) → IsTrue (list_all is_entry entries) → IsTrue (list_all is_positive (known_of entries))
   positive-known_of [] h = refl
-  positive-known_of (row ∷ rows) h =
+  positive-known_of (entry ∷ entries) h =
       both _ _
-      (and_first (nat_le 1 row.1.0) (nat_le (length row.1.1) row.1.0) (and_first (is_row row) (list_all is_row rows) h))
-      (positive-known_of rows (and_second (is_row row) (list_all is_row rows) h))
+      (and_first (nat_le 1 entry.1.0) (nat_le (length entry.1.1) entry.1.0) (and_first (is_entry entry) (list_all is_entry entries) h))
+      (positive-known_of entries (and_second (is_entry entry) (list_all is_entry entries) h))
 
-  pub ArePairs-known_of : (rows : List (Actor × (ℕ × List V))) → AreRows rows → ArePairs (known_of rows)
-  ArePairs-known_of rows h = record { sorted = is_sorted-known_of rows h.sorted; positive = positive-known_of rows h.each }
+  pub ArePairs-known_of : (entries : ClockEntries V) → AreEntries entries → ArePairs (known_of entries)
+  ArePairs-known_of entries h = record { sorted = is_sorted-known_of entries h.sorted; positive = positive-known_of entries h.each }
 
   merged_counter : (own other : ℕ × List V) → (merged own other).0 ≡ max own.0 other.0
   merged_counter own other = by (nat_le other.0 own.0) refl
@@ -193,16 +193,16 @@ module _ {V : Type 0} where
       by false e = grind (arith, nat_tests)
 
   -- what both sides know, after a merge
-  pub known_of-absorb_all : (others rows : List (Actor × (ℕ × List V))) → AreRows others → AreRows rows → known_of (absorb_all others rows) ≡ union (known_of rows) (known_of others)
-  known_of-absorb_all others rows g h =
-      same_pairs (known_of (absorb_all others rows)) (union (known_of rows) (known_of others))
-      (ArePairs-known_of (absorb_all others rows) after)
-      (ArePairs-union (known_of rows) (known_of others) (ArePairs-known_of rows h) (ArePairs-known_of others g))
-      (λ a. counter_in-known_of a (absorb_all others rows) after.sorted
-      ∙ ap (λ r. r.0) (row_of-absorb_all a others rows g h)
-      ∙ merged_counter (row_of a rows) (row_of a others)
-      ∙ (λ i. max (sym (counter_in-known_of a rows h.sorted) i) (sym (counter_in-known_of a others g.sorted) i))
-      ∙ sym (counter_in-union (known_of rows) (known_of others) a))
+  pub known_of-merge_all : (others entries : ClockEntries V) → AreEntries others → AreEntries entries → known_of (merge_all others entries) ≡ union (known_of entries) (known_of others)
+  known_of-merge_all others entries g h =
+      same_pairs (known_of (merge_all others entries)) (union (known_of entries) (known_of others))
+      (ArePairs-known_of (merge_all others entries) after)
+      (ArePairs-union (known_of entries) (known_of others) (ArePairs-known_of entries h) (ArePairs-known_of others g))
+      (λ a. counter_in-known_of a (merge_all others entries) after.sorted
+      ∙ ap (λ r. r.0) (entry_for-merge_all a others entries g h)
+      ∙ merged_counter (entry_for a entries) (entry_for a others)
+      ∙ (λ i. max (sym (counter_in-known_of a entries h.sorted) i) (sym (counter_in-known_of a others g.sorted) i))
+      ∙ sym (counter_in-union (known_of entries) (known_of others) a))
     where
-      after : AreRows (absorb_all others rows)
-      after = AreRows-absorb_all others rows g h
+      after : AreEntries (merge_all others entries)
+      after = AreEntries-merge_all others entries g h

@@ -1,8 +1,8 @@
 pub mod ClockLaws
 pub mod Orders
-pub mod Rows
+pub mod ClockEntries
 pub mod Merge
-pub mod Absorb
+pub mod Merges
 pub mod Known
 pub mod Live
 pub mod Places

@@ -13,12 +13,12 @@ use Rattle.actor_epoch.specs.Dots.{actor_eq, dot_eq, covers}
 use Rattle.actor_epoch.proofs.Rising.{and_first, and_second}
 use Rattle.actor_epoch.proofs.Order.{actor_eq-same, covers-counter_in}
 use Rattle.dvv_set.specs.Clocks.{DotState, show_cmp, is_live, put_all, value_in, sync}
-use Rattle.dvv_set.specs.Rows.{AreRows, live_of, dot_state_of, row_of, absorb_all}
+use Rattle.dvv_set.specs.ClockEntries.{ClockEntries, AreEntries, live_of, dot_state_of, entry_for, merge_all}
 use Rattle.dvv_set.proofs.Orders.{show_cmp_total, eq_by_cmp-dot, nat_eq-back, T-first, T-second, T-both}
-use Rattle.dvv_set.proofs.Rows.{value_at, actor_eq-back, find-live_of, is_sorted-live_of, counter_in-known_of}
+use Rattle.dvv_set.proofs.ClockEntries.{value_at, actor_eq-back, find-live_of, is_sorted-live_of, counter_in-known_of}
 use Rattle.dvv_set.proofs.Merge.{value_at-merged, synced_value}
-use Rattle.dvv_set.proofs.Absorb.{row_of-absorb_all, AreRows-absorb_all, row_of-within}
-use Rattle.dvv_set.proofs.Known.{known_of-absorb_all}
+use Rattle.dvv_set.proofs.Merges.{entry_for-merge_all, AreEntries-merge_all, entry_for-within}
+use Rattle.dvv_set.proofs.Known.{known_of-merge_all}
 
 pub dot_eq-same : (a b : Dot) → dot_eq a b ≡ true → a ≡ b
 dot_eq-same a b h =
@@ -106,41 +106,41 @@ module _ {V : Type 0} where
       (is_sorted-revalue (value_in own other) (where_key show_cmp (λ x. is_live other x || not (covers other.known x)) own.live)
       (is_sorted-where_key show_cmp (λ x. is_live other x || not (covers other.known x)) own.live h))
 
-  -- rows with others merged in mean a sync
-  pub dot_state_of-absorb_all : (others rows : List (Actor × (ℕ × List V))) → AreRows others → AreRows rows → dot_state_of (absorb_all others rows) ≡ sync (dot_state_of rows) (dot_state_of others)
-  dot_state_of-absorb_all others rows g h = λ i. record { known = known_of-absorb_all others rows g h i; live = live i }
+  -- entries with others merged in mean a sync
+  pub dot_state_of-merge_all : (others entries : ClockEntries V) → AreEntries others → AreEntries entries → dot_state_of (merge_all others entries) ≡ sync (dot_state_of entries) (dot_state_of others)
+  dot_state_of-merge_all others entries g h = λ i. record { known = known_of-merge_all others entries g h i; live = live i }
     where
-      after : AreRows (absorb_all others rows)
-      after = AreRows-absorb_all others rows g h
+      after : AreEntries (merge_all others entries)
+      after = AreEntries-merge_all others entries g h
 
-      own : (d : Dot) → find show_cmp d (live_of rows) ≡ value_at (row_of d.actor rows) d.counter
-      own d = find-live_of d rows h.sorted h.each
+      own : (d : Dot) → find show_cmp d (live_of entries) ≡ value_at (entry_for d.actor entries) d.counter
+      own d = find-live_of d entries h.sorted h.each
 
-      other : (d : Dot) → find show_cmp d (live_of others) ≡ value_at (row_of d.actor others) d.counter
+      other : (d : Dot) → find show_cmp d (live_of others) ≡ value_at (entry_for d.actor others) d.counter
       other d = find-live_of d others g.sorted g.each
 
-      counted : (d : Dot) → covers (dot_state_of rows).known d ≡ (nat_le 1 d.counter && nat_le d.counter (row_of d.actor rows).0)
-      counted d = covers-counter_in (dot_state_of rows).known d ∙ ap (λ n. nat_le 1 d.counter && nat_le d.counter n) (counter_in-known_of d.actor rows h.sorted)
+      counted : (d : Dot) → covers (dot_state_of entries).known d ≡ (nat_le 1 d.counter && nat_le d.counter (entry_for d.actor entries).0)
+      counted d = covers-counter_in (dot_state_of entries).known d ∙ ap (λ n. nat_le 1 d.counter && nat_le d.counter n) (counter_in-known_of d.actor entries h.sorted)
 
-      counted_there : (d : Dot) → covers (dot_state_of others).known d ≡ (nat_le 1 d.counter && nat_le d.counter (row_of d.actor others).0)
+      counted_there : (d : Dot) → covers (dot_state_of others).known d ≡ (nat_le 1 d.counter && nat_le d.counter (entry_for d.actor others).0)
       counted_there d = covers-counter_in (dot_state_of others).known d ∙ ap (λ n. nat_le 1 d.counter && nat_le d.counter n) (counter_in-known_of d.actor others g.sorted)
 
-      value_of : (d : Dot) (v : V) → value_in (dot_state_of rows) (dot_state_of others) (d, v) ≡ cond (nat_le (row_of d.actor others).0 (row_of d.actor rows).0) v (unwrap_or (value_at (row_of d.actor others) d.counter) v)
-      value_of d v = λ i. cond (nat_le (counter_in-known_of d.actor others g.sorted i) (counter_in-known_of d.actor rows h.sorted i)) v (unwrap_or (other d i) v)
+      value_of : (d : Dot) (v : V) → value_in (dot_state_of entries) (dot_state_of others) (d, v) ≡ cond (nat_le (entry_for d.actor others).0 (entry_for d.actor entries).0) v (unwrap_or (value_at (entry_for d.actor others) d.counter) v)
+      value_of d v = λ i. cond (nat_le (counter_in-known_of d.actor others g.sorted i) (counter_in-known_of d.actor entries h.sorted i)) v (unwrap_or (other d i) v)
 
-      synced : (d : Dot) → find show_cmp d (sync (dot_state_of rows) (dot_state_of others)).live ≡ synced_value (row_of d.actor rows) (row_of d.actor others) d.counter
+      synced : (d : Dot) → find show_cmp d (sync (dot_state_of entries) (dot_state_of others)).live ≡ synced_value (entry_for d.actor entries) (entry_for d.actor others) d.counter
       synced d =
-          find-sync (dot_state_of rows) (dot_state_of others) d
+          find-sync (dot_state_of entries) (dot_state_of others) d
           ∙ (λ i. option_or
           (cond (not (counted d i)) (other d i) None)
           (option_map (λ v. value_of d v i) (cond ((is_some-find d (live_of others) ∙ ap is_some (other d)) i || not (counted_there d i)) (own d i) None)))
 
-      live : live_of (absorb_all others rows) ≡ (sync (dot_state_of rows) (dot_state_of others)).live
+      live : live_of (merge_all others entries) ≡ (sync (dot_state_of entries) (dot_state_of others)).live
       live =
-          same_entries show_cmp show_cmp_total show_cmp-same (live_of (absorb_all others rows)) (sync (dot_state_of rows) (dot_state_of others)).live
-          (is_sorted-live_of (absorb_all others rows) after.sorted after.each)
-          (is_sorted-sync (dot_state_of rows) (dot_state_of others) (is_sorted-live_of rows h.sorted h.each))
-          (λ d. find-live_of d (absorb_all others rows) after.sorted after.each
-          ∙ ap (λ r. value_at r d.counter) (row_of-absorb_all d.actor others rows g h)
-          ∙ value_at-merged (row_of d.actor rows) (row_of d.actor others) d.counter (row_of-within d.actor rows h.each) (row_of-within d.actor others g.each)
+          same_entries show_cmp show_cmp_total show_cmp-same (live_of (merge_all others entries)) (sync (dot_state_of entries) (dot_state_of others)).live
+          (is_sorted-live_of (merge_all others entries) after.sorted after.each)
+          (is_sorted-sync (dot_state_of entries) (dot_state_of others) (is_sorted-live_of entries h.sorted h.each))
+          (λ d. find-live_of d (merge_all others entries) after.sorted after.each
+          ∙ ap (λ r. value_at r d.counter) (entry_for-merge_all d.actor others entries g h)
+          ∙ value_at-merged (entry_for d.actor entries) (entry_for d.actor others) d.counter (entry_for-within d.actor entries h.each) (entry_for-within d.actor others g.each)
           ∙ sym (synced d))

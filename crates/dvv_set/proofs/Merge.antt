@@ -4,8 +4,8 @@ use Rattle.std.specs.Prelude.{nat_lt, nat_le, Option, Some, None, is_some, unwra
 use Rattle.std.specs.Option.{option_or, option_map}
 use Rattle.std.specs.List.{slice_get}
 use Rattle.std.proofs.lemmas.Bool.Decides.{nat_tests}
-use Rattle.dvv_set.specs.Rows.{merged}
-use Rattle.dvv_set.proofs.Rows.{value_at}
+use Rattle.dvv_set.specs.ClockEntries.{merged}
+use Rattle.dvv_set.proofs.ClockEntries.{value_at}
 
 module _ {V : Type 0} where
   slice_get-take : (k i : ℕ) (l : List V) → slice_get (take k l) i ≡ cond (nat_lt i k) (slice_get l i) None

@@ -1,4 +1,4 @@
--- Where an actor stands among rows.
+-- Where an actor stands among entries.
 use Rattle.std.proofs.Common.{◌≡◌, ℕ, suc, ◌+◌, ◌<◌, ◌≤◌, cond, List, [], ◌∷◌, length, get_or, refl, ◌∙◌, ap, arith}
 use Rattle.std.specs.Prelude.{T, Some, None, unwrap_or}
 use Rattle.std.specs.List.{insert}
@@ -13,8 +13,8 @@ use Rattle.actor_epoch.proofs.Pairs.{actor_cmp-same}
 use Rattle.actor_epoch.proofs.Order.{actor_cmp_total}
 use Rattle.dvv_set.specs.declared.entry.Place.{Place}
 use Rattle.dvv_set.specs.declared.entry.Place.TheVariants.{Taken, Free}
-use Rattle.dvv_set.specs.Rows.{row_of}
-use Rattle.dvv_set.specs.Stored.{one_on, seek}
+use Rattle.dvv_set.specs.ClockEntries.{ClockEntries, entry_for}
+use Rattle.dvv_set.specs.Stored.{one_on, search_actor}
 use Rattle.dvv_set.proofs.Orders.{T-first, T-second, find-below, below_all-less}
 
 -- n places further on
@@ -35,30 +35,30 @@ turn a b o h = actor_cmp_total.antisymm b a ∙ ap ordering_reverse h
 
 module _ {V : Type 0} where
   -- an actor stands at a place
-  pub record StandsAt (a : Actor) (rows : List (Actor × (ℕ × List V))) (i : ℕ) (d : Actor × (ℕ × List V)) : Type 0 where
-    pub within : i < length rows
-    pub actor : (get_or rows i d).0 ≡ a
-    pub row : row_of a rows ≡ (get_or rows i d).1
-    pub put_is : (row : ℕ × List V) → put actor_cmp a row rows ≡ set rows i (a, row)
+  pub record StandsAt (a : Actor) (entries : ClockEntries V) (i : ℕ) (d : Actor × (ℕ × List V)) : Type 0 where
+    pub within : i < length entries
+    pub actor : (get_or entries i d).0 ≡ a
+    pub entry : entry_for a entries ≡ (get_or entries i d).1
+    pub put_is : (entry : ℕ × List V) → put actor_cmp a entry entries ≡ set entries i (a, entry)
 
-  pub seek-taken : (a : Actor) (rows : List (Actor × (ℕ × List V))) (i : ℕ) (d : Actor × (ℕ × List V)) → seek a rows ≡ Taken i → StandsAt a rows i d
-  seek-taken a [] i d h = cc
-  seek-taken a (r ∷ rows) i d h = by (actor_cmp r.0 a) refl h (λ j e. seek-taken a rows j d e)
+  pub search_actor-taken : (a : Actor) (entries : ClockEntries V) (i : ℕ) (d : Actor × (ℕ × List V)) → search_actor a entries ≡ Taken i → StandsAt a entries i d
+  search_actor-taken a [] i d h = cc
+  search_actor-taken a (r ∷ entries) i d h = by (actor_cmp r.0 a) refl h (λ j e. search_actor-taken a entries j d e)
     where
-      less : (j : ℕ) → actor_cmp r.0 a ≡ Less → StandsAt a rows j d → StandsAt a (r ∷ rows) (suc j) d
+      less : (j : ℕ) → actor_cmp r.0 a ≡ Less → StandsAt a entries j d → StandsAt a (r ∷ entries) (suc j) d
       less j l t =
           let g : actor_cmp a r.0 ≡ Greater = turn r.0 a Less l in
           record {
             within = omega (arith, t.within);
             actor = t.actor;
-            row = ap (λ o. unwrap_or (cond (is_eq o) (Some r.1) (find actor_cmp a rows)) (0, [])) g ∙ t.row;
-            put_is = λ row. ap (λ o. by_order o ((a, row) ∷ r ∷ rows) ((r.0, row) ∷ rows) (r ∷ put actor_cmp a row rows)) g ∙ ap (λ rs. r ∷ rs) (t.put_is row);
+            entry = ap (λ o. unwrap_or (cond (is_eq o) (Some r.1) (find actor_cmp a entries)) (0, [])) g ∙ t.entry;
+            put_is = λ entry. ap (λ o. by_order o ((a, entry) ∷ r ∷ entries) ((r.0, entry) ∷ entries) (r ∷ put actor_cmp a entry entries)) g ∙ ap (λ rs. r ∷ rs) (t.put_is entry);
           }
 
-      by : (o : Ordering) → actor_cmp r.0 a ≡ o → by_order o (one_on (seek a rows)) (Taken 0) (Free 0) ≡ Taken i
-          → ((j : ℕ) → seek a rows ≡ Taken j → StandsAt a rows j d) → StandsAt a (r ∷ rows) i d
+      by : (o : Ordering) → actor_cmp r.0 a ≡ o → by_order o (one_on (search_actor a entries)) (Taken 0) (Free 0) ≡ Taken i
+          → ((j : ℕ) → search_actor a entries ≡ Taken j → StandsAt a entries j d) → StandsAt a (r ∷ entries) i d
       by Less l e rest =
-          let (j, is, next) = one_on-taken (seek a rows) i e in
+          let (j, is, next) = one_on-taken (search_actor a entries) i e in
           rw next (less j l (rest j is))
       by Equal l e rest =
           let first : 0 ≡ i = cc in
@@ -67,43 +67,43 @@ module _ {V : Type 0} where
           rw (← first) record {
             within = omega arith;
             actor = same;
-            row = ap (λ o. unwrap_or (cond (is_eq o) (Some r.1) (find actor_cmp a rows)) (0, [])) t;
-            put_is = λ row. ap (λ o. by_order o ((a, row) ∷ r ∷ rows) ((r.0, row) ∷ rows) (r ∷ put actor_cmp a row rows)) t ∙ ap (λ k. (k, row) ∷ rows) same;
+            entry = ap (λ o. unwrap_or (cond (is_eq o) (Some r.1) (find actor_cmp a entries)) (0, [])) t;
+            put_is = λ entry. ap (λ o. by_order o ((a, entry) ∷ r ∷ entries) ((r.0, entry) ∷ entries) (r ∷ put actor_cmp a entry entries)) t ∙ ap (λ k. (k, entry) ∷ entries) same;
           }
       by Greater l e rest = cc
 
-  -- an actor does not stand among rows, and would at a place
-  pub record WouldStandAt (a : Actor) (rows : List (Actor × (ℕ × List V))) (i : ℕ) : Type 0 where
-    pub within : i ≤ length rows
-    pub none : find actor_cmp a rows ≡ None
-    pub put_is : (row : ℕ × List V) → put actor_cmp a row rows ≡ insert rows i (a, row)
+  -- an actor does not stand among entries, and would at a place
+  pub record WouldStandAt (a : Actor) (entries : ClockEntries V) (i : ℕ) : Type 0 where
+    pub within : i ≤ length entries
+    pub none : find actor_cmp a entries ≡ None
+    pub put_is : (entry : ℕ × List V) → put actor_cmp a entry entries ≡ insert entries i (a, entry)
 
-  pub seek-free : (a : Actor) (rows : List (Actor × (ℕ × List V))) (i : ℕ) → T (is_sorted actor_cmp rows) → seek a rows ≡ Free i → WouldStandAt a rows i
-  seek-free a [] i s h = let first : 0 ≡ i = cc in rw (← first) record { within = omega arith; none = refl; put_is = λ row. refl }
-  seek-free a (r ∷ rows) i s h = by (actor_cmp r.0 a) refl h (λ j e. seek-free a rows j (T-second (below_all actor_cmp r.0 rows) _ s) e)
+  pub search_actor-free : (a : Actor) (entries : ClockEntries V) (i : ℕ) → T (is_sorted actor_cmp entries) → search_actor a entries ≡ Free i → WouldStandAt a entries i
+  search_actor-free a [] i s h = let first : 0 ≡ i = cc in rw (← first) record { within = omega arith; none = refl; put_is = λ entry. refl }
+  search_actor-free a (r ∷ entries) i s h = by (actor_cmp r.0 a) refl h (λ j e. search_actor-free a entries j (T-second (below_all actor_cmp r.0 entries) _ s) e)
     where
-      less : (j : ℕ) → actor_cmp r.0 a ≡ Less → WouldStandAt a rows j → WouldStandAt a (r ∷ rows) (suc j)
+      less : (j : ℕ) → actor_cmp r.0 a ≡ Less → WouldStandAt a entries j → WouldStandAt a (r ∷ entries) (suc j)
       less j l t =
           let g : actor_cmp a r.0 ≡ Greater = turn r.0 a Less l in
           record {
             within = omega (arith, t.within);
-            none = ap (λ o. cond (is_eq o) (Some r.1) (find actor_cmp a rows)) g ∙ t.none;
-            put_is = λ row. ap (λ o. by_order o ((a, row) ∷ r ∷ rows) ((r.0, row) ∷ rows) (r ∷ put actor_cmp a row rows)) g ∙ ap (λ rs. r ∷ rs) (t.put_is row);
+            none = ap (λ o. cond (is_eq o) (Some r.1) (find actor_cmp a entries)) g ∙ t.none;
+            put_is = λ entry. ap (λ o. by_order o ((a, entry) ∷ r ∷ entries) ((r.0, entry) ∷ entries) (r ∷ put actor_cmp a entry entries)) g ∙ ap (λ rs. r ∷ rs) (t.put_is entry);
           }
 
-      by : (o : Ordering) → actor_cmp r.0 a ≡ o → by_order o (one_on (seek a rows)) (Taken 0) (Free 0) ≡ Free i
-          → ((j : ℕ) → seek a rows ≡ Free j → WouldStandAt a rows j) → WouldStandAt a (r ∷ rows) i
+      by : (o : Ordering) → actor_cmp r.0 a ≡ o → by_order o (one_on (search_actor a entries)) (Taken 0) (Free 0) ≡ Free i
+          → ((j : ℕ) → search_actor a entries ≡ Free j → WouldStandAt a entries j) → WouldStandAt a (r ∷ entries) i
       by Less l e rest =
-          let (j, is, next) = one_on-free (seek a rows) i e in
+          let (j, is, next) = one_on-free (search_actor a entries) i e in
           rw next (less j l (rest j is))
       by Equal l e rest = cc
       by Greater l e rest =
           let first : 0 ≡ i = cc in
           let t : actor_cmp a r.0 ≡ Less = turn r.0 a Greater l in
-          let gone : find actor_cmp a rows ≡ None =
-          find-below actor_cmp actor_cmp_total a rows (below_all-less actor_cmp actor_cmp_total a r.0 rows t (T-first _ (is_sorted actor_cmp rows) s)) in
+          let gone : find actor_cmp a entries ≡ None =
+          find-below actor_cmp actor_cmp_total a entries (below_all-less actor_cmp actor_cmp_total a r.0 entries t (T-first _ (is_sorted actor_cmp entries) s)) in
           rw (← first) record {
             within = omega arith;
-            none = ap (λ o. cond (is_eq o) (Some r.1) (find actor_cmp a rows)) t ∙ gone;
-            put_is = λ row. ap (λ o. by_order o ((a, row) ∷ r ∷ rows) ((r.0, row) ∷ rows) (r ∷ put actor_cmp a row rows)) t;
+            none = ap (λ o. cond (is_eq o) (Some r.1) (find actor_cmp a entries)) t ∙ gone;
+            put_is = λ entry. ap (λ o. by_order o ((a, entry) ∷ r ∷ entries) ((r.0, entry) ∷ entries) (r ∷ put actor_cmp a entry entries)) t;
           }

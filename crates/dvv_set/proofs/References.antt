@@ -12,47 +12,44 @@ use Rattle.actor_epoch.specs.declared.Dot.{Dot}
 use Rattle.actor_epoch.specs.Dots.{actor_cmp, covers, counter_in, raise, union}
 use Rattle.dvv_set.specs.Clocks.{DotState, show_cmp, event}
 use Rattle.dvv_set.specs.Held.{without}
-use Rattle.dvv_set.specs.Rows.{values_from, known_of, live_of, dot_state_of, is_row, AreRows}
-use Rattle.dvv_set.specs.References.{with_row, with_values}
+use Rattle.dvv_set.specs.ClockEntries.{ClockEntries, values_from, known_of, live_of, dot_state_of, is_entry, AreEntries}
+use Rattle.dvv_set.specs.References.{with_entry, with_values}
 
 module _ {V W : Type 0} (f : V → W) where
-  abbrev Rows : Type 0 → Type 0
-  Rows X = List (Actor × (ℕ × List X))
-
-  below_all-with : (a : Actor) (rows : Rows V) → below_all actor_cmp a (map (with_row f) rows) ≡ below_all actor_cmp a rows
+  below_all-with : (a : Actor) (entries : ClockEntries V) → below_all actor_cmp a (map (with_entry f) entries) ≡ below_all actor_cmp a entries
   below_all-with a [] = refl
-  below_all-with a (row ∷ rows) = ap (λ b. is_lt (actor_cmp a row.0) && b) (below_all-with a rows)
+  below_all-with a (entry ∷ entries) = ap (λ b. is_lt (actor_cmp a entry.0) && b) (below_all-with a entries)
 
-  is_sorted-with : (rows : Rows V) → is_sorted actor_cmp (map (with_row f) rows) ≡ is_sorted actor_cmp rows
+  is_sorted-with : (entries : ClockEntries V) → is_sorted actor_cmp (map (with_entry f) entries) ≡ is_sorted actor_cmp entries
   is_sorted-with [] = refl
-  is_sorted-with (row ∷ rows) = λ i. below_all-with row.0 rows i && is_sorted-with rows i
+  is_sorted-with (entry ∷ entries) = λ i. below_all-with entry.0 entries i && is_sorted-with entries i
 
-  each-with : (rows : Rows V) → list_all is_row (map (with_row f) rows) ≡ list_all is_row rows
+  each-with : (entries : ClockEntries V) → list_all is_entry (map (with_entry f) entries) ≡ list_all is_entry entries
   each-with [] = refl
-  each-with (row ∷ rows) = λ i. (nat_le 1 row.1.0 && nat_le (length-map row.1.1 f i) row.1.0) && each-with rows i
+  each-with (entry ∷ entries) = λ i. (nat_le 1 entry.1.0 && nat_le (length-map entry.1.1 f i) entry.1.0) && each-with entries i
 
-  known-with : (rows : Rows V) → known_of (map (with_row f) rows) ≡ known_of rows
+  known-with : (entries : ClockEntries V) → known_of (map (with_entry f) entries) ≡ known_of entries
   known-with [] = refl
-  known-with (row ∷ rows) = ap (λ ps. (let d : Dot = record { actor = row.0; counter = row.1.0 } in d) ∷ ps) (known-with rows)
+  known-with (entry ∷ entries) = ap (λ ps. (let d : Dot = record { actor = entry.0; counter = entry.1.0 } in d) ∷ ps) (known-with entries)
 
   values-with : (a : Actor) (n : ℕ) (vs : List V) → values_from a n (map f vs) ≡ map (λ entry. (entry.0, f entry.1)) (values_from a n vs)
   values-with a n [] = refl
   values-with a n (v ∷ vs) = ap (λ es. ((let d : Dot = record { actor = a; counter = n } in d), f v) ∷ es) (values-with a (n - 1) vs)
 
-  live-with : (rows : Rows V) → live_of (map (with_row f) rows) ≡ map (λ entry. (entry.0, f entry.1)) (live_of rows)
+  live-with : (entries : ClockEntries V) → live_of (map (with_entry f) entries) ≡ map (λ entry. (entry.0, f entry.1)) (live_of entries)
   live-with [] = refl
-  live-with (row ∷ rows) =
-      (λ i. values-with row.0 row.1.0 row.1.1 i ++ live-with rows i)
-      ∙ sym (map-append (λ (entry : Dot × V). (entry.0, f entry.1)) (values_from row.0 row.1.0 row.1.1) (live_of rows))
+  live-with (entry ∷ entries) =
+      (λ i. values-with entry.0 entry.1.0 entry.1.1 i ++ live-with entries i)
+      ∙ sym (map-append (λ (entry : Dot × V). (entry.0, f entry.1)) (values_from entry.0 entry.1.0 entry.1.1) (live_of entries))
 
-  pub meaning-with : (rows : Rows V) → dot_state_of (map (with_row f) rows) ≡ with_values f (dot_state_of rows)
-  meaning-with rows = λ i. record { known = known-with rows i; live = live-with rows i }
+  pub meaning-with : (entries : ClockEntries V) → dot_state_of (map (with_entry f) entries) ≡ with_values f (dot_state_of entries)
+  meaning-with entries = λ i. record { known = known-with entries i; live = live-with entries i }
 
-  pub are-with : (rows : Rows V) → AreRows rows → AreRows (map (with_row f) rows)
-  are-with rows h = record { sorted = subst T (sym (is_sorted-with rows)) h.sorted; each = each-with rows ∙ h.each }
+  pub are-with : (entries : ClockEntries V) → AreEntries entries → AreEntries (map (with_entry f) entries)
+  are-with entries h = record { sorted = subst T (sym (is_sorted-with entries)) h.sorted; each = each-with entries ∙ h.each }
 
-  pub are-from : (rows : Rows V) → AreRows (map (with_row f) rows) → AreRows rows
-  are-from rows h = record { sorted = subst T (is_sorted-with rows) h.sorted; each = sym (each-with rows) ∙ h.each }
+  pub are-from : (entries : ClockEntries V) → AreEntries (map (with_entry f) entries) → AreEntries entries
+  are-from entries h = record { sorted = subst T (is_sorted-with entries) h.sorted; each = sym (each-with entries) ∙ h.each }
 
   abbrev to : Dot × V → Dot × W
   to entry = (entry.0, f entry.1)
@@ -90,13 +87,13 @@ module _ {V W : Type 0} (f : V → W) where
   without-with None clock = refl
   without-with (Some pairs) clock = λ i. record { known = union clock.known pairs; live = kept-with pairs clock.live i }
 
--- rows that are the same but for their values
-module _ {U V W : Type 0} (f : U → W) (g : V → W) (rows : List (Actor × (ℕ × List U))) (others : List (Actor × (ℕ × List V))) (same : map (with_row f) rows ≡ map (with_row g) others) where
-  pub are-same : AreRows others → AreRows rows
-  are-same h = are-from f rows (subst AreRows (sym same) (are-with g others h))
+-- entries that are the same but for their values
+module _ {U V W : Type 0} (f : U → W) (g : V → W) (entries : ClockEntries U) (others : ClockEntries V) (same : map (with_entry f) entries ≡ map (with_entry g) others) where
+  pub are-same : AreEntries others → AreEntries entries
+  are-same h = are-from f entries (subst AreEntries (sym same) (are-with g others h))
 
-  pub means-same : with_values f (dot_state_of rows) ≡ with_values g (dot_state_of others)
-  means-same = sym (meaning-with f rows) ∙ ap dot_state_of same ∙ meaning-with g others
+  pub means-same : with_values f (dot_state_of entries) ≡ with_values g (dot_state_of others)
+  means-same = sym (meaning-with f entries) ∙ ap dot_state_of same ∙ meaning-with g others
 
-  pub length-same : length rows ≡ length others
-  length-same = sym (length-map rows (with_row f)) ∙ ap length same ∙ length-map others (with_row g)
+  pub length-same : length entries ≡ length others
+  length-same = sym (length-map entries (with_entry f)) ∙ ap length same ∙ length-map others (with_entry g)

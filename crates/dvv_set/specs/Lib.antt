@@ -1,5 +1,5 @@
 pub mod Clocks
-pub mod Rows
+pub mod ClockEntries
 pub mod Stored
 pub mod Held
 pub mod Laws

@@ -10,8 +10,8 @@ abbrev pub referred : {V : Type 0} → Option (Bor V) → Option V
 referred reference = option_map (λ r. r.now) reference
 
 module _ {V W : Type 0} (f : V → W) where
-  abbrev pub with_row : Actor × (ℕ × List V) → Actor × (ℕ × List W)
-  with_row row = (row.0, (row.1.0, map f row.1.1))
+  abbrev pub with_entry : Actor × (ℕ × List V) → Actor × (ℕ × List W)
+  with_entry entry = (entry.0, (entry.1.0, map f entry.1.1))
 
   -- the same dots, with these values
   abbrev pub with_values : DotState V → DotState W

@@ -1,4 +1,4 @@
--- Entries in code as rows.
+-- The entries of the code as the contracts see them: (actor, (counter, values)), without how they lie in memory.
 use Rattle.std.specs.Prelude.{List, [], ◌∷◌, ℕ, ◌+◌, map, flat_map}
 use Rattle.std.specs.FinMap.Entries.{by_order}
 use Rattle.actor_epoch.specs.declared.Actor.{Actor}
@@ -6,6 +6,7 @@ use Rattle.actor_epoch.specs.Dots.{actor_cmp}
 use Rattle.dvv_set.specs.declared.entry.Entry.{Entry}
 use Rattle.dvv_set.specs.declared.entry.Place.{Place}
 use Rattle.dvv_set.specs.declared.entry.Place.TheVariants.{Taken, Free}
+use Rattle.dvv_set.specs.ClockEntries.{ClockEntries}
 
 -- one place further on
 abbrev pub one_on : Place → Place
@@ -13,16 +14,16 @@ one_on (Taken at) = Taken (at + 1)
 one_on (Free at) = Free (at + 1)
 
 module _ {V : Type 0} where
-  abbrev pub as_row : Entry V → Actor × (ℕ × List V)
-  as_row entry = (entry.actor, (entry.counter, entry.values.items))
+  abbrev pub clock_entry : Entry V → Actor × (ℕ × List V)
+  clock_entry entry = (entry.actor, (entry.counter, entry.values.items))
 
-  abbrev pub as_rows : List (Entry V) → List (Actor × (ℕ × List V))
-  as_rows entries = map as_row entries
+  abbrev pub clock_entries : List (Entry V) → ClockEntries V
+  clock_entries entries = map clock_entry entries
 
   -- where an actor stands, or would
-  abbrev pub seek : Actor → List (Actor × (ℕ × List V)) → Place
-  seek actor [] = Free 0
-  seek actor (row ∷ rows) = by_order (actor_cmp row.0 actor) (one_on (seek actor rows)) (Taken 0) (Free 0)
+  abbrev pub search_actor : Actor → ClockEntries V → Place
+  search_actor actor [] = Free 0
+  search_actor actor (entry ∷ entries) = by_order (actor_cmp entry.0 actor) (one_on (search_actor actor entries)) (Taken 0) (Free 0)
 
   -- the values of entries, in the order in which they are shown
   abbrev pub values_in : List (Entry V) → List V

@@ -4,11 +4,11 @@ ghost use Rattle.std.specs.Prelude.{◌≡◌, ◌<◌, ◌≤◌, ◌↔◌, []
 
 use crate::entry::{self, Entry};
 use crate::fault::{ClockFault, Rejected};
-use crate::join::Join;
+use crate::known_pairs::KnownPairs;
 use crate::needed::Needed;
 use crate::room;
 use crate::values::Values;
-use actor_epoch::{Actor, Context, Counter, Dot, MAX_COUNTER, MAX_ACTORS};
+use actor_epoch::{Actor, Context, Counter, Dot, MAX_ACTORS, MAX_COUNTER};
 use std::alloc::{AllocError, Global};
 use std::default::MadeWith;
 use std::marker::Model;
@@ -34,12 +34,12 @@ impl<V: MadeWith<Global> + Drop> Model for Clock<V> {
 
     ghost Value = { Held V };
 
-    ghost use Rattle.dvv_set.specs.Rows.{dot_state_of, AreRows};
-    ghost use Rattle.dvv_set.specs.Stored.{as_rows};
+    ghost use Rattle.dvv_set.specs.ClockEntries.{dot_state_of, AreEntries};
+    ghost use Rattle.dvv_set.specs.Stored.{clock_entries};
 
-    ghost view = { λ c. record { meaning = dot_state_of (as_rows c.entries.items); actors_room = vec_capacity c.entries; values_room = vec_capacity c.spare } };
+    ghost view = { λ c. record { meaning = dot_state_of (clock_entries c.entries.items); actors_room = vec_capacity c.entries; values_room = vec_capacity c.spare } };
 
-    ghost invariant = { λ c. record { rows : AreRows (as_rows c.entries.items); few : length c.entries.items ≤ 64; empty : c.spare.items ≡ [] } };
+    ghost invariant = { λ c. record { entries : AreEntries (clock_entries c.entries.items); few : length c.entries.items ≤ 64; empty : c.spare.items ≡ [] } };
 }
 
 impl<V: MadeWith<Global> + Drop> Clock<V> {
@@ -71,14 +71,14 @@ impl<V: MadeWith<Global> + Drop> Clock<V> {
         ensures within { OnOk result (length (sync self.old.meaning other.meaning).known ≤ MAX_ACTORS) }
     {
         let new = room::count_new(&self.entries, &other.entries);
-        if let Err(fault) = room::make_room(&mut self.entries, new) {
+        if let Err(fault) = room::reserve_actors(&mut self.entries, new) {
             return Err(Rejected {
                 fault,
                 value: other,
             });
         }
         let Clock { entries, spare: _ } = other;
-        entry::absorb_all(&mut self.entries, entries);
+        entry::merge_all(&mut self.entries, entries);
         Ok(())
     }
 
@@ -92,20 +92,20 @@ impl<V: MadeWith<Global> + Drop> Clock<V> {
         ensures within { OnOk result (length (discard context.now self.old.meaning).known ≤ MAX_ACTORS) }
     {
         let new = room::count_new_pairs(&self.entries, context.pairs());
-        if let Err(fault) = room::make_room(&mut self.entries, new) {
+        if let Err(fault) = room::reserve_actors(&mut self.entries, new) {
             return Err(fault);
         }
         let alloc = *self.entries.allocator();
-        entry::absorb_pairs(alloc, &mut self.entries, context.pairs());
+        entry::merge_pairs(alloc, &mut self.entries, context.pairs());
         Ok(())
     }
 
     /// What it knows, as pairs (actor, n) by rising actor: the dots 1 to n of each.
-    pub fn join(&self) -> Join<'_, V>
+    pub fn join(&self) -> KnownPairs<'_, V>
         ensures pairs { result ≡ self.now.meaning.known }
         ensures clock { IsClock self.now.meaning }
     {
-        Join {
+        KnownPairs {
             entries: self.entries.as_slice(),
         }
     }
@@ -138,7 +138,7 @@ impl<V: MadeWith<Global> + Drop> Clock<V> {
     pub fn covers(&self, dot: &Dot) -> bool
         ensures { result ≡ covers self.now.meaning.known dot.now }
     {
-        let (counter, _) = entry::size_of(&self.entries, dot.actor);
+        let (counter, _) = entry::entry_counts(&self.entries, dot.actor);
         1 <= dot.counter && dot.counter <= counter
     }
 
@@ -146,7 +146,7 @@ impl<V: MadeWith<Global> + Drop> Clock<V> {
     pub fn counter_of(&self, actor: Actor) -> Counter
         ensures { result ≡ counter_in self.now.meaning.known actor }
     {
-        let (counter, _) = entry::size_of(&self.entries, actor);
+        let (counter, _) = entry::entry_counts(&self.entries, actor);
         counter
     }
 
@@ -178,7 +178,7 @@ impl<V: MadeWith<Global> + Drop> Clock<V> {
         ensures unchanged { self.new.meaning ≡ self.old.meaning }
     {
         let (_, more) = room::required_room(&self.entries, context, actor);
-        let (_, values) = entry::size_of(&self.entries, actor);
+        let (_, values) = entry::entry_counts(&self.entries, actor);
         self.entries.reserve(more)?;
         self.spare.reserve(values + 1)?;
         Ok(())
@@ -230,7 +230,7 @@ impl<V: MadeWith<Global> + Drop> Clock<V> {
         ensures { self.new.meaning ≡ event actor value (without (pairs_of context.entry) self.old.meaning) }
     {
         let alloc = *self.entries.allocator();
-        entry::absorb_context(alloc, &mut self.entries, context);
+        entry::merge_context(alloc, &mut self.entries, context);
         let spare = mem::replace(&mut self.spare, Vec::new(alloc));
         entry::put_value(&mut self.entries, spare, actor, value);
     }

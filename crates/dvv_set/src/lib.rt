@@ -3,7 +3,7 @@
 //! A clock means a set of known dots, and those of them that are live, each with its value (`specs/Clocks`: `DotState`).
 //! Its calls are `sync`, `discard` and `event` there, in `specs/Laws` said dot by dot. A sync is idempotent, commutative
 //! and associative in what is known and live (`sync_joins`). In code a clock is the module's entries (actor, n, values):
-//! the dots 1 to n are known, and the values, newest first, have the last of them (`specs/Rows`).
+//! the dots 1 to n are known, and the values, newest first, have the last of them (`specs/ClockEntries`).
 //!
 //! Known and live dots follow the `dvvset` module of Riak without its anonymous values; `discard` is this project's name
 //! for the sync with a context's pairs that its update does first. An actor is found by a walk over the entries, 64 at
@@ -16,7 +16,7 @@
 mod clock;
 mod entry;
 mod fault;
-mod join;
+mod known_pairs;
 mod laws;
 mod needed;
 mod room;
@@ -24,7 +24,7 @@ mod values;
 
 pub use clock::Clock;
 pub use fault::{ClockFault, Rejected};
-pub use join::Join;
+pub use known_pairs::KnownPairs;
 pub use laws::{calls_are_set_operations, discard_of_all_leaves_no_value, sync_joins};
 pub use needed::Needed;
 pub use values::Values;

@@ -5,16 +5,16 @@ ghost use Rattle.actor_epoch.specs.declared.Dot.{Dot};
 ghost use Rattle.actor_epoch.specs.Contexts.{is_well_formed};
 ghost use Rattle.actor_epoch.specs.Dots.{counter_in};
 ghost use Rattle.dvv_set.specs.Held.{pairs_of, actors_after, counter_before};
-ghost use Rattle.dvv_set.specs.Rows.{AreRows, known_of, rows_of_pairs, count_new, count_uncovered, newer};
-ghost use Rattle.dvv_set.specs.Stored.{as_row, as_rows};
+ghost use Rattle.dvv_set.specs.ClockEntries.{AreEntries, known_of, entries_of_pairs, count_new, count_uncovered, newer};
+ghost use Rattle.dvv_set.specs.Stored.{clock_entry, clock_entries};
 
-use crate::entry::{Entry, has, size_of};
+use crate::entry::{Entry, entry_counts, has};
 use crate::fault::ClockFault;
-use actor_epoch::{Actor, Context, ContextPairs, Counter, MAX_COUNTER, MAX_ACTORS};
+use actor_epoch::{Actor, Context, ContextPairs, Counter, MAX_ACTORS, MAX_COUNTER};
 
 /// How many of other entries have actors that are new.
 pub(crate) fn count_new<V>(entries: &[Entry<V>], others: &[Entry<V>]) -> usize
-    ensures { result ≡ count_new (as_rows others.now) (as_rows entries.now) }
+    ensures { result ≡ count_new (clock_entries others.now) (clock_entries entries.now) }
 {
     let mut new = 0usize;
     for other in others {
@@ -28,7 +28,7 @@ pub(crate) fn count_new<V>(entries: &[Entry<V>], others: &[Entry<V>]) -> usize
 /// How many of the pairs have actors that are new.
 pub(crate) fn count_new_pairs<V>(entries: &[Entry<V>], pairs: ContextPairs<'_>) -> usize
     requires { IsTrue (is_well_formed pairs) }
-    ensures counted { result ≡ count_new (rows_of_pairs pairs.entry) (as_rows entries.now) }
+    ensures counted { result ≡ count_new (entries_of_pairs pairs.entry) (clock_entries entries.now) }
     ensures few { result ≤ 64 }
 {
     let mut new = 0usize;
@@ -47,7 +47,7 @@ fn context_counts<V>(
     actor: Actor,
 ) -> (Counter, usize)
     ensures counter { result.0 ≡ counter_in (unwrap_or (pairs_of context.entry) []) actor }
-    ensures new { result.1 ≡ count_new (rows_of_pairs (unwrap_or (pairs_of context.entry) [])) (as_rows entries.now) }
+    ensures new { result.1 ≡ count_new (entries_of_pairs (unwrap_or (pairs_of context.entry) [])) (clock_entries entries.now) }
     ensures few { result.1 ≤ 64 }
     ensures of_form { (ps : List Dot) → pairs_of context.entry ≡ Some ps → IsTrue (is_well_formed ps) }
 {
@@ -67,15 +67,15 @@ pub(crate) fn required_room<V>(
     context: Option<&Context<'_>>,
     actor: Actor,
 ) -> (Counter, usize)
-    requires { AreRows (as_rows entries.now.items) }
-    ensures counter { result.0 ≡ counter_before (known_of (as_rows entries.now.items)) (pairs_of context.entry) actor }
+    requires { AreEntries (clock_entries entries.now.items) }
+    ensures counter { result.0 ≡ counter_before (known_of (clock_entries entries.now.items)) (pairs_of context.entry) actor }
     ensures more { length entries.now.items + result.1
-        ≡ actors_after (known_of (as_rows entries.now.items)) (pairs_of context.entry) actor }
+        ≡ actors_after (known_of (clock_entries entries.now.items)) (pairs_of context.entry) actor }
     ensures greatest { result.0 ≤ MAX_COUNTER }
     ensures few { result.1 ≤ 65 }
     ensures of_form { (ps : List Dot) → pairs_of context.entry ≡ Some ps → IsTrue (is_well_formed ps) }
 {
-    let (own, _) = size_of(entries, actor);
+    let (own, _) = entry_counts(entries, actor);
     let (given, new) = context_counts(entries, context, actor);
     let seen = own.max(given);
     if seen == 0 {
@@ -87,7 +87,7 @@ pub(crate) fn required_room<V>(
 /// How many values entries have that a context doesn't cover.
 pub(crate) fn uncovered<V>(entries: &[Entry<V>], context: Option<&Context<'_>>) -> usize
     requires { length entries.now ≤ 64 }
-    ensures { result ≡ count_uncovered (unwrap_or (pairs_of context.entry) []) (as_rows entries.now) }
+    ensures { result ≡ count_uncovered (unwrap_or (pairs_of context.entry) []) (clock_entries entries.now) }
 {
     let mut count = 0usize;
     for entry in entries {
@@ -98,7 +98,7 @@ pub(crate) fn uncovered<V>(entries: &[Entry<V>], context: Option<&Context<'_>>) 
 
 /// How many values of an entry a context doesn't cover: those above the actor's counter in it, which are the newest.
 fn newer<V>(entry: &Entry<V>, context: Option<&Context<'_>>) -> usize
-    ensures newer { result ≡ newer (counter_in (unwrap_or (pairs_of context.entry) []) entry.now.actor) (as_row entry.now).1 }
+    ensures newer { result ≡ newer (counter_in (unwrap_or (pairs_of context.entry) []) entry.now.actor) (clock_entry entry.now).1 }
     ensures few { result ≤ MAX_COUNTER }
 {
     let seen = match context {
@@ -110,7 +110,7 @@ fn newer<V>(entry: &Entry<V>, context: Option<&Context<'_>>) -> usize
 }
 
 /// Makes room for more entries, which are refused past 64.
-pub(crate) fn make_room<V>(entries: &mut Vec<Entry<V>>, more: usize) -> Result<(), ClockFault>
+pub(crate) fn reserve_actors<V>(entries: &mut Vec<Entry<V>>, more: usize) -> Result<(), ClockFault>
     requires few { length entries.old.items ≤ 64 }
     requires more { more ≤ 65 }
     ensures unchanged { entries.new.items ≡ entries.old.items }

@@ -4,41 +4,41 @@ use Rattle.std.specs.FinMap.Entries.{put}
 use Rattle.actor_epoch.specs.Dots.{actor_cmp, counter_in}
 use Rattle.dvv_set.specs.Clocks.{event}
 use Rattle.dvv_set.specs.Held.{without, known_with, known_after, values_of}
-use Rattle.dvv_set.specs.Rows.{dot_state_of, row_of, with_value}
-use Rattle.dvv_set.specs.Stored.{as_rows}
-use Rattle.dvv_set.proofs.Stored.{length-as_rows}
-use Rattle.dvv_set.proofs.Ready.{ready-rows, ready-next, ready-counter, ready-length, ready-values, ready-room, ready-meaning}
+use Rattle.dvv_set.specs.ClockEntries.{dot_state_of, entry_for, with_value}
+use Rattle.dvv_set.specs.Stored.{clock_entries}
+use Rattle.dvv_set.proofs.Stored.{length-clock_entries}
+use Rattle.dvv_set.proofs.Ready.{ready-entries, ready-next, ready-counter, ready-length, ready-values, ready-room, ready-meaning}
 use Rattle.dvv_set.proofs.clock.Clock.put_ready.Goals as goal
 
-pub absorb_context-requires-clause-room : goal.absorb_context-requires-clause-room
-absorb_context-requires-clause-room g c =
-    let own = as_rows c.self.inside.entries.items in
+pub merge_context-requires-clause-room : goal.merge_context-requires-clause-room
+merge_context-requires-clause-room g c =
+    let own = clock_entries c.self.inside.entries.items in
     let pairs = option_map (λ context. context.now) c.args.context in
-    let room = ready-room own pairs c.requires.of_form c.self.invariant.rows c.args.actor c.args.value in
+    let room = ready-room own pairs c.requires.of_form c.self.invariant.entries c.args.actor c.args.value in
     let same = ap (λ held. length (known_after c.args.actor (known_with pairs held.meaning.known))) c.self.view_is in
     let fits = ap (λ held. held.actors_room) c.self.view_is in
     omega (arith, room, same, fits, c.requires.actors)
 
-pub put_value-requires-clause-rows : goal.put_value-requires-clause-rows
-put_value-requires-clause-rows g c =
-    let own = as_rows c.self.inside.entries.items in
+pub put_value-requires-clause-entries : goal.put_value-requires-clause-entries
+put_value-requires-clause-entries g c =
+    let own = clock_entries c.self.inside.entries.items in
     let pairs = option_map (λ context. context.now) c.args.context in
-    rw c.absorb_context.ensures.absorbed (ready-rows own pairs c.requires.of_form c.self.invariant.rows)
+    rw c.merge_context.ensures.merged_in (ready-entries own pairs c.requires.of_form c.self.invariant.entries)
 
 pub put_value-requires-clause-counter : goal.put_value-requires-clause-counter
 put_value-requires-clause-counter g c =
-    let own = as_rows c.self.inside.entries.items in
+    let own = clock_entries c.self.inside.entries.items in
     let pairs = option_map (λ context. context.now) c.args.context in
-    let is = ap (λ rows. (row_of c.args.actor rows).0) c.absorb_context.ensures.absorbed ∙ ready-counter own pairs c.requires.of_form c.self.invariant.rows c.args.actor in
+    let is = ap (λ entries. (entry_for c.args.actor entries).0) c.merge_context.ensures.merged_in ∙ ready-counter own pairs c.requires.of_form c.self.invariant.entries c.args.actor in
     let same = ap (λ held. counter_in (known_with pairs held.meaning.known) c.args.actor) c.self.view_is in
     omega (arith, is, same, c.requires.counter)
 
 pub put_value-requires-clause-values : goal.put_value-requires-clause-values
 put_value-requires-clause-values g c =
-    let own = as_rows c.self.inside.entries.items in
+    let own = clock_entries c.self.inside.entries.items in
     let pairs = option_map (λ context. context.now) c.args.context in
-    let is = ap (λ rows. length (row_of c.args.actor rows).1) c.absorb_context.ensures.absorbed in
-    let fewer = ready-values own pairs c.requires.of_form c.self.invariant.rows c.args.actor in
+    let is = ap (λ entries. length (entry_for c.args.actor entries).1) c.merge_context.ensures.merged_in in
+    let fewer = ready-values own pairs c.requires.of_form c.self.invariant.entries c.args.actor in
     let same = ap (λ held. length (values_of c.args.actor held.meaning.live)) c.self.view_is in
     let fits = ap (λ held. held.values_room) c.self.view_is in
     let spare = ap vec_capacity c.replace-spare.ensures.value in
@@ -46,36 +46,36 @@ put_value-requires-clause-values g c =
 
 pub put_value-requires-clause-actors : goal.put_value-requires-clause-actors
 put_value-requires-clause-actors g c =
-    let own = as_rows c.self.inside.entries.items in
+    let own = clock_entries c.self.inside.entries.items in
     let pairs = option_map (λ context. context.now) c.args.context in
-    let is = ap (λ rows. length (put actor_cmp c.args.actor (with_value c.args.value (row_of c.args.actor rows)) rows)) c.absorb_context.ensures.absorbed in
-    let long = ready-length own pairs c.requires.of_form c.self.invariant.rows c.args.actor c.args.value in
+    let is = ap (λ entries. length (put actor_cmp c.args.actor (with_value c.args.value (entry_for c.args.actor entries)) entries)) c.merge_context.ensures.merged_in in
+    let long = ready-length own pairs c.requires.of_form c.self.invariant.entries c.args.actor c.args.value in
     let same = ap (λ held. length (known_after c.args.actor (known_with pairs held.meaning.known))) c.self.view_is in
     let fits = ap (λ held. held.actors_room) c.self.view_is in
-    omega (arith, is, long, same, fits, c.requires.actors, c.absorb_context.ensures.capacity)
+    omega (arith, is, long, same, fits, c.requires.actors, c.merge_context.ensures.capacity)
 
 pub invariant_of-self : goal.invariant_of-self
 invariant_of-self g c =
-    let own = as_rows c.self.inside.entries.items in
+    let own = clock_entries c.self.inside.entries.items in
     let pairs = option_map (λ context. context.now) c.args.context in
     let put_is =
     c.put_value.ensures
-    ∙ ap (λ rows. put actor_cmp c.args.actor (with_value c.args.value (row_of c.args.actor rows)) rows) c.absorb_context.ensures.absorbed in
-    let long = ap length put_is ∙ ready-length own pairs c.requires.of_form c.self.invariant.rows c.args.actor c.args.value in
+    ∙ ap (λ entries. put actor_cmp c.args.actor (with_value c.args.value (entry_for c.args.actor entries)) entries) c.merge_context.ensures.merged_in in
+    let long = ap length put_is ∙ ready-length own pairs c.requires.of_form c.self.invariant.entries c.args.actor c.args.value in
     let same = ap (λ held. length (known_after c.args.actor (known_with pairs held.meaning.known))) c.self.view_is in
     record {
-      rows = rw put_is (ready-next own pairs c.requires.of_form c.self.invariant.rows c.args.actor c.args.value);
-      few = omega (arith, long, same, length-as_rows c.put_value.new.entries.items, c.requires.few);
+      entries = rw put_is (ready-next own pairs c.requires.of_form c.self.invariant.entries c.args.actor c.args.value);
+      few = omega (arith, long, same, length-clock_entries c.put_value.new.entries.items, c.requires.few);
       empty = ap (λ v. v.items) c.replace-spare.ensures.after ∙ c.new.ensures.items;
     }
 
 pub returns : goal.returns
 returns g c =
-    let own = as_rows c.self.inside.entries.items in
+    let own = clock_entries c.self.inside.entries.items in
     let pairs = option_map (λ context. context.now) c.args.context in
     let put_is =
     c.put_value.ensures
-    ∙ ap (λ rows. put actor_cmp c.args.actor (with_value c.args.value (row_of c.args.actor rows)) rows) c.absorb_context.ensures.absorbed in
+    ∙ ap (λ entries. put actor_cmp c.args.actor (with_value c.args.value (entry_for c.args.actor entries)) entries) c.merge_context.ensures.merged_in in
     ap dot_state_of put_is
-    ∙ ready-meaning own pairs c.requires.of_form c.self.invariant.rows c.args.actor c.args.value
+    ∙ ready-meaning own pairs c.requires.of_form c.self.invariant.entries c.args.actor c.args.value
     ∙ ap (λ held. event c.args.actor c.args.value (without pairs held.meaning)) c.self.view_is

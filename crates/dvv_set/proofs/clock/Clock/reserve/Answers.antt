@@ -1,25 +1,25 @@
 use Rattle.std.proofs.Common.{◌∙◌, ap, arith, length}
 use Rattle.dvv_set.specs.Held.{pairs_of, actors_after, counter_before, values_of}
-use Rattle.dvv_set.specs.Rows.{known_of, live_of}
-use Rattle.dvv_set.specs.Stored.{as_rows}
-use Rattle.dvv_set.proofs.Absorb.{row_of-within}
+use Rattle.dvv_set.specs.ClockEntries.{known_of, live_of}
+use Rattle.dvv_set.specs.Stored.{clock_entries}
+use Rattle.dvv_set.proofs.Merges.{entry_for-within}
 use Rattle.dvv_set.proofs.Counts.{length-values_of}
 use Rattle.dvv_set.proofs.clock.Clock.reserve.Goals as goal
 
 pub overflow_add-values : goal.overflow_add-values
 overflow_add-values g c =
-    let rows = as_rows c.self.inside.entries.items in
-    let within = row_of-within c.args.actor rows c.self.invariant.rows.each in
-    omega (arith, within, c.size_of-values.ensures.counter, c.size_of-values.ensures.values, c.size_of-values.ensures.greatest)
+    let entries = clock_entries c.self.inside.entries.items in
+    let within = entry_for-within c.args.actor entries c.self.invariant.entries.each in
+    omega (arith, within, c.entry_counts-values.ensures.counter, c.entry_counts-values.ensures.values, c.entry_counts-values.ensures.greatest)
 
 pub returns-clause-ready : goal.returns-clause-ready
 returns-clause-ready g c =
-    let rows = as_rows c.self.inside.entries.items in
+    let entries = clock_entries c.self.inside.entries.items in
     let pairs = pairs_of c.args.context in
-    let same = ap as_rows c.in_ok-reserve.ensures.items in
-    let long = ap (λ rows. actors_after (known_of rows) pairs c.args.actor) same in
-    let last = ap (λ rows. counter_before (known_of rows) pairs c.args.actor) same in
-    let values = ap (λ rows. length (values_of c.args.actor (live_of rows))) same ∙ length-values_of c.args.actor rows c.self.invariant.rows.sorted in
+    let same = ap clock_entries c.in_ok-reserve.ensures.items in
+    let long = ap (λ entries. actors_after (known_of entries) pairs c.args.actor) same in
+    let last = ap (λ entries. counter_before (known_of entries) pairs c.args.actor) same in
+    let values = ap (λ entries. length (values_of c.args.actor (live_of entries))) same ∙ length-values_of c.args.actor entries c.self.invariant.entries.sorted in
     let few = ap (λ held. actors_after held.meaning.known pairs c.args.actor) c.self.view_is in
     let counter = ap (λ held. counter_before held.meaning.known pairs c.args.actor) c.self.view_is in
     record {
@@ -27,5 +27,5 @@ returns-clause-ready g c =
       few = omega (arith, long, few, c.requires.few);
       counter = omega (arith, last, counter, c.requires.counter);
       actors = omega (arith, long, c.required_room-more.ensures.more, c.in_ok-reserve.ensures.ok);
-      values = omega (arith, values, c.size_of-values.ensures.values, c.in_ok-reserve-2.ensures.ok);
+      values = omega (arith, values, c.entry_counts-values.ensures.values, c.in_ok-reserve-2.ensures.ok);
     }

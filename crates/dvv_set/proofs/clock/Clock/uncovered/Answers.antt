@@ -1,8 +1,8 @@
 use Rattle.std.proofs.Common.{[], ◌∙◌, ap}
 use Rattle.std.specs.Prelude.{unwrap_or}
 use Rattle.dvv_set.specs.Held.{pairs_of, uncovered}
-use Rattle.dvv_set.specs.Rows.{count_uncovered}
-use Rattle.dvv_set.specs.Stored.{as_rows}
+use Rattle.dvv_set.specs.ClockEntries.{count_uncovered}
+use Rattle.dvv_set.specs.Stored.{clock_entries}
 use Rattle.dvv_set.proofs.Emptied.{length-uncovered}
 use Rattle.dvv_set.proofs.clock.Clock.uncovered.Goals as goal
 
@@ -10,6 +10,6 @@ pub returns : goal.returns
 returns g c =
     let pairs = unwrap_or (pairs_of c.args.context) [] in
     c.uncovered.ensures
-    ∙ ap (λ entries. count_uncovered pairs (as_rows entries)) c.deref.ensures.value
-    ∙ length-uncovered pairs (as_rows c.self.inside.entries.items) c.self.invariant.rows.each
+    ∙ ap (λ entries. count_uncovered pairs (clock_entries entries)) c.deref.ensures.value
+    ∙ length-uncovered pairs (clock_entries c.self.inside.entries.items) c.self.invariant.entries.each
     ∙ ap (λ held. uncovered pairs held.meaning) c.self.view_is

@@ -6,22 +6,22 @@ use std::marker::Model;
 
 /// The pairs (actor, n) of a clock that are still to come, by rising actor. Contracts see the list of them.
 #[derive(Drop)]
-pub struct Join<'a, V> {
+pub struct KnownPairs<'a, V> {
     pub(crate) entries: &'a [Entry<V>],
 }
 
-impl<'a, V> Model for Join<'a, V> {
+impl<'a, V> Model for KnownPairs<'a, V> {
     ghost use Rattle.std.specs.Prelude.{List};
     ghost use Rattle.actor_epoch.specs.declared.Dot.{Dot};
-    ghost use Rattle.dvv_set.specs.Rows.{known_of};
-    ghost use Rattle.dvv_set.specs.Stored.{as_rows};
+    ghost use Rattle.dvv_set.specs.ClockEntries.{known_of};
+    ghost use Rattle.dvv_set.specs.Stored.{clock_entries};
 
     ghost Value = { List Dot };
 
-    ghost view = { λ j. known_of (as_rows j.entries.now) };
+    ghost view = { λ j. known_of (clock_entries j.entries.now) };
 }
 
-impl<'a, V> Iterator for Join<'a, V> {
+impl<'a, V> Iterator for KnownPairs<'a, V> {
     type Item = (Actor, Counter);
 
     ghost use Rattle.std.specs.Prelude.{length};
