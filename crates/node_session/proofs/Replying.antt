@@ -46,10 +46,10 @@ module _ {S : Type 0} (Step : S → Request → Reply → S → Type 0) where
 
   pub answered_error : (old : S) (m : Message) (fault : MsgFault) (text : Text) (bytes : List ℕ) (a b : Option (List ℕ)) (r : Result (Unit {0}) Stop)
       → Reads m.code m.body (Err fault) → text ≡ message_fault_text fault → bytes ≡ reply_frame (Error text) → Sends a b bytes r → Answering Step old m old a b r
-  answered_error old m fault text bytes a b r reads is spelled sends = record {
+  answered_error old m fault text bytes a b r reads is encoded sends = record {
     reply = Error (message_fault_text fault);
     answers = refused old m fault reads;
-    sends = sends_reply a b (Error (message_fault_text fault)) r (subst (λ (x : List ℕ). Sends a b x r) (spelled ∙ ap (λ (t : Text). reply_frame (Error t)) is) sends);
+    sends = sends_reply a b (Error (message_fault_text fault)) r (subst (λ (x : List ℕ). Sends a b x r) (encoded ∙ ap (λ (t : Text). reply_frame (Error t)) is) sends);
   }
 
   -- a message that was taken and answered
@@ -114,23 +114,23 @@ module _ {S : Type 0} (Step : S → Request → Reply → S → Type 0) where
   -- a bad length, whose error was sent
   bad_error : (old : S) (fault : FrameFault) (text : Text) (bytes : List ℕ) (framer framer' : Stream) → framer.limit ≡ max_request_len
       → IsRefused framer fault framer' → text ≡ frame_fault_text fault → bytes ≡ reply_frame (Error text) → IsError old framer.rest bytes old
-  bad_error old fault text bytes framer framer' limit refused is spelled = record {
+  bad_error old fault text bytes framer framer' limit refused is encoded = record {
     fault = fault;
     faulty = subst (λ (n : ℕ). IsFaulty n framer.rest fault) limit refused.faulty;
     node = refl;
-    is = spelled ∙ ap (λ (t : Text). reply_frame (Error t)) is;
+    is = encoded ∙ ap (λ (t : Text). reply_frame (Error t)) is;
   }
 
   pub bad_sent : (old : S) (fault : FrameFault) (text : Text) (bytes : List ℕ) (framer framer' : Stream) (a b : Option (List ℕ)) → framer.limit ≡ max_request_len
       → IsRefused framer fault framer' → text ≡ frame_fault_text fault → bytes ≡ reply_frame (Error text) → Appends a b bytes → Answered Step old framer.rest a b 0 (IsBad old)
-  bad_sent old fault text bytes framer framer' a b limit refused is spelled sent =
-      stopped old framer.rest bytes a b (IsBad old) sent (bad_error old fault text bytes framer framer' limit refused is spelled)
+  bad_sent old fault text bytes framer framer' a b limit refused is encoded sent =
+      stopped old framer.rest bytes a b (IsBad old) sent (bad_error old fault text bytes framer framer' limit refused is encoded)
 
   pub bad_stopped : (old : S) (fault : FrameFault) (text : Text) (bytes : List ℕ) (framer framer' : Stream) (a b : Option (List ℕ)) (stop : Stop) → framer.limit ≡ max_request_len
       → IsRefused framer fault framer' → text ≡ frame_fault_text fault → bytes ≡ reply_frame (Error text) → Sends a b bytes (Err stop) → Answered Step old framer.rest a b 0 (StopEnds Step stop old)
-  bad_stopped old fault text bytes framer framer' a b stops.WriteFailed limit refused is spelled sent =
+  bad_stopped old fault text bytes framer framer' a b stops.WriteFailed limit refused is encoded sent =
       let cut : IsCutShort a b bytes = sent in
       stopped old framer.rest (take cut.len bytes) a b (PartlyWritten Step old) cut.written
-      (record { next = bytes; due = inr (bad_error old fault text bytes framer framer' limit refused is spelled); len = cut.len; short = cut.short; begins = refl })
-  bad_stopped old fault text bytes framer framer' a b stops.BadFrame limit refused is spelled sent = absurd sent
-  bad_stopped old fault text bytes framer framer' a b stops.NoMemory limit refused is spelled sent = absurd sent
+      (record { next = bytes; due = inr (bad_error old fault text bytes framer framer' limit refused is encoded); len = cut.len; short = cut.short; begins = refl })
+  bad_stopped old fault text bytes framer framer' a b stops.BadFrame limit refused is encoded sent = absurd sent
+  bad_stopped old fault text bytes framer framer' a b stops.NoMemory limit refused is encoded sent = absurd sent

@@ -39,15 +39,15 @@ fn frame_fault_text(fault: FrameFault) -> Text
 }
 
 /// The frame of a reply.
-fn spell(alloc: Global, reply: &Reply) -> Result<Vec<u8>, Stop>
+fn encode_reply(alloc: Global, reply: &Reply) -> Result<Vec<u8>, Stop>
     ensures ok { IfOk result (λ v. v.items ≡ reply_frame reply.now) }
     ensures err { IfErr result (λ e. e ≡ NoMemory) }
 {
-    frame_in(alloc, reply).ok_or(Stop::NoMemory)
+    try_encode_reply(alloc, reply).ok_or(Stop::NoMemory)
 }
 
 /// The frame of a reply, in one buffer that is made at its full size: the header, and the body behind it.
-fn frame_in(alloc: Global, reply: &Reply) -> Option<Vec<u8>>
+fn try_encode_reply(alloc: Global, reply: &Reply) -> Option<Vec<u8>>
     ensures { IfSome result (λ v. v.items ≡ reply_frame reply.now) }
 {
     let len = reply.body_len().ok()?;
@@ -65,7 +65,7 @@ fn send_reply<W: Write>(alloc: Global, writer: &mut W, reply: &Reply) -> Result<
     match reply {
         Reply::Error(text) => send(writer, error_frame(*text)),
         other => {
-            let frame = spell(alloc, other)?;
+            let frame = encode_reply(alloc, other)?;
             send(writer, &frame)
         }
     }

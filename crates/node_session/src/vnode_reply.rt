@@ -1,8 +1,9 @@
 //! The replies of one vnode to what it is asked, and its sweeps.
 
-ghost use Rattle.std.specs.Prelude.{◌≡◌};
+ghost use Rattle.std.specs.Prelude.{◌≡◌, None};
 ghost use Rattle.sibling_register.specs.Answers.{AskGet};
 ghost use Rattle.vnode_machine.specs.Asks.{get_command};
+ghost use Rattle.vnode_machine.specs.Dead.{swept};
 ghost use Rattle.vnode_machine.specs.Step.{outcome};
 ghost use Rattle.vnode_core.specs.Plans.{ask_outcome, response_of};
 ghost use Rattle.vnode_core.specs.Refusals.{number_of};
@@ -14,8 +15,8 @@ use std::alloc::Global;
 use tomb_reaper::sweep;
 use vnode_core::{Answer, Ask, Plan, Reaped, Refusal, Vnode};
 
-/// The text of the error for a refusal.
-fn refusal_text(refusal: Refusal) -> Text
+/// The text of the error reply for a refusal: each refusal has one of its own. It takes no memory.
+pub fn refusal_text(refusal: Refusal) -> Text
     ensures { result ≡ refusal_text (number_of refusal) }
 {
     match refusal {
@@ -31,8 +32,9 @@ fn refusal_text(refusal: Refusal) -> Text
     }
 }
 
-/// The reply for an answer.
-fn reply_of(answer: Answer) -> Reply
+/// The reply for a vnode's answer to a change. No request asks for a reap, and one is replied to as a delete is. It takes
+/// no memory.
+pub fn answer_reply(answer: Answer) -> Reply
     ensures { result ≡ response_reply (response_of answer) }
 {
     match answer {
@@ -57,9 +59,18 @@ fn answer_change(vnode: &mut Vnode, alloc: Global, ask: Ask) -> Reply
     ensures { StepsBy vnode.old.state (ask_outcome vnode.old.state ask) result vnode.new.state }
 {
     match vnode.prepare(alloc, ask) {
-        Ok(Plan::Change(change)) => reply_of(vnode.finish(change)),
-        Ok(Plan::Nothing(answer)) => reply_of(answer),
+        Ok(Plan::Change(change)) => answer_reply(vnode.finish(change)),
+        Ok(Plan::Nothing(answer)) => answer_reply(answer),
         Err(refusal) => Reply::Error(refusal_text(refusal)),
+    }
+}
+
+/// Forgets the vnode's first dead keys, so many at most. With a budget of 0 no key is looked at.
+fn forget_first(vnode: &mut Vnode, budget: u32)
+    ensures { vnode.new.state ≡ swept vnode.old.state None budget }
+{
+    if budget > 0 {
+        sweep(vnode, None, budget);
     }
 }
 
@@ -68,7 +79,7 @@ pub(crate) fn get_and_sweep(vnode: &mut Vnode, alloc: Global, ask: &GetAsk, budg
     ensures { AnswersAndSweeps budget vnode.old.state (outcome vnode.old.state (AskGet (get_command ask.now))) result vnode.new.state }
 {
     let reply = answer_get(vnode, alloc, ask);
-    sweep(vnode, None, budget);
+    forget_first(vnode, budget);
     reply
 }
 
@@ -77,6 +88,6 @@ pub(crate) fn change_and_sweep(vnode: &mut Vnode, alloc: Global, ask: Ask, budge
     ensures { AnswersAndSweeps budget vnode.old.state (ask_outcome vnode.old.state ask) result vnode.new.state }
 {
     let reply = answer_change(vnode, alloc, ask);
-    sweep(vnode, None, budget);
+    forget_first(vnode, budget);
     reply
 }

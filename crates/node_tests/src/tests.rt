@@ -2,6 +2,7 @@
 
 mod connections;
 mod contexts;
+mod encodings;
 mod exchange;
 mod faults;
 mod interruptions;
@@ -11,6 +12,5 @@ mod messages;
 mod options;
 mod reports;
 mod sessions;
-mod spellings;
 mod streams;
 mod sweeps;

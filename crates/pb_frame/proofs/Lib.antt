@@ -1,3 +1,3 @@
-pub mod Fronts
+pub mod Headers
 pub mod Runs
 pub mod Splitting

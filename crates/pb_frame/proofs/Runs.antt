@@ -8,7 +8,7 @@ use Rattle.pb_frame.specs.Message.{frame, IsWithin, IsShort, IsBadLength, IsPart
 use Rattle.pb_frame.specs.Stream.{Stream, opening}
 use Rattle.pb_frame.specs.Taking.{IsOut, IsRefused}
 use Rattle.pb_frame.specs.Run.{Event, fed, taken, Ran, fed_bytes, taken_messages}
-use Rattle.pb_frame.proofs.Fronts.{one_reading}
+use Rattle.pb_frame.proofs.Headers.{one_reading}
 
 -- what a run makes of a framer: what was fed is what was taken, and what is left
 pub record IsRun (old : Stream) (events : List Event) (new : Stream) : Type 0 where

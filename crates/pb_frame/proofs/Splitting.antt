@@ -6,8 +6,8 @@ use Rattle.std.proofs.lemmas.List.Elements.{All-nil, All-cons, All-get_or}
 use Rattle.std.specs.List.{flat_map, All}
 use Rattle.pb_frame.specs.declared.fault.FrameFault.TheVariants.{Empty, TooLarge}
 use Rattle.pb_frame.specs.Message.{Message, frame, given_length, IsWithin, BeginsNoFrame, Splits}
-use Rattle.pb_frame.specs.Front.{message_at, IsWhole}
-use Rattle.pb_frame.proofs.Fronts.{IsBytes, whole_front, short_partial, bad_faulty}
+use Rattle.pb_frame.specs.Header.{message_at, IsWhole}
+use Rattle.pb_frame.proofs.Headers.{IsBytes, whole_front, short_partial, bad_faulty}
 
 -- a whole frame stands at the front, or none does
 whole_or_none : (limit : ℕ) (bytes : List ℕ) → limit < 2 ^ 32 → IsBytes bytes → ((end : ℕ) × IsWhole limit bytes end) ⊎ BeginsNoFrame limit bytes

@@ -1,5 +1,5 @@
 pub mod Limits
-pub mod Front
+pub mod Header
 pub mod Message
 pub mod Stream
 pub mod Taking

@@ -2,9 +2,9 @@
 
 ghost use Rattle.std.specs.Prelude.{◌≡◌, ◌++◌, [], length, None, IfSome, IsErrOf, IsOkUnless, OnOk, OnErr};
 
+use crate::decode::{Header, decode_header};
 use crate::fault::FrameFault;
 use crate::frame::Frame;
-use crate::front::{Front, front_of};
 use std::alloc::Global;
 use std::marker::Model;
 
@@ -122,13 +122,13 @@ impl Framer {
             return Err(fault);
         }
         let start = self.start;
-        match front_of(self.limit, &self.bytes[start..]) {
-            Front::Part => Ok(None),
-            Front::Bad(fault) => {
+        match decode_header(self.limit, &self.bytes[start..]) {
+            Header::Incomplete => Ok(None),
+            Header::Invalid(fault) => {
                 self.fault = Some(fault);
                 Err(fault)
             }
-            Front::Whole(length) => {
+            Header::Complete(length) => {
                 let end = start + length;
                 self.start = end;
                 let bytes = self.bytes.as_slice();

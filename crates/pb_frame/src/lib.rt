@@ -17,14 +17,15 @@
 //! buffer. [`frame_of`] encodes a message, and [`header`] the bytes in front of a body that is written behind it.
 #![tactic(auto)]
 
+mod decode;
+mod encode;
 mod fault;
 mod frame;
 mod framer;
-mod front;
 mod laws;
 mod limits;
-mod spelling;
 
+pub use encode::{HEADER_LEN, frame_of, header};
 pub use fault::FrameFault;
 pub use frame::Frame;
 pub use framer::Framer;
@@ -32,4 +33,3 @@ pub use laws::{
     any_pieces, bad_length, every_stream, first_messages, none_left, one_split, request_limit,
 };
 pub use limits::{MAX_BODY_LEN, MAX_REQUEST_LEN};
-pub use spelling::{HEADER_LEN, frame_of, header};

@@ -17,9 +17,9 @@ with_length bytes = big_bytes 4 (length bytes % 2 ^ 32) ++ bytes
 abbrev pub digest_of : Key → List ℕ
 digest_of key = sha1 ((with_length key.bucket_type ++ with_length key.bucket) ++ with_length key.key)
 
--- the index of a digest: so many top bits of its first two bytes, read as a big-endian number
+-- the index of a digest: the top `bits` bits of its first two bytes, read as a big-endian number
 abbrev pub index_of : (bits : ℕ) → List ℕ → ℕ
-index_of bits digest = big_number 2 digest / 2 ^ (16 - bits)
+index_of bits digest = (big_number 2 digest / 2 ^ (16 - bits)) % 2 ^ bits
 
 -- the id of a vnode: the run number above sixteen bits for the index
 abbrev pub id_of : (run index : ℕ) → ℕ

@@ -4,7 +4,8 @@
 //! number (`specs/Ring`: `digest_of`, `index_of`), as many bits as number the partitions. So which keys share a vnode
 //! depends on their names and the ring's size alone, and is the same in every run.
 //!
-//! What it costs: one SHA-1 over the key's bytes, 12 bytes more for the lengths. No call takes memory.
+//! What it costs: one SHA-1 over the key's bytes, 12 bytes more for the lengths; on a ring of one partition, nothing. No
+//! call takes memory.
 //!
 //! How it is built: the hasher is fed from the key as it lies; a ring is the number of its index bits, and an index is
 //! one shift of the digest's first two bytes.

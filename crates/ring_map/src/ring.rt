@@ -60,11 +60,15 @@ impl Ring {
         (first_two >> (16 - self.index_bits)) as u16
     }
 
-    /// The partition of a key, below the ring's size.
+    /// The partition of a key, below the ring's size. It costs one SHA-1 over the key, and none where the ring has but
+    /// one partition.
     pub fn index(&self, key: &Key) -> u16
         ensures index { result ≡ index_of self.now (digest_of key.now) }
         ensures below { result < 2 ^ self.now }
     {
+        if self.index_bits == 0 {
+            return 0;
+        }
         self.index_of(&key_digest(key))
     }
 }

@@ -1,6 +1,6 @@
 use Rattle.pb_frame.specs.Run.{fed_bytes, taken_messages}
 use Rattle.pb_frame.specs.Stream.{opening}
-use Rattle.pb_frame.proofs.Fronts.{begins_messages}
+use Rattle.pb_frame.proofs.Headers.{begins_messages}
 use Rattle.pb_frame.proofs.Runs.{run_of}
 use Rattle.pb_frame.proofs.laws.any_pieces.Goals as goal
 

@@ -1,4 +1,4 @@
-//! A message as a frame.
+//! The encoding of a message as a frame.
 
 ghost use Rattle.std.specs.Prelude.{◌≡◌, ◌<◌, ◌≤◌, ◌++◌, List, ℕ, length, IfOk, IsOk, IsErrOf, IsOkUnless};
 ghost use Rattle.pb_frame.specs.Limits.{max_body_len};

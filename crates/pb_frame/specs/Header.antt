@@ -1,7 +1,7 @@
--- What stands at the front of a stream.
+-- The header at the front of a stream, and the frame that it begins.
 use Rattle.std.specs.Prelude.{◌≡◌, ℕ, ◌-◌, ◌≤◌, List, ◌++◌, length, take, drop, slice_index}
-use Rattle.pb_frame.specs.declared.front.Front.{Front}
-use Rattle.pb_frame.specs.declared.front.Front.TheVariants.{Part, Whole, Bad}
+use Rattle.pb_frame.specs.declared.decode.Header.{Header}
+use Rattle.pb_frame.specs.declared.decode.Header.TheVariants.{Incomplete, Complete, Invalid}
 use Rattle.pb_frame.specs.Message.{Message, frame, IsWithin, IsPartial, IsFaulty}
 
 -- the message of the frame that is the first `end` bytes
@@ -15,8 +15,8 @@ pub record IsWhole (limit : ℕ) (bytes : List ℕ) (end : ℕ) : Type 0 where
   pub within : IsWithin limit (message_at bytes end)
   pub front : bytes ≡ frame (message_at bytes end) ++ drop end bytes
 
--- what the first bytes are: less than a frame, a whole one, or a bad length
-abbrev pub IsFront : ℕ → List ℕ → Front → Type 0
-IsFront limit bytes Part = IsPartial limit bytes
-IsFront limit bytes (Whole end) = IsWhole limit bytes end
-IsFront limit bytes (Bad fault) = IsFaulty limit bytes fault
+-- what the header tells of the bytes: less than a frame, a whole one, or a bad length
+abbrev pub IsHeader : ℕ → List ℕ → Header → Type 0
+IsHeader limit bytes Incomplete = IsPartial limit bytes
+IsHeader limit bytes (Complete end) = IsWhole limit bytes end
+IsHeader limit bytes (Invalid fault) = IsFaulty limit bytes fault

@@ -1,4 +1,4 @@
-//! Requests in spellings that a client of another make may choose.
+//! Requests in encodings that a client of another make may choose.
 
 use crate::tests::sessions::{
     ABSENT, GET, PUT_V, REPLIES, STORED, asked, ended, new_node, serve_new,
@@ -10,7 +10,7 @@ use std::process::Abort;
 use std::test::Fail;
 
 // The bucket twice, of which the last counts; an unknown field 99; a length in two bytes; a key before its bucket.
-fn other_spellings(rt: &impl Abort, alloc: Global, node: &mut PlainNode) {
+fn other_encodings(rt: &impl Abort, alloc: Global, node: &mut PlainNode) {
     asked(rt, alloc, node, PUT_V, STORED);
     let shown = &REPLIES[10..];
     let twice = b"\0\0\0\x0a\x09\x0a\x01a\x0a\x01b\x12\x01k";
@@ -24,9 +24,9 @@ fn other_spellings(rt: &impl Abort, alloc: Global, node: &mut PlainNode) {
 }
 
 #[test]
-fn a_get_may_be_spelled_otherwise(rt: HostRuntime) -> Result<(), Fail> {
+fn a_get_may_be_encoded_otherwise(rt: HostRuntime) -> Result<(), Fail> {
     let mut node = new_node(rt.alloc())?;
-    other_spellings(&rt, rt.alloc(), &mut node);
+    other_encodings(&rt, rt.alloc(), &mut node);
     Ok(())
 }
 

@@ -1,4 +1,4 @@
--- What stands at the front of a stream, as a frame.
+-- The frame at the front of a stream, by its header.
 use Rattle.std.proofs.Common.{◌≡◌, ℕ, zero, suc, ◌+◌, ◌-◌, ◌^◌, ◌<◌, ◌≤◌, List, [], ◌∷◌, ◌++◌, length, get_or, take, drop, refl, sym, ap, subst, ◌∙◌, append_assoc, arith, length-append}
 use Rattle.std.specs.Int.{w32, from_be_bytes, byte_at}
 use Rattle.std.proofs.lemmas.Nat.{be_bytes_4, from_be_bytes-to_be_bytes_4}
@@ -9,7 +9,7 @@ use Rattle.pb_frame.specs.declared.fault.FrameFault.{FrameFault}
 use Rattle.pb_frame.specs.declared.fault.FrameFault.TheVariants.{Empty, TooLarge, NoMemory}
 use Rattle.byteorder.specs.Endian.{big_bytes, big_number}
 use Rattle.pb_frame.specs.Message.{Message, frame, given_length, IsWithin, IsPartial, IsFaulty, IsShort, IsBadLength, Splits}
-use Rattle.pb_frame.specs.Front.{message_at, IsWhole}
+use Rattle.pb_frame.specs.Header.{message_at, IsWhole}
 
 -- each is a byte
 abbrev pub IsBytes : List ℕ → Type 0
