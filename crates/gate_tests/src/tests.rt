@@ -9,6 +9,7 @@ use std::test::*;
 
 mod adding;
 mod marking;
+mod reaping;
 mod register;
 mod several;
 mod vnode;

@@ -12,15 +12,15 @@ use Rattle.sibling_register.specs.Answers.{AskDel}
 use Rattle.actor_epoch.specs.declared.Actor.{Actor}
 use Rattle.actor_epoch.specs.declared.Dot.{Dot}
 use Rattle.actor_epoch.specs.Limits.{max_epoch, max_counter, max_actors}
-use Rattle.actor_epoch.specs.Dots.{counter_in, union}
+use Rattle.actor_epoch.specs.Dots.{counter_in}
 use Rattle.actor_epoch.specs.Contexts.{is_within_limits}
 use Rattle.actor_epoch.specs.Given.{Context, Malformed, Pairs, context_of, pairs_read}
 use Rattle.dvv_set.specs.Clocks.{DotState, discard, event, join}
 use Rattle.dvv_set.specs.Held.{IsWithin, known_after}
 use Rattle.dvv_set.proofs.Discards.{union-itself}
 use Rattle.vnode_machine.specs.Asks.{del_command}
-use Rattle.vnode_machine.specs.Machine.{State, Stored, stored, is_held, clock_of, actor_for, del_pairs, update_check, updated, apply_operation}
-use Rattle.vnode_machine.specs.Step.{StepOutcome, Refused, Answered, Accepted, DelDone, del_step, unless_refused, outcome}
+use Rattle.vnode_machine.specs.Machine.{State, Stored, is_held, clock_of, actor_for, del_pairs, update_check, updated, apply_operation}
+use Rattle.vnode_machine.specs.Step.{StepOutcome, Refused, Answered, Accepted, DelDone, del_step, unless_refused}
 use Rattle.vnode_machine.proofs.Forms.{IsForm, IsFormed}
 use Rattle.vnode_machine.proofs.Keys.{find_stored, key_eq-refl}
 use Rattle.vnode_machine.proofs.Seen.{form-within}
@@ -32,9 +32,9 @@ use Rattle.vnode_core.specs.declared.ready.Writer.{Writer}
 use Rattle.vnode_core.specs.declared.refusal.Refusal.{Refusal}
 use Rattle.vnode_core.specs.declared.refusal.Refusal.TheVariants.{NoMemory}
 use Rattle.vnode_core.specs.Plans.{Steps, Refuses, ask_outcome}
-use Rattle.vnode_core.specs.Refusals.{number_of, RefusedBy, GivenBy}
-use Rattle.vnode_core.specs.Shelves.{deleted}
-use Rattle.vnode_core.specs.Vnodes.{IsReached, DelGives, DelOfAllGives, IsToOverwrite, state_after, writer_of}
+use Rattle.vnode_core.specs.Refusals.{RefusedBy}
+use Rattle.clock_store.specs.Keys.{deleted}
+use Rattle.vnode_core.specs.Vnodes.{IsReached, DelGives, DelOfAllGives, state_after, writer_of}
 use Rattle.vnode_core.proofs.Reached.{formed, rising-at, within-at, reached-next}
 
 -- a delete of a key by what was given as its context

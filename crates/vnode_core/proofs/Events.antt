@@ -1,10 +1,10 @@
 -- A vnode behind a gate: its plans are events, and the runs of its machine are legal histories.
-use Rattle.std.proofs.Common.{◌≡◌, ◌∙◌, ℕ, true, false, not, ◌&&◌, cond, List, [], ◌∷◌, refl, sym, ap, subst}
+use Rattle.std.proofs.Common.{◌≡◌, ◌∙◌, ℕ, true, false, not, ◌&&◌, cond, List, [], ◌∷◌, refl, sym, subst}
 use Rattle.std.specs.Prelude.{Bool, Option, Some, None, IsTrue, is_none, unwrap_or}
 use Rattle.std.specs.Option.{option_map_or}
 use Rattle.riak_msgs.specs.declared.Key.{Key}
 use Rattle.riak_msgs.specs.declared.Content.{Content}
-use Rattle.sibling_register.specs.Answers.{Ask as Command, AskReap}
+use Rattle.sibling_register.specs.Answers.{AskReap}
 use Rattle.sibling_register.specs.History.{Operation, Reap as ReapDeed}
 use Rattle.sibling_register.specs.Legal.{IsLegal}
 use Rattle.vnode_machine.specs.Asks.{put_command, del_command}
@@ -17,7 +17,6 @@ use Rattle.vnode_machine.proofs.DeadKeys.{first_is_dead}
 use Rattle.vnode_machine.proofs.Legals.{replay_is_legal}
 use Rattle.vnode_machine.proofs.StepLaw.{registers-after}
 use Rattle.vnode_machine.proofs.Tests.{and_left}
-use Rattle.rw_gate.specs.declared.kept.Plan.{Plan}
 use Rattle.rw_gate.specs.declared.kept.Plan.TheVariants.{Change}
 use Rattle.rw_gate.specs.Machines.{MachineRun}
 use Rattle.rw_gate.specs.Views.{GateId}
@@ -26,8 +25,8 @@ use Rattle.vnode_core.specs.declared.ask.Ask.{Ask}
 use Rattle.vnode_core.specs.declared.ask.Ask.TheVariants as asks
 use Rattle.vnode_core.specs.declared.event.Event.{Event}
 use Rattle.vnode_core.specs.declared.event.Event.TheVariants.{Reap}
-use Rattle.vnode_core.specs.Plans.{View, IsAccepted, IsPrepared, Plans, ask_outcome}
-use Rattle.vnode_core.specs.Events.{no_key, event_command, event_deed, event_response, Makes, Asks, event_of, IsLoggable, register_event, history_after, AreNext, GoesOnTo, RunIsLegal, IsMadeNew, GateHistoryIsLegal}
+use Rattle.vnode_core.specs.Plans.{View, IsAccepted, Plans, ask_outcome}
+use Rattle.vnode_core.specs.Events.{no_key, event_command, event_deed, event_response, Makes, Asks, event_of, IsLoggable, register_event, GoesOnTo, RunIsLegal, GateHistoryIsLegal}
 
 -- no check refuses what is accepted
 unrefused : (check : Option ℕ) (operation : Operation Content) (response : Response) (next : State Content) → IsAccepted (unless_refused check (Accepted operation response next))

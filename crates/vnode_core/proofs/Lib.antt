@@ -1,13 +1,10 @@
 pub mod Deleting
-pub mod Finding
 pub mod Finishing
 pub mod Previews
 pub mod Putting
 pub mod Reached
 pub mod Reaping
 pub mod Registers
-pub mod Removal
 pub mod Rooms
-pub mod Shelves
 pub mod Showing
 pub mod Events

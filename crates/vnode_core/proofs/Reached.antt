@@ -36,7 +36,7 @@ use Rattle.vnode_core.specs.declared.ask.Ask.TheVariants.{Put, Del, Reap, ReapFi
 use Rattle.vnode_core.specs.declared.ask.Answer.{Answer}
 use Rattle.vnode_core.specs.Plans.{Registers, RegistersAsk, Steps, ask_outcome, response_of}
 use Rattle.vnode_core.specs.Replies.{reply_after}
-use Rattle.vnode_core.specs.Shelves.{written}
+use Rattle.clock_store.specs.Keys.{written}
 use Rattle.vnode_core.specs.Vnodes.{IsReached}
 
 module _ (state : State Content) (is : IsReached state) where

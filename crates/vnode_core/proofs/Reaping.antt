@@ -1,6 +1,6 @@
 -- What a reap leaves of a vnode, and that it is the register's.
-use Rattle.std.proofs.Common.{◌≡◌, ℕ, Bool, true, false, List, refl, sym, ◌∙◌, ap, subst, drop}
-use Rattle.std.specs.Prelude.{Option, Some, None, is_some, if◌then◌else◌, IsTrue}
+use Rattle.std.proofs.Common.{◌≡◌, ℕ, Bool, true, false, refl, sym, ◌∙◌, ap, subst, drop}
+use Rattle.std.specs.Prelude.{Option, Some, None, is_some, if◌then◌else◌}
 use Rattle.std.specs.Option.{option_map_or}
 use Rattle.std.specs.FinMap.Entries.{find, is_sorted}
 use Rattle.riak_msgs.specs.declared.Key.{Key}
@@ -16,15 +16,15 @@ use Rattle.vnode_machine.specs.Step.{ReapDone, ReapKept, StepOutcome, Answered, 
 use Rattle.vnode_machine.proofs.DeadKeys.{keys_sorted, dead_left, first_is_dead}
 use Rattle.vnode_machine.proofs.Tests.{and_right}
 use denote.Enum.Bare.{sameb}
-use Rattle.vnode_core.specs.contracts.ask.Reaped.{the_type}
-use Rattle.vnode_core.specs.declared.ask.Reaped.{Reaped}
-use Rattle.vnode_core.specs.declared.ask.Reaped.TheVariants.{Gone, Kept, Absent}
-use Rattle.vnode_core.specs.declared.vnode.Vnode.TheInside.{Inside}
+use Rattle.clock_store.specs.contracts.store.Reaped.{the_type}
+use Rattle.clock_store.specs.declared.store.Reaped.{Reaped}
+use Rattle.clock_store.specs.declared.store.Reaped.TheVariants.{Gone, Kept, Absent}
 use Rattle.vnode_core.specs.declared.ask.Ask.TheVariants.{ReapFirst}
 use Rattle.vnode_core.specs.Plans.{IsAccepted, Registers, ask_outcome, reap_response}
-use Rattle.vnode_core.specs.Reaping.{holding, reap_result, reap_outcome, after_reap, after_first_reap}
-use Rattle.vnode_core.specs.Shelves.{Keys}
-use Rattle.vnode_core.specs.Vnodes.{IsReached, state_of}
+use Rattle.clock_store.specs.Forgetting.{holding, reap_result, after_reap, after_first_reap}
+use Rattle.vnode_core.specs.Reaping.{reap_outcome}
+use Rattle.clock_store.specs.Keys.{Keys}
+use Rattle.vnode_core.specs.Vnodes.{IsReached, state_of, Fields}
 use Rattle.vnode_core.proofs.Reached.{registers-view, reached-next}
 
 -- the keys of a vnode stand in their order
@@ -55,24 +55,24 @@ module _ (state : State Content) (is : IsReached state) (key : Key) (result : Re
       by false h = is
 
 -- the fields of a vnode that has forgotten a key
-pub gone-is : (v : Inside) (key : Key) (reaps : ℕ) (keys : Keys) → reaps ≡ counted v.reaps → Gone ≡ reap_result (holding v.shelf.keys) key
-    → keys ≡ (after_reap (holding v.shelf.keys) key).keys → record (state_of v) { reaps = reaps; keys = keys } ≡ after_reap (state_of v) key
+pub gone-is : (v : Fields) (key : Key) (reaps : ℕ) (keys : Keys) → reaps ≡ counted v.reaps → Gone ≡ reap_result (holding v.store.keys) key
+    → keys ≡ (after_reap (holding v.store.keys) key).keys → record (state_of v) { reaps = reaps; keys = keys } ≡ after_reap (state_of v) key
 gone-is v key reaps keys n gone k = by (holds_dead (state_of v) key) (has_value (state_of v) key) gone k
   where
     by : (dead value : Bool) → Gone ≡ (if dead then Gone else if value then Kept else Absent)
-        → keys ≡ (state_after_step (holding v.shelf.keys) (if dead then Accepted Reap ReapDone (reaped (holding v.shelf.keys) key) else Answered ReapKept)).keys
+        → keys ≡ (state_after_step (holding v.store.keys) (if dead then Accepted Reap ReapDone (reaped (holding v.store.keys) key) else Answered ReapKept)).keys
         → record (state_of v) { reaps = reaps; keys = keys } ≡ state_after_step (state_of v) (if dead then Accepted Reap ReapDone (reaped (state_of v) key) else Answered ReapKept)
     by true value gone k = λ i. record (state_of v) { reaps = n i; keys = k i }
     by false true gone k = cc
     by false false gone k = cc
 
 -- and of one that has forgotten none
-pub kept-is : (v : Inside) (key : Key) (keys : Keys) (result : Reaped) → (result ≡ Gone → ⊥) → result ≡ reap_result (holding v.shelf.keys) key
-    → keys ≡ (after_reap (holding v.shelf.keys) key).keys → record (state_of v) { keys = keys } ≡ after_reap (state_of v) key
+pub kept-is : (v : Fields) (key : Key) (keys : Keys) (result : Reaped) → (result ≡ Gone → ⊥) → result ≡ reap_result (holding v.store.keys) key
+    → keys ≡ (after_reap (holding v.store.keys) key).keys → record (state_of v) { keys = keys } ≡ after_reap (state_of v) key
 kept-is v key keys result not_gone exact k = by (holds_dead (state_of v) key) (has_value (state_of v) key) exact k
   where
     by : (dead value : Bool) → result ≡ (if dead then Gone else if value then Kept else Absent)
-        → keys ≡ (state_after_step (holding v.shelf.keys) (if dead then Accepted Reap ReapDone (reaped (holding v.shelf.keys) key) else Answered ReapKept)).keys
+        → keys ≡ (state_after_step (holding v.store.keys) (if dead then Accepted Reap ReapDone (reaped (holding v.store.keys) key) else Answered ReapKept)).keys
         → record (state_of v) { keys = keys } ≡ state_after_step (state_of v) (if dead then Accepted Reap ReapDone (reaped (state_of v) key) else Answered ReapKept)
     by true value e k = absurd (not_gone e)
     by false value e k = λ i. record (state_of v) { keys = k i }
@@ -105,11 +105,11 @@ pub record IsFirstGone (state : State Content) (from : Option Key) (after : Stat
   pub first : first_dead state from ≡ Some key
   pub is : after ≡ reaped state key
 
-pub first-gone : (v : Inside) (from : Option Key) (reaps : ℕ) (keys : Keys) → reaps ≡ counted v.reaps → true ≡ has_dead (holding v.shelf.keys) from
-    → keys ≡ (after_first_reap (holding v.shelf.keys) from).keys → IsFirstGone (state_of v) from (record (state_of v) { reaps = reaps; keys = keys })
+pub first-gone : (v : Fields) (from : Option Key) (reaps : ℕ) (keys : Keys) → reaps ≡ counted v.reaps → true ≡ has_dead (holding v.store.keys) from
+    → keys ≡ (after_first_reap (holding v.store.keys) from).keys → IsFirstGone (state_of v) from (record (state_of v) { reaps = reaps; keys = keys })
 first-gone v from reaps keys n found k = by (first_dead (state_of v) from) refl found k
   where
-    by : (o : Option Key) → first_dead (state_of v) from ≡ o → true ≡ is_some o → keys ≡ (option_map_or (reaped (holding v.shelf.keys)) o (holding v.shelf.keys)).keys
+    by : (o : Option Key) → first_dead (state_of v) from ≡ o → true ≡ is_some o → keys ≡ (option_map_or (reaped (holding v.store.keys)) o (holding v.store.keys)).keys
         → IsFirstGone (state_of v) from (record (state_of v) { reaps = reaps; keys = keys })
     by None e found k = cc
     by (Some key) e found k = record { key = key; first = e; is = λ i. record (state_of v) { reaps = n i; keys = k i } }

@@ -1,6 +1,6 @@
 -- What the register may do where a command is refused.
 use Rattle.std.proofs.Common.{◌≡◌, ℕ, Bool, true, false, List, refl, inr}
-use Rattle.std.specs.Prelude.{MatchBool, Option}
+use Rattle.std.specs.Prelude.{MatchBool}
 use Rattle.riak_msgs.specs.declared.Content.{Content}
 use Rattle.riak_msgs.specs.declared.PutAsk.{PutAsk}
 use Rattle.riak_msgs.specs.declared.DelAsk.{DelAsk}

@@ -1,6 +1,6 @@
 -- The history of a vnode behind a gate: the commands that it accepted, each as it was asked and answered, and the
 -- register's history that they are.
-use Rattle.std.specs.Prelude.{◌≡◌, List, [], ◌∷◌, ℕ, Option, Some, IsTrue, unwrap_or}
+use Rattle.std.specs.Prelude.{◌≡◌, List, [], ◌∷◌, ℕ, Some, IsTrue, unwrap_or}
 use Rattle.riak_msgs.specs.declared.Key.{Key}
 use Rattle.riak_msgs.specs.declared.Content.{Content}
 use Rattle.sibling_register.specs.History.{Event as RegisterEvent, Operation, Write, Tombstone, Reap as ReapDeed}
@@ -21,7 +21,7 @@ use Rattle.vnode_core.specs.declared.ask.Ask.{Ask}
 use Rattle.vnode_core.specs.declared.ask.Ask.TheVariants as asks
 use Rattle.vnode_core.specs.declared.ask.Answer.{Answer}
 use Rattle.vnode_core.specs.declared.ask.Answer.TheVariants as answers
-use Rattle.vnode_core.specs.declared.ask.Reaped.TheVariants.{Gone}
+use Rattle.clock_store.specs.declared.store.Reaped.TheVariants.{Gone}
 use Rattle.vnode_core.specs.declared.event.Event.{Event}
 use Rattle.vnode_core.specs.declared.event.Event.TheVariants.{Put, Del, Reap}
 use Rattle.vnode_core.specs.Plans.{View, IsReapAnswer, ask_outcome, response_of}

@@ -1,10 +1,8 @@
 pub mod Checks
-pub mod Places
 pub mod Plans
 pub mod Readiness
 pub mod Reaping
 pub mod Refusals
 pub mod Replies
-pub mod Shelves
 pub mod Vnodes
 pub mod Events

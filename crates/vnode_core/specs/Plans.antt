@@ -16,8 +16,8 @@ use Rattle.vnode_core.specs.declared.ask.Ask.{Ask}
 use Rattle.vnode_core.specs.declared.ask.Ask.TheVariants.{Put, Del, Reap, ReapFirst}
 use Rattle.vnode_core.specs.declared.ask.Answer.{Answer}
 use Rattle.vnode_core.specs.declared.ask.Answer.TheVariants as answers
-use Rattle.vnode_core.specs.declared.ask.Reaped.{Reaped}
-use Rattle.vnode_core.specs.declared.ask.Reaped.TheVariants.{Gone, Kept, Absent}
+use Rattle.clock_store.specs.declared.store.Reaped.{Reaped}
+use Rattle.clock_store.specs.declared.store.Reaped.TheVariants.{Gone, Kept, Absent}
 use Rattle.rw_gate.specs.declared.kept.Plan.{Plan}
 use Rattle.rw_gate.specs.declared.kept.Plan.TheVariants.{Change, Nothing}
 use Rattle.vnode_core.specs.declared.refusal.Refusal.{Refusal}

@@ -3,13 +3,16 @@ use Rattle.std.specs.Prelude.{◌≡◌, ℕ, true, false, List, Option, Some, N
 use Rattle.riak_msgs.specs.declared.Key.{Key}
 use Rattle.riak_msgs.specs.declared.Content.{Content}
 use Rattle.riak_msgs.specs.declared.DelAsk.{DelAsk}
+use Rattle.riak_msgs.specs.declared.PutAsk.{PutAsk}
 use Rattle.sibling_register.specs.History.{Event, Write, Tombstone}
 use Rattle.actor_epoch.specs.Given.{Context, context_of, pairs_read}
 use Rattle.actor_epoch.specs.declared.Actor.{Actor}
 use Rattle.dvv_set.specs.Clocks.{join}
+use Rattle.vnode_machine.specs.Asks.{put_command}
 use Rattle.vnode_machine.specs.Dead.{reaped}
-use Rattle.vnode_machine.specs.Machine.{State, is_held, clock_of, actor_for, epoch_after, update_check, apply_operation, counted}
+use Rattle.vnode_machine.specs.Machine.{State, is_held, clock_of, actor_for, epoch_after, put_check, update_check, apply_operation, counted}
 use Rattle.vnode_machine.specs.Replay.{IsWithinLimits, IsAfter}
+use Rattle.vnode_machine.specs.Replies.{put_reply}
 use Rattle.vnode_machine.specs.Step.{DelDone, Answered}
 use Rattle.vnode_core.specs.declared.ask.Ask.{Ask}
 use Rattle.vnode_core.specs.declared.ask.Ask.TheVariants.{Put, Del, Reap, ReapFirst}
@@ -18,24 +21,48 @@ use Rattle.vnode_core.specs.declared.ask.Answer.TheVariants as answers
 use Rattle.vnode_core.specs.declared.refusal.Refusal.{Refusal}
 use Rattle.vnode_core.specs.declared.ready.Ready.{Ready}
 use Rattle.vnode_core.specs.declared.ready.Writer.{Writer}
-use Rattle.vnode_core.specs.declared.vnode.Vnode.TheInside.{Inside}
 use Rattle.vnode_core.specs.Plans.{View, IsAccepted, IsWrite, Steps, Refuses, ask_outcome}
-use Rattle.vnode_core.specs.Reaping.{after_first_reap}
+use Rattle.clock_store.specs.declared.store.WriteKind.TheVariants.{Value, Tombstone as Dead}
+use Rattle.clock_store.specs.Contents.{Contents, HasRoom}
+use Rattle.clock_store.specs.Forgetting.{after_first_reap}
+use Rattle.clock_store.specs.Keys.{Keys, written, deleted}
 use Rattle.vnode_core.specs.Refusals.{RefusedBy}
-use Rattle.vnode_core.specs.Shelves.{Keys, Shelved, HasRoom, written, deleted}
 
-abbrev pub state_of : Inside → State Content
+-- the fields of a vnode, its store as what it means
+pub record Fields : Type 0 where
+  pub id : ℕ
+  pub epochs : ℕ
+  pub writes : ℕ
+  pub tombstones : ℕ
+  pub reaps : ℕ
+  pub store : Contents
+  pub ready : Option Ready
+  pub prepared : Option Ask
+
+abbrev pub fields : (id epochs writes tombstones reaps : ℕ) → Contents → Option Ready → Option Ask → Fields
+fields id epochs writes tombstones reaps store ready prepared = record {
+  id = id;
+  epochs = epochs;
+  writes = writes;
+  tombstones = tombstones;
+  reaps = reaps;
+  store = store;
+  ready = ready;
+  prepared = prepared;
+}
+
+abbrev pub state_of : Fields → State Content
 state_of v = record {
   vnode = v.id;
   last_epoch = v.epochs;
   writes = v.writes;
   tombstones = v.tombstones;
   reaps = v.reaps;
-  keys = v.shelf.keys;
+  keys = v.store.keys;
   closed = None;
 }
 
-abbrev pub view_of : Inside → View
+abbrev pub view_of : Fields → View
 view_of v = record { state = state_of v; prepared = v.prepared }
 
 -- the state comes after some history of a vnode of this id, which had given this epoch last, within limits
@@ -64,11 +91,11 @@ written_by keys (Del del) actor = deleted keys del.key (pairs_read (context_of d
 written_by keys (Reap key) actor = keys
 written_by keys (ReapFirst from) actor = keys
 
-abbrev pub HasRoomFor : Shelved → Ask → Actor → Type 0
-HasRoomFor shelf (Put put) actor = HasRoom shelf put.key (pairs_read (context_of put.context)) actor
-HasRoomFor shelf (Del del) actor = HasRoom shelf del.key (pairs_read (context_of del.context)) actor
-HasRoomFor shelf (Reap key) actor = ⊥
-HasRoomFor shelf (ReapFirst from) actor = ⊥
+abbrev pub HasRoomFor : Contents → Ask → Actor → Type 0
+HasRoomFor store (Put put) actor = HasRoom store put.key (pairs_read (context_of put.context)) actor Value
+HasRoomFor store (Del del) actor = HasRoom store del.key (pairs_read (context_of del.context)) actor Dead
+HasRoomFor store (Reap key) actor = ⊥
+HasRoomFor store (ReapFirst from) actor = ⊥
 
 -- the state after a command that is accepted
 abbrev pub state_after : State Content → Ask → State Content
@@ -90,6 +117,12 @@ tombstones_after tombstones (Del del) = counted tombstones
 tombstones_after tombstones (Reap key) = tombstones
 tombstones_after tombstones (ReapFirst from) = tombstones
 
+-- the machine accepts a put, and this is who writes it and its answer
+pub record PutGives (state : State Content) (put : PutAsk) (ready : Ready) : Type 0 where
+  pub free : put_check state (put_command put) ≡ None
+  pub writer : ready.writer ≡ writer_of state put.key
+  pub answer : ready.answer ≡ answers.Put (put_reply (state_after state (Put put)) (put_command put))
+
 -- who writes the tombstone of a delete, or nobody, where it does nothing; or its refusal
 abbrev pub DelGives : State Content → DelAsk → Result (Option Writer) Refusal → Type 0
 DelGives state del (Ok None) = ask_outcome state (Del del) ≡ Answered DelDone
@@ -109,20 +142,20 @@ DelOfAllGives state key (Ok (Some writer)) = IsToOverwrite state key writer
 DelOfAllGives state key (Err refusal) = (is_held state key ≡ true) × RefusedBy refusal (update_check state key None (join (clock_of state key)))
 
 -- the machine accepts the write, which has room, and its answer lies ready
-pub record IsReady (state : State Content) (shelf : Shelved) (ready : Option Ready) (ask : Ask) (write : IsWrite ask) : Type 0 where
+pub record IsReady (state : State Content) (store : Contents) (ready : Option Ready) (ask : Ask) (write : IsWrite ask) : Type 0 where
   pub answer : Answer
   pub step : Steps state ask answer (state_after state ask)
-  pub room : HasRoomFor shelf ask (actor_for state (key_in ask write))
+  pub room : HasRoomFor store ask (actor_for state (key_in ask write))
   pub made : ready ≡ Some (record { writer = writer_of state (key_in ask write); answer = answer })
 
 -- what is prepared is ready; a reap needs nothing but to be accepted
-abbrev pub IsReadyFor : State Content → Shelved → Option Ready → Option Ask → Type 0
-IsReadyFor state shelf ready None = Unit {0}
-IsReadyFor state shelf ready (Some (Put put)) = IsReady state shelf ready (Put put) tt
-IsReadyFor state shelf ready (Some (Del del)) = IsReady state shelf ready (Del del) tt
-IsReadyFor state shelf ready (Some (Reap key)) = IsAccepted (ask_outcome state (Reap key))
-IsReadyFor state shelf ready (Some (ReapFirst from)) = IsAccepted (ask_outcome state (ReapFirst from))
+abbrev pub IsReadyFor : State Content → Contents → Option Ready → Option Ask → Type 0
+IsReadyFor state store ready None = Unit {0}
+IsReadyFor state store ready (Some (Put put)) = IsReady state store ready (Put put) tt
+IsReadyFor state store ready (Some (Del del)) = IsReady state store ready (Del del) tt
+IsReadyFor state store ready (Some (Reap key)) = IsAccepted (ask_outcome state (Reap key))
+IsReadyFor state store ready (Some (ReapFirst from)) = IsAccepted (ask_outcome state (ReapFirst from))
 
-pub record IsVnode (v : Inside) : Type 0 where
+pub record IsVnode (v : Fields) : Type 0 where
   pub reached : IsReached (state_of v)
-  pub ready : IsReadyFor (state_of v) v.shelf v.ready v.prepared
+  pub ready : IsReadyFor (state_of v) v.store v.ready v.prepared

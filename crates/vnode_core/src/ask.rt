@@ -1,5 +1,6 @@
 //! What a vnode is asked to change, and what it answers.
 
+pub use clock_store::Reaped;
 use riak_msgs::{DelAsk, Key, PutAsk, PutReply};
 pub use rw_gate::Plan;
 
@@ -14,17 +15,6 @@ pub enum Ask {
     Reap(Key),
     /// Forget the least dead key at or after this one, or of all where none is given.
     ReapFirst(Option<Key>),
-}
-
-/// What became of a key that was to be forgotten.
-#[derive(Clone, Copy, Debug, Drop, PartialEq, Eq)]
-pub enum Reaped {
-    /// It was dead, and is forgotten with its clock.
-    Gone,
-    /// It has a value, and stays as it is.
-    Kept,
-    /// It wasn't there.
-    Absent,
 }
 
 /// The answer to an accepted command.

@@ -11,22 +11,22 @@ ghost use Rattle.dvv_set.specs.Held.{pairs_of as seen_in};
 ghost use Rattle.vnode_machine.specs.Machine.{State, stored, room_checks};
 ghost use Rattle.vnode_core.specs.Checks.{pairs_in, last_dot, has_value_in, is_current_in, options_check, IsFound, IsRising};
 ghost use Rattle.vnode_core.specs.Refusals.{GivenBy};
-ghost use Rattle.vnode_core.specs.Shelves.{stored_of};
+ghost use Rattle.clock_store.specs.Keys.{stored_of};
 ghost use Rattle.vnode_core.specs.Vnodes.{writer_of};
 
 use crate::given;
 use crate::ready::Writer;
 use crate::refusal::Refusal;
-use crate::stored_key::StoredKey;
-use actor_epoch::{Actor, Context, Dot, MAX_COUNTER, MAX_EPOCH, MAX_ACTORS};
+use actor_epoch::{Actor, Context, Dot, MAX_ACTORS, MAX_COUNTER, MAX_EPOCH};
+use clock_store::StoredClock;
 use riak_msgs::PutAsk;
 
 /// The most siblings of a key.
 const MAX_SIBLINGS: usize = 64;
 
 /// The last dot of a key's life, where it is stored.
-pub(crate) fn last_of(found: Option<&StoredKey>) -> Option<Dot>
-    ensures { result ≡ last_dot (option_map (λ key. stored_of key.now) found.entry) }
+pub(crate) fn last_of(found: Option<&StoredClock>) -> Option<Dot>
+    ensures { result ≡ last_dot (option_map (λ s. stored_of s.now) found.entry) }
 {
     let key = found?;
     Some(Dot {
@@ -36,8 +36,8 @@ pub(crate) fn last_of(found: Option<&StoredKey>) -> Option<Dot>
 }
 
 /// Whether there is a value.
-fn has_value(found: Option<&StoredKey>) -> bool
-    ensures { result ≡ has_value_in (option_map (λ key. stored_of key.now) found.entry) }
+fn has_value(found: Option<&StoredClock>) -> bool
+    ensures { result ≡ has_value_in (option_map (λ s. stored_of s.now) found.entry) }
 {
     match found {
         None => false,
@@ -46,8 +46,8 @@ fn has_value(found: Option<&StoredKey>) -> bool
 }
 
 /// Whether the context is the key's.
-fn matches_clock(found: Option<&StoredKey>, context: Option<&Context<'_>>) -> bool
-    ensures { result ≡ is_current_in (option_map (λ key. stored_of key.now) found.entry) (seen_in context.entry) }
+fn matches_clock(found: Option<&StoredClock>, context: Option<&Context<'_>>) -> bool
+    ensures { result ≡ is_current_in (option_map (λ s. stored_of s.now) found.entry) (seen_in context.entry) }
 {
     match found {
         None => false,
@@ -61,10 +61,10 @@ fn matches_clock(found: Option<&StoredKey>, context: Option<&Context<'_>>) -> bo
 /// Whether the options of a put let it go on.
 pub(crate) fn check_options(
     put: &PutAsk,
-    found: Option<&StoredKey>,
+    found: Option<&StoredClock>,
     context: Option<&Context<'_>>,
 ) -> Result<(), Refusal>
-    ensures { GivenBy result (options_check put.now (has_value_in (option_map (λ key. stored_of key.now) found.entry)) (is_current_in (option_map (λ key. stored_of key.now) found.entry) (seen_in context.entry))) }
+    ensures { GivenBy result (options_check put.now (has_value_in (option_map (λ s. stored_of s.now) found.entry)) (is_current_in (option_map (λ s. stored_of s.now) found.entry) (seen_in context.entry))) }
 {
     if put.if_none_match {
         if has_value(found) {
@@ -84,7 +84,7 @@ pub(crate) fn check_options(
 }
 
 /// Whether a stored key has room for one write more, which discards what its context has seen.
-fn check_stored(key: &StoredKey, context: Option<&Context<'_>>) -> Result<(), Refusal>
+fn check_stored(key: &StoredClock, context: Option<&Context<'_>>) -> Result<(), Refusal>
     requires { IsTrue (is_rising key.now.clock.meaning.known) }
     ensures { (state : State Content) (k : Key) → stored state k ≡ Some (stored_of key.now) → GivenBy result (first_of (room_checks state k (pairs_in (seen_in context.entry)))) }
 {
@@ -120,12 +120,12 @@ fn check_new(id: u64, last_epoch: u32, context: Option<&Context<'_>>) -> Result<
 pub(crate) fn check_room(
     id: u64,
     last_epoch: u32,
-    found: Option<&StoredKey>,
+    found: Option<&StoredClock>,
     context: Option<&Context<'_>>,
 ) -> Result<Writer, Refusal>
-    requires { IsRising (option_map (λ key. stored_of key.now) found) }
-    ensures given { (state : State Content) (k : Key) → IsFound state k id last_epoch (option_map (λ key. stored_of key.now) found.entry) (pairs_in (seen_in context.entry)) → GivenBy result (first_of (room_checks state k (pairs_in (seen_in context.entry)))) }
-    ensures writer { (state : State Content) (k : Key) → IsFound state k id last_epoch (option_map (λ key. stored_of key.now) found.entry) (pairs_in (seen_in context.entry)) → IfOk result (λ writer. writer ≡ writer_of state k) }
+    requires { IsRising (option_map (λ s. stored_of s.now) found) }
+    ensures given { (state : State Content) (k : Key) → IsFound state k id last_epoch (option_map (λ s. stored_of s.now) found.entry) (pairs_in (seen_in context.entry)) → GivenBy result (first_of (room_checks state k (pairs_in (seen_in context.entry)))) }
+    ensures writer { (state : State Content) (k : Key) → IsFound state k id last_epoch (option_map (λ s. stored_of s.now) found.entry) (pairs_in (seen_in context.entry)) → IfOk result (λ writer. writer ≡ writer_of state k) }
 {
     match found {
         Some(key) => {
@@ -155,7 +155,7 @@ fn first_writer(id: u64, last_epoch: u32) -> Writer
 }
 
 /// Whether a stored key has room for one write more in place of all its values.
-pub(crate) fn check_overwrite(key: &StoredKey) -> Result<(), Refusal>
+pub(crate) fn check_overwrite(key: &StoredClock) -> Result<(), Refusal>
     ensures { (state : State Content) (k : Key) → stored state k ≡ Some (stored_of key.now) → GivenBy result (first_of (room_checks state k (join key.now.clock.meaning))) }
 {
     if MAX_ACTORS < key.clock.needed(None, key.actor).actors {

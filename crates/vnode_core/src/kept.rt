@@ -6,7 +6,8 @@ use crate::ask::{Answer, Ask};
 use crate::change::Change;
 use crate::event::Event;
 use crate::refusal::Refusal;
-use crate::vnode::Vnode;
+use crate::vnode::VnodeOver;
+use clock_store::ClockStore;
 use rw_gate::{Kept, Plan};
 use std::alloc::Global;
 use std::snapshot::Snapshot;
@@ -14,18 +15,18 @@ use std::snapshot::Snapshot;
 /// A change, and for clauses alone the vnode as it was when the change was prepared: the two fix the event that the
 /// change makes in a gate's history, its answer too.
 #[derive(Drop)]
-pub struct LoggedChange {
+pub struct LoggedChange<S: ClockStore> {
     change: Change,
-    before: Snapshot<Vnode>,
+    before: Snapshot<VnodeOver<S>>,
 }
 
 /// The machine's states are those of the vnode machine, and its step is the machine's: an event is accepted with the
 /// answer that it says, a command that changes nothing is answered, and a refusal is the machine's, or one for want of
 /// memory where the machine accepts. `prepare` and `apply` are the vnode's `prepare` and `finish`.
-impl Kept for Vnode {
+impl<S: ClockStore> Kept for VnodeOver<S> {
     type Ask = Ask;
 
-    type Change = LoggedChange;
+    type Change = LoggedChange<S>;
 
     type Reply = Answer;
 
@@ -57,15 +58,19 @@ impl Kept for Vnode {
 
     ghost ready = { λ vnode logged. IsLoggable vnode logged.change logged.before.value };
 
-    fn prepare(&mut self, alloc: Global, ask: Ask) -> Result<Plan<LoggedChange, Answer>, Refusal> {
-        match Vnode::prepare(self, alloc, ask) {
+    fn prepare(
+        &mut self,
+        alloc: Global,
+        ask: Ask,
+    ) -> Result<Plan<LoggedChange<S>, Answer>, Refusal> {
+        match VnodeOver::prepare(self, alloc, ask) {
             Ok(Plan::Change(change)) => Ok(Plan::Change(logged(change, self))),
             Ok(Plan::Nothing(answer)) => Ok(Plan::Nothing(answer)),
             Err(refusal) => Err(refusal),
         }
     }
 
-    fn apply(&mut self, change: LoggedChange) -> Answer {
+    fn apply(&mut self, change: LoggedChange<S>) -> Answer {
         let LoggedChange { change, before: _ } = change;
         self.finish(change)
     }
@@ -74,7 +79,7 @@ impl Kept for Vnode {
 }
 
 /// The change with the vnode that it was prepared from.
-fn logged(change: Change, vnode: &Vnode) -> LoggedChange
+fn logged<S: ClockStore>(change: Change, vnode: &VnodeOver<S>) -> LoggedChange<S>
     ensures change { result.change ≡ change }
     ensures before { result.before.value ≡ vnode.now }
 {

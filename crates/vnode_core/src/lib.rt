@@ -13,11 +13,13 @@
 //! vnode that it was prepared from, and the two name the [`Event`] that it makes in the gate's history, with its answer
 //! (`specs/Events`). [`histories_are_legal`] says what such a history is.
 //!
-//! Keys stand in a list in their order (`Shelf`). A call looks through it, and a new key moves those behind it; a get
-//! copies what it shows, and so does a put that asks for it: the content that is put, and the siblings that stay, which
-//! it finds by a clock of references to them. A put or a delete takes memory in `prepare` alone: room at its place, and
-//! in its key's clock for the actors that are new to it, and for its siblings with one more. `finish` takes none, so
-//! what is accepted is never half made.
+//! Its storage is any [`ClockStore`](clock_store::ClockStore): a [`VnodeOver`] is proved from that trait's contract
+//! alone, so each form of storage gives the same vnode, and [`Vnode`] is the one over the ordered map. What a key costs
+//! to find is the form's; a put looks its key up once for its checks and its answer, and once for room. A get copies what
+//! it shows, and so does a put that asks for it: the content that is put, and the siblings that stay, which it finds by a
+//! clock of references to them. A put or a delete takes memory in `prepare` alone: room in the store for its key, in the
+//! key's clock for the actors that are new to it, and for its siblings with one more. `finish` takes none, so what is
+//! accepted is never half made.
 //! The checks take none either: they look through the context's pairs once, and ask the clock how many siblings the
 //! context leaves uncovered and how many actors a write needs. Making a put moves the key's siblings once.
 //!
@@ -32,12 +34,9 @@ mod event;
 mod given;
 mod kept;
 mod laws;
-mod place;
 mod ready;
 mod refusal;
 mod replies;
-mod shelf;
-mod stored_key;
 mod vnode;
 
 pub use ask::{Answer, Ask, Plan, Reaped};
@@ -51,4 +50,4 @@ pub use laws::{
 };
 pub use refusal::Refusal;
 pub use rw_gate::Kept;
-pub use vnode::{Tally, Vnode};
+pub use vnode::{Tally, Vnode, VnodeOver};

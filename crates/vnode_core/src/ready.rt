@@ -1,12 +1,21 @@
 //! What lies ready for the command that is prepared.
 
 ghost use Rattle.std.specs.Prelude.{◌≡◌, Some};
+ghost use Rattle.std.specs.Option.{option_map};
+ghost use Rattle.riak_msgs.specs.declared.Key.{Key};
+ghost use Rattle.riak_msgs.specs.declared.Content.{Content};
+ghost use Rattle.rw_gate.specs.declared.kept.Plan.TheVariants.{Nothing};
+ghost use Rattle.vnode_machine.specs.Machine.{State, stored};
+ghost use Rattle.clock_store.specs.Keys.{stored_of};
+ghost use Rattle.vnode_core.specs.Reaping.{reap_result};
 ghost use Rattle.vnode_core.specs.Vnodes.{writes_after, tombstones_after};
 ghost use Rattle.vnode_core.specs.Readiness.{plan_in};
 
 use crate::ask::{Answer, Ask, Plan, Reaped};
 use crate::change::Change;
+use crate::refusal::Refusal;
 use actor_epoch::Actor;
+use clock_store::StoredClock;
 
 /// Who makes a write: the actor of its key's life, or the next one's where it begins a life; and the last epoch that is
 /// given once it is made.
@@ -40,8 +49,41 @@ pub(crate) fn plan_of(ask: Ask, readiness: Readiness) -> Plan<Change, Answer>
 {
     match readiness {
         Readiness::Ready => Plan::Change(Change { ask }),
-        Readiness::NothingToDelete => Plan::Nothing(Answer::Del),
-        Readiness::NothingToReap(reaped) => Plan::Nothing(Answer::Reaped(reaped)),
+        Readiness::NothingToDelete => answered(ask, Answer::Del),
+        Readiness::NothingToReap(reaped) => answered(ask, Answer::Reaped(reaped)),
+    }
+}
+
+/// The plan of a command that changes nothing, which is let go.
+fn answered(_ask: Ask, answer: Answer) -> Plan<Change, Answer>
+    ensures { result ≡ Nothing answer }
+{
+    Plan::Nothing(answer)
+}
+
+/// The refusal of a command, which is let go.
+pub(crate) fn refuse(_ask: Ask, refusal: Refusal) -> Refusal
+    ensures { result ≡ refusal }
+{
+    refusal
+}
+
+/// Lets what was ready go.
+pub(crate) fn let_go(_ready: Ready) {}
+
+/// What a reap of a key comes to, by what was found of it.
+pub(crate) fn reap_result(found: Option<&StoredClock>) -> Reaped
+    ensures { (state : State Content) (key : Key) → option_map (λ s. stored_of s.now) found.entry ≡ stored state key → result ≡ reap_result state key }
+{
+    match found {
+        None => Reaped::Absent,
+        Some(stored) => {
+            if stored.has_value() {
+                Reaped::Kept
+            } else {
+                Reaped::Gone
+            }
+        }
     }
 }
 

@@ -3,15 +3,16 @@
 ghost use Rattle.std.specs.Prelude.{◌≡◌, ◌||◌, Some, IfOk, IsTrue, map};
 ghost use Rattle.std.specs.Option.{option_map};
 ghost use Rattle.actor_epoch.specs.Contexts.{encoding, is_well_formed};
+ghost use Rattle.actor_epoch.specs.Given.{context_of};
 ghost use Rattle.dvv_set.specs.Clocks.{event};
 ghost use Rattle.dvv_set.specs.Held.{IsWithin, known_with, known_after, without, pairs_of as seen_in};
 ghost use Rattle.dvv_set.specs.References.{referred, with_values};
 ghost use Rattle.vnode_machine.specs.Replies.{shown};
-ghost use Rattle.vnode_core.specs.Replies.{nothing, nothing_after, siblings_of, reply_after, filled, clock_found};
-ghost use Rattle.vnode_core.specs.Shelves.{stored_of};
+ghost use Rattle.vnode_core.specs.Replies.{nothing, nothing_after, is_its, siblings_of, reply_after, filled, clock_found};
+ghost use Rattle.clock_store.specs.Keys.{stored_of};
 
-use crate::stored_key::StoredKey;
 use actor_epoch::{Actor, Context};
+use clock_store::StoredClock;
 use dvv_set::Clock;
 use riak_msgs::{Bytes, Content, GetAsk, GetReply, PutAsk, PutReply, Sequence, Shown};
 use std::alloc::{AllocError, Global};
@@ -54,7 +55,7 @@ fn show_content(alloc: Global, content: &Content, is_bare: bool) -> Result<Shown
 }
 
 /// Copies of a key's siblings as a reply shows them.
-fn show_all(alloc: Global, key: &StoredKey, is_bare: bool) -> Result<Sequence<Shown>, AllocError>
+fn show_all(alloc: Global, key: &StoredClock, is_bare: bool) -> Result<Sequence<Shown>, AllocError>
     ensures { IfOk result (λ all. all ≡ map (λ entry. shown is_bare entry.1) key.now.clock.meaning.live) }
 {
     let mut all = Sequence::with_capacity(alloc, key.clock.uncovered(None))?;
@@ -80,16 +81,30 @@ fn context_of<V: MadeWith<Global> + Drop>(
     Ok(Bytes::from_vec(bytes))
 }
 
+/// Whether these bytes, as given, are a stored key's context.
+fn is_shown_by(key: &StoredClock, given: &[u8]) -> bool
+    ensures { result ≡ is_its (stored_of key.now) (context_of given.now) }
+{
+    match Context::read(given) {
+        None => false,
+        Some(context) => key.matches_clock(&context),
+    }
+}
+
 /// The answer to a get of a stored key: all its siblings, and its context. Where it is dead, whose siblings are all
 /// tombstones, it shows no sibling, and the context where the get asks for it. Where it isn't, and the get gives the
 /// key's own context, it tells that nothing changed.
-pub(crate) fn siblings(alloc: Global, key: &StoredKey, ask: &GetAsk) -> Result<GetReply, AllocError>
+pub(crate) fn siblings(
+    alloc: Global,
+    key: &StoredClock,
+    ask: &GetAsk,
+) -> Result<GetReply, AllocError>
     requires { IsTrue (is_well_formed key.now.clock.meaning.known) }
     ensures { IfOk result (λ reply. reply ≡ siblings_of (stored_of key.now) ask.now) }
 {
     let mut reply = absent(alloc);
     let is_alive = key.has_value();
-    if is_alive && key.is_shown_by(ask.if_modified.as_slice()) {
+    if is_alive && is_shown_by(key, ask.if_modified.as_slice()) {
         reply.unchanged = true;
         return Ok(reply);
     }
@@ -115,9 +130,9 @@ fn accepted(alloc: Global) -> PutReply
 /// The clock of a key with references to its siblings; an empty one, where the key was not found.
 fn references(
     alloc: Global,
-    found: Option<&StoredKey>,
+    found: Option<&StoredClock>,
 ) -> Result<Clock<Option<&Option<Content>>>, AllocError>
-    ensures { IfOk result (λ clock. with_values referred clock.meaning ≡ with_values (λ sibling. Some sibling) (clock_found (option_map (λ key. stored_of key.now) found.entry))) }
+    ensures { IfOk result (λ clock. with_values referred clock.meaning ≡ with_values (λ sibling. Some sibling) (clock_found (option_map (λ s. stored_of s.now) found.entry))) }
 {
     match found {
         None => Ok(Clock::new(alloc)),
@@ -136,12 +151,12 @@ fn shows_siblings(put: &PutAsk) -> bool
 /// put.
 fn preview<'a>(
     alloc: Global,
-    found: Option<&'a StoredKey>,
+    found: Option<&'a StoredClock>,
     context: Option<&Context<'_>>,
     actor: Actor,
 ) -> Result<Clock<Option<&'a Option<Content>>>, AllocError>
-    requires { IsWithin (clock_found (option_map (λ key. stored_of key.now) found)).known (seen_in context) actor }
-    ensures { IfOk result (λ clock. (content : Content) → with_values (filled content) clock.meaning ≡ event actor (Some content) (without (seen_in context.entry) (clock_found (option_map (λ key. stored_of key.now) found.entry)))) }
+    requires { IsWithin (clock_found (option_map (λ s. stored_of s.now) found)).known (seen_in context) actor }
+    ensures { IfOk result (λ clock. (content : Content) → with_values (filled content) clock.meaning ≡ event actor (Some content) (without (seen_in context.entry) (clock_found (option_map (λ s. stored_of s.now) found.entry)))) }
 {
     let mut clock = references(alloc, found)?;
     clock.reserve(context, actor)?;
@@ -184,14 +199,14 @@ fn show_after(
 /// siblings after it, with their values or without, and the context. No content is copied that isn't shown.
 pub(crate) fn put_reply(
     alloc: Global,
-    found: Option<&StoredKey>,
+    found: Option<&StoredClock>,
     put: &PutAsk,
     context: Option<&Context<'_>>,
     actor: Actor,
 ) -> Result<PutReply, AllocError>
-    requires within { IsWithin (clock_found (option_map (λ key. stored_of key.now) found)).known (seen_in context) actor }
-    requires form { IsTrue (is_well_formed (known_after actor (known_with (seen_in context) (clock_found (option_map (λ key. stored_of key.now) found)).known))) }
-    ensures { IfOk result (λ reply. reply ≡ reply_after (event actor (Some put.now.content) (without (seen_in context.entry) (clock_found (option_map (λ key. stored_of key.now) found.entry)))) put.now) }
+    requires within { IsWithin (clock_found (option_map (λ s. stored_of s.now) found)).known (seen_in context) actor }
+    requires form { IsTrue (is_well_formed (known_after actor (known_with (seen_in context) (clock_found (option_map (λ s. stored_of s.now) found)).known))) }
+    ensures { IfOk result (λ reply. reply ≡ reply_after (event actor (Some put.now.content) (without (seen_in context.entry) (clock_found (option_map (λ s. stored_of s.now) found.entry)))) put.now) }
 {
     if !shows_siblings(put) {
         return Ok(accepted(alloc));

@@ -6,16 +6,15 @@ ghost use Rattle.sibling_register.specs.Answers.{AskGet};
 ghost use Rattle.actor_epoch.specs.Given.{context_of, Pairs};
 ghost use Rattle.dvv_set.specs.Held.{pairs_of as seen_in};
 ghost use Rattle.vnode_machine.specs.Asks.{get_command, put_command};
-ghost use Rattle.vnode_machine.specs.Machine.{opening, actor_for, put_check, update_check};
+ghost use Rattle.vnode_machine.specs.Machine.{opening, stored, put_check, update_check};
 ghost use Rattle.vnode_machine.specs.Replay.{IsAfter};
-ghost use Rattle.vnode_machine.specs.Replies.{put_reply};
 ghost use Rattle.vnode_machine.specs.Step.{outcome, Answered, Accepted, GetDone};
+ghost use Rattle.clock_store.specs.Keys.{stored_of};
 ghost use Rattle.vnode_core.specs.declared.ask.Ask.TheVariants.{Put, Del};
-ghost use Rattle.vnode_core.specs.Plans.{IsPrepared, Plans, Refuses, Registers, RegistersAsk, Steps, planned, operation_of, response_of};
-ghost use Rattle.vnode_core.specs.Plans.{AcceptsPrepared, IsWrite};
+ghost use Rattle.vnode_core.specs.Plans.{IsPrepared, Plans, Refuses, Registers, RegistersAsk, Steps, planned, operation_of, response_of, AcceptsPrepared, IsWrite};
 ghost use Rattle.vnode_core.specs.Readiness.{plan_in};
 ghost use Rattle.vnode_core.specs.Refusals.{GivenBy};
-ghost use Rattle.vnode_core.specs.Vnodes.{writer_of, written_by, state_after, HasRoomFor, DelOfAllGives, DelGives, IsReached};
+ghost use Rattle.vnode_core.specs.Vnodes.{writer_of, written_by, state_after, HasRoomFor, DelOfAllGives, DelGives, PutGives, IsReached};
 
 mod reaping;
 mod tally;
@@ -24,14 +23,17 @@ use crate::ask::{Answer, Ask, Plan};
 use crate::change::Change;
 use crate::checks::{check_options, check_overwrite, check_room, last_of};
 use crate::given;
-use crate::ready::{Readiness, Ready, Writer, plan_of, set_ready, tombstones_after, writes_after};
+use crate::ready::{
+    Readiness, Ready, Writer, let_go, plan_of, refuse, set_ready, tombstones_after, writes_after,
+};
 use crate::refusal::Refusal;
 use crate::replies::{absent, put_reply, siblings};
-use crate::shelf::Shelf;
 use actor_epoch::{Actor, Context, EpochSource};
+use clock_map::ClockMap;
+use clock_store::{ClockStore, StoredClock, WriteKind};
 use ghost_state::GhostValue;
-use riak_msgs::{DelAsk, GetAsk, GetReply, Key, PutAsk, PutReply};
-use std::alloc::{AllocError, Global};
+use riak_msgs::{DelAsk, GetAsk, GetReply, Key, PutAsk};
+use std::alloc::Global;
 use std::marker::Model;
 pub use tally::Tally;
 
@@ -62,46 +64,49 @@ pub use tally::Tally;
 /// dotted version vector sets (Preguiça, Baquero, Almeida, Fonte, Gonçalves); an actor for each life is Riak's actor
 /// epoch.
 #[derive(Drop)]
-pub struct Vnode {
+pub struct VnodeOver<S: ClockStore> {
     id: u64,
     epochs: EpochSource,
     writes: u64,
     tombstones: u64,
     reaps: u64,
-    shelf: Shelf,
+    store: S,
     // What lies ready for the command that is prepared.
     ready: Option<Ready>,
     prepared: GhostValue<Ask>,
 }
 
-impl Model for Vnode {
+impl<S: ClockStore> Model for VnodeOver<S> {
     ghost use Rattle.vnode_core.specs.Plans.{View};
 
     ghost Value = { View };
 
-    ghost use Rattle.vnode_core.specs.Vnodes.{view_of, IsVnode};
+    ghost use Rattle.vnode_core.specs.Vnodes.{fields, view_of, IsVnode};
 
-    ghost view = { view_of };
+    ghost view = { λ v. view_of (fields v.id v.epochs v.writes v.tombstones v.reaps (S.shows v.store) v.ready v.prepared) };
 
-    ghost invariant = { IsVnode };
+    ghost invariant = { λ v. IsVnode (fields v.id v.epochs v.writes v.tombstones v.reaps (S.shows v.store) v.ready v.prepared) };
 }
 
+/// A vnode over the ordered map of clocks.
+pub type Vnode = VnodeOver<ClockMap>;
+
 /// Writes what a command asks for, at an actor, where there is room.
-fn write(shelf: &mut Shelf, ask: Ask, actor: Actor)
-    requires { HasRoomFor shelf.old ask actor }
-    ensures { shelf.new.keys ≡ written_by shelf.old.keys ask actor }
+fn write<S: ClockStore>(store: &mut S, ask: Ask, actor: Actor)
+    requires { HasRoomFor (S.shows store.old) ask actor }
+    ensures { (S.shows store.new).keys ≡ written_by (S.shows store.old).keys ask actor }
 {
     match ask {
-        Ask::Put(put) => write_content(shelf, put, actor),
-        Ask::Del(del) => write_tombstone(shelf, del, actor),
+        Ask::Put(put) => write_content(store, put, actor),
+        Ask::Del(del) => write_tombstone(store, del, actor),
         Ask::Reap(_) | Ask::ReapFirst(_) => unreachable!(),
     }
 }
 
 /// Writes the content of a put.
-fn write_content(shelf: &mut Shelf, put: PutAsk, actor: Actor)
-    requires { HasRoomFor shelf.old (Put put) actor }
-    ensures { shelf.new.keys ≡ written_by shelf.old.keys (Put put) actor }
+fn write_content<S: ClockStore>(store: &mut S, put: PutAsk, actor: Actor)
+    requires { HasRoomFor (S.shows store.old) (Put put) actor }
+    ensures { (S.shows store.new).keys ≡ written_by (S.shows store.old).keys (Put put) actor }
 {
     let PutAsk {
         key,
@@ -110,36 +115,36 @@ fn write_content(shelf: &mut Shelf, put: PutAsk, actor: Actor)
         ..
     } = put;
     let seen = Context::read(context.as_slice());
-    shelf.write(key, seen.as_ref(), actor, Some(content));
+    store.write(key, seen.as_ref(), actor, Some(content));
 }
 
 /// Writes the tombstone of a delete: over what its context has seen, or without one over all.
-fn write_tombstone(shelf: &mut Shelf, del: DelAsk, actor: Actor)
-    requires { HasRoomFor shelf.old (Del del) actor }
-    ensures { shelf.new.keys ≡ written_by shelf.old.keys (Del del) actor }
+fn write_tombstone<S: ClockStore>(store: &mut S, del: DelAsk, actor: Actor)
+    requires { HasRoomFor (S.shows store.old) (Del del) actor }
+    ensures { (S.shows store.new).keys ≡ written_by (S.shows store.old).keys (Del del) actor }
 {
     let DelAsk { key, context } = del;
     match Context::read(context.as_slice()) {
-        None => shelf.overwrite(key, actor, None),
-        Some(seen) => shelf.write(key, Some(&seen), actor, None),
+        None => store.overwrite(key, actor, None),
+        Some(seen) => store.write(key, Some(&seen), actor, None),
     }
 }
 
-impl Vnode {
+impl<S: ClockStore> VnodeOver<S> {
     /// A vnode that holds no key, and whose first life gets the epoch `first_epoch`. It takes no memory.
-    pub fn new(alloc: Global, id: u64, first_epoch: u32) -> Vnode
+    pub fn new(alloc: Global, id: u64, first_epoch: u32) -> VnodeOver<S>
         requires { 1 ≤ first_epoch }
         ensures state { result.state ≡ opening id (first_epoch - 1) }
         ensures prepared { result.prepared ≡ None }
         ensures register { IsAfter id (first_epoch - 1) [] result.state }
     {
-        Vnode {
+        VnodeOver {
             id,
             epochs: EpochSource::new(first_epoch),
             writes: 0,
             tombstones: 0,
             reaps: 0,
-            shelf: Shelf::new(alloc),
+            store: S::new(alloc),
             ready: None,
             prepared: GhostValue::none(),
         }
@@ -156,20 +161,25 @@ impl Vnode {
         ensures err { IfErr result (λ refusal. refusal ≡ Refusal.NoMemory) }
         ensures register { IfOk result (λ reply. Registers self.now.state (AskGet (get_command ask.now)) (Answered (GetDone reply))) }
     {
-        match self.shelf.get(&ask.key) {
+        match self.store.get(&ask.key) {
             None => Ok(absent(alloc)),
             Some(key) => Ok(siblings(alloc, key, ask)?),
         }
     }
 
-    /// Checks a put, and says who makes it.
-    fn check_put(&self, put: &PutAsk, context: Option<&Context<'_>>) -> Result<Writer, Refusal>
-        requires { context_of put.now.context ≡ option_map Pairs (seen_in context) }
+    /// Checks a put by what was found of its key, and says who makes it.
+    fn check_put(
+        &self,
+        put: &PutAsk,
+        found: Option<&StoredClock>,
+        context: Option<&Context<'_>>,
+    ) -> Result<Writer, Refusal>
+        requires given { context_of put.now.context ≡ option_map Pairs (seen_in context) }
+        requires found { option_map (λ s. stored_of s.now) found ≡ stored self.now.state put.now.key }
         ensures given { GivenBy result (put_check self.now.state (put_command put.now)) }
         ensures writer { IfOk result (λ writer. writer ≡ writer_of self.now.state put.now.key) }
     {
         let last_epoch = self.epochs.last();
-        let found = self.shelf.get(&put.key);
         if given::names_unissued_dot(context, self.id, last_epoch, last_of(found)) {
             return Err(Refusal::BadContext);
         }
@@ -183,7 +193,7 @@ impl Vnode {
         ensures writer { IfOk result (λ writer. writer ≡ writer_of self.now.state key.now) }
     {
         let last_epoch = self.epochs.last();
-        let found = self.shelf.get(key);
+        let found = self.store.get(key);
         if given::names_unissued_dot(Some(context), self.id, last_epoch, last_of(found)) {
             return Err(Refusal::BadContext);
         }
@@ -194,7 +204,7 @@ impl Vnode {
     fn check_del_of_all(&self, key: &Key) -> Result<Option<Writer>, Refusal>
         ensures { DelOfAllGives self.now.state key.now result }
     {
-        let Some(found) = self.shelf.get(key) else {
+        let Some(found) = self.store.get(key) else {
             return Ok(None);
         };
         check_overwrite(found)?;
@@ -228,7 +238,7 @@ impl Vnode {
     {
         self.prepared = GhostValue::none(); // the earlier one is given up
         self.ready = None;
-        self.shelf.drop_room();
+        self.store.drop_room();
     }
 
     /// Makes ready all that a command needs, where nothing is prepared; then it is what is prepared.
@@ -268,29 +278,32 @@ impl Vnode {
         let Some(writer) = self.tombstone_writer(del, context.as_ref())? else {
             return Ok(Readiness::NothingToDelete);
         };
-        self.shelf
-            .reserve(alloc, &del.key, context.as_ref(), writer.actor)?;
+        let seen = context.as_ref();
+        let actor = writer.actor;
+        self.store
+            .reserve(alloc, &del.key, seen, actor, WriteKind::Tombstone)?;
         let answer = Answer::Del;
         set_ready(&mut self.ready, Ready { writer, answer });
         self.prepared = GhostValue::some(ask);
         Ok(Readiness::Ready)
     }
 
-    /// The reply to a put that the checks accept, as it will be once the put is made.
-    fn reply_to(
+    /// Who makes a put, and its reply: its key is looked up once.
+    fn plan_put(
         &self,
         alloc: Global,
         put: &PutAsk,
         context: Option<&Context<'_>>,
-        actor: Actor,
-    ) -> Result<PutReply, AllocError>
-        requires given { context_of put.now.context ≡ option_map Pairs (seen_in context) }
-        requires free { put_check self.now.state (put_command put.now) ≡ None }
-        requires own { actor ≡ actor_for self.now.state put.now.key }
-        ensures { IfOk result (λ reply. reply ≡ put_reply (state_after self.now.state (Put put.now)) (put_command put.now)) }
+    ) -> Result<Ready, Refusal>
+        requires { context_of put.now.context ≡ option_map Pairs (seen_in context) }
+        ensures ok { IfOk result (λ ready. PutGives self.now.state put.now ready) }
+        ensures err { IfErr result (λ refusal. Refuses self.now.state (Put put.now) refusal) }
     {
-        let found = self.shelf.get(&put.key);
-        put_reply(alloc, found, put, context, actor)
+        let found = self.store.get(&put.key);
+        let writer = self.check_put(put, found, context)?;
+        let reply = put_reply(alloc, found, put, context, writer.actor)?;
+        let answer = Answer::Put(reply);
+        Ok(Ready { writer, answer })
     }
 
     /// Makes ready what a put needs: room for its content, and its answer.
@@ -303,14 +316,21 @@ impl Vnode {
         ensures ended { IfErr result (λ refusal. self.new.prepared ≡ None) }
     {
         let context = Context::given(put.context.as_slice())?;
-        let writer = self.check_put(put, context.as_ref())?;
-        let reply = self.reply_to(alloc, put, context.as_ref(), writer.actor)?;
-        self.shelf
-            .reserve(alloc, &put.key, context.as_ref(), writer.actor)?;
-        let answer = Answer::Put(reply);
-        set_ready(&mut self.ready, Ready { writer, answer });
-        self.prepared = GhostValue::some(ask);
-        Ok(())
+        let ready = self.plan_put(alloc, put, context.as_ref())?;
+        let actor = ready.writer.actor;
+        let seen = context.as_ref();
+        let kind = WriteKind::Value;
+        match self.store.reserve(alloc, &put.key, seen, actor, kind) {
+            Ok(()) => {
+                set_ready(&mut self.ready, ready);
+                self.prepared = GhostValue::some(ask);
+                Ok(())
+            }
+            Err(_) => {
+                let_go(ready);
+                Err(Refusal::NoMemory)
+            }
+        }
     }
 
     /// Plans a command: checks it, makes all the room that it needs, and its answer. Nothing changes until the change is
@@ -338,8 +358,10 @@ impl Vnode {
         ensures register { RegistersAsk self.old.state ask (planned self.old.state ask result) }
     {
         self.drop_prepared();
-        let readiness = self.make_ready(alloc, &ask)?;
-        Ok(plan_of(ask, readiness))
+        match self.make_ready(alloc, &ask) {
+            Ok(readiness) => Ok(plan_of(ask, readiness)),
+            Err(refusal) => Err(refuse(ask, refusal)),
+        }
     }
 
     /// Makes the change that this vnode prepared last, and answers it. It takes no memory and is never refused.
@@ -371,7 +393,7 @@ impl Vnode {
         self.epochs = EpochSource::after(writer.last_epoch);
         self.writes = writes_after(self.writes, &ask);
         self.tombstones = tombstones_after(self.tombstones, &ask);
-        write(&mut self.shelf, ask, writer.actor);
+        write(&mut self.store, ask, writer.actor);
         answer
     }
 }

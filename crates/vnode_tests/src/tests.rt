@@ -3,7 +3,9 @@
 mod asking;
 mod contexts;
 mod deletes;
+mod forms;
 mod limits;
+mod marks;
 mod options;
 mod options_asked;
 mod plans;

@@ -11,22 +11,22 @@ use std::thread::{Threads, map_indices};
 use vnode_core::{Ask, Vnode};
 
 // A gate round a new vnode, whose id is 65,536 and first epoch 1.
-fn vnode_gate(alloc: Global) -> Option<Gate<Vnode>> {
+pub(crate) fn vnode_gate(alloc: Global) -> Option<Gate<Vnode>> {
     Gate::new(alloc, Vnode::new(alloc, 65_536, 1)).ok()
 }
 
-// Whether a put under a right is accepted.
-fn is_accepted(
+// Whether a command under a right is accepted, and changes something.
+pub(crate) fn is_accepted(
     right: &mut WriteRight<'_, Vnode>,
     pass: &mut Pass<Vnode>,
     alloc: Global,
-    ask: PutAsk,
+    ask: Ask,
 ) -> bool
     requires { pass.old.gate ≡ right.old.gate }
     ensures pass { pass.new.gate ≡ pass.old.gate }
     ensures right { right.new.gate ≡ right.old.gate }
 {
-    match right.prepare(alloc, Ask::Put(ask)) {
+    match right.prepare(alloc, ask) {
         Ok(Plan::Change(change)) => right.publish(pass, change).is_ok(),
         Ok(Plan::Nothing(_)) => false,
         Err(_) => false,
@@ -45,7 +45,7 @@ fn puts_under(
     ensures right { right.new.gate ≡ right.old.gate }
 {
     match PutAsk::plain(alloc, b"b", b"k", b"", value) {
-        Ok(ask) => is_accepted(right, pass, alloc, ask),
+        Ok(ask) => is_accepted(right, pass, alloc, Ask::Put(ask)),
         Err(_) => false,
     }
 }
@@ -65,7 +65,7 @@ fn puts_once(gate: &Gate<Vnode>, pass: &mut Pass<Vnode>, alloc: Global, value: &
 }
 
 // Once more where memory was refused.
-fn puts(gate: &Gate<Vnode>, pass: &mut Pass<Vnode>, alloc: Global, value: &[u8]) -> bool
+pub(crate) fn puts(gate: &Gate<Vnode>, pass: &mut Pass<Vnode>, alloc: Global, value: &[u8]) -> bool
     requires { pass.old.gate ≡ gate.now }
     ensures { pass.new.gate ≡ pass.old.gate }
 {
@@ -121,7 +121,7 @@ fn is_shown(reply: &Option<GetReply>, values: &[&[u8]], context: &[u8]) -> bool 
 }
 
 // Whether a get shows these values, the newest first, and this context.
-fn shows(
+pub(crate) fn shows(
     gate: &Gate<Vnode>,
     pass: &mut Pass<Vnode>,
     alloc: Global,

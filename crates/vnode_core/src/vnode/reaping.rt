@@ -11,12 +11,13 @@ ghost use Rattle.vnode_core.specs.Reaping.{key_given, reap_result, after_reap, a
 ghost use Rattle.vnode_core.specs.Reaping.{LosesFirstDead};
 
 use crate::ask::{Answer, Ask, Reaped};
-use crate::ready::Readiness;
-use crate::vnode::Vnode;
+use crate::ready::{Readiness, reap_result};
+use crate::vnode::VnodeOver;
+use clock_store::ClockStore;
 use ghost_state::GhostValue;
 use riak_msgs::Key;
 
-impl Vnode {
+impl<S: ClockStore> VnodeOver<S> {
     /// Forgets a dead key whole, with its clock; its next write begins a new life, at a new actor. `Gone`: it was dead, and
     /// is forgotten. `Kept`: it has a value, and stays as it is. `Absent`: it wasn't there. What was prepared ends. It
     /// takes no memory.
@@ -27,7 +28,7 @@ impl Vnode {
         ensures register { RegistersReap self.old.state key.now result self.new.state }
     {
         self.drop_prepared();
-        let reaped = self.shelf.forget_dead(key);
+        let reaped = self.store.forget_dead(key);
         if reaped == Reaped::Gone {
             self.reaps = self.reaps.saturating_add(1);
         }
@@ -44,7 +45,7 @@ impl Vnode {
         ensures register { RegistersFirstReap self.old.state (key_given from.entry) self.new.state }
     {
         self.drop_prepared();
-        let found = self.shelf.forget_first_dead(from);
+        let found = self.store.forget_first_dead(from);
         if found {
             self.reaps = self.reaps.saturating_add(1);
         }
@@ -55,7 +56,7 @@ impl Vnode {
     pub fn has_dead(&self, from: Option<&Key>) -> bool
         ensures { result ≡ has_dead self.now.state (key_given from.entry) }
     {
-        self.shelf.has_dead(from)
+        self.store.has_dead(from)
     }
     /// Plans the reap of a key, where nothing is prepared; it is prepared then where the key is dead.
     pub(crate) fn make_reap_ready(&mut self, ask: &Ask, key: &Key) -> Readiness
@@ -64,7 +65,7 @@ impl Vnode {
         ensures same { self.new.state ≡ self.old.state }
         ensures plans { Plans self.new (Reap key.now) (plan_in result (Reap key.now)) }
     {
-        match self.shelf.reap_result(key) {
+        match reap_result(self.store.get(key)) {
             Reaped::Gone => {
                 self.prepared = GhostValue::some(ask);
                 Readiness::Ready
@@ -82,7 +83,7 @@ impl Vnode {
         ensures same { self.new.state ≡ self.old.state }
         ensures plans { Plans self.new (ReapFirst (key_given from.entry)) (plan_in result (ReapFirst (key_given from.entry))) }
     {
-        if self.shelf.has_dead(from) {
+        if self.store.has_dead(from) {
             self.prepared = GhostValue::some(ask);
             return Readiness::Ready;
         }

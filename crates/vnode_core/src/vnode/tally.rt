@@ -2,7 +2,8 @@
 
 ghost use Rattle.std.specs.Prelude.{◌≡◌};
 
-use crate::vnode::Vnode;
+use crate::vnode::VnodeOver;
+use clock_store::ClockStore;
 
 /// How many events of each kind a vnode has accepted since it was new. Each count stops at 18,446,744,073,709,551,615.
 #[derive(Clone, Copy, Debug, Drop, PartialEq, Eq)]
@@ -15,7 +16,7 @@ pub struct Tally {
     pub reaps: u64,
 }
 
-impl Vnode {
+impl<S: ClockStore> VnodeOver<S> {
     /// How many puts and deletes it has accepted, and how many dead keys it has forgotten. It takes no memory.
     pub fn tally(&self) -> Tally
         ensures writes { result.writes ≡ self.now.state.writes }

@@ -1,0 +1,72 @@
+-- What a list of rows means, and what is always true of it.
+use Rattle.std.specs.Prelude.{◌≡◌, ◌<◌, ℕ, true, List, map, IsTrue, Option, Some, None, slice_get, vec_len, vec_capacity}
+use Rattle.std.specs.Option.{option_map}
+use Rattle.std.specs.declared.vec.Vec.{Vec}
+use Rattle.std.specs.declared.alloc.Global.{Global}
+use Rattle.std.specs.FinMap.Entries.{is_sorted}
+use Rattle.riak_msgs.specs.declared.Key.{Key}
+use Rattle.riak_msgs.specs.declared.Content.{Content}
+use Rattle.riak_msgs.specs.KeyOrder.{key_cmp}
+use Rattle.actor_epoch.specs.declared.Actor.{Actor}
+use Rattle.actor_epoch.specs.declared.Dot.{Dot}
+use Rattle.dvv_set.specs.Held.{IsWithin, IsReady}
+use Rattle.vnode_machine.specs.Machine.{Stored}
+use Rattle.clock_store.specs.Contents.{Reservation, Contents}
+use Rattle.clock_store.specs.Keys.{empty, stored_of}
+use Rattle.clock_list.specs.declared.place.Place.TheVariants as places
+use Rattle.clock_list.specs.declared.row.Row.{Row}
+use Rattle.clock_list.specs.declared.list.Room.{Room}
+use Rattle.clock_list.specs.declared.list.Room.TheVariants.{At, New}
+use Rattle.clock_list.specs.declared.list.ClockList.TheInside.{Inside}
+use Rattle.clock_list.specs.Places.{place_in}
+
+abbrev pub entry_of : Row → Key × Stored Content
+entry_of row = (row.key, stored_of row.stored)
+
+-- the clock of the key at a place is within its limits after a write
+pub record FitsAt (items : List Row) (i : ℕ) (seen : Option (List Dot)) (actor : Actor) : Type 0 where
+  pub row : Row
+  pub get : slice_get items i ≡ Some row
+  pub fits : IsWithin row.stored.clock.meaning.known seen actor
+
+-- and has room for it
+pub record ReadyAt (items : List Row) (i : ℕ) (seen : Option (List Dot)) (actor : Actor) : Type 0 where
+  pub row : Row
+  pub get : slice_get items i ≡ Some row
+  pub ready : IsReady row.stored.clock seen actor
+
+-- a row of this key that knows nothing and has room for a write
+pub record IsNewRow (row : Row) (key : Key) (seen : Option (List Dot)) (actor : Actor) : Type 0 where
+  pub same : row.key ≡ key
+  pub none : row.stored.clock.meaning ≡ empty
+  pub ready : IsReady row.stored.clock seen actor
+
+-- a list has room for a tombstone as for a value
+abbrev pub reservation_of : Key → Row → Reservation
+reservation_of key row = record { key = key; clock = row.stored.clock; may_die = true }
+
+abbrev pub reserved_in : List Row → Option Room → Option Reservation
+reserved_in items None = None
+reserved_in items (Some (At i key)) = option_map (reservation_of key) (slice_get items i)
+reserved_in items (Some (New i row)) = Some (reservation_of row.key row)
+
+abbrev pub contents_in : List Row → Option Room → Contents
+contents_in items room = record { keys = map entry_of items; room = reserved_in items room }
+
+abbrev pub view_of : Inside → Contents
+view_of v = contents_in v.rows.items v.room
+
+-- a new row finds room for one more in the list, at the place of its key, and knows nothing
+pub record FitsIn (rows : Vec Row Global) (i : ℕ) (row : Row) : Type 0 where
+  pub more : vec_len rows < vec_capacity rows
+  pub placed : place_in row.key (map entry_of rows.items) ≡ places.New i
+  pub none : row.stored.clock.meaning ≡ empty
+
+abbrev pub IsRoom : Vec Row Global → Option Room → Type 0
+IsRoom rows None = Unit {0}
+IsRoom rows (Some (At i key)) = place_in key (map entry_of rows.items) ≡ places.At i
+IsRoom rows (Some (New i row)) = FitsIn rows i row
+
+pub record IsList (v : Inside) : Type 0 where
+  pub sorted : IsTrue (is_sorted key_cmp (map entry_of v.rows.items))
+  pub room : IsRoom v.rows v.room

@@ -1,0 +1,107 @@
+//! Rows of the list, and writes at their places.
+
+ghost use Rattle.std.specs.Prelude.{◌≡◌, map, IsTrue, OnOk, IfOk, None};
+ghost use Rattle.std.specs.FinMap.Entries.{is_sorted};
+ghost use Rattle.riak_msgs.specs.KeyOrder.{key_cmp};
+ghost use Rattle.dvv_set.specs.Held.{IsWithin, IsReady, pairs_of as seen_in};
+ghost use Rattle.clock_store.specs.Keys.{empty, clock_at, written, overwritten};
+ghost use Rattle.clock_list.specs.declared.place.Place.TheVariants as places;
+ghost use Rattle.clock_list.specs.Places.{place_in};
+ghost use Rattle.clock_list.specs.Rows.{entry_of, FitsAt, ReadyAt, FitsIn, IsNewRow};
+
+use actor_epoch::{Actor, Context};
+use clock_store::StoredClock;
+use dvv_set::Clock;
+use riak_msgs::{Content, Key};
+use std::alloc::{AllocError, Global};
+
+/// A key with what is stored of it.
+#[derive(Drop)]
+pub(crate) struct Row {
+    pub(crate) key: Key,
+    pub(crate) stored: StoredClock,
+}
+
+/// Makes room in the clock of the row at a place.
+pub(crate) fn reserve_at(
+    rows: &mut Vec<Row>,
+    i: usize,
+    seen: Option<&Context<'_>>,
+    actor: Actor,
+) -> Result<(), AllocError>
+    requires { FitsAt rows.old.items i (seen_in seen) actor }
+    ensures same { map entry_of rows.new.items ≡ map entry_of rows.old.items }
+    ensures ok { OnOk result (ReadyAt rows.new.items i (seen_in seen.entry) actor) }
+{
+    rows[i].stored.reserve(seen, actor)
+}
+
+/// A row of a key that isn't held: its clock is empty, with room for a write.
+pub(crate) fn new_row(
+    alloc: Global,
+    key: &Key,
+    seen: Option<&Context<'_>>,
+    actor: Actor,
+) -> Result<Row, AllocError>
+    requires { IsWithin empty.known (seen_in seen) actor }
+    ensures { IfOk result (λ row. IsNewRow row key.now (seen_in seen.entry) actor) }
+{
+    let key = key.clone(alloc)?;
+    let mut clock = Clock::new(alloc);
+    clock.reserve(seen, actor)?;
+    let stored = StoredClock { actor, clock };
+    Ok(Row { key, stored })
+}
+
+/// Writes in the row at a place.
+pub(crate) fn write_at(
+    rows: &mut Vec<Row>,
+    i: usize,
+    key: Key,
+    seen: Option<&Context<'_>>,
+    actor: Actor,
+    value: Option<Content>,
+)
+    requires placed { place_in key (map entry_of rows.old.items) ≡ places.At i }
+    requires ready { ReadyAt rows.old.items i (seen_in seen) actor }
+    ensures { map entry_of rows.new.items ≡ written (map entry_of rows.old.items) key (seen_in seen.entry) actor value }
+{
+    let _key = key;
+    rows[i].stored.write(seen, actor, value);
+}
+
+/// Writes in the row at a place, over all that is there.
+pub(crate) fn overwrite_at(
+    rows: &mut Vec<Row>,
+    i: usize,
+    key: Key,
+    actor: Actor,
+    value: Option<Content>,
+)
+    requires placed { place_in key (map entry_of rows.old.items) ≡ places.At i }
+    requires ready { ReadyAt rows.old.items i None actor }
+    ensures { map entry_of rows.new.items ≡ overwritten (map entry_of rows.old.items) key actor value }
+{
+    let _key = key;
+    rows[i].stored.overwrite(actor, value);
+}
+
+/// Puts a row in at its place, with its first write.
+pub(crate) fn write_new(
+    rows: &mut Vec<Row>,
+    i: usize,
+    mut row: Row,
+    seen: Option<&Context<'_>>,
+    actor: Actor,
+    value: Option<Content>,
+)
+    requires sorted { IsTrue (is_sorted key_cmp (map entry_of rows.old.items)) }
+    requires fits { FitsIn rows.old i row }
+    requires ready { IsReady row.stored.clock (seen_in seen) actor }
+    ensures { map entry_of rows.new.items ≡ written (map entry_of rows.old.items) row.key (seen_in seen.entry) actor value }
+{
+    row.stored.write(seen, actor, value);
+    if rows.insert(i, row).is_err() {
+        unreachable!()
+    }
+}

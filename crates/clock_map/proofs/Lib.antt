@@ -1,0 +1,4 @@
+mod Entries
+mod Ties
+mod Marks
+mod Maps

@@ -1,0 +1,352 @@
+-- What always holds of a map of clocks, after each of its calls.
+use Rattle.std.proofs.Common.{◌≡◌, ◌∙◌, inl, inr, refl, sym, ap, subst, List, [], ℕ, Bool, true, false, not, cond}
+use lib.Dec.{T}
+use Rattle.std.specs.Prelude.{Option, Some, None, IsSome, is_some, option_and_then}
+use Rattle.std.specs.Prelude.{Result, Ok, Err, OnErr}
+use Rattle.std.specs.Borrow.{Bor}
+use Rattle.std.specs.Option.{option_map, option_map_or, option_copied}
+use Rattle.std.specs.List.{list_any}
+use Rattle.std.specs.BTreeMap as tree
+use Rattle.std.specs.BTreeMap.{is_at, IsOrdered}
+use Rattle.std.specs.FinMap.Entries.{find, put, is_sorted}
+use Rattle.slab.specs.Slab as slab
+use Rattle.riak_msgs.specs.declared.Key.{Key}
+use Rattle.riak_msgs.specs.declared.Content.{Content}
+use Rattle.riak_msgs.specs.KeyOrder.{key_cmp}
+use Rattle.actor_epoch.specs.declared.Actor.{Actor}
+use Rattle.actor_epoch.specs.declared.Dot.{Dot}
+use Rattle.dvv_set.specs.Clocks.{DotState, event, show_cmp}
+use Rattle.dvv_set.specs.Held.{IsWithin}
+use Rattle.vnode_machine.specs.Machine.{Stored}
+use Rattle.clock_store.specs.declared.stored_clock.StoredClock.{StoredClock}
+use Rattle.clock_store.specs.Keys.{Keys, stored_of, empty, clock_at}
+use Rattle.clock_store.specs.Contents.{Contents, Reservation, HasPlaceIfDead, HasRoom, kind_of}
+use Rattle.clock_store.specs.declared.store.WriteKind.TheVariants.{Value}
+use Rattle.clock_store.specs.declared.store.Reaped.TheVariants.{Gone}
+use Rattle.clock_store.specs.Forgetting.{holding, reap_result, after_first_reap}
+use Rattle.clock_store.proofs.Reaps.{reap-none, reap-kept}
+use Rattle.vnode_machine.specs.Machine.{holds_dead}
+use Rattle.vnode_machine.specs.Dead.{is_from, first_dead, has_dead, reaped}
+use Rattle.vnode_machine.proofs.DeadKeys.{first_is_dead, dead_by}
+use Rattle.vnode_machine.proofs.Tests.{and_right}
+use Rattle.clock_map.specs.declared.room.Room.{Room}
+use Rattle.clock_map.specs.declared.index.DeadMark.TheVariants.{Spare}
+use Rattle.clock_map.specs.Index.{Index, is_marked, mark_of, without_spare, SpareIsNew, first_marked}
+use Rattle.clock_map.specs.Places.{Places, Clocks, place_of, stored_at, lives, lives_at, FitsAt, IsReadyAt, StoresSame, WritesAt, AddsAt, Unchanged, RemovesAt, DropsSpare}
+use Rattle.clock_map.specs.Maps.{is_dead, shown_at, shown_of, keys_in, reserved_in, IsRoomOf, IsRoom, MayDie, IsMap}
+use Rattle.clock_map.proofs.Entries.{find_shown, keys_same, sorted_shown}
+use Rattle.clock_map.proofs.Ties.{clash, tied_stored, tied_written, tied_removed, removed_shown, tied_added, added_place, added_shown, tied_dropped, dropped_shown, written_shown, written_keys, ReservedAt, reserved_at, reserved_for}
+use Rattle.clock_map.proofs.Marks.{settled_marks, settled_spare, unspared, no_spare, any_put, first_same}
+
+-- a write in the room of a key
+module _ (places : Places) (old new : Clocks) (dead : Index) (room : Room) (key : Key) (actor : Actor) (value : Option Content)
+    (left : DotState (Option Content) → DotState (Option Content)) (holds : IsMap places old dead (Some room)) (reserved : Reservation)
+    (at : ReservedAt places old room key reserved) (dies : HasPlaceIfDead (kind_of value) reserved.may_die)
+    (wrote : WritesAt old new room.place actor (λ clock. event actor value (left clock))) where
+  room_key : holds.room.0 ≡ key
+  room_key = holds.tied.one holds.room.0 key room.place holds.room.1.placed at.placed
+
+  abbrev after : Stored Content
+  after = record { own = Some actor; clock = event actor value (left wrote.stored.clock.meaning) }
+
+  -- what is a value lives
+  value_lives : (content : Content) → value ≡ Some content → lives (Some after) ≡ true
+  value_lives content is =
+      any_put show_cmp (λ (entry : Dot × Option Content). is_some entry.1) (record { actor = actor; counter = _ }) value (left wrote.stored.clock.meaning).live (λ k. ap is_some is)
+
+  -- so where the key is dead, the write was a tombstone, for which the index has an entry
+  pub mark_ready : (b : Bool) → b ≡ lives_at new room.place → not b ≡ true → IsSome (tree.get key_cmp dead key)
+  mark_ready b is dead_now = by value refl dies
+    where
+      by : (v : Option Content) → value ≡ v → HasPlaceIfDead (kind_of v) reserved.may_die → IsSome (tree.get key_cmp dead key)
+      by None v may_die = ap (λ k. is_some (tree.get key_cmp dead k)) (sym room_key) ∙ holds.room.1.mark (sym at.may_die ∙ may_die)
+      by (Some content) v h = clash (sym dead_now ∙ ap not (is ∙ ap lives wrote.now ∙ value_lives content v))
+
+  pub written_map : (index : Index) (b : Bool) → b ≡ lives_at new room.place → ((q : Key) → tree.get key_cmp index q ≡ mark_of key (not b) q (tree.get key_cmp dead q))
+      → IsMap places new index None
+  written_map index b is settled = record {
+    tied = tied_written places old new room.place actor (λ clock. event actor value (left clock)) holds.tied wrote;
+    marks = settled_marks dead index (shown_of places old (Some room)) (shown_of places new None) key (Some after) (not b) holds.marks shows settled dead_is;
+    spare = λ q h. absurd (settled_spare dead index (shown_of places old (Some room)) (shown_of places new None) key (Some after) (not b) holds.marks shows settled dead_is only q h);
+    room = tt;
+  }
+    where
+      shows : (q : Key) → shown_of places new None q ≡ cond (is_at (key_cmp key) q) (Some after) (shown_of places old (Some room) q)
+      shows = written_shown places old new room key actor (λ clock. event actor value (left clock)) holds.tied at.placed wrote
+
+      dead_is : not b ≡ is_dead (Some after)
+      dead_is = ap not (is ∙ ap lives wrote.now)
+
+      only : (q : Key) → tree.get key_cmp dead q ≡ Some Spare → key ≡ q
+      only q h =
+          let may = holds.spare q h in
+          let same : room ≡ may.0 = (let e = may.1 in cc) in
+          holds.tied.one key q room.place at.placed (may.3 ∙ ap (λ (r : Room). Some r.place) (sym same))
+
+  pub written_is : keys_in (shown_at new None) places.entries
+      ≡ put key_cmp key (record { own = Some actor; clock = event actor value (left (clock_at (keys_in (shown_at old (Some room)) places.entries) key)) }) (keys_in (shown_at old (Some room)) places.entries)
+  written_is = written_keys places old new room key actor (λ clock. event actor value (left clock)) holds.tied at.placed wrote (room_empty holds.room.1)
+    where
+      room_empty : {k : Key} → IsRoomOf places old dead room k → room.is_new ≡ true → (stored : Stored Content) → stored_at old room.place ≡ Some stored → stored.clock ≡ empty
+      room_empty r = r.empty
+
+-- a key is removed, and its mark
+module _ (old new : Places) (were are : Clocks) (dead index : Index) (key : Key) (holds : IsMap old were dead None) (left : RemovesAt old new were are key)
+    (settled : (q : Key) → tree.get key_cmp index q ≡ mark_of key false q (tree.get key_cmp dead q)) where
+  pub removed_map : IsMap new are index None
+  removed_map = record {
+    tied = tied_removed old new were are key holds.tied left;
+    marks = settled_marks dead index (shown_of old were None) (shown_of new are None) key None false holds.marks shows settled refl;
+    spare = λ q h. absurd (settled_spare dead index (shown_of old were None) (shown_of new are None) key None false holds.marks shows settled refl only q h);
+    room = tt;
+  }
+    where
+      shows : (q : Key) → shown_of new are None q ≡ cond (is_at (key_cmp key) q) None (shown_of old were None q)
+      shows = removed_shown old new were are key holds.tied left
+
+      only : (q : Key) → tree.get key_cmp dead q ≡ Some Spare → key ≡ q
+      only q h = let may = holds.spare q h in let e = may.1 in cc
+
+-- the room is given away
+module _ (old new : Places) (were are : Clocks) (dead index : Index) (room : Room) (holds : IsMap old were dead (Some room)) (dropped : DropsSpare old new were are room)
+    (settled : (q : Key) → tree.get key_cmp index q ≡ without_spare (tree.get key_cmp dead q)) where
+  pub dropped_map : IsMap new are index None
+  dropped_map = record {
+    tied = tied_dropped old new were are room dropped holds.tied;
+    marks = λ q. ap is_marked (settled q) ∙ unspared (tree.get key_cmp dead q) ∙ holds.marks q ∙ ap is_dead (sym (dropped_shown old new were are room dropped q));
+    spare = λ q h. absurd (no_spare (tree.get key_cmp dead q) (sym (settled q) ∙ h));
+    room = tt;
+  }
+
+  pub dropped_keys : keys_in (shown_at are None) new.entries ≡ keys_in (shown_at were (Some room)) old.entries
+  dropped_keys = keys_same (shown_at were (Some room)) (shown_at are None) old new holds.tied.ordered dropped.ordered (dropped_shown old new were are room dropped)
+
+-- what is shown where nothing that is stored changed
+pub stored_shown : (places : Places) (old new : Clocks) (place : ℕ) → StoresSame old new → (q : Key)
+    → shown_of places new (Some (record { place = place; is_new = false; may_die = false })) q ≡ shown_of places old None q
+stored_shown places old new place same q = by (place_of places q)
+  where
+    by : (o : Option ℕ) → option_and_then (shown_at new (Some (record { place = place; is_new = false; may_die = false }))) o ≡ option_and_then (shown_at old None) o
+    by None = refl
+    by (Some p) = same p
+
+-- room in the clock of a key that is held
+module _ (places : Places) (old new : Clocks) (dead : Index) (holds : IsMap places old dead None) (same : StoresSame old new) where
+  module _ (key : Key) (place : ℕ) (placed : place_of places key ≡ Some place) where
+    abbrev pub held_room : Room
+    held_room = record { place = place; is_new = false; may_die = false }
+
+    pub held_map : IsMap places new dead (Some held_room)
+    held_map = record {
+      tied = tied_stored places old new holds.tied same;
+      marks = λ q. holds.marks q ∙ ap is_dead (sym (stored_shown places old new place same q));
+      spare = λ q h. (let may = holds.spare q h in let e = may.1 in cc);
+      room = (key, record { placed = placed; empty = λ h. clash (sym h); mark = λ h. clash (sym h) });
+    }
+
+    pub held_keys : keys_in (shown_at new (Some held_room)) places.entries ≡ keys_in (shown_at old None) places.entries
+    held_keys = keys_same (shown_at old None) (shown_at new (Some held_room)) places places holds.tied.ordered holds.tied.ordered (stored_shown places old new place same)
+
+-- room for a key that isn't held
+module _ (old new : Places) (were are : Clocks) (dead : Index) (key : Key) (place : ℕ) (seen : Option (List Dot)) (actor : Actor) (holds : IsMap old were dead None)
+    (absent : place_of old key ≡ None) (added : AddsAt old new were are key place seen actor) where
+  abbrev pub new_room : Room
+  new_room = record { place = place; is_new = true; may_die = false }
+
+  pub added_map : IsMap new are dead (Some new_room)
+  added_map = record {
+    tied = tied_added old new were are key place seen actor holds.tied absent added;
+    marks = λ q. holds.marks q ∙ ap is_dead (sym (added_shown old new were are key place seen actor holds.tied absent added new_room refl q));
+    spare = λ q h. (let may = holds.spare q h in let e = may.1 in cc);
+    room = (
+      key,
+      record {
+        placed = added_place old new were are key place seen actor holds.tied absent added;
+        empty = λ h stored is.
+            (let s : stored_of added.stored ≡ stored = (let e : Some (stored_of added.stored) ≡ Some stored = sym (ap (option_map stored_of) added.put.changed) ∙ is in cc) in
+            sym (ap (λ (s : Stored Content). s.clock) s) ∙ added.empty);
+        mark = λ h. clash (sym h);
+      },
+    );
+  }
+
+  pub added_keys : keys_in (shown_at are (Some new_room)) new.entries ≡ keys_in (shown_at were None) old.entries
+  added_keys =
+      keys_same (shown_at were None) (shown_at are (Some new_room)) old new holds.tied.ordered added.ordered
+      (added_shown old new were are key place seen actor holds.tied absent added new_room refl)
+
+-- nothing changed
+module _ (old new : Places) (were are : Clocks) (dead : Index) (holds : IsMap old were dead None) (same : Unchanged old new were are) where
+  unchanged_shown : (q : Key) → shown_of new are None q ≡ shown_of old were None q
+  unchanged_shown q = ap (option_and_then (shown_at are None)) (same.places q) ∙ by (place_of old q)
+    where
+      by : (o : Option ℕ) → option_and_then (shown_at are None) o ≡ option_and_then (shown_at were None) o
+      by None = refl
+      by (Some p) = ap (option_map stored_of) (same.clocks p)
+
+  pub unchanged_keys : keys_in (shown_at are None) new.entries ≡ keys_in (shown_at were None) old.entries
+  unchanged_keys = keys_same (shown_at were None) (shown_at are None) old new holds.tied.ordered same.ordered unchanged_shown
+
+-- the clock of a key, where there is no room
+module _ (places : Places) (clocks : Clocks) (dead : Index) (key : Key) (holds : IsMap places clocks dead None) where
+  pub find_none : find key_cmp key (keys_in (shown_at clocks None) places.entries) ≡ shown_of places clocks None key
+  find_none = find_shown (shown_at clocks None) key places.entries holds.tied.ordered
+
+  pub fits_at : (place : ℕ) (seen : Option (List Dot)) (actor : Actor) → place_of places key ≡ Some place
+      → IsWithin (clock_at (keys_in (shown_at clocks None) places.entries) key).known seen actor → FitsAt clocks place seen actor
+  fits_at place seen actor placed fits = by (slab.get clocks place) refl (holds.tied.held key place placed)
+    where
+      clock : clock_at (keys_in (shown_at clocks None) places.entries) key ≡ option_map_or (λ (s : Stored Content). s.clock) (stored_at clocks place) empty
+      clock = ap (λ o. option_map_or (λ (s : Stored Content). s.clock) o empty) (find_none ∙ ap (option_and_then (shown_at clocks None)) placed)
+
+      by : (o : Option StoredClock) → slab.get clocks place ≡ o → IsSome o → FitsAt clocks place seen actor
+      by None is some = cc
+      by (Some stored) is some = record {
+        stored = stored;
+        is = is;
+        fits = subst (λ (m : DotState (Option Content)). IsWithin m.known seen actor) (clock ∙ ap (λ o. option_map_or (λ (s : Stored Content). s.clock) (option_map stored_of o) empty) is) fits;
+      }
+
+  pub fits_new : (seen : Option (List Dot)) (actor : Actor) → place_of places key ≡ None
+      → IsWithin (clock_at (keys_in (shown_at clocks None) places.entries) key).known seen actor → IsWithin [] seen actor
+  fits_new seen actor absent fits =
+      let clock : clock_at (keys_in (shown_at clocks None) places.entries) key ≡ empty =
+      ap (λ o. option_map_or (λ (s : Stored Content). s.clock) o empty) (find_none ∙ ap (option_and_then (shown_at clocks None)) absent) in
+      subst (λ (m : DotState (Option Content)). IsWithin m.known seen actor) clock fits
+
+-- where the view shows no room, there is none
+module _ (places : Places) (clocks : Clocks) (dead : Index) (made : Option Room) (holds : IsMap places clocks dead made) (seen : Contents)
+    (view_is : record { keys = keys_in (shown_at clocks made) places.entries; room = reserved_in places clocks made } ≡ seen) where
+  pub keys_are : keys_in (shown_at clocks made) places.entries ≡ seen.keys
+  keys_are = ap (λ (v : Contents). v.keys) view_is
+
+  pub room_is : reserved_in places clocks made ≡ seen.room
+  room_is = ap (λ (v : Contents). v.room) view_is
+
+  pub find_view : (key : Key) → find key_cmp key seen.keys ≡ shown_of places clocks made key
+  find_view key = ap (find key_cmp key) (sym keys_are) ∙ find_shown (shown_at clocks made) key places.entries holds.tied.ordered
+
+  pub now_none : seen.room ≡ None → made ≡ None
+  now_none none = by made refl (room_is ∙ none) holds.room
+    where
+      by : (o : Option Room) → made ≡ o → reserved_in places clocks o ≡ None → IsRoom places clocks dead o → o ≡ None
+      by None is h room = refl
+      by (Some r) is h room = found (slab.get clocks r.place) refl (holds.tied.held room.0 r.place room.1.placed)
+        where
+          found : (c : Option StoredClock) → slab.get clocks r.place ≡ c → IsSome c → Some r ≡ None
+          found None is some = cc
+          found (Some stored) is some = clash (sym (ap is_some (reserved_for places clocks r room.0 stored holds.tied room.1.placed is)) ∙ ap is_some h)
+
+  module _ (room : Room) (is : made ≡ Some room) where
+    pub with_map : IsMap places clocks dead (Some room)
+    with_map = subst (IsMap places clocks dead) is holds
+
+    pub with_keys : keys_in (shown_at clocks (Some room)) places.entries ≡ seen.keys
+    with_keys = ap (λ o. keys_in (shown_at clocks o) places.entries) (sym is) ∙ keys_are
+
+    pub with_reserved : (key : Key) (reserved : Reservation) → seen.room ≡ Some reserved → reserved.key ≡ key → ReservedAt places clocks room key reserved
+    with_reserved key reserved there same = reserved_at places clocks room key reserved holds.tied (ap (reserved_in places clocks) (sym is) ∙ room_is ∙ there) same
+
+  module _ (none : seen.room ≡ None) where
+    pub free_map : IsMap places clocks dead None
+    free_map = subst (IsMap places clocks dead) (now_none none) holds
+
+    pub free_keys : keys_in (shown_at clocks None) places.entries ≡ seen.keys
+    free_keys = ap (λ o. keys_in (shown_at clocks o) places.entries) (sym (now_none none)) ∙ keys_are
+
+-- room in the clock at the place of a key
+pub has_room : (places : Places) (clocks : Clocks) (dead : Index) (room : Room) (key : Key) (seen : Option (List Dot)) (actor : Actor) (contents : Contents)
+    → IsMap places clocks dead (Some room) → contents.room ≡ reserved_in places clocks (Some room) → place_of places key ≡ Some room.place
+    → IsReadyAt clocks room.place seen actor → HasRoom contents key seen actor Value
+has_room places clocks dead room key seen actor contents holds is placed ready = record {
+  reserved = record { key = key; clock = ready.stored.clock; may_die = room.may_die };
+  is = is ∙ reserved_for places clocks room key ready.stored holds.tied placed ready.is;
+  same = refl;
+  ready = ready.ready;
+  dies = tt;
+}
+
+-- a place in the index for the key that has room
+pub dying_map : (places : Places) (clocks : Clocks) (dead new : Index) (room : Room) (key : Key) (reserved : Reservation) → IsMap places clocks dead (Some room)
+    → ReservedAt places clocks room key reserved → ((q : Key) → is_marked (tree.get key_cmp new q) ≡ is_marked (tree.get key_cmp dead q))
+    → ((q : Key) → SpareIsNew dead new key q) → IsSome (tree.get key_cmp new key)
+    → IsMap places clocks new (Some (record { place = room.place; is_new = room.is_new; may_die = true }))
+dying_map places clocks dead new room key reserved holds at marked spare there = record {
+  tied = holds.tied;
+  marks = λ q. marked q ∙ holds.marks q;
+  spare = λ q h. elim (spare q h) [
+    | inl same ↦ (made, refl, refl, ap (place_of places) same ∙ at.placed)
+    | inr before ↦ old q before
+  ];
+  room = (key, record { placed = at.placed; empty = holds.room.1.empty; mark = λ h. there });
+}
+  where
+    made : Room
+    made = record { place = room.place; is_new = room.is_new; may_die = true }
+
+    old : (q : Key) → tree.get key_cmp dead q ≡ Some Spare → MayDie places (Some made) q
+    old q h =
+        let may = holds.spare q h in
+        let same : room ≡ may.0 = (let e = may.1 in cc) in
+        (made, refl, refl, may.3 ∙ ap (λ (r : Room). Some r.place) (sym same))
+
+pub on_err : {X E P : Type 0} (r : Result X E) → P → OnErr r P
+on_err (Ok x) p = tt
+on_err (Err e) p = p
+
+pub copied_map : {X Y : Type 0} (f : X → Y) (o : Option (Bor X)) → option_map (λ (x : Bor X). f x.now) o ≡ option_map f (option_copied o)
+copied_map f None = refl
+copied_map f (Some x) = refl
+
+-- what is gone was dead
+pub gone_dead : (keys : Keys) (key : Key) → reap_result (holding keys) key ≡ Gone
+    → (s : Stored Content) × (find key_cmp key keys ≡ Some s) × (list_any (λ entry. is_some entry.1) s.clock.live ≡ false)
+gone_dead keys key gone = by (find key_cmp key keys) refl
+  where
+    by : (o : Option (Stored Content)) → find key_cmp key keys ≡ o → (s : Stored Content) × (o ≡ Some s) × (list_any (λ entry. is_some entry.1) s.clock.live ≡ false)
+    by None h = let e = (reap-none keys key h).0 ∙ gone in cc
+    by (Some s) h = live (list_any (λ entry. is_some entry.1) s.clock.live) refl
+      where
+        live : (b : Bool) → list_any (λ entry. is_some entry.1) s.clock.live ≡ b → (t : Stored Content) × (Some s ≡ Some t) × (list_any (λ entry. is_some entry.1) t.clock.live ≡ false)
+        live true l = let e = (reap-kept keys key s h l).0 ∙ gone in cc
+        live false l = (s, refl, l)
+
+-- what is shown of a key is at its place
+pub shown_placed : (places : Places) (clocks : Clocks) (made : Option Room) (key : Key) (s : Stored Content) → shown_of places clocks made key ≡ Some s → IsSome (place_of places key)
+shown_placed places clocks made key s h = by (place_of places key) h
+  where
+    by : (o : Option ℕ) → option_and_then (shown_at clocks made) o ≡ Some s → IsSome o
+    by None h = cc
+    by (Some p) h = refl
+
+-- the first dead key of the view
+module _ (places : Places) (clocks : Clocks) (dead : Index) (made : Option Room) (holds : IsMap places clocks dead made) (seen : Contents)
+    (view_is : record { keys = keys_in (shown_at clocks made) places.entries; room = reserved_in places clocks made } ≡ seen) (ordered : IsOrdered key_cmp dead) (from : Option Key) where
+  pub first_view : first_marked from dead.entries ≡ first_dead (holding seen.keys) from
+  first_view =
+      first_same seen.keys (true_from _ (subst (λ ks. T (is_sorted key_cmp ks)) (keys_are places clocks dead made holds seen view_is) (sorted_shown (shown_at clocks made) places.entries holds.tied.ordered)))
+      dead ordered (λ q. holds.marks q ∙ ap is_dead (sym (find_view places clocks dead made holds seen view_is q))) from
+    where
+      true_from : (b : Bool) → T b → b ≡ true
+      true_from true t = refl
+      true_from false t = absurd t
+
+  -- is dead there
+  pub first_is_shown : (key : Key) → first_marked from dead.entries ≡ Some key → (s : Stored Content) × (shown_of places clocks made key ≡ Some s)
+  first_is_shown key h = by (shown_of places clocks made key) refl
+    where
+      dead_now : holds_dead (holding seen.keys) key ≡ true
+      dead_now = and_right (is_from from key) _ (first_is_dead (holding seen.keys) from key (sym first_view ∙ h))
+
+      by : (o : Option (Stored Content)) → shown_of places clocks made key ≡ o → (s : Stored Content) × (o ≡ Some s)
+      by None is = clash (sym dead_now ∙ ap dead_by (find_view places clocks dead made holds seen view_is key ∙ is))
+      by (Some s) is = (s, refl)
+
+-- what a reap of the least dead key comes to, by what was found
+module _ (keys : Keys) (from : Option Key) where
+  pub reaped_none : first_dead (holding keys) from ≡ None → (false ≡ has_dead (holding keys) from) × (keys ≡ (after_first_reap (holding keys) from).keys)
+  reaped_none h = (sym (ap is_some h), sym (ap (λ (o : Option Key). (option_map_or (reaped (holding keys)) o (holding keys)).keys) h))
+
+  pub reaped_some : (key : Key) → first_dead (holding keys) from ≡ Some key
+      → (true ≡ has_dead (holding keys) from) × ((reaped (holding keys) key).keys ≡ (after_first_reap (holding keys) from).keys)
+  reaped_some key h = (sym (ap is_some h), sym (ap (λ (o : Option Key). (option_map_or (reaped (holding keys)) o (holding keys)).keys) h))

@@ -1,0 +1,350 @@
+-- Keys and their places after a change of one of them.
+use Rattle.std.proofs.Common.{◌≡◌, ◌≢◌, ◌∙◌, ◌⊎◌, inl, inr, refl, sym, ap, List, ℕ, Bool, true, false, not, cond}
+use Rattle.std.specs.Prelude.{◌&&◌, ◌==◌, Option, Some, None, IsSome, is_some, option_and_then}
+use Rattle.std.specs.Option.{option_map, option_map_or}
+use Rattle.std.specs.Ordering.{eq_by_cmp}
+use Rattle.std.specs.BTreeMap.{is_at, IsOrdered}
+use Rattle.std.specs.FinMap.Entries.{put, where_key}
+use Rattle.std.specs.Prelude.{filter}
+use Rattle.std.specs.Cmp.{eq_by_cmp_equiv}
+use Rattle.std.specs.Map.{lookup, keys_of}
+use Rattle.std.proofs.lemmas.Map.Entries.{option_filter, lookup-filter-values}
+use Rattle.std.proofs.lemmas.Map.Keys.{IsDistinct-from_sorted}
+use Rattle.vnode_machine.proofs.Keys.{key_cmp_total}
+use Rattle.slab.specs.Slab as slab
+use Rattle.riak_msgs.specs.declared.Key.{Key}
+use Rattle.riak_msgs.specs.declared.Content.{Content}
+use Rattle.riak_msgs.specs.KeyOrder.{key_cmp}
+use Rattle.actor_epoch.specs.declared.Actor.{Actor}
+use Rattle.actor_epoch.specs.declared.Dot.{Dot}
+use Rattle.dvv_set.specs.Clocks.{DotState}
+use Rattle.vnode_machine.specs.Machine.{Stored}
+use Rattle.vnode_machine.proofs.DeadKeys.{eq-itself}
+use Rattle.vnode_machine.proofs.Tests.{nat_eq-same, nat_eq-refl}
+use Rattle.clock_store.specs.declared.stored_clock.StoredClock.{StoredClock}
+use Rattle.clock_store.specs.Keys.{stored_of, empty, clock_at}
+use Rattle.clock_store.specs.Contents.{Reservation}
+use Rattle.clock_map.specs.declared.room.Room.{Room}
+use Rattle.clock_map.specs.Places.{Places, Clocks, place_of, stored_at, is_spare, unless_spare, IsTied, StoresSame, WritesAt, AddsAt, RemovesAt, DropsSpare}
+use Rattle.clock_map.specs.Maps.{shown_at, shown_of, keys_in, key_at, reserved_in}
+use Rattle.clock_map.proofs.Entries.{same_key, find_shown, keys_put, keys_without, key_at-place, key_at-some}
+
+pub not_none : {X : Type 0} (x : X) → Some x ≡ None → ⊥
+not_none x h = cc
+
+-- a key that is another isn't at it
+pub at_same : (key other : Key) → key ≡ other → is_at (key_cmp key) other ≡ true
+at_same key other same = sym (ap (λ k. is_at (key_cmp key) k) same) ∙ eq-itself key
+
+pub clash : {A : Type 0} → true ≡ false → A
+clash h = cc
+
+-- numbers that differ don't compare as one
+pub differ : (a b : ℕ) → b ≢ a → (a == b) ≡ false
+differ a b away = by (a == b) refl
+  where
+    by : (c : Bool) → (a == b) ≡ c → c ≡ false
+    by true is = absurd (away (sym (nat_eq-same a b is)))
+    by false is = refl
+
+-- the place of another key is another place
+pub apart : (places : Places) (clocks : Clocks) → IsTied places clocks → (key other : Key) (p r : ℕ) → place_of places key ≡ Some p → place_of places other ≡ Some r
+    → is_at (key_cmp key) other ≡ false → r ≢ p
+apart places clocks tied key other p r was is away same = clash (sym (at_same key other (tied.one key other p was (is ∙ ap Some same))) ∙ away)
+
+and_false : (a b : Bool) → b ≡ false → (a && b) ≡ false
+and_false true b h = h
+and_false false b h = refl
+
+-- another place than the room's is no spare one
+pub spare_apart : (room : Room) (p : ℕ) → p ≢ room.place → is_spare (Some room) p ≡ false
+spare_apart room p away = and_false room.is_new _ (differ room.place p away)
+
+-- where there are clocks as before, places are tied as before
+pub tied_present : (places : Places) (old new : Clocks) → IsTied places old → ((p : ℕ) → is_some (slab.get new p) ≡ is_some (slab.get old p)) → IsTied places new
+tied_present places old new tied same = record {
+  ordered = tied.ordered;
+  held = λ key p is. same p ∙ tied.held key p is;
+  one = tied.one;
+  used = λ p is. tied.used p (sym (same p) ∙ is);
+}
+
+some_map : {X Y : Type 0} (f : X → Y) (o : Option X) → is_some (option_map f o) ≡ is_some o
+some_map f None = refl
+some_map f (Some x) = refl
+
+pub tied_stored : (places : Places) (old new : Clocks) → IsTied places old → StoresSame old new → IsTied places new
+tied_stored places old new tied same =
+    tied_present places old new tied
+    (λ p. sym (some_map stored_of (slab.get new p)) ∙ ap is_some (same p) ∙ some_map stored_of (slab.get old p))
+
+pub tied_written : (places : Places) (old new : Clocks) (place : ℕ) (actor : Actor) (change : DotState (Option Content) → DotState (Option Content))
+    → IsTied places old → WritesAt old new place actor change → IsTied places new
+tied_written places old new place actor change tied wrote = tied_present places old new tied (λ p. by p (place == p) refl)
+  where
+    by : (p : ℕ) (b : Bool) → (place == p) ≡ b → is_some (slab.get new p) ≡ is_some (slab.get old p)
+    by p true is =
+        let same : place ≡ p = nat_eq-same place p is in
+        ap (λ p. is_some (slab.get new p)) (sym same)
+        ∙ sym (some_map stored_of (slab.get new place)) ∙ ap is_some wrote.now ∙ sym (ap is_some wrote.was)
+        ∙ ap (λ p. is_some (slab.get old p)) same
+    by p false is = ap is_some (wrote.others p (λ same. clash (sym (ap (λ q. place == q) same ∙ nat_eq-refl place) ∙ is)))
+
+-- what is read of a place that one key has
+module _ (old new : Places) (were are : Clocks) (key : Key) where
+  pub tied_removed : IsTied old were → RemovesAt old new were are key → IsTied new are
+  tied_removed tied left = record {
+    ordered = left.ordered;
+    held = λ other p is. let o = kept other p is in ap is_some (left.clocks.others p (apart old were tied key other left.place p left.was o.1 o.0)) ∙ tied.held other p o.1;
+    one = λ a b p x y. tied.one a b p (kept a p x).1 (kept b p y).1;
+    used = λ p is. (let before = was p (p == left.place) refl is in let k = tied.used p before.1 in (k.0, still k.0 p before.0 k.1));
+  }
+    where
+      kept : (other : Key) (p : ℕ) → place_of new other ≡ Some p → (is_at (key_cmp key) other ≡ false) × (place_of old other ≡ Some p)
+      kept other p is = by (is_at (key_cmp key) other) refl (sym (left.places other) ∙ is)
+        where
+          by : (b : Bool) → is_at (key_cmp key) other ≡ b → cond b None (place_of old other) ≡ Some p → (is_at (key_cmp key) other ≡ false) × (place_of old other ≡ Some p)
+          by true at h = cc
+          by false at h = (at, h)
+
+      was : (p : ℕ) (b : Bool) → (p == left.place) ≡ b → IsSome (slab.get are p) → (p ≢ left.place) × IsSome (slab.get were p)
+      was p true at is =
+          let gone : slab.get are p ≡ None = ap (slab.get are) (nat_eq-same p left.place at) ∙ left.clocks.changed in
+          clash (sym is ∙ ap is_some gone)
+      was p false at is =
+          let away : p ≢ left.place = λ same. clash (sym (ap (λ q. q == left.place) same ∙ nat_eq-refl left.place) ∙ at) in
+          (away, sym (ap is_some (left.clocks.others p away)) ∙ is)
+
+      still : (other : Key) (p : ℕ) → p ≢ left.place → place_of old other ≡ Some p → place_of new other ≡ Some p
+      still other p away is = left.places other ∙ by (is_at (key_cmp key) other) refl
+        where
+          by : (b : Bool) → is_at (key_cmp key) other ≡ b → cond b None (place_of old other) ≡ Some p
+          by true at =
+              let same : place_of old key ≡ Some p = ap (place_of old) (same_key key other at) ∙ is in
+              let eq : p ≡ left.place = (let h : Some p ≡ Some left.place = sym same ∙ left.was in cc) in
+              absurd (away eq)
+          by false at = is
+
+  -- a key that is removed shows nothing
+  pub removed_shown : IsTied old were → RemovesAt old new were are key → (q : Key) → shown_of new are None q ≡ cond (is_at (key_cmp key) q) None (shown_of old were None q)
+  removed_shown tied left q = ap (option_and_then (shown_at are None)) (left.places q) ∙ by (is_at (key_cmp key) q) (place_of old q) refl refl
+    where
+      by : (b : Bool) (o : Option ℕ) → is_at (key_cmp key) q ≡ b → place_of old q ≡ o
+          → option_and_then (shown_at are None) (cond b None o) ≡ cond b None (option_and_then (shown_at were None) o)
+      by true o at is = refl
+      by false None at is = refl
+      by false (Some p) at is = ap (option_map stored_of) (left.clocks.others p (apart old were tied key q left.place p left.was is at))
+
+  pub removed_keys : IsTied old were → RemovesAt old new were are key
+      → keys_in (shown_at are None) new.entries ≡ where_key key_cmp (λ other. not (eq_by_cmp key_cmp key other)) (keys_in (shown_at were None) old.entries)
+  removed_keys tied left = keys_without (shown_at were None) (shown_at are None) old new tied.ordered left.ordered key (removed_shown tied left)
+
+  -- a key that is added has a place, which shows nothing
+  module _ (place : ℕ) (seen : Option (List Dot)) (actor : Actor) (tied : IsTied old were) (absent : place_of old key ≡ None) (added : AddsAt old new were are key place seen actor) where
+    vacant_apart : (q : Key) (p : ℕ) → place_of old q ≡ Some p → p ≢ place
+    vacant_apart q p is same = clash (sym (tied.held q p is) ∙ ap is_some (ap (slab.get were) same ∙ added.vacant))
+
+    pub added_place : place_of new key ≡ Some place
+    added_place = added.places key ∙ ap (λ b. cond b (Some place) (place_of old key)) (eq-itself key)
+
+    added_old : (q : Key) (p : ℕ) → place_of new q ≡ Some p → ((q ≡ key) × (p ≡ place)) ⊎ (place_of old q ≡ Some p)
+    added_old q p is = by (is_at (key_cmp key) q) refl (sym (added.places q) ∙ is)
+      where
+        by : (b : Bool) → is_at (key_cmp key) q ≡ b → cond b (Some place) (place_of old q) ≡ Some p → ((q ≡ key) × (p ≡ place)) ⊎ (place_of old q ≡ Some p)
+        by true at h = inl (sym (same_key key q at), cc)
+        by false at h = inr h
+
+    pub tied_added : IsTied new are
+    tied_added = record {
+      ordered = added.ordered;
+      held = λ q p is. elim (added_old q p is) [
+        | inl x ↦ ap is_some (ap (slab.get are) x.1 ∙ added.put.changed)
+        | inr o ↦ ap is_some (added.put.others p (vacant_apart q p o)) ∙ tied.held q p o
+      ];
+      one = λ a b p x y. elim (added_old a p x) [
+        | inl u ↦ elim (added_old b p y) [ inl v ↦ u.0 ∙ sym v.0 | inr o ↦ absurd (vacant_apart b p o u.1) ]
+        | inr o ↦ elim (added_old b p y) [ inl v ↦ absurd (vacant_apart a p o v.1) | inr r ↦ tied.one a b p o r ]
+      ];
+      used = λ p is. used p (p == place) refl is;
+    }
+      where
+        used : (p : ℕ) (b : Bool) → (p == place) ≡ b → IsSome (slab.get are p) → (k : Key) × (place_of new k ≡ Some p)
+        used p true at is = (key, added_place ∙ ap Some (sym (nat_eq-same p place at)))
+        used p false at is =
+            let away : p ≢ place = λ same. clash (sym (ap (λ q. q == place) same ∙ nat_eq-refl place) ∙ at) in
+            let k = tied.used p (sym (ap is_some (added.put.others p away)) ∙ is) in
+            (k.0, added.places k.0 ∙ by k.0 p k.1 (is_at (key_cmp key) k.0) refl)
+          where
+            by : (q : Key) (p : ℕ) → place_of old q ≡ Some p → (b : Bool) → is_at (key_cmp key) q ≡ b → cond b (Some place) (place_of old q) ≡ Some p
+            by q p is true at = absurd (not_none p (sym is ∙ ap (place_of old) (sym (same_key key q at)) ∙ absent))
+            by q p is false at = is
+
+    pub added_shown : (room : Room) → room ≡ record { place = place; is_new = true; may_die = false } → (q : Key) → shown_of new are (Some room) q ≡ shown_of old were None q
+    added_shown room r q = ap (λ room. shown_of new are (Some room) q) r ∙ ap (option_and_then (shown_at are (Some made))) (added.places q) ∙ by (is_at (key_cmp key) q) (place_of old q) refl refl
+      where
+        made : Room
+        made = record { place = place; is_new = true; may_die = false }
+
+        by : (b : Bool) (o : Option ℕ) → is_at (key_cmp key) q ≡ b → place_of old q ≡ o
+            → option_and_then (shown_at are (Some made)) (cond b (Some place) o) ≡ option_and_then (shown_at were None) o
+        by true (Some p) at is = absurd (not_none p (sym is ∙ ap (place_of old) (sym (same_key key q at)) ∙ absent))
+        by true None at is = ap (λ b. cond b None (stored_at are place)) (nat_eq-refl place)
+        by false None at is = refl
+        by false (Some p) at is =
+            ap (λ b. cond b None (stored_at are p)) (spare_apart made p (vacant_apart q p is))
+            ∙ ap (option_map stored_of) (added.put.others p (vacant_apart q p is))
+
+-- a spare place that is dropped was shown by no key
+module _ (old new : Places) (were are : Clocks) (room : Room) (dropped : DropsSpare old new were are room) where
+  drop_kept : (q : Key) (p : ℕ) → place_of new q ≡ Some p → (place_of old q ≡ Some p) × (is_spare (Some room) p ≡ false)
+  drop_kept q p is = by (place_of old q) (sym (dropped.places q) ∙ is)
+    where
+      at : (p r : ℕ) (b : Bool) → is_spare (Some room) r ≡ b → cond b None (Some r) ≡ Some p → (Some r ≡ Some p) × (is_spare (Some room) p ≡ false)
+      at p r true is h = cc
+      at p r false is h =
+          let same : r ≡ p = cc in
+          (h, ap (is_spare (Some room)) (sym same) ∙ is)
+
+      by : (o : Option ℕ) → unless_spare room o ≡ Some p → (o ≡ Some p) × (is_spare (Some room) p ≡ false)
+      by None h = cc
+      by (Some r) h = at p r (is_spare (Some room) r) refl h
+
+  drop_clock : (p : ℕ) → is_spare (Some room) p ≡ false → slab.get are p ≡ slab.get were p
+  drop_clock p away = dropped.clocks p ∙ ap (λ b. cond b None (slab.get were p)) away
+
+  pub tied_dropped : IsTied old were → IsTied new are
+  tied_dropped tied = record {
+    ordered = dropped.ordered;
+    held = λ q p is. let o = drop_kept q p is in ap is_some (drop_clock p o.1) ∙ tied.held q p o.0;
+    one = λ a b p x y. tied.one a b p (drop_kept a p x).0 (drop_kept b p y).0;
+    used = λ p is. used p (is_spare (Some room) p) refl is;
+  }
+    where
+      used : (p : ℕ) (b : Bool) → is_spare (Some room) p ≡ b → IsSome (slab.get are p) → (k : Key) × (place_of new k ≡ Some p)
+      used p true at is = clash (sym is ∙ ap is_some (dropped.clocks p ∙ ap (λ b. cond b None (slab.get were p)) at))
+      used p false at is =
+          let k = tied.used p (sym (ap is_some (drop_clock p at)) ∙ is) in
+          (k.0, dropped.places k.0 ∙ ap (unless_spare room) k.1 ∙ ap (λ b. cond b None (Some p)) at)
+
+  pub dropped_shown : (q : Key) → shown_of new are None q ≡ shown_of old were (Some room) q
+  dropped_shown q = ap (option_and_then (shown_at are None)) (dropped.places q) ∙ by (place_of old q)
+    where
+      at : (p : ℕ) (b : Bool) → is_spare (Some room) p ≡ b → option_and_then (shown_at are None) (cond b None (Some p)) ≡ cond b None (stored_at were p)
+      at p true is = refl
+      at p false is = ap (option_map stored_of) (drop_clock p is)
+
+      by : (o : Option ℕ) → option_and_then (shown_at are None) (unless_spare room o) ≡ option_and_then (shown_at were (Some room)) o
+      by None = refl
+      by (Some p) = at p (is_spare (Some room) p) refl
+
+-- a write at the place of a key shows what was written there
+module _ (places : Places) (old new : Clocks) (room : Room) (key : Key) (actor : Actor) (change : DotState (Option Content) → DotState (Option Content))
+    (tied : IsTied places old) (placed : place_of places key ≡ Some room.place) (wrote : WritesAt old new room.place actor change) where
+  abbrev pub after : Stored Content
+  after = record { own = Some actor; clock = change wrote.stored.clock.meaning }
+
+  pub written_shown : (q : Key) → shown_of places new None q ≡ cond (is_at (key_cmp key) q) (Some after) (shown_of places old (Some room) q)
+  written_shown q = by (is_at (key_cmp key) q) (place_of places q) refl refl
+    where
+      by : (b : Bool) (o : Option ℕ) → is_at (key_cmp key) q ≡ b → place_of places q ≡ o
+          → option_and_then (shown_at new None) o ≡ cond b (Some after) (option_and_then (shown_at old (Some room)) o)
+      by true o at is = ap (option_and_then (shown_at new None)) (sym is ∙ ap (place_of places) (sym (same_key key q at)) ∙ placed) ∙ wrote.now
+      by false None at is = refl
+      by false (Some p) at is =
+          let away = apart places old tied key q room.place p placed is at in
+          ap (option_map stored_of) (wrote.others p away) ∙ sym (ap (λ b. cond b None (stored_at old p)) (spare_apart room p away))
+
+  -- the clock of a key is the one at its place
+  pub clock_shown : (room.is_new ≡ true → (stored : Stored Content) → stored_at old room.place ≡ Some stored → stored.clock ≡ empty)
+      → clock_at (keys_in (shown_at old (Some room)) places.entries) key ≡ wrote.stored.clock.meaning
+  clock_shown new_empty =
+      ap (λ o. option_map_or (λ (s : Stored Content). s.clock) o empty)
+      (find_shown (shown_at old (Some room)) key places.entries tied.ordered ∙ ap (option_and_then (shown_at old (Some room))) placed)
+      ∙ by room.is_new refl
+    where
+      stored : stored_at old room.place ≡ Some (stored_of wrote.stored)
+      stored = ap (option_map stored_of) wrote.was
+
+      by : (b : Bool) → room.is_new ≡ b → option_map_or (λ (s : Stored Content). s.clock) (cond (b && (room.place == room.place)) None (stored_at old room.place)) empty ≡ wrote.stored.clock.meaning
+      by true is =
+          ap (λ b. option_map_or (λ (s : Stored Content). s.clock) (cond b None (stored_at old room.place)) empty) (nat_eq-refl room.place)
+          ∙ sym (new_empty is (stored_of wrote.stored) stored)
+      by false is = ap (λ o. option_map_or (λ (s : Stored Content). s.clock) o empty) stored
+
+  pub written_keys : (room.is_new ≡ true → (stored : Stored Content) → stored_at old room.place ≡ Some stored → stored.clock ≡ empty)
+      → keys_in (shown_at new None) places.entries
+      ≡ put key_cmp key (record { own = Some actor; clock = change (clock_at (keys_in (shown_at old (Some room)) places.entries) key) }) (keys_in (shown_at old (Some room)) places.entries)
+  written_keys new_empty =
+      keys_put (shown_at old (Some room)) (shown_at new None) places places tied.ordered tied.ordered key after written_shown
+      ∙ ap (λ clock. put key_cmp key (record { own = Some actor; clock = change clock }) (keys_in (shown_at old (Some room)) places.entries)) (sym (clock_shown new_empty))
+
+-- the room, by what is reserved
+pub record ReservedAt (places : Places) (clocks : Clocks) (room : Room) (key : Key) (reserved : Reservation) : Type 0 where
+  pub placed : place_of places key ≡ Some room.place
+  pub stored : StoredClock
+  pub is : slab.get clocks room.place ≡ Some stored
+  pub clock : reserved.clock ≡ stored.clock
+  pub may_die : reserved.may_die ≡ room.may_die
+
+pub reserved_at : (places : Places) (clocks : Clocks) (room : Room) (key : Key) (reserved : Reservation) → IsTied places clocks
+    → reserved_in places clocks (Some room) ≡ Some reserved → reserved.key ≡ key → ReservedAt places clocks room key reserved
+reserved_at places clocks room key reserved tied is same = by (key_at room.place places.entries) (slab.get clocks room.place) refl refl is
+  where
+    by : (o : Option Key) (c : Option StoredClock) → key_at room.place places.entries ≡ o → slab.get clocks room.place ≡ c
+        → option_and_then (λ key. option_map (λ (stored : StoredClock). (let r : Reservation = record { key = key; clock = stored.clock; may_die = room.may_die } in r)) c) o ≡ Some reserved
+        → ReservedAt places clocks room key reserved
+    by None c at is h = cc
+    by (Some k) None at is h = cc
+    by (Some k) (Some stored) at is h =
+        let made : Reservation = record { key = k; clock = stored.clock; may_die = room.may_die } in
+        let eq : made ≡ reserved = cc in
+        let k_is : k ≡ key = ap (λ (r : Reservation). r.key) eq ∙ same in
+        record {
+          placed = ap (place_of places) (sym k_is) ∙ key_at-place room.place places.entries k tied.ordered at;
+          stored = stored;
+          is = is;
+          clock = sym (ap (λ (r : Reservation). r.clock) eq);
+          may_die = sym (ap (λ (r : Reservation). r.may_die) eq);
+        }
+
+-- and the way back
+pub reserved_for : (places : Places) (clocks : Clocks) (room : Room) (key : Key) (stored : StoredClock) → IsTied places clocks → place_of places key ≡ Some room.place
+    → slab.get clocks room.place ≡ Some stored → reserved_in places clocks (Some room) ≡ Some (record { key = key; clock = stored.clock; may_die = room.may_die })
+reserved_for places clocks room key stored tied placed is = by (key_at room.place places.entries) refl (key_at-some room.place places.entries key placed)
+  where
+    made : Key → Option StoredClock → Option Reservation
+    made key c = option_map (λ stored. record { key = key; clock = stored.clock; may_die = room.may_die }) c
+
+    by : (o : Option Key) → key_at room.place places.entries ≡ o → IsSome o → option_and_then (λ key. made key (slab.get clocks room.place)) o ≡ Some (record { key = key; clock = stored.clock; may_die = room.may_die })
+    by None at some = cc
+    by (Some k) at some =
+        let same : k ≡ key = tied.one k key room.place (key_at-place room.place places.entries k tied.ordered at) placed in
+        ap (made k) is ∙ ap (λ key. made key (Some stored)) same
+
+-- the entries of other places, and the slab without the clock of this one
+pub emptied : (old new : Places) (were are : Clocks) (room : Room) → room.is_new ≡ true → IsOrdered key_cmp old → IsOrdered key_cmp new
+    → new.entries ≡ filter (λ e. not (room.place == e.1)) old.entries → slab.Updates were are room.place None → DropsSpare old new were are room
+emptied old new were are room new_is was ordered kept gone = record {
+  ordered = ordered;
+  places = λ q.
+      ap (λ es. lookup (is_at (key_cmp q)) es) kept
+      ∙ lookup-filter-values (eq_by_cmp_equiv key_cmp_total) (λ p. not (room.place == p)) q old.entries (IsDistinct-from_sorted key_cmp (keys_of old.entries) was)
+      ∙ by (place_of old q);
+  clocks = λ p. clock p (room.place == p) refl;
+}
+  where
+    turned : (p : ℕ) (b : Bool) → cond (not b) (Some p) None ≡ cond b None (Some p)
+    turned p true = refl
+    turned p false = refl
+
+    by : (o : Option ℕ) → option_filter (λ p. not (room.place == p)) o ≡ unless_spare room o
+    by None = refl
+    by (Some p) = turned p (room.place == p) ∙ ap (λ b. cond (b && (room.place == p)) None (Some p)) (sym new_is)
+
+    clock : (p : ℕ) (b : Bool) → (room.place == p) ≡ b → slab.get are p ≡ cond (room.is_new && (room.place == p)) None (slab.get were p)
+    clock p true at =
+        ap (slab.get are) (sym (nat_eq-same room.place p at)) ∙ gone.changed
+        ∙ (λ i. cond (sym new_is i && sym at i) None (slab.get were p))
+    clock p false at =
+        gone.others p (λ same. clash (sym (ap (λ q. room.place == q) same ∙ nat_eq-refl room.place) ∙ at))
+        ∙ (λ i. cond (sym new_is i && sym at i) None (slab.get were p))

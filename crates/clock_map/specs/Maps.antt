@@ -1,0 +1,91 @@
+-- What a map of clocks means: the keys that its places show, and the room that was made.
+use Rattle.std.specs.Prelude.{◌≡◌, ◌==◌, ℕ, Bool, true, false, not, List, [], ◌∷◌, is_some, IsSome, if◌then◌else◌, Option, Some, None, option_and_then, option_map}
+use Rattle.std.specs.List.{list_any}
+use Rattle.slab.specs.Slab as slab
+use Rattle.riak_msgs.specs.declared.Key.{Key}
+use Rattle.riak_msgs.specs.declared.Content.{Content}
+use Rattle.riak_msgs.specs.KeyOrder.{key_cmp}
+use Rattle.std.specs.BTreeMap as tree
+use Rattle.vnode_machine.specs.Machine.{Stored}
+use Rattle.clock_store.specs.Keys.{Keys, empty}
+use Rattle.clock_store.specs.Contents.{Contents, Reservation}
+use Rattle.clock_map.specs.declared.index.DeadMark.TheVariants.{Spare}
+use Rattle.clock_map.specs.declared.room.Room.{Room}
+use Rattle.clock_map.specs.declared.map.ClockMap.TheInside.{Inside}
+use Rattle.clock_map.specs.Index.{Index, is_marked}
+use Rattle.clock_map.specs.Places.{Places, Clocks, place_of, stored_at, is_spare, IsTied}
+
+-- tombstones alone
+abbrev pub is_dead : Option (Stored Content) → Bool
+is_dead None = false
+is_dead (Some stored) = not (list_any (λ entry. is_some entry.1) stored.clock.live)
+
+-- what is shown at a place: nothing at a spare one
+abbrev pub shown_at : Clocks → Option Room → ℕ → Option (Stored Content)
+shown_at clocks room place = if is_spare room place then None else stored_at clocks place
+
+-- what is shown of a key
+abbrev pub shown_of : Places → Clocks → Option Room → Key → Option (Stored Content)
+shown_of places clocks room key = option_and_then (shown_at clocks room) (place_of places key)
+
+abbrev pub with_shown : Key → Option (Stored Content) → Keys → Keys
+with_shown key None keys = keys
+with_shown key (Some stored) keys = (key, stored) ∷ keys
+
+-- the keys in their order, each with what is shown at its place, but those at which nothing is
+abbrev pub keys_in : (ℕ → Option (Stored Content)) → List (Key × ℕ) → Keys
+keys_in shows [] = []
+keys_in shows (entry ∷ entries) = with_shown entry.0 (shows entry.1) (keys_in shows entries)
+
+-- the key of a place
+abbrev pub key_at : ℕ → List (Key × ℕ) → Option Key
+key_at place [] = None
+key_at place (entry ∷ entries) = if entry.1 == place then Some entry.0 else key_at place entries
+
+-- the room that was made, by the key of its place and the clock there
+abbrev pub reserved_in : Places → Clocks → Option Room → Option Reservation
+reserved_in places clocks None = None
+reserved_in places clocks (Some room) =
+    option_and_then
+    (λ key. option_map (λ stored. record { key = key; clock = stored.clock; may_die = room.may_die })
+    (slab.get clocks room.place))
+    (key_at room.place places.entries)
+
+abbrev pub view_of : Inside → Contents
+view_of v = record {
+  keys = keys_in (shown_at v.clocks v.room) v.places.entries;
+  room = reserved_in v.places v.clocks v.room;
+}
+
+-- the room is this key's
+pub record IsReservedFor (room : Option Reservation) (key : Key) : Type 0 where
+  pub reserved : Reservation
+  pub is : room ≡ Some reserved
+  pub same : reserved.key ≡ key
+
+abbrev pub allowing_death : Option Reservation → Option Reservation
+allowing_death room =
+    option_map {T = Reservation} (λ reserved. record reserved { may_die = true }) room
+
+-- the room is at the place of this key; a new key's clock is empty; a key that may die has an entry in the index
+pub record IsRoomOf (places : Places) (clocks : Clocks) (dead : Index) (room : Room) (key : Key) : Type 0 where
+  pub placed : place_of places key ≡ Some room.place
+  pub empty : room.is_new ≡ true → (stored : Stored Content) → stored_at clocks room.place ≡ Some stored → stored.clock ≡ empty
+  pub mark : room.may_die ≡ true → IsSome (tree.get key_cmp dead key)
+
+abbrev pub IsRoom : Places → Clocks → Index → Option Room → Type 0
+IsRoom places clocks dead None = Unit {0}
+IsRoom places clocks dead (Some room) = (key : Key) × IsRoomOf places clocks dead room key
+
+-- a spare entry of the index is the present reservation's
+abbrev pub MayDie : Places → Option Room → Key → Type 0
+MayDie places made key =
+    (r : Room) × (made ≡ Some r) × (r.may_die ≡ true) × (place_of places key ≡ Some r.place)
+
+-- each key's place names its clock alone, and the index marks the dead keys and no other; no entry of either is spare
+-- but those of the room, since the keys that are shown lack only the room's
+pub record IsMap (places : Places) (clocks : Clocks) (dead : Index) (made : Option Room) : Type 0 where
+  pub tied : IsTied places clocks
+  pub marks : (key : Key) → is_marked (tree.get key_cmp dead key) ≡ is_dead (shown_of places clocks made key)
+  pub spare : (key : Key) → tree.get key_cmp dead key ≡ Some Spare → MayDie places made key
+  pub room : IsRoom places clocks dead made

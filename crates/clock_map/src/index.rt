@@ -1,0 +1,106 @@
+//! The dead keys in their order.
+
+ghost use Rattle.std.specs.Prelude.{◌≡◌, true, OnOk, OnErr, IsSome, None};
+ghost use Rattle.std.specs.BTreeMap.{get, IsOrdered};
+ghost use Rattle.riak_msgs.specs.KeyOrder.{key_cmp};
+ghost use Rattle.std.specs.Option.{option_map};
+ghost use Rattle.clock_store.specs.Forgetting.{key_given};
+ghost use Rattle.clock_map.specs.Index.{is_marked, mark_of, without_spare, SpareIsNew, is_dead_mark, first_marked};
+
+use riak_msgs::Key;
+use std::alloc::{AllocError, Global};
+use std::collections::BTreeMap;
+use std::collections::btree_map::Range;
+
+/// What stands at a key of the index.
+#[derive(Clone, Copy, Debug, Drop, PartialEq, Eq)]
+pub(crate) enum DeadMark {
+    /// The key isn't dead: the entry is a spare one, for a write after which it may be.
+    Spare,
+    /// The key is dead.
+    Dead,
+}
+
+impl DeadMark {
+    /// Whether the key is dead.
+    pub(crate) fn is_dead(&self) -> bool
+        ensures { result ≡ is_dead_mark self.now }
+    {
+        match self {
+            DeadMark::Spare => false,
+            DeadMark::Dead => true,
+        }
+    }
+}
+
+/// Makes a spare entry for a key, where it has none. Refused where memory is, and then nothing changes.
+pub(crate) fn add_spare(
+    index: &mut BTreeMap<Key, DeadMark>,
+    alloc: Global,
+    key: &Key,
+) -> Result<(), AllocError>
+    ensures marked { (q : Key) →
+        is_marked (get key_cmp index.new q) ≡ is_marked (get key_cmp index.old q) }
+    ensures spare { (q : Key) → SpareIsNew index.old index.new key.now q }
+    ensures ok { OnOk result (IsSome (get key_cmp index.new key.now)) }
+    ensures err { OnErr result ((q : Key) → get key_cmp index.new q ≡ get key_cmp index.old q) }
+{
+    if index.contains_key(key) {
+        return Ok(());
+    }
+    let own = key.clone(alloc)?;
+    match index.insert(own, DeadMark::Spare) {
+        Ok(_) => Ok(()),
+        Err(_) => Err(AllocError),
+    }
+}
+
+/// Marks a key dead, or takes its entry out. It takes no memory.
+pub(crate) fn set_mark(index: &mut BTreeMap<Key, DeadMark>, key: &Key, is_dead: bool)
+    requires { is_dead ≡ true → IsSome (get key_cmp index.old key.now) }
+    ensures { (q : Key) →
+        get key_cmp index.new q ≡ mark_of key.now is_dead q (get key_cmp index.old q) }
+{
+    if is_dead {
+        let Some(mark) = index.get_mut(key) else {
+            unreachable!()
+        };
+        *mark = DeadMark::Dead;
+    } else {
+        let _ = index.remove(key);
+    }
+}
+
+/// Takes the spare entries out, by a pass over all of them.
+pub(crate) fn drop_spares(index: &mut BTreeMap<Key, DeadMark>)
+    ensures { (q : Key) → get key_cmp index.new q ≡ without_spare (get key_cmp index.old q) }
+{
+    index.retain(|_key, mark| mark.is_dead());
+}
+
+/// The first dead key of a part of the index.
+fn first_in<'a>(entries: Range<'a, Key, DeadMark>) -> Option<&'a Key>
+    ensures { option_map (λ key. key.now) result ≡ first_marked None entries.entry }
+{
+    for (key, mark) in entries {
+        if mark.is_dead() {
+            return Some(key);
+        }
+    }
+    None
+}
+
+/// The least dead key at or after one, or of all where none is given. It passes over spare entries.
+pub(crate) fn first_dead<'a>(
+    index: &'a BTreeMap<Key, DeadMark>,
+    from: Option<&Key>,
+) -> Option<&'a Key>
+    ensures first { option_map (λ key. key.now) result
+        ≡ first_marked (key_given from.entry) index.now.entries }
+    ensures ordered { IsOrdered key_cmp index.now }
+{
+    match from {
+        None => first_in(index.range(..)),
+        Some(from) => first_in(index.range(from..)),
+    }
+}

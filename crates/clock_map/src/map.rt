@@ -1,0 +1,219 @@
+//! The map of clocks.
+
+ghost use Rattle.std.specs.Prelude.{◌≡◌, OnOk, OnErr, None, true};
+ghost use Rattle.dvv_set.specs.Held.{IsWithin, pairs_of as seen_in};
+ghost use Rattle.clock_store.specs.Keys.{clock_at};
+ghost use Rattle.clock_store.specs.Contents.{HasRoom};
+ghost use Rattle.clock_store.specs.declared.store.WriteKind.TheVariants.{Value};
+
+use crate::index::{self, DeadMark};
+use crate::places;
+use crate::room::{Room, is_spare};
+use actor_epoch::{Actor, Context};
+use clock_store::{ClockStore, Reaped, StoredClock, WriteKind};
+use riak_msgs::{Content, Key};
+use slab::Slab;
+use std::alloc::{AllocError, Global};
+use std::collections::BTreeMap;
+use std::marker::Model;
+
+/// Keys in their order, each with the place of its clock in a slab, the dead keys in theirs, and room for one write.
+///
+/// Each key's place names its clock and no other key's, and each clock is some key's. The index has the dead keys and no
+/// other. A place or an entry of the index that was made for a write is no key and no mark; there is none but those of
+/// the present reservation, and the next `reserve` or `drop_room` takes away what its write didn't use.
+///
+/// A life, of the keys b/k and b/j and the actor a:
+///
+/// - `reserve` of b/k for a value: b/k has the place 0, a spare one, and is no key of the map.
+/// - `write` of "v": the clock at 0 has "v", and b/k is a key.
+/// - `reserve` of b/j for a tombstone: b/j has the spare place 1, and a spare entry in the index.
+/// - `reserve` of b/k for a tombstone: both are gone, and b/k has a spare entry in the index.
+/// - `overwrite` of b/k by a tombstone: that entry marks b/k dead.
+/// - `forget_first_dead`: the place 0, the key and the entry are gone.
+#[derive(Drop)]
+pub struct ClockMap {
+    places: BTreeMap<Key, usize>,
+    clocks: Slab<StoredClock>,
+    dead: BTreeMap<Key, DeadMark>,
+    room: Option<Room>,
+}
+
+impl Model for ClockMap {
+    ghost use Rattle.clock_store.specs.Contents.{Contents};
+    ghost use Rattle.clock_map.specs.Maps.{view_of, IsMap};
+
+    ghost Value = { Contents };
+
+    ghost view = { view_of };
+
+    ghost invariant = { λ m. IsMap m.places m.clocks m.dead m.room };
+}
+
+impl ClockMap {
+    ghost use Rattle.clock_store.specs.Forgetting.{holding, reap_result};
+    ghost use Rattle.clock_map.specs.Maps.{IsReservedFor, allowing_death};
+
+    /// Makes room in the clock of a key that is held, or at a spare place. Refused where memory is.
+    fn make_room(
+        &mut self,
+        alloc: Global,
+        key: &Key,
+        seen: Option<&Context<'_>>,
+        actor: Actor,
+    ) -> Result<(), AllocError>
+        requires none { self.old.room ≡ None }
+        requires fits { IsWithin (clock_at self.old.keys key.now).known (seen_in seen) actor }
+        ensures same { self.new.keys ≡ self.old.keys }
+        ensures ok { OnOk result (HasRoom self.new key.now (seen_in seen.entry) actor Value) }
+        ensures err { OnErr result (self.new.room ≡ None) }
+    {
+        match self.places.get(key) {
+            Some(place) => {
+                let place = *place;
+                places::reserve_at(&mut self.clocks, place, seen, actor)?;
+                self.room = Some(Room::at(place, false));
+                return Ok(());
+            }
+            None => {}
+        }
+        let place = places::add(&mut self.places, &mut self.clocks, alloc, key, seen, actor)?;
+        self.room = Some(Room::at(place, true));
+        Ok(())
+    }
+
+    /// Makes a place in the index of dead keys for the key that has room. Refused where memory is, and then nothing
+    /// changes.
+    fn allow_death(&mut self, alloc: Global, key: &Key) -> Result<(), AllocError>
+        requires { IsReservedFor self.old.room key.now }
+        ensures same { self.new.keys ≡ self.old.keys }
+        ensures ok { OnOk result (self.new.room ≡ allowing_death self.old.room) }
+        ensures err { OnErr result (self.new.room ≡ self.old.room) }
+    {
+        index::add_spare(&mut self.dead, alloc, key)?;
+        let Some(mut room) = self.room else {
+            unreachable!()
+        };
+        room.may_die = true;
+        self.room = Some(room);
+        Ok(())
+    }
+
+    /// What a reap of a key would come to.
+    fn reap_result(&self, key: &Key) -> Reaped
+        ensures { result ≡ reap_result (holding self.now.keys) key.now }
+    {
+        match self.get(key) {
+            None => Reaped::Absent,
+            Some(stored) => {
+                if stored.has_value() {
+                    return Reaped::Kept;
+                }
+                Reaped::Gone
+            }
+        }
+    }
+}
+
+impl ClockStore for ClockMap {
+    ghost shows = { λ m. m };
+
+    fn new(alloc: Global) -> ClockMap {
+        ClockMap {
+            places: BTreeMap::new(alloc),
+            clocks: Slab::new(alloc),
+            dead: BTreeMap::new(alloc),
+            room: None,
+        }
+    }
+
+    fn get(&self, key: &Key) -> Option<&StoredClock> {
+        match self.places.get(key) {
+            None => None,
+            Some(place) => {
+                if is_spare(&self.room, *place) {
+                    return None;
+                }
+                self.clocks.get(*place)
+            }
+        }
+    }
+
+    fn reserve(
+        &mut self,
+        alloc: Global,
+        key: &Key,
+        seen: Option<&Context<'_>>,
+        actor: Actor,
+        kind: WriteKind,
+    ) -> Result<(), AllocError> {
+        self.drop_room();
+        self.make_room(alloc, key, seen, actor)?;
+        match kind {
+            WriteKind::Value => Ok(()),
+            WriteKind::Tombstone => {
+                if self.allow_death(alloc, key).is_err() {
+                    self.drop_room();
+                    return Err(AllocError);
+                }
+                Ok(())
+            }
+        }
+    }
+
+    fn drop_room(&mut self) {
+        if let Some(room) = self.room.take() {
+            places::drop_spare(&mut self.places, &mut self.clocks, room);
+            index::drop_spares(&mut self.dead);
+        }
+    }
+
+    fn write(
+        &mut self,
+        key: Key,
+        seen: Option<&Context<'_>>,
+        actor: Actor,
+        value: Option<Content>,
+    ) {
+        let Some(room) = self.room.take() else {
+            unreachable!()
+        };
+        let lives = places::write_at(&mut self.clocks, room.place, seen, actor, value);
+        index::set_mark(&mut self.dead, &key, !lives);
+    }
+
+    fn overwrite(&mut self, key: Key, actor: Actor, value: Option<Content>) {
+        let Some(room) = self.room.take() else {
+            unreachable!()
+        };
+        let lives = places::overwrite_at(&mut self.clocks, room.place, actor, value);
+        index::set_mark(&mut self.dead, &key, !lives);
+    }
+
+    fn has_dead(&self, from: Option<&Key>) -> bool {
+        index::first_dead(&self.dead, from).is_some()
+    }
+
+    fn forget_dead(&mut self, key: &Key) -> Reaped {
+        self.drop_room();
+        match self.reap_result(key) {
+            Reaped::Absent => Reaped::Absent,
+            Reaped::Kept => Reaped::Kept,
+            Reaped::Gone => {
+                let _own = places::remove(&mut self.places, &mut self.clocks, key);
+                index::set_mark(&mut self.dead, key, false);
+                Reaped::Gone
+            }
+        }
+    }
+
+    fn forget_first_dead(&mut self, from: Option<&Key>) -> bool {
+        self.drop_room();
+        let Some(key) = index::first_dead(&self.dead, from) else {
+            return false;
+        };
+        let own = places::remove(&mut self.places, &mut self.clocks, key);
+        index::set_mark(&mut self.dead, &own, false);
+        true
+    }
+}

@@ -1,0 +1,169 @@
+//! Keys, and the places of their clocks in a slab.
+
+ghost use Rattle.std.specs.Prelude.{◌≡◌, [], IfOk, OnOk, OnErr, None, IsSome};
+ghost use Rattle.dvv_set.specs.Clocks.{event, discard};
+ghost use Rattle.dvv_set.specs.Held.{IsWithin, IsReady, without, pairs_of as seen_in};
+ghost use Rattle.clock_store.specs.Keys.{empty};
+ghost use Rattle.clock_map.specs.Places.{place_of, lives_at, FitsAt, IsReadyAt, StoresSame, WritesAt, AddsAt, Unchanged, RemovesAt, DropsSpare};
+
+use crate::room::Room;
+use actor_epoch::{Actor, Context};
+use clock_store::StoredClock;
+use dvv_set::Clock;
+use riak_msgs::{Content, Key};
+use slab::Slab;
+use std::alloc::{AllocError, Global};
+use std::collections::BTreeMap;
+
+/// Makes room for a write in the clock at a place. Refused where memory is.
+pub(crate) fn reserve_at(
+    clocks: &mut Slab<StoredClock>,
+    place: usize,
+    seen: Option<&Context<'_>>,
+    actor: Actor,
+) -> Result<(), AllocError>
+    requires { FitsAt clocks.old place (seen_in seen) actor }
+    ensures same { StoresSame clocks.old clocks.new }
+    ensures ok { OnOk result (IsReadyAt clocks.new place (seen_in seen.entry) actor) }
+{
+    let Some(stored) = clocks.get_mut(place) else {
+        unreachable!()
+    };
+    stored.reserve(seen, actor)
+}
+
+/// Writes in the room at a place; says whether there is a value now.
+pub(crate) fn write_at(
+    clocks: &mut Slab<StoredClock>,
+    place: usize,
+    seen: Option<&Context<'_>>,
+    actor: Actor,
+    value: Option<Content>,
+) -> bool
+    requires { IsReadyAt clocks.old place (seen_in seen) actor }
+    ensures wrote { WritesAt clocks.old clocks.new place actor
+        (λ clock. event actor value (without (seen_in seen.entry) clock)) }
+    ensures lives { result ≡ lives_at clocks.new place }
+{
+    let Some(stored) = clocks.get_mut(place) else {
+        unreachable!()
+    };
+    stored.write(seen, actor, value);
+    stored.has_value()
+}
+
+/// Writes in the room at a place, over all that is there; says whether there is a value now.
+pub(crate) fn overwrite_at(
+    clocks: &mut Slab<StoredClock>,
+    place: usize,
+    actor: Actor,
+    value: Option<Content>,
+) -> bool
+    requires { IsReadyAt clocks.old place None actor }
+    ensures wrote { WritesAt clocks.old clocks.new place actor
+        (λ clock. event actor value (discard clock.known clock)) }
+    ensures lives { result ≡ lives_at clocks.new place }
+{
+    let Some(stored) = clocks.get_mut(place) else {
+        unreachable!()
+    };
+    stored.overwrite(actor, value);
+    stored.has_value()
+}
+
+/// An empty clock with room for a write.
+fn empty_clock(
+    alloc: Global,
+    seen: Option<&Context<'_>>,
+    actor: Actor,
+) -> Result<StoredClock, AllocError>
+    requires { IsWithin [] (seen_in seen) actor }
+    ensures empty { IfOk result (λ stored. stored.clock.meaning ≡ empty) }
+    ensures ready { IfOk result (λ stored. IsReady stored.clock (seen_in seen.entry) actor) }
+{
+    let mut clock = Clock::new(alloc);
+    clock.reserve(seen, actor)?;
+    Ok(StoredClock { actor, clock })
+}
+
+/// Puts a new key's clock at a place of its own. Refused where memory is, and then nothing changes.
+fn put_new(
+    places: &mut BTreeMap<Key, usize>,
+    clocks: &mut Slab<StoredClock>,
+    key: Key,
+    stored: StoredClock,
+    seen: Option<&Context<'_>>,
+    actor: Actor,
+) -> Result<usize, AllocError>
+    requires empty { stored.clock.meaning ≡ empty }
+    requires ready { IsReady stored.clock (seen_in seen) actor }
+    ensures ok { IfOk result (λ place.
+        AddsAt places.old places.new clocks.old clocks.new key place (seen_in seen.entry) actor) }
+    ensures err { OnErr result (Unchanged places.old places.new clocks.old clocks.new) }
+{
+    let _seen = seen;
+    let _actor = actor;
+    let _count = places.len();
+    clocks.reserve(1)?;
+    let place = clocks.vacant_key();
+    match places.insert(key, place) {
+        Ok(_) => {
+            let _place = clocks.insert_reserved(stored);
+            Ok(place)
+        }
+        Err(_) => Err(AllocError),
+    }
+}
+
+/// Adds a key with an empty clock that has room for a write. Refused where memory is, and then nothing changes.
+pub(crate) fn add(
+    places: &mut BTreeMap<Key, usize>,
+    clocks: &mut Slab<StoredClock>,
+    alloc: Global,
+    key: &Key,
+    seen: Option<&Context<'_>>,
+    actor: Actor,
+) -> Result<usize, AllocError>
+    requires { IsWithin [] (seen_in seen) actor }
+    ensures ok { IfOk result (λ place.
+        AddsAt places.old places.new clocks.old clocks.new key.now place (seen_in seen.entry) actor) }
+    ensures err { OnErr result (Unchanged places.old places.new clocks.old clocks.new) }
+{
+    let _count = places.len();
+    let own = key.clone(alloc)?;
+    let stored = empty_clock(alloc, seen, actor)?;
+    put_new(places, clocks, own, stored, seen, actor)
+}
+
+/// Removes a key that has a place, with its clock; returns the key as it was held.
+pub(crate) fn remove(
+    places: &mut BTreeMap<Key, usize>,
+    clocks: &mut Slab<StoredClock>,
+    key: &Key,
+) -> Key
+    requires { IsSome (place_of places.old key.now) }
+    ensures key { result ≡ key.now }
+    ensures removed { RemovesAt places.old places.new clocks.old clocks.new key.now }
+{
+    let Some((own, place)) = places.remove_entry(key) else {
+        unreachable!()
+    };
+    let _ = clocks.try_remove(place);
+    own
+}
+
+/// Removes the key and the clock of a place that was made for a new key, by a pass over all keys.
+pub(crate) fn drop_spare(
+    places: &mut BTreeMap<Key, usize>,
+    clocks: &mut Slab<StoredClock>,
+    room: Room,
+)
+    ensures { DropsSpare places.old places.new clocks.old clocks.new room }
+{
+    let _count = places.len();
+    if !room.is_new {
+        return;
+    }
+    places.retain(|_key, place| room.place != *place);
+    let _ = clocks.try_remove(room.place);
+}

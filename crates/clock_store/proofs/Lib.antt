@@ -1,0 +1,2 @@
+pub mod Reaps
+pub mod Values

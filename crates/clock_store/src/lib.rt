@@ -1,0 +1,20 @@
+//! The storage of a vnode: what is stored of each key, and room for one write.
+//!
+//! A store means the keys in their order, each with the actor of its life and its clock, and the room that was made for
+//! one write (`Contents` in `specs/Contents`). [`ClockStore`] is what each form of storage promises over that meaning;
+//! a form says by its ghost view `shows` what its own bytes mean, and where it keeps room is its own matter. What a write
+//! leaves of the keys is `written` and `overwritten` in `specs/Keys`, what a reap leaves is in `specs/Forgetting`.
+//!
+//! Memory is taken by `reserve` alone, before a write is accepted: a write, a reap and a look take none and can't be
+//! refused. A form may be asked for room again and again without a write between: the next `reserve` or `drop_room`
+//! ends the room before it.
+//!
+//! Sources: the documentation of Riak's Protocol Buffers client API for tombstones and reaps; dotted version vector sets
+//! for clocks.
+#![tactic(auto)]
+
+mod store;
+mod stored_clock;
+
+pub use store::{ClockStore, Reaped, WriteKind};
+pub use stored_clock::StoredClock;

@@ -1,0 +1,91 @@
+//! What is stored of one key.
+
+ghost use Rattle.std.specs.Prelude.{◌≡◌, OnOk, None, is_some};
+ghost use Rattle.std.specs.List.{list_any};
+ghost use Rattle.dvv_set.specs.Clocks.{event, discard};
+ghost use Rattle.dvv_set.specs.Held.{IsWithin, IsReady, without, pairs_of as seen_in};
+ghost use Rattle.vnode_machine.specs.Machine.{same_pairs};
+ghost use Rattle.clock_store.specs.Keys.{stored_of};
+
+use actor_epoch::{Actor, Context};
+use dvv_set::Clock;
+use riak_msgs::Content;
+use std::alloc::AllocError;
+
+/// What is stored of a key: the actor of its life, and its clock, whose live dots are its siblings, each a content or, as
+/// None, a tombstone.
+///
+/// A life, at the actor a: written "v" without a context, it has a's dot 1 with "v". Written "w" by the context (a, 1),
+/// it has dot 2 with "w" alone. Overwritten by a tombstone, it has dot 3 with None alone, and is dead: `has_value` is
+/// false.
+#[derive(Drop)]
+pub struct StoredClock {
+    /// The actor of its key's life.
+    pub actor: Actor,
+    /// What is known of it, and its siblings.
+    pub clock: Clock<Option<Content>>,
+}
+
+impl StoredClock {
+    /// Whether a sibling is a content; the key is dead where none is. It looks through the siblings.
+    pub fn has_value(&self) -> bool
+        ensures { result ≡ list_any (λ entry. is_some entry.1) self.now.clock.meaning.live }
+    {
+        for value in self.clock.values() {
+            if value.is_some() {
+                return true;
+            }
+        }
+        false
+    }
+
+    /// Whether a context has the pairs that the clock knows.
+    pub fn matches_clock(&self, context: &Context<'_>) -> bool
+        ensures { result ≡ same_pairs context.now self.now.clock.meaning.known }
+    {
+        let mut known = self.clock.join();
+        for pair in context.pairs() {
+            match known.next() {
+                None => return false,
+                Some(other) => {
+                    if pair != other {
+                        return false;
+                    }
+                }
+            }
+        }
+        known.next().is_none()
+    }
+
+    /// Makes room for a write at an actor, which discards what a context has seen (None: nothing). Refused where memory
+    /// is; either way what is stored stays.
+    pub fn reserve(&mut self, seen: Option<&Context<'_>>, actor: Actor) -> Result<(), AllocError>
+        requires { IsWithin self.old.clock.meaning.known (seen_in seen) actor }
+        ensures same { stored_of self.new ≡ stored_of self.old }
+        ensures ok { OnOk result (IsReady self.new.clock (seen_in seen.entry) actor) }
+    {
+        self.clock.reserve(seen, actor)?;
+        Ok(())
+    }
+
+    /// Writes a value in that room, or a tombstone. It takes no memory.
+    pub fn write(&mut self, seen: Option<&Context<'_>>, actor: Actor, value: Option<Content>)
+        requires { IsReady self.old.clock (seen_in seen) actor }
+        ensures actor { self.new.actor ≡ actor }
+        ensures clock { self.new.clock.meaning ≡ event actor value (without (seen_in seen.entry) self.old.clock.meaning) }
+    {
+        self.actor = actor;
+        self.clock.put_ready(seen, actor, value);
+    }
+
+    /// Writes a value, or a tombstone, in place of all values, in the room that was made for it without a context. It
+    /// takes no memory.
+    pub fn overwrite(&mut self, actor: Actor, value: Option<Content>)
+        requires { IsReady self.old.clock None actor }
+        ensures actor { self.new.actor ≡ actor }
+        ensures clock { self.new.clock.meaning ≡ event actor value (discard self.old.clock.meaning.known self.old.clock.meaning) }
+    {
+        self.actor = actor;
+        self.clock.overwrite_ready(actor, value);
+    }
+}

@@ -1,0 +1,6 @@
+use Rattle.std.proofs.Common.{◌≡◌}
+use Rattle.gate_tests.proofs.tests.reaping.bury_five.Given as goal
+
+-- the pass stays one of the gate's
+abbrev pub invariant-loop-round : goal.invariant-loop-round
+invariant-loop-round g l = l.pass.gate ≡ l.gate

@@ -1,0 +1,25 @@
+use Rattle.std.proofs.Common.{◌∙◌, sym, ap, subst, refl}
+use Rattle.std.specs.Prelude.{Some}
+use Rattle.vnode_core.specs.Reaping.{key_given}
+use Rattle.vnode_core.specs.Vnodes.{fields, IsReadyFor, state_of}
+use Rattle.vnode_core.proofs.Reaping.{accepts-some}
+use Rattle.vnode_core.proofs.vnode.VnodeOver.make_first_reap_ready.Goals as goal
+
+pub invariant_of-self : goal.invariant_of-self
+invariant_of-self g c =
+    let v = fields c.self.inside.id c.self.inside.epochs c.self.inside.writes c.self.inside.tombstones c.self.inside.reaps (g.S.ClockStore.shows c.self.inside.store) c.self.inside.ready c.self.inside.prepared in
+    record {
+      reached = c.self.invariant.reached;
+      ready =
+          subst (IsReadyFor (state_of v) v.store v.ready) (sym (c.some.ensures ∙ ap Some c.requires.is))
+          (accepts-some (state_of v) c.self.invariant.reached (key_given c.args.from) (sym c.if-has_dead.true ∙ c.has_dead.ensures));
+    }
+
+pub returns-then-has_dead-clause-plans : goal.returns-then-has_dead-clause-plans
+returns-then-has_dead-clause-plans g c =
+    let v = fields c.self.inside.id c.self.inside.epochs c.self.inside.writes c.self.inside.tombstones c.self.inside.reaps (g.S.ClockStore.shows c.self.inside.store) c.self.inside.ready c.self.inside.prepared in
+    record {
+      is = refl;
+      prepared = c.some.ensures ∙ ap Some c.requires.is;
+      accepted = accepts-some (state_of v) c.self.invariant.reached (key_given c.args.from) (sym c.if-has_dead.true ∙ c.has_dead.ensures);
+    }

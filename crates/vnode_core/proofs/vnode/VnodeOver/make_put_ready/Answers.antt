@@ -1,0 +1,31 @@
+use Rattle.std.proofs.Common.{◌∙◌, sym, ap, subst}
+use Rattle.std.specs.Prelude.{Some}
+use Rattle.std.specs.Option.{option_map}
+use Rattle.riak_msgs.specs.declared.Content.{Content}
+use Rattle.actor_epoch.specs.declared.Actor.{Actor}
+use Rattle.actor_epoch.specs.Given.{Pairs, context_of}
+use Rattle.dvv_set.specs.Held.{IsWithin, pairs_of as seen_in}
+use Rattle.vnode_machine.specs.Machine.{State, clock_of}
+use Rattle.vnode_core.specs.Vnodes.{fields, IsReached}
+use Rattle.vnode_core.specs.declared.ready.Writer.{Writer}
+use Rattle.vnode_core.proofs.Reached.{within-put}
+use Rattle.vnode_core.proofs.Finishing.{put-ready}
+use Rattle.vnode_core.proofs.vnode.VnodeOver.make_put_ready.Goals as goal
+
+pub reserve-requires : goal.reserve-requires
+reserve-requires g c =
+    let state : State Content = c.args.self.now.state in
+    let put = c.args.put.now in
+    let seen = seen_in c.as_ref-seen.result in
+    let is : IsReached state = subst (λ w. IsReached w.state) c.self.view_is c.self.invariant.reached in
+    let given = ap context_of (sym c.as_slice.ensures) ∙ c.in_ok-context.ensures.ok ∙ ap (option_map Pairs) (sym c.as_ref-seen.ensures.value) in
+    let within = within-put state is put c.in_ok-ready.ensures.ok.free seen given in
+    subst (λ w. IsWithin (clock_of w.state put.key).known seen c.in_ok-ready.ready.writer.actor) (sym c.self.view_is)
+    (subst (λ (actor : Actor). IsWithin (clock_of state put.key).known seen actor) (sym (ap (λ (w : Writer). w.actor) c.in_ok-ready.ensures.ok.writer)) within)
+
+pub invariant_of-self : goal.invariant_of-self
+invariant_of-self g c =
+    let v = fields c.self.inside.id c.self.inside.epochs c.self.inside.writes c.self.inside.tombstones c.self.inside.reaps (g.S.ClockStore.shows c.self.inside.store) c.self.inside.ready c.self.inside.prepared in
+    let given = ap context_of (sym c.as_slice.ensures) ∙ c.in_ok-context.ensures.ok ∙ ap (option_map Pairs) (sym c.as_ref-seen.ensures.value) in
+    put-ready v c.self.invariant.reached c.args.self.now c.self.view_is c.args.put.now c.in_ok-ready.ready c.in_ok-ready.ensures.ok (seen_in c.as_ref-seen.result) given
+    (g.S.ClockStore.shows c.reserve.new.self) c.reserve.ensures.same c.in-Ok.ensures.ok c.set_ready.new.place c.set_ready.ensures c.some.result (c.some.ensures ∙ ap Some c.requires.is)

@@ -1,0 +1,312 @@
+//! The same asks to a vnode over each form of storage: the answers are the same, and so are the tallies.
+
+use crate::tests::asking::ID;
+use clock_list::ClockList;
+use clock_store::ClockStore;
+use riak_msgs::{Bytes, DelAsk, GetAsk, GetReply, Key, PutAsk, PutReply, Shown};
+use std::alloc::{AllocError, Global};
+use std::process::Abort;
+use vnode_core::{Answer, Ask, Plan, Reaped, Refusal, Vnode, VnodeOver};
+
+/// A vnode over the list form of storage.
+type ListVnode = VnodeOver<ClockList>;
+
+/// Bytes that look as drawn, the same in each run.
+#[derive(Drop)]
+struct Draws {
+    state: u64,
+}
+
+impl Draws {
+    /// The next byte.
+    fn next(&mut self) -> u8 {
+        self.state = self
+            .state
+            .wrapping_mul(6_364_136_223_846_793_005)
+            .wrapping_add(1_442_695_040_888_963_407);
+        let bytes = self.state.to_le_bytes();
+        bytes[6]
+    }
+}
+
+/// What is asked.
+#[derive(Clone, Copy)]
+enum Command {
+    Get,
+    Put,
+    Del,
+    Reap,
+    ReapFirst,
+}
+
+/// One ask: of a key, by a context, with a value.
+#[derive(Clone, Copy)]
+struct Step<'a> {
+    command: Command,
+    key: &'a [u8],
+    context: &'a [u8],
+    value: &'a [u8],
+    return_body: bool,
+}
+
+/// What an ask was answered: what was shown, and the context.
+#[derive(Drop)]
+struct Told {
+    shown: Vec<u8>,
+    context: Vec<u8>,
+}
+
+impl Told {
+    fn new(alloc: Global) -> Told {
+        Told {
+            shown: Vec::new(alloc),
+            context: Vec::new(alloc),
+        }
+    }
+
+    /// Whether it is told the same.
+    fn is_same(&self, other: &Told) -> bool {
+        self.shown.as_slice() == other.shown.as_slice()
+            && self.context.as_slice() == other.context.as_slice()
+    }
+
+    /// Notes a byte.
+    fn mark(&mut self, byte: u8) -> Result<(), AllocError> {
+        self.shown.push(byte)?;
+        Ok(())
+    }
+
+    /// Notes siblings.
+    fn note(&mut self, siblings: &[Shown]) -> Result<(), AllocError> {
+        for one in siblings {
+            self.shown.push(u8::from(one.deleted))?;
+            self.shown.extend_from_slice(one.content.value.as_slice())?;
+            self.shown.push(0)?;
+        }
+        Ok(())
+    }
+
+    fn note_get(&mut self, reply: &GetReply) -> Result<(), AllocError> {
+        self.note(reply.contents.as_slice())?;
+        self.shown.push(u8::from(reply.unchanged))?;
+        self.context.extend_from_slice(reply.context.as_slice())
+    }
+
+    fn note_put(&mut self, reply: &PutReply) -> Result<(), AllocError> {
+        self.note(reply.contents.as_slice())?;
+        self.context.extend_from_slice(reply.context.as_slice())
+    }
+
+    fn note_answer(&mut self, answer: &Answer) -> Result<(), AllocError> {
+        match answer {
+            Answer::Put(reply) => self.note_put(reply),
+            Answer::Del => self.mark(b'd'),
+            Answer::Reaped(Reaped::Gone) => self.mark(b'g'),
+            Answer::Reaped(Reaped::Kept) => self.mark(b'k'),
+            Answer::Reaped(Reaped::Absent) => self.mark(b'a'),
+        }
+    }
+}
+
+/// The mark of a refusal that isn't for want of memory.
+fn mark_of(refusal: Refusal) -> Result<u8, Refusal> {
+    match refusal {
+        Refusal::BadContext => Ok(b'1'),
+        Refusal::MatchFound => Ok(b'2'),
+        Refusal::NotFound => Ok(b'3'),
+        Refusal::Modified => Ok(b'4'),
+        Refusal::TooManySiblings => Ok(b'5'),
+        Refusal::ClockFull => Ok(b'6'),
+        Refusal::EpochsUsedUp => Ok(b'7'),
+        Refusal::CounterUsedUp => Ok(b'8'),
+        Refusal::NoMemory => Err(refusal),
+    }
+}
+
+/// Notes an answer, which goes then.
+fn note_and_drop(told: &mut Told, answer: Answer) -> Result<(), Refusal> {
+    let noted = told.note_answer(&answer);
+    drop(answer);
+    Ok(noted?)
+}
+
+fn note_refusal(told: &mut Told, refusal: Refusal) -> Result<(), Refusal> {
+    let mark = mark_of(refusal)?;
+    Ok(told.mark(mark)?)
+}
+
+/// Plans a command, makes its change where there is one, and notes what is told.
+fn make<S: ClockStore>(
+    vnode: &mut VnodeOver<S>,
+    alloc: Global,
+    ask: Ask,
+    told: &mut Told,
+) -> Result<(), Refusal> {
+    match vnode.prepare(alloc, ask) {
+        Ok(Plan::Change(change)) => note_and_drop(told, vnode.finish(change)),
+        Ok(Plan::Nothing(answer)) => note_and_drop(told, answer),
+        Err(refusal) => note_refusal(told, refusal),
+    }
+}
+
+fn put_of(alloc: Global, step: Step<'_>) -> Result<PutAsk, AllocError> {
+    match PutAsk::plain(alloc, b"b", step.key, step.context, step.value) {
+        Ok(mut put) => {
+            put.return_body = step.return_body;
+            Ok(put)
+        }
+        Err(error) => Err(error),
+    }
+}
+
+fn del_of(alloc: Global, step: Step<'_>) -> Result<DelAsk, AllocError> {
+    let key = Key::of_default_type(alloc, b"b", step.key)?;
+    let context = Bytes::from_slice(alloc, step.context)?;
+    Ok(DelAsk { key, context })
+}
+
+fn get<S: ClockStore>(
+    vnode: &VnodeOver<S>,
+    alloc: Global,
+    step: Step<'_>,
+    told: &mut Told,
+) -> Result<(), Refusal> {
+    let mut ask = GetAsk::plain(alloc, b"b", step.key)?;
+    ask.deletedvclock = step.return_body;
+    let reply = vnode.get(alloc, &ask)?;
+    let noted = told.note_get(&reply);
+    Ok(noted?)
+}
+
+/// Asks a vnode, and notes what is told.
+fn ask<S: ClockStore>(
+    vnode: &mut VnodeOver<S>,
+    alloc: Global,
+    step: Step<'_>,
+    told: &mut Told,
+) -> Result<(), Refusal> {
+    match step.command {
+        Command::Get => get(vnode, alloc, step, told),
+        Command::Put => {
+            let put = put_of(alloc, step)?;
+            make(vnode, alloc, Ask::Put(put), told)
+        }
+        Command::Del => {
+            let del = del_of(alloc, step)?;
+            make(vnode, alloc, Ask::Del(del), told)
+        }
+        Command::Reap => {
+            let key = Key::of_default_type(alloc, b"b", step.key)?;
+            make(vnode, alloc, Ask::Reap(key), told)
+        }
+        Command::ReapFirst => {
+            let key = Key::of_default_type(alloc, b"b", step.key)?;
+            make(vnode, alloc, Ask::ReapFirst(Some(key)), told)
+        }
+    }
+}
+
+/// Five gets of sixteen, six puts, three deletes, a reap, and one of the first dead key.
+fn command_of(draw: u8) -> Command {
+    match draw % 16 {
+        0..=4 => Command::Get,
+        5..=10 => Command::Put,
+        11..=13 => Command::Del,
+        14 => Command::Reap,
+        _ => Command::ReapFirst,
+    }
+}
+
+/// Which key's context is given: its own, another's, or none.
+fn context_at(own: u8, draw: u8) -> Option<u8> {
+    match draw % 8 {
+        0 => None,
+        1 => Some(draw % 20),
+        _ => Some(own),
+    }
+}
+
+/// The last context that was shown of a key.
+fn shown_of(contexts: &[Vec<u8>], at: Option<u8>) -> &[u8] {
+    match at {
+        None => b"",
+        Some(at) => match contexts.get(usize::from(at)) {
+            None => b"",
+            Some(context) => context.as_slice(),
+        },
+    }
+}
+
+/// Asks both the same, and keeps the context that they show: whether they tell the same.
+fn ask_both(
+    alloc: Global,
+    draws: &mut Draws,
+    contexts: &mut Vec<Vec<u8>>,
+    vnode: &mut Vnode,
+    list: &mut ListVnode,
+) -> Result<bool, Refusal> {
+    let own = draws.next() % 20;
+    let name = [b'a'.wrapping_add(own)];
+    let value = [draws.next(), draws.next()];
+    let command = command_of(draws.next());
+    let at = context_at(own, draws.next());
+    let step = Step {
+        command,
+        key: &name,
+        context: shown_of(contexts, at),
+        value: &value,
+        return_body: draws.next() % 4 == 0,
+    };
+    let mut told = Told::new(alloc);
+    let mut also = Told::new(alloc);
+    ask(vnode, alloc, step, &mut told)?;
+    ask(list, alloc, step, &mut also)?;
+    let is_same = told.is_same(&also);
+    let Told { shown: _, context } = told;
+    if !context.is_empty() {
+        keep(contexts, own, context);
+    }
+    Ok(is_same)
+}
+
+/// Keeps a context as the last that was shown of a key.
+fn keep(contexts: &mut Vec<Vec<u8>>, own: u8, context: Vec<u8>) {
+    match contexts.get_mut(usize::from(own)) {
+        None => {}
+        Some(place) => *place = context,
+    }
+}
+
+/// No context for each of 20 keys.
+fn no_contexts(alloc: Global) -> Result<Vec<Vec<u8>>, AllocError> {
+    let mut contexts = Vec::new(alloc);
+    for _ in 0..20 {
+        contexts.push(Vec::new(alloc))?;
+    }
+    Ok(contexts)
+}
+
+/// Whether both tell the same of 1,000 asks, and count the same.
+fn tell_the_same(alloc: Global, vnode: &mut Vnode, list: &mut ListVnode) -> Result<bool, Refusal> {
+    let mut contexts = no_contexts(alloc)?;
+    let mut draws = Draws { state: 1 };
+    for _ in 0..1000 {
+        if !ask_both(alloc, &mut draws, &mut contexts, vnode, list)? {
+            return Ok(false);
+        }
+    }
+    let counts = vnode.tally();
+    Ok(counts == list.tally() && counts.writes > 200 && counts.tombstones > 50 && counts.reaps > 20)
+}
+
+/// 1,000 asks over 20 keys, by contexts of earlier replies, with deletes and reaps: each form answers the same, and counts
+/// the same. Where memory is refused they end.
+#[test]
+fn forms_tell_the_same(rt: HostRuntime) {
+    let mut vnode = Vnode::new(rt.alloc(), ID, 1);
+    let mut list = ListVnode::new(rt.alloc(), ID, 1);
+    let told = tell_the_same(rt.alloc(), &mut vnode, &mut list);
+    drop(vnode);
+    drop(list);
+    assert!(&rt; told != Ok(false));
+}
