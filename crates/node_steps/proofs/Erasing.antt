@@ -15,16 +15,7 @@ use Rattle.node_steps.proofs.Lists.{one, how_many}
 use Rattle.node_steps.proofs.Inside.{is_reader, reads, holds, FitsWord, IsAbout, same_test}
 use Rattle.node_steps.proofs.Turns.{about_is}
 use Rattle.node_steps.proofs.Kept.{IsOrderly, at_place, counted}
-use Rattle.node_steps.specs.Erased.{erase_place, erase_vnode, erase_worker, erase}
-
--- a state is in place, where a reader is to be shown one
-abbrev pub IsShown : Word → Phase → Type 0
-IsShown (Open readers marked) phase = Unit {0}
-IsShown Taken (Reading index get) = ⊥
-IsShown Taken Idle = Unit {0}
-IsShown Taken (Asked index ask) = Unit {0}
-IsShown Taken (Holding index ask hand plan) = Unit {0}
-IsShown Taken (Done index hand) = Unit {0}
+use Rattle.node_steps.specs.Erased.{IsShown, erase_place, erase_vnode, erase_worker, erase}
 
 abbrev pub erase_turn : Turn → Turn
 erase_turn turn = record { phase = turn.phase; seen = []; vnode = erase_vnode turn.vnode; outcome = turn.outcome }

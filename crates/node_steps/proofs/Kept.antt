@@ -33,7 +33,7 @@ and_then_some : {A B : Type 0} (f : A → Option B) (o : Option A) (y : B) → o
 and_then_some f None y h = cc
 and_then_some f (Some x) y h = (x, refl, h)
 
-map_some : {A B : Type 0} (f : A → B) (o : Option A) (y : B) → option_map f o ≡ Some y → (x : A) × (o ≡ Some x) × (f x ≡ y)
+pub map_some : {A B : Type 0} (f : A → B) (o : Option A) (y : B) → option_map f o ≡ Some y → (x : A) × (o ≡ Some x) × (f x ≡ y)
 map_some f None y h = cc
 map_some f (Some x) y h = (x, refl, cc)
 

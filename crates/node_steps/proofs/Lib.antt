@@ -9,3 +9,12 @@ pub mod Leaving
 pub mod Showing
 pub mod Erasing
 pub mod Rows
+mod Fitting
+mod Following
+mod Looking
+mod Stepping
+mod Finding
+mod Asking
+mod Opening
+mod RunsOn
+mod Gates

@@ -245,7 +245,6 @@ values_leave_only_seen = λ start is schedule index key gives.
     let replays : HasReplay (id_at w index) 0 (history_at w index) = replays_at w (orderly start is schedule) index in
     let named = named_after start is index key schedule gives in (
       λ before event context prefix k e.
-          saw_position (id_at w index) (history_at w index) before event context replays prefix e
-          (subst (λ other. IsName (id_at w index) before other context) (sym k) (named.events before event context prefix k e)),
+          saw_position (id_at w index) key (history_at w index) before event context replays named.events prefix k e,
       λ between position number leaves. seen (id_at w index) (history_at w index) between position key number replays leaves,
     )

@@ -1,33 +1,29 @@
 -- The contexts that are shown: each is the name of the position where it is shown.
-use Rattle.std.proofs.Common.{◌≡◌, ◌⊎◌, inl, inr, ℕ, Bool, true, false, not, ◌&&◌, ◌||◌, cond, List, [], ◌∷◌, ◌++◌, refl, sym, ◌∙◌, ap, subst}
-use Rattle.std.specs.Prelude.{Option, Some, None, is_none, is_some, filter}
-use Rattle.std.specs.Option.{option_map_or}
+use Rattle.std.proofs.Common.{◌≡◌, ◌⊎◌, inl, inr, ℕ, Bool, true, false, not, ◌&&◌, ◌||◌, cond, List, [], ◌∷◌, refl, sym, ◌∙◌, ap}
+use Rattle.std.specs.Prelude.{Option, Some, None, is_none, is_some}
 use Rattle.riak_msgs.specs.declared.Key.{Key}
 use Rattle.riak_msgs.specs.declared.Content.{Content}
 use Rattle.riak_msgs.specs.KeyOrder.{key_eq}
 use Rattle.riak_msgs.specs.declared.Shown.{Shown}
 use Rattle.riak_msgs.specs.declared.GetReply.{GetReply}
 use Rattle.riak_msgs.specs.declared.PutReply.{PutReply}
-use Rattle.sibling_register.specs.History.{Event, Write, Tombstone, Reap, count_of, numbers_to}
+use Rattle.sibling_register.specs.History.{Event, Write, Tombstone, Reap}
 use Rattle.sibling_register.specs.Siblings.{is_defined}
-use Rattle.sibling_register.specs.Naming.{named}
 use Rattle.sibling_register.specs.Answers.{Ask, AskGet, AskPut, AskDel, AskReap, PutCommand, DelCommand}
-use Rattle.actor_epoch.specs.Dots.{covers}
 use Rattle.actor_epoch.specs.Given.{Context, context_of}
-use Rattle.vnode_machine.specs.Machine.{State, clock_of, is_held, holds_dead, matches_clock, put_check, del_check, apply_operation, stored, pairs_of}
-use Rattle.vnode_machine.specs.Lives.{dot_of}
-use Rattle.vnode_machine.specs.Replay.{History, replay, naming, HasReplay, IsWithinLimits, seen_by}
+use Rattle.vnode_machine.specs.Machine.{State, is_held, holds_dead, matches_clock, put_check, del_check, apply_operation, stored}
+use Rattle.vnode_machine.specs.Replay.{History, replay, naming, HasReplay, IsWithinLimits}
 use Rattle.vnode_machine.specs.Replies.{contents_in, context_in, put_reply}
+use Rattle.vnode_machine.specs.Contexts.{WasShown, GivesShown, SawPosition}
 use Rattle.vnode_machine.specs.Step.{DelDone, PutDone, ReapDone, ReapKept, StepOutcome, Refused, Answered, Accepted, unless_refused, outcome}
 use Rattle.vnode_machine.specs.Registers.{key_of}
 use Rattle.vnode_machine.proofs.Keys.{find_stored, key_eq-refl}
 use Rattle.vnode_machine.proofs.Steps.{known}
 use Rattle.vnode_machine.proofs.Mirrors.{held-same}
-use Rattle.vnode_machine.proofs.Names.{same_pairs-refl, replay-earlier}
 use Rattle.vnode_machine.proofs.Formed.{shown_context}
+use Rattle.vnode_machine.proofs.Showing.{shown_name_positions}
 use Rattle.node_steps.specs.Contexts.{context_bytes}
 use Rattle.node_steps.specs.Schedules.{IsPrefix}
-use Rattle.node_steps.specs.Claims.{SawPosition}
 use Rattle.node_steps.proofs.Prefixes.{prefix-whole, prefix-trans}
 
 -- the context is the name of a position of the key
@@ -125,47 +121,26 @@ held_is_name id history key bytes context limits replays (inr h) decodes =
           (sym decodes ∙ ap context_of h.1 ∙ shown_context id 0 history limits replays key defined);
     }
 
--- a context that is the name of a position names one
+-- so it was shown there, as the machine has it
+was_shown : (id : ℕ) (history : History) (key : Key) (context : Context) → IsName id history key context → WasShown id 0 history key context
+was_shown id history key context n = record { later = n.prefix.0; position = n.position; is = n.prefix.1; defined = n.defined; shown = n.is }
+
 module _ (id : ℕ) (key : Key) where
-  same_name : (position : History) → (naming {V = Content} id 0).same ((naming {V = Content} id 0).name position key) ((naming {V = Content} id 0).name position key) ≡ true
-  same_name position = same_pairs-refl (clock_of (replay id 0 position) key).known
+  -- each context that an event of the key in this history gave is the name of a position before it
+  abbrev pub NamesEach : History → Type 0
+  NamesEach history =
+      (before : History) (event : Event Content Context) (context : Context) → IsPrefix (event ∷ before) history
+      → event.key ≡ key → event.context ≡ Some context → IsName id before key context
 
-  found_name : (d s : Bool) (here : History) (rest : Option History) → ((position : History) × (rest ≡ Some position)) ⊎ ((d ≡ true) × (s ≡ true))
-      → (position : History) × (cond (d && s) (Some here) rest ≡ Some position)
-  found_name true true here rest h = (here, refl)
-  found_name true false here rest (inl h) = h
-  found_name true false here rest (inr h) = absurd (no (h.1))
-    where
-      no : false ≡ true → ⊥
-      no e = cc
-  found_name false s here rest (inl h) = h
-  found_name false s here rest (inr h) = absurd (no (h.0))
-    where
-      no : false ≡ true → ⊥
-      no e = cc
+  gives_shown : (history whole : History) → IsPrefix history whole → NamesEach whole → GivesShown id 0 history key
+  gives_shown [] whole p names = tt
+  gives_shown (event ∷ before) whole p names = (
+    gives_shown before whole (prefix-trans before (event ∷ before) whole (event ∷ [], refl) p) names,
+    λ k context e. was_shown id before key context (names before event context p k e),
+  )
 
-  names_one : (later position : History) (context : Context) → is_defined position key ≡ true → context ≡ (naming {V = Content} id 0).name position key
-      → (found : History) × (named (naming id 0) (later ++ position) key context ≡ Some found)
-  names_one [] [] context d e = cc
-  names_one [] (event ∷ position) context d e =
-      found_name (is_defined (event ∷ position) key) ((naming {V = Content} id 0).same context ((naming {V = Content} id 0).name (event ∷ position) key)) (event ∷ position)
-      (named (naming id 0) position key context)
-      (inr (d, ap (λ c. (naming {V = Content} id 0).same c ((naming {V = Content} id 0).name (event ∷ position) key)) e ∙ same_name (event ∷ position)))
-  names_one (event ∷ later) position context d e =
-      found_name (is_defined (event ∷ (later ++ position)) key) ((naming {V = Content} id 0).same context ((naming {V = Content} id 0).name (event ∷ (later ++ position)) key))
-      (event ∷ (later ++ position)) (named (naming id 0) (later ++ position) key context) (inl (names_one later position context d e))
-
--- an event of a list that has a replay saw what was at the position that its context names
-pub saw_position : (id : ℕ) (history before : History) (event : Event Content Context) (context : Context) → HasReplay id 0 history → IsPrefix (event ∷ before) history
-    → event.context ≡ Some context → IsName id before event.key context → SawPosition id before event context
-saw_position id history before event context replays p e n =
-    let there : HasReplay id 0 (event ∷ before) = replay-earlier id 0 p.0 (event ∷ before) (subst (λ h. HasReplay id 0 h) (sym p.1) replays) in
-    let o = names_one id event.key n.prefix.0 n.position context n.defined n.is in
-    let is : named (naming id 0) before event.key context ≡ Some o.0 = subst (λ h. named (naming id 0) h event.key context ≡ Some o.0) n.prefix.1 o.1 in
-    record {
-      position = o.0;
-      is_name = is;
-      saw = there.2 ∙ ap (λ given. seen_by id 0 before event.key given event.operation) e
-          ∙ ap (λ q. option_map_or (λ (position : History). numbers_to (count_of position event.key)) q
-          (filter (λ number. option_map_or (covers (pairs_of (Some context))) (dot_of id 0 before event.key number) false) (numbers_to (count_of before event.key)))) is;
-    }
+  -- and its event saw what was there
+  pub saw_position : (history before : History) (event : Event Content Context) (context : Context) → HasReplay id 0 history → NamesEach history
+      → IsPrefix (event ∷ before) history → event.key ≡ key → event.context ≡ Some context → SawPosition id 0 before event context
+  saw_position history before event context replays names p k e =
+      shown_name_positions id 0 history replays key (gives_shown history history (prefix-whole history) names) p.0 before event context p.1 k e

@@ -2,9 +2,8 @@
 use Rattle.std.specs.Prelude.{◌≡◌, ◌≢◌, ◌⊎◌, ◌++◌, List, ◌∷◌, ℕ, not, Option, Some, None, Result, IsTrue, slice_get}
 use Rattle.riak_msgs.specs.declared.Key.{Key}
 use Rattle.riak_msgs.specs.declared.Content.{Content}
-use Rattle.sibling_register.specs.History.{Event, count_of, content_of, numbers_to}
+use Rattle.sibling_register.specs.History.{Event, content_of}
 use Rattle.sibling_register.specs.Siblings.{siblings, is_among}
-use Rattle.sibling_register.specs.Naming.{named}
 use Rattle.sibling_register.specs.Legal.{IsLegal}
 use Rattle.sibling_register.specs.Leaving.{is_seen_in}
 use Rattle.actor_epoch.specs.declared.Dot.{Dot}
@@ -13,6 +12,7 @@ use Rattle.vnode_machine.specs.Machine.{State}
 use Rattle.vnode_machine.specs.Lives.{dot_of}
 use Rattle.vnode_machine.specs.Replay.{History, naming, HasReplay, IsAfter}
 use Rattle.vnode_machine.specs.Step.{Response}
+use Rattle.vnode_machine.specs.Contexts.{SawPosition}
 use Rattle.vnode_machine.specs.Runs.{IsAnswer}
 use Rattle.vnode_machine.specs.Laws.{NoDotTwice, DotsAreOfLives}
 use Rattle.vnode_machine.specs.Leaving.{is_taken_in}
@@ -93,17 +93,11 @@ ValuesLeaveOnlyCovered w step =
     (index : ℕ) (between position : History) (key : Key) (number : ℕ) → Leaves (history_at w index) between position key number
     → (dot : Dot) × (dot_of (id_at w index) 0 position key number ≡ Some dot) × IsTrue (is_taken_in between key dot)
 
--- an event's context names a position of its key before it, and the event saw just what was there
-pub record SawPosition (id : ℕ) (before : History) (event : Event Content Context) (context : Context) : Type 0 where
-  pub position : History
-  pub is_name : named (naming id 0) before event.key context ≡ Some position
-  pub saw : event.saw ≡ numbers_to (count_of position event.key)
-
 -- each event of the key that has a context saw a position of its key
 abbrev pub ContextsNamePositions : (id : ℕ) → History → Key → Type 0
 ContextsNamePositions id history key =
     (before : History) (event : Event Content Context) (context : Context) → IsPrefix (event ∷ before) history
-    → event.key ≡ key → event.context ≡ Some context → SawPosition id before event context
+    → event.key ≡ key → event.context ≡ Some context → SawPosition id 0 before event context
 
 -- a value leaves the key's siblings only where a write or delete between had seen it
 abbrev pub LeavesOnlySeen : History → Key → Type 0

@@ -2,7 +2,7 @@
 use Rattle.std.specs.Prelude.{◌≡◌, [], map}
 use Rattle.riak_msgs.specs.declared.Content.{Content}
 use Rattle.vnode_machine.specs.Machine.{State, opening}
-use Rattle.node_steps.specs.World.{Word, Open, Taken, Vnode, Worker, World}
+use Rattle.node_steps.specs.World.{Word, Open, Taken, Phase, Idle, Asked, Reading, Holding, Done, Vnode, Worker, World}
 use Rattle.node_steps.specs.Steps.{Step, after, outcome}
 
 -- no state
@@ -22,6 +22,15 @@ erase_worker worker = record { phase = worker.phase; seen = [] }
 
 abbrev pub erase : World → World
 erase w = record { vnodes = map erase_vnode w.vnodes; workers = map erase_worker w.workers }
+
+-- a state is in place, where a reader is to be shown one
+abbrev pub IsShown : Word → Phase → Type 0
+IsShown (Open readers marked) phase = Unit {0}
+IsShown Taken (Reading index get) = ⊥
+IsShown Taken Idle = Unit {0}
+IsShown Taken (Asked index ask) = Unit {0}
+IsShown Taken (Holding index ask hand plan) = Unit {0}
+IsShown Taken (Done index hand) = Unit {0}
 
 -- the same comes of a step without it, and the same is left without it
 pub record NeedsNoHistory (w : World) (step : Step) : Type 0 where

@@ -4,3 +4,10 @@ pub mod Schedules
 pub mod Contexts
 pub mod Claims
 pub mod Erased
+pub mod Returned
+pub mod Hands
+pub mod Running
+pub mod Asked
+pub mod Parts
+pub mod Kept
+pub mod Gates

@@ -4,6 +4,7 @@ ghost use Rattle.node_steps.specs.Claims.{Always, HistoriesAreLegal, LooksShowRe
 ghost use Rattle.node_steps.specs.Claims.{NothingElseHappens, RepliesHaveSeen, NoDotIsIssuedTwice};
 ghost use Rattle.node_steps.specs.Claims.{ValuesLeaveOnlyCovered, ValuesLeaveOnlySeen};
 ghost use Rattle.node_steps.specs.Erased.{NeedsNoHistory};
+ghost use Rattle.node_steps.specs.Gates.{RunsAreScheduled};
 
 /// No accepted write is lost: in every run, for any number of workers and vnodes, and after every list of steps.
 ///
@@ -32,4 +33,11 @@ pub fn always()
 /// while it is taken, which is in its holder's hand.
 pub fn needs_no_history()
     ensures { Always NeedsNoHistory }
+{}
+
+/// What [`always`] says of histories it says of the running gate's: each run of the vnode machine from the opening state of a
+/// vnode, which is what a gate round a new vnode keeps as its history, is the history of that vnode after some schedule, by
+/// one definition (`history_after` in `specs/Events` of `vnode_core`).
+pub fn gates_are_scheduled()
+    ensures { RunsAreScheduled }
 {}

@@ -29,9 +29,25 @@
 //!
 //! A world may be kept without its histories: no step looks at them ([`needs_no_history`], `specs/Erased`).
 //!
-//! This crate has definitions and laws alone: nothing in it runs.
+//! A [`World`] runs it: [`World::step`] takes any step, and what it returns and the world after it are those of the
+//! theorem's world, whatever schedule led there (`specs/Kept`).
 #![tactic(auto)]
 
+mod acts;
+mod call;
+mod fault;
+mod hand;
 mod laws;
+mod looks;
+mod outcome;
+mod parts;
+mod phase;
+mod site;
+mod step;
+mod world;
 
-pub use laws::{always, needs_no_history};
+pub use fault::StepFault;
+pub use laws::{always, gates_are_scheduled, needs_no_history};
+pub use outcome::Outcome;
+pub use step::Step;
+pub use world::World;

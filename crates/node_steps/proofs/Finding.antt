@@ -1,0 +1,44 @@
+-- Where a step finds its worker and its vnode.
+use Rattle.std.proofs.Common.{◌≡◌, inl, inr, refl, ℕ, suc, ◌≤◌, ◌<◌, ◌-◌, List, length, ◌∙◌, ap, subst, arith}
+use Rattle.std.specs.Prelude.{Option, Some, None, SomeIff, option_map, get_or, slice_get}
+use Rattle.std.proofs.lemmas.Option.{slice_get_past, slice_get-map, slice_get_read, slice_get_cases}
+use Rattle.node_steps.specs.declared.parts.Parts.{Parts}
+use Rattle.node_steps.specs.declared.phase.Phase.{Phase as RunPhase}
+use Rattle.node_steps.specs.declared.step.Act.{Act}
+use Rattle.node_steps.specs.Steps.{Enters, site_of, happens}
+use Rattle.node_steps.specs.Running.{phase_of, vnode_of, worker_of}
+use Rattle.node_steps.specs.Asked.{action_of, step_by}
+use Rattle.node_steps.specs.Parts.{world_in}
+use Rattle.node_steps.proofs.Fitting.{at_some}
+use Rattle.node_steps.proofs.Stepping.{same_site, no_call, no_vnode}
+
+abbrev Cannot : Parts → ℕ → Type 0
+Cannot parts worker = (act : Act) → happens (world_in parts) (step_by worker act) ≡ None
+
+module _ (parts : Parts) (worker place : ℕ) (phase : RunPhase) (number : worker ≡ suc place) (here : slice_get parts.workers.items place ≡ Some phase) where
+  pub without_call : site_of Enters (phase_of phase) ≡ None → Cannot parts worker
+  without_call about = λ act.
+      ap (λ n. happens (world_in parts) (step_by n act)) number
+      ∙ no_call (world_in parts) place (action_of act) (worker_of phase) (at_some worker_of parts.workers.items place phase here) (same_site act (phase_of phase) ∙ about)
+
+  pub without_vnode : (index : ℕ) → site_of Enters (phase_of phase) ≡ Some index → length parts.sites.items ≤ index → Cannot parts worker
+  without_vnode index about past = λ act.
+      ap (λ n. happens (world_in parts) (step_by n act)) number
+      ∙ no_vnode (world_in parts) place index (action_of act) (worker_of phase) (at_some worker_of parts.workers.items place phase here) (same_site act (phase_of phase) ∙ about)
+      (slice_get-map vnode_of parts.sites.items index ∙ ap (λ o. option_map vnode_of o) (slice_get_past parts.sites.items index past))
+
+-- a number from 1 on is one more than another
+pub number_is : (worker place : ℕ) (o : Option ℕ) → SomeIff o (1 ≤ worker) (worker - 1) → o ≡ Some place → worker ≡ suc place
+number_is worker place None h e = cc
+number_is worker place (Some x) h e = let same : x ≡ place = cc in omega (arith, h.0, h.1, same)
+
+-- what was read at a place of a list stands there
+pub stands : {X : Type 0} (xs ys : List X) (i : ℕ) (x : X) → xs ≡ ys → i < length xs → x ≡ get_or xs i x → slice_get ys i ≡ Some x
+stands xs ys i x e h r = subst (λ zs. slice_get zs i ≡ Some x) e (slice_get_read xs (length xs) i x refl h r)
+
+-- something stands at each place of a list
+pub something : {X : Type 0} (xs : List X) (i : ℕ) → i < length xs → (x : X) × (slice_get xs i ≡ Some x)
+something xs i h = elim (slice_get_cases xs i).1 [
+  | inl e ↦ (e.0, e.2)
+  | inr e ↦ absurd (omega (arith, h, e.0))
+]

@@ -1,0 +1,79 @@
+-- What is kept of a world is fit for every step: readers are counted, and a reader has a state to look at.
+use Rattle.std.proofs.Common.{◌≡◌, ℕ, zero, suc, ◌+◌, ◌≤◌, ◌<◌, ◌^◌, Bool, true, false, List, [], ◌∷◌, map, length, refl, sym, ◌∙◌, ap, arith, subst}
+use Rattle.std.specs.Prelude.{Option, Some, None, option_map, slice_get, slice_set, replicate}
+use Rattle.std.specs.Option.{option_map_or}
+use Rattle.std.proofs.lemmas.Option.{slice_get-map}
+use Rattle.node_steps.specs.declared.parts.Parts.{Parts}
+use Rattle.node_steps.specs.World.{Word, Open, Taken, Vnode, Worker, World}
+use Rattle.node_steps.specs.Steps.{Step, Enters, Outcome, site_of, happens, after}
+use Rattle.node_steps.specs.Schedules.{Start, world_after}
+use Rattle.node_steps.specs.Erased.{IsShown, erase_vnode, erase_worker}
+use Rattle.node_steps.specs.Running.{HasRoom, vnode_of, worker_of}
+use Rattle.node_steps.specs.Parts.{AreFit, world_in}
+use Rattle.node_steps.specs.Kept.{IsKept}
+use Rattle.node_steps.proofs.Lists.{one, how_many}
+use Rattle.node_steps.proofs.Inside.{reads, holds, FitsWord}
+use Rattle.node_steps.proofs.Kept.{map_some, possible, orderly}
+use Rattle.node_steps.proofs.Erasing.{shown_at}
+
+pub at_some : {A B : Type 0} (f : A → B) (xs : List A) (i : ℕ) (x : A) → slice_get xs i ≡ Some x → slice_get (map f xs) i ≡ Some (f x)
+at_some f xs i x h = slice_get-map f xs i ∙ ap (λ o. option_map f o) h
+
+from_some : {A B : Type 0} (f : A → B) (xs : List A) (i : ℕ) (y : B) → slice_get (map f xs) i ≡ Some y → (x : A) × (slice_get xs i ≡ Some x) × (f x ≡ y)
+from_some f xs i y h = map_some f (slice_get xs i) y (sym (slice_get-map f xs i) ∙ h)
+
+length-set : {X : Type 0} (xs : List X) (i : ℕ) (y : X) → length (slice_set xs i y) ≡ length xs
+length-set [] i y = refl
+length-set (x ∷ xs) zero y = refl
+length-set (x ∷ xs) (suc i) y = ap suc (length-set xs i y)
+
+length-replicate : {X : Type 0} (n : ℕ) (x : X) → length (replicate n x) ≡ n
+length-replicate zero x = refl
+length-replicate (suc n) x = ap suc (length-replicate n x)
+
+workers_stay : (w : World) (step : Step) → length (after w step).workers ≡ length w.workers
+workers_stay w step = by (happens w step) refl
+  where
+    by : (o : Option (World × Outcome)) → happens w step ≡ o → length (option_map_or (λ (r : World × Outcome). r.0) o w).workers ≡ length w.workers
+    by None h = refl
+    by (Some r) h =
+        let p = possible w step r h in
+        ap (λ (q : World × Outcome). length q.0.workers) (sym p.gives) ∙ length-set w.workers _ _
+
+-- there are as many workers as at the start
+workers_are : (start : Start) (schedule : List Step) → length (world_after start schedule).workers ≡ start.workers
+workers_are start [] = length-replicate start.workers _
+workers_are start (step ∷ earlier) = workers_stay (world_after start earlier) step ∙ workers_are start earlier
+
+one_more : (b : Bool) (n m : ℕ) → n ≤ m → one b + n ≤ suc m
+one_more true n m h = omega (arith, h)
+one_more false n m h = omega (arith, h)
+
+at_most_all : {X : Type 0} (p : X → Bool) (xs : List X) → how_many p xs ≤ length xs
+at_most_all p [] = omega arith
+at_most_all p (x ∷ xs) = one_more (p x) (how_many p xs) (length xs) (at_most_all p xs)
+
+has_room : (word : Word) (readers holders : ℕ) → FitsWord word readers holders → readers < 2 ^ 16 → HasRoom word
+has_room (Open n mark) readers holders f h = omega (arith, f.0, h)
+has_room Taken readers holders f h = tt
+
+below : (a b c : ℕ) → a ≤ b → b ≡ c → c < 2 ^ 16 → a < 2 ^ 16
+below a b c h e k = omega (arith, h, e, k)
+
+pub are_fit : (parts : Parts) → IsKept (world_in parts) → AreFit parts
+are_fit parts kept = λ place index phase site here about there.
+    let w = world_after kept.start kept.schedule in
+    let sound = orderly kept.start kept.after.start_is kept.schedule in
+    let same = sym kept.after.world_is in
+    let a = from_some erase_worker w.workers place (worker_of phase) (ap (λ (x : World). slice_get x.workers place) same ∙ at_some worker_of parts.workers.items place phase here) in
+    let b = from_some erase_vnode w.vnodes index (vnode_of site) (ap (λ (x : World). slice_get x.vnodes index) same ∙ at_some vnode_of parts.sites.items index site there) in
+    let phases = ap (λ (x : Worker). x.phase) a.2 in
+    let words = ap (λ (v : Vnode). v.word) b.2 in
+    let shown = shown_at w sound Enters (suc place) index a.0 b.0 a.1 (ap (site_of Enters) phases ∙ about) b.1 in
+    let few = below (how_many (reads index) w.workers) (length w.workers) kept.start.workers (at_most_all (reads index) w.workers)
+    (workers_are kept.start kept.schedule) kept.after.workers in
+    let room = has_room b.0.word (how_many (reads index) w.workers) (how_many (holds index) w.workers) (sound.vnodes index b.0 b.1).word few in
+    record {
+      room = subst HasRoom words room;
+      shown = subst (λ p. IsShown (vnode_of site).word p) phases (subst (λ x. IsShown x a.0.phase) words shown);
+    }

@@ -1,0 +1,31 @@
+-- A step of what is kept of a world is the world's.
+use Rattle.std.proofs.Common.{◌∷◌, sym, ◌∙◌, ap}
+use Rattle.node_steps.specs.declared.outcome.Outcome.{Outcome as Returned}
+use Rattle.node_steps.specs.World.{World}
+use Rattle.node_steps.specs.Steps.{Step, after, outcome}
+use Rattle.node_steps.specs.Schedules.{world_after}
+use Rattle.node_steps.specs.Erased.{erase}
+use Rattle.node_steps.specs.Returned.{returned}
+use Rattle.node_steps.specs.Parts.{TakesStep}
+use Rattle.node_steps.specs.Kept.{IsKept, Follows}
+use Rattle.node_steps.proofs.Kept.{orderly}
+use Rattle.node_steps.proofs.Erasing.{outcome_erased, after_erased}
+
+pub follows : (old : World) (step : Step) (returns : Returned) (new : World) → TakesStep old step returns new → Follows old step returns new
+follows old step returns new t = λ start schedule kept.
+    let w = world_after start schedule in
+    let sound = orderly start kept.start_is schedule in (
+      t.returns_is ∙ ap (λ x. returned (outcome x step)) kept.world_is ∙ ap returned (sym (outcome_erased w sound step)),
+      record {
+        start_is = kept.start_is;
+        workers = kept.workers;
+        world_is = t.world_is ∙ ap (λ x. erase (after x step)) kept.world_is ∙ sym (after_erased w sound step);
+      },
+    )
+
+pub kept_on : (old : World) (step : Step) (returns : Returned) (new : World) → TakesStep old step returns new → IsKept old → IsKept new
+kept_on old step returns new t kept = record {
+  start = kept.start;
+  schedule = step ∷ kept.schedule;
+  after = (follows old step returns new t kept.start kept.schedule kept.after).1;
+}

@@ -1,0 +1,121 @@
+-- Each event of a vnode behind a gate is five steps of one worker: it is asked, takes, looks, publishes, and puts back.
+use Rattle.std.proofs.Common.{◌≡◌, ℕ, zero, suc, ◌+◌, ◌<◌, ◌≤◌, List, [], ◌∷◌, refl, sym, ◌∙◌, ap, arith}
+use Rattle.std.specs.Prelude.{false, Some, None, option_map, option_and_then, slice_get, slice_set, replicate}
+use Rattle.std.specs.Option.{option_map_or}
+use Rattle.riak_msgs.specs.declared.Content.{Content}
+use Rattle.sibling_register.specs.Answers.{Ask}
+use Rattle.actor_epoch.specs.Given.{Context}
+use Rattle.vnode_machine.specs.Machine.{State, opening}
+use Rattle.vnode_machine.specs.Replay.{History}
+use Rattle.rw_gate.specs.Machines.{MachineRun}
+use Rattle.vnode_core.specs.declared.event.Event.{Event}
+use Rattle.vnode_core.specs.Events.{Makes, event_command, event_deed, event_response, register_event, history_after}
+use Rattle.node_steps.specs.World.{Word, Open, Taken, Plan, Phase, Idle, Asked, Holding, Done, Vnode, Worker, World, fresh_vnode, fresh_worker, id_of, opening_vnodes, prefix_of, history_at}
+use Rattle.node_steps.specs.Steps.{Action, Asks, Takes, Looks, Publishes, Puts, Step, Outcome, Turn, looks_by, turn_of, site_of, turned, happens, after}
+use Rattle.node_steps.specs.Schedules.{Start, world_after}
+use Rattle.node_steps.specs.Gates.{RunsAreScheduled}
+use Rattle.node_steps.proofs.Lists.{set-here}
+use Rattle.node_steps.proofs.Stepping.{result_at}
+
+-- the first worker and the vnode at an index
+abbrev IsThere : World → ℕ → Phase → Vnode → Type 0
+IsThere w index phase vnode = (worker : Worker) × (slice_get w.workers 0 ≡ Some worker) × (worker.phase ≡ phase) × (slice_get w.vnodes index ≡ Some vnode)
+
+abbrev step_of_first : Action → Step
+step_of_first action = record { worker = 1; action = action }
+
+-- a turn of the first worker
+moved : (w : World) (action : Action) (index : ℕ) (phase : Phase) (vnode : Vnode) (next : Phase) (new : Vnode) → site_of action phase ≡ Some index
+    → ((seen : History) → (turn : Turn) × (turn_of seen vnode action phase ≡ Some turn) × (turn.phase ≡ next) × (turn.vnode ≡ new))
+    → IsThere w index phase vnode → IsThere (after w (step_of_first action)) index next new
+moved w action index phase vnode next new site turns (worker, here, is, there) =
+    let t = turns (prefix_of worker index) in
+    let turn : Turn = t.0 in
+    let about : site_of action worker.phase ≡ Some index = ap (site_of action) is ∙ site in
+    let made : turn_of (prefix_of worker index) vnode action worker.phase ≡ Some turn = ap (turn_of (prefix_of worker index) vnode action) is ∙ t.1 in
+    let next_worker : Worker = record { phase = turn.phase; seen = slice_set worker.seen index turn.seen } in
+    let it : happens w (step_of_first action) ≡ Some (result_at w 0 index worker turn) =
+    ap (λ o. option_and_then (λ x. option_and_then (λ i. option_and_then (λ v. option_map (result_at w 0 i x)
+    (turn_of (prefix_of x i) v action x.phase)) (slice_get w.vnodes i)) (site_of action x.phase)) o) here
+    ∙ ap (λ o. option_and_then (λ i. option_and_then (λ v. option_map (result_at w 0 i worker)
+    (turn_of (prefix_of worker i) v action worker.phase)) (slice_get w.vnodes i)) o) about
+    ∙ ap (λ o. option_and_then (λ v. option_map (result_at w 0 index worker) (turn_of (prefix_of worker index) v action worker.phase)) o) there
+    ∙ ap (λ o. option_map (result_at w 0 index worker) o) made in
+    let world : after w (step_of_first action) ≡ turned w 0 index worker turn = ap (λ o. option_map_or (λ (r : World × Outcome). r.0) o w) it in (
+      next_worker,
+      ap (λ (x : World). slice_get x.workers 0) world ∙ set-here w.workers 0 worker next_worker here,
+      t.2,
+      ap (λ (x : World). slice_get x.vnodes index) world ∙ set-here w.vnodes index vnode turn.vnode there ∙ ap (λ v. Some v) t.3,
+    )
+
+module _ (start : Start) (index id : ℕ) where
+  abbrev vnode_with : Word → History → State Content → Vnode
+  vnode_with word history place = record { id = id; word = word; history = history; place = place }
+
+  -- after a schedule the first worker is idle, and the vnode is this
+  abbrev Stands : History → State Content → Type 0
+  Stands history state = (schedule : List Step) × IsThere (world_after start schedule) index Idle (vnode_with (Open 0 false) history state)
+
+  abbrev plan_of_event : Event → State Content → Plan
+  plan_of_event event next = record { operation = event_deed event; response = event_response event; next = next }
+
+  -- one event more
+  one_event : (history : History) (state next : State Content) (event : Event) → Makes state event next → Stands history state
+      → Stands (register_event id 0 history event ∷ history) next
+  one_event history state next event makes (schedule, there) =
+      let ask : Ask Content Context = event_command event in
+      let plan : Plan = plan_of_event event next in
+      let longer : History = register_event id 0 history event ∷ history in
+      let w = world_after start schedule in
+      let asked = moved w (Asks index ask) index Idle (vnode_with (Open 0 false) history state) (Asked index ask) (vnode_with (Open 0 false) history state) refl
+      (λ seen. (_, refl, refl, refl)) there in
+      let w1 = after w (step_of_first (Asks index ask)) in
+      let took = moved w1 Takes index (Asked index ask) (vnode_with (Open 0 false) history state) (Holding index ask state None) (vnode_with Taken history state) refl
+      (λ seen. (_, refl, refl, refl)) asked in
+      let w2 = after w1 (step_of_first Takes) in
+      let looked = moved w2 Looks index (Holding index ask state None) (vnode_with Taken history state) (Holding index ask state (Some plan)) (vnode_with Taken history state) refl
+      (λ seen. (_, ap (λ o. Some (looks_by seen (vnode_with Taken history state) index ask state o)) makes, refl, refl)) took in
+      let w3 = after w2 (step_of_first Looks) in
+      let published = moved w3 Publishes index (Holding index ask state (Some plan)) (vnode_with Taken history state) (Done index (Some next)) (vnode_with Taken longer state) refl
+      (λ seen. (_, refl, refl, refl)) looked in
+      let w4 = after w3 (step_of_first Publishes) in
+      let laid = moved w4 Puts index (Done index (Some next)) (vnode_with Taken longer state) Idle (vnode_with (Open 0 false) longer next) refl
+      (λ seen. (_, refl, refl, refl)) published in
+      (step_of_first Puts ∷ step_of_first Publishes ∷ step_of_first Looks ∷ step_of_first Takes ∷ step_of_first (Asks index ask) ∷ schedule, laid)
+
+  all_events : (events : List Event) (history : History) (state last : State Content) → MachineRun Makes state events last → Stands history state
+      → (schedule : List Step) × (history_at (world_after start schedule) index ≡ history_after id 0 history events)
+  all_events [] history state last run (schedule, there) = (schedule, ap (λ o. option_map_or (λ (v : Vnode). v.history) o []) there.3)
+  all_events (event ∷ events) history state last (next, makes, run) stands =
+      all_events events (register_event id 0 history event ∷ history) next last run (one_event history state next event makes stands)
+
+first_there : {X : Type 0} (n : ℕ) (x : X) → 1 ≤ n → slice_get (replicate n x) 0 ≡ Some x
+first_there zero x h = absurd (omega (arith, h))
+first_there (suc n) x h = refl
+
+shift : (a b : ℕ) → (a + 1) + b ≡ a + suc b
+shift a b = omega arith
+
+plain : (n : ℕ) → n + 0 ≡ n
+plain n = omega arith
+
+vnode_there : (run from count index : ℕ) → index < count → slice_get (opening_vnodes run from count) index ≡ Some (fresh_vnode (id_of run (from + index)))
+vnode_there run from zero index h = absurd (omega (arith, h))
+vnode_there run from (suc count) zero h = ap (λ n. Some (fresh_vnode (id_of run n))) (sym (plain from))
+vnode_there run from (suc count) (suc index) h =
+    vnode_there run (from + 1) count index (omega (arith, h)) ∙ ap (λ n. Some (fresh_vnode (id_of run n))) (shift from index)
+
+from_zero : (n : ℕ) → 0 + n ≡ n
+from_zero n = omega arith
+
+pub runs_are_scheduled : RunsAreScheduled
+runs_are_scheduled start index events state workers vnodes run =
+    all_events start index (id_of start.run index) events [] (opening (id_of start.run index) 0) state run (
+      [],
+      (
+        fresh_worker start.vnodes,
+        first_there start.workers (fresh_worker start.vnodes) workers,
+        refl,
+        vnode_there start.run 0 start.vnodes index vnodes ∙ ap (λ n. Some (fresh_vnode (id_of start.run n))) (from_zero index),
+      ),
+    )

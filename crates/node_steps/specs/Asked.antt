@@ -1,0 +1,60 @@
+-- The steps of the theorem's world that running steps are.
+use Rattle.std.specs.Prelude.{◌≡◌, ℕ, Option, Some, None, option_map}
+use Rattle.riak_msgs.specs.declared.Content.{Content}
+use Rattle.riak_msgs.specs.declared.Request.{Request}
+use Rattle.riak_msgs.specs.declared.Request.TheVariants as requests
+use Rattle.sibling_register.specs.Answers.{Ask, AskGet, AskPut, AskDel, AskReap}
+use Rattle.actor_epoch.specs.Given.{Context}
+use Rattle.vnode_machine.specs.Asks.{get_command, put_command, del_command}
+use Rattle.node_steps.specs.declared.call.Call.{Call}
+use Rattle.node_steps.specs.declared.step.Step.{Step as RunStep}
+use Rattle.node_steps.specs.declared.step.Step.TheVariants as steps
+use Rattle.node_steps.specs.declared.step.Act.{Act}
+use Rattle.node_steps.specs.declared.step.Act.TheVariants as acts
+use Rattle.node_steps.specs.Steps.{Action, Asks, AsksPing, Enters, Leaves, Marks, Unmarks, Takes, Puts, Looks, Publishes, Step}
+use Rattle.node_steps.specs.Running.{ask_of}
+
+-- the ask that a request makes of a vnode; a ping makes none
+abbrev pub request_ask : Request → Option (Ask Content Context)
+request_ask requests.Ping = None
+request_ask (requests.Get get) = Some (AskGet (get_command get))
+request_ask (requests.Put put) = Some (AskPut (put_command put))
+request_ask (requests.Del del) = Some (AskDel (del_command del))
+
+-- the call asks what the request does
+abbrev pub CallsFor : Request → Option Call → Type 0
+CallsFor request call = option_map ask_of call ≡ request_ask request
+
+-- to ask what a request does
+abbrev pub asks_by : ℕ → Option (Ask Content Context) → Action
+asks_by index None = AsksPing
+asks_by index (Some ask) = Asks index ask
+
+abbrev pub action_of : Act → Action
+action_of acts.Enter = Enters
+action_of acts.Leave = Leaves
+action_of acts.Mark = Marks
+action_of acts.Unmark = Unmarks
+action_of acts.Take = Takes
+action_of acts.Put = Puts
+action_of acts.Look = Looks
+action_of acts.Publish = Publishes
+
+abbrev pub step_by : ℕ → Act → Step
+step_by worker act = record { worker = worker; action = action_of act }
+
+abbrev pub asking_step : ℕ → ℕ → Ask Content Context → Step
+asking_step worker index ask = record { worker = worker; action = Asks index ask }
+
+-- the step of the theorem's world
+abbrev pub step_of : RunStep → Step
+step_of (steps.Ask worker index request) = record { worker = worker; action = asks_by index (request_ask request) }
+step_of (steps.Reap worker index key) = record { worker = worker; action = Asks index (AskReap key) }
+step_of (steps.Enter worker) = record { worker = worker; action = Enters }
+step_of (steps.Leave worker) = record { worker = worker; action = Leaves }
+step_of (steps.Mark worker) = record { worker = worker; action = Marks }
+step_of (steps.Unmark worker) = record { worker = worker; action = Unmarks }
+step_of (steps.Take worker) = record { worker = worker; action = Takes }
+step_of (steps.Put worker) = record { worker = worker; action = Puts }
+step_of (steps.Look worker) = record { worker = worker; action = Looks }
+step_of (steps.Publish worker) = record { worker = worker; action = Publishes }

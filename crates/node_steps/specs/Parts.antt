@@ -1,0 +1,78 @@
+-- Where a step finds its worker and its vnode among the running parts, and what it leaves of them.
+use Rattle.std.specs.Prelude.{◌≡◌, ℕ, suc, List, Option, Some, None, slice_get, slice_set}
+use Rattle.node_steps.specs.declared.outcome.Outcome.{Outcome as Returned}
+use Rattle.node_steps.specs.declared.phase.Phase.{Phase as RunPhase}
+use Rattle.node_steps.specs.declared.site.Site.{Site}
+use Rattle.node_steps.specs.declared.phase.Phase.TheVariants as phases
+use Rattle.node_steps.specs.declared.parts.Parts.{Parts}
+use Rattle.node_steps.specs.declared.step.Act.{Act}
+use Rattle.node_steps.specs.World.{Word, Phase, World}
+use Rattle.node_steps.specs.Erased.{IsShown, erase}
+use Rattle.node_steps.specs.Steps.{Enters, Step, site_of, happens, after, outcome}
+use Rattle.node_steps.specs.Returned.{returned}
+use Rattle.node_steps.specs.Running.{HasRoom, phase_of, vnode_of, world_of, Turns}
+use Rattle.node_steps.specs.Asked.{action_of, step_by}
+
+-- there is room for one reader more, and a reader has a state to look at
+pub record IsFit (word : Word) (phase : Phase) : Type 0 where
+  pub room : HasRoom word
+  pub shown : IsShown word phase
+
+-- it is so of all that the workers are about
+abbrev pub AreFit : Parts → Type 0
+AreFit parts =
+    (place index : ℕ) (phase : RunPhase) (site : Site)
+    → slice_get parts.workers.items place ≡ Some phase → site_of Enters (phase_of phase) ≡ Some index
+    → slice_get parts.sites.items index ≡ Some site → IsFit (vnode_of site).word (phase_of phase)
+
+-- the world that running parts are
+abbrev pub world_in : Parts → World
+world_in parts = world_of parts.sites.items parts.workers.items
+
+-- the worker at a place is about the vnode at an index
+pub record IsAt (parts : Parts) (worker place index : ℕ) : Type 0 where
+  pub phase : RunPhase
+  pub site : Site
+  pub number : worker ≡ suc place
+  pub here : slice_get parts.workers.items place ≡ Some phase
+  pub about : site_of Enters (phase_of phase) ≡ Some index
+  pub there : slice_get parts.sites.items index ≡ Some site
+
+-- the place of a worker, and the index of its vnode; none where it can do nothing
+abbrev pub Finds : Parts → ℕ → Option (ℕ × ℕ) → Type 0
+Finds parts worker (Some at) = IsAt parts worker at.0 at.1
+Finds parts worker None = (act : Act) → happens (world_in parts) (step_by worker act) ≡ None
+
+-- a worker that has a call
+abbrev pub IsBusy : RunPhase → Type 0
+IsBusy phases.Idle = ⊥
+IsBusy (phases.Asked index call) = Unit {0}
+IsBusy (phases.Reading index get) = Unit {0}
+IsBusy (phases.Holding index call hand) = Unit {0}
+IsBusy (phases.Done index hand) = Unit {0}
+
+-- the place of a worker that has no call; none where there is no such worker, or it has one
+abbrev pub FindsIdle : List RunPhase → ℕ → Option ℕ → Type 0
+FindsIdle workers worker (Some place) = (worker ≡ suc place) × (slice_get workers place ≡ Some phases.Idle)
+FindsIdle workers worker None = (place : ℕ) (phase : RunPhase) → worker ≡ suc place → slice_get workers place ≡ Some phase → IsBusy phase
+
+-- a turn of the worker at a place, at the vnode of an index
+pub record TurnsAt (act : Act) (place index : ℕ) (old new : Parts) (outcome : Returned) : Type 0 where
+  pub phase : RunPhase
+  pub next : RunPhase
+  pub site : Site
+  pub later : Site
+  pub here : slice_get old.workers.items place ≡ Some phase
+  pub there : slice_get old.sites.items index ≡ Some site
+  pub workers_are : new.workers.items ≡ slice_set old.workers.items place next
+  pub sites_are : new.sites.items ≡ slice_set old.sites.items index later
+  pub turns : IsFit (vnode_of site).word (phase_of phase)
+      → Turns (action_of act) (vnode_of site) (phase_of phase) (vnode_of later) (phase_of next) outcome
+
+-- what a step returns in a world that is kept without histories, and the world after it
+pub record TakesStep (old : World) (step : Step) (returns : Returned) (new : World) : Type 0 where
+  pub returns_is : returns ≡ returned (outcome old step)
+  pub world_is : new ≡ erase (after old step)
+
+abbrev pub TakesFitStep : Parts → Step → Returned → Parts → Type 0
+TakesFitStep old step returns new = AreFit old → TakesStep (world_in old) step returns (world_in new)

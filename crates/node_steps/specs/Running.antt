@@ -1,0 +1,68 @@
+-- What running values are in the theorem's world, without its histories; and what a turn makes of them.
+use Rattle.std.specs.Prelude.{◌≡◌, ◌+◌, ◌<◌, ◌^◌, ℕ, Bool, List, [], map, Option, Some, None, option_map, MatchOption}
+use Rattle.riak_msgs.specs.declared.Content.{Content}
+use Rattle.sibling_register.specs.Answers.{Ask, AskGet, AskPut, AskDel, AskReap}
+use Rattle.actor_epoch.specs.Given.{Context}
+use Rattle.vnode_machine.specs.Asks.{get_command, put_command, del_command}
+use Rattle.vnode_core.specs.declared.ask.Ask.{Ask as Change}
+use Rattle.vnode_core.specs.declared.ask.Ask.TheVariants as changes
+use Rattle.node_steps.specs.declared.call.Call.{Call}
+use Rattle.node_steps.specs.declared.call.Call.TheVariants as calls
+use Rattle.node_steps.specs.declared.outcome.Outcome.{Outcome as Returned}
+use Rattle.node_steps.specs.declared.outcome.Outcome.TheVariants as outcomes
+use Rattle.node_steps.specs.declared.phase.Phase.{Phase as RunPhase}
+use Rattle.node_steps.specs.declared.phase.Phase.TheVariants as phases
+use Rattle.node_steps.specs.declared.site.Site.{Site}
+use Rattle.node_steps.specs.World.{Word, Open, Taken, Phase, Idle, Asked, Reading, Holding, Done, Vnode, Worker, World}
+use Rattle.node_steps.specs.Steps.{Action, turn_of}
+use Rattle.node_steps.specs.Erased.{blank, erase_vnode}
+use Rattle.node_steps.specs.Hands.{HandView}
+use Rattle.node_steps.specs.Returned.{returned}
+
+-- what a call asks
+abbrev pub ask_of : Call → Ask Content Context
+ask_of (calls.Get get) = AskGet (get_command get.value)
+ask_of (calls.Put put) = AskPut (put_command put.value)
+ask_of (calls.Del del) = AskDel (del_command del.value)
+ask_of (calls.Reap key) = AskReap key.value
+
+-- what a call is to change
+abbrev pub IsChangeOf : Call → Option Change → Type 0
+IsChangeOf (calls.Get get) change = change ≡ None
+IsChangeOf (calls.Put put) change = change ≡ Some (changes.Put put.value)
+IsChangeOf (calls.Del del) change = change ≡ Some (changes.Del del.value)
+IsChangeOf (calls.Reap key) change = change ≡ Some (changes.Reap key.value)
+
+abbrev pub phase_of : RunPhase → Phase
+phase_of phases.Idle = Idle
+phase_of (phases.Asked index call) = Asked index (ask_of call)
+phase_of (phases.Reading index get) = Reading index (get_command get.value)
+phase_of (phases.Holding index call hand) = Holding index (ask_of call) hand.value.state hand.value.plan
+phase_of (phases.Done index hand) = Done index (option_map (λ h. h.value.state) hand)
+
+-- a vnode by its word and its state, where that is in place
+abbrev pub vnode_by : (readers : ℕ) (marked : Bool) → Option HandView → Vnode
+vnode_by readers marked None = record { id = 0; word = Taken; history = []; place = blank }
+vnode_by readers marked (Some hand) = record { id = 0; word = Open readers marked; history = []; place = hand.state }
+
+abbrev pub vnode_of : Site → Vnode
+vnode_of site = vnode_by site.readers site.marked (option_map (λ h. h.value) site.place)
+
+abbrev pub worker_of : RunPhase → Worker
+worker_of phase = record { phase = phase_of phase; seen = [] }
+
+-- the world that sites and phases are
+abbrev pub world_of : List Site → List RunPhase → World
+world_of sites workers = record { vnodes = map vnode_of sites; workers = map worker_of workers }
+
+-- the vnode and the worker after an action, and what it returns: by its turn, or where it isn't possible as they were
+abbrev pub Turns : Action → (old : Vnode) (phase : Phase) (new : Vnode) (next : Phase) → Returned → Type 0
+Turns action old phase new next outcome =
+    MatchOption (turn_of [] old action phase)
+    ((new ≡ old) × (next ≡ phase) × (outcome ≡ outcomes.No))
+    (λ turn. (new ≡ erase_vnode turn.vnode) × (next ≡ turn.phase) × (outcome ≡ returned turn.outcome))
+
+-- the word can count one reader more
+abbrev pub HasRoom : Word → Type 0
+HasRoom (Open readers marked) = readers + 1 < 2 ^ 64
+HasRoom Taken = Unit {0}

@@ -1,0 +1,133 @@
+//! What each action makes of its worker and its vnode, but a look and a publish.
+
+ghost use Rattle.std.specs.Prelude.{◌≡◌, false, Some};
+ghost use Rattle.node_steps.specs.Steps.{Enters, Leaves, Marks, Unmarks, Takes, Puts};
+ghost use Rattle.node_steps.specs.Running.{HasRoom, phase_of, vnode_of, Turns};
+
+use crate::call::Call;
+use crate::hand::Hand;
+use crate::outcome::Outcome;
+use crate::phase::Phase;
+use crate::site::Site;
+
+/// One reader more. There are fewer readers than 2 to the 64 in every world that is kept.
+pub(crate) fn enter(site: &mut Site, phase: Phase) -> (Phase, Outcome)
+    ensures { HasRoom (vnode_of site.old).word
+        → Turns Enters (vnode_of site.old) (phase_of phase)
+        (vnode_of site.new) (phase_of result.0) result.1 }
+{
+    match phase {
+        Phase::Asked(index, Call::Get(get)) => {
+            if site.marked || site.place.is_none() {
+                return (Phase::Asked(index, Call::Get(get)), Outcome::No);
+            }
+            site.readers = site.readers.saturating_add(1);
+            (Phase::Reading(index, get), Outcome::Done)
+        }
+        other => (other, Outcome::No),
+    }
+}
+
+/// One reader less.
+pub(crate) fn leave(site: &mut Site, phase: Phase) -> (Phase, Outcome)
+    ensures { Turns Leaves (vnode_of site.old) (phase_of phase)
+        (vnode_of site.new) (phase_of result.0) result.1 }
+{
+    match phase {
+        Phase::Reading(index, get) => {
+            site.readers = site.readers.saturating_sub(1);
+            (Phase::Asked(index, Call::Get(get)), Outcome::Done)
+        }
+        Phase::Done(_, None) => {
+            site.readers = site.readers.saturating_sub(1);
+            (Phase::Idle, Outcome::Done)
+        }
+        other => (other, Outcome::No),
+    }
+}
+
+/// The word is marked.
+pub(crate) fn mark(site: &mut Site, phase: Phase) -> (Phase, Outcome)
+    ensures { Turns Marks (vnode_of site.old) (phase_of phase)
+        (vnode_of site.new) (phase_of result.0) result.1 }
+{
+    match phase {
+        Phase::Asked(index, call) => {
+            if site.place.is_none() || site.marked {
+                return (Phase::Asked(index, call), Outcome::No);
+            }
+            site.marked = true;
+            (Phase::Asked(index, call), Outcome::Done)
+        }
+        other => (other, Outcome::No),
+    }
+}
+
+/// The mark is taken away.
+pub(crate) fn unmark(site: &mut Site, phase: Phase) -> (Phase, Outcome)
+    ensures { Turns Unmarks (vnode_of site.old) (phase_of phase)
+        (vnode_of site.new) (phase_of result.0) result.1 }
+{
+    match phase {
+        Phase::Asked(index, call) => {
+            if site.place.is_none() || !site.marked {
+                return (Phase::Asked(index, call), Outcome::No);
+            }
+            site.marked = false;
+            (Phase::Asked(index, call), Outcome::Done)
+        }
+        other => (other, Outcome::No),
+    }
+}
+
+/// The state goes into the worker's hand. What another worker planned before it put the state back is no plan of this
+/// one, and ends.
+pub(crate) fn take(site: &mut Site, phase: Phase) -> (Phase, Outcome)
+    ensures { Turns Takes (vnode_of site.old) (phase_of phase)
+        (vnode_of site.new) (phase_of result.0) result.1 }
+{
+    match phase {
+        Phase::Asked(index, call) => {
+            if site.readers != 0 {
+                return (Phase::Asked(index, call), Outcome::No);
+            }
+            match site.place.take() {
+                Some(mut hand) => {
+                    hand.drop_plan();
+                    (Phase::Holding(index, call, hand), Outcome::Done)
+                }
+                None => (Phase::Asked(index, call), Outcome::No),
+            }
+        }
+        other => (other, Outcome::No),
+    }
+}
+
+/// Lays a state in place.
+fn lay(site: &mut Site, hand: Box<Hand>)
+    ensures { site.new ≡ record { readers = 0; marked = false; place = Some hand } }
+{
+    *site = Site {
+        readers: 0,
+        marked: false,
+        place: Some(hand),
+    };
+}
+
+/// The state lies in place again, with no readers and no mark.
+pub(crate) fn put(site: &mut Site, phase: Phase) -> (Phase, Outcome)
+    ensures { Turns Puts (vnode_of site.old) (phase_of phase)
+        (vnode_of site.new) (phase_of result.0) result.1 }
+{
+    match phase {
+        Phase::Holding(index, call, hand) => {
+            lay(site, hand);
+            (Phase::Asked(index, call), Outcome::Done)
+        }
+        Phase::Done(_, Some(hand)) => {
+            lay(site, hand);
+            (Phase::Idle, Outcome::Done)
+        }
+        other => (other, Outcome::No),
+    }
+}

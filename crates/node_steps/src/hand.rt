@@ -1,0 +1,117 @@
+//! A vnode as a worker holds it.
+
+ghost use Rattle.std.specs.Prelude.{◌≡◌, ◌≤◌, ◌-◌, None, IfOk, IfErr, is_some};
+ghost use Rattle.vnode_machine.specs.Machine.{opening};
+ghost use Rattle.vnode_machine.specs.Step.{outcome};
+ghost use Rattle.vnode_core.specs.Plans.{ask_outcome};
+ghost use Rattle.node_steps.specs.Hands.{ShowsBy, PlansBy, PublishesPlan};
+ghost use Rattle.node_steps.specs.Running.{ask_of};
+
+use crate::call::Call;
+use crate::fault::StepFault;
+use crate::outcome::{Outcome, answered, refusal_text};
+use riak_msgs::{GetAsk, Reply};
+use std::alloc::Global;
+use std::marker::Model;
+use vnode_core::{Ask, Change, Plan, Refusal, Vnode};
+
+/// A vnode, and the change that was planned at a look. Contracts see its state and the plan.
+#[derive(Drop)]
+pub(crate) struct Hand {
+    vnode: Vnode,
+    change: Option<Change>,
+}
+
+impl Model for Hand {
+    ghost use Rattle.node_steps.specs.Hands.{HandView, hand_of, IsHand};
+
+    ghost Value = { HandView };
+
+    ghost view = { hand_of };
+
+    ghost invariant = { IsHand };
+}
+
+impl Hand {
+    /// A vnode of which nothing is planned.
+    pub(crate) fn new(vnode: Vnode) -> Hand
+        ensures state { result.state ≡ vnode.state }
+        ensures plan { result.plan ≡ None }
+    {
+        Hand {
+            vnode,
+            change: None,
+        }
+    }
+
+    /// Whether a change is planned.
+    pub(crate) fn has_plan(&self) -> bool
+        ensures { result ≡ is_some self.now.plan }
+    {
+        self.change.is_some()
+    }
+
+    /// Lets the plan go, if there is one.
+    pub(crate) fn drop_plan(&mut self)
+        ensures state { self.new.state ≡ self.old.state }
+        ensures plan { self.new.plan ≡ None }
+    {
+        self.change = None;
+    }
+
+    /// The answer to a get.
+    pub(crate) fn show(&self, alloc: Global, get: &GetAsk) -> Result<Outcome, StepFault>
+        ensures { IfOk result (ShowsBy self.now.state get.now) }
+    {
+        match self.vnode.get(alloc, get) {
+            Ok(reply) => Ok(Outcome::Reply(Reply::Get(reply))),
+            Err(_) => Err(StepFault::NoMemory),
+        }
+    }
+
+    /// Looks for a call: answers it, or plans its change. Where memory is refused nothing is planned.
+    pub(crate) fn look(&mut self, alloc: Global, call: &Call) -> Result<Option<Outcome>, StepFault>
+        requires { self.old.plan ≡ None }
+        ensures state { self.new.state ≡ self.old.state }
+        ensures ok { IfOk result (λ answer.
+            PlansBy (outcome self.old.state (ask_of call.now)) self.new.plan answer) }
+        ensures err { IfErr result (λ fault. self.new.plan ≡ None) }
+    {
+        if let Call::Get(get) = call {
+            return Ok(Some(self.show(alloc, get)?));
+        }
+        match call.change(alloc)? {
+            None => unreachable!(),
+            Some(ask) => self.plan(alloc, ask),
+        }
+    }
+
+    /// Plans a change, or answers it: what the machine refuses, and what changes nothing.
+    fn plan(&mut self, alloc: Global, ask: Ask) -> Result<Option<Outcome>, StepFault>
+        ensures state { self.new.state ≡ self.old.state }
+        ensures ok { IfOk result (λ answer.
+            PlansBy (ask_outcome self.old.state ask) self.new.plan answer) }
+        ensures err { IfErr result (λ fault. self.new.plan ≡ None) }
+    {
+        self.change = None;
+        match self.vnode.prepare(alloc, ask) {
+            Ok(Plan::Change(change)) => {
+                self.change = Some(change);
+                Ok(None)
+            }
+            Ok(Plan::Nothing(answer)) => Ok(Some(answered(answer))),
+            Err(Refusal::NoMemory) => Err(StepFault::NoMemory),
+            Err(refusal) => Ok(Some(Outcome::Reply(Reply::Error(refusal_text(refusal))))),
+        }
+    }
+
+    /// Makes the change that is planned, and answers it; none where nothing is planned. It takes no memory.
+    pub(crate) fn publish(&mut self) -> Option<Outcome>
+        ensures { PublishesPlan self.old self.new result }
+    {
+        match self.change.take() {
+            Some(change) => Some(answered(self.vnode.finish(change))),
+            None => None,
+        }
+    }
+}

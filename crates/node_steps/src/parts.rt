@@ -1,0 +1,178 @@
+//! The running parts of a world, and what each kind of step does to them.
+
+ghost use Rattle.std.specs.Prelude.{◌≡◌, ◌<◌, length, IfOk, IfErr, OnErr};
+ghost use Rattle.node_steps.specs.Asked.{action_of, asking_step, step_by, step_of};
+ghost use Rattle.node_steps.specs.Parts.{Finds, FindsIdle, IsFit, TakesFitStep, TakesStep, TurnsAt, world_in};
+ghost use Rattle.node_steps.specs.Running.{ask_of, phase_of, vnode_of, Turns};
+
+use crate::acts::{enter, leave, mark, put, take, unmark};
+use crate::call::{Call, call_of};
+use crate::fault::StepFault;
+use crate::looks::{look, publish};
+use crate::outcome::Outcome;
+use crate::phase::Phase;
+use crate::site::Site;
+use crate::step::{Act, Step};
+use riak_msgs::{Key, Request};
+use std::alloc::{AllocError, Global};
+use std::mem;
+
+/// What runs: the site of each vnode, and the phase of each worker.
+#[derive(Drop)]
+pub(crate) struct Parts {
+    pub(crate) sites: Vec<Site>,
+    pub(crate) workers: Vec<Phase>,
+}
+
+/// A turn of a worker at its vnode. Where memory is refused both are as they were.
+fn turn(alloc: Global, act: Act, site: &mut Site, phase: Phase) -> Result<(Phase, Outcome), Phase>
+    ensures ok { IfOk result (λ r. IsFit (vnode_of site.old).word (phase_of phase)
+        → Turns (action_of act) (vnode_of site.old) (phase_of phase)
+        (vnode_of site.new) (phase_of r.0) r.1) }
+    ensures err { IfErr result (λ p.
+        (phase_of p ≡ phase_of phase) × (vnode_of site.new ≡ vnode_of site.old)) }
+{
+    match act {
+        Act::Enter => Ok(enter(site, phase)),
+        Act::Leave => Ok(leave(site, phase)),
+        Act::Mark => Ok(mark(site, phase)),
+        Act::Unmark => Ok(unmark(site, phase)),
+        Act::Take => Ok(take(site, phase)),
+        Act::Put => Ok(put(site, phase)),
+        Act::Look => look(alloc, site, phase),
+        Act::Publish => Ok(publish(phase)),
+    }
+}
+
+impl Parts {
+    /// The place of a worker, and the index of the vnode that it is about; none where it can do nothing.
+    fn find(&self, worker: u16) -> Option<(usize, usize)>
+        ensures { Finds self.now worker result }
+    {
+        let place = usize::from(worker.checked_sub(1)?);
+        let phase = self.workers.get(place)?;
+        let index = usize::from(phase.index()?);
+        if index >= self.sites.len() {
+            return None;
+        }
+        Some((place, index))
+    }
+
+    /// A turn of the worker at a place, at the vnode of an index.
+    fn turn_at(
+        &mut self,
+        alloc: Global,
+        act: Act,
+        place: usize,
+        index: usize,
+    ) -> Result<Outcome, StepFault>
+        requires worker { place < length self.old.workers.items }
+        requires vnode { index < length self.old.sites.items }
+        ensures ok { IfOk result (TurnsAt act place index self.old self.new) }
+        ensures err { OnErr result (world_in self.new ≡ world_in self.old) }
+    {
+        let phase = mem::replace(&mut self.workers[place], Phase::Idle);
+        match turn(alloc, act, &mut self.sites[index], phase) {
+            Ok((next, outcome)) => {
+                self.workers[place] = next;
+                Ok(outcome)
+            }
+            Err(phase) => {
+                self.workers[place] = phase;
+                Err(StepFault::NoMemory)
+            }
+        }
+    }
+
+    /// A worker that has a call does something. Where memory is refused nothing changes.
+    fn act(&mut self, alloc: Global, worker: u16, act: Act) -> Result<Outcome, StepFault>
+        ensures ok { IfOk result (λ outcome.
+            TakesFitStep self.old (step_by worker act) outcome self.new) }
+        ensures err { OnErr result (world_in self.new ≡ world_in self.old) }
+    {
+        match self.find(worker) {
+            Some((place, index)) => self.turn_at(alloc, act, place, index),
+            None => Ok(Outcome::No),
+        }
+    }
+
+    /// The place of a worker that has no call.
+    fn find_idle(&self, worker: u16) -> Option<usize>
+        ensures { FindsIdle self.now.workers.items worker result }
+    {
+        let place = usize::from(worker.checked_sub(1)?);
+        match self.workers.get(place)? {
+            Phase::Idle => Some(place),
+            Phase::Asked(..) | Phase::Reading(..) | Phase::Holding(..) | Phase::Done(..) => None,
+        }
+    }
+
+    /// A worker gets a call of the vnode at an index.
+    fn give(&mut self, worker: u16, index: u16, call: Call) -> Outcome
+        ensures { TakesStep (world_in self.old) (asking_step worker index (ask_of call)) result
+            (world_in self.new) }
+    {
+        let Some(place) = self.find_idle(worker) else {
+            return Outcome::No;
+        };
+        if usize::from(index) >= self.sites.len() {
+            return Outcome::No;
+        }
+        self.workers[place] = Phase::Asked(index, call);
+        Outcome::Done
+    }
+
+    /// A worker is asked what a request does.
+    fn ask(
+        &mut self,
+        alloc: Global,
+        worker: u16,
+        index: u16,
+        request: Request,
+    ) -> Result<Outcome, StepFault>
+        ensures ok { IfOk result (λ outcome. TakesStep (world_in self.old)
+            (step_of (Step.Ask worker index request)) outcome (world_in self.new)) }
+        ensures err { OnErr result (world_in self.new ≡ world_in self.old) }
+    {
+        match call_of(alloc, request)? {
+            Some(call) => Ok(self.give(worker, index, call)),
+            None => Ok(Outcome::No),
+        }
+    }
+
+    /// A worker is asked to reap a key.
+    fn reap(
+        &mut self,
+        alloc: Global,
+        worker: u16,
+        index: u16,
+        key: Key,
+    ) -> Result<Outcome, StepFault>
+        ensures ok { IfOk result (λ outcome. TakesStep (world_in self.old)
+            (step_of (Step.Reap worker index key)) outcome (world_in self.new)) }
+        ensures err { OnErr result (world_in self.new ≡ world_in self.old) }
+    {
+        let call = Call::Reap(Box::new(alloc, key).map_err(AllocError::from)?);
+        Ok(self.give(worker, index, call))
+    }
+
+    /// Takes a step. Where memory is refused nothing changes.
+    pub(crate) fn step(&mut self, alloc: Global, step: Step) -> Result<Outcome, StepFault>
+        ensures ok { IfOk result (λ outcome.
+            TakesFitStep self.old (step_of step) outcome self.new) }
+        ensures err { OnErr result (world_in self.new ≡ world_in self.old) }
+    {
+        match step {
+            Step::Ask(worker, index, request) => self.ask(alloc, worker, index, request),
+            Step::Reap(worker, index, key) => self.reap(alloc, worker, index, key),
+            Step::Enter(worker) => self.act(alloc, worker, Act::Enter),
+            Step::Leave(worker) => self.act(alloc, worker, Act::Leave),
+            Step::Mark(worker) => self.act(alloc, worker, Act::Mark),
+            Step::Unmark(worker) => self.act(alloc, worker, Act::Unmark),
+            Step::Take(worker) => self.act(alloc, worker, Act::Take),
+            Step::Put(worker) => self.act(alloc, worker, Act::Put),
+            Step::Look(worker) => self.act(alloc, worker, Act::Look),
+            Step::Publish(worker) => self.act(alloc, worker, Act::Publish),
+        }
+    }
+}

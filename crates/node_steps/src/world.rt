@@ -1,0 +1,130 @@
+//! A running world.
+
+ghost use Rattle.std.specs.Prelude.{◌≡◌, map, replicate, IfOk, OnErr};
+ghost use Rattle.node_steps.specs.World.{fresh_vnode, opening_vnodes, opening_world};
+ghost use Rattle.node_steps.specs.Erased.{erase, erase_vnode};
+ghost use Rattle.node_steps.specs.Running.{vnode_of};
+ghost use Rattle.node_steps.specs.Asked.{step_of};
+ghost use Rattle.node_steps.specs.Parts.{TakesStep};
+ghost use Rattle.node_steps.specs.Kept.{Follows, FollowsAll, FollowsSome};
+
+use crate::fault::StepFault;
+use crate::hand::Hand;
+use crate::outcome::Outcome;
+use crate::parts::Parts;
+use crate::phase::Phase;
+use crate::site::Site;
+use crate::step::Step;
+use std::alloc::{AllocError, Global};
+use std::marker::Model;
+use vnode_core::Vnode;
+
+/// The first epoch of a vnode of a new run.
+const FIRST_EPOCH: u32 = 1;
+
+/// Workers over vnodes, which take one step at a time in any order. Contracts see the world of [`always`](crate::always)
+/// without its histories, which no step needs.
+///
+/// One of three workers and one vnode, which is asked for b/k:
+///
+/// - 1 is asked a get and enters. 2 is asked a put of "v" and marks the word; then 3, which is asked a get, can't enter, and
+///   2 can't take the state, since 1 is inside.
+/// - 1 looks, which shows that the key is absent, and leaves. 2 takes the state, and looks: its put is planned. It publishes,
+///   and the put is answered.
+/// - 3 can't enter until 2 has put the state back. Then it enters, looks, and is shown "v".
+#[derive(Drop)]
+pub struct World {
+    parts: Parts,
+}
+
+impl Model for World {
+    ghost use Rattle.node_steps.specs.World.{World};
+    ghost use Rattle.node_steps.specs.Kept.{kept_of, IsKept};
+
+    ghost Value = { World };
+
+    ghost view = { kept_of };
+
+    ghost invariant = { λ w. IsKept (kept_of w) };
+}
+
+/// A vnode of an id, before any event, in place.
+fn new_site(alloc: Global, id: u64) -> Result<Site, AllocError>
+    ensures { IfOk result (λ site. vnode_of site ≡ erase_vnode (fresh_vnode id)) }
+{
+    let vnode = Vnode::new(alloc, id, FIRST_EPOCH);
+    let hand = Box::new(alloc, Hand::new(vnode))?;
+    Ok(Site {
+        readers: 0,
+        marked: false,
+        place: Some(hand),
+    })
+}
+
+/// The vnodes of a run, each in place.
+fn new_sites(alloc: Global, run: u32, vnodes: u16) -> Result<Vec<Site>, AllocError>
+    ensures { IfOk result (λ sites.
+        map vnode_of sites.items ≡ map erase_vnode (opening_vnodes run 0 vnodes)) }
+{
+    let mut sites = Vec::with_capacity(alloc, usize::from(vnodes))?;
+    for index in 0..vnodes {
+        let site = new_site(alloc, u64::from(run) * 65_536 + u64::from(index))?;
+        sites.push(site)?;
+    }
+    Ok(sites)
+}
+
+/// Workers that have no call.
+fn new_workers(alloc: Global, workers: u16) -> Result<Vec<Phase>, AllocError>
+    ensures { IfOk result (λ phases. phases.items ≡ replicate workers Phase.Idle) }
+{
+    let mut phases = Vec::with_capacity(alloc, usize::from(workers))?;
+    for _ in 0..workers {
+        phases.push(Phase::Idle)?;
+    }
+    Ok(phases)
+}
+
+impl World {
+    /// A world of so many workers, which have no call, and so many vnodes of a run, before any event: the vnode at an index
+    /// has the id `run * 65536 + index`.
+    pub fn new(alloc: Global, workers: u16, vnodes: u16, run: u32) -> Result<World, StepFault>
+        ensures { IfOk result (λ world. world ≡ erase (opening_world run workers vnodes)) }
+    {
+        Ok(World {
+            parts: Parts {
+                sites: new_sites(alloc, run, vnodes)?,
+                workers: new_workers(alloc, workers)?,
+            },
+        })
+    }
+
+    /// Takes a step: what comes of it, which is `No` exactly where it isn't possible. Where memory is refused nothing changes.
+    ///
+    /// A look copies what it shows, and what it plans; a call is kept on the heap. All else takes no memory.
+    pub fn step(&mut self, alloc: Global, step: Step) -> Result<Outcome, StepFault>
+        ensures step { IfOk result (λ outcome. TakesStep self.old (step_of step) outcome self.new) }
+        ensures schedule { IfOk result (λ outcome.
+            Follows self.old (step_of step) outcome self.new) }
+        ensures err { OnErr result (self.new ≡ self.old) }
+    {
+        self.parts.step(alloc, step)
+    }
+
+    /// Makes room for the outcomes, and takes the steps in their order. At a step for which memory is refused those before it
+    /// stand.
+    pub fn run(&mut self, alloc: Global, steps: Vec<Step>) -> Result<Vec<Outcome>, StepFault>
+        ensures ok { IfOk result (λ outcomes.
+            FollowsAll self.old steps.items outcomes.items self.new) }
+        ensures err { OnErr result (FollowsSome self.old steps.items self.new) }
+    {
+        let mut outcomes = Vec::with_capacity(alloc, steps.len())?;
+        for step in steps {
+            let outcome = self.step(alloc, step)?;
+            let Ok(()) = outcomes.push(outcome) else {
+                return Err(StepFault::NoMemory);
+            };
+        }
+        Ok(outcomes)
+    }
+}
