@@ -1,0 +1,335 @@
+-- What a session over gates counts.
+use Rattle.std.proofs.Common.{◌≡◌, ◌≤◌, ◌+◌, ◌∙◌, ℕ, List, [], ◌∷◌, refl, sym, ap, subst, arith, inl, inr}
+use Rattle.std.specs.Prelude.{◌⊎◌, ◌&&◌, not, if◌then◌else◌, Bool, true, false, Option, Some, None, Result, Ok, Err, is_none}
+use Rattle.pb_frame.specs.Message.{Message}
+use Rattle.riak_msgs.specs.declared.GetAsk.{GetAsk}
+use Rattle.riak_msgs.specs.declared.GetReply.{GetReply}
+use Rattle.riak_msgs.specs.declared.PutReply.{PutReply}
+use Rattle.riak_msgs.specs.declared.Content.{Content}
+use Rattle.riak_msgs.specs.declared.Key.{Key}
+use Rattle.riak_msgs.specs.declared.Text.{Text}
+use Rattle.riak_msgs.specs.declared.Text.TheVariants as texts
+use Rattle.riak_msgs.specs.declared.fault.MsgFault.{MsgFault}
+use Rattle.riak_msgs.specs.declared.Request.{Request}
+use Rattle.riak_msgs.specs.declared.Request.TheVariants as requests
+use Rattle.riak_msgs.specs.declared.Reply.{Reply}
+use Rattle.riak_msgs.specs.declared.Reply.TheVariants as replies
+use Rattle.stats_book.specs.declared.totals.Totals.{Totals}
+use Rattle.stats_book.specs.declared.quantity.Quantity.{Quantity}
+use Rattle.stats_book.specs.declared.quantity.Quantity.TheVariants.{Gets, Puts, Deletes, Refusals, Reaps}
+use Rattle.stats_book.specs.Counting.{raised, number_of, zeros}
+use Rattle.sibling_register.specs.History.{Operation, Write, Tombstone}
+use Rattle.vnode_machine.specs.Machine.{State, is_held, put_check, del_check, apply_operation}
+use Rattle.vnode_machine.specs.Asks.{get_command, put_command, del_command}
+use Rattle.vnode_machine.specs.Replies.{get_reply, put_reply}
+use Rattle.vnode_machine.specs.Step.{Response, PutDone, DelDone, Refused, Answered, Accepted, unless_refused}
+use Rattle.vnode_core.specs.declared.ask.Ask.{Ask}
+use Rattle.vnode_core.specs.declared.ask.Ask.TheVariants as asks
+use Rattle.vnode_core.specs.declared.ask.Answer.{Answer}
+use Rattle.vnode_core.specs.declared.ask.Answer.TheVariants as answers
+use Rattle.clock_store.specs.declared.store.Reaped.{Reaped}
+use Rattle.clock_store.specs.declared.store.Reaped.TheVariants.{Gone, Kept, Absent}
+use Rattle.vnode_core.specs.declared.event.Event.{Event}
+use Rattle.vnode_core.specs.declared.event.Event.TheVariants as events
+use Rattle.vnode_core.specs.declared.refusal.Refusal.{Refusal}
+use Rattle.vnode_core.specs.Events.{AsksReap, Asks, Tells, IsAnswered}
+use Rattle.vnode_core.specs.Plans.{response_of}
+use Rattle.node_session.specs.Answers.{AnswersRead, Run, message_fault_text}
+use Rattle.node_session.specs.PlainNodes.{partition_of}
+use Rattle.node_session.specs.PlainStep.{response_reply}
+use Rattle.gate_node.specs.declared.asking.Outcome.{Outcome}
+use Rattle.gate_node.specs.declared.asking.Outcome.TheVariants.{Made, Told, Moved, Full}
+use Rattle.gate_node.specs.declared.asking.Outcome.TheVariants as Outcomes
+use Rattle.gate_node.specs.Asked.{Sight, Changes, ComesOf, IsMadeBy, IsSaidOf, answer_quantity, get_quantity, outcome_quantity, outcome_reply}
+use Rattle.gate_node.specs.Asked.{Gets as AnswersGet}
+use Rattle.gate_node.specs.Gates.{Gates}
+use Rattle.gate_node.specs.GateStep.{Node, GateStep, AtIndex}
+use Rattle.gate_node.specs.Counting.{Count, Counts, CountsReply, CountsAnswer}
+use Rattle.gate_node.specs.Sessions.{reply_most, most_of, CountsUpTo}
+use Rattle.gate_node.proofs.Counting.{raised_none}
+use Rattle.gate_node.proofs.Keeping.{read-keeps}
+
+-- how much of a quantity so many of another are
+abbrev part : Quantity → ℕ → Quantity → ℕ
+part q n quantity = number_of quantity (raised q n zeros)
+
+raised-at : (q : Quantity) (n : ℕ) (quantity : Quantity) (t : Totals) → number_of quantity (raised q n t) ≡ number_of quantity t + part q n quantity
+raised-at Gets n Gets t = omega arith
+raised-at Gets n Puts t = omega arith
+raised-at Gets n Deletes t = omega arith
+raised-at Gets n Refusals t = omega arith
+raised-at Gets n Reaps t = omega arith
+raised-at Puts n Gets t = omega arith
+raised-at Puts n Puts t = omega arith
+raised-at Puts n Deletes t = omega arith
+raised-at Puts n Refusals t = omega arith
+raised-at Puts n Reaps t = omega arith
+raised-at Deletes n Gets t = omega arith
+raised-at Deletes n Puts t = omega arith
+raised-at Deletes n Deletes t = omega arith
+raised-at Deletes n Refusals t = omega arith
+raised-at Deletes n Reaps t = omega arith
+raised-at Refusals n Gets t = omega arith
+raised-at Refusals n Puts t = omega arith
+raised-at Refusals n Deletes t = omega arith
+raised-at Refusals n Refusals t = omega arith
+raised-at Refusals n Reaps t = omega arith
+raised-at Reaps n Gets t = omega arith
+raised-at Reaps n Puts t = omega arith
+raised-at Reaps n Deletes t = omega arith
+raised-at Reaps n Refusals t = omega arith
+raised-at Reaps n Reaps t = omega arith
+
+true-false : {b : Bool} → b ≡ true → b ≡ false → ⊥
+true-false h k = cc
+
+-- what a count comes to
+counts-kept : (q : Quantity) (n : ℕ) (old new : Count) → Counts q n old new → (quantity : Quantity) → number_of quantity old.counted ≤ number_of quantity new.counted
+counts-kept q n old new (inl is) quantity =
+    let e : number_of quantity new.counted ≡ number_of quantity (raised q n old.counted) = ap (λ (c : Count). number_of quantity c.counted) is in
+    let r = raised-at q n quantity old.counted in
+    omega (arith, e, r)
+counts-kept q n old new (inr full) quantity =
+    let e : number_of quantity new.counted ≡ number_of quantity old.counted = ap (λ (c : Count). number_of quantity c.counted) full.1 in
+    omega (arith, e)
+
+counts-bound : (q : Quantity) (n : ℕ) (old new : Count) → Counts q n old new → (quantity : Quantity) → number_of quantity new.counted ≤ number_of quantity old.counted + part q n quantity
+counts-bound q n old new (inl is) quantity =
+    let e : number_of quantity new.counted ≡ number_of quantity (raised q n old.counted) = ap (λ (c : Count). number_of quantity c.counted) is in
+    let r = raised-at q n quantity old.counted in
+    omega (arith, e, r)
+counts-bound q n old new (inr full) quantity =
+    let e : number_of quantity new.counted ≡ number_of quantity old.counted = ap (λ (c : Count). number_of quantity c.counted) full.1 in
+    omega (arith, e)
+
+counts-exact : (q : Quantity) (n : ℕ) (old new : Count) → Counts q n old new → new.book_full ≡ false → (quantity : Quantity) → number_of quantity new.counted ≡ number_of quantity old.counted + part q n quantity
+counts-exact q n old new (inl is) room quantity =
+    let e : number_of quantity new.counted ≡ number_of quantity (raised q n old.counted) = ap (λ (c : Count). number_of quantity c.counted) is in
+    e ∙ raised-at q n quantity old.counted
+counts-exact q n old new (inr full) room quantity = absurd (true-false (ap (λ (c : Count). c.book_full) full.1) room)
+
+counts-full : (q : Quantity) (n : ℕ) (old new : Count) → Counts q n old new → old.book_full ≡ true → new.book_full ≡ true
+counts-full q n old new (inl is) full = ap (λ (c : Count). c.book_full) is ∙ full
+counts-full q n old new (inr is) full = ap (λ (c : Count). c.book_full) is.1
+
+counts-room : (q : Quantity) (n : ℕ) (old new : Count) → Counts q n old new → new.book_full ≡ false → old.book_full ≡ false
+counts-room q n old new (inl is) room = sym (ap (λ (c : Count). c.book_full) is) ∙ room
+counts-room q n old new (inr is) room = absurd (true-false (ap (λ (c : Count). c.book_full) is.1) room)
+
+-- so much of one quantity and then of another
+counts-up : (q r : Quantity) (m n : ℕ) (old mid new : Count) (most : Quantity → ℕ) → Counts q m old mid → Counts r n mid new
+    → ((quantity : Quantity) → part q m quantity + part r n quantity ≤ most quantity) → part q m Gets + part r n Gets ≡ most Gets → part q m Puts + part r n Puts ≡ most Puts
+    → CountsUpTo most old new
+counts-up q r m n old mid new most one two within gets puts = record {
+  kept = λ quantity. let a = counts-kept q m old mid one quantity in let b = counts-kept r n mid new two quantity in omega (arith, a, b);
+  bound = λ quantity. let a = counts-bound q m old mid one quantity in let b = counts-bound r n mid new two quantity in let w = within quantity in omega (arith, a, b, w);
+  gets = λ room. let a = counts-exact q m old mid one (counts-room r n mid new two room) Gets in let b = counts-exact r n mid new two room Gets in omega (arith, a, b, gets);
+  puts = λ room. let a = counts-exact q m old mid one (counts-room r n mid new two room) Puts in let b = counts-exact r n mid new two room Puts in omega (arith, a, b, puts);
+  full = λ full. counts-full r n mid new two (counts-full q m old mid one full);
+}
+
+not-full : (a b : Bool) → (a ≡ true → b ≡ true) → b ≡ false → a ≡ false
+not-full true b full room = absurd (true-false (full refl) room)
+not-full false b full room = refl
+
+-- what a reply may be counted as
+abbrev Fits : Reply → Option Quantity → Type 0
+Fits (replies.Get reply) quantity = quantity ≡ Some Gets
+Fits (replies.Put reply) quantity = quantity ≡ Some Puts
+Fits replies.Del quantity = (quantity ≡ Some Deletes) ⊎ (quantity ≡ None)
+Fits (replies.Error text) quantity = quantity ≡ Some Refusals
+Fits replies.Ping quantity = ⊥
+
+-- the state is shown by a get's reply, or by an error
+get-fits : (r : GetReply) (A B : Type 0) (t : Text) (reply : Reply) (quantity : Option Quantity) → ((reply ≡ replies.Get r) × A) ⊎ ((reply ≡ replies.Error t) × B) → quantity ≡ Some (get_quantity reply) → Fits reply quantity
+get-fits r A B t reply quantity (inl is) counted = subst (λ (x : Reply). Fits x quantity) (sym is.0) (counted ∙ ap (λ (x : Reply). Some (get_quantity x)) is.0)
+get-fits r A B t reply quantity (inr is) counted = subst (λ (x : Reply). Fits x quantity) (sym is.0) (counted ∙ ap (λ (x : Reply). Some (get_quantity x)) is.0)
+
+gets-fit : (get : GetAsk) (old new : Sight) (reply : Reply) (quantity : Option Quantity) → AnswersGet get old new reply quantity → Fits reply quantity
+gets-fit get old new reply quantity (inl said, counted) = get-fits (get_reply said.state (get_command get)) (said.state ≡ said.state) (said.state ≡ said.state) texts.NoMemory reply quantity said.says counted
+gets-fit get old new reply quantity (inr moved, counted) = subst (λ (x : Reply). Fits x quantity) (sym moved.0) (counted ∙ ap (λ (x : Reply). Some (get_quantity x)) moved.0)
+
+-- a command that isn't refused is accepted
+accepted-answered : (operation : Operation Content) (response other : Response) (next : State Content) → Accepted operation response next ≡ Answered other → ⊥
+accepted-answered operation response other next h = cc
+
+refused-answered : (number : ℕ) (other : Response) → Refused number ≡ Answered other → ⊥
+refused-answered number other h = cc
+
+unless-answered : (check : Option ℕ) (operation : Operation Content) (response other : Response) (next : State Content) → unless_refused check (Accepted operation response next) ≡ Answered other → ⊥
+unless-answered None operation response other next h = accepted-answered operation response other next h
+unless-answered (Some number) operation response other next h = refused-answered number other h
+
+done-put : (reply : PutReply) → Answered DelDone ≡ Answered (PutDone reply) → ⊥
+done-put reply h = cc
+
+idle-put : (idle : Bool) (check : Option ℕ) (operation : Operation Content) (response : Response) (reply : PutReply) (next : State Content)
+    → (if idle then Answered DelDone else unless_refused check (Accepted operation response next)) ≡ Answered (PutDone reply) → ⊥
+idle-put true check operation response reply next h = done-put reply h
+idle-put false check operation response reply next h = unless-answered check operation response (PutDone reply) next h
+
+-- a put or a delete
+abbrev IsCommand : Ask → Type 0
+IsCommand (asks.Put put) = Unit {0}
+IsCommand (asks.Del del) = Unit {0}
+IsCommand other = ⊥
+
+no-reap : (ask : Ask) → IsCommand ask → (key : Key) → AsksReap key ask → ⊥
+no-reap (asks.Put put) command key h = h
+no-reap (asks.Del del) command key h = h
+no-reap (asks.Reap other) command key h = command
+no-reap (asks.ReapFirst from) command key h = command
+
+put-reaped : (reaped : Reaped) (reply : PutReply) → answers.Reaped reaped ≡ answers.Put reply → ⊥
+put-reaped reaped reply h = cc
+
+del-reaped : (reaped : Reaped) → answers.Reaped reaped ≡ answers.Del → ⊥
+del-reaped reaped h = cc
+
+made-no-reap : (ask : Ask) → IsCommand ask → (event : Event) (reaped : Reaped) → Asks event ask → Tells event (answers.Reaped reaped) → ⊥
+made-no-reap ask command (events.Put put reply) reaped asked told = put-reaped reaped reply told
+made-no-reap ask command (events.Del del) reaped asked told = del-reaped reaped told
+made-no-reap ask command (events.Reap key) reaped asked told = no-reap ask command key asked
+
+-- what came of a command, and how it is counted
+made-fits : (ask : Ask) → IsCommand ask → (old new : Sight) (answer : Answer) → IsMadeBy ask old new answer → Fits (response_reply (response_of answer)) (Some (answer_quantity answer))
+made-fits ask command old new (answers.Put reply) made = refl
+made-fits ask command old new answers.Del made = inl refl
+made-fits ask command old new (answers.Reaped reaped) made = absurd (made-no-reap ask command made.event reaped made.asked made.told)
+
+told-fits : (ask : Ask) → IsCommand ask → (old new : Sight) (answer : Answer) → IsSaidOf (λ s. IsAnswered s ask answer) old new → Fits (response_reply (response_of answer)) None
+told-fits (asks.Put put) command old new answer said =
+    let c = put_command put in let s = said.state in
+    let next = apply_operation s c.key c.context (Write c.value) in
+    absurd (unless-answered (put_check s c) (Write c.value) (PutDone (put_reply next c)) (response_of answer) next said.says.0)
+told-fits (asks.Del del) command old new (answers.Put reply) said =
+    let c = del_command del in let s = said.state in
+    absurd (idle-put (is_none c.context && not (is_held s c.key)) (del_check s c) Tombstone DelDone reply (apply_operation s c.key c.context Tombstone) said.says.0)
+told-fits (asks.Del del) command old new answers.Del said = inr refl
+told-fits (asks.Del del) command old new (answers.Reaped Gone) said = inr refl
+told-fits (asks.Del del) command old new (answers.Reaped Kept) said = inr refl
+told-fits (asks.Del del) command old new (answers.Reaped Absent) said = inr refl
+told-fits (asks.Reap key) command old new answer said = absurd command
+told-fits (asks.ReapFirst from) command old new answer said = absurd command
+
+outcome-fits : (ask : Ask) → IsCommand ask → (old new : Sight) (outcome : Outcome Answer Refusal) → ComesOf ask old new outcome → Fits (outcome_reply outcome) (outcome_quantity outcome)
+outcome-fits ask command old new (Made answer) comes = made-fits ask command old new answer comes
+outcome-fits ask command old new (Told answer) comes = told-fits ask command old new answer comes
+outcome-fits ask command old new (Outcomes.Refused refusal) comes = refl
+outcome-fits ask command old new Moved comes = refl
+outcome-fits ask command old new Full comes = refl
+
+changes-fit : (ask : Ask) → IsCommand ask → (old new : Sight) (reply : Reply) (quantity : Option Quantity) → Changes ask old new reply quantity → Fits reply quantity
+changes-fit ask command old new reply quantity c =
+    subst (λ (x : Reply). Fits x quantity) (sym c.replied) (subst (λ q. Fits (outcome_reply c.outcome) q) (sym c.counted) (outcome-fits ask command old new c.outcome c.comes))
+
+within-get : (budget reaps : ℕ) (reply : GetReply) → reaps ≤ budget → (quantity : Quantity) → part Gets 1 quantity + part Reaps reaps quantity ≤ reply_most budget quantity (replies.Get reply)
+within-get budget reaps reply few Gets = omega (arith, few)
+within-get budget reaps reply few Puts = omega (arith, few)
+within-get budget reaps reply few Deletes = omega (arith, few)
+within-get budget reaps reply few Refusals = omega (arith, few)
+within-get budget reaps reply few Reaps = omega (arith, few)
+
+within-put : (budget reaps : ℕ) (reply : PutReply) → reaps ≤ budget → (quantity : Quantity) → part Puts 1 quantity + part Reaps reaps quantity ≤ reply_most budget quantity (replies.Put reply)
+within-put budget reaps reply few Gets = omega (arith, few)
+within-put budget reaps reply few Puts = omega (arith, few)
+within-put budget reaps reply few Deletes = omega (arith, few)
+within-put budget reaps reply few Refusals = omega (arith, few)
+within-put budget reaps reply few Reaps = omega (arith, few)
+
+within-del : (budget reaps : ℕ) → reaps ≤ budget → (quantity : Quantity) → part Deletes 1 quantity + part Reaps reaps quantity ≤ reply_most budget quantity replies.Del
+within-del budget reaps few Gets = omega (arith, few)
+within-del budget reaps few Puts = omega (arith, few)
+within-del budget reaps few Deletes = omega (arith, few)
+within-del budget reaps few Refusals = omega (arith, few)
+within-del budget reaps few Reaps = omega (arith, few)
+
+within-error : (budget reaps : ℕ) (text : Text) → reaps ≤ budget → (quantity : Quantity) → part Refusals 1 quantity + part Reaps reaps quantity ≤ reply_most budget quantity (replies.Error text)
+within-error budget reaps text few Gets = omega (arith, few)
+within-error budget reaps text few Puts = omega (arith, few)
+within-error budget reaps text few Deletes = omega (arith, few)
+within-error budget reaps text few Refusals = omega (arith, few)
+within-error budget reaps text few Reaps = omega (arith, few)
+
+within-idle : (budget reaps : ℕ) → reaps ≤ budget → (quantity : Quantity) → part Gets 0 quantity + part Reaps reaps quantity ≤ reply_most budget quantity replies.Del
+within-idle budget reaps few Gets = omega (arith, few)
+within-idle budget reaps few Puts = omega (arith, few)
+within-idle budget reaps few Deletes = omega (arith, few)
+within-idle budget reaps few Refusals = omega (arith, few)
+within-idle budget reaps few Reaps = omega (arith, few)
+
+-- one reply and its reaps
+one-counts : (budget reaps : ℕ) (reply : Reply) (quantity : Option Quantity) (old new : Count) → Fits reply quantity → reaps ≤ budget → CountsAnswer quantity reaps old new
+    → CountsUpTo (λ q. reply_most budget q reply) old new
+one-counts budget reaps (replies.Get reply) quantity old new fits few c =
+    counts-up Gets Reaps 1 reaps old c.replied new (λ q. reply_most budget q (replies.Get reply)) (subst (λ q. CountsReply q old c.replied) fits c.reply) c.forgotten (within-get budget reaps reply few) (omega arith) (omega arith)
+one-counts budget reaps (replies.Put reply) quantity old new fits few c =
+    counts-up Puts Reaps 1 reaps old c.replied new (λ q. reply_most budget q (replies.Put reply)) (subst (λ q. CountsReply q old c.replied) fits c.reply) c.forgotten (within-put budget reaps reply few) (omega arith) (omega arith)
+one-counts budget reaps (replies.Error text) quantity old new fits few c =
+    counts-up Refusals Reaps 1 reaps old c.replied new (λ q. reply_most budget q (replies.Error text)) (subst (λ q. CountsReply q old c.replied) fits c.reply) c.forgotten (within-error budget reaps text few) (omega arith) (omega arith)
+one-counts budget reaps replies.Del quantity old new (inl fits) few c =
+    counts-up Deletes Reaps 1 reaps old c.replied new (λ q. reply_most budget q replies.Del) (subst (λ q. CountsReply q old c.replied) fits c.reply) c.forgotten (within-del budget reaps few) (omega arith) (omega arith)
+one-counts budget reaps replies.Del quantity old new (inr fits) few c =
+    let same : c.replied ≡ old = subst (λ q. CountsReply q old c.replied) fits c.reply in
+    let none = raised_none Gets old.counted in
+    let counts : Counts Gets 0 old c.replied = inl (same ∙ ap (λ t. record old { counted = t }) (sym none)) in
+    counts-up Gets Reaps 0 reaps old c.replied new (λ q. reply_most budget q replies.Del) counts c.forgotten (within-idle budget reaps few) (omega arith) (omega arith)
+one-counts budget reaps replies.Ping quantity old new fits few c = absurd fits
+
+-- nothing is counted
+none-counts : (most : Quantity → ℕ) (old : Count) → most Gets ≡ 0 → most Puts ≡ 0 → CountsUpTo most old old
+none-counts most old gets puts = record {
+  kept = λ quantity. omega arith;
+  bound = λ quantity. omega arith;
+  gets = λ room. omega (arith, gets);
+  puts = λ room. omega (arith, puts);
+  full = λ full. full;
+}
+
+at-counts : (index : ℕ) (old new : Node) (reply : Reply) (Answers : Sight → Sight → Option Quantity → Type 0) → ((p q : Sight) (quantity : Option Quantity) → Answers p q quantity → Fits reply quantity)
+    → AtIndex index old new Answers → CountsUpTo (λ q. reply_most old.shared.budget q reply) old.count new.count
+at-counts index old new reply Answers fits at =
+    let few : at.reaps ≤ old.shared.budget = at.steps.reaps.few in
+    subst (λ (n : Node). CountsUpTo (λ q. reply_most old.shared.budget q reply) old.count n.count) (sym at.node)
+    (one-counts old.shared.budget at.reaps reply at.quantity old.count at.count (fits at.before at.steps.answered at.quantity at.steps.answers) few at.counts)
+
+same-counts : (most : Quantity → ℕ) (old new : Node) → new ≡ old → most Gets ≡ 0 → most Puts ≡ 0 → CountsUpTo most old.count new.count
+same-counts most old new same gets puts = subst (λ (n : Node). CountsUpTo most old.count n.count) (sym same) (none-counts most old.count gets puts)
+
+step-counts : (old : Node) (request : Request) (reply : Reply) (new : Node) → GateStep old request reply new → CountsUpTo (λ q. reply_most old.shared.budget q reply) old.count new.count
+step-counts old requests.Ping reply new step =
+    subst (λ (r : Reply). CountsUpTo (λ q. reply_most old.shared.budget q r) old.count new.count) (sym step.0) (same-counts (λ q. reply_most old.shared.budget q replies.Ping) old new step.1 refl refl)
+step-counts old (requests.Get get) reply new step = at-counts (partition_of old.shared.index_bits get.key) old new reply (λ p q. AnswersGet get p q reply) (λ p q quantity. gets-fit get p q reply quantity) step
+step-counts old (requests.Put put) reply new step = at-counts (partition_of old.shared.index_bits put.key) old new reply (λ p q. Changes (asks.Put put) p q reply) (λ p q quantity. changes-fit (asks.Put put) tt p q reply quantity) step
+step-counts old (requests.Del del) reply new step = at-counts (partition_of old.shared.index_bits del.key) old new reply (λ p q. Changes (asks.Del del) p q reply) (λ p q quantity. changes-fit (asks.Del del) tt p q reply quantity) step
+
+error-counts : (old new : Node) (reply : Reply) (text : Text) → reply ≡ replies.Error text → new ≡ old → CountsUpTo (λ q. reply_most old.shared.budget q reply) old.count new.count
+error-counts old new reply text is same =
+    subst (λ (r : Reply). CountsUpTo (λ q. reply_most old.shared.budget q r) old.count new.count) (sym is) (same-counts (λ q. reply_most old.shared.budget q (replies.Error text)) old new same refl refl)
+
+read-counts : (old : Node) (said : Result Request MsgFault) (reply : Reply) (new : Node) → AnswersRead GateStep old said reply new → CountsUpTo (λ q. reply_most old.shared.budget q reply) old.count new.count
+read-counts old (Ok request) reply new (inl step) = step-counts old request reply new step
+read-counts old (Ok request) reply new (inr stays) = error-counts old new reply texts.NoMemory stays.0 stays.1
+read-counts old (Err fault) reply new stays = error-counts old new reply (message_fault_text fault) stays.0 stays.1
+
+-- one after another
+both-count : (f g : Quantity → ℕ) (old mid new : Count) → CountsUpTo f old mid → CountsUpTo g mid new → CountsUpTo (λ q. f q + g q) old new
+both-count f g old mid new one two =
+    let room : new.book_full ≡ false → mid.book_full ≡ false = λ room. not-full mid.book_full new.book_full two.full room in
+    record {
+      kept = λ quantity. let a = one.kept quantity in let b = two.kept quantity in omega (arith, a, b);
+      bound = λ quantity. let a = one.bound quantity in let b = two.bound quantity in omega (arith, a, b);
+      gets = λ left. let a = one.gets (room left) in let b = two.gets left in omega (arith, a, b);
+      puts = λ left. let a = one.puts (room left) in let b = two.puts left in omega (arith, a, b);
+      full = λ full. two.full (one.full full);
+    }
+
+pub run-counts : (old : Node) (messages : List Message) (replies : List Reply) (new : Node) → Run GateStep old messages replies new → CountsUpTo (most_of old.shared.budget replies) old.count new.count
+run-counts old [] [] new run = same-counts (most_of old.shared.budget []) old new run refl refl
+run-counts old [] (reply ∷ replies) new run = absurd run
+run-counts old (message ∷ messages) [] new run = absurd run
+run-counts old (message ∷ messages) (reply ∷ replies) new run =
+    let here = read-counts old run.1.said reply run.0 run.1.answers in
+    let shared = read-keeps old run.1.said reply run.0 run.1.answers in
+    let rest = subst (λ (s : Gates). CountsUpTo (most_of s.budget replies) run.0.count new.count) shared (run-counts run.0 messages replies new run.2) in
+    both-count (λ q. reply_most old.shared.budget q reply) (most_of old.shared.budget replies) old.count run.0.count new.count here rest

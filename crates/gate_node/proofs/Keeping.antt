@@ -1,0 +1,28 @@
+-- A node over gates keeps them.
+use Rattle.std.proofs.Common.{◌≡◌, ◌∙◌, List, [], ◌∷◌, ap, inl, inr}
+use Rattle.std.specs.Prelude.{Result, Ok, Err}
+use Rattle.pb_frame.specs.Message.{Message}
+use Rattle.riak_msgs.specs.declared.fault.MsgFault.{MsgFault}
+use Rattle.riak_msgs.specs.declared.Request.{Request}
+use Rattle.riak_msgs.specs.declared.Request.TheVariants as requests
+use Rattle.riak_msgs.specs.declared.Reply.{Reply}
+use Rattle.node_session.specs.Answers.{AnswersRead, Run}
+use Rattle.gate_node.specs.GateStep.{Node, GateStep}
+
+step-keeps : (old : Node) (request : Request) (reply : Reply) (new : Node) → GateStep old request reply new → new.shared ≡ old.shared
+step-keeps old requests.Ping reply new step = ap (λ (n : Node). n.shared) step.1
+step-keeps old (requests.Get get) reply new step = ap (λ (n : Node). n.shared) step.node
+step-keeps old (requests.Put put) reply new step = ap (λ (n : Node). n.shared) step.node
+step-keeps old (requests.Del del) reply new step = ap (λ (n : Node). n.shared) step.node
+
+pub read-keeps : (old : Node) (said : Result Request MsgFault) (reply : Reply) (new : Node) → AnswersRead GateStep old said reply new → new.shared ≡ old.shared
+read-keeps old (Ok request) reply new (inl step) = step-keeps old request reply new step
+read-keeps old (Ok request) reply new (inr stays) = ap (λ (n : Node). n.shared) stays.1
+read-keeps old (Err fault) reply new stays = ap (λ (n : Node). n.shared) stays.1
+
+pub run-keeps : (old : Node) (messages : List Message) (replies : List Reply) (new : Node) → Run GateStep old messages replies new → new.shared ≡ old.shared
+run-keeps old [] [] new run = ap (λ (n : Node). n.shared) run
+run-keeps old [] (reply ∷ replies) new run = absurd run
+run-keeps old (message ∷ messages) [] new run = absurd run
+run-keeps old (message ∷ messages) (reply ∷ replies) new run =
+    run-keeps run.0 messages replies new run.2 ∙ read-keeps old run.1.said reply run.0 run.1.answers

@@ -1,0 +1,18 @@
+-- The positions of a gate's history are legal histories.
+use Rattle.std.proofs.Common.{ℕ, List, subst}
+use Rattle.riak_msgs.specs.declared.Content.{Content}
+use Rattle.vnode_machine.specs.Machine.{State}
+use Rattle.rw_gate.specs.Machines.{MachineRun}
+use Rattle.rw_gate.specs.Views.{GateId}
+use Rattle.rw_gate.specs.Histories.{RunFrom}
+use Rattle.vnode_core.specs.declared.event.Event.{Event}
+use Rattle.vnode_core.specs.Plans.{View}
+use Rattle.vnode_core.specs.Events.{Makes}
+use Rattle.vnode_core.proofs.Events.{run-is-legal}
+use Rattle.gate_node.specs.Asked.{state_of}
+use Rattle.gate_node.specs.Legal.{PositionIsLegal}
+
+pub position-is-legal : (vnode : ℕ) (gate : GateId View) (events : List Event) (state : State Content) → PositionIsLegal vnode gate events state
+position-is-legal vnode gate events state limits made leads =
+    run-is-legal vnode 0 events state limits (subst (λ s. MachineRun Makes s events state) made.new
+    (subst (λ opened. RunFrom state_of Makes opened events state) made.made leads))

@@ -1,0 +1,6 @@
+pub mod Counting
+pub mod Growing
+pub mod Keeping
+pub mod Legal
+pub mod Opened
+pub mod Reaping

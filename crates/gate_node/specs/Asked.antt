@@ -1,0 +1,125 @@
+-- What a request to one vnode behind a gate comes to, by what the caller's pass has seen and published.
+use Rattle.std.specs.Prelude.{◌≡◌, ◌≤◌, ◌⊎◌, ℕ, zero, suc, Option, Some, None}
+use mathlib.Core.List.{IsPrefix}
+use Rattle.riak_msgs.specs.declared.Content.{Content}
+use Rattle.riak_msgs.specs.declared.GetAsk.{GetAsk}
+use Rattle.riak_msgs.specs.declared.Reply.{Reply}
+use Rattle.riak_msgs.specs.declared.Reply.TheVariants as replies
+use Rattle.riak_msgs.specs.declared.Text.TheVariants as texts
+use Rattle.sibling_register.specs.Answers.{AskGet}
+use Rattle.vnode_machine.specs.Asks.{get_command}
+use Rattle.vnode_machine.specs.Machine.{State}
+use Rattle.vnode_machine.specs.Step.{outcome}
+use Rattle.stats_book.specs.declared.quantity.Quantity.{Quantity}
+use Rattle.stats_book.specs.declared.quantity.Quantity.TheVariants as quantities
+use Rattle.rw_gate.specs.Views.{PassView}
+use Rattle.vnode_core.specs.declared.ask.Ask.{Ask}
+use Rattle.vnode_core.specs.declared.ask.Ask.TheVariants as asks
+use Rattle.vnode_core.specs.declared.ask.Answer.{Answer}
+use Rattle.vnode_core.specs.declared.ask.Answer.TheVariants as answers
+use Rattle.vnode_core.specs.declared.event.Event.{Event}
+use Rattle.vnode_core.specs.declared.refusal.Refusal.{Refusal}
+use Rattle.vnode_core.specs.Plans.{View, Refuses, response_of}
+use Rattle.vnode_core.specs.Refusals.{number_of}
+use Rattle.vnode_core.specs.Events.{Makes, IsAnswered, Asks, Tells}
+use Rattle.node_session.specs.PlainStep.{refusal_text, response_reply, StepsBy}
+use Rattle.gate_node.specs.declared.asking.Outcome.{Outcome}
+use Rattle.gate_node.specs.declared.asking.Outcome.TheVariants.{Made, Told, Refused, Moved, Full}
+use Rattle.gate_node.specs.Asking.{Comes, IsMade, IsSaid, IsOvertaken}
+
+-- what a caller has seen of a vnode's history, and at which positions of it the caller published
+abbrev pub Sight : Type 0
+Sight = PassView View Event
+
+-- the machine's state of a vnode
+abbrev pub state_of : View → State Content
+state_of vnode = vnode.state
+
+-- what came of an ask, an ask that was made, and what the machine says at the end of what was seen
+abbrev pub ComesOf : Ask → Sight → Sight → Outcome Answer Refusal → Type 0
+ComesOf = Comes state_of Makes IsAnswered Refuses Asks Tells
+
+abbrev pub IsMadeBy : Ask → Sight → Sight → Answer → Type 0
+IsMadeBy = IsMade state_of Makes IsAnswered Refuses Asks Tells
+
+abbrev pub IsSaidOf : (State Content → Type 0) → Sight → Sight → Type 0
+IsSaidOf = IsSaid state_of Makes IsAnswered Refuses Asks Tells
+
+-- the reply for what came of an ask
+abbrev pub outcome_reply : Outcome Answer Refusal → Reply
+outcome_reply (Made answer) = response_reply (response_of answer)
+outcome_reply (Told answer) = response_reply (response_of answer)
+outcome_reply (Refused refusal) = replies.Error (refusal_text (number_of refusal))
+outcome_reply Moved = replies.Error texts.Moved
+outcome_reply Full = replies.Error texts.HistoryFull
+
+-- what an accepted command is counted as
+abbrev pub answer_quantity : Answer → Quantity
+answer_quantity (answers.Put reply) = quantities.Puts
+answer_quantity answers.Del = quantities.Deletes
+answer_quantity (answers.Reaped reaped) = quantities.Reaps
+
+-- what is counted of what came of an ask: a command that was accepted, or an error; nothing where nothing was changed
+abbrev pub outcome_quantity : Outcome Answer Refusal → Option Quantity
+outcome_quantity (Made answer) = Some (answer_quantity answer)
+outcome_quantity (Told answer) = None
+outcome_quantity other = Some quantities.Refusals
+
+-- an ask gets the reply for what came of it, and that is counted
+pub record Changes (ask : Ask) (old new : Sight) (reply : Reply) (quantity : Option Quantity) : Type 0 where
+  pub outcome : Outcome Answer Refusal
+  pub comes : ComesOf ask old new outcome
+  pub replied : reply ≡ outcome_reply outcome
+  pub counted : quantity ≡ outcome_quantity outcome
+
+-- the machine's reply to a get in this state, or memory is refused
+abbrev pub Shows : GetAsk → Reply → State Content → Type 0
+Shows get reply state = StepsBy state (outcome state (AskGet (get_command get))) reply state
+
+-- a get is shown the state at the end of what is then seen, or the history had gone on
+abbrev pub IsShown : GetAsk → Sight → Sight → Reply → Type 0
+IsShown get old new reply = IsSaidOf (Shows get reply) old new ⊎ ((reply ≡ replies.Error texts.Moved) × IsOvertaken old new)
+
+-- what a get is counted as, by its reply
+abbrev pub get_quantity : Reply → Quantity
+get_quantity (replies.Error text) = quantities.Refusals
+get_quantity reply = quantities.Gets
+
+-- a get is shown the state, and that is counted
+abbrev pub Gets : GetAsk → Sight → Sight → Reply → Option Quantity → Type 0
+Gets get old new reply quantity = IsShown get old new reply × (quantity ≡ Some (get_quantity reply))
+
+-- what is asked to forget the first dead key
+abbrev pub first_reap : Ask
+first_reap = asks.ReapFirst None
+
+-- so many dead keys were forgotten, one after another
+abbrev pub Reaps : ℕ → Sight → Sight → Type 0
+Reaps zero old new = new ≡ old
+Reaps (suc n) old new = (mid : Sight) × (answer : Answer) × (mid.gate ≡ old.gate) × IsMadeBy first_reap old mid answer × Reaps n mid new
+
+abbrev pub IsNotMade : Outcome Answer Refusal → Type 0
+IsNotMade (Made answer) = ⊥
+IsNotMade other = Unit {0}
+
+-- no further one was forgotten: none is dead, or the history had gone on, or is full
+pub record EndsReaping (old new : Sight) : Type 0 where
+  pub outcome : Outcome Answer Refusal
+  pub ends : IsNotMade outcome
+  pub comes : ComesOf first_reap old new outcome
+  pub more : IsPrefix old.prefix new.prefix
+
+-- so many dead keys were forgotten, all that the budget allows, or fewer, where no further one was
+pub record ReapsUpTo (budget count : ℕ) (old new : Sight) : Type 0 where
+  pub reaped : Sight
+  pub few : count ≤ budget
+  pub made : Reaps count old reaped
+  pub rest : ((count ≡ budget) × (new ≡ reaped)) ⊎ EndsReaping reaped new
+
+-- a request was answered, with all that was seen before it, and then so many dead keys were forgotten
+pub record AnswersAndReaps (budget count : ℕ) (Answers : Sight → Sight → Type 0) (old new : Sight) : Type 0 where
+  pub answered : Sight
+  pub gate : answered.gate ≡ old.gate
+  pub more : IsPrefix old.prefix answered.prefix
+  pub answers : Answers old answered
+  pub reaps : ReapsUpTo budget count answered new

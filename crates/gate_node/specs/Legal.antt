@@ -1,0 +1,16 @@
+-- Where a node over gates answers, as a history of the register.
+use Rattle.std.specs.Prelude.{ℕ, List, []}
+use Rattle.riak_msgs.specs.declared.Content.{Content}
+use Rattle.vnode_machine.specs.Machine.{State}
+use Rattle.vnode_machine.specs.Replay.{IsWithinLimits}
+use Rattle.rw_gate.specs.Views.{GateId}
+use Rattle.rw_gate.specs.Histories.{RunFrom}
+use Rattle.vnode_core.specs.declared.event.Event.{Event}
+use Rattle.vnode_core.specs.Plans.{View}
+use Rattle.vnode_core.specs.Events.{Makes, IsMadeNew, GoesOnTo}
+use Rattle.gate_node.specs.Asked.{state_of}
+
+-- at a position to which the history of a gate leads that was made round this new vnode, the events before it are a legal
+-- history of the register, each answered as the register answers it there, and the state is their replay
+abbrev pub PositionIsLegal : (vnode : ℕ) → GateId View → List Event → State Content → Type 0
+PositionIsLegal vnode gate events state = IsWithinLimits vnode 0 → IsMadeNew vnode 0 gate → RunFrom state_of Makes gate.opening events state → GoesOnTo vnode 0 [] events state

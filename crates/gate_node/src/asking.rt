@@ -1,0 +1,71 @@
+//! One ask of a state behind a gate, by a caller who has a pass of it.
+ghost use Rattle.std.specs.Prelude.{◌≡◌};
+ghost use mathlib.Core.List.{IsPrefix};
+ghost use Rattle.gate_node.specs.Asking.{Comes};
+
+use rw_gate::{Gate, Kept, Pass, Plan, PublishFault, WriteRight};
+use std::alloc::Global;
+use std::sync::Wait;
+
+/// What came of an ask.
+#[derive(Drop)]
+pub enum Outcome<P, F> {
+    /// It was accepted, as the next event of the history, and this is its answer.
+    Made(P),
+    /// It changes nothing, and this is its answer.
+    Told(P),
+    /// It was refused.
+    Refused(F),
+    /// The history has gone on past the state under the right, and nothing was changed.
+    Moved,
+    /// The history can have no further event, and nothing was changed.
+    Full,
+}
+
+/// Asks once, by the pass, under a right to write of its own: waits until the state is in hand, looks, plans what is asked,
+/// publishes the change, and gives the right back. Memory is taken by the state's own `prepare` alone.
+pub fn ask<S: Kept, R: Wait>(
+    rt: &R,
+    alloc: Global,
+    gate: &Gate<S>,
+    pass: &mut Pass<S>,
+    ask: S::Ask,
+) -> Outcome<S::Reply, S::Refusal>
+    requires { pass.old.gate ≡ gate.now }
+    ensures gate { pass.new.gate ≡ pass.old.gate }
+    ensures more { IsPrefix pass.old.prefix pass.new.prefix }
+    ensures outcome { Comes S.content S.accepts S.answers S.refuses S.asks S.tells
+        ask pass.old pass.new result }
+{
+    let mut right = gate.write(rt);
+    let outcome = ask_under(&mut right, alloc, pass, ask);
+    right.release();
+    outcome
+}
+
+/// Asks once under a right.
+pub(crate) fn ask_under<S: Kept>(
+    right: &mut WriteRight<'_, S>,
+    alloc: Global,
+    pass: &mut Pass<S>,
+    ask: S::Ask,
+) -> Outcome<S::Reply, S::Refusal>
+    requires { pass.old.gate ≡ right.old.gate }
+    ensures gate { pass.new.gate ≡ pass.old.gate }
+    ensures more { IsPrefix pass.old.prefix pass.new.prefix }
+    ensures outcome { Comes S.content S.accepts S.answers S.refuses S.asks S.tells
+        ask pass.old pass.new result }
+{
+    if right.look(pass).is_err() {
+        return Outcome::Moved;
+    }
+    match right.prepare(alloc, ask) {
+        Ok(Plan::Change(change)) => match right.publish(pass, change) {
+            Ok(reply) => Outcome::Made(reply),
+            Err(PublishFault::Moved(_)) => Outcome::Moved,
+            Err(PublishFault::Full) => Outcome::Full,
+        },
+        Ok(Plan::Nothing(reply)) => Outcome::Told(reply),
+        Err(refusal) => Outcome::Refused(refusal),
+    }
+}

@@ -1,0 +1,84 @@
+//! What one node counts, by its share of the book.
+ghost use Rattle.std.specs.Prelude.{◌≡◌, false};
+ghost use Rattle.gate_node.specs.Counting.{Counts, CountsReply, CountsAnswer};
+
+use stats_book::{Book, Quantity, Share};
+use std::marker::Model;
+use std::sync::Wait;
+use std::sync::ledger::Ledger;
+
+/// What one node counts, by its share of the book, and whether the book had no room for some of it.
+#[derive(Drop)]
+pub(crate) struct Counter<'a, G: Ledger, P: Ledger, D: Ledger, E: Ledger, R: Ledger> {
+    book: &'a Book<G, P, D, E, R>,
+    share: Share<G, P, D, E, R>,
+    is_book_full: bool,
+}
+
+impl<'a, G: Ledger, P: Ledger, D: Ledger, E: Ledger, R: Ledger> Model
+    for Counter<'a, G, P, D, E, R> {
+    ghost use Rattle.gate_node.specs.Counting.{Count};
+
+    ghost Value = { Count };
+
+    ghost view = { λ c. record { counted = c.share; book_full = c.is_book_full } };
+}
+
+impl<'a, G: Ledger, P: Ledger, D: Ledger, E: Ledger, R: Ledger> Counter<'a, G, P, D, E, R> {
+    /// A counter by this share of the book, which had room so far.
+    pub(crate) fn new(
+        book: &'a Book<G, P, D, E, R>,
+        share: Share<G, P, D, E, R>,
+    ) -> Counter<'a, G, P, D, E, R>
+        ensures { result ≡ record { counted = share; book_full = false } }
+    {
+        Counter {
+            book,
+            share,
+            is_book_full: false,
+        }
+    }
+
+    /// The share, and whether the book had no room for some of what was to be counted.
+    pub(crate) fn parts(self) -> (Share<G, P, D, E, R>, bool)
+        ensures share { result.0 ≡ self.entry.counted }
+        ensures full { result.1 ≡ self.entry.book_full }
+    {
+        let Counter {
+            book: _,
+            share,
+            is_book_full,
+        } = self;
+        (share, is_book_full)
+    }
+
+    /// Counts so many of a quantity, in the book and in the share. Waits while another has the book.
+    fn count<W: Wait>(&mut self, rt: &W, quantity: Quantity, amount: u64)
+        ensures { Counts quantity amount self.old self.new }
+    {
+        if amount == 0 {
+            return;
+        }
+        let book = self.book;
+        if self.share.add(rt, book, quantity, amount).is_err() {
+            self.is_book_full = true;
+        }
+    }
+
+    /// Counts a reply as its quantity, where it has one.
+    fn count_reply<W: Wait>(&mut self, rt: &W, quantity: Option<Quantity>)
+        ensures { CountsReply quantity self.old self.new }
+    {
+        if let Some(quantity) = quantity {
+            self.count(rt, quantity, 1);
+        }
+    }
+
+    /// Counts what was answered: the reply as its quantity, and each dead key that was forgotten then.
+    pub(crate) fn count_answer<W: Wait>(&mut self, rt: &W, quantity: Option<Quantity>, reaps: u32)
+        ensures { CountsAnswer quantity reaps self.old self.new }
+    {
+        self.count_reply(rt, quantity);
+        self.count(rt, Quantity::Reaps, u64::from(reaps));
+    }
+}

@@ -1,0 +1,159 @@
+//! The requests to one vnode behind a gate.
+ghost use Rattle.std.specs.Prelude.{◌≡◌};
+ghost use mathlib.Core.List.{IsPrefix};
+ghost use Rattle.gate_node.specs.Asked.{Shows, IsShown, Gets, Changes, ReapsUpTo, AnswersAndReaps};
+
+use crate::asking::{Outcome, ask, ask_under};
+use crate::replies::{get_quantity, outcome_quantity, outcome_reply};
+use crate::shared::Shared;
+use crate::turnstile::Turnstile;
+use node_session::refusal_text;
+use riak_msgs::{GetAsk, Reply, Text};
+use rw_gate::{Gate, Pass};
+use stats_book::Quantity;
+use std::alloc::Global;
+use std::sync::Wait;
+use vnode_core::{Ask, Vnode};
+
+/// Shows a vnode's state to a get.
+fn show(vnode: &Vnode, alloc: Global, get: &GetAsk) -> Reply
+    ensures { Shows get.now result vnode.now.state }
+{
+    match vnode.get(alloc, get) {
+        Ok(reply) => Reply::Get(reply),
+        Err(refusal) => Reply::Error(refusal_text(refusal)),
+    }
+}
+
+/// A reply, what it is counted as, and how many dead keys were forgotten then.
+#[derive(Drop)]
+pub(crate) struct Answered {
+    pub(crate) reply: Reply,
+    pub(crate) quantity: Option<Quantity>,
+    pub(crate) reaps: u32,
+}
+
+/// Answers a get, under a right to read, behind the turnstile.
+fn answer_get<W: Wait, T: Turnstile>(
+    rt: &W,
+    alloc: Global,
+    shared: &Shared,
+    turnstile: &T,
+    gate: &Gate<Vnode>,
+    pass: &mut Pass<Vnode>,
+    get: &GetAsk,
+) -> Reply
+    requires { pass.old.gate ≡ gate.now }
+    ensures gate { pass.new.gate ≡ pass.old.gate }
+    ensures more { IsPrefix pass.old.prefix pass.new.prefix }
+    ensures shown { IsShown get.now pass.old pass.new result }
+{
+    let right = gate.read(rt);
+    shared.enter(turnstile);
+    match right.look(pass) {
+        Ok(vnode) => {
+            let reply = show(vnode, alloc, get);
+            right.release();
+            reply
+        }
+        Err(_) => {
+            right.release();
+            Reply::Error(Text::Moved)
+        }
+    }
+}
+
+/// Answers what may change the vnode, under a right to write, behind the turnstile; and what that is counted as.
+fn answer_change<W: Wait, T: Turnstile>(
+    rt: &W,
+    alloc: Global,
+    shared: &Shared,
+    turnstile: &T,
+    gate: &Gate<Vnode>,
+    pass: &mut Pass<Vnode>,
+    change: Ask,
+) -> (Reply, Option<Quantity>)
+    requires { pass.old.gate ≡ gate.now }
+    ensures gate { pass.new.gate ≡ pass.old.gate }
+    ensures more { IsPrefix pass.old.prefix pass.new.prefix }
+    ensures answers { Changes change pass.old pass.new result.0 result.1 }
+{
+    let mut right = gate.write(rt);
+    shared.enter(turnstile);
+    let outcome = ask_under(&mut right, alloc, pass, change);
+    right.release();
+    let quantity = outcome_quantity(&outcome);
+    (outcome_reply(outcome), quantity)
+}
+
+/// Forgets the vnode's first dead keys, so many at most, each under a right to write of its own, until no further one is
+/// forgotten; and how many those were.
+fn reap<W: Wait>(
+    rt: &W,
+    alloc: Global,
+    gate: &Gate<Vnode>,
+    pass: &mut Pass<Vnode>,
+    budget: u32,
+) -> u32
+    requires { pass.old.gate ≡ gate.now }
+    ensures gate { pass.new.gate ≡ pass.old.gate }
+    ensures reaps { ReapsUpTo budget result pass.old pass.new }
+{
+    let mut count = 0;
+    while count < budget {
+        match ask(rt, alloc, gate, pass, Ask::ReapFirst(None)) {
+            Outcome::Made(_) => count += 1,
+            _ => return count,
+        }
+    }
+    count
+}
+
+/// Answers a get, and then forgets the vnode's first dead keys, as many as the budget allows.
+pub(crate) fn get_and_reap<W: Wait, T: Turnstile>(
+    rt: &W,
+    alloc: Global,
+    shared: &Shared,
+    turnstile: &T,
+    gate: &Gate<Vnode>,
+    pass: &mut Pass<Vnode>,
+    get: &GetAsk,
+) -> Answered
+    requires { pass.old.gate ≡ gate.now }
+    ensures gate { pass.new.gate ≡ pass.old.gate }
+    ensures steps { AnswersAndReaps shared.now.budget result.reaps
+        (λ p q. Gets get.now p q result.reply result.quantity) pass.old pass.new }
+{
+    let reply = answer_get(rt, alloc, shared, turnstile, gate, pass, get);
+    let quantity = Some(get_quantity(&reply));
+    let reaps = reap(rt, alloc, gate, pass, shared.budget);
+    Answered {
+        reply,
+        quantity,
+        reaps,
+    }
+}
+
+/// Answers what may change the vnode, and then forgets its first dead keys, as many as the budget allows.
+pub(crate) fn change_and_reap<W: Wait, T: Turnstile>(
+    rt: &W,
+    alloc: Global,
+    shared: &Shared,
+    turnstile: &T,
+    gate: &Gate<Vnode>,
+    pass: &mut Pass<Vnode>,
+    change: Ask,
+) -> Answered
+    requires { pass.old.gate ≡ gate.now }
+    ensures gate { pass.new.gate ≡ pass.old.gate }
+    ensures steps { AnswersAndReaps shared.now.budget result.reaps
+        (λ p q. Changes change p q result.reply result.quantity) pass.old pass.new }
+{
+    let (reply, quantity) = answer_change(rt, alloc, shared, turnstile, gate, pass, change);
+    let reaps = reap(rt, alloc, gate, pass, shared.budget);
+    Answered {
+        reply,
+        quantity,
+        reaps,
+    }
+}

@@ -1,0 +1,43 @@
+//! A node over the gates of a run: many threads, each with a node of its own, serve one set of vnodes.
+//!
+//! [`Shared`] has a gate (`rw_gate`) round the vnode of each partition of a ring. [`Passes`] are one caller's passes of these
+//! gates: what the caller has seen of each vnode's history, and which of its events the caller published. A [`GateNode`]
+//! answers requests by them: a get under a right to read, a put or a delete under a right to write, and after each of
+//! these the first dead keys of that vnode are forgotten, so many at most, each under a right to write of its own. Each
+//! of these calls passes a [`Turnstile`] while it has its right. What was answered is counted in a book (`stats_book`) by
+//! the node's share of it, once no right is held.
+//!
+//! What it means (`specs/GateStep`): each reply is the vnode machine's at one position of the history of the key's vnode, and
+//! not before what the caller had seen of it; an accepted put or delete is the event at that position, published once, and
+//! the caller's own; what the caller has seen of any other vnode stays. These positions are legal histories of the
+//! sibling register, since each gate was made round a new vnode ([`positions_are_legal`]). The errors `moved` and
+//! `history full` change nothing: the history had gone on past the state that was found, which no path of today's gate
+//! leads to, or it can have no further event. The share rises by one for what was answered and by one for each dead key
+//! that was forgotten, and by nothing else; where the book has no room for that, the reply is the same and the node keeps
+//! that fact.
+//!
+//! What it costs: a request waits while another thread has its vnode's state in hand, and while another counts. What is
+//! answered lies between the taking and the giving back of a right, and so a get copies its reply while other readers may
+//! be in. Memory is taken by the vnode alone, and by `Shared::new` and `Passes::new`.
+//!
+//! How it is built: a function that takes a right gives it back itself, as [`ask`] does for any state behind a gate, and what
+//! is done under a right to write is one function (`ask_under`). The reply and its quantity are made from what came of it
+//! (`specs/Asked`), so a change that was published is never answered or counted as refused.
+#![tactic(auto)]
+
+mod asking;
+mod counter;
+mod fault;
+mod gated_vnode;
+mod laws;
+mod node;
+mod replies;
+mod shared;
+mod turnstile;
+
+pub use asking::{Outcome, ask};
+pub use fault::PoolFault;
+pub use laws::{positions_are_legal, sessions_count_their_replies, sessions_keep_their_gates};
+pub use node::GateNode;
+pub use shared::{Passes, Shared};
+pub use turnstile::{Open, Turnstile};

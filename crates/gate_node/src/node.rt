@@ -1,0 +1,187 @@
+//! A node over the gates of a run.
+ghost use Rattle.std.specs.Prelude.{◌≡◌, ◌<◌, length, map, false};
+ghost use Rattle.node_session.specs.PlainNodes.{partition_of};
+ghost use Rattle.gate_node.specs.Asked.{Gets, Changes};
+ghost use Rattle.gate_node.specs.GateStep.{AtIndex};
+
+use crate::counter::Counter;
+use crate::gated_vnode::{Answered, change_and_reap, get_and_reap};
+use crate::shared::{Passes, Shared};
+use crate::turnstile::Turnstile;
+use node_session::Node;
+use riak_msgs::{GetAsk, Key, Reply, Request};
+use rw_gate::Pass;
+use stats_book::{Book, Share};
+use std::alloc::Global;
+use std::marker::Model;
+use std::sync::Wait;
+use std::sync::ledger::Ledger;
+use vnode_core::{Ask, Vnode};
+
+/// A node over the gates of a run, for one thread beside others that have nodes over the same gates. It waits by the
+/// runtime `W` where another thread has the vnode that a request is for. Its ledgers are those of the book.
+///
+/// Contracts see what its passes have seen and published, and what it has counted. Each reply but an error for want of
+/// memory, `moved` or `history full` is the vnode machine's at one position of the vnode's history, not before what this
+/// node had seen of it; `moved` and `history full` change nothing. A get that was answered, a put that was accepted, a
+/// delete that wrote a tombstone, an error, and each dead key that was forgotten add one to the share and to the book;
+/// where the book has no room, the reply is the same, and the node keeps that fact.
+#[derive(Drop)]
+pub struct GateNode<
+    'a,
+    W: Wait,
+    T: Turnstile,
+    G: Ledger,
+    P: Ledger,
+    D: Ledger,
+    E: Ledger,
+    R: Ledger,
+> {
+    rt: &'a W,
+    shared: &'a Shared,
+    turnstile: &'a T,
+    counter: Counter<'a, G, P, D, E, R>,
+    passes: Vec<Pass<Vnode>>,
+}
+
+impl<'a, W: Wait, T: Turnstile, G: Ledger, P: Ledger, D: Ledger, E: Ledger, R: Ledger> Model
+    for GateNode<'a, W, T, G, P, D, E, R> {
+    ghost use Rattle.std.specs.Prelude.{◌≡◌, map};
+    ghost use Rattle.gate_node.specs.GateStep.{Node};
+
+    ghost Value = { Node };
+
+    ghost view = { λ n. record {
+      shared = n.shared.now;
+      passes = n.passes.items;
+      count = n.counter;
+    } };
+
+    ghost invariant = { λ n. map (λ pass. pass.gate) n.passes.items ≡ n.shared.now.gates };
+}
+
+impl<'a, W: Wait, T: Turnstile, G: Ledger, P: Ledger, D: Ledger, E: Ledger, R: Ledger> GateNode<
+    'a,
+    W,
+    T,
+    G,
+    P,
+    D,
+    E,
+    R,
+> {
+    /// A node over these gates by these passes of them, which counts by this share of the book. Each of its calls passes
+    /// the turnstile. It takes no memory.
+    pub fn new(
+        rt: &'a W,
+        shared: &'a Shared,
+        book: &'a Book<G, P, D, E, R>,
+        share: Share<G, P, D, E, R>,
+        passes: Passes,
+        turnstile: &'a T,
+    ) -> GateNode<'a, W, T, G, P, D, E, R>
+        requires { map (λ pass. pass.gate) passes ≡ shared.now.gates }
+        ensures shared { result.shared ≡ shared.now }
+        ensures passes { result.passes ≡ passes }
+        ensures count { result.count ≡ record { counted = share; book_full = false } }
+    {
+        let Passes { passes } = passes;
+        let counter = Counter::new(book, share);
+        GateNode {
+            rt,
+            shared,
+            turnstile,
+            counter,
+            passes,
+        }
+    }
+
+    /// The share and the passes, for later nodes over the same book and the same gates, and whether the book had no room
+    /// for some of what was to be counted. It takes no memory.
+    pub fn parts(self) -> (Share<G, P, D, E, R>, Passes, bool)
+        ensures share { result.0 ≡ self.entry.count.counted }
+        ensures passes { result.1 ≡ self.entry.passes }
+        ensures gates { map (λ pass. pass.gate) result.1 ≡ self.entry.shared.gates }
+        ensures full { result.2 ≡ self.entry.count.book_full }
+    {
+        let GateNode {
+            rt: _,
+            shared: _,
+            turnstile: _,
+            counter,
+            passes,
+        } = self;
+        let (share, is_book_full) = counter.parts();
+        (share, Passes { passes }, is_book_full)
+    }
+
+    /// The index of the vnode that a key lies in.
+    fn index(&self, key: &Key) -> usize
+        ensures index { result ≡ partition_of self.now.shared.index_bits key.now }
+        ensures below { result < length self.now.passes }
+    {
+        let shared = self.shared;
+        usize::from(shared.ring.index(key))
+    }
+
+    /// Answers a get.
+    fn get(&mut self, alloc: Global, index: usize, get: &GetAsk) -> Reply
+        requires { index < length self.old.passes }
+        ensures { AtIndex index self.old self.new (λ p q. Gets get.now p q result) }
+    {
+        let shared = self.shared;
+        let gate = &shared.gates[index];
+        let pass = &mut self.passes[index];
+        let answered = get_and_reap(self.rt, alloc, shared, self.turnstile, gate, pass, get);
+        let Answered {
+            reply,
+            quantity,
+            reaps,
+        } = answered;
+        self.counter.count_answer(self.rt, quantity, reaps);
+        reply
+    }
+
+    /// Answers what may change a vnode.
+    fn change(&mut self, alloc: Global, index: usize, change: Ask) -> Reply
+        requires { index < length self.old.passes }
+        ensures { AtIndex index self.old self.new (λ p q. Changes change p q result) }
+    {
+        let shared = self.shared;
+        let gate = &shared.gates[index];
+        let pass = &mut self.passes[index];
+        let answered = change_and_reap(self.rt, alloc, shared, self.turnstile, gate, pass, change);
+        let Answered {
+            reply,
+            quantity,
+            reaps,
+        } = answered;
+        self.counter.count_answer(self.rt, quantity, reaps);
+        reply
+    }
+}
+
+impl<'a, W: Wait, T: Turnstile, G: Ledger, P: Ledger, D: Ledger, E: Ledger, R: Ledger> Node
+    for GateNode<'a, W, T, G, P, D, E, R> {
+    ghost use Rattle.gate_node.specs.GateStep.{GateStep};
+
+    ghost step = { GateStep };
+
+    fn answer(&mut self, alloc: Global, request: Request) -> Reply {
+        match request {
+            Request::Ping => Reply::Ping,
+            Request::Get(get) => {
+                let index = self.index(&get.key);
+                self.get(alloc, index, &get)
+            }
+            Request::Put(put) => {
+                let index = self.index(&put.key);
+                self.change(alloc, index, Ask::Put(put))
+            }
+            Request::Del(del) => {
+                let index = self.index(&del.key);
+                self.change(alloc, index, Ask::Del(del))
+            }
+        }
+    }
+}

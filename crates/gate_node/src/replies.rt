@@ -1,0 +1,53 @@
+//! The replies for what came of an ask, and what they are counted as.
+ghost use Rattle.std.specs.Prelude.{◌≡◌};
+ghost use Rattle.gate_node.specs.Asked.{answer_quantity, get_quantity, outcome_quantity, outcome_reply};
+
+use crate::asking::Outcome;
+use node_session::{answer_reply, refusal_text};
+use riak_msgs::{Reply, Text};
+use stats_book::Quantity;
+use vnode_core::{Answer, Refusal};
+
+/// The reply for what came of an ask: its answer, or an error.
+pub(crate) fn outcome_reply(outcome: Outcome<Answer, Refusal>) -> Reply
+    ensures { result ≡ outcome_reply outcome }
+{
+    match outcome {
+        Outcome::Made(answer) | Outcome::Told(answer) => answer_reply(answer),
+        Outcome::Refused(refusal) => Reply::Error(refusal_text(refusal)),
+        Outcome::Moved => Reply::Error(Text::Moved),
+        Outcome::Full => Reply::Error(Text::HistoryFull),
+    }
+}
+
+/// What a get is counted as, by its reply.
+pub(crate) fn get_quantity(reply: &Reply) -> Quantity
+    ensures { result ≡ get_quantity reply.now }
+{
+    match reply {
+        Reply::Error(_) => Quantity::Refusals,
+        Reply::Ping | Reply::Get(_) | Reply::Put(_) | Reply::Del => Quantity::Gets,
+    }
+}
+
+/// What an accepted command is counted as.
+fn answer_quantity(answer: &Answer) -> Quantity
+    ensures { result ≡ answer_quantity answer.now }
+{
+    match answer {
+        Answer::Put(_) => Quantity::Puts,
+        Answer::Del => Quantity::Deletes,
+        Answer::Reaped(_) => Quantity::Reaps,
+    }
+}
+
+/// What is counted of what came of an ask. A delete that changes nothing isn't.
+pub(crate) fn outcome_quantity(outcome: &Outcome<Answer, Refusal>) -> Option<Quantity>
+    ensures { result ≡ outcome_quantity outcome.now }
+{
+    match outcome {
+        Outcome::Made(answer) => Some(answer_quantity(answer)),
+        Outcome::Told(_) => None,
+        Outcome::Refused(_) | Outcome::Moved | Outcome::Full => Some(Quantity::Refusals),
+    }
+}

@@ -1,0 +1,19 @@
+//! What a call passes while it has its right.
+
+/// What each call of a get, a put or a delete passes while it has its right, and before it looks.
+///
+/// Calls are numbered 1, 2, .. over all nodes of one [`Shared`](crate::Shared), in the order in which they got their right;
+/// behind 18,446,744,073,709,551,615 comes 0. No clause rests on a number. A test may hold a call here, to see which others
+/// come in beside it; who holds one holds its vnode, so `inside` is to end by itself.
+pub trait Turnstile {
+    /// This call has its right, and hasn't looked yet.
+    fn inside(&self, call: u64);
+}
+
+/// A turnstile that lets every call pass.
+#[derive(Clone, Copy)]
+pub struct Open;
+
+impl Turnstile for Open {
+    fn inside(&self, _call: u64) {}
+}
