@@ -1,8 +1,8 @@
 -- A source that has given some jobs gives one more.
 use Rattle.std.proofs.Common.{List, [], ◌∷◌, ◌++◌, refl, subst}
 use Rattle.std.specs.Prelude.{Option, Some, Result, Ok}
-use Rattle.job_pool.specs.declared.fault.PoolFault.{PoolFault}
-use Rattle.job_pool.specs.declared.fault.PoolFault.TheVariants.{NoMemory, NoThread, JobsFailed}
+use Rattle.job_pool.specs.declared.fault.RunFault.{RunFault}
+use Rattle.job_pool.specs.declared.fault.RunFault.TheVariants.{NoMemory, NoThread, JobsFailed}
 use Rattle.job_pool.specs.Giving.{Gave, Leaves}
 use Rattle.job_pool.specs.Workers.{IsOfStart}
 
@@ -12,7 +12,7 @@ module _ {G J F : Type 0} (Gives : G → Result (Option J) F → G → Type 0) w
   gave_more first (one ∷ jobs) next job last h more = (h.0, h.1, gave_more h.0 jobs next job last h.2 more)
 
   -- before a job was taken the source is as it was
-  pub none_taken : (fault : PoolFault) (first : G) → IsOfStart fault → Leaves Gives fault first first
+  pub none_taken : (fault : RunFault) (first : G) → IsOfStart fault → Leaves Gives fault first first
   none_taken NoMemory first h = tt
   none_taken NoThread first h = refl
   none_taken JobsFailed first h = absurd h

@@ -1,8 +1,8 @@
 -- What a lent source gives is what the source gives, and the reference stays the same.
 use Rattle.std.proofs.Common.{◌≡◌, ◌∙◌, List, [], ◌∷◌, sym, ap, subst}
 use Rattle.std.specs.Prelude.{Option, None, Result, Ok, Err}
-use Rattle.job_pool.specs.declared.fault.PoolFault.{PoolFault}
-use Rattle.job_pool.specs.declared.fault.PoolFault.TheVariants.{NoMemory, NoThread, JobsFailed}
+use Rattle.job_pool.specs.declared.fault.RunFault.{RunFault}
+use Rattle.job_pool.specs.declared.fault.RunFault.TheVariants.{NoMemory, NoThread, JobsFailed}
 use Rattle.job_pool.specs.declared.lent.Lent.{Lent}
 use Rattle.job_pool.specs.Giving.{Gave, GaveAll, GivesOnly, Leaves}
 
@@ -22,7 +22,7 @@ module _ {G J F : Type 0} (Gives : G → Result (Option J) F → G → Type 0) w
   gave_same first (job ∷ jobs) last h = gave_same h.0 jobs last h.2 ∙ h.1.0
 
   -- the end of a run by a fault
-  pub leaves_back : (fault : PoolFault) (first last : Lent G) (back : G) → (last.jobs.ghost_name ≡ first.jobs.ghost_name → last.jobs.now ≡ back) → Leaves LentGives fault first last → Leaves Gives fault first.jobs.now back
+  pub leaves_back : (fault : RunFault) (first last : Lent G) (back : G) → (last.jobs.ghost_name ≡ first.jobs.ghost_name → last.jobs.now ≡ back) → Leaves LentGives fault first last → Leaves Gives fault first.jobs.now back
   leaves_back NoThread first last back tie h = sym (tie (ap (λ l. l.jobs.ghost_name) h)) ∙ ap (λ l. l.jobs.now) h
   leaves_back JobsFailed first last back tie h = (h.0, h.1.jobs.now, h.2, gave_inside first h.0 h.1 h.3, subst (λ x. Gives h.1.jobs.now (Err h.2) x) (tie (h.4.0 ∙ gave_same first h.0 h.1 h.3)) h.4.1)
   leaves_back NoMemory first last back tie h = tt

@@ -1,8 +1,8 @@
 -- What a source of jobs gives over many calls.
 use Rattle.std.specs.Prelude.{◌≡◌, List, [], ◌∷◌, Option, Some, None, Result, Ok, Err}
 use Rattle.job_pool.specs.Lists.{Pairwise}
-use Rattle.job_pool.specs.declared.fault.PoolFault.{PoolFault}
-use Rattle.job_pool.specs.declared.fault.PoolFault.TheVariants.{NoMemory, NoThread, JobsFailed}
+use Rattle.job_pool.specs.declared.fault.RunFault.{RunFault}
+use Rattle.job_pool.specs.declared.fault.RunFault.TheVariants.{NoMemory, NoThread, JobsFailed}
 
 module _ {G J F : Type 0} (Gives : G → Result (Option J) F → G → Type 0) where
   -- these jobs, one after another
@@ -27,7 +27,7 @@ module _ {G J F : Type 0} (Gives : G → Result (Option J) F → G → Type 0) w
   GivesOnly Fits first = (jobs : List J) (next last : G) (job : J) → Gave first jobs next → Gives next (Ok (Some job)) last → Fits job
 
   -- what a run that ends by this fault leaves of the source
-  abbrev pub Leaves : PoolFault → G → G → Type 0
+  abbrev pub Leaves : RunFault → G → G → Type 0
   Leaves NoThread first last = last ≡ first
   Leaves JobsFailed first last = GaveThenFailed first last
   Leaves NoMemory first last = Unit {0}

@@ -2,8 +2,8 @@
 use Rattle.std.specs.Prelude.{◌≡◌}
 use Rattle.std.specs.declared.thread.PromisedHandle.{PromisedHandle}
 use Rattle.atomic_table.specs.Seated.{TableId}
-use Rattle.job_pool.specs.declared.fault.PoolFault.{PoolFault}
-use Rattle.job_pool.specs.declared.fault.PoolFault.TheVariants.{NoMemory, NoThread, JobsFailed}
+use Rattle.job_pool.specs.declared.fault.RunFault.{RunFault}
+use Rattle.job_pool.specs.declared.fault.RunFault.TheVariants.{NoMemory, NoThread, JobsFailed}
 use Rattle.job_pool.specs.declared.worker.WorkerOutput.{WorkerOutput}
 use Rattle.job_pool.specs.declared.worker.WorkerPromise.{WorkerPromise}
 
@@ -16,7 +16,7 @@ abbrev pub state_before : {S W J E : Type 0} → PromisedHandle (WorkerOutput W 
 state_before child = child.promise.worker.value
 
 -- a fault that may come before a job was taken
-abbrev pub IsOfStart : PoolFault → Type 0
+abbrev pub IsOfStart : RunFault → Type 0
 IsOfStart NoMemory = Unit {0}
 IsOfStart NoThread = Unit {0}
 IsOfStart JobsFailed = ⊥

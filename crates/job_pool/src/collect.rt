@@ -4,9 +4,9 @@ ghost use Rattle.crossbeam_queue.specs.Passes.{view, IsPassOf};
 ghost use Rattle.job_pool.specs.Ends.{AreCollected};
 ghost use Rattle.job_pool.specs.Lists.{Every, Pairwise};
 ghost use Rattle.job_pool.specs.Workers.{IsOn, state_before};
-ghost use Rattle.job_pool.specs.declared.fault.PoolFault.TheVariants.{NoMemory};
+ghost use Rattle.job_pool.specs.declared.fault.RunFault.TheVariants.{NoMemory};
 
-use crate::fault::PoolFault;
+use crate::fault::RunFault;
 use crate::queue::{Accepts, Fork, JobQueue, QueuePass, Reconcile};
 use crate::service::Service;
 use crate::worker::{WorkerOutput, WorkerPromise};
@@ -30,14 +30,14 @@ pub struct Finished<E, W> {
 }
 
 /// So many empty places.
-fn empty_places<E: Drop>(alloc: Global, count: usize) -> Result<Vec<Option<E>>, PoolFault>
+fn empty_places<E: Drop>(alloc: Global, count: usize) -> Result<Vec<Option<E>>, RunFault>
     ensures len { IfOk result (λ places. length places.items ≡ count) }
     ensures empty { IfOk result (λ places. Every (λ place. place ≡ None) places.items) }
 {
     let mut places = Vec::new(alloc);
     for _ in 0..count {
         let Ok(()) = places.push(None) else {
-            return Err(PoolFault::NoMemory);
+            return Err(RunFault::NoMemory);
         };
     }
     Ok(places)
@@ -86,16 +86,16 @@ pub(crate) fn join_all<S: Service, T: Threads>(rt: &T, children: Vec<Child<S>>) 
 }
 
 /// The ends, where each place has one.
-fn in_order<E: Drop>(alloc: Global, places: Vec<Option<E>>) -> Result<Vec<E>, PoolFault>
+fn in_order<E: Drop>(alloc: Global, places: Vec<Option<E>>) -> Result<Vec<E>, RunFault>
     ensures { IfOk result (λ ends. map (λ end. Some end) ends.items ≡ places.items) }
 {
     let mut ends = Vec::new(alloc);
     for place in places {
         let Some(end) = place else {
-            return Err(PoolFault::NoMemory);
+            return Err(RunFault::NoMemory);
         };
         if ends.push(end).is_err() {
-            return Err(PoolFault::NoMemory);
+            return Err(RunFault::NoMemory);
         }
     }
     Ok(ends)
@@ -110,7 +110,7 @@ pub(crate) fn collect_all<H, S, T>(
     pass: &mut QueuePass<S::Job>,
     children: Vec<Child<S>>,
     count: usize,
-) -> Result<Finished<S::End, S::Worker>, PoolFault>
+) -> Result<Finished<S::End, S::Worker>, RunFault>
 where
     H: Accepts<S::Job>,
     S: Service,
@@ -126,12 +126,12 @@ where
 {
     let Ok(mut places) = empty_places(alloc, count) else {
         join_all(rt, children);
-        return Err(PoolFault::NoMemory);
+        return Err(RunFault::NoMemory);
     };
     let mut workers = Vec::new(alloc);
     if workers.reserve(children.len()).is_err() {
         join_all(rt, children);
-        return Err(PoolFault::NoMemory);
+        return Err(RunFault::NoMemory);
     }
     for child in children {
         let worker = collect(rt, queue, pass, child, &mut places);
@@ -139,6 +139,6 @@ where
     }
     match in_order(alloc, places) {
         Ok(ends) => Ok(Finished { ends, workers }),
-        Err(_) => Err(PoolFault::NoMemory),
+        Err(_) => Err(RunFault::NoMemory),
     }
 }

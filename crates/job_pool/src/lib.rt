@@ -37,7 +37,7 @@ mod submit;
 mod worker;
 
 pub use collect::Finished;
-pub use fault::PoolFault;
+pub use fault::RunFault;
 pub use jobs::{JobFault, Jobs};
 pub use pool::{MAX_WAITING, run};
 pub use service::Service;

@@ -7,7 +7,7 @@ ghost use Rattle.job_pool.specs.Queue.{leader};
 ghost use Rattle.job_pool.specs.Workers.{IsOn, state_before};
 
 use crate::collect::{Child, Finished, collect_all, join_all};
-use crate::fault::PoolFault;
+use crate::fault::RunFault;
 use crate::jobs::Jobs;
 use crate::lent::{Lent, take_back};
 use crate::queue::{Accepts, JobQueue, QueuePass};
@@ -35,7 +35,7 @@ fn dispatch<H, S, G, T>(
     sleepers: &Sleepers,
     jobs: &mut G,
     children: Vec<Child<S>>,
-) -> Result<Finished<S::End, S::Worker>, PoolFault>
+) -> Result<Finished<S::End, S::Worker>, RunFault>
 where
     H: Accepts<S::Job>,
     S: Service,
@@ -84,7 +84,7 @@ fn run_on<'a, H, S, G, T>(
     pass: QueuePass<S::Job>,
     jobs: G,
     workers: Vec<S::Worker>,
-) -> (G, Result<Finished<S::End, S::Worker>, PoolFault>)
+) -> (G, Result<Finished<S::End, S::Worker>, RunFault>)
 where
     H: Accepts<S::Job> + Send + Sync,
     S: Service,
@@ -102,7 +102,7 @@ where
     thread::scope(
         thread::scope_env(),
         rt,
-        |scope| -> (G, Result<Finished<S::End, S::Worker>, PoolFault>)
+        |scope| -> (G, Result<Finished<S::End, S::Worker>, RunFault>)
             requires queue { IsPassOf queue.now pass × (view pass ≡ leader) }
             requires accepts { (job : S.Job) → H.accepts job → S.accepts service.now job }
             requires jobs { GivesOnly G.gives H.accepts jobs }
@@ -154,7 +154,7 @@ fn run_owned<H, S, G, T>(
     service: &S,
     jobs: G,
     workers: Vec<S::Worker>,
-) -> (G, Result<Finished<S::End, S::Worker>, PoolFault>)
+) -> (G, Result<Finished<S::End, S::Worker>, RunFault>)
 where
     H: Accepts<S::Job> + Send + Sync,
     S: Service,
@@ -169,7 +169,7 @@ where
     ensures fault { IfErr result.1 (λ fault. Leaves G.gives fault jobs result.0) }
 {
     let Ok((queue, pass)) = JobQueue::<H, S::Job>::ruled(alloc, MAX_WAITING) else {
-        return (jobs, Err(PoolFault::NoMemory));
+        return (jobs, Err(RunFault::NoMemory));
     };
     run_on(rt, alloc, service, &queue, pass, jobs, workers)
 }
@@ -192,7 +192,7 @@ pub fn run<S, G, T>(
     service: &S,
     jobs: &mut G,
     workers: Vec<S::Worker>,
-) -> Result<Finished<S::End, S::Worker>, PoolFault>
+) -> Result<Finished<S::End, S::Worker>, RunFault>
 where
     S: Service,
     G: Jobs<Job = S::Job>,

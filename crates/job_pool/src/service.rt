@@ -3,8 +3,8 @@ use std::alloc::Global;
 
 /// What serves jobs, one call a job, by many threads at once.
 ///
-/// Each worker has a state of its own, which is made before the run and lent to each of its calls. A service that waits, or that
-/// reads what all workers share, holds what it needs by itself. `()` is the state of a worker that needs none.
+/// Each worker has a state of its own, which is made before the run, handed to each of its calls and handed back. A service that waits,
+/// or that reads what all workers share, holds what it needs by itself. `()` is the state of a worker that needs none.
 pub trait Service: Sync {
     /// What is to be served.
     type Job: Drop + Send;
@@ -22,11 +22,16 @@ pub trait Service: Sync {
     // Over some jobs the first state of a worker may become the second.
     ghost keeps: { Self → Self.Worker → Self.Worker → Type 0 };
 
-    /// Serves one job to its end. A job that goes wrong has an end that says so.
-    fn serve(&self, alloc: Global, worker: &mut Self::Worker, job: Self::Job) -> Self::End
+    /// Serves one job to its end, and hands the worker's state back. A job that goes wrong has an end that says so.
+    fn serve(
+        &self,
+        alloc: Global,
+        worker: Self::Worker,
+        job: Self::Job,
+    ) -> (Self::Worker, Self::End)
         requires { accepts self.now job }
-        ensures end { serves self.now job result }
-        ensures worker { keeps self.now worker.old worker.new };
+        ensures worker { keeps self.now worker result.0 }
+        ensures end { serves self.now job result.1 };
 
     // A worker that serves nothing keeps its state.
     ghost keeps_same: { (s : Self) (w : Self.Worker) → keeps s w w };

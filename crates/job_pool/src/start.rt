@@ -7,7 +7,7 @@ ghost use Rattle.job_pool.specs.Queue.{leader, newcomer};
 ghost use Rattle.job_pool.specs.Workers.{IsOn, IsOfStart, state_before};
 
 use crate::collect::Child;
-use crate::fault::PoolFault;
+use crate::fault::RunFault;
 use crate::queue::{Accepts, Fork, JobQueue, QueuePass};
 use crate::service::Service;
 use crate::sleepers::Sleepers;
@@ -28,7 +28,7 @@ fn start_one<'s, X, H, S, T>(
     pass: &mut QueuePass<S::Job>,
     parker: Parker,
     worker: S::Worker,
-) -> Result<Child<S>, PoolFault>
+) -> Result<Child<S>, RunFault>
 where
     H: Accepts<S::Job> + Send + Sync,
     S: Service,
@@ -57,7 +57,7 @@ where
             ensures worker { S.keeps service.entry.now worker result.worker }
         { work::<H, S, T>(rt, alloc, service, queue, worker, theirs, parker) },
     ) else {
-        return Err(PoolFault::NoThread);
+        return Err(RunFault::NoThread);
     };
     Ok(child)
 }
@@ -73,7 +73,7 @@ pub(crate) fn start_all<'s, X, H, S, T>(
     sleepers: &mut Sleepers,
     children: &mut Vec<Child<S>>,
     workers: Vec<S::Worker>,
-) -> Result<(), PoolFault>
+) -> Result<(), RunFault>
 where
     H: Accepts<S::Job> + Send + Sync,
     S: Service,
@@ -88,10 +88,10 @@ where
 {
     for worker in workers {
         if children.reserve(1).is_err() {
-            return Err(PoolFault::NoMemory);
+            return Err(RunFault::NoMemory);
         }
         let Ok(parker) = sleepers.add(alloc) else {
-            return Err(PoolFault::NoMemory);
+            return Err(RunFault::NoMemory);
         };
         match start_one(scope, rt, alloc, service, queue, pass, parker, worker) {
             Ok(child) => children.push_reserved(child),

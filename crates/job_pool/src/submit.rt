@@ -4,7 +4,7 @@ ghost use Rattle.crossbeam_queue.specs.Passes.{view, IsPassOf};
 ghost use Rattle.job_pool.specs.Giving.{GaveAll, GivesOnly, Leaves};
 ghost use Rattle.job_pool.specs.Queue.{leader, after_push, IsAccepted, IsNext};
 
-use crate::fault::PoolFault;
+use crate::fault::RunFault;
 use crate::jobs::Jobs;
 use crate::queue::{Accepts, JobQueue, NumberedJob, Push, QueuePass, Task};
 use crate::sleepers::Sleepers;
@@ -48,7 +48,7 @@ pub(crate) fn submit_all<H, G, T>(
     pass: &mut QueuePass<G::Job>,
     sleepers: &Sleepers,
     jobs: &mut G,
-) -> Result<usize, PoolFault>
+) -> Result<usize, RunFault>
 where
     H: Accepts<G::Job>,
     G: Jobs,
@@ -66,14 +66,14 @@ where
         match jobs.next() {
             Ok(Some(job)) => {
                 let Some(more) = count.checked_add(1) else {
-                    return Err(PoolFault::NoMemory);
+                    return Err(RunFault::NoMemory);
                 };
                 let task = Task::Serve(NumberedJob { number: count, job });
                 submit(rt, queue, pass, sleepers, task);
                 count = more;
             }
             Ok(None) => return Ok(count),
-            Err(_) => return Err(PoolFault::JobsFailed),
+            Err(_) => return Err(RunFault::JobsFailed),
         }
     }
     unreachable!()

@@ -77,7 +77,8 @@ pub(crate) fn work<H: Accepts<S::Job>, S: Service, T: Wait>(
             Some(Task::Serve(next)) => {
                 if has_room {
                     let number = next.number;
-                    let end = service.serve(alloc, &mut state, next.job);
+                    let (next_state, end) = service.serve(alloc, state, next.job);
+                    state = next_state;
                     ends.push_reserved(NumberedEnd { number, end });
                 }
             }

@@ -1,7 +1,7 @@
 //! What the services and the sources of the tests are, and one run with them.
 ghost use Rattle.std.specs.Prelude.{◌≡◌, ◌<◌, length, IfOk};
 
-use job_pool::{Finished, JobFault, Jobs, PoolFault, Service, run};
+use job_pool::{Finished, JobFault, Jobs, RunFault, Service, run};
 use std::alloc::{AllocError, Global};
 use std::sync::Wait;
 use std::test::*;
@@ -39,9 +39,9 @@ impl<'a> Service for Multiplier<'a> {
 
     ghost keeps = { λ service first last. first.served ≤ last.served };
 
-    fn serve(&self, _alloc: Global, worker: &mut Tally, job: u32) -> u64 {
-        worker.served = worker.served.saturating_add(1);
-        u64::from(job).wrapping_mul(*self.factor)
+    fn serve(&self, _alloc: Global, worker: Tally, job: u32) -> (Tally, u64) {
+        let served = worker.served.saturating_add(1);
+        (Tally { served }, u64::from(job).wrapping_mul(*self.factor))
     }
 
     ghost keeps_same = { Prim.search rules };
@@ -93,12 +93,12 @@ fn doubled<T: Threads + Wait + Sync>(
     alloc: Global,
     numbers: &mut Numbers,
     workers: u16,
-) -> Result<Finished<u64, Tally>, PoolFault> {
+) -> Result<Finished<u64, Tally>, RunFault> {
     let Ok(crew) = tallies(alloc, workers) else {
-        return Err(PoolFault::NoMemory);
+        return Err(RunFault::NoMemory);
     };
     if crew.is_empty() {
-        return Err(PoolFault::NoThread);
+        return Err(RunFault::NoThread);
     }
     run(rt, alloc, &Multiplier { factor: &2 }, numbers, crew)
 }

@@ -1,28 +1,40 @@
--- A node over gates keeps them.
-use Rattle.std.proofs.Common.{◌≡◌, ◌∙◌, List, [], ◌∷◌, ap, inl, inr}
-use Rattle.std.specs.Prelude.{Result, Ok, Err}
-use Rattle.pb_frame.specs.Message.{Message}
-use Rattle.riak_msgs.specs.declared.fault.MsgFault.{MsgFault}
-use Rattle.riak_msgs.specs.declared.Request.{Request}
-use Rattle.riak_msgs.specs.declared.Request.TheVariants as requests
-use Rattle.riak_msgs.specs.declared.Reply.{Reply}
-use Rattle.node_session.specs.Answers.{AnswersRead, Run}
-use Rattle.worker_pool.specs.GateStep.{Node, GateStep}
+-- A session keeps the gates of its node, however it ends.
+use Rattle.std.proofs.Common.{◌≡◌, ◌∙◌, ◌⊎◌, ℕ, List, ap, inl, inr}
+use Rattle.std.specs.Prelude.{Option, Result, Ok, Err, IfOk, IfErr}
+use Rattle.node_session.specs.declared.ended.Ended.{Ended}
+use Rattle.node_session.specs.declared.fault.SessionFault.{SessionFault}
+use Rattle.node_session.specs.declared.fault.SessionFault.TheVariants.{ReadFailed, WriteFailed, BadFrame, TooManyReads, NoMemory}
+use Rattle.node_session.specs.Answered.{Answered, NextReply, IsError, WriteFailedAt, IsOutOfMemory}
+use Rattle.node_session.specs.Session.{Given, IsEnd, Stops}
+use Rattle.gate_node.specs.GateStep.{Node, GateStep}
+use Rattle.gate_node.proofs.Keeping.{read-keeps, run-keeps}
 
-step-keeps : (old : Node) (request : Request) (reply : Reply) (new : Node) → GateStep old request reply new → new.shared ≡ old.shared
-step-keeps old requests.Ping reply new step = ap (λ (n : Node). n.shared) step.1
-step-keeps old (requests.Get get) reply new step = ap (λ (n : Node). n.shared) step.node
-step-keeps old (requests.Put put) reply new step = ap (λ (n : Node). n.shared) step.node
-step-keeps old (requests.Del del) reply new step = ap (λ (n : Node). n.shared) step.node
+next_keeps : (mid : Node) (rest next : List ℕ) (new : Node) → NextReply GateStep mid rest next new → new.shared ≡ mid.shared
+next_keeps mid rest next new h = read-keeps mid h.answers.said h.reply new h.answers.answers
 
-read-keeps : (old : Node) (said : Result Request MsgFault) (reply : Reply) (new : Node) → AnswersRead GateStep old said reply new → new.shared ≡ old.shared
-read-keeps old (Ok request) reply new (inl step) = step-keeps old request reply new step
-read-keeps old (Ok request) reply new (inr stays) = ap (λ (n : Node). n.shared) stays.1
-read-keeps old (Err fault) reply new stays = ap (λ (n : Node). n.shared) stays.1
+due_keeps : (mid : Node) (rest next : List ℕ) (new : Node) → NextReply GateStep mid rest next new ⊎ IsError mid rest next new → new.shared ≡ mid.shared
+due_keeps mid rest next new (inl h) = next_keeps mid rest next new h
+due_keeps mid rest next new (inr h) = ap (λ (n : Node). n.shared) h.node
 
-pub run-keeps : (old : Node) (messages : List Message) (replies : List Reply) (new : Node) → Run GateStep old messages replies new → new.shared ≡ old.shared
-run-keeps old [] [] new run = ap (λ (n : Node). n.shared) run
-run-keeps old [] (reply ∷ replies) new run = absurd run
-run-keeps old (message ∷ messages) [] new run = absurd run
-run-keeps old (message ∷ messages) (reply ∷ replies) new run =
-    run-keeps run.0 messages replies new run.2 ∙ read-keeps old run.1.said reply run.0 run.1.answers
+write_keeps : (new mid : Node) (rest last : List ℕ) → WriteFailedAt GateStep new mid rest last → new.shared ≡ mid.shared
+write_keeps new mid rest last (inl h) = due_keeps mid rest h.1.next new h.1.due
+write_keeps new mid rest last (inr h) = ap (λ (n : Node). n.shared) h.node
+
+memory_keeps : (new mid : Node) (rest last : List ℕ) → IsOutOfMemory GateStep new mid rest last → new.shared ≡ mid.shared
+memory_keeps new mid rest last (inl h) = next_keeps mid rest h.next new h.due
+memory_keeps new mid rest last (inr h) = ap (λ (n : Node). n.shared) h.node
+
+stops_keep : (old new : Node) (input : List ℕ) (held held' : Option (List ℕ)) (fault : SessionFault) → Stops GateStep old new input held held' fault → new.shared ≡ old.shared
+stops_keep old new input held held' (ReadFailed count) h = ap (λ (n : Node). n.shared) h.ends.node ∙ run-keeps old h.messages h.replies h.mid h.run
+stops_keep old new input held held' (WriteFailed count) h = write_keeps new h.mid h.rest h.last h.ends ∙ run-keeps old h.messages h.replies h.mid h.run
+stops_keep old new input held held' (BadFrame count) h = ap (λ (n : Node). n.shared) h.ends.1.node ∙ run-keeps old h.messages h.replies h.mid h.run
+stops_keep old new input held held' (TooManyReads count) h = ap (λ (n : Node). n.shared) h.ends.node ∙ run-keeps old h.messages h.replies h.mid h.run
+stops_keep old new input held held' (NoMemory count) h = memory_keeps new h.mid h.rest h.last h.ends.1 ∙ run-keeps old h.messages h.replies h.mid h.run
+
+module _ (old new : Node) (unread unread' held held' : Option (List ℕ)) (reads : ℕ) where
+  -- by what `serve` says of it
+  pub session_keeps : (result : Result Ended SessionFault)
+      → IfOk result (λ ended. Given unread unread' reads (λ input. Answered GateStep old input held held' ended.replies (IsEnd new ended.rest)))
+      → IfErr result (λ fault. Given unread unread' reads (λ input. Stops GateStep old new input held held' fault)) → new.shared ≡ old.shared
+  session_keeps (Ok ended) h none = ap (λ (n : Node). n.shared) h.serves.ends.through.node ∙ run-keeps old h.serves.messages h.serves.replies h.serves.mid h.serves.run
+  session_keeps (Err fault) none h = stops_keep old new h.input held held' fault h.serves

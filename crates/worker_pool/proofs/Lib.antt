@@ -1,4 +1,6 @@
+-- The lemmas of this crate.
 pub mod Keeping
-pub mod Legal
-pub mod Opened
-pub mod Reaping
+pub mod Sessions
+pub mod Ends
+pub mod Faults
+pub mod Sources

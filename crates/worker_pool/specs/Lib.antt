@@ -1,5 +1,5 @@
-pub mod Asking
-pub mod Asked
-pub mod Gates
-pub mod GateStep
-pub mod Legal
+-- The definitions of this crate.
+pub mod Tallies
+pub mod Serving
+pub mod CountsOn
+pub mod Leaving

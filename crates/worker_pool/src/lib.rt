@@ -1,33 +1,32 @@
-//! A node over the gates of a run: many threads, each with a node of its own, serve one set of vnodes.
+//! Workers that serve connections over the gates of a run, and count what they do.
 //!
-//! [`Shared`] has a gate (`rw_gate`) round the vnode of each partition of a ring. [`Passes`] are one caller's passes of these
-//! gates: what the caller has seen of each vnode's history, and which of its events the caller published. A [`GateNode`]
-//! answers requests by them: a get under a right to read, a put or a delete under a right to write, and after each of
-//! these the first dead keys of that vnode are forgotten, so many at most, each under a right to write of its own.
+//! What it means: [`Pool::run`] takes all jobs of a source, each a connection with passes of the run's gates, and gives one end for each,
+//! in the order in which the source gave the jobs (`specs/Serving`: `Serves`). An end is what `serve` of `node_session` makes of that
+//! job's reader and writer, by a run of the step of a node over the gates (`gate_node`) from the job's passes to the end's. With the
+//! ends come the totals of what all workers counted (`stats_book`), and the tally of each vnode after the last job.
 //!
-//! What it means (`specs/GateStep`): each reply is the vnode machine's at one position of the history of the key's vnode, and
-//! not before what the caller had seen of it; an accepted put or delete is the event at that position, published once, and
-//! the caller's own; what the caller has seen of any other vnode stays. These positions are legal histories of the
-//! sibling register, since each gate was made round a new vnode ([`positions_are_legal`]). The errors `moved` and
-//! `history full` change nothing: the history had gone on past the state that was found, which no path of today's gate
-//! leads to, or it can have no further event.
+//! What it costs: what a run of `job_pool` costs, the book's lock once for each answer that is counted, and a thread for each worker. A
+//! tally is one look under a right to read.
 //!
-//! What it costs: a request waits while another thread has its vnode's state in hand. What is answered lies between the
-//! taking and the giving back of a right, and so a get copies its reply while other readers may be in. Memory is taken by
-//! the vnode alone, and by `Shared::new` and `Passes::new`.
+//! How it is built: a worker is a service of `job_pool`, whose state is its share of the book. It makes a node of the job's passes and its
+//! share, serves the session, and takes both back. A share has no bytes; all shares together say what the book's numbers are.
 //!
-//! How it is built: [`ask`] holds each right to write from its taking to its release, for any state behind a gate. The reply
-//! is made from what came of it (`specs/Asked`), so a change that was published is never answered as refused.
+//! ```text
+//! jobs a, b, c; two workers                 each begins with a share that has counted nothing
+//! worker 1  serves a, c                     its share: 2 puts, 1 get
+//! worker 2  serves b                        its share: 1 put
+//! Pool::run returns                         ends of a, b, c; 3 puts, 1 get; the tally of each vnode
+//! ```
 #![tactic(auto)]
 
-mod asking;
-mod gate_node;
-mod gated_vnode;
-mod laws;
-mod replies;
-mod shared;
+mod closed;
+mod job;
+mod pool;
+mod server;
+mod tallies;
 
-pub use asking::{Outcome, ask};
-pub use gate_node::GateNode;
-pub use laws::{positions_are_legal, sessions_keep_their_gates};
-pub use shared::{Passes, Shared};
+pub use closed::Closed;
+pub use gate_node::{Open, Passes, PoolFault, Shared, Turnstile};
+pub use job::{End, EndRead, EndWrite, Job};
+pub use job_pool::{JobFault, Jobs};
+pub use pool::Pool;

@@ -1,4 +1,4 @@
-//! Tests of `worker_pool`, from outside: sessions over gates, from bytes to bytes.
+//! Tests of `worker_pool`, from outside: runs of a pool over readers and writers of the tests' own.
 //!
 //! They stand in a crate of their own, since a crate with tests is proved twice.
 #![tactic(auto)]

@@ -1,6 +1,6 @@
 //! A source that fails ends the run, and its workers are joined.
 use crate::tests::{Numbers, doubled};
-use job_pool::PoolFault;
+use job_pool::RunFault;
 use std::process::Abort;
 use std::test::*;
 
@@ -13,7 +13,7 @@ fn jobs_fail_at_the_third(rt: HostRuntime) -> Result<(), Fail> {
         fails: true,
     };
     let fault = doubled(&rt, rt.alloc(), &mut source, 2).err();
-    assert!(rt; fault == Some(PoolFault::JobsFailed));
+    assert!(rt; fault == Some(RunFault::JobsFailed));
     assert_eq!(rt; source.next, 9);
     assert_eq!(rt; source.left, 0);
     Ok(())
@@ -28,7 +28,7 @@ fn jobs_fail_at_once(rt: HostRuntime) -> Result<(), Fail> {
         fails: true,
     };
     let fault = doubled(&rt, rt.alloc(), &mut source, 4).err();
-    assert!(rt; fault == Some(PoolFault::JobsFailed));
+    assert!(rt; fault == Some(RunFault::JobsFailed));
     assert_eq!(rt; source.next, 7);
     Ok(())
 }

@@ -29,10 +29,10 @@ impl<'a, T: Wait + Sync> Service for Adder<'a, T> {
 
     ghost keeps = { λ service first last. ⊤ };
 
-    fn serve(&self, _alloc: Global, _worker: &mut (), job: u32) -> u32 {
+    fn serve(&self, _alloc: Global, _worker: (), job: u32) -> ((), u32) {
         let mut sum = self.sum.lock(self.rt);
         *sum = sum.saturating_add(u64::from(job));
-        job
+        ((), job)
     }
 
     ghost keeps_same = { λ service worker. tt };

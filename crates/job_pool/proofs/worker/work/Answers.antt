@@ -22,8 +22,8 @@ loop-preserved-then-has_room g c =
       tt,
       (same.0 ∙ was.2.0, same.2 ∙ was.2.1),
       subst (λ t. Every (IsEndOfTaken Serves t) c.push_reserved.new.self.items) (sym taken)
-          (rw (c.push_reserved.ensures.items, c.reserve.ensures.items) (all_snoc (IsEndOfTaken Serves _) _ _ (all_taken_more Serves _ _ _ was.3) (taken_last Serves _ _ _ refl c.serve-end.ensures.end))),
-      laws.keeps_on _ _ _ _ was.4 c.serve-end.ensures.worker,
+          (rw (c.push_reserved.ensures.items, c.reserve.ensures.items) (all_snoc (IsEndOfTaken Serves _) _ _ (all_taken_more Serves _ _ _ was.3) (taken_last Serves _ _ _ refl c.serve-next_state.ensures.end))),
+      laws.keeps_on _ _ _ _ was.4 c.serve-next_state.ensures.worker,
     )
 
 pub loop-preserved-else-has_room : goal.loop-preserved-else-has_room

@@ -1,0 +1,43 @@
+-- Ends of which none met a full book, and lists in pairs.
+use Rattle.std.proofs.Common.{◌≡◌, ℕ, zero, suc, List, [], ◌∷◌, ◌++◌, length, map, arith, ap, sym, refl, inl, inr}
+use Rattle.std.specs.Prelude.{true, false, replicate}
+use Rattle.job_pool.specs.Lists.{Pairwise}
+use Rattle.worker_pool.specs.declared.job.Job.{Job}
+use Rattle.worker_pool.specs.declared.job.End.{End}
+use Rattle.worker_pool.specs.declared.server.Served.{Served}
+use Rattle.worker_pool.specs.Serving.{counted_whole}
+use Rattle.worker_pool.specs.Leaving.{MetFullBook}
+
+pub pairwise_length : {A B : Type 0} (R : A → B → Type 0) (xs : List A) (ys : List B) → Pairwise R xs ys → length ys ≡ length xs
+pairwise_length R [] [] h = refl
+pairwise_length R [] (y ∷ ys) h = absurd h
+pairwise_length R (x ∷ xs) [] h = absurd h
+pairwise_length R (x ∷ xs) (y ∷ ys) h = let rest = pairwise_length R xs ys h.1 in omega (arith, rest)
+
+pub replicate_length : {A : Type 0} (n : ℕ) (x : A) → length (replicate n x) ≡ n
+replicate_length zero x = refl
+replicate_length (suc n) x = let rest = replicate_length n x in omega (arith, rest)
+
+module _ {I O : Type 0} where
+  -- what is related to such ends
+  pub pairwise_whole : (R : Job I O → Served I O → Type 0) (jobs : List (Job I O)) (ends : List (End I O)) → Pairwise R jobs (map counted_whole ends) → Pairwise (λ job end. R job (counted_whole end)) jobs ends
+  pairwise_whole R [] [] h = tt
+  pairwise_whole R [] (end ∷ ends) h = absurd h
+  pairwise_whole R (job ∷ jobs) [] h = absurd h
+  pairwise_whole R (job ∷ jobs) (end ∷ ends) h = (h.0, pairwise_whole R jobs ends h.1)
+
+  -- one of them met a full book
+  pub met_full : (before : List (Served I O)) (one : Served I O) (rest : List (Served I O)) → one.book_full ≡ true → MetFullBook (before ++ one ∷ rest)
+  met_full [] one rest full = inl full
+  met_full (other ∷ before) one rest full = inr (met_full before one rest full)
+
+  -- one that didn't
+  pub is_whole : (one : Served I O) → one.book_full ≡ false → counted_whole one.end ≡ one
+  is_whole one whole = ap (λ b. record { end = one.end; book_full = b }) (sym whole)
+
+-- one more of both
+pub pairwise_more : {A B : Type 0} (R : A → B → Type 0) (xs : List A) (ys : List B) (x : A) (y : B) → Pairwise R xs ys → R x y → Pairwise R (xs ++ x ∷ []) (ys ++ y ∷ [])
+pairwise_more R [] [] x y h r = (r, tt)
+pairwise_more R [] (other ∷ ys) x y h r = absurd h
+pairwise_more R (other ∷ xs) [] x y h r = absurd h
+pairwise_more R (first ∷ xs) (other ∷ ys) x y h r = (h.0, pairwise_more R xs ys x y h.1 r)

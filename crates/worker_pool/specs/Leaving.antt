@@ -1,0 +1,42 @@
+-- What a run that ends by a fault leaves.
+use Rattle.std.specs.Prelude.{◌≡◌, ◌⊎◌, ℕ, true, List, [], ◌∷◌, Option, Result}
+use Rattle.job_pool.specs.Giving.{AllServed, GaveThenFailed}
+use Rattle.job_pool.specs.declared.jobs.JobFault.{JobFault}
+use Rattle.job_pool.specs.declared.fault.RunFault.{RunFault}
+use Rattle.job_pool.specs.declared.fault.RunFault.TheVariants as runs
+use Rattle.gate_node.specs.Gates.{Gates}
+use Rattle.gate_node.specs.declared.fault.PoolFault.{PoolFault}
+use Rattle.gate_node.specs.declared.fault.PoolFault.TheVariants.{NoMemory, NoThread, JobsFailed, BookFull}
+use Rattle.worker_pool.specs.declared.job.Job.{Job}
+use Rattle.worker_pool.specs.declared.server.Served.{Served}
+use Rattle.worker_pool.specs.Serving.{Serves}
+
+-- at one of these ends the book was full
+abbrev pub MetFullBook : {I O : Type 0} → List (Served I O) → Type 0
+MetFullBook [] = ⊥
+MetFullBook (served ∷ rest) = (served.book_full ≡ true) ⊎ MetFullBook rest
+
+-- the fault for a fault of the workers' run
+abbrev pub pool_fault : RunFault → PoolFault
+pool_fault runs.NoMemory = NoMemory
+pool_fault runs.NoThread = NoThread
+pool_fault runs.JobsFailed = JobsFailed
+
+-- why there are no ends, where these jobs were served
+abbrev pub IsFaultAfter : {I O : Type 0} → List (Served I O) → PoolFault → Type 0
+IsFaultAfter served NoMemory = Unit {0}
+IsFaultAfter served NoThread = ⊥
+IsFaultAfter served JobsFailed = ⊥
+IsFaultAfter served BookFull = MetFullBook served
+
+module _ {J I O : Type 0} (Gives : J → Result (Option (Job I O)) JobFault → J → Type 0) (remaining : I → Option (List ℕ)) (contents : O → Option (List ℕ)) (shared : Gates) where
+  -- all jobs were served, and the book was full in one of the sessions
+  abbrev pub ServedPastFullBook : J → J → Type 0
+  ServedPastFullBook first last = (served : List (Served I O)) × AllServed Gives (Serves remaining contents shared) first served last × MetFullBook served
+
+  -- what is left of the source of jobs
+  abbrev pub Leaves : PoolFault → J → J → Type 0
+  Leaves NoMemory first last = Unit {0}
+  Leaves NoThread first last = last ≡ first
+  Leaves JobsFailed first last = GaveThenFailed Gives first last
+  Leaves BookFull first last = ServedPastFullBook first last

@@ -1,0 +1,72 @@
+-- What the end of a job says.
+use Rattle.std.specs.Prelude.{◌≡◌, ℕ, false, List, [], ◌∷◌, Option, IfSome, MatchResult, map}
+use Rattle.node_session.specs.declared.ended.Ended.{Ended}
+use Rattle.node_session.specs.declared.fault.SessionFault.{SessionFault}
+use Rattle.node_session.specs.Answered.{Answered}
+use Rattle.node_session.specs.Session.{Given, IsEnd, Stops, IsTooManyReads, MadeReads}
+use Rattle.stats_book.specs.declared.totals.Totals.{Totals}
+use Rattle.gate_node.specs.Asked.{Sight}
+use Rattle.gate_node.specs.Gates.{Gates}
+use Rattle.gate_node.specs.GateStep.{Node, GateStep}
+use Rattle.worker_pool.specs.declared.job.Job.{Job}
+use Rattle.worker_pool.specs.declared.job.End.{End}
+use Rattle.worker_pool.specs.declared.server.Served.{Served}
+
+-- these passes are of the gates of this run, in their order
+abbrev pub ArePassesOf : Gates → List Sight → Type 0
+ArePassesOf shared passes = map (λ (pass : Sight). pass.gate) passes ≡ shared.gates
+
+module _ {I O : Type 0} where
+  abbrev pub IsForGates : Gates → Job I O → Type 0
+  IsForGates shared job = ArePassesOf shared job.passes
+
+  -- an end at none of whose answers the book was full
+  abbrev pub counted_whole : End I O → Served I O
+  counted_whole end = record { end = end; book_full = false }
+
+  module _ (remaining : I → Option (List ℕ)) (contents : O → Option (List ℕ)) (shared : Gates) where
+    -- what was written is the output for all that could be read, by a run of the step of a node over gates from the one
+    -- node to the other
+    abbrev pub EndsAtEnd : Job I O → End I O → Node → Node → Ended → Type 0
+    EndsAtEnd job end before after ended = Given (remaining job.reader) (remaining end.reader) shared.reads (λ input.
+        IfSome (remaining job.reader) (λ all. input ≡ all)
+        × Answered GateStep before input (contents job.writer) (contents end.writer) ended.replies (IsEnd after ended.rest))
+
+    -- what was written is the output for what was read, as far as the fault lets it come
+    abbrev pub EndsAtFault : Job I O → End I O → Node → Node → SessionFault → Type 0
+    EndsAtFault job end before after fault = Given (remaining job.reader) (remaining end.reader) shared.reads (λ input.
+        Stops GateStep before after input (contents job.writer) (contents end.writer) fault)
+        × (IsTooManyReads fault → MadeReads (remaining job.reader) (remaining end.reader) shared.reads)
+
+    -- between a node over these gates by the job's passes, which has met no full book, and one with what the end has,
+    -- whose passes are of the same gates
+    pub record Joins (job : Job I O) (served : Served I O) (before after : Node) : Type 0 where
+      pub gates : before.shared ≡ shared
+      pub passes : before.passes ≡ job.passes
+      pub begins : before.count.book_full ≡ false
+      pub left : after.passes ≡ served.end.passes
+      pub kept : ArePassesOf shared served.end.passes
+      pub full : after.count.book_full ≡ served.book_full
+      pub session : MatchResult served.end.result (EndsAtEnd job served.end before after) (EndsAtFault job served.end before after)
+
+    -- a session of the job came to this end
+    abbrev pub Serves : Job I O → Served I O → Type 0
+    Serves job served = (before : Node) × (after : Node) × Joins job served before after
+
+    -- and the book was full at none of its answers
+    abbrev pub EndsWell : Job I O → End I O → Type 0
+    EndsWell job end = Serves job (counted_whole end)
+
+    -- the session of a job counted on from the first numbers to the last
+    abbrev pub CountsInSession : Totals → Totals → Type 0
+    CountsInSession first last = (job : Job I O) × (served : Served I O) × (before : Node) × (after : Node)
+        × (before.count.counted ≡ first) × (after.count.counted ≡ last) × Joins job served before after
+
+    -- sessions did, one after another, through these numbers
+    abbrev pub CountsThrough : List Totals → Totals → Totals → Type 0
+    CountsThrough [] first last = last ≡ first
+    CountsThrough (next ∷ rest) first last = CountsInSession first next × CountsThrough rest next last
+
+    -- some sessions did
+    abbrev pub CountsOn : Totals → Totals → Type 0
+    CountsOn first last = (through : List Totals) × CountsThrough through first last

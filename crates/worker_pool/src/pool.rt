@@ -1,0 +1,213 @@
+//! A run of the pool.
+ghost use Rattle.std.specs.Prelude.{◌≡◌, ◌≤◌, List, map, replicate, vec_len, IfOk, IfErr};
+ghost use Rattle.job_pool.specs.Giving.{AllServed, GivesOnly};
+ghost use Rattle.job_pool.specs.Lists.{Pairwise};
+ghost use Rattle.stats_book.specs.Counting.{sum_of, zeros};
+ghost use Rattle.stats_book.specs.Holdings.{AllAre};
+ghost use Rattle.stats_book.specs.declared.totals.Totals.{Totals};
+ghost use Rattle.worker_pool.specs.Serving.{EndsWell, IsForGates, CountsOn, counted_whole};
+ghost use Rattle.worker_pool.specs.Leaving.{Leaves, IsFaultAfter, pool_fault};
+ghost use Rattle.worker_pool.specs.Tallies.{IsTally};
+
+use crate::closed::Closed;
+use crate::job::{End, EndRead, EndWrite, Job};
+use crate::server::{Served, Server};
+use crate::tallies::tallies_of;
+use gate_node::{PoolFault, Shared, Turnstile};
+use job_pool::{Finished, Jobs, RunFault};
+use stats_book::{Blanks, Book, Share, close};
+use std::alloc::Global;
+use std::marker::{Brand, PhantomData};
+use std::sync::Wait;
+use std::sync::ledger::Ledger;
+use std::thread::Threads;
+
+/// Workers that serve connections over the gates of a run.
+pub struct Pool;
+
+/// The fault of the run below.
+fn fault_of(fault: RunFault) -> PoolFault
+    ensures { result ≡ pool_fault fault }
+{
+    match fault {
+        RunFault::NoMemory => PoolFault::NoMemory,
+        RunFault::NoThread => PoolFault::NoThread,
+        RunFault::JobsFailed => PoolFault::JobsFailed,
+    }
+}
+
+/// The ends, where the book was full at none of them.
+fn whole_ends<I: Drop, O: Drop>(
+    alloc: Global,
+    served: Vec<Served<I, O>>,
+) -> Result<Vec<End<I, O>>, PoolFault>
+    ensures ends { IfOk result (λ ends. map counted_whole ends.items ≡ served.items) }
+    ensures fault { IfErr result (IsFaultAfter served.items) }
+{
+    let mut ends = Vec::new(alloc);
+    for one in served {
+        if one.book_full {
+            return Err(PoolFault::BookFull);
+        }
+        let Ok(()) = ends.push(one.end) else {
+            return Err(PoolFault::NoMemory);
+        };
+    }
+    Ok(ends)
+}
+
+/// What a run leaves whose workers were joined: the book is closed by all shares, and each vnode looked at.
+fn finish<X, I, O, G, P, D, E, R>(
+    rt: &X,
+    alloc: Global,
+    shared: &Shared,
+    book: Book<G, P, D, E, R>,
+    finished: Finished<Served<I, O>, Share<G, P, D, E, R>>,
+) -> Result<Closed<I, O>, PoolFault>
+where
+    X: Wait,
+    I: Drop,
+    O: Drop,
+    G: Ledger,
+    P: Ledger,
+    D: Ledger,
+    E: Ledger,
+    R: Ledger,
+    requires all { AllAre (vec_len finished.workers) G.parts P.parts D.parts E.parts R.parts }
+    ensures ends { IfOk result (λ closed.
+        map counted_whole closed.ends.items ≡ finished.ends.items) }
+    ensures tallies { IfOk result (λ closed. Pairwise IsTally shared.now.gates closed.tallies.items) }
+    ensures totals { IfOk result (λ closed. closed.totals ≡ sum_of finished.workers.items) }
+    ensures fault { IfErr result (IsFaultAfter finished.ends.items) }
+{
+    let Finished {
+        ends: served,
+        workers: shares,
+    } = finished;
+    let totals = close(book, shares);
+    let ends = match whole_ends(alloc, served) {
+        Ok(ends) => ends,
+        Err(fault) => return Err(fault),
+    };
+    match tallies_of(rt, alloc, shared) {
+        Ok(tallies) => Ok(Closed {
+            totals,
+            tallies,
+            ends,
+        }),
+        Err(fault) => Err(fault),
+    }
+}
+
+/// A run by a book of these ledgers.
+fn run_by<X, J, I, O, T, G, P, D, E, R>(
+    rt: &X,
+    alloc: Global,
+    shared: &Shared,
+    jobs: &mut J,
+    workers: u16,
+    turnstile: &T,
+    blanks: Blanks,
+) -> Result<Closed<I, O>, PoolFault>
+where
+    X: Threads + Wait + Sync,
+    J: Jobs<Job = Job<I, O>>,
+    I: EndRead + Drop + Send + Sync,
+    O: EndWrite + Drop + Send + Sync,
+    T: Turnstile + Sync,
+    G: Ledger + Send + Sync,
+    P: Ledger + Send + Sync,
+    D: Ledger + Send + Sync,
+    E: Ledger + Send + Sync,
+    R: Ledger + Send + Sync,
+    requires workers { 1 ≤ workers }
+    requires jobs { GivesOnly J.gives (IsForGates shared.now) jobs.old }
+    requires gets { (blanks.gets.name ≡ G.name) × (blanks.gets.parts ≡ G.parts) }
+    requires puts { (blanks.puts.name ≡ P.name) × (blanks.puts.parts ≡ P.parts) }
+    requires deletes { (blanks.deletes.name ≡ D.name) × (blanks.deletes.parts ≡ D.parts) }
+    requires refusals { (blanks.refusals.name ≡ E.name) × (blanks.refusals.parts ≡ E.parts) }
+    requires reaps { (blanks.reaps.name ≡ R.name) × (blanks.reaps.parts ≡ R.parts) }
+    requires parts { AllAre workers G.parts P.parts D.parts E.parts R.parts }
+    ensures ends { IfOk result (λ closed.
+        AllServed J.gives (EndsWell I.remaining O.contents shared.now)
+        jobs.old closed.ends.items jobs.new) }
+    ensures totals { IfOk result (λ closed. (counts : List Totals)
+        × Pairwise (CountsOn I.remaining O.contents shared.now) (replicate workers zeros) counts
+        × (closed.totals ≡ sum_of counts)) }
+    ensures tallies { IfOk result (λ closed. Pairwise IsTally shared.now.gates closed.tallies.items) }
+    ensures fault { IfErr result (λ fault.
+        Leaves J.gives I.remaining O.contents shared.now fault jobs.old jobs.new) }
+{
+    let Ok((book, shares)) = Book::<G, P, D, E, R>::new(alloc, workers, blanks) else {
+        return Err(PoolFault::NoMemory);
+    };
+    let server = Server {
+        rt,
+        shared,
+        book: &book,
+        turnstile,
+        jobs: PhantomData,
+    };
+    match job_pool::run(rt, alloc, &server, jobs, shares) {
+        Ok(finished) => finish(rt, alloc, shared, book, finished),
+        Err(fault) => Err(fault_of(fault)),
+    }
+}
+
+impl Pool {
+    /// Serves all jobs of a source over the gates of a run, each once, by so many workers.
+    ///
+    /// There are 1 to 64 workers, and the passes of each job that the source may give are of these gates. The calling thread takes the
+    /// jobs from the source and hands them to the workers; each is served by one worker, whose calls pass the turnstile. On success
+    /// there is one end for each job, in the order in which the source gave them. The end has the job's own reader, writer and
+    /// passes, and what `serve` returned: what was written is the output for what was read, by a run of the step of a node over the
+    /// gates from the job's passes to the end's, which may serve a later job. The totals are the sums of what the workers counted, each in the sessions that it
+    /// served. The tallies stand in the order of the partitions, each of one look after the workers were joined.
+    ///
+    /// Where it is refused, the workers that were started have been joined, and what they did to the vnodes stays:
+    ///
+    /// - `NoMemory`: memory was refused, to the run or to a worker for the end of a job, which was then not served.
+    /// - `NoThread`: the system refused a thread. No job was taken from the source.
+    /// - `JobsFailed`: the source gave some jobs and then a fault. The jobs that it gave were served.
+    /// - `BookFull`: all jobs were served, and in one of their sessions a total would have passed 18,446,744,073,709,551,615.
+    ///
+    /// It waits for the workers, and they for jobs and for one another. It returns if each call of the source, of the readers and the
+    /// writers, and of the turnstile does.
+    pub fn run<X, J, I, O, T>(
+        rt: &X,
+        alloc: Global,
+        shared: &Shared,
+        jobs: &mut J,
+        workers: u16,
+        turnstile: &T,
+    ) -> Result<Closed<I, O>, PoolFault>
+    where
+        X: Threads + Wait + Sync,
+        J: Jobs<Job = Job<I, O>>,
+        I: EndRead + Drop + Send + Sync,
+        O: EndWrite + Drop + Send + Sync,
+        T: Turnstile + Sync,
+        requires workers { (1 ≤ workers) × (workers ≤ 64) }
+        requires jobs { GivesOnly J.gives (IsForGates shared.now) jobs.old }
+        ensures ends { IfOk result (λ closed.
+            AllServed J.gives (EndsWell I.remaining O.contents shared.now)
+            jobs.old closed.ends.items jobs.new) }
+        ensures totals { IfOk result (λ closed. (counts : List Totals)
+            × Pairwise (CountsOn I.remaining O.contents shared.now) (replicate workers zeros) counts
+            × (closed.totals ≡ sum_of counts)) }
+        ensures tallies { IfOk result (λ closed.
+            Pairwise IsTally shared.now.gates closed.tallies.items) }
+        ensures fault { IfErr result (λ fault.
+            Leaves J.gives I.remaining O.contents shared.now fault jobs.old jobs.new) }
+    {
+        run_by::<X, J, I, O, T, Brand, Brand, Brand, Brand, Brand>(
+            rt,
+            alloc,
+            shared,
+            jobs,
+            workers,
+            turnstile,
+            Blanks::new(workers),
+        )
+    }
+}
