@@ -1,0 +1,5 @@
+mod Known
+mod Texts
+mod Standing
+mod Ending
+mod Going

@@ -1,0 +1,25 @@
+//! The line that is answered to a step.
+
+ghost use Rattle.std.specs.Prelude.{◌≡◌, IfOk};
+ghost use Rattle.schedule_player.specs.Answers.{answer_line};
+
+use node_steps::Outcome;
+use schedule_text::{StepOutcome, write_outcome};
+use std::alloc::{AllocError, Global};
+
+/// The line for what came of the step of a line of this number. It is refused where memory is.
+pub(crate) fn write_answer(
+    alloc: Global,
+    number: u64,
+    outcome: &Outcome,
+) -> Result<Vec<u8>, AllocError>
+    ensures { IfOk result (λ line. line.items ≡ answer_line number outcome.now) }
+{
+    match outcome {
+        Outcome::No => write_outcome(alloc, number, StepOutcome::No),
+        Outcome::Done => write_outcome(alloc, number, StepOutcome::Done),
+        Outcome::Reply(reply) => write_outcome(alloc, number, StepOutcome::Reply(reply)),
+        Outcome::Reaped => write_outcome(alloc, number, StepOutcome::Reaped),
+        Outcome::Kept => write_outcome(alloc, number, StepOutcome::Kept),
+    }
+}

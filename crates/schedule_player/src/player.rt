@@ -1,0 +1,86 @@
+//! A run of a schedule: its world, and how many lines it has answered.
+
+ghost use Rattle.std.specs.Prelude.{◌<◌};
+ghost use Rattle.node_steps.specs.Asked.{step_of};
+ghost use Rattle.schedule_player.specs.Lines.{AnswersStep, PlaysLine, Tells};
+
+use crate::answer::write_answer;
+use crate::asking::{read_call, read_step, worker_of};
+use crate::fault::StepsFault;
+use crate::referee::Referee;
+use crate::sending::send;
+use node_steps::{Outcome, Step, World};
+use ring_map::Ring;
+use schedule_text::MAX_LINES;
+use std::alloc::Global;
+use std::io::Write;
+
+/// A run of a schedule, and how many of its lines were answered.
+#[derive(Drop)]
+pub(crate) struct Player {
+    pub(crate) world: World,
+    pub(crate) referee: Referee,
+    pub(crate) workers: u16,
+    pub(crate) ring: Ring,
+    pub(crate) lines: u32,
+}
+
+impl Player {
+    /// Takes the step of a line, and writes what came of it as a line. Each further line than 100,000 is a bad step.
+    pub(crate) fn play_line<W: Write>(
+        &mut self,
+        alloc: Global,
+        text: &[u8],
+        writer: &mut W,
+    ) -> Result<(), StepsFault>
+        ensures { PlaysLine self.old text.now
+            (W.contents writer.old) (W.contents writer.new) self.new result }
+    {
+        if u64::from(self.lines) >= MAX_LINES {
+            return Err(StepsFault::BadStep(self.lines.saturating_add(1)));
+        }
+        let number = self.lines + 1;
+        let call = read_call(alloc, text, self.workers, self.ring, number)?;
+        let step = read_step(alloc, text, self.workers, self.ring, number)?;
+        self.play_step(alloc, call, step, writer)
+    }
+
+    /// Takes a step, and writes what came of it.
+    fn play_step<W: Write>(
+        &mut self,
+        alloc: Global,
+        call: Option<Box<Step>>,
+        step: Step,
+        writer: &mut W,
+    ) -> Result<(), StepsFault>
+        requires { self.old.lines < 100000 }
+        ensures { AnswersStep self.old (step_of step)
+            (W.contents writer.old) (W.contents writer.new) self.new result }
+    {
+        let worker = worker_of(&step);
+        match self.world.step(alloc, step) {
+            Ok(outcome) => self.tell(alloc, worker, call, &outcome, writer),
+            Err(_) => Err(StepsFault::NoMemory),
+        }
+    }
+
+    /// Writes what came of the next line's step.
+    fn tell<W: Write>(
+        &mut self,
+        alloc: Global,
+        worker: u16,
+        call: Option<Box<Step>>,
+        outcome: &Outcome,
+        writer: &mut W,
+    ) -> Result<(), StepsFault>
+        requires { self.old.lines < 100000 }
+        ensures { Tells self.old outcome.now
+            (W.contents writer.old) (W.contents writer.new) self.new result }
+    {
+        let number = u64::from(self.lines) + 1;
+        self.referee.hear(alloc, number, worker, call, outcome)?;
+        let line = write_answer(alloc, number, outcome)?;
+        self.lines += 1;
+        send(writer, line.as_slice())
+    }
+}
