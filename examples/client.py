@@ -1,13 +1,14 @@
 """One client of a node: put, get, put by what was seen, get, delete, get. Prints what it asks and what it is answered.
 
-    python3 examples/client.py PROGRAM
+    python3 examples/client.py PROGRAM [--pipe]
 
-PROGRAM is the built node; the client starts `PROGRAM pipe` and talks to it.
+PROGRAM is the built node. The client starts `PROGRAM serve` on a free port and connects to it; with --pipe it starts
+`PROGRAM pipe`, and talks to it over its standard streams.
 """
 
 import sys
 
-from riak_client import Client, Refused
+from riak_client import Node, Refused
 
 
 def show(line, reply):
@@ -17,9 +18,10 @@ def show(line, reply):
 
 
 def main():
-    if len(sys.argv) != 2:
+    node = Node.of_words(sys.argv[1:])
+    if not node:
         sys.exit(__doc__)
-    client = Client.of_pipe(sys.argv[1])
+    client = node.client
     client.ping()
     print("ping: answered")
 
@@ -42,7 +44,7 @@ def main():
     client.delete(b"cities", b"rome", context=seen.vclock)
     print("delete, by what that get showed: done")
     show("get", client.get(b"cities", b"rome"))
-    print(f"the node ended with status {client.close()}")
+    print(f"the node ended with status {node.end()}")
 
 
 if __name__ == "__main__":

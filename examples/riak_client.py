@@ -4,6 +4,7 @@ It needs Debian's python3-protobuf and nothing else. `riak_pb2.py` and `riak_kv_
 `riak.proto` and `riak_kv.proto`.
 """
 
+import socket
 import struct
 import subprocess
 
@@ -18,25 +19,60 @@ class Refused(Exception):
     """The node answered a request by an error; its text is the node's."""
 
 
+class Node:
+    """A node that was started for one client, which is `client`."""
+
+    def __init__(self, process, client):
+        self.process = process
+        self.client = client
+
+    @classmethod
+    def serving(cls, program):
+        """Starts `program serve` for one connection, on a free port, and connects to it."""
+        words = [program, "serve", "--connections", "1", "--port", "0"]
+        process = subprocess.Popen(words, stdout=subprocess.PIPE, stderr=subprocess.DEVNULL)
+        address = process.stdout.readline().decode()
+        return cls(process, Client.of_port(int(address.rsplit(":", 1)[1])))
+
+    @classmethod
+    def piping(cls, program):
+        """Starts `program pipe`, whose client talks to it over its standard input and output."""
+        process = subprocess.Popen([program, "pipe"], stdin=subprocess.PIPE, stdout=subprocess.PIPE)
+        return cls(process, Client(process.stdin, process.stdout))
+
+    @classmethod
+    def of_words(cls, words):
+        """The node for an example's arguments: PROGRAM, and perhaps `--pipe`. None where they are others."""
+        if len(words) == 2 and words[1] == "--pipe":
+            return cls.piping(words[0])
+        return cls.serving(words[0]) if len(words) == 1 else None
+
+    def end(self):
+        """Ends the client's connection, and waits for the node to end. Its exit status is returned."""
+        self.client.close()
+        return self.process.wait()
+
+
 class Client:
     """One connection: each call sends one request and waits for its reply."""
 
-    def __init__(self, to_node, from_node):
+    def __init__(self, to_node, from_node, connection=None):
         self.to_node = to_node
         self.from_node = from_node
+        self.connection = connection
 
     @classmethod
-    def of_pipe(cls, program):
-        """Starts `program pipe` and talks to it over its standard input and output."""
-        node = subprocess.Popen([program, "pipe"], stdin=subprocess.PIPE, stdout=subprocess.PIPE)
-        client = cls(node.stdin, node.stdout)
-        client.node = node
-        return client
+    def of_port(cls, port):
+        """Connects to a node on this machine."""
+        connection = socket.create_connection(("127.0.0.1", port))
+        connection.setsockopt(socket.IPPROTO_TCP, socket.TCP_NODELAY, 1)
+        return cls(connection.makefile("wb"), connection.makefile("rb"), connection)
 
     def close(self):
-        """Ends the connection, and waits for the node to end. Its exit status is returned."""
+        """Ends the connection."""
         self.to_node.close()
-        return self.node.wait()
+        if self.connection:
+            self.connection.shutdown(socket.SHUT_WR)
 
     def ping(self):
         """Asks whether the node is there."""

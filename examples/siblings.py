@@ -1,13 +1,14 @@
 """Two writers of one key who don't know of each other, and how their values are merged. Nothing that was stored is lost.
 
-    python3 examples/siblings.py PROGRAM
+    python3 examples/siblings.py PROGRAM [--pipe]
 
-PROGRAM is the built node; the example starts `PROGRAM pipe` and talks to it.
+PROGRAM is the built node. The example starts `PROGRAM serve` on a free port and connects to it; with --pipe it starts
+`PROGRAM pipe`, and talks to it over its standard streams.
 """
 
 import sys
 
-from riak_client import Client
+from riak_client import Node
 
 CART = (b"carts", b"ann")
 
@@ -30,9 +31,10 @@ def add(client, seen, item):
 
 
 def main():
-    if len(sys.argv) != 2:
+    node = Node.of_words(sys.argv[1:])
+    if not node:
         sys.exit(__doc__)
-    client = Client.of_pipe(sys.argv[1])
+    client = node.client
 
     client.put(*CART, b"milk")
     phone = client.get(*CART)
@@ -47,7 +49,7 @@ def main():
     # Whoever meets siblings merges them, and writes by the context that showed them all.
     add(client, both, "jam")
     show("after a writer who saw both added jam", client.get(*CART))
-    client.close()
+    node.end()
 
 
 if __name__ == "__main__":

@@ -2,8 +2,9 @@
 
 ghost use Rattle.std.specs.Prelude.{◌≤◌};
 
+use crate::options;
 use clap::error::ErrorKind;
-use clap::{Arg, ArgMatches, Error, value_parser};
+use clap::{ArgMatches, Error};
 use std::alloc::{AllocError, Global};
 
 /// What the program is to do.
@@ -11,6 +12,10 @@ use std::alloc::{AllocError, Global};
 pub enum Command {
     /// Serve standard input to standard output.
     Pipe(PipeOptions),
+    /// Serve connections.
+    Serve(ServeOptions),
+    /// Play a schedule from standard input.
+    Steps(StepsOptions),
 }
 
 /// How a session over the standard streams is served.
@@ -25,40 +30,35 @@ pub struct PipeOptions {
     ghost some: { 1 ≤ run },
 }
 
-/// The option that gives the number of partitions.
-fn ring<'a>(alloc: Global) -> Arg<'a> {
-    Arg::new(alloc, "ring")
-        .long("ring")
-        .value_name("Q")
-        .value_parser(value_parser!(u16))
-        .default_value("1")
-        .help(
-            "How many partitions share the keys, each with a vnode of its own: a power of two from 1 to 1024. More of them make the lists of keys shorter",
-        )
+/// How connections are served.
+#[derive(Clone, Copy)]
+pub struct ServeOptions {
+    /// How many connections are served.
+    pub connections: u16,
+    /// The port that is listened on; with 0 a free one.
+    pub port: u16,
+    /// How many threads serve.
+    pub workers: u16,
+    /// How many partitions are asked for.
+    pub ring: u16,
+    /// The run's number.
+    pub run: u32,
+    /// How many dead keys are forgotten after an answer, at most.
+    pub sweep: u32,
+    ghost some_run: { 1 ≤ run },
+    ghost some_worker: { 1 ≤ workers },
+    ghost few_workers: { workers ≤ 64 },
 }
 
-/// The option that gives the run's number.
-fn run<'a>(alloc: Global) -> Arg<'a> {
-    Arg::new(alloc, "run")
-        .long("run")
-        .value_name("N")
-        .value_parser(value_parser!(u32).range(1..=4_294_967_295))
-        .default_value("1")
-        .help(
-            "The number of this run, from 1 to 4294967295. Contexts that clients keep from an earlier run are safe to use where each run has a number of its own",
-        )
-}
-
-/// The option that gives how many dead keys are forgotten.
-fn sweep<'a>(alloc: Global) -> Arg<'a> {
-    Arg::new(alloc, "sweep")
-        .long("sweep")
-        .value_name("B")
-        .value_parser(value_parser!(u32))
-        .default_value("0")
-        .help(
-            "How many deleted keys are forgotten, with their clocks, after each answer to a get, a put or a delete, at most. With 0 none is, and each deleted key takes memory for good",
-        )
+/// How a schedule is played.
+#[derive(Clone, Copy)]
+pub struct StepsOptions {
+    /// How many workers take steps.
+    pub workers: u16,
+    /// How many partitions are asked for.
+    pub ring: u16,
+    /// The run's number.
+    pub run: u32,
 }
 
 /// The command that serves standard input.
@@ -69,11 +69,55 @@ fn pipe<'a>(alloc: Global) -> Result<clap::Command<'a>, AllocError> {
         )
         .after_help(
             "Each frame is a length in four bytes, the highest first, a message code and a body.\n\n\
+             Exit status: 0 at the end of the input; 1 where the session had to stop before, with one line on standard\n\
+             error, as in: riak_node: bad frame after 2 replies; 2 for a command line that isn't one of these.\n\n\
              Example: riak_node pipe --ring 64 --run 2 < requests > replies",
         )
-        .arg(ring(alloc))?
-        .arg(run(alloc))?
-        .arg(sweep(alloc))
+        .arg(options::ring(alloc, "1"))?
+        .arg(options::run(alloc))?
+        .arg(options::sweep(alloc))
+}
+
+/// The command that serves connections.
+fn serve<'a>(alloc: Global) -> Result<clap::Command<'a>, AllocError> {
+    clap::Command::new(alloc, "serve")
+        .about(
+            "Serves connections to a port of 127.0.0.1, by a new node whose keys are lost with it, and ends with the last of them",
+        )
+        .after_help(
+            "Writes two lines to standard output: the address, as in: listening 127.0.0.1:8087, before the first\n\
+             connection, and what was done, as in: gets 2 puts 2 deletes 0 refusals 0 reaps 0, at the end. The log of the\n\
+             connections goes to standard error.\n\n\
+             Exit status: 0 when all connections were served, also those that failed; 1 where serving had to stop before,\n\
+             with one line on standard error, as in: riak_node: cannot listen; 2 for a command line that isn't one of\n\
+             these.\n\n\
+             Example: riak_node serve --connections 1000 --workers 8",
+        )
+        .arg(options::connections(alloc))?
+        .arg(options::port(alloc))?
+        .arg(options::workers(alloc))?
+        .arg(options::ring(alloc, "64"))?
+        .arg(options::run(alloc))?
+        .arg(options::sweep(alloc))
+}
+
+/// The command that plays a schedule.
+fn steps<'a>(alloc: Global) -> Result<clap::Command<'a>, AllocError> {
+    clap::Command::new(alloc, "steps")
+        .about(
+            "Plays a schedule: reads steps of workers over new vnodes from standard input, and writes what came of each",
+        )
+        .after_help(
+            "A line is a word and a worker's number, from 1: enter, leave, mark, unmark, take, put, look, publish; behind\n\
+             ask and reap stand a request's message code and body in lower-case hexadecimal. Each line is answered by one,\n\
+             as in: 1 ok. The last line written compares all answers with those of a plain register.\n\n\
+             Exit status: 0 at the end of the schedule; 1 where it had to stop before, with one line on standard error, as\n\
+             in: riak_node: bad step at line 3; 2 for a command line that isn't one of these.\n\n\
+             Example: riak_node steps --workers 3 < schedule",
+        )
+        .arg(options::step_workers(alloc))?
+        .arg(options::ring(alloc, "1"))?
+        .arg(options::run(alloc))
 }
 
 /// The program.
@@ -82,12 +126,14 @@ fn program<'a>(alloc: Global) -> Result<clap::Command<'a>, AllocError> {
         .version("0.1.0")
         .about("A key-value node that keeps siblings and speaks Riak's Protocol Buffers client API")
         .after_help(
-            "Exit status: 0 at the end of the input; 1 where the session had to stop before, with one line on standard\n\
-             error, as in: riak_node: bad frame after 2 replies; 2 for a command line that isn't one of these.\n\n\
-             Example: riak_node pipe < requests > replies",
+            "Exit status: 0 where all was served; 1 where serving had to stop before, with one line on standard error;\n\
+             2 for a command line that isn't one of these. See the help of each command.\n\n\
+             Example: riak_node serve --connections 1000",
         )
         .subcommand_required(true)
-        .subcommand(pipe(alloc)?)
+        .subcommand(serve(alloc)?)?
+        .subcommand(pipe(alloc)?)?
+        .subcommand(steps(alloc)?)
 }
 
 /// The options of `pipe`. Each has a value, since `clap` puts in the defaults, and a run of 0 was refused.
@@ -99,12 +145,53 @@ fn pipe_options(found: &ArgMatches<'_>) -> PipeOptions {
     }
 }
 
+/// The options of `serve`. Each has a value, since `clap` puts in the defaults and wants `--connections`, and numbers out of their ranges
+/// were refused.
+fn serve_options(found: &ArgMatches<'_>) -> ServeOptions {
+    ServeOptions {
+        connections: found.get_one::<u16>("connections").unwrap_or(1),
+        port: found.get_one::<u16>("port").unwrap_or(8087),
+        workers: found.get_one::<u16>("workers").unwrap_or(4).max(1).min(64),
+        ring: found.get_one::<u16>("ring").unwrap_or(64),
+        run: found.get_one::<u32>("run").unwrap_or(1).max(1),
+        sweep: found.get_one::<u32>("sweep").unwrap_or(0),
+    }
+}
+
+/// The options of `steps`. Each has a value, since `clap` puts in the defaults.
+fn steps_options(found: &ArgMatches<'_>) -> StepsOptions {
+    StepsOptions {
+        workers: found.get_one::<u16>("workers").unwrap_or(2),
+        ring: found.get_one::<u16>("ring").unwrap_or(1),
+        run: found.get_one::<u32>("run").unwrap_or(1),
+    }
+}
+
+/// The command that was found, if there is one.
+fn command_of(matches: &ArgMatches<'_>) -> Option<Command> {
+    match matches.subcommand() {
+        Some(("pipe", found)) => Some(Command::Pipe(pipe_options(found))),
+        Some(("serve", found)) => Some(Command::Serve(serve_options(found))),
+        Some(("steps", found)) => Some(Command::Steps(steps_options(found))),
+        _ => None,
+    }
+}
+
+/// The error for arguments without a command. `clap` has refused such by itself.
+fn no_command(alloc: Global) -> Result<Error, AllocError> {
+    program(alloc)?.error(ErrorKind::MissingSubcommand, "no command is given")
+}
+
+/// What `clap` finds in the arguments.
+fn parse<'a>(alloc: Global, args: &'a [String]) -> Result<ArgMatches<'a>, Error> {
+    program(alloc)?.try_get_matches_from(args)
+}
+
 /// Reads the arguments of the command line, the program's name first.
 pub fn read(alloc: Global, args: &[String]) -> Result<Command, Error> {
-    let mut program = program(alloc)?;
-    let matches = program.try_get_matches_from_mut(args)?;
-    match matches.subcommand() {
-        Some(("pipe", found)) => Ok(Command::Pipe(pipe_options(found))),
-        _ => Err(program.error(ErrorKind::MissingSubcommand, "no command is given")?),
+    let found = command_of(&parse(alloc, args)?);
+    match found {
+        Some(command) => Ok(command),
+        None => Err(no_command(alloc)?),
     }
 }

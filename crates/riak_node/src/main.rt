@@ -1,23 +1,30 @@
 //! The node as a program.
 //!
-//! `riak_node pipe` serves standard input to standard output: requests of Riak's Protocol Buffers client API in frames,
-//! and their replies in frames, each request answered as soon as it has come. It ends with status 0 at the end of the
-//! input, with 1 and one line on standard error where it had to stop before, and with 2 where the command line is none
-//! of its own.
+//! `riak_node serve` serves connections, each a stream of requests of Riak's Protocol Buffers client API in frames, and their replies in
+//! frames. `riak_node pipe` serves standard input to standard output in the same way. `riak_node steps` plays a schedule of workers' steps,
+//! a line in and a line out. Each ends with status 0 at the end of its input, with 1 and one line on standard error where it had to stop before, and with 2 where the command line is none of its own.
 #![tactic(auto)]
 
 mod command_line;
-mod pipe;
+mod options;
 
 use clap::error::ErrorKind;
-use command_line::{Command, PipeOptions};
+use command_line::{Command, PipeOptions, ServeOptions, StepsOptions};
+use log::sink::Console;
+use log::{Level, Log, Logged};
+use node_commands::{ServeFault, Served, Settings, pipe, serve_on};
 use node_session::{Ended, SessionFault, exit_status, write_fault};
-use pipe::pipe;
 use ring_map::Ring;
+use schedule_player::{StepsFault, steps_on};
+use std::alloc::Global;
 use std::io;
+use std::io::{BufWriter, Write};
+use std::net::{Net, TcpListener, TcpStream};
 use std::process::ExitCode;
+use std::sync::Wait;
+use std::thread::Threads;
 
-/// One line on standard error for a fault, and the status.
+/// One line on standard error for a fault of a session, and the status.
 fn end(rt: &HostRuntime, outcome: Result<Ended, SessionFault>) -> io::Result<ExitCode> {
     if let Err(fault) = outcome {
         write_fault(&mut rt.stderr(), fault)?;
@@ -34,11 +41,16 @@ fn tell(rt: &HostRuntime, error: clap::Error) -> io::Result<ExitCode> {
     Ok(ExitCode::from(error.exit_code() as u8))
 }
 
+/// What is to be said of a ring that there isn't, and the status.
+fn tell_no_ring<R: Eprint>(rt: &R) -> io::Result<ExitCode> {
+    eprintln!(rt; "riak_node: ring must be a power of two from 1 to 1024")?;
+    Ok(ExitCode::from(2))
+}
+
 /// Serves standard input to standard output, by a ring of the asked size if there is one.
 fn serve_streams(rt: &HostRuntime, options: PipeOptions) -> io::Result<ExitCode> {
     let Some(ring) = Ring::new(options.ring) else {
-        eprintln!(rt; "riak_node: ring must be a power of two from 1 to 1024")?;
-        return Ok(ExitCode::from(2));
+        return tell_no_ring(rt);
     };
     let mut input = rt.stdin();
     let mut output = rt.stdout();
@@ -49,11 +61,77 @@ fn serve_streams(rt: &HostRuntime, options: PipeOptions) -> io::Result<ExitCode>
     )
 }
 
+/// Serves connections, by a ring of the asked size if there is one.
+fn serve_connections<R, W>(
+    rt: &R,
+    alloc: Global,
+    options: ServeOptions,
+    output: &mut W,
+) -> io::Result<ExitCode>
+where
+    R: Log + Eprint + Net<Listener = TcpListener, Stream = TcpStream> + Threads + Wait + Sync,
+    W: Write,
+{
+    let Some(ring) = Ring::new(options.ring) else {
+        return tell_no_ring(rt);
+    };
+    let Ok(listener) = TcpListener::bind(rt, ("127.0.0.1", options.port)) else {
+        eprintln!(rt; "riak_node: cannot listen")?;
+        return Ok(ExitCode::from(1));
+    };
+    let settings = Settings {
+        connections: options.connections,
+        workers: options.workers,
+        ring,
+        run: options.run,
+        sweep: options.sweep,
+    };
+    match fault_of(serve_on(rt, alloc, listener, &settings, output)) {
+        None => Ok(ExitCode::SUCCESS),
+        Some(fault) => {
+            eprintln!(rt; "riak_node: {fault}")?;
+            Ok(ExitCode::from(1))
+        }
+    }
+}
+
+/// Why a schedule wasn't played to its end, and the status.
+fn tell_steps_fault(rt: &HostRuntime, fault: StepsFault) -> io::Result<ExitCode> {
+    eprintln!(rt; "riak_node: {fault}")?;
+    Ok(ExitCode::from(1))
+}
+
+/// Plays a schedule from standard input to standard output, by a ring of the asked size if there is one.
+fn play_steps(rt: &HostRuntime, options: StepsOptions) -> io::Result<ExitCode> {
+    let Some(ring) = Ring::new(options.ring) else {
+        return tell_no_ring(rt);
+    };
+    let StepsOptions { workers, run, .. } = options;
+    let mut input = rt.stdin();
+    let Ok(mut output) = BufWriter::new(rt.alloc(), rt.stdout()) else {
+        return tell_steps_fault(rt, StepsFault::NoMemory);
+    };
+    match steps_on(rt.alloc(), &mut input, &mut output, workers, ring, run) {
+        Ok(()) => Ok(ExitCode::SUCCESS),
+        Err(fault) => tell_steps_fault(rt, fault),
+    }
+}
+
+/// Why serving stopped, if it did. What was served is let go.
+fn fault_of(outcome: Result<Served, ServeFault>) -> Option<ServeFault> {
+    outcome.err()
+}
+
 fn main(rt: HostRuntime) -> io::Result<ExitCode> {
     let alloc = rt.alloc();
     let args: Vec<String> = std::env::args(&rt)?.collect(alloc)?;
     match command_line::read(alloc, args.as_slice()) {
         Ok(Command::Pipe(options)) => serve_streams(&rt, options),
+        Ok(Command::Steps(options)) => play_steps(&rt, options),
+        Ok(Command::Serve(options)) => {
+            let logged = Logged::new(rt, Level::Info, Console(rt));
+            serve_connections(&logged, alloc, options, &mut rt.stdout())
+        }
         Err(error) => tell(&rt, error),
     }
 }

@@ -1,6 +1,6 @@
 use Rattle.std.proofs.Common.{arith}
 use Rattle.node_session.proofs.Piping.{pipe_ended, pipe_stopped, with_sweeps}
-use Rattle.riak_node.proofs.pipe.pipe.Goals as goal
+use Rattle.node_commands.proofs.streams.pipe.Goals as goal
 
 pub returns-clause-ended : goal.returns-clause-ended
 returns-clause-ended g c =

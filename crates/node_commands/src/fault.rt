@@ -1,0 +1,20 @@
+//! Why serving stopped.
+
+use thiserror::Error;
+
+/// Why serving stopped before all connections were served. All threads have been joined.
+#[derive(Clone, Copy, Debug, Drop, PartialEq, Eq, Error)]
+pub enum ServeFault {
+    /// The system gave no further connection. Those that had come were served.
+    #[error("accept failed")]
+    AcceptFailed,
+    /// The system refused a thread. No connection was accepted.
+    #[error("no thread")]
+    NoThread,
+    /// Memory was refused, to the run or for a connection.
+    #[error("no memory")]
+    NoMemory,
+    /// A total would have passed 18,446,744,073,709,551,615.
+    #[error("book full")]
+    BookFull,
+}

@@ -1,0 +1,84 @@
+//! The options of the commands.
+
+use clap::{Arg, value_parser};
+use std::alloc::Global;
+
+/// How many connections are served.
+pub(crate) fn connections<'a>(alloc: Global) -> Arg<'a> {
+    Arg::new(alloc, "connections")
+        .long("connections")
+        .value_name("N")
+        .required(true)
+        .value_parser(value_parser!(u16).range(1..=65_535))
+        .help("How many connections are served before the program ends, from 1 to 65535")
+}
+
+/// The port.
+pub(crate) fn port<'a>(alloc: Global) -> Arg<'a> {
+    Arg::new(alloc, "port")
+        .long("port")
+        .value_name("P")
+        .value_parser(value_parser!(u16))
+        .default_value("8087")
+        .help(
+            "The port of 127.0.0.1 that is listened on. With 0 the system picks a free one, which the first line names",
+        )
+}
+
+/// How many threads serve.
+pub(crate) fn workers<'a>(alloc: Global) -> Arg<'a> {
+    Arg::new(alloc, "workers")
+        .long("workers")
+        .value_name("W")
+        .value_parser(value_parser!(u16).range(1..=64))
+        .default_value("4")
+        .help(
+            "How many threads serve, from 1 to 64, each one connection at a time. Where more connections come they wait, so take as many workers as clients are connected at once",
+        )
+}
+
+/// How many workers a schedule has.
+pub(crate) fn step_workers<'a>(alloc: Global) -> Arg<'a> {
+    Arg::new(alloc, "workers")
+        .long("workers")
+        .value_name("W")
+        .value_parser(value_parser!(u16).range(1..=64))
+        .default_value("2")
+        .help("How many workers take steps, from 1 to 64. A line that names another is a bad step")
+}
+
+/// The number of partitions.
+pub(crate) fn ring<'a>(alloc: Global, default: &'a str) -> Arg<'a> {
+    Arg::new(alloc, "ring")
+        .long("ring")
+        .value_name("Q")
+        .value_parser(value_parser!(u16))
+        .default_value(default)
+        .help(
+            "How many partitions share the keys, each with a vnode of its own: a power of two from 1 to 1024. More of them let more threads write at once",
+        )
+}
+
+/// The run's number.
+pub(crate) fn run<'a>(alloc: Global) -> Arg<'a> {
+    Arg::new(alloc, "run")
+        .long("run")
+        .value_name("N")
+        .value_parser(value_parser!(u32).range(1..=4_294_967_295))
+        .default_value("1")
+        .help(
+            "The number of this run, from 1 to 4294967295. Contexts that clients keep from an earlier run are safe to use where each run has a number of its own",
+        )
+}
+
+/// How many dead keys are forgotten.
+pub(crate) fn sweep<'a>(alloc: Global) -> Arg<'a> {
+    Arg::new(alloc, "sweep")
+        .long("sweep")
+        .value_name("B")
+        .value_parser(value_parser!(u32))
+        .default_value("0")
+        .help(
+            "How many deleted keys are forgotten, with their clocks, after each answer to a get, a put or a delete, at most. With 0 none is, and each deleted key takes memory for good",
+        )
+}
