@@ -6,7 +6,7 @@ ghost use Rattle.actor_epoch.specs.Given.{context_of};
 ghost use Rattle.actor_epoch.specs.Limits.{max_epoch, max_counter, max_actors};
 ghost use Rattle.actor_epoch.specs.Laws.{ReadsBack, ReadsNoOthers, CoversUpTo, HasItsCounter};
 
-use crate::limits::{MAX_COUNTER, MAX_EPOCH, MAX_ACTORS};
+use crate::limits::{MAX_ACTORS, MAX_COUNTER, MAX_EPOCH};
 
 /// The bytes that `Context::write` makes of pairs are read as these pairs, and no other bytes are; no bytes alone are no
 /// context.

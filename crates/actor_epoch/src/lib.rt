@@ -26,4 +26,4 @@ pub use epoch_source::EpochSource;
 pub use laws::{
     limits_are_those_of_the_definitions, pairs_cover_up_to_their_counters, what_is_written_is_read,
 };
-pub use limits::{Counter, MAX_COUNTER, MAX_EPOCH, MAX_ACTORS};
+pub use limits::{Counter, MAX_ACTORS, MAX_COUNTER, MAX_EPOCH};

@@ -7,12 +7,12 @@ ghost use Rattle.sibling_register.specs.Plain.{IsPosition};
 ghost use Rattle.sibling_register.specs.Plans.{plain_outcome};
 ghost use Rattle.sibling_register.specs.Entries.{history_of, outcome_of};
 
-use crate::operation::Operation;
 use crate::entry::Entry;
+use crate::key_state::KeyState;
+use crate::operation::Operation;
 use crate::planned::Planned;
 use crate::refusals::TOO_MANY_SIBLINGS;
 use crate::scans::count_at;
-use crate::key_state::KeyState;
 use crate::told::Told;
 use riak_msgs::Key;
 use std::alloc::{AllocError, Global};

@@ -8,10 +8,10 @@ ghost use Rattle.sibling_register.specs.Plans.{plain_outcome};
 ghost use Rattle.sibling_register.specs.Entries.{history_of, outcome_of};
 
 use crate::entry::Entry;
+use crate::key_state::KeyState;
 use crate::numbers::Numbers;
 use crate::planned::Planned;
 use crate::scans::count_at;
-use crate::key_state::KeyState;
 use crate::told::Told;
 use riak_msgs::Key;
 use std::alloc::{AllocError, Global};

@@ -12,20 +12,20 @@
 #![tactic(auto)]
 
 mod command;
-mod operation;
 mod del;
 mod entry;
 mod fault;
 mod get;
+mod key_state;
 mod laws;
 mod numbers;
+mod operation;
 mod planned;
 mod put;
 mod reap;
 mod refusals;
 mod register;
 mod scans;
-mod key_state;
 mod told;
 
 pub use command::Command;
@@ -34,6 +34,6 @@ pub use laws::{
     a_context_names_one_sight, answers_stay_legal, counting_is_a_naming, values_leave_only_seen,
 };
 pub use numbers::Numbers;
-pub use refusals::{MATCH_FOUND, MODIFIED, MAX_SIBLINGS, NOT_FOUND, TOO_MANY_SIBLINGS};
+pub use refusals::{MATCH_FOUND, MAX_SIBLINGS, MODIFIED, NOT_FOUND, TOO_MANY_SIBLINGS};
 pub use register::PlainRegister;
 pub use told::Told;

@@ -8,13 +8,13 @@ ghost use Rattle.sibling_register.specs.Plain.{IsPosition, told_of};
 ghost use Rattle.sibling_register.specs.Plans.{plain_outcome, first_check_of};
 ghost use Rattle.sibling_register.specs.Entries.{history_of, outcome_of, put_of};
 
-use crate::operation::Operation;
 use crate::entry::Entry;
+use crate::key_state::KeyState;
 use crate::numbers::Numbers;
+use crate::operation::Operation;
 use crate::planned::Planned;
 use crate::refusals::{MATCH_FOUND, MODIFIED, NOT_FOUND, TOO_MANY_SIBLINGS};
 use crate::scans::{count_at, follow};
-use crate::key_state::KeyState;
 use crate::told::Told;
 use riak_msgs::Key;
 use std::alloc::{AllocError, Global};

@@ -5,10 +5,10 @@ ghost use Rattle.sibling_register.specs.Answers.{AskReap};
 ghost use Rattle.sibling_register.specs.Plans.{plain_outcome};
 ghost use Rattle.sibling_register.specs.Entries.{history_of, outcome_of};
 
-use crate::operation::Operation;
 use crate::entry::Entry;
-use crate::planned::Planned;
 use crate::key_state::KeyState;
+use crate::operation::Operation;
+use crate::planned::Planned;
 use crate::told::Told;
 use riak_msgs::Key;
 use std::alloc::{AllocError, Global};
