@@ -6,11 +6,11 @@ use Rattle.std.proofs.lemmas.Bool.{cases_lt}
 use Rattle.std.proofs.lemmas.List.{get_or_past}
 use Rattle.std.proofs.lemmas.Bool.Decides.{nat_tests}
 use Rattle.actor_epoch.specs.declared.dot.Dot.{Dot}
-use Rattle.actor_epoch.specs.Contexts.{encoding, is_well_formed, entry_bytes, ReadsAs}
+use Rattle.actor_epoch.specs.Contexts.{encoding, is_well_formed, entry_bytes, DecodesContext}
 use Rattle.actor_epoch.specs.Given.{Malformed, Pairs, pairs_in, is_context, context_of, pairs_read}
 use Rattle.actor_epoch.proofs.Rising.{and_first, and_second}
 use Rattle.actor_epoch.proofs.Entries.{flat_map-entries_in}
-use Rattle.actor_epoch.proofs.Spellings.{form-is, length-is, entries-are}
+use Rattle.actor_epoch.proofs.Encodings.{form-is, length-is, entries-are}
 
 -- no byte is above 255, also where none stands
 abbrev pub AreBytes : List ℕ → Type 0
@@ -96,12 +96,12 @@ encoding-context_of (version ∷ entries) pairs small e = by (is_context version
     by false h e = cc
 
 -- what is read is what the bytes encode, and nothing where they encode none
-pub reads_as : (bytes : List ℕ) → AreBytes bytes → ReadsAs bytes (pairs_read (context_of bytes))
+pub decodes_context : (bytes : List ℕ) → AreBytes bytes → DecodesContext bytes (pairs_read (context_of bytes))
 unfolding context_of
-reads_as [] small = λ pairs h e. cc
-reads_as (version ∷ entries) small = by (is_context version entries) refl
+decodes_context [] small = λ pairs h e. cc
+decodes_context (version ∷ entries) small = by (is_context version entries) refl
   where
-    by : (b : Bool) → is_context version entries ≡ b → ReadsAs (version ∷ entries) (pairs_read (Some (cond b (Pairs (pairs_in entries)) Malformed)))
+    by : (b : Bool) → is_context version entries ≡ b → DecodesContext (version ∷ entries) (pairs_read (Some (cond b (Pairs (pairs_in entries)) Malformed)))
     by true h = (formed version entries h, encoding-is_context version entries (λ i. small (suc i)) h)
     by false h = λ pairs f e. let t = is_context-encoding version entries pairs f e in cc
 

@@ -3,5 +3,5 @@ pub mod Bytes
 pub mod Entries
 pub mod Rising
 pub mod Order
-pub mod Spellings
+pub mod Encodings
 pub mod Given

@@ -8,7 +8,7 @@ use Rattle.std.specs.FinMap.Entries.{by_order}
 use Rattle.std.proofs.lemmas.Bool.Decides.{nat_tests}
 use Rattle.actor_epoch.specs.declared.actor.Actor.{Actor}
 use Rattle.actor_epoch.specs.declared.dot.Dot.{Dot}
-use Rattle.actor_epoch.specs.Dots.{actor_cmp, actor_eq, covers_by, covers, counter_in, raise, union}
+use Rattle.actor_epoch.specs.Dots.{actor_cmp, actor_eq, covers_by, covers, counter_in, insert_max, union}
 
 nat_cmp-same : (a b : ℕ) → nat_cmp a b ≡ Equal → a ≡ b
 nat_cmp-same a b h = by (nat_lt a b) (nat_eq a b) refl h
@@ -53,12 +53,12 @@ nat_le-max : (x a b : ℕ) → nat_le x (max a b) ≡ (nat_le x a || nat_le x b)
 nat_le-max x a b = grind (arith, nat_tests)
 
 -- one pair more covers what it covers, and no more
-pub covers-raise : (pair : Dot) (pairs : List Dot) (dot : Dot) → covers (raise pair pairs) dot ≡ (covers_by pair dot || covers pairs dot)
-covers-raise pair [] dot = refl
-covers-raise pair (first ∷ pairs) dot = by (actor_cmp pair.actor first.actor) refl (covers-raise pair pairs dot)
+pub covers-insert_max : (pair : Dot) (pairs : List Dot) (dot : Dot) → covers (insert_max pair pairs) dot ≡ (covers_by pair dot || covers pairs dot)
+covers-insert_max pair [] dot = refl
+covers-insert_max pair (first ∷ pairs) dot = by (actor_cmp pair.actor first.actor) refl (covers-insert_max pair pairs dot)
   where
-    by : (o : Ordering) → actor_cmp pair.actor first.actor ≡ o → covers (raise pair pairs) dot ≡ (covers_by pair dot || covers pairs dot)
-        → covers (by_order o (pair ∷ first ∷ pairs) ((let both : Dot = record { actor = first.actor; counter = max pair.counter first.counter } in both) ∷ pairs) (first ∷ raise pair pairs)) dot
+    by : (o : Ordering) → actor_cmp pair.actor first.actor ≡ o → covers (insert_max pair pairs) dot ≡ (covers_by pair dot || covers pairs dot)
+        → covers (by_order o (pair ∷ first ∷ pairs) ((let both : Dot = record { actor = first.actor; counter = max pair.counter first.counter } in both) ∷ pairs) (first ∷ insert_max pair pairs)) dot
         ≡ (covers_by pair dot || (covers_by first dot || covers pairs dot))
     by Less e rest = refl
     by Greater e rest = ap (λ b. covers_by first dot || b) rest ∙ swapped (covers_by first dot) (covers_by pair dot) (covers pairs dot)
@@ -73,7 +73,7 @@ covers-raise pair (first ∷ pairs) dot = by (actor_cmp pair.actor first.actor) 
 pub covers-union : (pairs others : List Dot) (dot : Dot) → covers (union pairs others) dot ≡ (covers pairs dot || covers others dot)
 covers-union [] others dot = refl
 covers-union (pair ∷ pairs) others dot =
-    covers-raise pair (union pairs others) dot
+    covers-insert_max pair (union pairs others) dot
     ∙ ap (λ b. covers_by pair dot || b) (covers-union pairs others dot)
     ∙ sym (grouped (covers_by pair dot) (covers pairs dot) (covers others dot))
 
@@ -84,10 +84,10 @@ max_grouped : (a b c : ℕ) → max (max a b) c ≡ max a (max b c)
 max_grouped a b c = omega arith
 
 -- the greatest counter with one pair more
-pub counter_in-raise : (pair : Dot) (pairs : List Dot) (actor : Actor)
-    → counter_in (raise pair pairs) actor ≡ cond (actor_eq pair.actor actor) (max pair.counter (counter_in pairs actor)) (counter_in pairs actor)
-counter_in-raise pair [] actor = refl
-counter_in-raise pair (first ∷ pairs) actor = by (actor_cmp pair.actor first.actor) refl (counter_in-raise pair pairs actor)
+pub counter_in-insert_max : (pair : Dot) (pairs : List Dot) (actor : Actor)
+    → counter_in (insert_max pair pairs) actor ≡ cond (actor_eq pair.actor actor) (max pair.counter (counter_in pairs actor)) (counter_in pairs actor)
+counter_in-insert_max pair [] actor = refl
+counter_in-insert_max pair (first ∷ pairs) actor = by (actor_cmp pair.actor first.actor) refl (counter_in-insert_max pair pairs actor)
   where
     C : ℕ
     C = counter_in pairs actor
@@ -106,11 +106,11 @@ counter_in-raise pair (first ∷ pairs) actor = by (actor_cmp pair.actor first.a
     equal false true h = cc
 
     by : (o : Ordering) → actor_cmp pair.actor first.actor ≡ o
-        → counter_in (raise pair pairs) actor ≡ cond (actor_eq pair.actor actor) (max pair.counter C) C
-        → counter_in (by_order o (pair ∷ first ∷ pairs) ((let both : Dot = record { actor = first.actor; counter = max pair.counter first.counter } in both) ∷ pairs) (first ∷ raise pair pairs)) actor
+        → counter_in (insert_max pair pairs) actor ≡ cond (actor_eq pair.actor actor) (max pair.counter C) C
+        → counter_in (by_order o (pair ∷ first ∷ pairs) ((let both : Dot = record { actor = first.actor; counter = max pair.counter first.counter } in both) ∷ pairs) (first ∷ insert_max pair pairs)) actor
         ≡ cond (actor_eq pair.actor actor) (max pair.counter (cond (actor_eq first.actor actor) (max first.counter C) C)) (cond (actor_eq first.actor actor) (max first.counter C) C)
     by Less e rest = refl
-    by Greater e rest = greater (actor_eq pair.actor actor) (actor_eq first.actor actor) (counter_in (raise pair pairs) actor) rest
+    by Greater e rest = greater (actor_eq pair.actor actor) (actor_eq first.actor actor) (counter_in (insert_max pair pairs) actor) rest
     by Equal e rest = equal (actor_eq pair.actor actor) (actor_eq first.actor actor) (ap (λ a. actor_eq a actor) (sym (actor_cmp-same pair.actor first.actor e)))
 
 -- and of a union
@@ -120,7 +120,7 @@ counter_in-union [] others actor = zero_max (counter_in others actor)
     zero_max : (n : ℕ) → n ≡ max 0 n
     zero_max n = omega arith
 counter_in-union (pair ∷ pairs) others actor =
-    counter_in-raise pair (union pairs others) actor
+    counter_in-insert_max pair (union pairs others) actor
     ∙ ap (λ n. cond (actor_eq pair.actor actor) (max pair.counter n) n) (counter_in-union pairs others actor)
     ∙ by (actor_eq pair.actor actor) (counter_in pairs actor) (counter_in others actor)
   where

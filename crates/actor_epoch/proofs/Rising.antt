@@ -4,7 +4,7 @@ use Rattle.std.specs.Prelude.{Option, Some, None}
 use Rattle.std.specs.List.{list_all}
 use Rattle.actor_epoch.specs.declared.actor.Actor.{Actor}
 use Rattle.actor_epoch.specs.declared.dot.Dot.{Dot}
-use Rattle.actor_epoch.specs.Contexts.{goes_on, is_rising, is_within_limits}
+use Rattle.actor_epoch.specs.Contexts.{may_follow, is_rising, is_within_limits}
 
 pub and_first : (a b : Bool) → (a && b) ≡ true → a ≡ true
 and_first true b h = refl
@@ -17,7 +17,7 @@ and_second false b h = cc
 -- each pair is within its limits, and its actor may follow the one before
 abbrev pub all_go_on : Option Actor → List Dot → Bool
 all_go_on last [] = true
-all_go_on last (entry ∷ entries) = (goes_on last entry.actor && is_within_limits entry) && all_go_on (Some entry.actor) entries
+all_go_on last (entry ∷ entries) = (may_follow last entry.actor && is_within_limits entry) && all_go_on (Some entry.actor) entries
 
 moved : (w o r l : Bool) → (w && (o && (r && l))) ≡ ((o && r) && (w && l))
 moved true true r l = refl
@@ -36,12 +36,12 @@ all_go_on-rising [] = refl
 all_go_on-rising (entry ∷ []) = refl
 all_go_on-rising (entry ∷ next ∷ entries) =
     ap (λ b. is_within_limits entry && b)
-    (grouped (goes_on (Some entry.actor) next.actor) (is_within_limits next) (all_go_on (Some next.actor) entries)
-    ∙ ap (λ b. goes_on (Some entry.actor) next.actor && b) (all_go_on-rising (next ∷ entries)))
-    ∙ moved (is_within_limits entry) (goes_on (Some entry.actor) next.actor) (is_rising (next ∷ entries)) (list_all is_within_limits (next ∷ entries))
+    (grouped (may_follow (Some entry.actor) next.actor) (is_within_limits next) (all_go_on (Some next.actor) entries)
+    ∙ ap (λ b. may_follow (Some entry.actor) next.actor && b) (all_go_on-rising (next ∷ entries)))
+    ∙ moved (is_within_limits entry) (may_follow (Some entry.actor) next.actor) (is_rising (next ∷ entries)) (list_all is_within_limits (next ∷ entries))
 
 -- where a pair may not follow
 pub all_go_on-ends : (pairs rest others : List Dot) (last : Option Actor) (entry : Dot) → all_go_on None pairs ≡ all_go_on last rest → rest ≡ entry ∷ others
-    → (goes_on last entry.actor && is_within_limits entry) ≡ false → false ≡ (is_rising pairs && list_all is_within_limits pairs)
+    → (may_follow last entry.actor && is_within_limits entry) ≡ false → false ≡ (is_rising pairs && list_all is_within_limits pairs)
 all_go_on-ends pairs rest others last entry h e f =
     sym (sym (all_go_on-rising pairs) ∙ h ∙ ap (all_go_on last) e ∙ ap (λ b. b && all_go_on (Some entry.actor) others) f)

@@ -16,14 +16,10 @@ entry_bytes pair = to_be_bytes w64 pair.actor.vnode ++ (to_be_bytes w32 pair.act
 abbrev pub encoding : List Dot → List ℕ
 encoding pairs = 1 ∷ flat_map entry_bytes pairs
 
--- an older name of it
-abbrev pub spelling : List Dot → List ℕ
-spelling = encoding
-
 -- an actor may follow the last one, if there is one
-abbrev pub goes_on : Option Actor → Actor → Bool
-goes_on None actor = true
-goes_on (Some last) actor = is_lt (actor_cmp last actor)
+abbrev pub may_follow : Option Actor → Actor → Bool
+may_follow None actor = true
+may_follow (Some last) actor = is_lt (actor_cmp last actor)
 
 -- each actor is below the next
 abbrev pub is_rising : List Dot → Bool
@@ -41,7 +37,7 @@ is_within_limits pair =
 abbrev pub is_well_formed : List Dot → Bool
 is_well_formed pairs = (nat_le 1 (length pairs) && nat_le (length pairs) max_actors) && (is_rising pairs && list_all is_within_limits pairs)
 
--- what bytes read as: the pairs that they spell, or nothing where they are not of the form
-abbrev pub ReadsAs : List ℕ → Option (List Dot) → Type 0
-ReadsAs bytes (Some pairs) = IsTrue (is_well_formed pairs) × (bytes ≡ spelling pairs)
-ReadsAs bytes None = (pairs : List Dot) → IsTrue (is_well_formed pairs) → bytes ≡ spelling pairs → ⊥
+-- what bytes read as: the pairs that they encode, or nothing where they are not of the form
+abbrev pub DecodesContext : List ℕ → Option (List Dot) → Type 0
+DecodesContext bytes (Some pairs) = IsTrue (is_well_formed pairs) × (bytes ≡ encoding pairs)
+DecodesContext bytes None = (pairs : List Dot) → IsTrue (is_well_formed pairs) → bytes ≡ encoding pairs → ⊥

@@ -38,15 +38,15 @@ abbrev pub next_dot : Actor → List Dot → Dot
 next_dot actor pairs = record { actor = actor; counter = counter_in pairs actor + 1 }
 
 -- the pairs with one more, kept strictly rising by actor
-abbrev pub raise : Dot → List Dot → List Dot
-raise dot [] = dot ∷ []
-raise dot (pair ∷ pairs) =
+abbrev pub insert_max : Dot → List Dot → List Dot
+insert_max dot [] = dot ∷ []
+insert_max dot (pair ∷ pairs) =
     by_order (actor_cmp dot.actor pair.actor)
     (dot ∷ pair ∷ pairs)
     (record { actor = pair.actor; counter = max dot.counter pair.counter } ∷ pairs)
-    (pair ∷ raise dot pairs)
+    (pair ∷ insert_max dot pairs)
 
 -- the pairs that cover what one or the other covers
 abbrev pub union : List Dot → List Dot → List Dot
 union [] others = others
-union (pair ∷ pairs) others = raise pair (union pairs others)
+union (pair ∷ pairs) others = insert_max pair (union pairs others)

@@ -5,7 +5,7 @@ ghost use Rattle.std.specs.Option.{option_map};
 ghost use Rattle.std.specs.List.{list_all};
 ghost use Rattle.actor_epoch.specs.Dots.{covers, counter_in};
 ghost use Rattle.actor_epoch.specs.Entries.{entry_of, entries_of};
-ghost use Rattle.actor_epoch.specs.Contexts.{goes_on, ReadsAs, encoding, is_well_formed, is_rising, is_within_limits, entry_bytes};
+ghost use Rattle.actor_epoch.specs.Contexts.{may_follow, DecodesContext, encoding, is_well_formed, is_rising, is_within_limits, entry_bytes};
 ghost use Rattle.actor_epoch.specs.Given.{context_of, pairs_read, Malformed, Pairs};
 
 use crate::actor::Actor;
@@ -26,7 +26,7 @@ const VERSION: u8 = 1;
 pub struct MalformedContext;
 
 /// What a client has seen of a key, as the node gave it: pairs (actor, n), 1 to 64, strictly rising by actor, borrowed
-/// from the bytes that spell them. It covers the dots 1 to n of each pair's actor. Contracts see the list of pairs.
+/// from the bytes that encode them. It covers the dots 1 to n of each pair's actor. Contracts see the list of pairs.
 ///
 /// The bytes are this project's own: the byte 1, then 16 bytes a pair, which are vnode id (8), epoch (4) and counter
 /// (4), big-endian, epoch and counter from 1 on. So a key that was written twice in the first life at vnode 65,536 has
@@ -52,11 +52,11 @@ impl<'a> Model for Context<'a> {
 }
 
 impl<'a> Context<'a> {
-    /// Reads the bytes of a context; None exactly where they spell no 1 to 64 pairs that strictly rise by actor, with
+    /// Reads the bytes of a context; None exactly where they encode no 1 to 64 pairs that strictly rise by actor, with
     /// epochs and counters from 1 on. Takes no memory.
     pub fn read(bytes: &'a [u8]) -> Option<Context<'a>>
         ensures read { result ≡ pairs_read (context_of bytes.now) }
-        ensures reads { ReadsAs bytes.now result }
+        ensures decodes { DecodesContext bytes.now result }
     {
         let (version, entries) = bytes.split_first()?;
         let count = entries.len() / ENTRY_LEN;
@@ -159,7 +159,7 @@ fn are_rising(pairs: ContextPairs<'_>) -> bool
 
 /// Whether a pair may follow the last actor: it is above that, and its epoch and counter begin at 1.
 fn is_next(last: Option<Actor>, actor: Actor, counter: Counter) -> bool
-    ensures { result ≡ (goes_on last actor && is_within_limits (entry_of (actor, counter))) }
+    ensures { result ≡ (may_follow last actor && is_within_limits (entry_of (actor, counter))) }
 {
     let is_above = match last {
         None => true,

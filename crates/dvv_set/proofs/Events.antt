@@ -7,9 +7,9 @@ use Rattle.std.specs.FinMap.Entries.{find, put, is_sorted, below_all, find-put, 
 use Rattle.std.proofs.lemmas.Bool.Decides.{nat_tests}
 use Rattle.actor_epoch.specs.declared.Actor.{Actor}
 use Rattle.actor_epoch.specs.declared.Dot.{Dot}
-use Rattle.actor_epoch.specs.Dots.{actor_cmp, actor_eq, counter_in, raise}
+use Rattle.actor_epoch.specs.Dots.{actor_cmp, actor_eq, counter_in, insert_max}
 use Rattle.actor_epoch.specs.Contexts.{is_rising, is_within_limits, is_well_formed}
-use Rattle.actor_epoch.proofs.Pairs.{counter_in-raise}
+use Rattle.actor_epoch.proofs.Pairs.{counter_in-insert_max}
 use Rattle.actor_epoch.proofs.Rising.{and_first, and_second}
 use Rattle.actor_epoch.proofs.Order.{actor_cmp_total, actor_eq-same, rising-below, rising-tail, is_below_all}
 use Rattle.dvv_set.specs.Clocks.{show_cmp, sync, event}
@@ -19,7 +19,7 @@ use Rattle.dvv_set.proofs.ClockLaws.{discard-sync}
 use Rattle.dvv_set.proofs.Orders.{show_cmp_total, eq_by_cmp-dot, T-both, T-is}
 use Rattle.dvv_set.proofs.ClockEntries.{value_at, actor_eq-back, find-live_of, is_sorted-live_of, counter_in-known_of}
 use Rattle.dvv_set.proofs.Merges.{AreEntries-merge_all, entry_for-put, list_all-put, entry_for-within}
-use Rattle.dvv_set.proofs.Known.{same_pairs, ArePairs-known_of, ArePairs-raise}
+use Rattle.dvv_set.proofs.Known.{same_pairs, ArePairs-known_of, ArePairs-insert_max}
 use Rattle.dvv_set.proofs.Live.{dot_state_of-merge_all, show_cmp-same}
 
 below_all-pairs : (V : Type 0) (a : Actor) (pairs : List Dot) → IsTrue (is_below_all a pairs) → T (below_all actor_cmp a (let entries : ClockEntries V = entries_of_pairs pairs in entries))
@@ -131,13 +131,13 @@ module _ {V : Type 0} where
       first : (n : ℕ) → nat_le 1 (n + 1) ≡ true
       first n = grind (arith, nat_tests)
 
-      counter : (b : Actor) → counter_in (known_of (put actor_cmp a next entries)) b ≡ counter_in (raise dot (known_of entries)) b
+      counter : (b : Actor) → counter_in (known_of (put actor_cmp a next entries)) b ≡ counter_in (insert_max dot (known_of entries)) b
       counter b =
           counter_in-known_of b (put actor_cmp a next entries) after.sorted
           ∙ ap (λ r. r.0) (entry_for-put b a next entries)
           ∙ by (actor_eq b a) refl
           ∙ ap (λ t. cond t (max dot.counter (counter_in (known_of entries) b)) (counter_in (known_of entries) b)) (actor_eq-back b a)
-          ∙ sym (counter_in-raise dot (known_of entries) b)
+          ∙ sym (counter_in-insert_max dot (known_of entries) b)
         where
           above : (n m : ℕ) → m ≡ n → n + 1 ≡ max (m + 1) m
           above n m e = omega arith
@@ -150,11 +150,11 @@ module _ {V : Type 0} where
               ∙ ap (λ k. max dot.counter (counter_in (known_of entries) k)) (sym same)
           by false e = sym (counter_in-known_of b entries h.sorted)
 
-      knows : known_of (put actor_cmp a next entries) ≡ raise dot (known_of entries)
+      knows : known_of (put actor_cmp a next entries) ≡ insert_max dot (known_of entries)
       knows =
-          same_pairs (known_of (put actor_cmp a next entries)) (raise dot (known_of entries))
+          same_pairs (known_of (put actor_cmp a next entries)) (insert_max dot (known_of entries))
           (ArePairs-known_of (put actor_cmp a next entries) after)
-          (ArePairs-raise dot (known_of entries) (first (counter_in (known_of entries) a)) (ArePairs-known_of entries h)) counter
+          (ArePairs-insert_max dot (known_of entries) (first (counter_in (known_of entries) a)) (ArePairs-known_of entries h)) counter
 
       value_of : (d : Dot) → find show_cmp d (live_of (put actor_cmp a next entries)) ≡ find show_cmp d (put show_cmp dot value (live_of entries))
       value_of d =

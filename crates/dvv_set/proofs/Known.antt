@@ -9,7 +9,7 @@ use Rattle.std.specs.FinMap.Entries.{find, is_sorted, below_all, by_order, same_
 use Rattle.std.proofs.lemmas.Bool.Decides.{nat_tests}
 use Rattle.actor_epoch.specs.declared.Actor.{Actor}
 use Rattle.actor_epoch.specs.declared.Dot.{Dot}
-use Rattle.actor_epoch.specs.Dots.{actor_cmp, actor_eq, counter_in, raise, union}
+use Rattle.actor_epoch.specs.Dots.{actor_cmp, actor_eq, counter_in, insert_max, union}
 use Rattle.actor_epoch.proofs.Pairs.{actor_cmp-same, counter_in-union}
 use Rattle.actor_epoch.proofs.Rising.{and_first, and_second}
 use Rattle.actor_epoch.proofs.Order.{actor_cmp_total, actor_eq-same}
@@ -76,52 +76,52 @@ same_pairs ps qs g h same =
     (λ a. find-as_entries a ps g ∙ ap (λ n. cond (nat_le 1 n) (Some n) None) (same a) ∙ sym (find-as_entries a qs h)) in
     sym (as_entries-back ps) ∙ ap (map (λ e. let pair : Dot = record { actor = e.0; counter = e.1 } in pair)) entries ∙ as_entries-back qs
 
-below_all-raise : (x : Actor) (dot : Dot) (pairs : List Dot) → actor_cmp x dot.actor ≡ Less → T (below_all actor_cmp x (as_entries pairs)) → T (below_all actor_cmp x (as_entries (raise dot pairs)))
-below_all-raise x dot [] l h = T-both (is_lt (actor_cmp x dot.actor)) _ (T-is _ (ap is_lt l)) tt
-below_all-raise x dot (pair ∷ pairs) l h = by (actor_cmp dot.actor pair.actor) (below_all-raise x dot pairs l (T-second (is_lt (actor_cmp x pair.actor)) _ h))
+below_all-insert_max : (x : Actor) (dot : Dot) (pairs : List Dot) → actor_cmp x dot.actor ≡ Less → T (below_all actor_cmp x (as_entries pairs)) → T (below_all actor_cmp x (as_entries (insert_max dot pairs)))
+below_all-insert_max x dot [] l h = T-both (is_lt (actor_cmp x dot.actor)) _ (T-is _ (ap is_lt l)) tt
+below_all-insert_max x dot (pair ∷ pairs) l h = by (actor_cmp dot.actor pair.actor) (below_all-insert_max x dot pairs l (T-second (is_lt (actor_cmp x pair.actor)) _ h))
   where
-    by : (o : Ordering) → T (below_all actor_cmp x (as_entries (raise dot pairs)))
-        → T (below_all actor_cmp x (as_entries (by_order o (dot ∷ pair ∷ pairs) ((let both : Dot = record { actor = pair.actor; counter = max dot.counter pair.counter } in both) ∷ pairs) (pair ∷ raise dot pairs))))
+    by : (o : Ordering) → T (below_all actor_cmp x (as_entries (insert_max dot pairs)))
+        → T (below_all actor_cmp x (as_entries (by_order o (dot ∷ pair ∷ pairs) ((let both : Dot = record { actor = pair.actor; counter = max dot.counter pair.counter } in both) ∷ pairs) (pair ∷ insert_max dot pairs))))
     by Less rest = T-both (is_lt (actor_cmp x dot.actor)) _ (T-is _ (ap is_lt l)) h
     by Equal rest = h
     by Greater rest = T-both (is_lt (actor_cmp x pair.actor)) _ (T-first (is_lt (actor_cmp x pair.actor)) _ h) rest
 
-is_sorted-raise : (dot : Dot) (pairs : List Dot) → T (is_sorted actor_cmp (as_entries pairs)) → T (is_sorted actor_cmp (as_entries (raise dot pairs)))
-is_sorted-raise dot [] h = tt
-is_sorted-raise dot (pair ∷ pairs) h =
-    by (actor_cmp dot.actor pair.actor) refl (is_sorted-raise dot pairs (T-second (below_all actor_cmp pair.actor (as_entries pairs)) _ h))
+is_sorted-insert_max : (dot : Dot) (pairs : List Dot) → T (is_sorted actor_cmp (as_entries pairs)) → T (is_sorted actor_cmp (as_entries (insert_max dot pairs)))
+is_sorted-insert_max dot [] h = tt
+is_sorted-insert_max dot (pair ∷ pairs) h =
+    by (actor_cmp dot.actor pair.actor) refl (is_sorted-insert_max dot pairs (T-second (below_all actor_cmp pair.actor (as_entries pairs)) _ h))
   where
-    by : (o : Ordering) → actor_cmp dot.actor pair.actor ≡ o → T (is_sorted actor_cmp (as_entries (raise dot pairs)))
-        → T (is_sorted actor_cmp (as_entries (by_order o (dot ∷ pair ∷ pairs) ((let both : Dot = record { actor = pair.actor; counter = max dot.counter pair.counter } in both) ∷ pairs) (pair ∷ raise dot pairs))))
+    by : (o : Ordering) → actor_cmp dot.actor pair.actor ≡ o → T (is_sorted actor_cmp (as_entries (insert_max dot pairs)))
+        → T (is_sorted actor_cmp (as_entries (by_order o (dot ∷ pair ∷ pairs) ((let both : Dot = record { actor = pair.actor; counter = max dot.counter pair.counter } in both) ∷ pairs) (pair ∷ insert_max dot pairs))))
     by Less e rest =
         T-both (below_all actor_cmp dot.actor (as_entries (pair ∷ pairs))) _
         (T-both (is_lt (actor_cmp dot.actor pair.actor)) _ (T-is _ (ap is_lt e))
         (below_all-less actor_cmp actor_cmp_total dot.actor pair.actor (as_entries pairs) e (T-first _ (is_sorted actor_cmp (as_entries pairs)) h))) h
     by Equal e rest = h
     by Greater e rest =
-        T-both (below_all actor_cmp pair.actor (as_entries (raise dot pairs))) _
-        (below_all-raise pair.actor dot pairs (actor_cmp_total.antisymm pair.actor dot.actor ∙ ap ordering_reverse e) (T-first _ (is_sorted actor_cmp (as_entries pairs)) h)) rest
+        T-both (below_all actor_cmp pair.actor (as_entries (insert_max dot pairs))) _
+        (below_all-insert_max pair.actor dot pairs (actor_cmp_total.antisymm pair.actor dot.actor ∙ ap ordering_reverse e) (T-first _ (is_sorted actor_cmp (as_entries pairs)) h)) rest
 
 both : (a b : Bool) → a ≡ true → b ≡ true → (a && b) ≡ true
 both a b p q = λ i. p i && q i
 
-positive-raise : (dot : Dot) (pairs : List Dot) → IsTrue (is_positive dot) → IsTrue (list_all is_positive pairs) → IsTrue (list_all is_positive (raise dot pairs))
-positive-raise dot [] p h = both _ true p refl
-positive-raise dot (pair ∷ pairs) p h = by (actor_cmp dot.actor pair.actor) (positive-raise dot pairs p (and_second (is_positive pair) (list_all is_positive pairs) h))
+positive-insert_max : (dot : Dot) (pairs : List Dot) → IsTrue (is_positive dot) → IsTrue (list_all is_positive pairs) → IsTrue (list_all is_positive (insert_max dot pairs))
+positive-insert_max dot [] p h = both _ true p refl
+positive-insert_max dot (pair ∷ pairs) p h = by (actor_cmp dot.actor pair.actor) (positive-insert_max dot pairs p (and_second (is_positive pair) (list_all is_positive pairs) h))
   where
     greater : (m n : ℕ) → nat_le 1 m ≡ true → nat_le 1 (max m n) ≡ true
     greater m n h = grind (arith, nat_tests)
 
-    by : (o : Ordering) → IsTrue (list_all is_positive (raise dot pairs))
-        → IsTrue (list_all is_positive (by_order o (dot ∷ pair ∷ pairs) ((let both : Dot = record { actor = pair.actor; counter = max dot.counter pair.counter } in both) ∷ pairs) (pair ∷ raise dot pairs)))
+    by : (o : Ordering) → IsTrue (list_all is_positive (insert_max dot pairs))
+        → IsTrue (list_all is_positive (by_order o (dot ∷ pair ∷ pairs) ((let both : Dot = record { actor = pair.actor; counter = max dot.counter pair.counter } in both) ∷ pairs) (pair ∷ insert_max dot pairs)))
     by Less rest = both (is_positive dot) _ p h
     by Equal rest = both _ _ (greater dot.counter pair.counter p) (and_second (is_positive pair) (list_all is_positive pairs) h)
     by Greater rest = both (is_positive pair) _ (and_first (is_positive pair) (list_all is_positive pairs) h) rest
 
-pub ArePairs-raise : (dot : Dot) (pairs : List Dot) → IsTrue (is_positive dot) → ArePairs pairs → ArePairs (raise dot pairs)
-ArePairs-raise dot pairs p h = record { sorted = is_sorted-raise dot pairs h.sorted; positive = positive-raise dot pairs p h.positive }
+pub ArePairs-insert_max : (dot : Dot) (pairs : List Dot) → IsTrue (is_positive dot) → ArePairs pairs → ArePairs (insert_max dot pairs)
+ArePairs-insert_max dot pairs p h = record { sorted = is_sorted-insert_max dot pairs h.sorted; positive = positive-insert_max dot pairs p h.positive }
 
-length-raise_put : (dot : Dot) (n : ℕ) (pairs : List Dot) → length (raise dot pairs) ≡ length (put actor_cmp dot.actor n (as_entries pairs))
+length-raise_put : (dot : Dot) (n : ℕ) (pairs : List Dot) → length (insert_max dot pairs) ≡ length (put actor_cmp dot.actor n (as_entries pairs))
 length-raise_put dot n [] = refl
 length-raise_put dot n (pair ∷ pairs) = by (actor_cmp dot.actor pair.actor) (length-raise_put dot n pairs)
   where
@@ -129,8 +129,8 @@ length-raise_put dot n (pair ∷ pairs) = by (actor_cmp dot.actor pair.actor) (l
     length-entries [] = refl
     length-entries (pair ∷ pairs) = ap suc (length-entries pairs)
 
-    by : (o : Ordering) → length (raise dot pairs) ≡ length (put actor_cmp dot.actor n (as_entries pairs))
-        → length (by_order o (dot ∷ pair ∷ pairs) ((let both : Dot = record { actor = pair.actor; counter = max dot.counter pair.counter } in both) ∷ pairs) (pair ∷ raise dot pairs))
+    by : (o : Ordering) → length (insert_max dot pairs) ≡ length (put actor_cmp dot.actor n (as_entries pairs))
+        → length (by_order o (dot ∷ pair ∷ pairs) ((let both : Dot = record { actor = pair.actor; counter = max dot.counter pair.counter } in both) ∷ pairs) (pair ∷ insert_max dot pairs))
         ≡ length (by_order o ((dot.actor, n) ∷ as_entries (pair ∷ pairs)) ((pair.actor, n) ∷ as_entries pairs) ((pair.actor, pair.counter) ∷ put actor_cmp dot.actor n (as_entries pairs)))
     by Less rest = ap (λ k. suc (suc k)) (length-entries pairs)
     by Equal rest = ap suc (length-entries pairs)
@@ -141,8 +141,8 @@ length-as_entries [] = refl
 length-as_entries (pair ∷ pairs) = ap suc (length-as_entries pairs)
 
 -- one pair more, where its actor is in none
-pub length-raise : (dot : Dot) (pairs : List Dot) → ArePairs pairs → length (raise dot pairs) ≡ cond (nat_le 1 (counter_in pairs dot.actor)) (length pairs) (length pairs + 1)
-length-raise dot pairs h =
+pub length-insert_max : (dot : Dot) (pairs : List Dot) → ArePairs pairs → length (insert_max dot pairs) ≡ cond (nat_le 1 (counter_in pairs dot.actor)) (length pairs) (length pairs + 1)
+length-insert_max dot pairs h =
     length-raise_put dot 0 pairs
     ∙ length-put actor_cmp actor_cmp_total dot.actor 0 (as_entries pairs) h.sorted
     ∙ (λ i. cond ((ap is_some (find-as_entries dot.actor pairs h) ∙ by (nat_le 1 (counter_in pairs dot.actor))) i) (length-as_entries pairs i) (length-as_entries pairs i + 1))
@@ -160,7 +160,7 @@ ArePairs-tail pair pairs h = record {
 pub ArePairs-union : (ps qs : List Dot) → ArePairs ps → ArePairs qs → ArePairs (union ps qs)
 ArePairs-union [] qs g h = h
 ArePairs-union (pair ∷ ps) qs g h =
-    ArePairs-raise pair (union ps qs) (and_first (is_positive pair) (list_all is_positive ps) g.positive) (ArePairs-union ps qs (ArePairs-tail pair ps g) h)
+    ArePairs-insert_max pair (union ps qs) (and_first (is_positive pair) (list_all is_positive ps) g.positive) (ArePairs-union ps qs (ArePairs-tail pair ps g) h)
 
 module _ {V : Type 0} where
   below_all-known_of : (x : Actor) (entries : ClockEntries V) → T (below_all actor_cmp x entries) → T (below_all actor_cmp x (as_entries (known_of entries)))

@@ -16,7 +16,7 @@ use Rattle.dvv_set.proofs.ClockEntries.{counter_in-known_of}
 use Rattle.dvv_set.proofs.Merges.{entry_for-merge_all}
 use Rattle.dvv_set.proofs.Events.{AreEntries-pairs, AreEntries-without, AreEntries-event, dot_state_of-without, dot_state_of-event}
 use Rattle.actor_epoch.proofs.Pairs.{counter_in-union}
-use Rattle.dvv_set.proofs.Known.{ArePairs, ArePairs-known_of, length-raise}
+use Rattle.dvv_set.proofs.Known.{ArePairs, ArePairs-known_of, length-insert_max}
 use Rattle.dvv_set.proofs.Counts.{length-discard, length-known_of, length-values_of, length-merged}
 
 pub first_holds : (c n : ℕ) → 1 ≤ c → nat_le c n ≡ (nat_le 1 c && nat_le c n)
@@ -112,7 +112,7 @@ module _ {V : Type 0} where
     pub after-length : (a : Actor) → length (known_after a (known_with pairs (known_of entries)))
         ≡ cond (nat_le 1 (counter_in (known_with pairs (known_of entries)) a)) (length entries + count_new (entries_of_pairs (unwrap_or pairs [])) entries) (length entries + count_new (entries_of_pairs (unwrap_or pairs [])) entries + 1)
     after-length a =
-        length-raise (record { actor = a; counter = counter_in (known_with pairs (known_of entries)) a + 1 }) (known_with pairs (known_of entries)) pairs_are
+        length-insert_max (record { actor = a; counter = counter_in (known_with pairs (known_of entries)) a + 1 }) (known_with pairs (known_of entries)) pairs_are
         ∙ ap (λ n. cond (nat_le 1 (counter_in (known_with pairs (known_of entries)) a)) n (n + 1)) known-length
       where
         pairs_are : ArePairs (known_with pairs (known_of entries))

@@ -9,7 +9,7 @@ use Rattle.std.specs.FinMap.Entries.{by_order, put, is_sorted, below_all}
 use Rattle.std.proofs.lemmas.List.{map-append, length-map}
 use Rattle.actor_epoch.specs.declared.Actor.{Actor}
 use Rattle.actor_epoch.specs.declared.Dot.{Dot}
-use Rattle.actor_epoch.specs.Dots.{actor_cmp, covers, counter_in, raise, union}
+use Rattle.actor_epoch.specs.Dots.{actor_cmp, covers, counter_in, insert_max, union}
 use Rattle.dvv_set.specs.Clocks.{DotState, show_cmp, event}
 use Rattle.dvv_set.specs.Held.{without}
 use Rattle.dvv_set.specs.ClockEntries.{ClockEntries, values_from, known_of, live_of, dot_state_of, is_entry, AreEntries}
@@ -81,7 +81,7 @@ module _ {V W : Type 0} (f : V → W) where
   pub event-with : (actor : Actor) (v : V) (clock : DotState V) → with_values f (event actor v clock) ≡ event actor (f v) (with_values f clock)
   event-with actor v clock =
       let dot : Dot = record { actor = actor; counter = counter_in clock.known actor + 1 } in
-      λ i. record { known = raise dot clock.known; live = put-with dot v clock.live i }
+      λ i. record { known = insert_max dot clock.known; live = put-with dot v clock.live i }
 
   pub without-with : (seen : Option (List Dot)) (clock : DotState V) → with_values f (without seen clock) ≡ without seen (with_values f clock)
   without-with None clock = refl

@@ -8,7 +8,7 @@ use Rattle.std.proofs.lemmas.Bool.Decides.{nat_tests}
 use Rattle.actor_epoch.specs.declared.Actor.{Actor}
 use Rattle.actor_epoch.specs.declared.Dot.{Dot}
 use Rattle.actor_epoch.specs.Dots.{actor_eq, dot_eq, covers, covers_by, counter_in}
-use Rattle.actor_epoch.proofs.Pairs.{covers-union, covers-raise}
+use Rattle.actor_epoch.proofs.Pairs.{covers-union, covers-insert_max}
 use Rattle.actor_epoch.proofs.Order.{covers-counter_in, actor_eq-same}
 use Rattle.dvv_set.specs.Clocks.{DotState, show_cmp, sync, discard, event, is_live, value_in}
 use Rattle.dvv_set.specs.Laws.{KnowsItsLive, SameDots, SyncKnows, is_synced, DiscardKnows, DiscardKeeps, EventKnows, EventKeeps, next_dot}
@@ -203,7 +203,7 @@ module _ {V : Type 0} where
 
   pub event_knows : (actor : Actor) (value : V) (clock : DotState V) (dot : Dot) → EventKnows actor value clock dot
   event_knows actor value clock dot =
-      covers-raise (next_dot actor clock) clock.known dot
+      covers-insert_max (next_dot actor clock) clock.known dot
       ∙ ap (λ b. covers_by (next_dot actor clock) dot || b) (covers-counter_in clock.known dot)
       ∙ by (actor_eq actor dot.actor) refl
       ∙ ap (λ b. dot_eq (next_dot actor clock) dot || b) (sym (covers-counter_in clock.known dot))

@@ -6,7 +6,7 @@ use Rattle.std.specs.Ordering.{nat_cmp, ordering_then}
 use Rattle.std.specs.FinMap.Entries.{find, put}
 use Rattle.actor_epoch.specs.declared.Actor.{Actor}
 use Rattle.actor_epoch.specs.declared.Dot.{Dot}
-use Rattle.actor_epoch.specs.Dots.{actor_cmp, dot_eq, covers, counter_in, raise, union}
+use Rattle.actor_epoch.specs.Dots.{actor_cmp, dot_eq, covers, counter_in, insert_max, union}
 
 -- the dots that it knows, as pairs, and those of them that are live, each with its value
 pub record DotState (V : Type 0) : Type 0 where
@@ -54,7 +54,7 @@ module _ {V : Type 0} where
   abbrev pub event : Actor → V → DotState V → DotState V
   event actor value clock =
       let dot : Dot = record { actor = actor; counter = counter_in clock.known actor + 1 } in
-      record { known = raise dot clock.known; live = put show_cmp dot value clock.live }
+      record { known = insert_max dot clock.known; live = put show_cmp dot value clock.live }
 
   abbrev pub join : DotState V → List Dot
   join clock = clock.known

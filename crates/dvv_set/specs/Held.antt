@@ -5,7 +5,7 @@ use Rattle.std.specs.Borrow.{Bor}
 use Rattle.actor_epoch.specs.declared.Actor.{Actor}
 use Rattle.actor_epoch.specs.declared.Dot.{Dot}
 use Rattle.actor_epoch.specs.Limits.{max_actors, max_counter}
-use Rattle.actor_epoch.specs.Dots.{actor_eq, covers, counter_in, next_dot, raise, union}
+use Rattle.actor_epoch.specs.Dots.{actor_eq, covers, counter_in, next_dot, insert_max, union}
 use Rattle.actor_epoch.specs.Contexts.{is_well_formed}
 use Rattle.dvv_set.specs.Clocks.{DotState, discard}
 
@@ -25,7 +25,7 @@ without (Some pairs) clock = discard pairs clock
 
 -- the pairs that are known after the next event of an actor
 abbrev pub known_after : Actor → List Dot → List Dot
-known_after actor known = raise (next_dot actor known) known
+known_after actor known = insert_max (next_dot actor known) known
 
 -- how many actors are known after that event, without what a context saw
 abbrev pub actors_after : List Dot → Option (List Dot) → Actor → ℕ

@@ -7,7 +7,7 @@ ghost use Rattle.node_session.specs.Answers.{reply_frame};
 use riak_msgs::Text;
 
 /// The frame of an error reply. It takes no memory, so that want of memory can be told too.
-#[tactic(auto, unfolding(pb_frame::specs::Message::frame, wire_varint::specs::Varint::spelling, wire_varint::specs::Varint::spelled))]
+#[tactic(auto, unfolding(pb_frame::specs::Message::frame, wire_varint::specs::Varint::encoding, wire_varint::specs::Varint::encoded))]
 pub(crate) fn error_frame(text: Text) -> &'static [u8]
     ensures { result.now ≡ reply_frame (Error text) }
 {

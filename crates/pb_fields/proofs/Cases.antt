@@ -1,7 +1,7 @@
 use Rattle.std.proofs.Common.{◌≡◌, ℕ, ◌+◌, ◌*◌, ◌/◌, ◌%◌, ◌≤◌, List, ◌++◌, Result, Ok, Err, IfOk, IfErr, length, refl, sym, ap, subst, arith, ◌∙◌, inl, inr}
 use Rattle.std.proofs.lemmas.List.{append_assoc, length-append}
 use Rattle.wire_varint.specs.Varint.{IsTruncated, IsOverlong}
-use Rattle.wire_varint.proofs.Spelling.{IsVarint-ends_not_within, IsVarint-runs_not_on}
+use Rattle.wire_varint.proofs.Encoding.{IsVarint-ends_not_within, IsVarint-runs_not_on}
 use Rattle.pb_fields.specs.Field.{WireValue, value_seen, varint, eight_bytes, byte_string, four_bytes, WireField, wire_type, IsValue, IsNumber, BeginsWithField}
 use Rattle.pb_fields.specs.Faults.{BeginsWithVarint, WantsVarint, IsWireType, HasNoNumber, IsPastEnd, HasBadVarint, HasBadKey, HasBadWire, HasShortValue, FirstFault, ValueFails, BeginsNoField}
 use Rattle.pb_fields.specs.declared.value.Value.{Value}

@@ -1,5 +1,5 @@
 use Rattle.std.proofs.Common.{◌≡◌, ℕ, ◌+◌, ◌*◌, ◌^◌, ◌<◌, List, [], ◌∷◌, ◌++◌, length, refl, sym, ap, subst, arith, ◌∙◌}
-use Rattle.wire_varint.proofs.Spelling.{spelling-is_varint}
+use Rattle.wire_varint.proofs.Encoding.{encoding-is_varint}
 use Rattle.pb_fields.specs.Field.{WireValue, varint, eight_bytes, byte_string, four_bytes, WireField, wire_type, IsValue, BeginsWithField}
 use Rattle.pb_fields.specs.Message.{BeginsWithFields, Encodes}
 use Rattle.pb_fields.specs.Faults.{BeginsNoField}
@@ -45,14 +45,14 @@ fields_stop bs rest (f ∷ fs) (g ∷ gs) (x, begins_f, a) none (y, begins_g, b)
     let P : List ℕ → Type 0 = λ cs. Encodes cs gs in
     fields_stop x rest fs gs a none (subst P (sym one.1) b)
 
--- a value's spelling is the value
+-- a value's encoding is the value
 value_is_read : (value : WireValue) → ValueFits value → IsValue (value_encoding value) value
-value_is_read (varint number) fits = spelling-is_varint number fits
+value_is_read (varint number) fits = encoding-is_varint number fits
 value_is_read (eight_bytes s) fits = (refl, fits)
-value_is_read (byte_string s) fits = (_, spelling-is_varint (length s) fits, refl)
+value_is_read (byte_string s) fits = (_, encoding-is_varint (length s) fits, refl)
 value_is_read (four_bytes s) fits = (refl, fits)
 
--- a field's spelling begins with the field, whatever follows
+-- a field's encoding begins with the field, whatever follows
 pub encoding_is_read : (field : WireField) (rest : List ℕ) → Fits field → BeginsWithField (encoding field ++ rest) field rest
 encoding_is_read field rest fits =
     let small = wire_type-lt field.value in
@@ -62,7 +62,7 @@ encoding_is_read field rest fits =
         key = _;
         value = value_encoding field.value;
         number = fits.number;
-        key_is = spelling-is_varint (field.number * 8 + wire_type field.value) key_fits;
+        key_is = encoding-is_varint (field.number * 8 + wire_type field.value) key_fits;
         value_is = value_is_read field.value fits.value;
         parts = refl;
       },

@@ -1,7 +1,7 @@
 use Rattle.std.proofs.Common.{◌≡◌, ℕ, ◌+◌, ◌*◌, ◌/◌, ◌%◌, ◌<◌, ◌≤◌, List, ◌++◌, length, take, drop, refl, sym, ap, subst, arith, ◌∙◌}
 use Rattle.std.proofs.lemmas.List.{append_assoc, length-append, take_at, drop_at}
 use Rattle.wire_varint.specs.Varint.{IsVarint}
-use Rattle.wire_varint.proofs.Spelling.{IsVarint-unique}
+use Rattle.wire_varint.proofs.Encoding.{IsVarint-unique}
 use Rattle.pb_fields.specs.Field.{WireValue, varint, eight_bytes, byte_string, four_bytes, WireField, wire_type, IsValue, IsNumber, BeginsWithField}
 use Rattle.pb_fields.specs.Faults.{BeginsWithVarint}
 

@@ -3,7 +3,7 @@
 ghost use Rattle.std.specs.Prelude.{◌≡◌, ◌+◌, ◌++◌, List, ℕ, [], length, Ok, OnOk};
 ghost use Rattle.std.proofs.Common.{◌∙◌, ap, sym, append_assoc, length-append, arith};
 ghost use Rattle.std.proofs.lemmas.List.{append-nil};
-ghost use Rattle.wire_varint.specs.Varint.{spelling as varint_encoding};
+ghost use Rattle.wire_varint.specs.Varint.{encoding as varint_encoding};
 ghost use Rattle.pb_fields.specs.Field.{IsNumber};
 ghost use Rattle.pb_fields.specs.Encoding.{bool_field, bytes_field, bytes_head, varint_field};
 

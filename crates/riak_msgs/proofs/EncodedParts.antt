@@ -6,7 +6,7 @@ use Rattle.pb_fields.specs.Field.{WireField, varint, byte_string, IsNumber}
 use Rattle.pb_fields.specs.Message.{Encodes}
 use Rattle.pb_fields.specs.Encoding.{encoding, Fits}
 use Rattle.pb_fields.proofs.Lists.{encoding_is_read}
-use Rattle.wire_varint.specs.Varint.{spelling as varint_encoding}
+use Rattle.wire_varint.specs.Varint.{encoding as varint_encoding}
 use Rattle.pb_fields.specs.Encoding.{bytes_field, varint_field, optional_field, bool_field, repeated_field}
 
 -- what a message has at one field number

@@ -1,4 +1,4 @@
--- The one spelling of a reply.
+-- The one encoding of a reply.
 use Rattle.std.specs.Prelude.{ℕ, List, [], ◌++◌}
 use Rattle.riak_msgs.specs.declared.text.Text.{Text}
 use Rattle.riak_msgs.specs.declared.get.GetReply.{GetReply}

@@ -1,4 +1,4 @@
--- The one spelling of a request.
+-- The one encoding of a request.
 use Rattle.std.specs.Prelude.{◌≢◌, ℕ, false, List, [], ◌++◌, if◌then◌else◌}
 use Rattle.std.specs.Str.{bytes_eq}
 use Rattle.riak_msgs.specs.declared.key.Key.{Key}

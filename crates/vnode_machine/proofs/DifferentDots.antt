@@ -11,7 +11,7 @@ use Rattle.riak_msgs.specs.KeyOrder.{key_cmp, key_eq}
 use Rattle.sibling_register.specs.History.{Event, Operation, Write, Tombstone, Reap}
 use Rattle.actor_epoch.specs.declared.Actor.{Actor}
 use Rattle.actor_epoch.specs.declared.Dot.{Dot}
-use Rattle.actor_epoch.specs.Dots.{actor_eq, dot_eq, counter_in, raise, union, next_dot}
+use Rattle.actor_epoch.specs.Dots.{actor_eq, dot_eq, counter_in, insert_max, union, next_dot}
 use Rattle.dvv_set.specs.Clocks.{discard, event}
 use Rattle.actor_epoch.specs.Given.{Context}
 use Rattle.vnode_machine.specs.Machine.{Stored, State, opening, stored, clock_of, actor_for, next_actor, epoch_after, pairs_of, del_pairs, updated, apply_operation, state_after, known_by, issued_at, issued}
@@ -19,7 +19,7 @@ use Rattle.vnode_machine.specs.Laws.{AreDifferent, NoDotTwice}
 use Rattle.vnode_machine.proofs.Invariants.{actor_of}
 use Rattle.vnode_machine.proofs.Bases.{own_in, own-owned, last-owned}
 use Rattle.vnode_machine.proofs.Keys.{find_stored, find_reaped, key_eq-same}
-use Rattle.actor_epoch.proofs.Pairs.{counter_in-raise, counter_in-union}
+use Rattle.actor_epoch.proofs.Pairs.{counter_in-insert_max, counter_in-union}
 use Rattle.vnode_machine.proofs.Counters.{actor_eq-refl}
 use Rattle.vnode_machine.proofs.Tests.{and_both, and_left, and_right}
 
@@ -217,8 +217,8 @@ module _ (state : State Content) (ds : List Dot) (at : Key) where
       (put_sound (stored state) (λ key. find key_cmp key (updated state at pairs value)) state.last_epoch (epoch_after state at) ds at next c sound
       (λ k. find_stored k at next state.keys) refl f.le f.epoch f.below (top c known own) f.others)
     where
-      top : (c : ℕ) (known : List Dot) (own : Actor) → suc c ≤ counter_in (raise (record { actor = own; counter = c + 1 }) known) own
-      top c known own = rw (counter_in-raise (record { actor = own; counter = c + 1 }) known own, actor_eq-refl own) (omega arith)
+      top : (c : ℕ) (known : List Dot) (own : Actor) → suc c ≤ counter_in (insert_max (record { actor = own; counter = c + 1 }) known) own
+      top c known own = rw (counter_in-insert_max (record { actor = own; counter = c + 1 }) known own, actor_eq-refl own) (omega arith)
 
   -- any event
   step_sound : (given : Option Context) (operation : Operation Content) → IsSound (stored state) state.last_epoch ds

@@ -8,17 +8,17 @@ use Rattle.riak_msgs.specs.declared.Content.{Content}
 use Rattle.actor_epoch.specs.declared.Actor.{Actor}
 use Rattle.actor_epoch.specs.declared.Dot.{Dot}
 use Rattle.actor_epoch.specs.Limits.{max_epoch, max_counter, max_actors}
-use Rattle.actor_epoch.specs.Dots.{actor_eq, counter_in, raise, union, next_dot}
+use Rattle.actor_epoch.specs.Dots.{actor_eq, counter_in, insert_max, union, next_dot}
 use Rattle.actor_epoch.specs.Contexts.{is_rising, is_within_limits, is_well_formed}
 use Rattle.actor_epoch.proofs.Pairs.{counter_in-union}
 use Rattle.dvv_set.specs.Held.{actors_after}
 use Rattle.vnode_machine.specs.Machine.{Stored}
 use Rattle.vnode_machine.specs.Replay.{IsWithinLimits}
-use Rattle.vnode_machine.proofs.Rising.{rising-raise, rising-union, length-raised}
+use Rattle.vnode_machine.proofs.Rising.{rising-insert_max, rising-union, length-raised}
 use Rattle.vnode_machine.proofs.Invariants.{actor_of, clock_in}
 use Rattle.vnode_machine.proofs.Bases.{own-owned, last-owned, own_in, last_in, IsBehind}
 use Rattle.vnode_machine.proofs.Updates.{next_in}
-use Rattle.vnode_machine.proofs.Counters.{all-raise, all-union, are_low, counter_in-low}
+use Rattle.vnode_machine.proofs.Counters.{all-insert_max, all-union, are_low, counter_in-low}
 use Rattle.vnode_machine.proofs.Tests.{and_both, and_left, and_right}
 
 -- pairs that rise and are within their limits
@@ -116,12 +116,12 @@ module _ (v last : ℕ) (within : IsWithinLimits v last) (pairs : List Dot) wher
         owned = refl;
         own = actor;
         pairs = record {
-          rising = rising-raise dot known (rising-union (clock_in o).known pairs are.rising);
-          within = all-raise is_within_limits dot known (within-dot own (counter_in known own + 1) actor (omega arith) counter)
+          rising = rising-insert_max dot known (rising-union (clock_in o).known pairs are.rising);
+          within = all-insert_max is_within_limits dot known (within-dot own (counter_in known own + 1) actor (omega arith) counter)
               (all-union is_within_limits (clock_in o).known pairs (known_within o formed) are.within);
         };
         some = length-raised dot known;
-        most = most (length (raise dot known)) max_actors full;
+        most = most (length (insert_max dot known)) max_actors full;
       }
     where
       known_within : (o : Option (Stored Content)) → IsFormed o → IsTrue (list_all is_within_limits (clock_in o).known)

@@ -9,10 +9,10 @@ use Rattle.std.specs.FinMap.Entries.{by_order}
 use Rattle.riak_msgs.specs.declared.Content.{Content}
 use Rattle.actor_epoch.specs.declared.Actor.{Actor}
 use Rattle.actor_epoch.specs.declared.Dot.{Dot}
-use Rattle.actor_epoch.specs.Dots.{actor_cmp, covers, counter_in, next_dot, raise, union}
+use Rattle.actor_epoch.specs.Dots.{actor_cmp, covers, counter_in, next_dot, insert_max, union}
 use Rattle.actor_epoch.specs.Contexts.{is_rising}
 use Rattle.actor_epoch.proofs.Order.{actor_eq-itself, rising-tail}
-use Rattle.actor_epoch.proofs.Pairs.{actor_cmp-same, counter_in-raise}
+use Rattle.actor_epoch.proofs.Pairs.{actor_cmp-same, counter_in-insert_max}
 use Rattle.actor_epoch.proofs.Rising.{and_first}
 use Rattle.dvv_set.specs.Clocks.{DotState, discard, event}
 use Rattle.dvv_set.specs.Held.{IsWithin, actors_after, known_after, known_with, without}
@@ -25,15 +25,15 @@ less Equal h = cc
 less Greater h = cc
 
 -- a rising list without what no context saw
-raise-rising : (pair : Dot) (pairs : List Dot) → is_rising (pair ∷ pairs) ≡ true → raise pair pairs ≡ pair ∷ pairs
-raise-rising pair [] h = refl
-raise-rising pair (next ∷ pairs) h =
-    ap (λ o. by_order o (pair ∷ next ∷ pairs) ((let one : Dot = record { actor = next.actor; counter = max pair.counter next.counter } in one) ∷ pairs) (next ∷ raise pair pairs))
+insert_max-rising : (pair : Dot) (pairs : List Dot) → is_rising (pair ∷ pairs) ≡ true → insert_max pair pairs ≡ pair ∷ pairs
+insert_max-rising pair [] h = refl
+insert_max-rising pair (next ∷ pairs) h =
+    ap (λ o. by_order o (pair ∷ next ∷ pairs) ((let one : Dot = record { actor = next.actor; counter = max pair.counter next.counter } in one) ∷ pairs) (next ∷ insert_max pair pairs))
     (less (actor_cmp pair.actor next.actor) (and_first (is_lt (actor_cmp pair.actor next.actor)) (is_rising (next ∷ pairs)) h))
 
 union-nil : (pairs : List Dot) → is_rising pairs ≡ true → union pairs [] ≡ pairs
 union-nil [] h = refl
-union-nil (pair ∷ pairs) h = ap (λ ps. raise pair ps) (union-nil pairs (rising-tail pair pairs h)) ∙ raise-rising pair pairs h
+union-nil (pair ∷ pairs) h = ap (λ ps. insert_max pair ps) (union-nil pairs (rising-tail pair pairs h)) ∙ insert_max-rising pair pairs h
 
 uncovered-nil : {X : Type 0} (live : List (Dot × X)) → filter (λ entry. not (covers [] entry.0)) live ≡ live
 uncovered-nil [] = refl
@@ -54,13 +54,13 @@ actors_after-pairs seen known own h = ap (λ ps. length (known_after own ps)) (k
 
 -- one more than the pairs, where none passes a test that all of the actor's pass
 pub length-raise_new : (own : Actor) (test : Dot → Bool) → ((n : ℕ) → test (record { actor = own; counter = n }) ≡ true)
-    → (n : ℕ) (pairs : List Dot) → list_any test pairs ≡ false → length (raise (record { actor = own; counter = n }) pairs) ≡ suc (length pairs)
+    → (n : ℕ) (pairs : List Dot) → list_any test pairs ≡ false → length (insert_max (record { actor = own; counter = n }) pairs) ≡ suc (length pairs)
 length-raise_new own test all n [] h = refl
 length-raise_new own test all n (pair ∷ pairs) h =
     by (actor_cmp own pair.actor) refl (length-raise_new own test all n pairs (or_right (test pair) (list_any test pairs) h))
   where
-    by : (o : Ordering) → actor_cmp own pair.actor ≡ o → length (raise (record { actor = own; counter = n }) pairs) ≡ suc (length pairs)
-        → length (by_order o ((let d : Dot = record { actor = own; counter = n } in d) ∷ pair ∷ pairs) ((let d : Dot = record { actor = pair.actor; counter = max n pair.counter } in d) ∷ pairs) (pair ∷ raise (record { actor = own; counter = n }) pairs))
+    by : (o : Ordering) → actor_cmp own pair.actor ≡ o → length (insert_max (record { actor = own; counter = n }) pairs) ≡ suc (length pairs)
+        → length (by_order o ((let d : Dot = record { actor = own; counter = n } in d) ∷ pair ∷ pairs) ((let d : Dot = record { actor = pair.actor; counter = max n pair.counter } in d) ∷ pairs) (pair ∷ insert_max (record { actor = own; counter = n }) pairs))
         ≡ suc (suc (length pairs))
     by Less e rest = refl
     by Equal e rest =
@@ -70,9 +70,9 @@ length-raise_new own test all n (pair ∷ pairs) h =
     by Greater e rest = ap suc rest
 
 -- an actor's counter once its next dot is known
-counter_in-next : (own : Actor) (pairs : List Dot) → counter_in (raise (next_dot own pairs) pairs) own ≡ counter_in pairs own + 1
+counter_in-next : (own : Actor) (pairs : List Dot) → counter_in (insert_max (next_dot own pairs) pairs) own ≡ counter_in pairs own + 1
 counter_in-next own pairs =
-    counter_in-raise (next_dot own pairs) pairs own
+    counter_in-insert_max (next_dot own pairs) pairs own
     ∙ (λ i. cond (actor_eq-itself own i) (max (counter_in pairs own + 1) (counter_in pairs own)) (counter_in pairs own))
     ∙ greatest (counter_in pairs own)
   where

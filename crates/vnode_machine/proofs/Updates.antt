@@ -14,7 +14,7 @@ use Rattle.sibling_register.proofs.Following.{left_by, siblings-own, count_of-ow
 use Rattle.actor_epoch.specs.declared.Actor.{Actor}
 use Rattle.actor_epoch.specs.declared.Dot.{Dot}
 use Rattle.actor_epoch.specs.Dots.{actor_cmp, covers, counter_in, union, next_dot}
-use Rattle.actor_epoch.proofs.Pairs.{counter_in-raise}
+use Rattle.actor_epoch.proofs.Pairs.{counter_in-insert_max}
 use Rattle.dvv_set.specs.Clocks.{show_cmp, discard, event}
 use Rattle.actor_epoch.specs.Given.{Context}
 use Rattle.vnode_machine.specs.Machine.{Stored}
@@ -22,7 +22,7 @@ use Rattle.vnode_machine.proofs.Pairwise.{Pairwise, Pairwise-map, Pairwise-filte
 use Rattle.vnode_machine.proofs.Numbers.{count_of-more, content_of-own, dot_of-own}
 use Rattle.vnode_machine.proofs.Invariants.{H, Entry, clock_in, IsLiveOf, AreLiveOf, live-more, IsStored, IsSplit, IsEarlier}
 use Rattle.vnode_machine.proofs.Bases.{IsBase}
-use Rattle.vnode_machine.proofs.Counters.{is_low, are_low-more, all-raise, actor_eq-refl, actor_cmp-refl}
+use Rattle.vnode_machine.proofs.Counters.{is_low, are_low-more, all-insert_max, actor_eq-refl, actor_cmp-refl}
 
 -- the siblings that an event saw are those whose dots its pairs cover
 abbrev pub IsSeen : List Dot → List ℕ → Entry → ℕ → Type 0
@@ -92,7 +92,7 @@ module _ (v l : ℕ) where
 
     counter_is : counter_in next.clock.known own ≡ top + 1
     counter_is =
-        counter_in-raise dot known own
+        counter_in-insert_max dot known own
         ∙ ap (λ b. cond b (max (top + 1) top) top) (actor_eq-refl own)
         ∙ max_more top
       where
@@ -117,7 +117,7 @@ module _ (v l : ℕ) where
       owned = refl;
       vnode = base.vnode;
       epoch = base.epoch;
-      low = all-raise (is_low v last') dot known (low_dot own.vnode own.epoch base.epoch) base.low;
+      low = all-insert_max (is_low v last') dot known (low_dot own.vnode own.epoch base.epoch) base.low;
       latest = base.latest ∙ (λ i. Some (record { actor = own; counter = sym counter_is i }));
       live = let P : List Entry → List ℕ → ℕ → Type 0 = λ live ns n. AreLiveOf v l (event ∷ history) key own n live ns in
           subst (λ live. P live (siblings (event ∷ history) key) (counter_in next.clock.known own)) (sym live_is)

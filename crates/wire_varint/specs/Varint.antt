@@ -37,14 +37,14 @@ pub record IsOverlong (bs : List ℕ) : Type 0 where
   pub goes_on : GoesOn bs max_varint_len
 
 -- a value below 128 is its own byte; any other has its lowest seven bits with the high bit, then the rest's bytes
-unfoldable pub spelled : ℕ → ℕ → List ℕ
-spelled zero value = value ∷ []
-spelled (suc more) value =
-    if nat_lt value 128 then value ∷ [] else (value % 128 + 128) ∷ spelled more (value / 128)
+unfoldable pub encoded : ℕ → ℕ → List ℕ
+encoded zero value = value ∷ []
+encoded (suc more) value =
+    if nat_lt value 128 then value ∷ [] else (value % 128 + 128) ∷ encoded more (value / 128)
 
--- the shortest spelling of a 64-bit value
-unfoldable pub spelling : ℕ → List ℕ
-spelling value = spelled 9 value
+-- the shortest encoding of a 64-bit value
+unfoldable pub encoding : ℕ → List ℕ
+encoding value = encoded 9 value
 
 -- a value of `n` groups of seven bits and no fewer
 pub record HasGroups (value n : ℕ) : Type 0 where

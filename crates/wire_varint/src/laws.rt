@@ -1,7 +1,7 @@
 //! Laws of varints.
 
 ghost use Rattle.std.specs.Prelude.{◌≡◌, ℕ, ◌<◌, ◌≤◌, ◌^◌, ◌++◌, List, length};
-ghost use Rattle.wire_varint.specs.Varint.{IsVarint, max_varint_len, spelling};
+ghost use Rattle.wire_varint.specs.Varint.{IsVarint, max_varint_len, encoding};
 
 use crate::MAX_VARINT_LEN;
 
@@ -11,12 +11,12 @@ pub fn varints_are_one()
         → (a ≡ b) × (m ≡ n) × (x ≡ y) }
 {}
 
-/// A law: the spelling of a value is a varint of it, and none is shorter. By [`varints_are_one`] it is read back
+/// A law: the encoding of a value is a varint of it, and none is shorter. By [`varints_are_one`] it is read back
 /// whatever follows.
-pub fn spelling_is_shortest()
-    ensures varint { (value : ℕ) → value < 2 ^ 64 → IsVarint (spelling value) value }
+pub fn encoding_is_shortest()
+    ensures varint { (value : ℕ) → value < 2 ^ 64 → IsVarint (encoding value) value }
     ensures shortest { (value : ℕ) (others : List ℕ) → value < 2 ^ 64 → IsVarint others value
-        → length (spelling value) ≤ length others }
+        → length (encoding value) ≤ length others }
 {}
 
 /// A law: the limit of the code is that of the definitions, ten bytes.

@@ -2,8 +2,8 @@
 //! significant group first, and the high bit set on every byte but the last.
 //!
 //! A varint's value is the sum of its groups, modulo 2 to the 64 (`value_of`). [`read`] tells the value of the
-//! varint that the bytes begin with (`IsVarint`), in any spelling of at most ten bytes; [`write`] gives
-//! the shortest spelling of a value (`spelling`), which `read` reads back whatever follows it.
+//! varint that the bytes begin with (`IsVarint`), in any encoding of at most ten bytes; [`write`] gives
+//! the shortest encoding of a value (`encoding`), which `read` reads back whatever follows it.
 //!
 //! Nothing here takes memory. The numbers below 128, nearly all that stand on a wire, take one test each way, and are read and
 //! written in the caller's own code (`inline(always)`, a hint to LLVM).
@@ -19,7 +19,7 @@ mod tests;
 mod writing;
 
 pub use fault::VarintFault;
-pub use laws::{longest_is_that_of_the_definitions, spelling_is_shortest, varints_are_one};
+pub use laws::{encoding_is_shortest, longest_is_that_of_the_definitions, varints_are_one};
 pub use reading::read;
 pub use writing::{len, write};
 

@@ -7,7 +7,7 @@ use crate::{MAX_VARINT_LEN, VarintFault};
 
 /// Reads the varint at the front of `bytes`: its value, and how many bytes it has.
 ///
-/// A spelling that isn't the shortest is read as well, and bits above 64 are dropped: `80 00` is 0 in two bytes.
+/// An encoding that isn't the shortest is read as well, and bits above 64 are dropped: `80 00` is 0 in two bytes.
 /// What follows the varint isn't looked at.
 ///
 /// Refused are bytes that end within the varint ([`VarintFault::Short`], no bytes among them) and bytes of which

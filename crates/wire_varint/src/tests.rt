@@ -7,7 +7,7 @@ fn reads(rt: &impl Abort, bytes: &[u8], want: Result<(u64, usize), VarintFault>)
     assert_eq!(rt; read(bytes), want, "at {bytes:?}");
 }
 
-// The table of the formats, and the two varints that Protocol Buffers' documentation spells out.
+// The table of the formats, and the two varints that Protocol Buffers' documentation writes out.
 #[test]
 fn reads_the_table(rt: HostRuntime) {
     reads(&rt, b"\x00", Ok((0, 1)));

@@ -1,14 +1,14 @@
 //! Writing a varint.
 
 ghost use Rattle.std.specs.Prelude.{◌≡◌, ℕ, ◌<◌, ◌≤◌, ◌++◌, List, length, drop};
-ghost use Rattle.wire_varint.specs.Varint.{HasGroups, IsVarint, spelling};
+ghost use Rattle.wire_varint.specs.Varint.{HasGroups, IsVarint, encoding};
 
 use crate::MAX_VARINT_LEN;
 
-/// How many bytes the shortest spelling of `value` has: 1 to 10.
+/// How many bytes the shortest encoding of `value` has: 1 to 10.
 #[inline(always)]
 pub fn len(value: u64) -> usize
-    ensures spelled { result ≡ length (spelling value) }
+    ensures encoded { result ≡ length (encoding value) }
     ensures bounded { result ≤ MAX_VARINT_LEN }
 {
     groups(value)
@@ -34,16 +34,16 @@ fn groups(value: u64) -> usize
     }
 }
 
-/// Writes the shortest spelling of `value` to the front of `out`, and says how many bytes it has.
+/// Writes the shortest encoding of `value` to the front of `out`, and says how many bytes it has.
 ///
 /// The caller has room: `out` has `len(value)` bytes at least, as any ten bytes have. What lies behind the
-/// spelling stays. [`read`](crate::read) reads the value back, whatever follows it.
+/// encoding stays. [`read`](crate::read) reads the value back, whatever follows it.
 #[inline(always)]
 pub fn write(value: u64, out: &mut [u8]) -> usize
-    requires room { length (spelling value) ≤ length out.old }
-    ensures used { result ≡ length (spelling value) }
-    ensures written { out.new ≡ spelling value ++ drop result out.old }
-    ensures varint { IsVarint (spelling value) value }
+    requires room { length (encoding value) ≤ length out.old }
+    ensures used { result ≡ length (encoding value) }
+    ensures written { out.new ≡ encoding value ++ drop result out.old }
+    ensures varint { IsVarint (encoding value) value }
     ensures shortest { (others : List ℕ) → IsVarint others value → result ≤ length others }
 {
     let mut rest = value;

@@ -1,11 +1,11 @@
 use Rattle.std.proofs.Common.{◌≡◌, ℕ, ◌+◌, ◌-◌, ◌≤◌, ◌++◌, List, length, take, drop, sym, ap, arith, ◌∙◌}
 use Rattle.std.proofs.lemmas.List.{append_assoc, length-append, length-take-le, length-drop, take_at}
-use Rattle.wire_varint.specs.Varint.{spelling}
-use Rattle.wire_varint.proofs.Spelling.{length-spelling_le}
+use Rattle.wire_varint.specs.Varint.{encoding}
+use Rattle.wire_varint.proofs.Encoding.{length-encoding_le}
 use Rattle.pb_fields.proofs.field_out.write_pair.Goals as goal
 
 pub write-used-requires : goal.write-used-requires
-write-used-requires c = record { room = omega (arith, length-spelling_le c.args.first c.ranges.first.fits) }
+write-used-requires c = record { room = omega (arith, length-encoding_le c.args.first c.ranges.first.fits) }
 
 -- what is left of the room
 left_room : (bs : List ℕ) (used : ℕ) → length bs ≡ 20 → used ≤ 10 → 10 ≤ length (take (20 - used) (drop used bs))
@@ -16,8 +16,8 @@ left_room bs used len few =
 
 pub write-requires : goal.write-requires
 write-requires c =
-    let first : length (spelling c.args.first) ≤ 10 = length-spelling_le c.args.first c.ranges.first.fits in
-    let second : length (spelling c.args.second) ≤ 10 = length-spelling_le c.args.second c.ranges.second.fits in
+    let first : length (encoding c.args.first) ≤ 10 = length-encoding_le c.args.first c.ranges.first.fits in
+    let second : length (encoding c.args.second) ≤ 10 = length-encoding_le c.args.second c.ranges.second.fits in
     let room = left_room c.write-used.new.out c.write-used.result (omega arith) (omega arith) in
     record { room = omega arith }
 
@@ -33,9 +33,9 @@ pair u v a b x y old mid post la lb ex ey =
 
 pub returns-clause-written : goal.returns-clause-written
 returns-clause-written c =
-    pair c.write-used.result c.write.result (spelling c.args.first) (spelling c.args.second) c.write-used.new.out c.write.new.out _ _ _
+    pair c.write-used.result c.write.result (encoding c.args.first) (encoding c.args.second) c.write-used.new.out c.write.new.out _ _ _
     c.write-used.ensures.used c.write.ensures.used c.write-used.ensures.written c.write.ensures.written
 
 pub returns-clause-bounded : goal.returns-clause-bounded
 returns-clause-bounded c =
-    omega (arith, length-spelling_le c.args.first c.ranges.first.fits, length-spelling_le c.args.second c.ranges.second.fits)
+    omega (arith, length-encoding_le c.args.first c.ranges.first.fits, length-encoding_le c.args.second c.ranges.second.fits)

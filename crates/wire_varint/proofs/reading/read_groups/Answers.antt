@@ -1,6 +1,6 @@
 use Rattle.std.proofs.Common.{arith, below_more}
 use Rattle.wire_varint.proofs.Groups.{value_more, weight_more}
-use Rattle.wire_varint.proofs.Spelling.{IsVarint-take}
+use Rattle.wire_varint.proofs.Encoding.{IsVarint-take}
 use Rattle.wire_varint.proofs.reading.read_groups.Goals as goal
 
 pub loop-i-preserved : goal.loop-i-preserved

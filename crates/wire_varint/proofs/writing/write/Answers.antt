@@ -1,7 +1,7 @@
 use Rattle.std.proofs.Common.{◌≡◌, ◌+◌, ◌%◌, ◌++◌, length, set, drop, arith, refl}
 use Rattle.std.proofs.lemmas.List.{length-set}
-use Rattle.wire_varint.specs.Varint.{spelling}
-use Rattle.wire_varint.proofs.Spelling.{Completes-room, Completes-more, Completes-last, Completes-start, drop-set_more, spelling-is_varint, spelling-shortest}
+use Rattle.wire_varint.specs.Varint.{encoding}
+use Rattle.wire_varint.proofs.Encoding.{Completes-room, Completes-more, Completes-last, Completes-start, drop-set_more, encoding-is_varint, encoding-shortest}
 use Rattle.wire_varint.proofs.writing.write.Goals as goal
 use Rattle.wire_varint.proofs.writing.write.Goals.{After-loop-rest}
 
@@ -41,8 +41,8 @@ loop-rest-preserved c =
 
 -- the end of the loop: the count of the bytes, and the bytes
 last : (c : After-loop-rest) →
-    (c.loop-rest.used + 1 ≡ length (spelling c.args.value))
-    × (set c.loop-rest.out c.loop-rest.used c.loop-rest.rest ≡ spelling c.args.value ++ drop (c.loop-rest.used + 1) c.args.out.now)
+    (c.loop-rest.used + 1 ≡ length (encoding c.args.value))
+    × (set c.loop-rest.out c.loop-rest.used c.loop-rest.rest ≡ encoding c.args.value ++ drop (c.loop-rest.used + 1) c.args.out.now)
 last c =
     let l = c.loop-rest.invariant in
     let below = Completes-room c.args.value c.loop-rest.used c.loop-rest.rest c.loop-rest.out l.within l.fits l.room l.completes in
@@ -55,7 +55,7 @@ pub returns-clause-written : goal.returns-clause-written
 returns-clause-written c = (last c).1
 
 pub returns-clause-varint : goal.returns-clause-varint
-returns-clause-varint c = spelling-is_varint c.args.value c.ranges.value.fits
+returns-clause-varint c = encoding-is_varint c.args.value c.ranges.value.fits
 
 pub returns-clause-shortest : goal.returns-clause-shortest
-returns-clause-shortest c = λ others v. rw ((last c).0) (spelling-shortest c.args.value others c.ranges.value.fits v)
+returns-clause-shortest c = λ others v. rw ((last c).0) (encoding-shortest c.args.value others c.ranges.value.fits v)

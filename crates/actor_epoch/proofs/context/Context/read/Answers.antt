@@ -1,6 +1,6 @@
 use Rattle.std.proofs.Common.{subst, sym, ◌∙◌, arith}
-use Rattle.actor_epoch.specs.Contexts.{ReadsAs}
-use Rattle.actor_epoch.proofs.Given.{AreBytes, read-context, read-malformed, read-none, reads_as, other_version, part_entry, not_formed, is_context-found}
+use Rattle.actor_epoch.specs.Contexts.{DecodesContext}
+use Rattle.actor_epoch.proofs.Given.{AreBytes, read-context, read-malformed, read-none, decodes_context, other_version, part_entry, not_formed, is_context-found}
 use Rattle.actor_epoch.proofs.context.Context.read.Goals as goal
 use Rattle.actor_epoch.proofs.context.Context.read.Goals.{then-version-ne-VERSION-via-then-version-ne-VERSION, then-version-ne-VERSION-via-else-version-ne-VERSION+then-entries-ne0, then-version-ne-VERSION-via-else-version-ne-VERSION+else-entries-ne0+then-not-are_of_form}
 
@@ -26,17 +26,17 @@ returns-clause-read c =
     (is_context-found version entries c.if-version-ne-VERSION.false c.if-entries-ne0.false (sym c.are_of_form.ensures ∙ c.if-not-are_of_form.false))
 
 -- the older relation
-pub returns-in_err-version-clause-reads : goal.returns-in_err-version-clause-reads
-returns-in_err-version-clause-reads c =
+pub returns-in_err-version-clause-decodes : goal.returns-in_err-version-clause-decodes
+returns-in_err-version-clause-decodes c =
     let small : AreBytes c.args.bytes.now = λ i. let fits = c.type_inv.bytes i in omega arith in
-    subst (ReadsAs c.args.bytes.now) (sym (returns-in_err-version-clause-read c)) (reads_as c.args.bytes.now small)
+    subst (DecodesContext c.args.bytes.now) (sym (returns-in_err-version-clause-read c)) (decodes_context c.args.bytes.now small)
 
-pub returns-then-version-ne-VERSION-clause-reads : goal.returns-then-version-ne-VERSION-clause-reads
-returns-then-version-ne-VERSION-clause-reads c =
+pub returns-then-version-ne-VERSION-clause-decodes : goal.returns-then-version-ne-VERSION-clause-decodes
+returns-then-version-ne-VERSION-clause-decodes c =
     let small : AreBytes c.args.bytes.now = λ i. let fits = c.type_inv.bytes i in omega arith in
-    subst (ReadsAs c.args.bytes.now) (sym (returns-then-version-ne-VERSION-clause-read c)) (reads_as c.args.bytes.now small)
+    subst (DecodesContext c.args.bytes.now) (sym (returns-then-version-ne-VERSION-clause-read c)) (decodes_context c.args.bytes.now small)
 
-pub returns-clause-reads : goal.returns-clause-reads
-returns-clause-reads c =
+pub returns-clause-decodes : goal.returns-clause-decodes
+returns-clause-decodes c =
     let small : AreBytes c.args.bytes.now = λ i. let fits = c.type_inv.bytes i in omega arith in
-    subst (ReadsAs c.args.bytes.now) (sym (returns-clause-read c)) (reads_as c.args.bytes.now small)
+    subst (DecodesContext c.args.bytes.now) (sym (returns-clause-read c)) (decodes_context c.args.bytes.now small)

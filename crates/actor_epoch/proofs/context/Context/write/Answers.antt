@@ -1,9 +1,9 @@
 use Rattle.std.proofs.Common.{◌++◌, ◌∙◌, sym}
-use Rattle.actor_epoch.proofs.Spellings.{spelling-take}
+use Rattle.actor_epoch.proofs.Encodings.{encoding-take}
 use Rattle.actor_epoch.proofs.context.Context.write.Goals as goal
 
 pub loop-pair-preserved : goal.loop-pair-preserved
 loop-pair-preserved c =
     c.in_ok-extend_from_slice.ensures.items
     ∙ (λ i. c.loop-pair.invariant i ++ c.bytes_of.ensures i)
-    ∙ sym (spelling-take c.args.pairs.now c.loop-pair.pair-index _ c.loop-pair-test.true)
+    ∙ sym (encoding-take c.args.pairs.now c.loop-pair.pair-index _ c.loop-pair-test.true)

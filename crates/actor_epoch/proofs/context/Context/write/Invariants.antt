@@ -1,7 +1,7 @@
 use Rattle.std.proofs.Common.{◌≡◌, take}
-use Rattle.actor_epoch.specs.Contexts.{spelling}
+use Rattle.actor_epoch.specs.Contexts.{encoding}
 use Rattle.actor_epoch.specs.Entries.{entries_of}
 use Rattle.actor_epoch.proofs.context.Context.write.Given as goal
 
 abbrev pub invariant-loop-pair : goal.invariant-loop-pair
-invariant-loop-pair l = l.bytes.items ≡ spelling (entries_of (take l.pair-index l.pairs))
+invariant-loop-pair l = l.bytes.items ≡ encoding (entries_of (take l.pair-index l.pairs))

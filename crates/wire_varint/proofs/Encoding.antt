@@ -5,18 +5,18 @@ use Rattle.std.proofs.lemmas.Bool.{cases_lt, cond-true, cond-false, lt-ltb, le-l
 use Rattle.std.proofs.lemmas.Grind.{common_steps}
 use Rattle.std.proofs.lemmas.List.{append_assoc, length-append, length-take-le, take_more_set, drop-drop, drop-set-lt, set_split, get_or-take, get_or_append_left, take_at, drop_at}
 use Rattle.std.proofs.Math.Nat.{div-add-mod, div-lt_iff_lt-mul, pow-le-pow_right, le-div_iff_mul-le, mul-le-mul_right, mod-le}
-use Rattle.wire_varint.specs.Varint.{groups_from, value_of, GoesOn, IsVarint, HasGroups, IsTruncated, IsOverlong, spelled, spelling}
+use Rattle.wire_varint.specs.Varint.{groups_from, value_of, GoesOn, IsVarint, HasGroups, IsTruncated, IsOverlong, encoded, encoding}
 
 -- a value below 128 is its own byte
-pub spelled-small : (n value : ℕ) → value < 128 → spelled n value ≡ value ∷ []
-unfolding spelled
-spelled-small zero value h = refl
-spelled-small (suc n) value h = cond-true (nat_lt value 128) _ _ (lt-ltb value 128 h)
+pub encoded-small : (n value : ℕ) → value < 128 → encoded n value ≡ value ∷ []
+unfolding encoded
+encoded-small zero value h = refl
+encoded-small (suc n) value h = cond-true (nat_lt value 128) _ _ (lt-ltb value 128 h)
 
 -- any other has its lowest group first
-pub spelled-more : (n value : ℕ) → 128 ≤ value → spelled (suc n) value ≡ (value % 128 + 128) ∷ spelled n (value / 128)
-unfolding spelled
-spelled-more n value h = cond-false (nat_lt value 128) _ _ (le-ltb value 128 h)
+pub encoded-more : (n value : ℕ) → 128 ≤ value → encoded (suc n) value ≡ (value % 128 + 128) ∷ encoded n (value / 128)
+unfolding encoded
+encoded-more n value h = cond-false (nat_lt value 128) _ _ (le-ltb value 128 h)
 
 -- a quotient has one group less
 pub fits_less : (n value : ℕ) → value < 128 ^ (suc n + 1) → value / 128 < 128 ^ (n + 1)
@@ -92,22 +92,22 @@ shape_more n value bs h s = record {
         rw (rest, group) (sum_again i (value / 128) (value % 128) value (div-add-mod value 128))
 
 -- the bytes of a value that fits
-shape : (n value : ℕ) → value < 128 ^ (n + 1) → Shape n value (spelled n value)
-shape zero value h = rw (spelled-small zero value h) (shape_small zero value h)
+shape : (n value : ℕ) → value < 128 ^ (n + 1) → Shape n value (encoded n value)
+shape zero value h = rw (encoded-small zero value h) (shape_small zero value h)
 shape (suc n) value h =
     elim (cases_lt value 128) [
-      | inl small ↦ rw (spelled-small (suc n) value small) (shape_small (suc n) value small)
-      | inr more ↦ rw (spelled-more n value more) (shape_more n value _ more (shape n (value / 128) (fits_less n value h)))
+      | inl small ↦ rw (encoded-small (suc n) value small) (shape_small (suc n) value small)
+      | inr more ↦ rw (encoded-more n value more) (shape_more n value _ more (shape n (value / 128) (fits_less n value h)))
     ]
 
-spelling-shape : (value : ℕ) → value < 2 ^ 64 → Shape 9 value (spelling value)
-unfolding spelling
-spelling-shape value h = shape 9 value (omega arith)
+encoding-shape : (value : ℕ) → value < 2 ^ 64 → Shape 9 value (encoding value)
+unfolding encoding
+encoding-shape value h = shape 9 value (omega arith)
 
--- a spelling is a varint of its value
-pub spelling-is_varint : (value : ℕ) → value < 2 ^ 64 → IsVarint (spelling value) value
-spelling-is_varint value h =
-    let s = spelling-shape value h in
+-- a encoding is a varint of its value
+pub encoding-is_varint : (value : ℕ) → value < 2 ^ 64 → IsVarint (encoding value) value
+encoding-is_varint value h =
+    let s = encoding-shape value h in
     record {
       not_empty = s.groups.not_empty;
       bounded = s.bounded;
@@ -116,8 +116,8 @@ spelling-is_varint value h =
       value_is = rw (s.sum 0) (grind arith);
     }
 
-pub length-spelling_le : (value : ℕ) → value < 2 ^ 64 → length (spelling value) ≤ 10
-length-spelling_le value h = (spelling-shape value h).bounded
+pub length-encoding_le : (value : ℕ) → value < 2 ^ 64 → length (encoding value) ≤ 10
+length-encoding_le value h = (encoding-shape value h).bounded
 
 -- only one number is a value's number of groups
 groups_le : (value m n : ℕ) → HasGroups value m → HasGroups value n → m ≤ n
@@ -130,11 +130,11 @@ groups_le value m n a b =
       | inr le ↦ le
     ]
 
-pub length-spelling : (value n : ℕ) → value < 2 ^ 64 → HasGroups value n → n ≡ length (spelling value)
-length-spelling value n h g =
-    let s = spelling-shape value h in
-    let up = groups_le value n (length (spelling value)) g s.groups in
-    let down = groups_le value (length (spelling value)) n s.groups g in
+pub length-encoding : (value n : ℕ) → value < 2 ^ 64 → HasGroups value n → n ≡ length (encoding value)
+length-encoding value n h g =
+    let s = encoding-shape value h in
+    let up = groups_le value n (length (encoding value)) g s.groups in
+    let down = groups_le value (length (encoding value)) n s.groups g in
     omega arith
 
 -- so many groups make no more
@@ -148,14 +148,14 @@ groups_from-lt i (b ∷ bs) =
     let rest' : groups_from (i + 1) bs + 128 ^ (i + 1) ≤ 128 ^ (i + suc (length bs)) = subst (λ n. groups_from (i + 1) bs + 128 ^ (i + 1) ≤ 128 ^ n) same rest in
     omega arith
 
--- no varint of a value is shorter than its spelling
-pub spelling-shortest : (value : ℕ) (bs : List ℕ) → value < 2 ^ 64 → IsVarint bs value → length (spelling value) ≤ length bs
-spelling-shortest value bs h v =
-    let s = spelling-shape value h in
-    elim (cases_lt (length bs) (length (spelling value))) [
+-- no varint of a value is shorter than its encoding
+pub encoding-shortest : (value : ℕ) (bs : List ℕ) → value < 2 ^ 64 → IsVarint bs value → length (encoding value) ≤ length bs
+encoding-shortest value bs h v =
+    let s = encoding-shape value h in
+    elim (cases_lt (length bs) (length (encoding value))) [
       | inl more ↦
-          let least : 128 ^ (length (spelling value) - 1) ≤ value = s.groups.least (omega (arith, v.not_empty)) in
-          let grows : 128 ^ length bs ≤ 128 ^ (length (spelling value) - 1) = pow-le-pow_right (lit< tt) (omega arith) in
+          let least : 128 ^ (length (encoding value) - 1) ≤ value = s.groups.least (omega (arith, v.not_empty)) in
+          let grows : 128 ^ length bs ≤ 128 ^ (length (encoding value) - 1) = pow-le-pow_right (lit< tt) (omega arith) in
           let within : groups_from 0 bs + 128 ^ 0 ≤ 128 ^ (0 + length bs) = groups_from-lt 0 bs in
           let within' : groups_from 0 bs + 128 ^ 0 ≤ 128 ^ length bs = rw zero-add at within in
           let wrapped : groups_from 0 bs % 2 ^ 64 ≤ groups_from 0 bs = mod-le (groups_from 0 bs) (2 ^ 64) in
@@ -163,17 +163,17 @@ spelling-shortest value bs h v =
       | inr le ↦ le
     ]
 
--- what is written so far, and what is left, makes the spelling
+-- what is written so far, and what is left, makes the encoding
 pub Completes : (value used rest : ℕ) → List ℕ → Type 0
-Completes value used rest out = spelling value ≡ take used out ++ spelled (9 - used) rest
+Completes value used rest out = encoding value ≡ take used out ++ encoded (9 - used) rest
 
 -- a byte is left to write, so there is room for it
 pub Completes-room : (value used rest : ℕ) (out : List ℕ) → used ≤ length out → rest < 128 ^ (9 - used + 1) →
-    length (spelling value) ≤ length out → Completes value used rest out → used < length out
+    length (encoding value) ≤ length out → Completes value used rest out → used < length out
 unfolding Completes
 Completes-room value used rest out within fits room e =
     let s = shape (9 - used) rest fits in
-    let len : length (spelling value) ≡ length (take used out) + length (spelled (9 - used) rest) = ap length e ∙ length-append (take used out) (spelled (9 - used) rest) in
+    let len : length (encoding value) ≡ length (take used out) + length (encoded (9 - used) rest) = ap length e ∙ length-append (take used out) (encoded (9 - used) rest) in
     let front : length (take used out) ≡ used = length-take-le used out within in
     omega (arith, s.groups.not_empty)
 
@@ -193,18 +193,18 @@ Completes-more value used rest out below more few fits e =
     let few' : used + 1 ≤ 9 = few_more used rest more few fits in
     let left : 9 - used ≡ suc (9 - (used + 1)) = omega arith in
     let fits' : rest < 128 ^ (suc (9 - (used + 1)) + 1) = subst (λ n. rest < 128 ^ (n + 1)) left fits in
-    let split : spelled (9 - used) rest ≡ (rest % 128 + 128) ∷ spelled (9 - (used + 1)) (rest / 128) = rw left (spelled-more (9 - (used + 1)) rest more) in
+    let split : encoded (9 - used) rest ≡ (rest % 128 + 128) ∷ encoded (9 - (used + 1)) (rest / 128) = rw left (encoded-more (9 - (used + 1)) rest more) in
     (few', fits_less (9 - (used + 1)) rest fits', rw (e, split, take_more_set out used (rest % 128 + 128) below, append_assoc) refl)
 
 -- its end
 pub Completes-last : (value used rest : ℕ) (out old : List ℕ) → used < length out → rest < 128 → drop used out ≡ drop used old →
     Completes value used rest out →
-    (used + 1 ≡ length (spelling value)) × (set out used rest ≡ spelling value ++ drop (used + 1) old)
+    (used + 1 ≡ length (encoding value)) × (set out used rest ≡ encoding value ++ drop (used + 1) old)
 unfolding Completes
 Completes-last value used rest out old below small kept e =
-    let e' : spelling value ≡ take used out ++ rest ∷ [] = e ∙ ap (λ bs. take used out ++ bs) (spelled-small (9 - used) rest small) in
+    let e' : encoding value ≡ take used out ++ rest ∷ [] = e ∙ ap (λ bs. take used out ++ bs) (encoded-small (9 - used) rest small) in
     let front : length (take used out) ≡ used = length-take-le used out (omega arith) in
-    let len : length (spelling value) ≡ length (take used out) + 1 = ap length e' ∙ length-append (take used out) (rest ∷ []) in
+    let len : length (encoding value) ≡ length (take used out) + 1 = ap length e' ∙ length-append (take used out) (rest ∷ []) in
     let behind : drop (suc used) out ≡ drop (used + 1) old =
     ap (λ n. drop n out) (sym (add-one used)) ∙ sym (drop-drop 1 used out) ∙ ap (λ bs. drop 1 bs) kept ∙ drop-drop 1 used old in
     let split : set out used rest ≡ take used out ++ rest ∷ drop (suc used) out = set_split out used rest below in
@@ -230,7 +230,7 @@ IsVarint-take bs i value below few goes ends e =
 
 -- its start
 pub Completes-start : (value : ℕ) (out : List ℕ) → Completes value 0 value out
-unfolding Completes spelling
+unfolding Completes encoding
 Completes-start value out = refl
 
 -- a byte behind the first ones is written, and what lies behind it stays
