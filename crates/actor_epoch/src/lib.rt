@@ -8,6 +8,14 @@
 //!
 //! Reading a context takes no memory and one pass over its bytes; asking whether it covers a dot takes one more. Writing
 //! takes one allocation. A `Context` is a slice of the bytes that it was read from; nothing is kept beside it.
+//!
+//! ```text
+//! EpochSource::new(1).next()                          Some(1), the epoch of the first life at a vnode
+//! let a = Actor { vnode: 65_536, epoch: 1 };
+//! let bytes = Context::write(alloc, &[(a, 2)])?;      01 0000000000010000 00000001 00000002
+//! let context = Context::read(&bytes)?;               Some: the pair (a, 2)
+//! context.covers(&Dot { actor: a, counter: 2 })       true, and false at the counter 3
+//! ```
 #![tactic(auto)]
 
 mod actor;

@@ -46,14 +46,14 @@ impl<V> Entry<V> {
     }
 }
 
-/// Where an actor stands among entries: at a place, or it would stand there.
+/// Where the entry of an actor is, or where it would be inserted.
 #[derive(Clone, Copy)]
 pub(crate) enum Place {
     Taken(usize),
     Free(usize),
 }
 
-/// Where an actor stands, or would.
+/// Searches the entry of an actor.
 pub(crate) fn search_actor<V>(entries: &[Entry<V>], actor: Actor) -> Place
     ensures { result ≡ search_actor actor (clock_entries entries.now) }
 {

@@ -21,6 +21,6 @@ pub enum ClockFault {
 pub struct Rejected<T> {
     /// Why.
     pub fault: ClockFault,
-    /// What comes back.
+    /// What the call was given.
     pub value: T,
 }

@@ -1,7 +1,7 @@
 //! Dotted version vector sets: the clock of a key, with its concurrent values.
 //!
 //! A clock means a set of known dots, and those of them that are live, each with its value (`specs/Clocks`: `DotState`).
-//! Its calls are `sync`, `discard` and `event` there, in `specs/Laws` said dot by dot. A sync is idempotent, commutative
+//! Its calls are `sync`, `discard` and `event` there, in `specs/Laws` dot by dot. A sync is idempotent, commutative
 //! and associative in what is known and live (`sync_joins`). In code a clock is the module's entries (actor, n, values):
 //! the dots 1 to n are known, and the values, newest first, have the last of them (`specs/ClockEntries`).
 //!
@@ -9,8 +9,16 @@
 //! for the sync with a context's pairs that its update does first. An actor is found by a walk over the entries, 64 at
 //! most; an event moves the actor's values once; the calls take memory for entries that are new and for one value more.
 //!
-//! Where a change is accepted before it is made, `uncovered` and `needed` tell what its limits are checked against,
+//! Where a change is accepted before it is made, `uncovered` and `needed` return what its limits are checked against,
 //! `reserve` makes its room and is refused by memory alone, and `put_ready` or `overwrite_ready` makes it in that room.
+//!
+//! ```text
+//! let mut clock = Clock::new(alloc);                  values: none; join: none
+//! clock.event(a, Some(1))?; clock.event(a, Some(2))?; values: 2, 1; join: (a, 2)
+//! clock.discard(&context)?;                           with the context (a, 1): values: 2; join: (a, 2)
+//! clock.event(b, Some(3))?;                           values: 2, 3; join: (a, 2), (b, 1)
+//! clock.covers(&Dot { actor: a, counter: 1 })         true: it is known, and no longer live
+//! ```
 #![tactic(auto)]
 
 mod clock;

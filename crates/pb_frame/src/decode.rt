@@ -5,9 +5,9 @@ ghost use Rattle.pb_frame.specs.Header.{IsHeader};
 use crate::fault::FrameFault;
 use byteorder::{BigEndian, ByteOrder};
 
-/// What the header of the first frame tells of a stream.
+/// The header of the first frame of a stream.
 pub(crate) enum Header {
-    /// Less than a whole frame has come.
+    /// Less than a whole frame is there.
     Incomplete,
     /// A whole frame, of so many bytes.
     Complete(usize),

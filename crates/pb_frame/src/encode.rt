@@ -9,7 +9,7 @@ use crate::limits::MAX_BODY_LEN;
 use byteorder::{BigEndian, ByteOrder};
 use std::alloc::Global;
 
-/// How many bytes of a frame stand in front of its body: four of its length, and the code.
+/// How many bytes of a frame precede its body: four of its length, and the code.
 pub const HEADER_LEN: usize = 5;
 
 /// The bytes in front of a message's body in its frame: how long code and body are in four bytes, the highest first,

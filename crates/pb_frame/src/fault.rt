@@ -9,10 +9,10 @@ use thiserror::Error;
 /// Why a framer gives no frame, or a message has none.
 #[derive(Clone, Copy, Debug, Drop, Error, PartialEq, Eq)]
 pub enum FrameFault {
-    /// The four length bytes say 0, and a frame has at least its code.
+    /// The four length bytes hold 0, and a frame has at least its code.
     #[error("frame of length 0")]
     Empty,
-    /// The four length bytes say more than the framer's limit, or a body is too long for any frame.
+    /// The four length bytes hold more than the framer's limit, or a body is too long for any frame.
     #[error("frame too large")]
     TooLarge,
     /// Memory was refused, and nothing has changed.

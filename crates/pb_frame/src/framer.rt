@@ -1,4 +1,4 @@
-//! A stream of frames that comes in any pieces.
+//! A stream of frames that is fed in any pieces.
 
 ghost use Rattle.std.specs.Prelude.{◌≡◌, ◌++◌, [], length, None, IfSome, IsErrOf, IsOkUnless, OnOk, OnErr};
 
@@ -43,7 +43,7 @@ impl Model for Framer {
       fault = f.fault;
     } };
 
-    // A fault that was told still stands at the front.
+    // A fault that was returned is still at the front.
     ghost invariant = { λ f. (f.start ≤ vec_len f.bytes)
         × ForSome f.fault (IsFaulty f.limit (drop f.start f.bytes.items)) };
 }
@@ -68,7 +68,7 @@ impl Framer {
     }
 
     /// How many bytes were fed and not yet taken in frames: once [`Framer::take`] gave none, how many
-    /// stand behind the last whole frame. Takes no memory.
+    /// lie behind the last whole frame. Takes no memory.
     pub fn rest(&self) -> usize
         ensures { result ≡ length self.now.rest }
     {
@@ -76,13 +76,14 @@ impl Framer {
     }
 
     /// Adds a piece at the end of what was fed. An `Err` changes nothing: it is `NoMemory`, after which
-    /// the same piece may be fed again, or the bad length that [`Framer::take`] has told, which is
+    /// the same piece may be fed again, or the bad length that [`Framer::take`] returned, which is
     /// final.
     pub fn feed(&mut self, piece: &[u8]) -> Result<(), FrameFault>
-        ensures ok { OnOk result (self.new ≡ record self.old { rest = self.old.rest ++ piece.now }) }
+        ensures ok { OnOk result (
+            self.new ≡ record self.old { rest = self.old.rest ++ piece.now }) }
         ensures err { OnErr result (self.new ≡ self.old) }
 
-        // Once a bad length was told, its fault comes, and no other. Before, only memory is refused.
+        // Once a bad length was returned, its fault is, and no other. Before, only memory is refused.
         ensures told { IfSome self.old.fault (λ e. IsErrOf result e) }
         ensures memory { self.old.fault ≡ None → IsOkUnless result FrameFault.NoMemory }
     {
@@ -110,9 +111,9 @@ impl Framer {
         }
     }
 
-    /// The next whole frame. `None` where no whole frame is left and no bad length stands there: feed
+    /// The next whole frame. `None` where no whole frame is left and no bad length follows: feed
     /// more. An `Err` is `Empty` (a length of 0) or `TooLarge` (a length above the limit), once all
-    /// frames before it were taken and its four bytes are there. It is final, since nothing tells
+    /// frames before it were taken and its four bytes are there. It is final, since nothing marks
     /// where a next frame would begin: from then on this call and [`Framer::feed`] answer it, and
     /// nothing changes. Takes no memory.
     pub fn take(&mut self) -> Result<Option<Frame<'_>>, FrameFault>

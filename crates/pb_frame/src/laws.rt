@@ -11,13 +11,13 @@ ghost use Rattle.pb_frame.specs.Run.{Event, Ran, fed_bytes, taken_messages};
 
 use crate::limits::MAX_REQUEST_LEN;
 
-/// Each stream of bytes stands for a list of messages and a rest.
+/// Each stream of bytes splits into a list of messages and a rest.
 pub fn every_stream()
     ensures { (limit : ℕ) → limit < 2 ^ 32 → (stream : List ℕ) → All (λ b. b < 2 ^ 8) stream
         → (messages : List Message) × (rest : List ℕ) × Splits limit stream messages rest }
 {}
 
-/// A stream stands for no other list of messages and no other rest, so it doesn't matter how it
+/// A stream splits into no other list of messages and no other rest, so it doesn't matter how it
 /// was cut.
 pub fn one_split()
     ensures { (limit : ℕ) → limit < 2 ^ 32
@@ -25,7 +25,7 @@ pub fn one_split()
         → Splits limit stream these x → Splits limit stream those y → (these ≡ those) × (x ≡ y) }
 {}
 
-/// Messages whose frames stand at the front of a stream begin its list.
+/// Messages whose frames are at the front of a stream begin its list.
 pub fn first_messages()
     ensures { (limit : ℕ) → limit < 2 ^ 32
         → (stream : List ℕ) (all some : List Message) (rest more : List ℕ)
@@ -37,7 +37,8 @@ pub fn first_messages()
 /// However feeds and takes follow one another, what was fed is the frames that were taken and what
 /// is left, and the messages that were taken begin those of what was fed.
 pub fn any_pieces()
-    ensures bytes { (limit : ℕ) (events : List Event) (new : Stream) → Ran (opening limit) events new
+    ensures bytes { (limit : ℕ) (events : List Event) (new : Stream)
+        → Ran (opening limit) events new
         → (fed_bytes events ≡ flat_map frame (taken_messages events) ++ new.rest)
         × All (IsWithin limit) (taken_messages events) }
     ensures begins { (limit : ℕ) → limit < 2 ^ 32
@@ -54,7 +55,7 @@ pub fn none_left()
         × ((fault : FrameFault) → IsFaultyStream limit (fed_bytes events) fault → ⊥) }
 {}
 
-/// Where `take` tells a bad length, all messages of what was fed were taken, and it is faulty behind
+/// Where `take` returns a bad length, all messages of what was fed were taken, and it is faulty behind
 /// them.
 pub fn bad_length()
     ensures { (limit : ℕ) (events : List Event) (old new : Stream) (fault : FrameFault)

@@ -1,7 +1,7 @@
-//! Messages in frames, on a stream of bytes that comes in any pieces.
+//! Messages in frames, on a stream of bytes that is fed in any pieces.
 //!
 //! Riak's Protocol Buffers Client API puts each message into a frame: four bytes, the highest first,
-//! that say how long the code and the body are, then the code, then the body. A stream of bytes
+//! that hold how long the code and the body are, then the code, then the body. A stream of bytes
 //! *splits* into the messages of its frames, each within a limit, and a rest that begins no whole
 //! frame (`Splits`, in `specs/Message.antt`); each stream does so in one way (`every_stream`,
 //! `one_split`). However the stream is cut, a [`Framer`] gives these messages, in their order
@@ -9,12 +9,20 @@
 //! just where a bad length follows (`bad_length`).
 //!
 //! **Cost.** Feeding and taking `n` bytes takes time in proportion to `n`, whatever the pieces and
-//! whenever frames are taken: a byte is copied once when it comes, and over all calls no more bytes
+//! whenever frames are taken: a byte is copied once when it is fed, and over all calls no more bytes
 //! are moved than were taken. Taking allocates nothing and copies nothing.
 //!
 //! **How it is built.** A buffer, and how much of it was taken: [`Framer::take`] moves that mark
 //! alone, and [`Framer::feed`] moves what is left to the front once it is at most half of the
 //! buffer. [`frame_of`] encodes a message, and [`header`] the bytes in front of a body that is written behind it.
+//!
+//! ```text
+//! Framer::new(alloc, 100)
+//! feed(00 00 00 02 09)        Ok: the body of one byte is missing
+//! take()                      None
+//! feed(61)                    Ok
+//! take()                      the code 9 and the body 61
+//! ```
 #![tactic(auto)]
 
 mod decode;

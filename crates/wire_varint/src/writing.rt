@@ -34,7 +34,7 @@ fn groups(value: u64) -> usize
     }
 }
 
-/// Writes the shortest encoding of `value` to the front of `out`, and says how many bytes it has.
+/// Writes the shortest encoding of `value` to the front of `out`, and returns how many bytes it has.
 ///
 /// The caller has room: `out` has `len(value)` bytes at least, as any ten bytes have. What lies behind the
 /// encoding stays. [`read`](crate::read) reads the value back, whatever follows it.
