@@ -1,23 +1,23 @@
 -- Dead keys in a list of rows, and the list without one.
-use Rattle.std.proofs.Common.{◌≡◌, ◌<◌, ℕ, zero, suc, ◌+◌, Bool, true, false, not, ◌&&◌, cond, List, [], ◌∷◌, ◌++◌, refl, sym, ◌∙◌, ap, arith, map, length, take, drop, subst}
+use Rattle.std.proofs.Common.{◌≡◌, ◌<◌, ℕ, zero, suc, ◌+◌, Bool, true, false, not, cond, List, [], ◌∷◌, ◌++◌, refl, sym, ◌∙◌, ap, arith, map, length, take, drop, subst}
 use lib.Dec.{T}
-use Rattle.std.specs.Prelude.{Option, Some, None, slice_get, filter, remove, is_some, IsTrue, if◌then◌else◌}
+use Rattle.std.specs.Prelude.{Option, Some, None, slice_get, filter, remove, is_some, IsTrue}
 use Rattle.std.specs.Option.{option_map_or, option_map}
-use Rattle.std.specs.List.{list_any, position_from}
+use Rattle.std.specs.List.{position_from}
 use Rattle.std.specs.declared.vec.Vec.{Vec}
 use Rattle.std.specs.declared.alloc.Global.{Global}
 use Rattle.std.specs.Ordering.{is_lt, is_eq, eq_by_cmp}
-use Rattle.std.specs.FinMap.Entries.{find, where_key, is_sorted, below_all, is_sorted-where_key}
+use Rattle.std.specs.FinMap.Entries.{where_key, is_sorted, below_all, is_sorted-where_key}
 use Rattle.std.proofs.lemmas.Float.{T_from_true}
 use Rattle.std.proofs.lemmas.List.{map-append, take-map, drop-map}
 use Rattle.std.proofs.lemmas.Option.{slice_get_within}
 use Rattle.riak_msgs.specs.declared.Key.{Key}
-use Rattle.riak_msgs.specs.declared.Content.{Content}
-use Rattle.riak_msgs.specs.KeyOrder.{key_cmp, key_eq}
-use Rattle.vnode_machine.specs.Machine.{Stored, holds_dead}
-use Rattle.vnode_machine.specs.Dead.{first_dead, has_dead, dead_keys, reaped, is_from}
+use Rattle.riak_msgs.specs.Contents.{Content}
+use Rattle.riak_msgs.specs.KeyOrder.{key_cmp}
+use Rattle.vnode_machine.specs.Machine.{Stored}
+use Rattle.vnode_machine.specs.Dead.{first_dead, has_dead, reaped}
 use Rattle.vnode_machine.proofs.DeadKeys.{dead_entries, where-below, not_eq-above, eq-itself}
-use Rattle.vnode_machine.proofs.Keys.{key_cmp_total, key_eq-same, eq_by_key_cmp}
+use Rattle.vnode_machine.proofs.Keys.{key_eq-same, eq_by_key_cmp}
 use Rattle.vnode_machine.proofs.Seen.{less}
 use Rattle.vnode_machine.proofs.Tests.{and_left, and_right}
 use Rattle.clock_list.specs.declared.row.Row.{Row}

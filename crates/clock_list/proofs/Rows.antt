@@ -11,7 +11,7 @@ use Rattle.std.proofs.lemmas.List.{map-set, map-append, take-map, drop-map, leng
 use Rattle.std.proofs.Math.Seq.{map-set_same}
 use Rattle.std.specs.FinMap.Entries.{find, put, is_sorted, is_sorted-put}
 use Rattle.riak_msgs.specs.declared.Key.{Key}
-use Rattle.riak_msgs.specs.declared.Content.{Content}
+use Rattle.riak_msgs.specs.Contents.{Content}
 use Rattle.riak_msgs.specs.KeyOrder.{key_cmp}
 use Rattle.actor_epoch.specs.declared.Actor.{Actor}
 use Rattle.actor_epoch.specs.declared.Dot.{Dot}
@@ -27,10 +27,9 @@ use Rattle.clock_list.specs.declared.row.Row.{Row}
 use Rattle.clock_list.specs.Places.{place_in}
 use Rattle.clock_store.specs.declared.store.WriteKind.{WriteKind}
 use Rattle.clock_store.specs.declared.store.WriteKind.TheVariants.{Value, Tombstone}
-use Rattle.clock_store.specs.declared.stored_clock.StoredClock.{StoredClock}
 use Rattle.clock_store.specs.Contents.{Reservation, HasPlaceIfDead, HasRoom}
 use Rattle.clock_store.specs.Keys.{Keys, stored_of, empty, clock_at, written, overwritten}
-use Rattle.clock_list.specs.Rows.{entry_of, FitsAt, ReadyAt, IsNewRow, reservation_of, reserved_in, contents_in, IsRoom, IsList}
+use Rattle.clock_list.specs.Rows.{entry_of, FitsAt, ReadyAt, IsNewRow, reservation_of, contents_in, IsRoom, IsList}
 use Rattle.clock_list.proofs.Finding.{at_place, new_place}
 
 -- a key stands at its place

@@ -5,7 +5,7 @@ use Rattle.std.specs.declared.vec.Vec.{Vec}
 use Rattle.std.specs.declared.alloc.Global.{Global}
 use Rattle.std.specs.FinMap.Entries.{is_sorted}
 use Rattle.riak_msgs.specs.declared.Key.{Key}
-use Rattle.riak_msgs.specs.declared.Content.{Content}
+use Rattle.riak_msgs.specs.Contents.{Content}
 use Rattle.riak_msgs.specs.KeyOrder.{key_cmp}
 use Rattle.actor_epoch.specs.declared.Actor.{Actor}
 use Rattle.actor_epoch.specs.declared.Dot.{Dot}

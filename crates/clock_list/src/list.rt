@@ -13,7 +13,7 @@ use crate::removal::{first_dead, forget_at};
 use crate::row::{Row, new_row, overwrite_at, reserve_at, write_at, write_new};
 use actor_epoch::{Actor, Context};
 use clock_store::{ClockStore, Reaped, StoredClock, WriteKind};
-use riak_msgs::{Content, Key};
+use riak_msgs::{BoxedContent, Key};
 use std::alloc::{AllocError, Global};
 use std::marker::Model;
 
@@ -116,7 +116,7 @@ impl ClockStore for ClockList {
         key: Key,
         seen: Option<&Context<'_>>,
         actor: Actor,
-        value: Option<Content>,
+        value: Option<BoxedContent>,
     ) {
         match self.room.take() {
             Some(Room::At(i, _)) => write_at(&mut self.rows, i, key, seen, actor, value),
@@ -125,7 +125,7 @@ impl ClockStore for ClockList {
         }
     }
 
-    fn overwrite(&mut self, key: Key, actor: Actor, value: Option<Content>) {
+    fn overwrite(&mut self, key: Key, actor: Actor, value: Option<BoxedContent>) {
         match self.room.take() {
             Some(Room::At(i, _)) => overwrite_at(&mut self.rows, i, key, actor, value),
             Some(Room::New(i, row)) => write_new(&mut self.rows, i, row, None, actor, value),

@@ -19,12 +19,19 @@ fn is_from(from: Option<&Key>, key: &Key) -> bool
     }
 }
 
+/// Whether a row's key is dead, and at or after another, where one is given.
+fn is_dead_from(from: Option<&Key>, row: &Row) -> bool
+    ensures { result ≡ is_dead_from (key_given from.entry) (entry_of row.now) }
+{
+    is_from(from, &row.key) && !row.stored.has_value()
+}
+
 /// The place of the first dead key at or after one.
 pub(crate) fn first_dead(rows: &[Row], from: Option<&Key>) -> Option<usize>
     ensures { result ≡ position_from (is_dead_from (key_given from.entry)) 0 (map entry_of rows.now) }
 {
     for (i, row) in rows.iter().enumerate() {
-        if is_from(from, &row.key) && !row.stored.has_value() {
+        if is_dead_from(from, row) {
             return Some(i);
         }
     }

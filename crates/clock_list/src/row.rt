@@ -12,7 +12,7 @@ ghost use Rattle.clock_list.specs.Rows.{entry_of, FitsAt, ReadyAt, FitsIn, IsNew
 use actor_epoch::{Actor, Context};
 use clock_store::StoredClock;
 use dvv_set::Clock;
-use riak_msgs::{Content, Key};
+use riak_msgs::{BoxedContent, Key};
 use std::alloc::{AllocError, Global};
 
 /// A key with what is stored of it.
@@ -60,7 +60,7 @@ pub(crate) fn write_at(
     key: Key,
     seen: Option<&Context<'_>>,
     actor: Actor,
-    value: Option<Content>,
+    value: Option<BoxedContent>,
 )
     requires placed { place_in key (map entry_of rows.old.items) ≡ places.At i }
     requires ready { ReadyAt rows.old.items i (seen_in seen) actor }
@@ -76,7 +76,7 @@ pub(crate) fn overwrite_at(
     i: usize,
     key: Key,
     actor: Actor,
-    value: Option<Content>,
+    value: Option<BoxedContent>,
 )
     requires placed { place_in key (map entry_of rows.old.items) ≡ places.At i }
     requires ready { ReadyAt rows.old.items i None actor }
@@ -93,7 +93,7 @@ pub(crate) fn write_new(
     mut row: Row,
     seen: Option<&Context<'_>>,
     actor: Actor,
-    value: Option<Content>,
+    value: Option<BoxedContent>,
 )
     requires sorted { IsTrue (is_sorted key_cmp (map entry_of rows.old.items)) }
     requires fits { FitsIn rows.old i row }

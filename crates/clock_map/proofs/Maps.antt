@@ -11,7 +11,7 @@ use Rattle.std.specs.BTreeMap.{is_at, IsOrdered}
 use Rattle.std.specs.FinMap.Entries.{find, put, is_sorted}
 use Rattle.slab.specs.Slab as slab
 use Rattle.riak_msgs.specs.declared.Key.{Key}
-use Rattle.riak_msgs.specs.declared.Content.{Content}
+use Rattle.riak_msgs.specs.Contents.{Content}
 use Rattle.riak_msgs.specs.KeyOrder.{key_cmp}
 use Rattle.actor_epoch.specs.declared.Actor.{Actor}
 use Rattle.actor_epoch.specs.declared.Dot.{Dot}

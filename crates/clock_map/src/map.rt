@@ -11,7 +11,7 @@ use crate::places;
 use crate::room::{Room, is_spare};
 use actor_epoch::{Actor, Context};
 use clock_store::{ClockStore, Reaped, StoredClock, WriteKind};
-use riak_msgs::{Content, Key};
+use riak_msgs::{BoxedContent, Key};
 use slab::Slab;
 use std::alloc::{AllocError, Global};
 use std::collections::BTreeMap;
@@ -173,7 +173,7 @@ impl ClockStore for ClockMap {
         key: Key,
         seen: Option<&Context<'_>>,
         actor: Actor,
-        value: Option<Content>,
+        value: Option<BoxedContent>,
     ) {
         let Some(room) = self.room.take() else {
             unreachable!()
@@ -182,7 +182,7 @@ impl ClockStore for ClockMap {
         index::set_mark(&mut self.dead, &key, !lives);
     }
 
-    fn overwrite(&mut self, key: Key, actor: Actor, value: Option<Content>) {
+    fn overwrite(&mut self, key: Key, actor: Actor, value: Option<BoxedContent>) {
         let Some(room) = self.room.take() else {
             unreachable!()
         };

@@ -10,7 +10,7 @@ use crate::room::Room;
 use actor_epoch::{Actor, Context};
 use clock_store::StoredClock;
 use dvv_set::Clock;
-use riak_msgs::{Content, Key};
+use riak_msgs::{BoxedContent, Key};
 use slab::Slab;
 use std::alloc::{AllocError, Global};
 use std::collections::BTreeMap;
@@ -38,7 +38,7 @@ pub(crate) fn write_at(
     place: usize,
     seen: Option<&Context<'_>>,
     actor: Actor,
-    value: Option<Content>,
+    value: Option<BoxedContent>,
 ) -> bool
     requires { IsReadyAt clocks.old place (seen_in seen) actor }
     ensures wrote { WritesAt clocks.old clocks.new place actor
@@ -57,7 +57,7 @@ pub(crate) fn overwrite_at(
     clocks: &mut Slab<StoredClock>,
     place: usize,
     actor: Actor,
-    value: Option<Content>,
+    value: Option<BoxedContent>,
 ) -> bool
     requires { IsReadyAt clocks.old place None actor }
     ensures wrote { WritesAt clocks.old clocks.new place actor

@@ -8,9 +8,9 @@ ghost use Rattle.clock_store.specs.Contents.{HasRoom};
 
 use actor_epoch::{Actor, MAX_ACTORS, MAX_COUNTER};
 use clock_map::ClockMap;
-use clock_store::{ClockStore, Reaped, WriteKind};
+use clock_store::{ClockStore, Reaped, StoredClock, WriteKind};
 use dvv_set::{Clock, Needed};
-use riak_msgs::{Content, Key};
+use riak_msgs::{BoxedContent, Content, Key};
 use std::alloc::{AllocError, Global};
 use std::process::Abort;
 
@@ -35,7 +35,7 @@ fn is_within(store: &ClockMap, alloc: Global, key: &Key, actor: Actor) -> bool
     match store.get(key) {
         Some(stored) => allows(stored.clock.needed(None, actor)),
         None => {
-            let clock: Clock<Option<Content>> = Clock::new(alloc);
+            let clock: Clock<Option<BoxedContent>> = Clock::new(alloc);
             allows(clock.needed(None, actor))
         }
     }
@@ -60,16 +60,34 @@ fn reserve(
     store.reserve(alloc, key, None, actor, kind)
 }
 
+/// An empty content, tried twice where memory is refused.
+fn content(alloc: Global) -> Result<BoxedContent, AllocError> {
+    if let Ok(content) = BoxedContent::new(alloc, Content::new(alloc)) {
+        return Ok(content);
+    }
+    BoxedContent::new(alloc, Content::new(alloc))
+}
+
+/// Writes an empty content beside what is there.
+fn write_value(store: &mut ClockMap, alloc: Global, key: Key) -> Result<(), AllocError> {
+    reserve(store, alloc, &key, A, WriteKind::Value)?;
+    store.write(key, None, A, Some(content(alloc)?));
+    Ok(())
+}
+
+/// Writes a tombstone over all that is there.
+fn write_tombstone(store: &mut ClockMap, alloc: Global, key: Key) -> Result<(), AllocError> {
+    reserve(store, alloc, &key, A, WriteKind::Tombstone)?;
+    store.overwrite(key, A, None);
+    Ok(())
+}
+
 /// Writes a value, or a tombstone over all that is there.
 fn write(store: &mut ClockMap, alloc: Global, key: Key, is_value: bool) -> Result<(), AllocError> {
     if is_value {
-        reserve(store, alloc, &key, A, WriteKind::Value)?;
-        store.write(key, None, A, Some(Content::new(alloc)));
-    } else {
-        reserve(store, alloc, &key, A, WriteKind::Tombstone)?;
-        store.overwrite(key, A, None);
+        return write_value(store, alloc, key);
     }
-    Ok(())
+    write_tombstone(store, alloc, key)
 }
 
 /// The key of this name, tried twice where memory is refused.
@@ -99,17 +117,39 @@ fn leave_room(rt: &impl Abort, store: &mut ClockMap, alloc: Global, name: &[u8])
     }
 }
 
-/// How many values the key of this name has; None where it is absent.
-fn count(rt: &impl Abort, store: &ClockMap, alloc: Global, name: &[u8]) -> Option<u32> {
-    let Ok(key) = key_of(alloc, name) else {
-        panic!(rt; "memory is refused once at most");
-    };
-    let stored = store.get(&key)?;
+/// How many values of a clock are contents.
+fn count_contents(stored: &StoredClock) -> u32 {
     let mut values = 0u32;
     for value in stored.clock.values() {
         values = values.saturating_add(u32::from(value.is_some()));
     }
-    Some(values)
+    values
+}
+
+/// How many values the key has; None where it is absent.
+fn count_of(store: &ClockMap, key: &Key) -> Option<u32> {
+    match store.get(key) {
+        None => None,
+        Some(stored) => Some(count_contents(stored)),
+    }
+}
+
+/// How many values the key of this name has; None where it is absent.
+fn count(rt: &impl Abort, store: &ClockMap, alloc: Global, name: &[u8]) -> Option<u32> {
+    match key_of(alloc, name) {
+        Ok(key) => count_of(store, &key),
+        Err(_) => panic!(rt; "memory is refused once at most"),
+    }
+}
+
+/// Whether the key of this name is dead: it is held, and has no value.
+fn is_dead(rt: &impl Abort, store: &ClockMap, alloc: Global, name: &[u8]) -> bool {
+    count(rt, store, alloc, name) == Some(0)
+}
+
+/// Whether the key of this name isn't held.
+fn is_absent(rt: &impl Abort, store: &ClockMap, alloc: Global, name: &[u8]) -> bool {
+    count(rt, store, alloc, name).is_none()
 }
 
 /// What comes of the reap of the key of this name.
@@ -132,30 +172,58 @@ fn store_of_four(rt: &impl Abort, alloc: Global) -> ClockMap {
     store
 }
 
+/// Whether a sweep takes b and leaves d, of a store whose dead keys are b and d.
+fn sweep_takes_least(rt: &impl Abort, store: &mut ClockMap, alloc: Global) -> bool {
+    is_dead(rt, store, alloc, b"b")
+        && store.forget_first_dead(None)
+        && is_absent(rt, store, alloc, b"b")
+        && is_dead(rt, store, alloc, b"d")
+}
+
+/// Whether a reap keeps a, which has a value, and takes d, the last dead key.
+fn reap_takes_dead(rt: &impl Abort, store: &mut ClockMap, alloc: Global) -> bool {
+    reap(rt, store, alloc, b"a") == Reaped::Kept
+        && reap(rt, store, alloc, b"d") == Reaped::Gone
+        && !store.has_dead(None)
+        && count(rt, store, alloc, b"c") == Some(1)
+}
+
 #[test]
 fn dead_keys_go_in_their_order(rt: HostRuntime) {
     let alloc = rt.alloc();
     let mut store = store_of_four(&rt, alloc);
-    assert!(&rt; count(&rt, &store, alloc, b"b") == Some(0));
-    assert!(&rt; store.forget_first_dead(None));
-    assert!(&rt; count(&rt, &store, alloc, b"b").is_none());
-    assert!(&rt; count(&rt, &store, alloc, b"d") == Some(0));
-    assert!(&rt; reap(&rt, &mut store, alloc, b"a") == Reaped::Kept);
-    assert!(&rt; reap(&rt, &mut store, alloc, b"d") == Reaped::Gone);
-    assert!(&rt; !store.has_dead(None));
-    assert!(&rt; count(&rt, &store, alloc, b"c") == Some(1));
+    let swept = sweep_takes_least(&rt, &mut store, alloc);
+    let reaped = reap_takes_dead(&rt, &mut store, alloc);
+    drop(store);
+    assert!(&rt; swept);
+    assert!(&rt; reaped);
+}
+
+/// Room for a tombstone of a, then a value of it beside the one that is there.
+fn write_after_room(rt: &impl Abort, store: &mut ClockMap, alloc: Global) {
+    leave_room(rt, store, alloc, b"a");
+    put(rt, store, alloc, b"a", true);
+}
+
+/// A value of b, which was dead, after the room is dropped.
+fn write_after_drop(rt: &impl Abort, store: &mut ClockMap, alloc: Global) {
+    store.drop_room();
+    put(rt, store, alloc, b"b", true);
 }
 
 #[test]
 fn room_that_no_write_used_is_no_key(rt: HostRuntime) {
     let alloc = rt.alloc();
     let mut store = store_of_four(&rt, alloc);
-    assert!(&rt; count(&rt, &store, alloc, b"e").is_none());
-    leave_room(&rt, &mut store, alloc, b"a");
-    put(&rt, &mut store, alloc, b"a", true);
-    assert!(&rt; count(&rt, &store, alloc, b"a") == Some(2));
-    store.drop_room();
-    assert!(&rt; reap(&rt, &mut store, alloc, b"e") == Reaped::Absent);
-    put(&rt, &mut store, alloc, b"b", true);
-    assert!(&rt; count(&rt, &store, alloc, b"b") == Some(1));
+    let hidden = is_absent(&rt, &store, alloc, b"e");
+    write_after_room(&rt, &mut store, alloc);
+    let siblings = count(&rt, &store, alloc, b"a");
+    write_after_drop(&rt, &mut store, alloc);
+    let gone = reap(&rt, &mut store, alloc, b"e");
+    let revived = count(&rt, &store, alloc, b"b");
+    drop(store);
+    assert!(&rt; hidden);
+    assert!(&rt; siblings == Some(2));
+    assert!(&rt; gone == Reaped::Absent);
+    assert!(&rt; revived == Some(1));
 }

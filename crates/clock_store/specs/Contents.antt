@@ -1,7 +1,7 @@
 -- What a store means: its keys, and the room that was made for one write.
 use Rattle.std.specs.Prelude.{◌≡◌, Bool, true, List, Option, Some, None}
 use Rattle.riak_msgs.specs.declared.Key.{Key}
-use Rattle.riak_msgs.specs.declared.Content.{Content}
+use Rattle.riak_msgs.specs.Contents.{Content}
 use Rattle.actor_epoch.specs.declared.Actor.{Actor}
 use Rattle.actor_epoch.specs.declared.Dot.{Dot}
 use Rattle.dvv_set.specs.Held.{Held as Clock, IsReady}

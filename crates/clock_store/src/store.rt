@@ -2,7 +2,7 @@
 
 use crate::stored_clock::StoredClock;
 use actor_epoch::{Actor, Context};
-use riak_msgs::{Content, Key};
+use riak_msgs::{BoxedContent, Key};
 use std::alloc::{AllocError, Global};
 
 /// What a write puts: a tombstone may leave its key dead, a value never does.
@@ -79,14 +79,20 @@ pub trait ClockStore: Drop {
         ensures none { (shows self.new).room ≡ None };
 
     /// Writes a value of a key where there is room for it, or a tombstone; the room is used up. It takes no memory.
-    fn write(&mut self, key: Key, seen: Option<&Context<'_>>, actor: Actor, value: Option<Content>)
+    fn write(
+        &mut self,
+        key: Key,
+        seen: Option<&Context<'_>>,
+        actor: Actor,
+        value: Option<BoxedContent>,
+    )
         requires { HasRoom (shows self.old) key (seen_in seen) actor (kind_of value) }
         ensures keys { (shows self.new).keys ≡ written (shows self.old).keys key (seen_in seen.entry) actor value }
         ensures room { (shows self.new).room ≡ None };
 
     /// Writes a value of a key, or a tombstone, in place of all its values, where there is room for it without a context;
     /// the room is used up. It takes no memory.
-    fn overwrite(&mut self, key: Key, actor: Actor, value: Option<Content>)
+    fn overwrite(&mut self, key: Key, actor: Actor, value: Option<BoxedContent>)
         requires { HasRoom (shows self.old) key None actor (kind_of value) }
         ensures keys { (shows self.new).keys ≡ overwritten (shows self.old).keys key actor value }
         ensures room { (shows self.new).room ≡ None };

@@ -9,7 +9,7 @@ ghost use Rattle.clock_store.specs.Keys.{stored_of};
 
 use actor_epoch::{Actor, Context};
 use dvv_set::Clock;
-use riak_msgs::Content;
+use riak_msgs::BoxedContent;
 use std::alloc::AllocError;
 
 /// What is stored of a key: the actor of its life, and its clock, whose live dots are its siblings, each a content or, as
@@ -23,7 +23,7 @@ pub struct StoredClock {
     /// The actor of its key's life.
     pub actor: Actor,
     /// What is known of it, and its siblings.
-    pub clock: Clock<Option<Content>>,
+    pub clock: Clock<Option<BoxedContent>>,
 }
 
 impl StoredClock {
@@ -69,7 +69,7 @@ impl StoredClock {
     }
 
     /// Writes a value in that room, or a tombstone. It takes no memory.
-    pub fn write(&mut self, seen: Option<&Context<'_>>, actor: Actor, value: Option<Content>)
+    pub fn write(&mut self, seen: Option<&Context<'_>>, actor: Actor, value: Option<BoxedContent>)
         requires { IsReady self.old.clock (seen_in seen) actor }
         ensures actor { self.new.actor ≡ actor }
         ensures clock { self.new.clock.meaning ≡ event actor value (without (seen_in seen.entry) self.old.clock.meaning) }
@@ -80,7 +80,7 @@ impl StoredClock {
 
     /// Writes a value, or a tombstone, in place of all values, in the room that was made for it without a context. It
     /// takes no memory.
-    pub fn overwrite(&mut self, actor: Actor, value: Option<Content>)
+    pub fn overwrite(&mut self, actor: Actor, value: Option<BoxedContent>)
         requires { IsReady self.old.clock None actor }
         ensures actor { self.new.actor ≡ actor }
         ensures clock { self.new.clock.meaning ≡ event actor value (discard self.old.clock.meaning.known self.old.clock.meaning) }

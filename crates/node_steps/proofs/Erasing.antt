@@ -3,7 +3,7 @@ use Rattle.std.proofs.Common.{◌≡◌, ℕ, zero, suc, ◌≤◌, true, false,
 use Rattle.std.specs.Prelude.{pred, Option, Some, None, option_map, option_and_then, slice_get, slice_set}
 use Rattle.std.specs.Option.{option_map_or}
 use Rattle.std.proofs.lemmas.Option.{slice_get-map}
-use Rattle.riak_msgs.specs.declared.Content.{Content}
+use Rattle.riak_msgs.specs.Contents.{Content}
 use Rattle.sibling_register.specs.Answers.{Ask, AskGet, AskPut, AskDel, AskReap}
 use Rattle.actor_epoch.specs.Given.{Context}
 use Rattle.vnode_machine.specs.Machine.{State}

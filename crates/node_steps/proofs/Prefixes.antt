@@ -1,6 +1,6 @@
 -- Prefixes of a history.
 use Rattle.std.proofs.Common.{[], ◌∷◌, ◌++◌, append_assoc, refl, ap}
-use Rattle.riak_msgs.specs.declared.Content.{Content}
+use Rattle.riak_msgs.specs.Contents.{Content}
 use Rattle.sibling_register.specs.History.{Event}
 use Rattle.actor_epoch.specs.Given.{Context}
 use Rattle.vnode_machine.specs.Replay.{History}

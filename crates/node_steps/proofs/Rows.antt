@@ -3,8 +3,7 @@
 use Rattle.std.proofs.Common.{◌≡◌, ℕ, List, [], ◌∷◌, false, refl}
 use Rattle.std.specs.Prelude.{None, Ok, Err, Some}
 use Rattle.riak_msgs.specs.declared.Key.{Key}
-use Rattle.riak_msgs.specs.declared.Content.{Content}
-use Rattle.riak_msgs.specs.Contents.{no_content}
+use Rattle.riak_msgs.specs.Contents.{Content, no_content}
 use Rattle.sibling_register.specs.Refusals.{bad_context}
 use Rattle.sibling_register.specs.Answers.{Ask, AskGet, AskPut, AskDel, AskReap}
 use Rattle.actor_epoch.specs.Given.{Context, Malformed}

@@ -2,7 +2,7 @@
 use Rattle.std.proofs.Common.{◌≡◌, ℕ, zero, suc, List, [], ◌∷◌, map, refl, sym, ◌∙◌, ap, subst}
 use Rattle.std.specs.Prelude.{Option, Some, None, Result as OkOrErr, Ok, Err, IfOk, OnErr, option_map, option_and_then, slice_get, slice_set, MatchOption}
 use Rattle.std.specs.Option.{option_map_or}
-use Rattle.riak_msgs.specs.declared.Content.{Content}
+use Rattle.riak_msgs.specs.Contents.{Content}
 use Rattle.sibling_register.specs.Answers.{Ask}
 use Rattle.actor_epoch.specs.Given.{Context}
 use Rattle.node_steps.specs.declared.outcome.Outcome.{Outcome as Returned}

@@ -1,7 +1,7 @@
 -- What is claimed of every schedule, claim by claim: of the world after it, and of any step from there.
 use Rattle.std.specs.Prelude.{◌≡◌, ◌≢◌, ◌⊎◌, ◌++◌, List, ◌∷◌, ℕ, not, Option, Some, None, Result, IsTrue, slice_get}
 use Rattle.riak_msgs.specs.declared.Key.{Key}
-use Rattle.riak_msgs.specs.declared.Content.{Content}
+use Rattle.riak_msgs.specs.Contents.{Content}
 use Rattle.sibling_register.specs.History.{Event, content_of}
 use Rattle.sibling_register.specs.Siblings.{siblings, is_among}
 use Rattle.sibling_register.specs.Legal.{IsLegal}

@@ -1,6 +1,6 @@
 -- A world without what no step looks at: the ids, the histories and what workers have seen of them.
 use Rattle.std.specs.Prelude.{◌≡◌, [], map}
-use Rattle.riak_msgs.specs.declared.Content.{Content}
+use Rattle.riak_msgs.specs.Contents.{Content}
 use Rattle.vnode_machine.specs.Machine.{State, opening}
 use Rattle.node_steps.specs.World.{Word, Open, Taken, Phase, Idle, Asked, Reading, Holding, Done, Vnode, Worker, World}
 use Rattle.node_steps.specs.Steps.{Step, after, outcome}

@@ -1,6 +1,6 @@
 -- What contracts see of a vnode in a hand: its state, and the plan that was made from it.
 use Rattle.std.specs.Prelude.{◌≡◌, Option, Some, None, IfSome, MatchOption}
-use Rattle.riak_msgs.specs.declared.Content.{Content}
+use Rattle.riak_msgs.specs.Contents.{Content}
 use Rattle.riak_msgs.specs.declared.GetAsk.{GetAsk}
 use Rattle.vnode_machine.specs.Asks.{get_command}
 use Rattle.vnode_machine.specs.Machine.{State}

@@ -1,6 +1,6 @@
 -- What running values are in the theorem's world, without its histories; and what a turn makes of them.
 use Rattle.std.specs.Prelude.{◌≡◌, ◌+◌, ◌<◌, ◌^◌, ℕ, Bool, List, [], map, Option, Some, None, option_map, MatchOption}
-use Rattle.riak_msgs.specs.declared.Content.{Content}
+use Rattle.riak_msgs.specs.Contents.{Content}
 use Rattle.sibling_register.specs.Answers.{Ask, AskGet, AskPut, AskDel, AskReap}
 use Rattle.actor_epoch.specs.Given.{Context}
 use Rattle.vnode_machine.specs.Asks.{get_command, put_command, del_command}

@@ -1,7 +1,7 @@
 -- The steps: where each is possible, and what it changes. A step is one worker's, and is about one vnode.
 use Rattle.std.specs.Prelude.{true, false, ◌+◌, ◌-◌, ◌∷◌, ℕ, zero, suc, pred, Option, Some, None, Result, Ok, Err, option_map, option_and_then, slice_get, slice_set}
 use Rattle.std.specs.Option.{option_map_or}
-use Rattle.riak_msgs.specs.declared.Content.{Content}
+use Rattle.riak_msgs.specs.Contents.{Content}
 use Rattle.sibling_register.specs.Answers.{Ask, AskGet}
 use Rattle.actor_epoch.specs.Given.{Context}
 use Rattle.vnode_machine.specs.Machine.{State}

@@ -1,7 +1,7 @@
 -- The world of workers and vnodes: what each of them is at one moment.
 use Rattle.std.specs.Prelude.{Bool, false, ◌+◌, ◌*◌, List, [], ◌∷◌, ℕ, zero, suc, Option, Some, None, slice_get, replicate, unwrap_or}
 use Rattle.std.specs.Option.{option_map_or}
-use Rattle.riak_msgs.specs.declared.Content.{Content}
+use Rattle.riak_msgs.specs.Contents.{Content}
 use Rattle.sibling_register.specs.History.{Operation}
 use Rattle.sibling_register.specs.Answers.{Ask, AskGet, GetCommand}
 use Rattle.actor_epoch.specs.Given.{Context}

@@ -1,4 +1,4 @@
-//! What each action makes of its worker and its vnode, but a look and a publish.
+//! The actions of a worker at its vnode, but a look and a publish.
 
 ghost use Rattle.std.specs.Prelude.{◌≡◌, false, Some};
 ghost use Rattle.node_steps.specs.Steps.{Enters, Leaves, Marks, Unmarks, Takes, Puts};

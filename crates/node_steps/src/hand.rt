@@ -32,6 +32,13 @@ impl Model for Hand {
     ghost invariant = { IsHand };
 }
 
+/// Puts a change, or none, in the place of the one before, which is let go.
+fn replace(place: &mut Option<Change>, change: Option<Change>)
+    ensures { place.new ≡ change }
+{
+    *place = change;
+}
+
 impl Hand {
     /// A vnode of which nothing is planned.
     pub(crate) fn new(vnode: Vnode) -> Hand
@@ -56,7 +63,7 @@ impl Hand {
         ensures state { self.new.state ≡ self.old.state }
         ensures plan { self.new.plan ≡ None }
     {
-        self.change = None;
+        replace(&mut self.change, None);
     }
 
     /// The answer to a get.
@@ -93,10 +100,10 @@ impl Hand {
             PlansBy (ask_outcome self.old.state ask) self.new.plan answer) }
         ensures err { IfErr result (λ fault. self.new.plan ≡ None) }
     {
-        self.change = None;
+        replace(&mut self.change, None);
         match self.vnode.prepare(alloc, ask) {
             Ok(Plan::Change(change)) => {
-                self.change = Some(change);
+                replace(&mut self.change, Some(change));
                 Ok(None)
             }
             Ok(Plan::Nothing(answer)) => Ok(Some(answered(answer))),

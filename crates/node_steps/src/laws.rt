@@ -27,7 +27,7 @@ pub fn always()
     ensures left { ValuesLeaveOnlySeen }
 {}
 
-/// A world may be kept without its history: after every schedule, what comes of any step needs the words, the states in
+/// A world may be kept without its history: after every schedule, the outcome of any step needs the words, the states in
 /// place and the phases alone, and so does what is left of them. The ids of vnodes, the histories and the prefixes that
 /// workers have seen are what the claims of [`always`] speak of, and no step looks at them; nor at the state in place
 /// while it is taken, which is in its holder's hand.
@@ -35,7 +35,7 @@ pub fn needs_no_history()
     ensures { Always NeedsNoHistory }
 {}
 
-/// What [`always`] says of histories it says of the running gate's: each run of the vnode machine from the opening state of a
+/// What [`always`] claims of histories it claims of the running gate's: each run of the vnode machine from the opening state of a
 /// vnode, which is what a gate round a new vnode keeps as its history, is the history of that vnode after some schedule, by
 /// one definition (`history_after` in `specs/Events` of `vnode_core`).
 pub fn gates_are_scheduled()

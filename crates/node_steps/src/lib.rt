@@ -10,8 +10,8 @@
 //! A vnode has its id in its own record, and is found by its index in a list, so vnodes may be added while a world runs:
 //! what is always true of a vnode (`proofs/Inside`, `IsSound`) speaks of one vnode, and is true of a fresh one.
 //!
-//! [`always`] is the theorem, over every schedule (`specs/Claims`). Its proof goes step by step: `proofs/Turns` says what a
-//! turn makes of its worker and its vnode and what comes of it, by the machine's step; `proofs/Kept` counts readers and
+//! [`always`] is the theorem, over every schedule (`specs/Claims`). Its proof goes step by step: `proofs/Turns` derives what a
+//! turn makes of its worker and its vnode, and its outcome, from the machine's step; `proofs/Kept` counts readers and
 //! holders, so that what is always true stays so; `proofs/Lifting`, `proofs/Leaving` and `proofs/Showing` draw the claims.
 //!
 //! One exchange, of three workers over one vnode (`proofs/Rows` evaluates it):

@@ -1,4 +1,4 @@
-//! What comes of a step.
+//! The outcome of a step.
 
 ghost use Rattle.std.specs.Prelude.{◌≡◌, Ok};
 ghost use Rattle.vnode_core.specs.Plans.{response_of};
@@ -8,7 +8,7 @@ ghost use Rattle.node_steps.specs.Returned.{refusal_text, returned_response};
 use riak_msgs::{Reply, Text};
 use vnode_core::{Answer, Reaped, Refusal};
 
-/// What comes of a step.
+/// The outcome of a step.
 #[derive(Debug, Drop)]
 pub enum Outcome {
     /// The step isn't possible, and nothing changed.

@@ -31,7 +31,7 @@ const FIRST_EPOCH: u32 = 1;
 ///   2 can't take the state, since 1 is inside.
 /// - 1 looks, which shows that the key is absent, and leaves. 2 takes the state, and looks: its put is planned. It publishes,
 ///   and the put is answered.
-/// - 3 can't enter until 2 has put the state back. Then it enters, looks, and is shown "v".
+/// - 3 can't enter until 2 has put the state back. Then it enters, looks, and sees "v".
 #[derive(Drop)]
 pub struct World {
     parts: Parts,
@@ -99,7 +99,7 @@ impl World {
         })
     }
 
-    /// Takes a step: what comes of it, which is `No` exactly where it isn't possible. Where memory is refused nothing changes.
+    /// Takes a step, and returns its outcome, which is `No` exactly where it isn't possible. Where memory is refused nothing changes.
     ///
     /// A look copies what it shows, and what it plans; a call is kept on the heap. All else takes no memory.
     pub fn step(&mut self, alloc: Global, step: Step) -> Result<Outcome, StepFault>
@@ -111,8 +111,8 @@ impl World {
         self.parts.step(alloc, step)
     }
 
-    /// Makes room for the outcomes, and takes the steps in their order. At a step for which memory is refused those before it
-    /// stand.
+    /// Makes room for the outcomes, and takes the steps in their order. Where memory is refused for a step those before it
+    /// are taken.
     pub fn run(&mut self, alloc: Global, steps: Vec<Step>) -> Result<Vec<Outcome>, StepFault>
         ensures ok { IfOk result (λ outcomes.
             FollowsAll self.old steps.items outcomes.items self.new) }

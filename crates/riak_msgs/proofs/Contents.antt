@@ -9,7 +9,7 @@ use Rattle.std.proofs.lemmas.Grind.{flat_map-append}
 use Rattle.pb_fields.specs.Field.{WireField}
 use Rattle.pb_fields.specs.Message.{Encodes}
 use Rattle.pb_fields.proofs.Lists.{fields_once}
-use Rattle.riak_msgs.specs.declared.content.Content.{Content}
+use Rattle.riak_msgs.specs.Contents.{Content}
 use Rattle.riak_msgs.specs.declared.pair.Pair.{Pair}
 use Rattle.riak_msgs.specs.Picking.{each_bytes, last_bytes}
 use Rattle.riak_msgs.specs.Embedded.{ContentFields, StandForContent, all_of, pair_of, link_of, content_of}

@@ -6,7 +6,7 @@ use Rattle.pb_fields.specs.Field.{WireField}
 use Rattle.pb_fields.specs.Message.{Encodes}
 use Rattle.riak_msgs.specs.declared.link.Link.{Link}
 use Rattle.riak_msgs.specs.declared.pair.Pair.{Pair}
-use Rattle.riak_msgs.specs.declared.content.Content.{Content}
+use Rattle.riak_msgs.specs.Contents.{Content}
 use Rattle.riak_msgs.specs.declared.shown.Shown.{Shown}
 use Rattle.pb_fields.specs.Encoding.{bytes_field, optional_field, repeated_field}
 use Rattle.riak_msgs.specs.Encoding.{link_message, pair_message, content_message, shown_message}

@@ -6,7 +6,7 @@ use Rattle.std.specs.List.{AllZip, cons_option}
 use Rattle.std.proofs.lemmas.List.{map-append}
 use Rattle.pb_fields.specs.Field.{WireField}
 use Rattle.pb_fields.proofs.Lists.{fields_once}
-use Rattle.riak_msgs.specs.declared.content.Content.{Content}
+use Rattle.riak_msgs.specs.Contents.{Content}
 use Rattle.riak_msgs.specs.declared.shown.Shown.{Shown}
 use Rattle.riak_msgs.specs.Picking.{bytes_at, each_bytes, flag_of}
 use Rattle.riak_msgs.specs.Embedded.{ContentFields, StandForContent, all_of, content_of, shown_of}

@@ -3,7 +3,7 @@ use Rattle.std.proofs.Common.{◌≡◌, Option, Some, None, unwrap_or, Bool, tr
 use Rattle.riak_msgs.specs.declared.fault.MsgFault.{MsgFault}
 use Rattle.riak_msgs.specs.declared.fault.MsgFault.TheVariants.{MissingField}
 use Rattle.riak_msgs.specs.Contents.{no_content}
-use Rattle.riak_msgs.specs.declared.content.Content.{Content}
+use Rattle.riak_msgs.specs.Contents.{Content}
 use Rattle.riak_msgs.specs.Picking.{last_bytes}
 use Rattle.riak_msgs.specs.Embedded.{content_of}
 use Rattle.riak_msgs.specs.Reading.{PutFields, put_fault}

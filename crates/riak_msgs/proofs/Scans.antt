@@ -5,7 +5,7 @@ use Rattle.pb_fields.specs.Field.{WireField}
 use Rattle.pb_fields.specs.Merging.{MergesAll, RefusesOne, Tracks}
 use Rattle.pb_fields.specs.Message.{Encodes}
 use Rattle.pb_fields.proofs.Merging.{MergesAll-tracks}
-use Rattle.riak_msgs.specs.declared.content.Content.{Content}
+use Rattle.riak_msgs.specs.Contents.{Content}
 use Rattle.riak_msgs.specs.declared.content_view.ContentView.{ContentView}
 use Rattle.riak_msgs.specs.declared.fault.MsgFault.{MsgFault}
 use Rattle.riak_msgs.specs.declared.fault.MsgFault.TheVariants.{NoMemory}

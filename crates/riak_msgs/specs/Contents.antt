@@ -1,9 +1,9 @@
--- Contents without values.
+-- Contents without values, and tombstones.
 use Rattle.std.specs.Prelude.{[], None, true}
-use Rattle.riak_msgs.specs.declared.content.Content.{Content}
+pub use Rattle.riak_msgs.specs.Content.{Content}
 use Rattle.riak_msgs.specs.declared.shown.Shown.{Shown}
 
--- an empty value of which nothing is said
+-- an empty value without details
 abbrev pub no_content : Content
 no_content = record {
   value = [];

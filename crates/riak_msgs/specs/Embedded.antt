@@ -5,7 +5,7 @@ use Rattle.pb_fields.specs.Field.{WireField}
 use Rattle.pb_fields.specs.Message.{Encodes}
 use Rattle.riak_msgs.specs.declared.link.Link.{Link}
 use Rattle.riak_msgs.specs.declared.pair.Pair.{Pair}
-use Rattle.riak_msgs.specs.declared.content.Content.{Content}
+use Rattle.riak_msgs.specs.Contents.{Content}
 use Rattle.riak_msgs.specs.declared.shown.Shown.{Shown}
 use Rattle.riak_msgs.specs.Picking.{each_bytes, last_bytes, flag_of}
 

@@ -1,5 +1,6 @@
 pub mod BucketTypes
 pub mod KeyOrder
+pub mod Content
 pub mod Contents
 pub mod Text
 pub mod Encoding
@@ -8,6 +9,7 @@ pub mod Requests
 pub mod Picking
 pub mod Embedded
 pub mod Seen
+pub mod SeenContents
 pub mod SeenRequests
 pub mod Reading
 pub mod ReadingReplies

@@ -6,7 +6,7 @@ use Rattle.riak_msgs.specs.declared.read_get.GetView.{GetView}
 use Rattle.riak_msgs.specs.declared.read_put.PutFlags.{PutFlags}
 use Rattle.riak_msgs.specs.declared.read_put.PutView.{PutView}
 use Rattle.riak_msgs.specs.declared.read_del.DelView.{DelView}
-use Rattle.riak_msgs.specs.declared.content.Content.{Content}
+use Rattle.riak_msgs.specs.Contents.{Content}
 use Rattle.riak_msgs.specs.declared.fault.MsgFault.{MsgFault}
 use Rattle.riak_msgs.specs.declared.fault.MsgFault.TheVariants.{NoMemory}
 use Rattle.riak_msgs.specs.Picking.{bytes_at, each_bytes, last_bytes, flag_of}

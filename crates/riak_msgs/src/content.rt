@@ -1,118 +1,171 @@
 //! What is stored under a key.
 
 ghost use Rattle.riak_msgs.specs.Encoding.{content_message};
-ghost use Rattle.std.specs.Prelude.{◌≡◌, IfOk};
+ghost use Rattle.std.specs.Prelude.{◌≡◌, IfOk, option_copied};
+ghost use Rattle.riak_msgs.specs.Content.{content_with};
 ghost use Rattle.riak_msgs.specs.Contents.{bare, no_content};
 
 use crate::bytes::Bytes;
-use crate::encode::encode_optional;
+use crate::details::Details;
 use crate::link::Link;
 use crate::pair::Pair;
-use crate::sequence::Sequence;
-use crate::try_clone::try_clone_option;
-use pb_fields::{Message, Output, encode_repeated};
+use pb_fields::{Message, Output};
 use std::alloc::{AllocError, Global};
+use std::marker::Model;
 
-/// What a client stores under a key: a value, and what it says of it. All is kept as it came.
+/// What a client stores under a key: a value, and its details. All is kept as it came.
+///
+/// The details lie together in a place of their own on the heap, which a content without details doesn't have. Contracts see the
+/// record of the value and each detail.
 ///
 /// Source: `RpbContent` of `riak_kv.proto`, without the tag and times that a server writes.
 #[derive(Debug, Drop)]
 pub struct Content {
-    pub value: Bytes,
-    pub content_type: Option<Bytes>,
-    pub charset: Option<Bytes>,
-    pub content_encoding: Option<Bytes>,
-    pub links: Sequence<Link>,
-    pub usermeta: Sequence<Pair>,
-    pub indexes: Sequence<Pair>,
+    value: Bytes,
+    details: Option<Box<Details>>,
 }
 
-/// A content type, a charset and an encoding.
-type Labels = (Option<Bytes>, Option<Bytes>, Option<Bytes>);
+impl Model for Content {
+    ghost use Rattle.std.specs.Option.{option_map_or};
+    ghost use Rattle.riak_msgs.specs.Content.{Content, content_with, no_details};
 
-/// Links, metadata and indexes.
-type Parts = (Sequence<Link>, Sequence<Pair>, Sequence<Pair>);
+    ghost Value = { Content };
+
+    ghost view = { λ c. content_with c.value (option_map_or (λ b. b.value) c.details no_details) };
+}
 
 impl Content {
-    /// An empty value of which nothing is said. It takes no memory.
+    /// An empty value without details. It takes no memory.
     pub fn new(alloc: Global) -> Content
         ensures { result ≡ no_content }
     {
+        Content::plain(Bytes::new(alloc))
+    }
+
+    /// A value without details, which is kept as it is. It takes no memory.
+    pub fn plain(value: Bytes) -> Content
+        ensures { result ≡ record no_content { value = value } }
+    {
         Content {
-            value: Bytes::new(alloc),
-            content_type: None,
-            charset: None,
-            content_encoding: None,
-            links: Sequence::new(alloc),
-            usermeta: Sequence::new(alloc),
-            indexes: Sequence::new(alloc),
+            value,
+            details: None,
         }
     }
 
-    /// A value of which nothing is said.
-    pub(crate) fn of_value(alloc: Global, value: &[u8]) -> Result<Content, AllocError>
+    /// A copy of a value, without details.
+    pub fn of_value(alloc: Global, value: &[u8]) -> Result<Content, AllocError>
         ensures { IfOk result (λ content. content ≡ record no_content { value = value.now }) }
     {
+        Ok(Content::plain(Bytes::from_slice(alloc, value)?))
+    }
+
+    /// A value with these details, both kept as they are. It takes one place on the heap. Where memory is refused both are let go.
+    pub fn with_details(
+        alloc: Global,
+        value: Bytes,
+        details: Details,
+    ) -> Result<Content, AllocError>
+        ensures { IfOk result (λ content. content ≡ content_with value details) }
+    {
+        let details = Box::new(alloc, details)?;
         Ok(Content {
-            value: Bytes::from_slice(alloc, value)?,
-            content_type: None,
-            charset: None,
-            content_encoding: None,
-            links: Sequence::new(alloc),
-            usermeta: Sequence::new(alloc),
-            indexes: Sequence::new(alloc),
+            value,
+            details: Some(details),
         })
+    }
+
+    /// The value's bytes.
+    pub fn value(&self) -> &Bytes
+        ensures { result.now ≡ self.now.value }
+    {
+        &self.value
+    }
+
+    /// The content type, where it is given.
+    pub fn content_type(&self) -> Option<&Bytes>
+        ensures { option_copied result ≡ self.now.content_type }
+    {
+        match &self.details {
+            Some(details) => details.content_type.as_ref(),
+            None => None,
+        }
+    }
+
+    /// The charset, where it is given.
+    pub fn charset(&self) -> Option<&Bytes>
+        ensures { option_copied result ≡ self.now.charset }
+    {
+        match &self.details {
+            Some(details) => details.charset.as_ref(),
+            None => None,
+        }
+    }
+
+    /// The encoding, where it is given.
+    pub fn content_encoding(&self) -> Option<&Bytes>
+        ensures { option_copied result ≡ self.now.content_encoding }
+    {
+        match &self.details {
+            Some(details) => details.content_encoding.as_ref(),
+            None => None,
+        }
+    }
+
+    /// The links, in their order.
+    pub fn links(&self) -> &[Link]
+        ensures { result.now ≡ self.now.links }
+    {
+        match &self.details {
+            Some(details) => details.links.as_slice(),
+            None => &[],
+        }
+    }
+
+    /// The pairs of the metadata, in their order.
+    pub fn usermeta(&self) -> &[Pair]
+        ensures { result.now ≡ self.now.usermeta }
+    {
+        match &self.details {
+            Some(details) => details.usermeta.as_slice(),
+            None => &[],
+        }
+    }
+
+    /// The pairs of the indexes, in their order.
+    pub fn indexes(&self) -> &[Pair]
+        ensures { result.now ≡ self.now.indexes }
+    {
+        match &self.details {
+            Some(details) => details.indexes.as_slice(),
+            None => &[],
+        }
     }
 
     /// A copy.
     pub fn clone(&self, alloc: Global) -> Result<Content, AllocError>
         ensures { IfOk result (λ copy. copy ≡ self.now) }
     {
-        let mut copy = self.clone_head(alloc)?;
-        copy.value = self.value.clone(alloc)?;
-        Ok(copy)
+        self.clone_details(alloc, self.value.clone(alloc)?)
     }
 
     /// A copy with an empty value: the value's bytes are neither copied nor given room.
     pub fn clone_head(&self, alloc: Global) -> Result<Content, AllocError>
         ensures { IfOk result (λ copy. copy ≡ bare self.now) }
     {
-        let (content_type, charset, content_encoding) = self.clone_labels(alloc)?;
-        let (links, usermeta, indexes) = self.clone_parts(alloc)?;
-        Ok(Content {
-            value: Bytes::new(alloc),
-            content_type,
-            charset,
-            content_encoding,
-            links,
-            usermeta,
-            indexes,
-        })
+        self.clone_details(alloc, Bytes::new(alloc))
     }
 
-    /// Copies of the content type, the charset and the encoding. (Apart from the others, since each value that is held at a
-    /// `?` costs the prover time.)
-    fn clone_labels(&self, alloc: Global) -> Result<Labels, AllocError>
-        ensures { IfOk result (λ r. (r.0 ≡ self.now.content_type) × (r.1 ≡ self.now.charset)
-            × (r.2 ≡ self.now.content_encoding)) }
+    /// Another value with a copy of the details.
+    fn clone_details(&self, alloc: Global, value: Bytes) -> Result<Content, AllocError>
+        ensures { IfOk result (λ copy. copy ≡ record self.now { value = value }) }
     {
-        Ok((
-            try_clone_option(&self.content_type, alloc)?,
-            try_clone_option(&self.charset, alloc)?,
-            try_clone_option(&self.content_encoding, alloc)?,
-        ))
-    }
-
-    /// Copies of the links, the metadata and the indexes.
-    fn clone_parts(&self, alloc: Global) -> Result<Parts, AllocError>
-        ensures { IfOk result (λ r. (r.0 ≡ self.now.links) × (r.1 ≡ self.now.usermeta)
-            × (r.2 ≡ self.now.indexes)) }
-    {
-        Ok((
-            self.links.clone(alloc)?,
-            self.usermeta.clone(alloc)?,
-            self.indexes.clone(alloc)?,
-        ))
+        match &self.details {
+            Some(details) => {
+                let details: &Details = details;
+                Content::with_details(alloc, value, details.clone(alloc)?)
+            }
+            None => Ok(Content::plain(value)),
+        }
     }
 }
 
@@ -122,11 +175,9 @@ impl Message for Content {
     #[inline(always)]
     fn encode<O: Output>(&self, out: &mut O) -> Result<(), AllocError> {
         out.encode_bytes(1, self.value.as_slice())?;
-        encode_optional(out, 2, &self.content_type)?;
-        encode_optional(out, 3, &self.charset)?;
-        encode_optional(out, 4, &self.content_encoding)?;
-        encode_repeated(out, 6, self.links.as_slice())?;
-        encode_repeated(out, 9, self.usermeta.as_slice())?;
-        encode_repeated(out, 10, self.indexes.as_slice())
+        match &self.details {
+            Some(details) => details.encode(out),
+            None => Ok(()),
+        }
     }
 }

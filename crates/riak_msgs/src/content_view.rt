@@ -1,13 +1,16 @@
 //! What a walk over a content's fields sees, without memory; and the content that is then copied out of them.
 
-ghost use Rattle.std.specs.Prelude.{◌≡◌, ◌∷◌, [], IfOk, IfErr, OnOk, OnErr, is_some};
+ghost use Rattle.std.specs.Prelude.{◌≡◌, ◌∷◌, [], IfOk, IfErr, OnOk, OnErr, is_some, None, false, option_copied};
 ghost use Rattle.pb_fields.specs.Field.{byte_string};
 ghost use Rattle.riak_msgs.specs.Embedded.{ContentFields, StandForContent, content_of};
+ghost use Rattle.riak_msgs.specs.SeenContents.{content_in};
+ghost use Rattle.riak_msgs.specs.Content.{no_details};
 ghost use Rattle.riak_msgs.specs.Seen.{Copies, HoldsNone, IsSeenOf, RefusesToCopy, Sees};
 ghost use Rattle.riak_msgs.specs.Seen.{no_fields, merged, scalars_of, with_parts};
 
 use crate::bytes::Bytes;
 use crate::content::Content;
+use crate::details::Details;
 use crate::fault::MsgFault;
 use crate::pairs_and_links::{PairView, copied, copy_link, copy_pair};
 use crate::sequence::Sequence;
@@ -89,13 +92,49 @@ impl<'a> ContentView<'a> {
         self.value.is_some() && !self.misses_key
     }
 
+    /// Whether a content type, a charset or an encoding was seen.
+    fn has_labels(&self) -> bool
+        ensures { result ≡ false → (option_copied self.now.content_type ≡ None)
+            × (option_copied self.now.charset ≡ None)
+            × (option_copied self.now.content_encoding ≡ None) }
+    {
+        self.content_type.is_some() || self.charset.is_some() || self.content_encoding.is_some()
+    }
+
     /// A copy of the scalars.
     pub(crate) fn scalars(&self, alloc: Global) -> Result<Content, AllocError>
         ensures { (c : ContentFields) → IsSeenOf self.now c
             → IfOk result (λ content. content ≡ scalars_of c) }
     {
-        Ok(Content {
-            value: Bytes::from_slice(alloc, self.value.unwrap_or(&[]))?,
+        if !self.has_labels() {
+            return Content::of_value(alloc, self.value.unwrap_or(&[]));
+        }
+        self.parts_copy(alloc)?.content()
+    }
+
+    /// A copy of the scalars, to which links and pairs can be added.
+    pub(crate) fn parts_copy(&self, alloc: Global) -> Result<PartsCopy, AllocError>
+        ensures { (c : ContentFields) → IsSeenOf self.now c
+            → IfOk result (λ copy. content_in copy ≡ scalars_of c) }
+    {
+        let value = Bytes::from_slice(alloc, self.value.unwrap_or(&[]))?;
+        let details = self.labels(alloc)?;
+        Ok(PartsCopy {
+            alloc,
+            value,
+            details,
+        })
+    }
+
+    /// A copy of the content type, the charset and the encoding.
+    fn labels(&self, alloc: Global) -> Result<Details, AllocError>
+        ensures { IfOk result (λ details. details ≡ record no_details {
+          content_type = option_copied self.now.content_type;
+          charset = option_copied self.now.charset;
+          content_encoding = option_copied self.now.content_encoding;
+        }) }
+    {
+        Ok(Details {
             content_type: copied(alloc, self.content_type)?,
             charset: copied(alloc, self.charset)?,
             content_encoding: copied(alloc, self.content_encoding)?,
@@ -131,13 +170,23 @@ impl<'a> Merge<'a> for ContentView<'a> {
 #[derive(Drop)]
 pub(crate) struct PartsCopy {
     pub(crate) alloc: Global,
-    pub(crate) content: Content,
+    pub(crate) value: Bytes,
+    pub(crate) details: Details,
+}
+
+impl PartsCopy {
+    /// The content, whole.
+    pub(crate) fn content(self) -> Result<Content, AllocError>
+        ensures { IfOk result (λ content. content ≡ content_in self) }
+    {
+        Content::with_details(self.alloc, self.value, self.details)
+    }
 }
 
 impl<'a> Merge<'a> for PartsCopy {
     type Fault = MsgFault;
 
-    ghost merges = { λ before field after. Copies before.content field after.content };
+    ghost merges = { λ before field after. Copies (content_in before) field (content_in after) };
 
     ghost refuses = { RefusesToCopy };
 
@@ -146,9 +195,9 @@ impl<'a> Merge<'a> for PartsCopy {
             return Ok(());
         };
         match field.number {
-            6 => copy_link(self.alloc, bytes, &mut self.content.links),
-            9 => copy_pair(self.alloc, bytes, &mut self.content.usermeta),
-            10 => copy_pair(self.alloc, bytes, &mut self.content.indexes),
+            6 => copy_link(self.alloc, bytes, &mut self.details.links),
+            9 => copy_pair(self.alloc, bytes, &mut self.details.usermeta),
+            10 => copy_pair(self.alloc, bytes, &mut self.details.indexes),
             _ => Ok(()),
         }
     }
@@ -159,7 +208,7 @@ impl<'a> Merge<'a> for PartsCopy {
 /// The occurrence was seen before, so only memory can be refused.
 pub(crate) fn copy_parts(bytes: &[u8], copy: &mut PartsCopy) -> Result<(), MsgFault>
     ensures ok { OnOk result ((part : ContentFields) × StandForContent (bytes.now ∷ []) part
-        × (copy.new.content ≡ with_parts copy.old.content part)) }
+        × (content_in copy.new ≡ with_parts (content_in copy.old) part)) }
     ensures err { (part : ContentFields) → StandForContent (bytes.now ∷ []) part
         → IfErr result (λ fault. fault ≡ MsgFault.NoMemory) }
 {

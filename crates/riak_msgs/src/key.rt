@@ -39,7 +39,7 @@ impl Key {
         })
     }
 
-    /// Whether two keys are one: what `==` answers, said by their bytes.
+    /// Whether two keys are one: what `==` answers, by their bytes.
     pub fn is_same(&self, other: &Key) -> bool
         ensures value { result ≡ key_eq self.now other.now }
         ensures same { IsTrue result ↔ (self.now ≡ other.now) }

@@ -7,7 +7,7 @@ ghost use Rattle.riak_msgs.specs.declared.request.Request.{Request};
 ghost use Rattle.riak_msgs.specs.declared.fault.MsgFault.{MsgFault};
 ghost use Rattle.riak_msgs.specs.Reading.{Decodes};
 
-/// A law: a message says one thing, a request or a fault.
+/// A law: a message decodes to one request, or to one fault.
 pub fn messages_say_one()
     ensures { (code : ℕ) (body : List ℕ) (a b : Result Request MsgFault) → Decodes code body a
         → Decodes code body b → a ≡ b }

@@ -1,9 +1,17 @@
-//! The messages of Riak's Protocol Buffers client API: what a client asks and is told, and their bytes.
+//! The messages of Riak's Protocol Buffers client API: requests, replies, and their bytes.
 //!
-//! A message says a request, or a reply, as a function of its list of fields (`Decodes`, `DecodesReply`): the last occurrence
+//! ```text
+//! write_request(alloc, &Request::Get(GetAsk::plain(alloc, b"b", b"k")?))  09 0a 01 62 12 01 6b
+//! read_request(alloc, 9, b"\x0a\x01b\x12\x01k")                           Request::Get of bucket b, key k
+//! read_request(alloc, 9, b"\x0a\x01b")                                    MsgFault::MissingField
+//! write_reply(alloc, &Reply::Error(Text::NotFound))                       00 0a 08 "notfound" 10 01
+//! Content::of_value(alloc, b"v")?.value().as_slice()                      "v"
+//! ```
+//!
+//! A message decodes to a request, or to a reply, as a function of its list of fields (`Decodes`, `DecodesReply`): the last occurrence
 //! of a scalar, all of a repeated field in their order, the content of a put merged over its occurrences; everything else
-//! is skipped. Where it says none, the first fault that holds is told. It says one thing ([`messages_say_one`],
-//! [`replies_say_one`]), which [`read_request`] and [`read_reply`] give. Quorum and timeout fields are skipped.
+//! is skipped. Where it decodes to none, the result is the first fault that holds. The result is unique ([`messages_say_one`],
+//! [`replies_say_one`]), and [`read_request`] and [`read_reply`] return it. Quorum and timeout fields are skipped.
 //!
 //! Each reply, and each request of a client, has one encoding (`reply_body`, `request_body`): fields by rising number,
 //! every varint in its shortest form, a true as 1, and nothing for what is absent or false. [`write_reply`] and
@@ -15,8 +23,9 @@
 //! some. Writing counts the bytes first and takes one buffer of that size. Both take time linear in the bytes. What is called
 //! for each field is marked `inline(always)`, a hint to LLVM, since its results are wide.
 //!
-//! Contracts see [`Bytes`], [`BucketType`] and [`Sequence`] as lists, so a request, a reply and all within them are plain
-//! data. A message is written down once, as the fields that it encodes to a [`pb_fields::Output`]. Keys are ordered by
+//! Contracts see [`Bytes`], [`BucketType`] and [`Sequence`] as lists and [`Content`] as a record, so a request, a reply and all
+//! within them are plain data. A content's [`Details`], which most have none of, lie behind one pointer, and the content of a put
+//! lies behind another ([`BoxedContent`]), so that moving a request moves few bytes. A message is written down once, as the fields that it encodes to a [`pb_fields::Output`]. Keys are ordered by
 //! `key_cmp` ([`keys_are_ordered`]). What holds bytes is copied by an inherent `clone`, which takes the allocator and may
 //! be refused.
 //!
@@ -24,11 +33,13 @@
 //! `riak.proto`, and the Protocol Buffers encoding.
 #![tactic(auto)]
 
+mod boxed_content;
 mod bucket_type;
 mod bytes;
 mod content;
 mod content_view;
 mod del;
+mod details;
 mod encode;
 mod fault;
 mod field_access;
@@ -54,10 +65,12 @@ mod shown;
 mod text;
 mod try_clone;
 
+pub use boxed_content::BoxedContent;
 pub use bucket_type::{BucketType, DEFAULT_TYPE};
 pub use bytes::Bytes;
 pub use content::Content;
 pub use del::DelAsk;
+pub use details::Details;
 pub use fault::MsgFault;
 pub use get::{GetAsk, GetReply};
 pub use key::Key;

@@ -4,8 +4,8 @@ ghost use Rattle.std.specs.Prelude.{◌≡◌, IfOk, OnOk};
 ghost use Rattle.riak_msgs.specs.Replies.{put_reply_body};
 ghost use Rattle.riak_msgs.specs.Requests.{plain_put, put_body, put_options};
 
+use crate::boxed_content::BoxedContent;
 use crate::bytes::Bytes;
-use crate::content::Content;
 use crate::encode::{encode_context, encode_type};
 use crate::key::Key;
 use crate::sequence::Sequence;
@@ -21,7 +21,7 @@ pub struct PutAsk {
     pub key: Key,
     /// What the writer has seen. No bytes are no context.
     pub context: Bytes,
-    pub content: Content,
+    pub content: BoxedContent,
     /// The siblings after the put are shown.
     pub return_body: bool,
     /// The siblings after the put are shown with empty values.
@@ -33,7 +33,7 @@ pub struct PutAsk {
 }
 
 impl PutAsk {
-    /// Asks to write a value of which nothing is said, under a key of the default type, after what the context has
+    /// Asks to write a value without details, under a key of the default type, after what the context has
     /// seen, without options. No bytes are no context.
     pub fn plain(
         alloc: Global,
@@ -47,7 +47,7 @@ impl PutAsk {
         Ok(PutAsk {
             key: Key::of_default_type(alloc, bucket, key)?,
             context: Bytes::from_slice(alloc, context)?,
-            content: Content::of_value(alloc, value)?,
+            content: BoxedContent::of_value(alloc, value)?,
             return_body: false,
             return_head: false,
             if_not_modified: false,
@@ -73,7 +73,7 @@ impl Message for PutAsk {
         out.encode_bytes(1, self.key.bucket.as_slice())?;
         out.encode_bytes(2, self.key.key.as_slice())?;
         encode_context(out, 3, &self.context)?;
-        encode_message(out, 4, &self.content)?;
+        encode_message(out, 4, self.content.as_content())?;
         self.encode_options(out)?;
         encode_type(out, 16, &self.key.bucket_type)
     }

@@ -21,7 +21,7 @@ const CONTEXT: u32 = 4;
 
 const BUCKET_TYPE: u32 = 13;
 
-/// The delete that a body says.
+/// Decodes the body of a delete.
 pub(crate) fn read_del(alloc: Global, body: &[u8]) -> Result<Request, MsgFault>
     ensures { Reads 13 body.now result }
 {

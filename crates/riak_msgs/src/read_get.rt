@@ -25,7 +25,7 @@ const DELETED_VCLOCK: u32 = 9;
 
 const BUCKET_TYPE: u32 = 13;
 
-/// The get that a body says.
+/// Decodes the body of a get.
 pub(crate) fn read_get(alloc: Global, body: &[u8]) -> Result<Request, MsgFault>
     ensures { Reads 9 body.now result }
 {

@@ -5,9 +5,11 @@ ghost use Rattle.pb_fields.specs.Field.{WireField, seen};
 ghost use Rattle.pb_fields.specs.Merging.{Tracks};
 ghost use Rattle.riak_msgs.specs.Reading.{PutFields, EncodesPut, Reads, put_fault, put_of};
 ghost use Rattle.riak_msgs.specs.Seen.{scalars_of, with_parts};
+ghost use Rattle.riak_msgs.specs.SeenContents.{content_in};
 ghost use Rattle.riak_msgs.specs.SeenRequests.{AreFlagsOf, CopiesOccurrence, HasBadContent, HasSeenPut, IsSeenPutOf};
 ghost use Rattle.riak_msgs.specs.SeenRequests.{RefusesOccurrence, no_put};
 
+use crate::boxed_content::BoxedContent;
 use crate::bytes::Bytes;
 use crate::content::Content;
 use crate::content_view::{ContentView, PartsCopy, copy_parts};
@@ -77,7 +79,7 @@ impl PutFlags {
     }
 }
 
-/// The put that a body says.
+/// Decodes the body of a put.
 pub(crate) fn read_put(alloc: Global, body: &[u8]) -> Result<Request, MsgFault>
     ensures { Reads 11 body.now result }
 {
@@ -139,7 +141,7 @@ impl<'a> PutView<'a> {
         Ok(PutAsk {
             key: self.names.key(alloc)?,
             context: Bytes::from_slice(alloc, self.context.unwrap_or(&[]))?,
-            content: self.content(alloc, body)?,
+            content: BoxedContent::new(alloc, self.content(alloc, body)?)?,
             return_body: self.flags.return_body,
             return_head: self.flags.return_head,
             if_not_modified: self.flags.if_not_modified,
@@ -154,11 +156,10 @@ impl<'a> PutView<'a> {
         ensures err { (put : PutFields) → IsSeenPutOf self.now put → EncodesPut body.now put
             → IfErr result (λ fault. fault ≡ MsgFault.NoMemory) }
     {
-        let content = self.content.scalars(alloc)?;
         if self.content.has_parts {
-            copy_contents(alloc, body, content)
+            copy_contents(body, self.content.parts_copy(alloc)?)
         } else {
-            Ok(content)
+            Ok(self.content.scalars(alloc)?)
         }
     }
 }
@@ -191,7 +192,7 @@ impl<'a> Merge<'a> for PutCopy {
     type Fault = MsgFault;
 
     ghost merges = { λ before field after.
-        CopiesOccurrence before.parts.content field after.parts.content };
+        CopiesOccurrence (content_in before.parts) field (content_in after.parts) };
 
     ghost refuses = { RefusesOccurrence };
 
@@ -206,15 +207,13 @@ impl<'a> Merge<'a> for PutCopy {
 /// The content with the links and pairs of all its occurrences in a put's body behind its own.
 ///
 /// The body was seen before, so only memory can be refused.
-fn copy_contents(alloc: Global, body: &[u8], content: Content) -> Result<Content, MsgFault>
+fn copy_contents(body: &[u8], parts: PartsCopy) -> Result<Content, MsgFault>
     ensures ok { (put : PutFields) → EncodesPut body.now put
-        → IfOk result (λ copied. copied ≡ with_parts content put.content) }
+        → IfOk result (λ copied. copied ≡ with_parts (content_in parts) put.content) }
     ensures err { (put : PutFields) → EncodesPut body.now put
         → IfErr result (λ fault. fault ≡ MsgFault.NoMemory) }
 {
-    let mut copy = PutCopy {
-        parts: PartsCopy { alloc, content },
-    };
+    let mut copy = PutCopy { parts };
     scan(body, &mut copy)?;
-    Ok(copy.parts.content)
+    Ok(copy.parts.content()?)
 }

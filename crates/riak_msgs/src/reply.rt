@@ -13,7 +13,7 @@ use std::alloc::{AllocError, Global};
 /// The one number that errors have here.
 const ERROR_NUMBER: u64 = 1;
 
-/// What a client is told: the response to a request.
+/// The response to a request.
 #[derive(Debug, Drop)]
 pub enum Reply {
     Error(Text),

@@ -10,7 +10,7 @@ ghost use Rattle.riak_msgs.specs.SeenReplies.{whole_of};
 
 use crate::bytes::Bytes;
 use crate::content::Content;
-use crate::content_view::{ContentView, PartsCopy, copy_parts};
+use crate::content_view::{ContentView, copy_parts};
 use crate::fault::MsgFault;
 use crate::field_access::{bytes_at, flag_at, varint_at};
 use crate::get::GetReply;
@@ -22,7 +22,7 @@ use crate::text::text_named;
 use pb_fields::{Field, FieldFault, Merge, scan};
 use std::alloc::Global;
 
-/// The reply that a message says, for a client: of its code and the body behind it.
+/// Decodes a reply, for a client: of its code and the body behind it.
 ///
 /// Of a body's fields those of other numbers or wire types are skipped, and of a scalar the last counts. The body of a
 /// reply to a ping or a delete isn't looked at.
@@ -76,7 +76,7 @@ impl<'a> Merge<'a> for ErrorView<'a> {
     }
 }
 
-// The error that a body says.
+/// Decodes the body of an error.
 fn read_error(body: &[u8]) -> Result<Reply, MsgFault>
     ensures { DecodesError body.now result }
 {
@@ -168,16 +168,15 @@ fn copied_content(alloc: Global, bytes: &[u8], view: ContentView<'_>) -> Result<
     ensures { (c : ContentFields) → IsSeenOf view.entry c → StandForContent (bytes.now ∷ []) c
         → IfOk result (λ content. content ≡ with_parts (scalars_of c) c) }
 {
-    let content = view.scalars(alloc)?;
     if !view.has_parts {
-        return Ok(content);
+        return Ok(view.scalars(alloc)?);
     }
-    let mut copy = PartsCopy { alloc, content };
+    let mut copy = view.parts_copy(alloc)?;
     copy_parts(bytes, &mut copy)?;
-    Ok(copy.content)
+    Ok(copy.content()?)
 }
 
-// The reply to a get that a body says; of a reply to a put the flag isn't used.
+/// Decodes the body of a reply to a get; of a reply to a put the flag isn't used.
 fn read_shown(alloc: Global, body: &[u8]) -> Result<GetReply, MsgFault>
     ensures { ReadsShown body.now result }
 {

@@ -20,7 +20,7 @@ pub enum Request {
     Del(DelAsk),
 }
 
-/// The request that a message says.
+/// Decodes the request of a message.
 ///
 /// Code 1 is a ping, whatever its body; 9 is a get (`RpbGetReq`), 11 a put (`RpbPutReq`), 13 a delete (`RpbDelReq`). The
 /// fields of a body come in any order. Those of other numbers and those of another wire type are skipped, and so are
@@ -36,7 +36,7 @@ pub enum Request {
 ///   key.
 /// - `EmptyName`: a bucket, key or bucket type is given with no bytes.
 /// - `NoKey`: a put names no key, and none is made up for it.
-/// - `NoMemory`: memory was refused; all others are told without taking any.
+/// - `NoMemory`: memory was refused; all others are found without taking any.
 ///
 /// Bodies are walked over as they lie, and what is kept is copied once; the time is linear in the bytes. Sources:
 /// `riak_kv.proto` of Riak's Protocol Buffers client API, and the Protocol Buffers encoding.

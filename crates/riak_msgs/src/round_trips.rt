@@ -8,7 +8,7 @@ ghost use Rattle.riak_msgs.specs.Requests.{HasNames, request_body, request_code}
 ghost use Rattle.riak_msgs.specs.declared.reply.Reply.{Reply};
 ghost use Rattle.riak_msgs.specs.declared.request.Request.{Request};
 
-/// A law: the encoding of a request whose names have bytes says this request.
+/// A law: the encoding of a request whose names have bytes decodes to this request.
 ///
 /// Its body is shorter than 2^64 bytes, so that each length in it has a varint.
 pub fn requests_are_read_again()
@@ -16,7 +16,7 @@ pub fn requests_are_read_again()
         → Decodes (request_code q) (request_body q) (Ok q) }
 {}
 
-/// A law: the encoding of a reply says this reply.
+/// A law: the encoding of a reply decodes to this reply.
 ///
 /// Its body is shorter than 2^64 bytes, so that each length in it has a varint.
 pub fn replies_are_read_again()

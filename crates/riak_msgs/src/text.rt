@@ -5,7 +5,7 @@ ghost use Rattle.std.specs.Str.{bytes_eq};
 ghost use Rattle.riak_msgs.specs.ReadingReplies.{text_named};
 ghost use Rattle.riak_msgs.specs.Text.{text_bytes};
 
-/// Why a request was refused or a stream ended, as the client is told.
+/// The error message of a reply: why a request was refused or a stream ended.
 #[derive(Clone, Copy, Debug, Drop, PartialEq, Eq)]
 pub enum Text {
     UnknownCode,

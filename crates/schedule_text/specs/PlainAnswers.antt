@@ -1,6 +1,6 @@
 -- What a plain register answers to a request whose context is named by a position.
 use Rattle.std.specs.Prelude.{◌≡◌, ℕ, List, Option}
-use Rattle.riak_msgs.specs.declared.content.Content.{Content}
+use Rattle.riak_msgs.specs.Contents.{Content}
 use Rattle.riak_msgs.specs.declared.request.Request.{Request}
 use Rattle.riak_msgs.specs.declared.request.Request.TheVariants as requests
 use Rattle.riak_msgs.specs.declared.get.GetAsk.{GetAsk}

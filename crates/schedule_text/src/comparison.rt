@@ -18,7 +18,7 @@ struct Indexed {
 
 /// The comparison of a run with [plain registers](sibling_register::PlainRegister), one for each vnode.
 ///
-/// It is told of each answered get, put, delete and reap, in the order in which they were answered, and asks the register
+/// It takes each answered get, put, delete and reap, in the order in which they were answered, and asks the register
 /// of the vnode the same command. A context is named by the position at which a reply of this run first showed it for its
 /// key; a get's `if_modified` is a context too. A put or delete that was refused as bad context, clock full, epochs used up,
 /// counter used up or for want of memory isn't asked, since a register has no such refusals. Compared are the contents of
@@ -49,7 +49,7 @@ impl Comparison {
         self.verdict
     }
 
-    /// Tells of an answer of a vnode, by the number of the line that gave it. A request that gives a context of the right
+    /// Compares an answer of a vnode, by the number of the line that gave it. A request that gives a context of the right
     /// form that no earlier reply showed for its key ends the comparison.
     ///
     /// Refused where memory is; the comparison is then of no more use.
@@ -72,7 +72,7 @@ impl Comparison {
         Ok(())
     }
 
-    /// Tells of a reap that was answered, whether it forgot the key or kept it.
+    /// Takes a reap that was answered, whether it forgot the key or kept it.
     ///
     /// Refused where memory is; the comparison is then of no more use.
     pub fn reap(&mut self, alloc: Global, vnode: u16, key: &Key) -> Result<(), AllocError>

@@ -2,7 +2,7 @@
 
 ghost use Rattle.schedule_text.specs.Cuts.{CutsAt};
 
-/// What stands before and behind the first such byte; none where the byte doesn't occur.
+/// The texts before and behind the first such byte; none where the byte doesn't occur.
 pub(crate) fn cut_at(text: &[u8], byte: u8) -> Option<(&[u8], &[u8])>
     ensures { CutsAt byte text.now result }
 {

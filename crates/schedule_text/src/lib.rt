@@ -3,15 +3,17 @@
 //! A line is a word, one space and a worker's number in decimal; `ask` and `reap` have one more space and a request,
 //! its message code and its body, in lower-case hexadecimal. [`read_line`] reads one as the step that it asks for
 //! (`specs/Lines`), and a line asks for one step ([`a_line_asks_for_one_step`]). [`Lines`] cuts a text into its lines
-//! (`specs/Cuts`), and [`write_outcome`] writes what came of a step (`specs/Outcomes`).
+//! (`specs/Cuts`), and [`write_outcome`] writes the outcome of a step (`specs/Outcomes`).
 //!
-//! A [`Comparison`] is told of each answer of a run and asks a plain register the same (`specs/PlainAnswers`); what came
-//! of it is the run's last line, which [`write_verdict`] writes (`specs/Verdicts`).
+//! A [`Comparison`] takes each answer of a run and asks a plain register the same (`specs/PlainAnswers`); its verdict is
+//! the run's last line, which [`write_verdict`] writes (`specs/Verdicts`).
 //!
 //! ```text
 //! ask 1 090a016212016b        worker 1 asks for bucket b, key k: a get
 //! enter 1                     worker 1 enters as a reader
 //! look 1                      worker 1 looks, and is answered
+//! leave 1                     worker 1 leaves
+//! reap 1 090a016212016b       worker 1 is asked to forget the key, if it is dead
 //! ```
 #![tactic(auto)]
 

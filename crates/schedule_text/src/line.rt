@@ -29,11 +29,11 @@ pub enum Action {
 /// A step of a worker at the gate of the vnode that it was asked for.
 #[derive(Clone, Copy, Debug, Drop, PartialEq, Eq)]
 pub enum GateStep {
-    /// Comes in as a reader.
+    /// Enters as a reader.
     Enter,
-    /// Goes out as a reader.
+    /// Leaves as a reader.
     Leave,
-    /// Marks the gate, so that no reader comes in.
+    /// Marks the gate, so that no reader enters.
     Mark,
     /// Takes the mark away.
     Unmark,

@@ -6,7 +6,7 @@ ghost use Rattle.schedule_text.specs.Cuts.{lines_of};
 use crate::cut::cut_at;
 use std::marker::Model;
 
-/// The lines of a text, from the first: each is ended by a line feed (byte 0a), which isn't shown and which the last may
+/// The lines of a text, from the first: each is ended by a line feed (byte 0a), which isn't part of it and which the last may
 /// lack. An empty text has no line. Contracts see the list of the lines that are left.
 #[derive(Drop)]
 pub struct Lines<'a> {
@@ -31,7 +31,7 @@ impl<'a> Lines<'a> {
     }
 }
 
-/// The first line of a text that isn't empty, and what stands behind it and its line feed.
+/// The first line of a text that isn't empty, and the text behind it and its line feed.
 #[tactic(auto, using(crate::proofs::Cutting::lines_cut, crate::proofs::Cutting::lines_uncut))]
 fn cut_line(text: &[u8]) -> (&[u8], &[u8])
     requires { 0 < length text.now }

@@ -1,4 +1,4 @@
-//! The message of an ask or a reap: hexadecimal, and the request that its bytes say.
+//! The message of an ask or a reap: hexadecimal, and the request that its bytes decode to.
 
 ghost use Rattle.std.specs.Prelude.{◌≡◌};
 ghost use Rattle.schedule_text.specs.Digits.{is_hex_text, is_lower_digit};
@@ -44,7 +44,7 @@ fn read_hex(alloc: Global, text: &[u8]) -> Result<Vec<u8>, LineFault>
     }
 }
 
-/// The get, put or delete that a message says: its first byte is the code, the others are the body.
+/// The get, put or delete that a message decodes to: its first byte is the code, the others are the body.
 #[tactic(auto, using(crate::proofs::Messages::refused))]
 fn read_message(alloc: Global, message: &[u8]) -> Result<Request, LineFault>
     ensures { ReadsMessage message.now result }
@@ -61,7 +61,7 @@ fn read_message(alloc: Global, message: &[u8]) -> Result<Request, LineFault>
     }
 }
 
-/// The get, put or delete that hexadecimal writes.
+/// The get, put or delete that hexadecimal encodes.
 pub(crate) fn read_hex_message(alloc: Global, digits: &[u8]) -> Result<Request, LineFault>
     ensures { ReadsHexMessage digits.now result }
 {

@@ -1,4 +1,4 @@
-//! What stands behind a line's word: a worker's number, and a message.
+//! The operands of a line, behind its word: a worker's number, and a message.
 
 ghost use Rattle.std.specs.Prelude.{◌≡◌, ◌↔◌, IsTrue, decimal, codes};
 ghost use Rattle.std.specs.Str.{bytes_eq};

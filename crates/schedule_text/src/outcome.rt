@@ -1,4 +1,4 @@
-//! The line that says what came of a step.
+//! The line of a step's outcome.
 
 ghost use Rattle.std.specs.Prelude.{◌≡◌, ◌++◌, IfOk, OnOk};
 ghost use Rattle.schedule_text.specs.Outcomes.{outcome_line, outcome_text, reply_text};
@@ -7,7 +7,7 @@ use itoa::Buffer;
 use riak_msgs::{Reply, write_reply};
 use std::alloc::{AllocError, Global};
 
-/// What came of a step, as its line says it.
+/// The outcome of a step, as its line holds it.
 #[derive(Clone, Copy)]
 pub enum StepOutcome<'a> {
     /// The step was not possible, and nothing changed: `no`.
@@ -33,7 +33,7 @@ fn append_reply(alloc: Global, out: &mut Vec<u8>, reply: &Reply) -> Result<(), A
     out.extend_from_slice(digits.as_bytes())
 }
 
-/// Appends what a line says of an outcome.
+/// Appends an outcome as a line holds it.
 fn append_outcome(
     alloc: Global,
     out: &mut Vec<u8>,

@@ -53,7 +53,7 @@ fn ask_put(
         Tells register.old (put_command ask.now context) told register.new) }
 {
     let key = ask.key.clone(alloc)?;
-    let value = ask.content.clone(alloc)?;
+    let value = ask.content.as_content().clone(alloc)?;
     register.ask(
         alloc,
         Command::Put {

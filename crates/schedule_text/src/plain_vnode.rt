@@ -1,7 +1,7 @@
 //! A vnode as a plain register, and the contexts that the run's replies showed for its keys.
 
 use crate::plain_ask::{ask, within};
-use crate::reply_parts::{context_shown, is_asked, key_and_context, tells_same};
+use crate::reply_parts::{context_shown, is_asked, is_same_answer, key_and_context};
 use actor_epoch::Context;
 use riak_msgs::{Bytes, Content, Key, Reply, Request};
 use sibling_register::{Command, PlainRegister};
@@ -101,7 +101,7 @@ impl PlainVnode {
         })
     }
 
-    /// Asks the register, and tells whether it answers as the reply does. The context names a position.
+    /// Asks the register, and compares its answer with the reply. The context names a position.
     fn answers_same(
         &mut self,
         alloc: Global,
@@ -114,7 +114,7 @@ impl PlainVnode {
         };
         let position = within(position, self.register.len());
         let told = ask(&mut self.register, alloc, request, position)?;
-        tells_same(&self.register, alloc, key, &told, reply)
+        is_same_answer(&self.register, alloc, key, &told, reply)
     }
 
     /// Notes the context that a reply shows, which names the end of the history, where it wasn't shown before.

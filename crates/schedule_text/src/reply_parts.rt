@@ -125,8 +125,8 @@ fn are_siblings(
     Ok(true)
 }
 
-/// Whether a reply tells what the register told: the same refusal, or the same contents in their order.
-pub(crate) fn tells_same(
+/// Whether a reply is the register's answer: the same refusal, or the same contents in their order.
+pub(crate) fn is_same_answer(
     register: &PlainRegister<Content>,
     alloc: Global,
     key: &Key,

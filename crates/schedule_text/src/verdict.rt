@@ -1,4 +1,4 @@
-//! What comes of a comparison, and its line.
+//! The verdict of a comparison, and its line.
 
 ghost use Rattle.std.specs.Prelude.{◌≡◌, IfOk};
 ghost use Rattle.schedule_text.specs.Verdicts.{verdict_line, verdict_after};
@@ -7,7 +7,7 @@ use crate::plain_vnode::Finding;
 use itoa::Buffer;
 use std::alloc::{AllocError, Global};
 
-/// What comes of the comparison of a run with plain registers.
+/// The verdict of the comparison of a run with plain registers.
 #[derive(Clone, Copy, Debug, Drop, PartialEq, Eq)]
 pub enum Verdict {
     /// Every reply is that of the registers.

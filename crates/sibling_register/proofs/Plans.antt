@@ -1,4 +1,4 @@
--- What the plans of a put and a delete come to.
+-- The outcomes that a put's and a delete's plan are.
 use Rattle.std.proofs.Common.{◌≡◌, ℕ, suc, ◌+◌, Bool, true, false, not, ◌&&◌, cond, List, [], ◌∷◌, length, refl, sym, ◌∙◌, ap, add-one, arith}
 use Rattle.std.specs.Prelude.{Option, Some, None, nat_lt, nat_le, nat_eq, unwrap_or, count_by, is_none, ◌==◌, ◌||◌, map}
 use Rattle.std.specs.Option.{option_eq}
@@ -73,7 +73,7 @@ module _ {V : Type 0} where
       ∙ ap (check (is_present history put.key) (is_name by_count history put.key put.context))
       (ap too_many s ∙ has_too_many-by history put.key (unwrap_or put.context 0))
 
-  -- what an accepted put comes to
+  -- the outcome of an accepted put
   pub put-kept : (history : List (Event V ℕ)) (put : PutCommand V ℕ) (numbers : List ℕ) (position : ℕ) (told : Told ℕ)
       → let entry : Entry V = record { key = put.key; operation = EntryWrite put.value; context = put.context; saw = unwrap_or put.context 0 } in
       numbers ≡ follow_of entry (count_of history put.key + 1) (siblings history put.key)

@@ -1,4 +1,4 @@
--- What the plain register saw is what the definition says of its contexts.
+-- What the plain register saw is what the definition gives for its contexts.
 use Rattle.std.proofs.Common.{◌≡◌, ℕ, zero, suc, ◌+◌, ◌≤◌, Bool, true, false, ◌&&◌, cond, List, [], ◌∷◌, ◌++◌, length, take, drop, refl, sym, ◌∙◌, ap, arith, length-append}
 use Rattle.std.specs.Prelude.{Option, Some, None, nat_le, nat_eq, IsTrue, MatchOption, reverse}
 use Rattle.std.specs.List.{list_all}

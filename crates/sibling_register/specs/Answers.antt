@@ -42,7 +42,7 @@ pub data Ask (V C : Type 0) : Type 0 where
   AskDel : DelCommand C → Ask V C
   AskReap : Key → Ask V C
 
--- what comes of it: an answer alone, or an event and the answer to it
+-- its outcome: an answer alone, or an event and the answer to it
 pub data Outcome (V C : Type 0) : Type 0 where
   Answers : Told ℕ → Outcome V C
   Accepts : Event V C → Told ℕ → Outcome V C
@@ -101,7 +101,7 @@ module _ {V C : Type 0} where
       ((number ≡ bad_context) × NamesNone naming history key context)
       ⊎ MatchOption check (IsTrue (is_free number)) (λ first. number ≡ first)
 
-  -- what may come of a put that saw these sequence numbers
+  -- the outcomes of a put that saw these sequence numbers
   abbrev pub PutGives : Naming V C → List (Event V C) → PutCommand V C → List ℕ → Outcome V C → Type 0
   PutGives naming history put saw (Answers (Refused number)) =
       MayRefuse naming history put.key put.context (put_refusal naming history put saw) number
@@ -118,7 +118,7 @@ module _ {V C : Type 0} where
   abbrev pub del_refusal : List (Event V C) → Key → List ℕ → Option ℕ
   del_refusal history key saw = if has_too_many history key saw then Some too_many_siblings else None
 
-  -- what may come of a delete that does something and saw these sequence numbers
+  -- the outcomes of a delete that does something and saw these sequence numbers
   abbrev pub DelGives : Naming V C → List (Event V C) → DelCommand C → List ℕ → Outcome V C → Type 0
   DelGives naming history del saw (Answers (Refused number)) =
       MayRefuse naming history del.key del.context (del_refusal history del.key saw) number
@@ -135,14 +135,14 @@ module _ {V C : Type 0} where
   abbrev pub does_nothing : List (Event V C) → DelCommand C → Bool
   does_nothing history del = is_none del.context && not (is_defined history del.key)
 
-  -- what comes of a reap: a dead key is forgotten by an event that saw every number of it; any other is kept
+  -- the outcome of a reap: a dead key is forgotten by an event that saw every number of it; any other is kept
   abbrev pub reap_outcome : List (Event V C) → Key → Outcome V C
   reap_outcome history key =
       if is_dead history key
       then Accepts (record { key = key; operation = Reap; context = None; saw = numbers_to (count_of history key) }) Reaped
       else Answers Kept
 
-  -- what may come of an ask at the end of this history
+  -- the outcomes of an ask at the end of this history
   abbrev pub MayGive : Naming V C → List (Event V C) → Ask V C → Outcome V C → Type 0
   MayGive naming history (AskGet get) outcome = outcome ≡ Answers (get_told naming history get)
   MayGive naming history (AskPut put) outcome =

@@ -1,5 +1,6 @@
--- The plain register's list of accepted commands, oldest first, and the history that it stands for.
-use Rattle.std.specs.Prelude.{Bool, not, ◌&&◌, ◌==◌, List, ◌∷◌, ℕ, length, map, reverse, filter, nat_lt, if◌then◌else◌, Option, Some, None}
+-- The plain register's list of accepted commands, oldest first, and the history that it encodes.
+use Rattle.std.specs.Prelude.{◌≡◌, Bool, not, ◌&&◌, ◌==◌, List, ◌∷◌, ℕ, length, map, reverse, filter, count_by, nat_le, nat_lt, if◌then◌else◌, Option, Some, None}
+use Rattle.riak_msgs.specs.declared.key.Key.{Key}
 use Rattle.sibling_register.specs.declared.entry.Entry.{Entry}
 use Rattle.sibling_register.specs.declared.operation.Operation.{Operation as EntryOperation}
 use Rattle.sibling_register.specs.declared.operation.Operation.TheVariants.{Write as EntryWrite, Tombstone as EntryTombstone, Reap as EntryReap}
@@ -7,16 +8,22 @@ use Rattle.sibling_register.specs.declared.planned.Planned.{Planned}
 use Rattle.sibling_register.specs.declared.put.Put.{Put}
 use Rattle.sibling_register.specs.declared.key_state.KeyState.{KeyState}
 use Rattle.sibling_register.specs.History.{Operation, Write, Tombstone, Reap, Event, numbers_to, is_update}
-use Rattle.sibling_register.specs.Answers.{Told, PutCommand, Outcome, Answers, Accepts}
+use Rattle.sibling_register.specs.Answers.{Told, Ask, GetCommand, PutCommand, DelCommand, Outcome, Answers, Accepts}
 use Rattle.sibling_register.specs.Counting.{context_at}
 use Rattle.sibling_register.specs.Plain.{told_of}
+use Rattle.sibling_register.specs.Plans.{plain_outcome}
+use Rattle.sibling_register.specs.Refusals.{max_siblings}
 
--- a key that stands so has a sibling, and no write among them
+-- a key in this state has a sibling, and no write among them
 abbrev pub is_dead_by : KeyState → Bool
 is_dead_by key_state = not (length key_state.siblings.items == 0) && not key_state.is_present
 
+-- as many siblings as the limit are past the number that was seen
+abbrev pub has_too_many_by : KeyState → ℕ → Bool
+has_too_many_by key_state saw = nat_le max_siblings (count_by (λ n. nat_lt saw n) key_state.siblings.items)
+
 module _ {V : Type 0} where
-  -- the operation that an entry's stands for
+  -- the operation that an entry's encodes
   abbrev pub operation_of : EntryOperation V → Operation V
   operation_of (EntryWrite content) = Write content
   operation_of EntryTombstone = Tombstone
@@ -39,14 +46,31 @@ module _ {V : Type 0} where
   outcome_by told None = Answers told
   outcome_by told (Some entry) = Accepts (event_of entry) told
 
-  -- what comes of what was planned
+  -- the outcome that was planned
   abbrev pub outcome_of : Planned V → Outcome V ℕ
   outcome_of planned = outcome_by (told_of planned.told) planned.entry
+
+  -- what was planned is the outcome of the ask at the plain register
+  abbrev pub IsOutcomeOf : List (Entry V) → Ask V ℕ → Planned V → Type 0
+  IsOutcomeOf entries ask planned = outcome_of planned ≡ plain_outcome (history_of entries) ask
 
   -- the history with an entry more, where there is one
   abbrev pub kept_of : List (Event V ℕ) → Option (Entry V) → List (Event V ℕ)
   kept_of history None = history
   kept_of history (Some entry) = event_of entry ∷ history
+
+  -- a get, the position that it gives read as a context
+  abbrev pub get_of : List (Event V ℕ) → Key → Option ℕ → Bool → Bool → GetCommand ℕ
+  get_of history key if_modified head deletedvclock = record {
+    key = key;
+    if_modified = context_at history key if_modified;
+    head = head;
+    deletedvclock = deletedvclock;
+  }
+
+  -- a delete, the position that it gives read as a context
+  abbrev pub del_of : List (Event V ℕ) → Key → Option ℕ → DelCommand ℕ
+  del_of history key context = record { key = key; context = context_at history key context }
 
   -- a put, the position that it gives read as a context
   abbrev pub put_of : List (Event V ℕ) → Put V → PutCommand V ℕ

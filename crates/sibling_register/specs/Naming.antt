@@ -6,7 +6,7 @@ use Rattle.riak_msgs.specs.KeyOrder.{key_eq}
 use Rattle.sibling_register.specs.History.{Event, count_of, numbers_to}
 use Rattle.sibling_register.specs.Siblings.{is_defined}
 
--- a naming gives each key at the end of each history a context, and says which contexts are the same
+-- a naming gives each key at the end of each history a context, and decides which contexts are the same
 pub record Naming (V C : Type 0) : Type 0 where
   pub name : List (Event V C) → Key → C
   pub same : C → C → Bool

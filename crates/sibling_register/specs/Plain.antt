@@ -11,7 +11,7 @@ use Rattle.sibling_register.specs.Answers.{Ask, AskGet, AskPut, AskDel, AskReap,
 use Rattle.sibling_register.specs.Plans.{plain_outcome}
 use Rattle.sibling_register.specs.Counting.{by_count, context_at}
 
--- the answer that a value of the type `Told` stands for
+-- the answer that a value of the type `Told` encodes
 abbrev pub told_of : TypeTold → Told ℕ
 told_of (TypeRefused number) = Refused number
 told_of (TypeShown siblings place unchanged bare) = Shown siblings place unchanged bare

@@ -25,7 +25,7 @@ module _ {V : Type 0} where
   abbrev pub del_saw : List (Event V ℕ) → DelCommand ℕ → List ℕ
   del_saw history del = numbers_to (unwrap_or del.context (count_of history del.key))
 
-  -- what comes of an ask at the plain register
+  -- the outcome of an ask at the plain register
   abbrev pub plain_outcome : List (Event V ℕ) → Ask V ℕ → Outcome V ℕ
   plain_outcome history (AskGet get) = Answers (get_told by_count history get)
   plain_outcome history (AskPut put) = put_outcome_by history put (put_refusal by_count history put (saw_by put.context))

@@ -1,5 +1,7 @@
--- The refusals of a put or a delete, by their numbers, and the limit of siblings.
-use Rattle.std.specs.Prelude.{Bool, ◌&&◌, if◌then◌else◌, List, [], ◌∷◌, ℕ, Option, Some, None, nat_le}
+-- The refusals of a put or a delete, by their numbers, with their texts, and the limit of siblings.
+use Rattle.std.specs.Prelude.{Bool, ◌&&◌, ◌==◌, if◌then◌else◌, List, [], ◌∷◌, ℕ, Option, Some, None, nat_le}
+use Rattle.riak_msgs.specs.declared.Text.{Text}
+use Rattle.riak_msgs.specs.declared.Text.TheVariants as texts
 
 -- the key is present, and the put asked that it be not
 abbrev pub match_found : ℕ
@@ -37,7 +39,20 @@ counter_used_up = 8
 abbrev pub no_memory : ℕ
 no_memory = 9
 
--- whether a refusal is one of these four
+-- the text of the error for a refusal, by its number
+abbrev pub refusal_text : ℕ → Text
+refusal_text number =
+    if number == match_found then texts.MatchFound
+    else if number == modified then texts.Modified
+    else if number == not_found then texts.NotFound
+    else if number == bad_context then texts.BadContext
+    else if number == too_many_siblings then texts.TooManySiblings
+    else if number == clock_full then texts.ClockFull
+    else if number == epochs_used_up then texts.EpochsUsedUp
+    else if number == counter_used_up then texts.CounterUsedUp
+    else texts.NoMemory
+
+-- whether a refusal is one of the last four
 abbrev pub is_free : ℕ → Bool
 is_free number = nat_le clock_full number && nat_le number no_memory
 

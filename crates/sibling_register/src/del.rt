@@ -2,10 +2,8 @@
 
 ghost use Rattle.std.specs.Prelude.{◌≡◌, IfOk, is_none, ◌&&◌, ◌==◌, length, unwrap_or};
 ghost use Rattle.sibling_register.specs.Answers.{AskDel};
-ghost use Rattle.sibling_register.specs.Counting.{context_at};
 ghost use Rattle.sibling_register.specs.Plain.{IsPosition};
-ghost use Rattle.sibling_register.specs.Plans.{plain_outcome};
-ghost use Rattle.sibling_register.specs.Entries.{history_of, outcome_of};
+ghost use Rattle.sibling_register.specs.Entries.{history_of, del_of, IsOutcomeOf};
 
 use crate::entry::Entry;
 use crate::key_state::KeyState;
@@ -31,7 +29,7 @@ fn seen_by_delete(named: Option<u64>, count: u64) -> u64
     named.unwrap_or(count)
 }
 
-/// What comes of a delete.
+/// The outcome of a delete.
 pub(crate) fn plan_del<V>(
     alloc: Global,
     entries: &[Entry<V>],
@@ -39,7 +37,8 @@ pub(crate) fn plan_del<V>(
     context: Option<u64>,
 ) -> Result<Planned<V>, AllocError>
     requires { IsPosition (history_of entries.now) context }
-    ensures value { IfOk result (λ planned. outcome_of planned ≡ plain_outcome (history_of entries.now) (AskDel (record { key = key; context = context_at (history_of entries.now) key context }))) }
+    ensures value { IfOk result (IsOutcomeOf entries.now
+        (AskDel (del_of (history_of entries.now) key context))) }
 {
     let key_state = KeyState::of(alloc, entries, &key)?;
     let named = count_at(entries, &key, context);

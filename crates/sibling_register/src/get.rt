@@ -2,10 +2,8 @@
 
 ghost use Rattle.std.specs.Prelude.{◌≡◌, IfOk, [], false};
 ghost use Rattle.sibling_register.specs.Answers.{AskGet, Shown};
-ghost use Rattle.sibling_register.specs.Counting.{context_at};
 ghost use Rattle.sibling_register.specs.Plain.{IsPosition, told_of};
-ghost use Rattle.sibling_register.specs.Plans.{plain_outcome};
-ghost use Rattle.sibling_register.specs.Entries.{history_of, outcome_of};
+ghost use Rattle.sibling_register.specs.Entries.{history_of, get_of, IsOutcomeOf};
 
 use crate::entry::Entry;
 use crate::key_state::KeyState;
@@ -16,8 +14,8 @@ use crate::told::Told;
 use riak_msgs::Key;
 use std::alloc::{AllocError, Global};
 
-/// Shows no siblings.
-fn none_shown(alloc: Global, place: Option<u64>, unchanged: bool) -> Told
+/// The answer without siblings.
+fn without_siblings(alloc: Global, place: Option<u64>, unchanged: bool) -> Told
     ensures value { told_of result ≡ Shown [] place unchanged false }
 {
     Told::Shown {
@@ -28,7 +26,7 @@ fn none_shown(alloc: Global, place: Option<u64>, unchanged: bool) -> Told
     }
 }
 
-/// What comes of a get.
+/// The outcome of a get.
 pub(crate) fn plan_get<V>(
     alloc: Global,
     entries: &[Entry<V>],
@@ -38,17 +36,18 @@ pub(crate) fn plan_get<V>(
     deletedvclock: bool,
 ) -> Result<Planned<V>, AllocError>
     requires { IsPosition (history_of entries.now) if_modified }
-    ensures value { IfOk result (λ planned. outcome_of planned ≡ plain_outcome (history_of entries.now) (AskGet (record { key = key.now; if_modified = context_at (history_of entries.now) key.now if_modified; head = head; deletedvclock = deletedvclock }))) }
+    ensures value { IfOk result (IsOutcomeOf entries.now
+        (AskGet (get_of (history_of entries.now) key.now if_modified head deletedvclock))) }
 {
     let key_state = KeyState::of(alloc, entries, key)?;
     let is_name = count_at(entries, key, if_modified) == Some(key_state.count);
     let position = Some(entries.len() as u64);
     let told = if key_state.siblings.is_empty() {
-        none_shown(alloc, None, false)
+        without_siblings(alloc, None, false)
     } else if !key_state.is_present {
-        none_shown(alloc, if deletedvclock { position } else { None }, false)
+        without_siblings(alloc, if deletedvclock { position } else { None }, false)
     } else if is_name {
-        none_shown(alloc, None, true)
+        without_siblings(alloc, None, true)
     } else {
         Told::Shown {
             siblings: Numbers::new(key_state.siblings),

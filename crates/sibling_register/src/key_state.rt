@@ -1,10 +1,9 @@
-//! How a key stands at the end of the history.
+//! The state of a key at the end of the history.
 
-ghost use Rattle.std.specs.Prelude.{◌≡◌, ◌≤◌, IfOk, length, nat_le, nat_lt, count_by};
+ghost use Rattle.std.specs.Prelude.{◌≡◌, ◌≤◌, IfOk, length};
 ghost use Rattle.sibling_register.specs.History.{count_of};
 ghost use Rattle.sibling_register.specs.Siblings.{siblings, is_present};
-ghost use Rattle.sibling_register.specs.Refusals.{max_siblings};
-ghost use Rattle.sibling_register.specs.Entries.{history_of, is_dead_by};
+ghost use Rattle.sibling_register.specs.Entries.{history_of, is_dead_by, has_too_many_by};
 
 use crate::entry::Entry;
 use crate::refusals::MAX_SIBLINGS;
@@ -12,7 +11,7 @@ use crate::scans::{count_in, has_write, siblings_in};
 use riak_msgs::Key;
 use std::alloc::{AllocError, Global};
 
-/// How a key stands at the end of the history: its siblings, newest first; how many events it has; and whether one of
+/// The state of a key at the end of the history: its siblings, newest first; how many events it has; and whether one of
 /// the siblings is a write.
 #[derive(Drop)]
 pub(crate) struct KeyState {
@@ -22,16 +21,18 @@ pub(crate) struct KeyState {
 }
 
 impl KeyState {
-    /// How the key stands after these entries.
+    /// The state of the key after these entries.
     pub(crate) fn of<V>(
         alloc: Global,
         entries: &[Entry<V>],
         key: &Key,
     ) -> Result<KeyState, AllocError>
-        ensures siblings { IfOk result (λ s. s.siblings.items ≡ siblings (history_of entries.now) key.now) }
+        ensures siblings { IfOk result (λ s.
+            s.siblings.items ≡ siblings (history_of entries.now) key.now) }
         ensures count { IfOk result (λ s. s.count ≡ count_of (history_of entries.now) key.now) }
         ensures bound { IfOk result (λ s. s.count ≤ length entries.now) }
-        ensures present { IfOk result (λ s. s.is_present ≡ is_present (history_of entries.now) key.now) }
+        ensures present { IfOk result (λ s.
+            s.is_present ≡ is_present (history_of entries.now) key.now) }
     {
         let siblings = siblings_in(alloc, entries, key)?;
         let count = count_in(entries, key);
@@ -52,7 +53,7 @@ impl KeyState {
 
     /// Whether as many siblings as the limit are past the number that was seen.
     pub(crate) fn has_too_many(&self, saw: u64) -> bool
-        ensures value { result ≡ nat_le max_siblings (count_by (λ n. nat_lt saw n) self.now.siblings.items) }
+        ensures value { result ≡ has_too_many_by self.now saw }
     {
         self.siblings.iter().filter(|number| **number > saw).count() >= MAX_SIBLINGS
     }

@@ -1,14 +1,23 @@
-//! The sibling register: what a store that keeps siblings answers, told by its whole history.
+//! The sibling register: what a store that keeps siblings answers, as a function of its whole history.
 //!
 //! A history lists what was accepted, newest first (`specs/History`). A key's siblings are its writes and tombstones
 //! that no later accepted command of it saw (`specs/Siblings`). A context names a position of a key, and a command saw
-//! the key's events up to there (`specs/Naming`). So each answer is told by the history alone, with no counters, epochs,
-//! locks or forgetting (`specs/Answers`), and a history is legal where each event may follow those before it
-//! (`specs/Legal`). Any naming will do: who shows other contexts says what they are, and is measured by the same words.
+//! the key's events up to there (`specs/Naming`). So each answer follows from the history alone, with no counters,
+//! epochs, locks or forgetting (`specs/Answers`), and a history is legal where each event may follow those before it
+//! (`specs/Legal`). The naming of contexts is a parameter: a store that shows contexts of its own defines what they name,
+//! and is held to the same definitions.
 //!
 //! [`PlainRegister`] is the register as a program, slow and short: a list of all accepted commands, which each call
 //! reads from its start, once for each sibling. Laws of the definitions: [`values_leave_only_seen`],
 //! [`a_context_names_one_sight`], [`counting_is_a_naming`] and [`answers_stay_legal`].
+//!
+//! ```text
+//! put b/k "v"                    Done
+//! put b/k "w"                    Done                       a second sibling: it gave no context
+//! get b/k                        Shown [2, 1], position 2
+//! put b/k "x", context 2         Done                       "x" replaces what its context saw
+//! get b/k                        Shown [3], position 3
+//! ```
 #![tactic(auto)]
 
 mod command;

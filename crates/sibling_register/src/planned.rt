@@ -1,10 +1,9 @@
-//! What comes of a command, before anything is kept.
+//! The outcome of a command, before anything is kept.
 
 ghost use Rattle.std.specs.Prelude.{◌≡◌, IfOk};
 ghost use Rattle.sibling_register.specs.Answers.{Answers};
 ghost use Rattle.sibling_register.specs.Plain.{asked, told_of, GivesPositions};
-ghost use Rattle.sibling_register.specs.Plans.{plain_outcome};
-ghost use Rattle.sibling_register.specs.Entries.{history_of, outcome_of};
+ghost use Rattle.sibling_register.specs.Entries.{history_of, outcome_of, IsOutcomeOf};
 
 use crate::command::Command;
 use crate::del::plan_del;
@@ -31,14 +30,14 @@ impl<V> Planned<V> {
     }
 }
 
-/// What comes of a command.
+/// The outcome of a command.
 pub(crate) fn plan<V: Drop>(
     alloc: Global,
     entries: &[Entry<V>],
     command: Command<V>,
 ) -> Result<Planned<V>, AllocError>
     requires { GivesPositions (history_of entries.now) command }
-    ensures value { IfOk result (λ planned. outcome_of planned ≡ plain_outcome (history_of entries.now) (asked (history_of entries.now) command)) }
+    ensures value { IfOk result (IsOutcomeOf entries.now (asked (history_of entries.now) command)) }
 {
     match command {
         Command::Get {

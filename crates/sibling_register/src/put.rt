@@ -1,12 +1,11 @@
 //! Puts, and the checks that refuse them.
 
-ghost use Rattle.std.specs.Prelude.{◌≡◌, IfOk, Some, false, not, ◌||◌, if◌then◌else◌, count_by, nat_lt, nat_le, nat_eq, unwrap_or};
+ghost use Rattle.std.specs.Prelude.{◌≡◌, IfOk, Some, false, not, ◌||◌, if◌then◌else◌, nat_eq, unwrap_or};
 ghost use Rattle.std.specs.Option.{option_eq};
 ghost use Rattle.sibling_register.specs.Answers.{AskPut, Shown, Done};
-ghost use Rattle.sibling_register.specs.Refusals.{max_siblings};
 ghost use Rattle.sibling_register.specs.Plain.{IsPosition, told_of};
-ghost use Rattle.sibling_register.specs.Plans.{plain_outcome, first_check_of};
-ghost use Rattle.sibling_register.specs.Entries.{history_of, outcome_of, put_of};
+ghost use Rattle.sibling_register.specs.Plans.{first_check_of};
+ghost use Rattle.sibling_register.specs.Entries.{history_of, put_of, has_too_many_by, IsOutcomeOf};
 
 use crate::entry::Entry;
 use crate::key_state::KeyState;
@@ -45,7 +44,9 @@ fn first_check(
     if_not_modified: bool,
     if_none_match: bool,
 ) -> Option<u8>
-    ensures value { result ≡ first_check_of key_state.now.is_present (option_eq nat_eq named (Some key_state.now.count)) (nat_le max_siblings (count_by (λ n. nat_lt (unwrap_or named 0) n) key_state.now.siblings.items)) if_not_modified if_none_match }
+    ensures value { result ≡ first_check_of key_state.now.is_present
+        (option_eq nat_eq named (Some key_state.now.count))
+        (has_too_many_by key_state.now (unwrap_or named 0)) if_not_modified if_none_match }
 {
     let is_name = named == Some(key_state.count);
     let too_many = key_state.has_too_many(seen_by_put(named));
@@ -63,8 +64,9 @@ fn first_check(
 }
 
 /// The answer to an accepted put, after which the key has these siblings.
-fn put_told(siblings: Vec<u64>, position: u64, return_body: bool, return_head: bool) -> Told
-    ensures value { told_of result ≡ (if return_body || return_head then Shown siblings.items (Some position) false (not return_body) else Done) }
+fn put_answer(siblings: Vec<u64>, position: u64, return_body: bool, return_head: bool) -> Told
+    ensures value { told_of result ≡ (if return_body || return_head
+        then Shown siblings.items (Some position) false (not return_body) else Done) }
 {
     if return_body || return_head {
         Told::Shown {
@@ -78,14 +80,15 @@ fn put_told(siblings: Vec<u64>, position: u64, return_body: bool, return_head: b
     }
 }
 
-/// What comes of a put.
+/// The outcome of a put.
 pub(crate) fn plan_put<V: Drop>(
     alloc: Global,
     entries: &[Entry<V>],
     put: Put<V>,
 ) -> Result<Planned<V>, AllocError>
     requires { IsPosition (history_of entries.now) put.context }
-    ensures value { IfOk result (λ planned. outcome_of planned ≡ plain_outcome (history_of entries.now) (AskPut (put_of (history_of entries.now) put))) }
+    ensures value { IfOk result (IsOutcomeOf entries.now
+        (AskPut (put_of (history_of entries.now) put))) }
 {
     let key_state = KeyState::of(alloc, entries, &put.key)?;
     let named = count_at(entries, &put.key, put.context);
@@ -102,7 +105,7 @@ pub(crate) fn plan_put<V: Drop>(
     let position = entries.len() as u64 + 1;
     let mut siblings = key_state.siblings;
     follow(&mut siblings, &entry, number)?;
-    let told = put_told(siblings, position, put.return_body, put.return_head);
+    let told = put_answer(siblings, position, put.return_body, put.return_head);
     Ok(Planned {
         told,
         entry: Some(entry),

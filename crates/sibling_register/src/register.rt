@@ -49,7 +49,8 @@ impl<V> Model for PlainRegister<V> {
 
 /// Keeps an entry, where there is one.
 fn keep<V: Drop>(entries: &mut Vec<Entry<V>>, entry: Option<Entry<V>>) -> Result<(), RegisterFault>
-    ensures ok { OnOk result (history_of entries.new.items ≡ kept_of (history_of entries.old.items) entry) }
+    ensures ok { OnOk result (
+        history_of entries.new.items ≡ kept_of (history_of entries.old.items) entry) }
     ensures err { OnErr result (entries.new.items ≡ entries.old.items) }
 {
     match entry {

@@ -65,7 +65,8 @@ pub(crate) fn siblings_in<V>(
     entries: &[Entry<V>],
     key: &Key,
 ) -> Result<Vec<u64>, AllocError>
-    ensures value { IfOk result (λ numbers. numbers.items ≡ siblings (history_of entries.now) key.now) }
+    ensures value { IfOk result (λ numbers.
+        numbers.items ≡ siblings (history_of entries.now) key.now) }
 {
     let mut numbers = Vec::new(alloc);
     let mut count: u64 = 0;
@@ -96,7 +97,8 @@ pub(crate) fn value_in<'a, V>(entries: &'a [Entry<V>], key: &Key, number: u64) -
 
 /// Whether some of the numbers is of a write.
 pub(crate) fn has_write<V>(entries: &[Entry<V>], key: &Key, numbers: &[u64]) -> bool
-    ensures value { result ≡ list_any (λ n. is_some (content_of (history_of entries.now) key.now n)) numbers.now }
+    ensures value { result
+        ≡ list_any (λ n. is_some (content_of (history_of entries.now) key.now n)) numbers.now }
 {
     numbers
         .iter()

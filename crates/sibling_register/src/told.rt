@@ -1,8 +1,8 @@
-//! What the register answers.
+//! The answers of the register.
 
 use crate::numbers::Numbers;
 
-/// What the register answers.
+/// The answer to a command.
 #[derive(Drop)]
 pub enum Told {
     /// A put or a delete was refused, and nothing changed: [`MATCH_FOUND`](crate::MATCH_FOUND),
@@ -10,7 +10,7 @@ pub enum Told {
     /// [`TOO_MANY_SIBLINGS`](crate::TOO_MANY_SIBLINGS).
     Refused(u8),
     /// The siblings by their sequence numbers, newest first, where a tombstone's number has no value; the position whose
-    /// context is shown; whether it says only that nothing was modified; whether contents are shown bare.
+    /// context is shown; whether the key is unchanged, so that nothing else is shown; whether contents are shown bare.
     Shown {
         siblings: Numbers,
         place: Option<u64>,

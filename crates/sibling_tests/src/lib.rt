@@ -1,6 +1,6 @@
 //! Tests of `sibling_register`, from outside.
 //!
-//! They stand in a crate of their own, since a crate with tests is proved twice.
+//! They are a crate of their own, since a crate with tests is proved twice.
 #![tactic(auto)]
 
 #[cfg(test)]

@@ -1,11 +1,11 @@
 -- A sweep that is under way: what is left of it does the rest.
-use Rattle.std.proofs.Common.{◌≡◌, ℕ, zero, suc, ◌+◌, ◌<◌, ◌≤◌, Bool, true, false, List, [], ◌∷◌, refl, sym, ◌∙◌, ap, arith, subst, length, take, drop}
-use Rattle.std.specs.Prelude.{Option, Some, None, slice_get, is_some}
+use Rattle.std.proofs.Common.{◌≡◌, ℕ, zero, suc, ◌+◌, ◌<◌, ◌≤◌, true, false, List, [], ◌∷◌, refl, sym, ◌∙◌, ap, arith, length, take, drop}
+use Rattle.std.specs.Prelude.{Option, None, slice_get, is_some}
 use Rattle.std.specs.Option.{option_map_or}
 use Rattle.riak_msgs.specs.declared.Key.{Key}
-use Rattle.riak_msgs.specs.declared.Content.{Content}
+use Rattle.riak_msgs.specs.Contents.{Content}
 use Rattle.vnode_machine.specs.Machine.{State}
-use Rattle.vnode_machine.specs.Dead.{dead_keys, first_dead, has_dead, reaped, reaped_each, swept, swept_keys}
+use Rattle.vnode_machine.specs.Dead.{dead_keys, has_dead, reaped, reaped_each, swept, swept_keys}
 use Rattle.vnode_core.specs.Plans.{View}
 use Rattle.vnode_core.specs.Reaping.{after_first_reap, LosesFirstDead}
 use Rattle.tomb_reaper.specs.Sweeps.{prepared_after}

@@ -4,7 +4,7 @@ use Rattle.std.specs.Prelude.{◌≤◌, ◌<◌, nat_le, nat_lt, ◌^◌, Resul
 use Rattle.std.specs.List.{list_all}
 use Rattle.std.specs.FinMap.Entries.{find}
 use Rattle.riak_msgs.specs.declared.Key.{Key}
-use Rattle.riak_msgs.specs.declared.Content.{Content}
+use Rattle.riak_msgs.specs.Contents.{Content}
 use Rattle.riak_msgs.specs.declared.DelAsk.{DelAsk}
 use Rattle.riak_msgs.specs.KeyOrder.{key_cmp}
 use Rattle.sibling_register.specs.History.{Tombstone}

@@ -3,7 +3,7 @@ use Rattle.std.proofs.Common.{◌≡◌, ◌∙◌, ℕ, true, false, not, ◌&&
 use Rattle.std.specs.Prelude.{Bool, Option, Some, None, IsTrue, is_none, unwrap_or}
 use Rattle.std.specs.Option.{option_map_or}
 use Rattle.riak_msgs.specs.declared.Key.{Key}
-use Rattle.riak_msgs.specs.declared.Content.{Content}
+use Rattle.riak_msgs.specs.Contents.{Content}
 use Rattle.sibling_register.specs.Answers.{AskReap}
 use Rattle.sibling_register.specs.History.{Operation, Reap as ReapDeed}
 use Rattle.sibling_register.specs.Legal.{IsLegal}

@@ -4,7 +4,7 @@ use Rattle.std.specs.Prelude.{Result, Option, Some, None, nat_lt, ◌==◌, is_s
 use Rattle.std.specs.Option.{option_map_or}
 use Rattle.std.specs.List.{list_any}
 use Rattle.riak_msgs.specs.declared.Key.{Key}
-use Rattle.riak_msgs.specs.declared.Content.{Content}
+use Rattle.riak_msgs.specs.Contents.{Content}
 use Rattle.riak_msgs.specs.declared.PutAsk.{PutAsk}
 use Rattle.sibling_register.specs.Refusals.{bad_context, match_found, modified, not_found, first_of}
 use Rattle.actor_epoch.specs.declared.Actor.{Actor}
@@ -130,10 +130,10 @@ module _ (state : State Content) (put : PutAsk) (seen : Option (List Dot)) (give
       ∷ (put.if_none_match && value i, match_found) ∷ ((put.if_not_modified && not put.if_none_match) && not (value i), not_found)
       ∷ ((put.if_not_modified && not put.if_none_match) && not (current i), modified) ∷ rest)
 
-  pub options-refuse : (refusal : Refusal) → RefusedBy refusal (options_check put (has_value_in o) (is_current_in o seen)) → RefusedBy refusal (put_check state (put_command put))
-  options-refuse refusal h = refused-map (options_check put (has_value_in o) (is_current_in o seen)) (put_check state (put_command put)) (λ n e. check-is ∙ first-some none_match not_present not_current match_found not_found modified rest n e) refusal h
+  pub options-refuse : (refusal : Refusal) → RefusedBy refusal (options_check put o seen) → RefusedBy refusal (put_check state (put_command put))
+  options-refuse refusal h = refused-map (options_check put o seen) (put_check state (put_command put)) (λ n e. check-is ∙ first-some none_match not_present not_current match_found not_found modified rest n e) refusal h
 
-  pub rooms-follow : options_check put (has_value_in o) (is_current_in o seen) ≡ None → put_check state (put_command put) ≡ first_of (room_checks state put.key (pairs_in seen))
+  pub rooms-follow : options_check put o seen ≡ None → put_check state (put_command put) ≡ first_of (room_checks state put.key (pairs_in seen))
   rooms-follow h = check-is ∙ first-none none_match not_present not_current match_found not_found modified rest h ∙ ap (λ ps. first_of (room_checks state put.key ps)) (ap pairs_of given ∙ pairs-given seen)
 
 -- a free check lets a put be given the next one's result

@@ -5,7 +5,7 @@ use Rattle.std.specs.Option.{option_map_or}
 use Rattle.std.specs.List.{list_all}
 use Rattle.std.specs.FinMap.Entries.{find, put as insert_key}
 use Rattle.riak_msgs.specs.declared.Key.{Key}
-use Rattle.riak_msgs.specs.declared.Content.{Content}
+use Rattle.riak_msgs.specs.Contents.{Content}
 use Rattle.riak_msgs.specs.declared.PutAsk.{PutAsk}
 use Rattle.riak_msgs.specs.KeyOrder.{key_cmp}
 use Rattle.sibling_register.specs.History.{Operation, Write, Reap as Forget}

@@ -1,7 +1,7 @@
 -- What the register may do where a command is refused.
 use Rattle.std.proofs.Common.{◌≡◌, ℕ, Bool, true, false, List, refl, inr}
 use Rattle.std.specs.Prelude.{MatchBool}
-use Rattle.riak_msgs.specs.declared.Content.{Content}
+use Rattle.riak_msgs.specs.Contents.{Content}
 use Rattle.riak_msgs.specs.declared.PutAsk.{PutAsk}
 use Rattle.riak_msgs.specs.declared.DelAsk.{DelAsk}
 use Rattle.sibling_register.specs.History.{Event}

@@ -2,7 +2,7 @@
 -- register's history that they are.
 use Rattle.std.specs.Prelude.{◌≡◌, List, [], ◌∷◌, ℕ, Some, IsTrue, unwrap_or}
 use Rattle.riak_msgs.specs.declared.Key.{Key}
-use Rattle.riak_msgs.specs.declared.Content.{Content}
+use Rattle.riak_msgs.specs.Contents.{Content}
 use Rattle.sibling_register.specs.History.{Event as RegisterEvent, Operation, Write, Tombstone, Reap as ReapDeed}
 use Rattle.sibling_register.specs.Answers.{Ask as Command, AskPut, AskDel, AskReap}
 use Rattle.sibling_register.specs.Legal.{IsLegal}

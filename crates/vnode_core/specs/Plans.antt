@@ -2,7 +2,7 @@
 use Rattle.std.specs.Prelude.{◌≡◌, Option, Some, None, Result, Ok, Err}
 use Rattle.std.specs.Option.{option_map_or}
 use Rattle.riak_msgs.specs.declared.Key.{Key}
-use Rattle.riak_msgs.specs.declared.Content.{Content}
+use Rattle.riak_msgs.specs.Contents.{Content}
 use Rattle.sibling_register.specs.History.{Operation, Write, Tombstone, Reap as Forget}
 use Rattle.sibling_register.specs.Answers.{Ask as Command, AskPut, AskDel, AskReap}
 use Rattle.actor_epoch.specs.Given.{Context}
@@ -115,6 +115,11 @@ RegistersAsk state (Put put) result = Registers state (AskPut (put_command put))
 RegistersAsk state (Del del) result = Registers state (AskDel (del_command del)) result
 RegistersAsk state (Reap key) result = Registers state (AskReap key) result
 RegistersAsk state (ReapFirst from) result = (key : Key) → first_dead state from ≡ Some key → Registers state (AskReap key) result
+
+-- a command that is accepted with this answer, and the state after it
+abbrev pub RegistersStep : State Content → Ask → Answer → State Content → Type 0
+RegistersStep old ask answer new =
+    RegistersAsk old ask (Accepted (operation_of ask) (response_of answer) new)
 
 -- with the reap of a key, by its result and the state after it
 abbrev pub RegistersReap : State Content → Key → Reaped → State Content → Type 0

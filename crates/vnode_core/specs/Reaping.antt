@@ -1,7 +1,7 @@
 -- What a reap comes to at a vnode, and what the reap of the first dead key leaves.
 use Rattle.std.specs.Prelude.{◌≡◌, drop, Option}
 use Rattle.riak_msgs.specs.declared.Key.{Key}
-use Rattle.riak_msgs.specs.declared.Content.{Content}
+use Rattle.riak_msgs.specs.Contents.{Content}
 use Rattle.sibling_register.specs.History.{Reap}
 use Rattle.vnode_machine.specs.Machine.{State}
 use Rattle.vnode_machine.specs.Dead.{dead_keys}

@@ -1,17 +1,21 @@
 -- What a vnode answers, by what is stored of the key.
-use Rattle.std.specs.Prelude.{Bool, true, false, not, ◌||◌, if◌then◌else◌, [], map, is_some, unwrap_or, Option, Some, None}
+use Rattle.std.specs.Prelude.{◌≡◌, Bool, true, false, not, ◌||◌, if◌then◌else◌, List, [], map, is_some, unwrap_or, Option, Some, None, IsTrue}
 use Rattle.std.specs.Option.{option_map_or}
 use Rattle.std.specs.Borrow.{Bor}
 use Rattle.std.specs.List.{list_any}
-use Rattle.riak_msgs.specs.declared.Content.{Content}
+use Rattle.riak_msgs.specs.Contents.{Content}
 use Rattle.riak_msgs.specs.declared.GetAsk.{GetAsk}
 use Rattle.riak_msgs.specs.declared.GetReply.{GetReply}
 use Rattle.riak_msgs.specs.declared.PutAsk.{PutAsk}
 use Rattle.riak_msgs.specs.declared.PutReply.{PutReply}
-use Rattle.actor_epoch.specs.Contexts.{encoding}
+use Rattle.riak_msgs.specs.declared.Shown.{Shown}
+use Rattle.actor_epoch.specs.declared.Actor.{Actor}
+use Rattle.actor_epoch.specs.declared.Dot.{Dot}
+use Rattle.actor_epoch.specs.Contexts.{encoding, is_well_formed}
 use Rattle.actor_epoch.specs.Given.{Context, Malformed, Pairs, context_of}
-use Rattle.dvv_set.specs.Clocks.{DotState}
-use Rattle.dvv_set.specs.References.{referred}
+use Rattle.dvv_set.specs.Clocks.{DotState, event}
+use Rattle.dvv_set.specs.Held.{IsWithin, known_after, known_with, without}
+use Rattle.dvv_set.specs.References.{referred, with_values}
 use Rattle.vnode_machine.specs.Machine.{Stored, same_pairs}
 use Rattle.vnode_machine.specs.Replies.{shown}
 
@@ -23,11 +27,15 @@ nothing = record { contents = []; context = []; unchanged = false }
 abbrev pub nothing_after : PutReply
 nothing_after = record { contents = []; context = [] }
 
+-- a key's siblings as a reply shows them
+abbrev pub all_shown : (is_bare : Bool) → DotState (Option Content) → List Shown
+all_shown is_bare clock = map (λ entry. shown is_bare entry.1) clock.live
+
 -- the reply of a put, by the clock of its key after it
 abbrev pub reply_after : DotState (Option Content) → PutAsk → PutReply
 reply_after clock put =
     if put.return_body || put.return_head
-    then record { contents = map (λ entry. shown (not put.return_body) entry.1) clock.live; context = encoding clock.known }
+    then record { contents = all_shown (not put.return_body) clock; context = encoding clock.known }
     else nothing_after
 
 -- a reference to a sibling, or none in the place of a content that is written
@@ -38,18 +46,45 @@ filled content sibling = unwrap_or (referred sibling) (Some content)
 abbrev pub clock_found : Option (Stored Content) → DotState (Option Content)
 clock_found found = option_map_or (λ s. s.clock) found (record { known = []; live = [] })
 
+-- it as a put leaves it
+abbrev pub clock_after : Option (Stored Content) → Option (List Dot) → Actor → Content
+    → DotState (Option Content)
+clock_after found seen actor content =
+    event actor (Some content) (without seen (clock_found found))
+
+-- references to the siblings of a clock, and to all of them
+abbrev pub RefersTo : DotState (Option (Bor (Option Content))) → DotState (Option Content) → Type 0
+RefersTo references clock = with_values referred references ≡ with_values (λ s. Some s) clock
+
+-- a clock of references that is, whatever content is put, the key's as the put leaves it
+abbrev pub Previews : DotState (Option (Bor (Option Content))) → Option (Stored Content)
+    → Option (List Dot) → Actor → Type 0
+Previews after found seen actor =
+    (content : Content) → with_values (filled content) after ≡ clock_after found seen actor content
+
+-- the clock of a key has room for a put, and then pairs of the form
+pub record FitsPut (found : Option (Stored Content)) (seen : Option (List Dot)) (actor : Actor) : Type 0 where
+  pub within : IsWithin (clock_found found).known seen actor
+  pub form : IsTrue (is_well_formed (known_after actor (known_with seen (clock_found found).known)))
+
 -- whether a given context is the stored key's
 abbrev pub is_its : Stored Content → Option Context → Bool
 is_its s None = false
 is_its s (Some Malformed) = false
 is_its s (Some (Pairs pairs)) = same_pairs pairs s.clock.known
 
--- the reply that shows the siblings of a stored key and its context, or that nothing changed; of a dead one no sibling,
--- and the context where it is asked for
+-- the reply that shows the siblings of a stored key and its context, or that nothing changed; of a
+-- dead one no sibling, and the context where it is asked for
 abbrev pub siblings_of : Stored Content → GetAsk → GetReply
 siblings_of s ask =
     let context = encoding s.clock.known in
+    let siblings = all_shown ask.head s.clock in
     if list_any (λ entry. is_some entry.1) s.clock.live
-    then (if is_its s (context_of ask.if_modified) then record { contents = []; context = []; unchanged = true }
-    else record { contents = map (λ entry. shown ask.head entry.1) s.clock.live; context = context; unchanged = false })
-    else record { contents = []; context = if ask.deletedvclock then context else []; unchanged = false }
+    then (if is_its s (context_of ask.if_modified)
+    then record { contents = []; context = []; unchanged = true }
+    else record { contents = siblings; context = context; unchanged = false })
+    else record {
+      contents = [];
+      context = if ask.deletedvclock then context else [];
+      unchanged = false;
+    }

@@ -1,16 +1,17 @@
 -- What a vnode's fields mean, and what is always true of them.
-use Rattle.std.specs.Prelude.{◌≡◌, ℕ, true, false, List, Option, Some, None, Result, Ok, Err}
+use Rattle.std.specs.Prelude.{◌≡◌, ℕ, ◌+◌, true, false, List, Option, Some, None, Result, Ok, Err, IfOk}
 use Rattle.riak_msgs.specs.declared.Key.{Key}
-use Rattle.riak_msgs.specs.declared.Content.{Content}
+use Rattle.riak_msgs.specs.Contents.{Content}
 use Rattle.riak_msgs.specs.declared.DelAsk.{DelAsk}
 use Rattle.riak_msgs.specs.declared.PutAsk.{PutAsk}
 use Rattle.sibling_register.specs.History.{Event, Write, Tombstone}
-use Rattle.actor_epoch.specs.Given.{Context, context_of, pairs_read}
+use Rattle.actor_epoch.specs.Given.{Context, Pairs, context_of, pairs_read}
 use Rattle.actor_epoch.specs.declared.Actor.{Actor}
+use Rattle.actor_epoch.specs.declared.Dot.{Dot}
 use Rattle.dvv_set.specs.Clocks.{join}
 use Rattle.vnode_machine.specs.Asks.{put_command}
 use Rattle.vnode_machine.specs.Dead.{reaped}
-use Rattle.vnode_machine.specs.Machine.{State, is_held, clock_of, actor_for, epoch_after, put_check, update_check, apply_operation, counted}
+use Rattle.vnode_machine.specs.Machine.{State, Stored, is_held, clock_of, actor_for, epoch_after, put_check, update_check, apply_operation, counted}
 use Rattle.vnode_machine.specs.Replay.{IsWithinLimits, IsAfter}
 use Rattle.vnode_machine.specs.Replies.{put_reply}
 use Rattle.vnode_machine.specs.Step.{DelDone, Answered}
@@ -26,6 +27,7 @@ use Rattle.clock_store.specs.declared.store.WriteKind.TheVariants.{Value, Tombst
 use Rattle.clock_store.specs.Contents.{Contents, HasRoom}
 use Rattle.clock_store.specs.Forgetting.{after_first_reap}
 use Rattle.clock_store.specs.Keys.{Keys, written, deleted}
+use Rattle.vnode_core.specs.Checks.{pairs_in, IsFound}
 use Rattle.vnode_core.specs.Refusals.{RefusedBy}
 
 -- the fields of a vnode, its store as what it means
@@ -84,6 +86,20 @@ key_in (ReapFirst from) write = absurd write
 abbrev pub writer_of : State Content → Key → Writer
 writer_of state key = record { actor = actor_for state key; last_epoch = epoch_after state key }
 
+-- who begins the next life of a vnode of this id that gave this epoch last
+abbrev pub first_writer : (id last_epoch : ℕ) → Writer
+first_writer id last_epoch = record {
+  actor = record { vnode = id; epoch = last_epoch + 1 };
+  last_epoch = last_epoch + 1;
+}
+
+-- a check's writer, wherever this was found of a key
+abbrev pub GivesWriter : (id last_epoch : ℕ) → Option (Stored Content) → Option (List Dot)
+    → Result Writer Refusal → Type 0
+GivesWriter id last_epoch found seen result =
+    (state : State Content) (key : Key) → IsFound state key id last_epoch found (pairs_in seen)
+    → IfOk result (λ writer. writer ≡ writer_of state key)
+
 -- the keys after the write of a command at this actor, and the room for it
 abbrev pub written_by : Keys → Ask → Actor → Keys
 written_by keys (Put put) actor = written keys put.key (pairs_read (context_of put.context)) actor (Some put.content)
@@ -117,6 +133,13 @@ tombstones_after tombstones (Del del) = counted tombstones
 tombstones_after tombstones (Reap key) = tombstones
 tombstones_after tombstones (ReapFirst from) = tombstones
 
+-- what the machine's checks refuse of a delete by a context of these pairs, and of one without
+abbrev pub del_check_by : State Content → Key → List Dot → Option ℕ
+del_check_by state key pairs = update_check state key (Some (Pairs pairs)) pairs
+
+abbrev pub del_check_of_all : State Content → Key → Option ℕ
+del_check_of_all state key = update_check state key None (join (clock_of state key))
+
 -- the machine accepts a put, and this is who writes it and its answer
 pub record PutGives (state : State Content) (put : PutAsk) (ready : Ready) : Type 0 where
   pub free : put_check state (put_command put) ≡ None
@@ -126,20 +149,23 @@ pub record PutGives (state : State Content) (put : PutAsk) (ready : Ready) : Typ
 -- who writes the tombstone of a delete, or nobody, where it does nothing; or its refusal
 abbrev pub DelGives : State Content → DelAsk → Result (Option Writer) Refusal → Type 0
 DelGives state del (Ok None) = ask_outcome state (Del del) ≡ Answered DelDone
-DelGives state del (Ok (Some writer)) = Steps state (Del del) answers.Del (state_after state (Del del)) × (writer ≡ writer_of state del.key)
+DelGives state del (Ok (Some writer)) =
+    Steps state (Del del) answers.Del (state_after state (Del del))
+    × (writer ≡ writer_of state del.key)
 DelGives state del (Err refusal) = Refuses state (Del del) refusal
 
 -- the machine accepts a tombstone over all that is stored of a key, and this is who writes it
 pub record IsToOverwrite (state : State Content) (key : Key) (writer : Writer) : Type 0 where
   pub held : is_held state key ≡ true
-  pub free : update_check state key None (join (clock_of state key)) ≡ None
+  pub free : del_check_of_all state key ≡ None
   pub is : writer ≡ writer_of state key
 
 -- the same of one without context
 abbrev pub DelOfAllGives : State Content → Key → Result (Option Writer) Refusal → Type 0
 DelOfAllGives state key (Ok None) = is_held state key ≡ false
 DelOfAllGives state key (Ok (Some writer)) = IsToOverwrite state key writer
-DelOfAllGives state key (Err refusal) = (is_held state key ≡ true) × RefusedBy refusal (update_check state key None (join (clock_of state key)))
+DelOfAllGives state key (Err refusal) =
+    (is_held state key ≡ true) × RefusedBy refusal (del_check_of_all state key)
 
 -- the machine accepts the write, which has room, and its answer lies ready
 pub record IsReady (state : State Content) (store : Contents) (ready : Option Ready) (ask : Ask) (write : IsWrite ask) : Type 0 where

@@ -1,18 +1,13 @@
 //! The checks of a write, by what is stored of its key. They take no memory.
 
-ghost use Rattle.std.specs.Prelude.{◌≡◌, ◌<◌, ◌+◌, Some, None, IfOk, OnOk, IsTrue};
-ghost use Rattle.std.specs.Option.{option_map};
-ghost use Rattle.riak_msgs.specs.declared.Key.{Key};
-ghost use Rattle.riak_msgs.specs.declared.Content.{Content};
-ghost use Rattle.sibling_register.specs.Refusals.{first_of};
+ghost use Rattle.std.specs.Prelude.{◌≡◌, ◌<◌, Some, None, OnOk, IsTrue};
 ghost use Rattle.actor_epoch.specs.Contexts.{is_rising};
 ghost use Rattle.dvv_set.specs.Clocks.{join};
 ghost use Rattle.dvv_set.specs.Held.{pairs_of as seen_in};
-ghost use Rattle.vnode_machine.specs.Machine.{State, stored, room_checks};
-ghost use Rattle.vnode_core.specs.Checks.{pairs_in, last_dot, has_value_in, is_current_in, options_check, IsFound, IsRising};
+ghost use Rattle.vnode_core.specs.Checks.{found_in, last_dot, has_value_in, is_current_in, options_check, ChecksStored, ChecksRoom, IsRising};
 ghost use Rattle.vnode_core.specs.Refusals.{GivenBy};
 ghost use Rattle.clock_store.specs.Keys.{stored_of};
-ghost use Rattle.vnode_core.specs.Vnodes.{writer_of};
+ghost use Rattle.vnode_core.specs.Vnodes.{first_writer, GivesWriter};
 
 use crate::given;
 use crate::ready::Writer;
@@ -26,7 +21,7 @@ const MAX_SIBLINGS: usize = 64;
 
 /// The last dot of a key's life, where it is stored.
 pub(crate) fn last_of(found: Option<&StoredClock>) -> Option<Dot>
-    ensures { result ≡ last_dot (option_map (λ s. stored_of s.now) found.entry) }
+    ensures { result ≡ last_dot (found_in found.entry) }
 {
     let key = found?;
     Some(Dot {
@@ -37,7 +32,7 @@ pub(crate) fn last_of(found: Option<&StoredClock>) -> Option<Dot>
 
 /// Whether there is a value.
 fn has_value(found: Option<&StoredClock>) -> bool
-    ensures { result ≡ has_value_in (option_map (λ s. stored_of s.now) found.entry) }
+    ensures { result ≡ has_value_in (found_in found.entry) }
 {
     match found {
         None => false,
@@ -47,7 +42,7 @@ fn has_value(found: Option<&StoredClock>) -> bool
 
 /// Whether the context is the key's.
 fn matches_clock(found: Option<&StoredClock>, context: Option<&Context<'_>>) -> bool
-    ensures { result ≡ is_current_in (option_map (λ s. stored_of s.now) found.entry) (seen_in context.entry) }
+    ensures { result ≡ is_current_in (found_in found.entry) (seen_in context.entry) }
 {
     match found {
         None => false,
@@ -64,7 +59,8 @@ pub(crate) fn check_options(
     found: Option<&StoredClock>,
     context: Option<&Context<'_>>,
 ) -> Result<(), Refusal>
-    ensures { GivenBy result (options_check put.now (has_value_in (option_map (λ s. stored_of s.now) found.entry)) (is_current_in (option_map (λ s. stored_of s.now) found.entry) (seen_in context.entry))) }
+    ensures { GivenBy result
+        (options_check put.now (found_in found.entry) (seen_in context.entry)) }
 {
     if put.if_none_match {
         if has_value(found) {
@@ -86,7 +82,7 @@ pub(crate) fn check_options(
 /// Whether a stored key has room for one write more, which discards what its context has seen.
 fn check_stored(key: &StoredClock, context: Option<&Context<'_>>) -> Result<(), Refusal>
     requires { IsTrue (is_rising key.now.clock.meaning.known) }
-    ensures { (state : State Content) (k : Key) → stored state k ≡ Some (stored_of key.now) → GivenBy result (first_of (room_checks state k (pairs_in (seen_in context.entry)))) }
+    ensures { ChecksStored (stored_of key.now) (seen_in context.entry) result }
 {
     if MAX_SIBLINGS <= key.clock.uncovered(context) {
         return Err(Refusal::TooManySiblings);
@@ -103,7 +99,7 @@ fn check_stored(key: &StoredClock, context: Option<&Context<'_>>) -> Result<(), 
 /// Whether there is room for the first write of a life at a vnode that gave this epoch last, by a context that doesn't
 /// run ahead.
 fn check_new(id: u64, last_epoch: u32, context: Option<&Context<'_>>) -> Result<(), Refusal>
-    ensures given { (state : State Content) (k : Key) → IsFound state k id last_epoch None (pairs_in (seen_in context.entry)) → GivenBy result (first_of (room_checks state k (pairs_in (seen_in context.entry)))) }
+    ensures given { ChecksRoom id last_epoch None (seen_in context.entry) result }
     ensures left { OnOk result (last_epoch < MAX_EPOCH) }
 {
     if MAX_ACTORS <= given::len(context) {
@@ -123,9 +119,10 @@ pub(crate) fn check_room(
     found: Option<&StoredClock>,
     context: Option<&Context<'_>>,
 ) -> Result<Writer, Refusal>
-    requires { IsRising (option_map (λ s. stored_of s.now) found) }
-    ensures given { (state : State Content) (k : Key) → IsFound state k id last_epoch (option_map (λ s. stored_of s.now) found.entry) (pairs_in (seen_in context.entry)) → GivenBy result (first_of (room_checks state k (pairs_in (seen_in context.entry)))) }
-    ensures writer { (state : State Content) (k : Key) → IsFound state k id last_epoch (option_map (λ s. stored_of s.now) found.entry) (pairs_in (seen_in context.entry)) → IfOk result (λ writer. writer ≡ writer_of state k) }
+    requires { IsRising (found_in found) }
+    ensures given { ChecksRoom id last_epoch (found_in found.entry) (seen_in context.entry) result }
+    ensures writer { GivesWriter id last_epoch
+        (found_in found.entry) (seen_in context.entry) result }
 {
     match found {
         Some(key) => {
@@ -145,7 +142,7 @@ pub(crate) fn check_room(
 /// Who begins the next life.
 fn first_writer(id: u64, last_epoch: u32) -> Writer
     requires { last_epoch < MAX_EPOCH }
-    ensures { result ≡ record { actor = record { vnode = id; epoch = last_epoch + 1 }; last_epoch = last_epoch + 1 } }
+    ensures { result ≡ first_writer id last_epoch }
 {
     let epoch = last_epoch + 1;
     Writer {
@@ -156,7 +153,7 @@ fn first_writer(id: u64, last_epoch: u32) -> Writer
 
 /// Whether a stored key has room for one write more in place of all its values.
 pub(crate) fn check_overwrite(key: &StoredClock) -> Result<(), Refusal>
-    ensures { (state : State Content) (k : Key) → stored state k ≡ Some (stored_of key.now) → GivenBy result (first_of (room_checks state k (join key.now.clock.meaning))) }
+    ensures { ChecksStored (stored_of key.now) (Some (join key.now.clock.meaning)) result }
 {
     if MAX_ACTORS < key.clock.needed(None, key.actor).actors {
         return Err(Refusal::ClockFull);

@@ -25,7 +25,8 @@ pub(crate) fn names_unissued_dot(
     last_epoch: u32,
     last: Option<Dot>,
 ) -> bool
-    ensures ahead { result ≡ list_any (is_ahead vnode last_epoch last) (pairs_in (seen_in context.entry)) }
+    ensures ahead { result ≡ list_any (is_ahead vnode last_epoch last)
+        (pairs_in (seen_in context.entry)) }
     ensures read { AreRead (seen_in context.entry) }
 {
     if let Some(context) = context {

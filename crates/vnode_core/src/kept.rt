@@ -21,7 +21,7 @@ pub struct LoggedChange<S: ClockStore> {
 }
 
 /// The machine's states are those of the vnode machine, and its step is the machine's: an event is accepted with the
-/// answer that it says, a command that changes nothing is answered, and a refusal is the machine's, or one for want of
+/// answer that it holds, a command that changes nothing is answered, and a refusal is the machine's, or one for want of
 /// memory where the machine accepts. `prepare` and `apply` are the vnode's `prepare` and `finish`.
 impl<S: ClockStore> Kept for VnodeOver<S> {
     type Ask = Ask;
@@ -35,7 +35,7 @@ impl<S: ClockStore> Kept for VnodeOver<S> {
     type Event = Event;
 
     ghost use Rattle.std.specs.Prelude.{◌≡◌};
-    ghost use Rattle.riak_msgs.specs.declared.Content.{Content};
+    ghost use Rattle.riak_msgs.specs.Contents.{Content};
     ghost use Rattle.vnode_machine.specs.Machine.{State};
     ghost use Rattle.vnode_core.specs.Plans.{Refuses};
     ghost use Rattle.vnode_core.specs.Events.{Makes, IsAnswered, Asks, Tells, event_of, IsLoggable};

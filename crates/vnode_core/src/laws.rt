@@ -1,11 +1,11 @@
-//! The laws of the vnode machine, which each vnode here is; they stand in `vnode_machine`.
+//! The laws of the vnode machine, which each vnode here is; they are proved in `vnode_machine`.
 
 /// The machine is the sibling register: every list of events that has a replay is a legal history, and in each state, at
-/// each history that may have led there, what comes of an ask is what the register may give.
+/// each history that may have led there, the outcome of an ask is one that the register may give.
 pub use vnode_machine::machine_is_register;
 
 /// The turns that a vnode takes one after another, some of them refused for want of memory, are those of a legal history,
-/// and each reply shows what the register tells at its place.
+/// and each reply is the register's at its place.
 pub use vnode_machine::runs_are_histories;
 
 /// The bytes that are shown as the context of a defined key decode to the name of that position.

@@ -3,15 +3,15 @@
 //! A [`Vnode`] is the vnode machine (`State` in `specs/Machine` of `vnode_machine`), and each call is the machine's step
 //! (`outcome` in its `specs/Step`): each key that it holds has the actor of its life, and a clock whose live dots are its
 //! siblings. A command is refused, or planned by [`Vnode::prepare`] and made by [`Vnode::finish`]. At every history that
-//! may have led to its state, each call answers as the sibling register tells it (`Registers` in `specs/Plans`).
+//! may have led to its state, each call answers as the sibling register does (`Registers` in `specs/Plans`).
 //!
-//! What is prepared stands in the vnode's model, the whole command with its options and its context as given, and a
+//! What is prepared is in the vnode's model, the whole command with its options and its context as given, and a
 //! [`Change`] is that command and nothing else. Room, the actor and the answer that were made for it lie in the vnode, so
 //! nothing that callers see is a place, an index or a number of actors; the next `prepare` or `finish` ends it.
 //!
 //! Behind a gate (`rw_gate`) a vnode is a [`Kept`] state. Its change there, a [`LoggedChange`], carries for clauses alone the
 //! vnode that it was prepared from, and the two name the [`Event`] that it makes in the gate's history, with its answer
-//! (`specs/Events`). [`histories_are_legal`] says what such a history is.
+//! (`specs/Events`). [`histories_are_legal`] is the law of such a history.
 //!
 //! Its storage is any [`ClockStore`](clock_store::ClockStore): a [`VnodeOver`] is proved from that trait's contract
 //! alone, so each form of storage gives the same vnode, and [`Vnode`] is the one over the ordered map. What a key costs
@@ -23,8 +23,16 @@
 //! The checks take none either: they look through the context's pairs once, and ask the clock how many siblings the
 //! context leaves uncovered and how many actors a write needs. Making a put moves the key's siblings once.
 //!
+//! ```text
+//! Vnode::new(alloc, 65536, 1)               no key; the first life's epoch is 1
+//! vnode.prepare(alloc, Ask::Put(put))?      Plan::Change(change), for "v" under b/k
+//! vnode.finish(change)                      Answer::Put, which shows nothing
+//! vnode.get(alloc, &get)?                   "v", and the context of one entry: (65536, 1) with counter 1
+//! vnode.tally()                             writes: 1, tombstones: 0, reaps: 0
+//! ```
+//!
 //! Sources: the documentation of Riak's Protocol Buffers client API for get, put and delete, and of its actor epochs;
-//! dotted version vector sets for clocks.
+//! dotted version vector sets (Preguiça, Baquero, Almeida, Fonte, Gonçalves) for dots, and for which siblings stay.
 #![tactic(auto)]
 
 mod ask;

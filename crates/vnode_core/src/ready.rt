@@ -1,12 +1,11 @@
 //! What lies ready for the command that is prepared.
 
 ghost use Rattle.std.specs.Prelude.{◌≡◌, Some};
-ghost use Rattle.std.specs.Option.{option_map};
 ghost use Rattle.riak_msgs.specs.declared.Key.{Key};
-ghost use Rattle.riak_msgs.specs.declared.Content.{Content};
+ghost use Rattle.riak_msgs.specs.Contents.{Content};
 ghost use Rattle.rw_gate.specs.declared.kept.Plan.TheVariants.{Nothing};
 ghost use Rattle.vnode_machine.specs.Machine.{State, stored};
-ghost use Rattle.clock_store.specs.Keys.{stored_of};
+ghost use Rattle.vnode_core.specs.Checks.{found_in};
 ghost use Rattle.vnode_core.specs.Reaping.{reap_result};
 ghost use Rattle.vnode_core.specs.Vnodes.{writes_after, tombstones_after};
 ghost use Rattle.vnode_core.specs.Readiness.{plan_in};
@@ -32,7 +31,7 @@ pub(crate) struct Ready {
     pub(crate) answer: Answer,
 }
 
-/// What a command comes to that isn't refused.
+/// The outcome of a command that isn't refused.
 #[derive(Clone, Copy, Debug, Drop, PartialEq, Eq)]
 pub(crate) enum Readiness {
     /// All that it needs is ready.
@@ -55,25 +54,31 @@ pub(crate) fn plan_of(ask: Ask, readiness: Readiness) -> Plan<Change, Answer>
 }
 
 /// The plan of a command that changes nothing, which is let go.
-fn answered(_ask: Ask, answer: Answer) -> Plan<Change, Answer>
+fn answered(ask: Ask, answer: Answer) -> Plan<Change, Answer>
     ensures { result ≡ Nothing answer }
 {
+    drop_ask(ask);
     Plan::Nothing(answer)
 }
 
 /// The refusal of a command, which is let go.
-pub(crate) fn refuse(_ask: Ask, refusal: Refusal) -> Refusal
+pub(crate) fn refuse(ask: Ask, refusal: Refusal) -> Refusal
     ensures { result ≡ refusal }
 {
+    drop_ask(ask);
     refusal
 }
 
-/// Lets what was ready go.
-pub(crate) fn let_go(_ready: Ready) {}
+/// Lets a command go.
+fn drop_ask(_ask: Ask) {}
 
-/// What a reap of a key comes to, by what was found of it.
+/// Lets what was ready go.
+pub(crate) fn drop_ready(_ready: Ready) {}
+
+/// The result of a reap of a key, by what was found of it.
 pub(crate) fn reap_result(found: Option<&StoredClock>) -> Reaped
-    ensures { (state : State Content) (key : Key) → option_map (λ s. stored_of s.now) found.entry ≡ stored state key → result ≡ reap_result state key }
+    ensures { (state : State Content) (key : Key) →
+        found_in found.entry ≡ stored state key → result ≡ reap_result state key }
 {
     match found {
         None => Reaped::Absent,

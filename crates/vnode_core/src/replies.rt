@@ -1,20 +1,21 @@
 //! What a vnode answers.
 
-ghost use Rattle.std.specs.Prelude.{◌≡◌, ◌||◌, Some, IfOk, IsTrue, map};
-ghost use Rattle.std.specs.Option.{option_map};
+ghost use Rattle.std.specs.Prelude.{◌≡◌, ◌||◌, [], ◌∷◌, Some, IfOk, IfSome, IsTrue, map};
+ghost use Rattle.vnode_core.specs.Checks.{found_in};
 ghost use Rattle.actor_epoch.specs.Contexts.{encoding, is_well_formed};
+ghost use Rattle.actor_epoch.specs.Entries.{entries_of};
 ghost use Rattle.actor_epoch.specs.Given.{context_of};
-ghost use Rattle.dvv_set.specs.Clocks.{event};
-ghost use Rattle.dvv_set.specs.Held.{IsWithin, known_with, known_after, without, pairs_of as seen_in};
-ghost use Rattle.dvv_set.specs.References.{referred, with_values};
+ghost use Rattle.dvv_set.specs.Held.{IsWithin, pairs_of as seen_in};
 ghost use Rattle.vnode_machine.specs.Replies.{shown};
-ghost use Rattle.vnode_core.specs.Replies.{nothing, nothing_after, is_its, siblings_of, reply_after, filled, clock_found};
+ghost use Rattle.vnode_core.specs.Replies.{nothing, nothing_after, is_its, all_shown, siblings_of, reply_after, filled, clock_after, clock_found, RefersTo, Previews, FitsPut};
 ghost use Rattle.clock_store.specs.Keys.{stored_of};
 
-use actor_epoch::{Actor, Context};
+use actor_epoch::{Actor, Context, Counter};
 use clock_store::StoredClock;
 use dvv_set::Clock;
-use riak_msgs::{Bytes, Content, GetAsk, GetReply, PutAsk, PutReply, Sequence, Shown};
+use riak_msgs::{
+    BoxedContent, Bytes, Content, GetAsk, GetReply, PutAsk, PutReply, Sequence, Shown,
+};
 use std::alloc::{AllocError, Global};
 use std::default::MadeWith;
 
@@ -30,12 +31,12 @@ pub(crate) fn absent(alloc: Global) -> GetReply
 }
 
 /// A copy of a sibling as a reply shows it, without its value where it is to be bare.
-fn show(alloc: Global, sibling: &Option<Content>, is_bare: bool) -> Result<Shown, AllocError>
+fn show(alloc: Global, sibling: &Option<BoxedContent>, is_bare: bool) -> Result<Shown, AllocError>
     ensures { IfOk result (λ s. s ≡ shown is_bare sibling.now) }
 {
     match sibling {
         None => Ok(Shown::tombstone(alloc)),
-        Some(content) => show_content(alloc, content, is_bare),
+        Some(content) => show_content(alloc, content.as_content(), is_bare),
     }
 }
 
@@ -56,7 +57,7 @@ fn show_content(alloc: Global, content: &Content, is_bare: bool) -> Result<Shown
 
 /// Copies of a key's siblings as a reply shows them.
 fn show_all(alloc: Global, key: &StoredClock, is_bare: bool) -> Result<Sequence<Shown>, AllocError>
-    ensures { IfOk result (λ all. all ≡ map (λ entry. shown is_bare entry.1) key.now.clock.meaning.live) }
+    ensures { IfOk result (λ all. all ≡ all_shown is_bare key.now.clock.meaning) }
 {
     let mut all = Sequence::with_capacity(alloc, key.clock.uncovered(None))?;
     for sibling in key.clock.values() {
@@ -65,7 +66,42 @@ fn show_all(alloc: Global, key: &StoredClock, is_bare: bool) -> Result<Sequence<
     Ok(all)
 }
 
-/// The bytes of a clock's context.
+/// The pair that a clock knows, where it knows one alone, as most do.
+fn only_pair<V: MadeWith<Global> + Drop>(clock: &Clock<V>) -> Option<(Actor, Counter)>
+    ensures { IfSome result (λ pair. entries_of (pair ∷ []) ≡ clock.now.meaning.known) }
+{
+    let mut known = clock.join();
+    let pair = known.next()?;
+    match known.next() {
+        None => Some(pair),
+        Some(_) => None,
+    }
+}
+
+/// The pairs that a clock knows.
+fn known_pairs<V: MadeWith<Global> + Drop>(
+    alloc: Global,
+    clock: &Clock<V>,
+) -> Result<Vec<(Actor, Counter)>, AllocError>
+    ensures { IfOk result (λ pairs. entries_of pairs.items ≡ clock.now.meaning.known) }
+{
+    let mut pairs = Vec::new(alloc);
+    for pair in clock.join() {
+        pairs.push(pair)?;
+    }
+    Ok(pairs)
+}
+
+/// The bytes of a context of these pairs.
+fn write_context(alloc: Global, pairs: &[(Actor, Counter)]) -> Result<Bytes, AllocError>
+    requires { IsTrue (is_well_formed (entries_of pairs.now)) }
+    ensures { IfOk result (λ bytes. bytes ≡ encoding (entries_of pairs.now)) }
+{
+    let bytes = Context::write(alloc, pairs)?;
+    Ok(Bytes::from_vec(bytes))
+}
+
+/// The bytes of a clock's context. A clock that knows one pair needs no list of them.
 fn context_of<V: MadeWith<Global> + Drop>(
     alloc: Global,
     clock: &Clock<V>,
@@ -73,12 +109,13 @@ fn context_of<V: MadeWith<Global> + Drop>(
     requires { IsTrue (is_well_formed clock.now.meaning.known) }
     ensures { IfOk result (λ bytes. bytes ≡ encoding clock.now.meaning.known) }
 {
-    let mut pairs = Vec::new(alloc);
-    for pair in clock.join() {
-        pairs.push(pair)?;
+    match only_pair(clock) {
+        Some(pair) => write_context(alloc, &[pair]),
+        None => {
+            let pairs = known_pairs(alloc, clock)?;
+            write_context(alloc, pairs.as_slice())
+        }
     }
-    let bytes = Context::write(alloc, pairs.as_slice())?;
-    Ok(Bytes::from_vec(bytes))
 }
 
 /// Whether these bytes, as given, are a stored key's context.
@@ -93,7 +130,7 @@ fn is_shown_by(key: &StoredClock, given: &[u8]) -> bool
 
 /// The answer to a get of a stored key: all its siblings, and its context. Where it is dead, whose siblings are all
 /// tombstones, it shows no sibling, and the context where the get asks for it. Where it isn't, and the get gives the
-/// key's own context, it tells that nothing changed.
+/// key's own context, it is `unchanged` alone.
 pub(crate) fn siblings(
     alloc: Global,
     key: &StoredClock,
@@ -131,8 +168,8 @@ fn accepted(alloc: Global) -> PutReply
 fn references(
     alloc: Global,
     found: Option<&StoredClock>,
-) -> Result<Clock<Option<&Option<Content>>>, AllocError>
-    ensures { IfOk result (λ clock. with_values referred clock.meaning ≡ with_values (λ sibling. Some sibling) (clock_found (option_map (λ s. stored_of s.now) found.entry))) }
+) -> Result<Clock<Option<&Option<BoxedContent>>>, AllocError>
+    ensures { IfOk result (λ clock. RefersTo clock.meaning (clock_found (found_in found.entry))) }
 {
     match found {
         None => Ok(Clock::new(alloc)),
@@ -154,9 +191,10 @@ fn preview<'a>(
     found: Option<&'a StoredClock>,
     context: Option<&Context<'_>>,
     actor: Actor,
-) -> Result<Clock<Option<&'a Option<Content>>>, AllocError>
-    requires { IsWithin (clock_found (option_map (λ s. stored_of s.now) found)).known (seen_in context) actor }
-    ensures { IfOk result (λ clock. (content : Content) → with_values (filled content) clock.meaning ≡ event actor (Some content) (without (seen_in context.entry) (clock_found (option_map (λ s. stored_of s.now) found.entry)))) }
+) -> Result<Clock<Option<&'a Option<BoxedContent>>>, AllocError>
+    requires { IsWithin (clock_found (found_in found)).known (seen_in context) actor }
+    ensures { IfOk result (λ clock.
+        Previews clock.meaning (found_in found.entry) (seen_in context.entry) actor) }
 {
     let mut clock = references(alloc, found)?;
     clock.reserve(context, actor)?;
@@ -167,7 +205,7 @@ fn preview<'a>(
 /// A copy of a sibling that stays, or where there is none of the content that is put, as a reply shows it.
 fn show_filled(
     alloc: Global,
-    sibling: Option<&Option<Content>>,
+    sibling: Option<&Option<BoxedContent>>,
     content: &Content,
     is_bare: bool,
 ) -> Result<Shown, AllocError>
@@ -182,11 +220,12 @@ fn show_filled(
 /// Copies of the siblings after a put as its reply shows them.
 fn show_after(
     alloc: Global,
-    after: &Clock<Option<&Option<Content>>>,
+    after: &Clock<Option<&Option<BoxedContent>>>,
     content: &Content,
     is_bare: bool,
 ) -> Result<Sequence<Shown>, AllocError>
-    ensures { IfOk result (λ all. all ≡ map (λ entry. shown is_bare (filled content.now entry.1)) after.now.meaning.live) }
+    ensures { IfOk result (λ all. all ≡
+        map (λ entry. shown is_bare (filled content.now entry.1)) after.now.meaning.live) }
 {
     let mut all = Sequence::with_capacity(alloc, after.uncovered(None))?;
     for sibling in after.values() {
@@ -204,15 +243,16 @@ pub(crate) fn put_reply(
     context: Option<&Context<'_>>,
     actor: Actor,
 ) -> Result<PutReply, AllocError>
-    requires within { IsWithin (clock_found (option_map (λ s. stored_of s.now) found)).known (seen_in context) actor }
-    requires form { IsTrue (is_well_formed (known_after actor (known_with (seen_in context) (clock_found (option_map (λ s. stored_of s.now) found)).known))) }
-    ensures { IfOk result (λ reply. reply ≡ reply_after (event actor (Some put.now.content) (without (seen_in context.entry) (clock_found (option_map (λ s. stored_of s.now) found.entry)))) put.now) }
+    requires { FitsPut (found_in found) (seen_in context) actor }
+    ensures { IfOk result (λ reply. reply ≡ reply_after
+        (clock_after (found_in found.entry) (seen_in context.entry) actor put.now.content)
+        put.now) }
 {
     if !shows_siblings(put) {
         return Ok(accepted(alloc));
     }
     let after = preview(alloc, found, context, actor)?;
-    let contents = show_after(alloc, &after, &put.content, !put.return_body)?;
+    let contents = show_after(alloc, &after, put.content.as_content(), !put.return_body)?;
     let context = context_of(alloc, &after)?;
     Ok(PutReply { contents, context })
 }

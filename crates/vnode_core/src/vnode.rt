@@ -2,19 +2,19 @@
 
 ghost use Rattle.std.specs.Prelude.{◌≡◌, ◌-◌, ◌≤◌, [], None, Some, IfOk, IfErr, OnOk};
 ghost use Rattle.std.specs.Option.{option_map};
-ghost use Rattle.sibling_register.specs.Answers.{AskGet};
 ghost use Rattle.actor_epoch.specs.Given.{context_of, Pairs};
 ghost use Rattle.dvv_set.specs.Held.{pairs_of as seen_in};
+ghost use Rattle.sibling_register.specs.Answers.{AskGet};
 ghost use Rattle.vnode_machine.specs.Asks.{get_command, put_command};
-ghost use Rattle.vnode_machine.specs.Machine.{opening, stored, put_check, update_check};
+ghost use Rattle.vnode_machine.specs.Machine.{opening, stored, put_check};
 ghost use Rattle.vnode_machine.specs.Replay.{IsAfter};
 ghost use Rattle.vnode_machine.specs.Step.{outcome, Answered, Accepted, GetDone};
-ghost use Rattle.clock_store.specs.Keys.{stored_of};
+ghost use Rattle.vnode_core.specs.Checks.{found_in};
 ghost use Rattle.vnode_core.specs.declared.ask.Ask.TheVariants.{Put, Del};
-ghost use Rattle.vnode_core.specs.Plans.{IsPrepared, Plans, Refuses, Registers, RegistersAsk, Steps, planned, operation_of, response_of, AcceptsPrepared, IsWrite};
+ghost use Rattle.vnode_core.specs.Plans.{IsPrepared, Plans, Refuses, Registers, RegistersAsk, RegistersStep, Steps, planned, operation_of, response_of, AcceptsPrepared, IsWrite};
 ghost use Rattle.vnode_core.specs.Readiness.{plan_in};
 ghost use Rattle.vnode_core.specs.Refusals.{GivenBy};
-ghost use Rattle.vnode_core.specs.Vnodes.{writer_of, written_by, state_after, HasRoomFor, DelOfAllGives, DelGives, PutGives, IsReached};
+ghost use Rattle.vnode_core.specs.Vnodes.{writer_of, written_by, del_check_by, state_after, HasRoomFor, DelOfAllGives, DelGives, PutGives, IsReached};
 
 mod reaping;
 mod tally;
@@ -24,7 +24,8 @@ use crate::change::Change;
 use crate::checks::{check_options, check_overwrite, check_room, last_of};
 use crate::given;
 use crate::ready::{
-    Readiness, Ready, Writer, let_go, plan_of, refuse, set_ready, tombstones_after, writes_after,
+    Readiness, Ready, Writer, drop_ready, plan_of, refuse, set_ready, tombstones_after,
+    writes_after,
 };
 use crate::refusal::Refusal;
 use crate::replies::{absent, put_reply, siblings};
@@ -59,10 +60,6 @@ pub use tally::Tally;
 ///   tombstone, and the actor with counter 4, as a get shows them then.
 /// - delete of b/i, which is absent, without a context: it does nothing, and takes no epoch. By the context of b/j it is
 ///   a tombstone, and begins a life at (65536, 3).
-///
-/// Sources: get, put and delete are those of Riak's Protocol Buffers client API; dots, and which siblings stay, are those of
-/// dotted version vector sets (Preguiça, Baquero, Almeida, Fonte, Gonçalves); an actor for each life is Riak's actor
-/// epoch.
 #[derive(Drop)]
 pub struct VnodeOver<S: ClockStore> {
     id: u64,
@@ -71,7 +68,6 @@ pub struct VnodeOver<S: ClockStore> {
     tombstones: u64,
     reaps: u64,
     store: S,
-    // What lies ready for the command that is prepared.
     ready: Option<Ready>,
     prepared: GhostValue<Ask>,
 }
@@ -83,9 +79,11 @@ impl<S: ClockStore> Model for VnodeOver<S> {
 
     ghost use Rattle.vnode_core.specs.Vnodes.{fields, view_of, IsVnode};
 
-    ghost view = { λ v. view_of (fields v.id v.epochs v.writes v.tombstones v.reaps (S.shows v.store) v.ready v.prepared) };
+    ghost view = { λ v. view_of (fields v.id v.epochs v.writes v.tombstones v.reaps
+        (S.shows v.store) v.ready v.prepared) };
 
-    ghost invariant = { λ v. IsVnode (fields v.id v.epochs v.writes v.tombstones v.reaps (S.shows v.store) v.ready v.prepared) };
+    ghost invariant = { λ v. IsVnode (fields v.id v.epochs v.writes v.tombstones v.reaps
+        (S.shows v.store) v.ready v.prepared) };
 }
 
 /// A vnode over the ordered map of clocks.
@@ -154,12 +152,13 @@ impl<S: ClockStore> VnodeOver<S> {
     /// absent. A dead key, whose siblings are all tombstones, shows its context alone, and that with `deletedvclock`
     /// alone. With `head` the values are empty. Where the key has a value and `if_modified` has the entries of its clock,
     /// the reply is `unchanged` alone; any other `if_modified` is as none.
-    ///
     /// Refused for want of memory alone.
     pub fn get(&self, alloc: Global, ask: &GetAsk) -> Result<GetReply, Refusal>
-        ensures ok { IfOk result (λ reply. outcome self.now.state (AskGet (get_command ask.now)) ≡ Answered (GetDone reply)) }
+        ensures ok { IfOk result (λ reply.
+            outcome self.now.state (AskGet (get_command ask.now)) ≡ Answered (GetDone reply)) }
         ensures err { IfErr result (λ refusal. refusal ≡ Refusal.NoMemory) }
-        ensures register { IfOk result (λ reply. Registers self.now.state (AskGet (get_command ask.now)) (Answered (GetDone reply))) }
+        ensures register { IfOk result (λ reply.
+            Registers self.now.state (AskGet (get_command ask.now)) (Answered (GetDone reply))) }
     {
         match self.store.get(&ask.key) {
             None => Ok(absent(alloc)),
@@ -167,7 +166,7 @@ impl<S: ClockStore> VnodeOver<S> {
         }
     }
 
-    /// Checks a put by what was found of its key, and says who makes it.
+    /// Checks a put by what was found of its key; returns who makes it.
     fn check_put(
         &self,
         put: &PutAsk,
@@ -175,7 +174,7 @@ impl<S: ClockStore> VnodeOver<S> {
         context: Option<&Context<'_>>,
     ) -> Result<Writer, Refusal>
         requires given { context_of put.now.context ≡ option_map Pairs (seen_in context) }
-        requires found { option_map (λ s. stored_of s.now) found ≡ stored self.now.state put.now.key }
+        requires found { found_in found ≡ stored self.now.state put.now.key }
         ensures given { GivenBy result (put_check self.now.state (put_command put.now)) }
         ensures writer { IfOk result (λ writer. writer ≡ writer_of self.now.state put.now.key) }
     {
@@ -187,9 +186,9 @@ impl<S: ClockStore> VnodeOver<S> {
         check_room(self.id, last_epoch, found, context)
     }
 
-    /// Checks a delete by a context, and says who writes its tombstone.
+    /// Checks a delete by a context; returns who writes its tombstone.
     fn check_del(&self, key: &Key, context: &Context<'_>) -> Result<Writer, Refusal>
-        ensures given { GivenBy result (update_check self.now.state key.now (Some (Pairs context.now)) context.now) }
+        ensures given { GivenBy result (del_check_by self.now.state key.now context.now) }
         ensures writer { IfOk result (λ writer. writer ≡ writer_of self.now.state key.now) }
     {
         let last_epoch = self.epochs.last();
@@ -200,7 +199,7 @@ impl<S: ClockStore> VnodeOver<S> {
         check_room(self.id, last_epoch, found, Some(context))
     }
 
-    /// Checks a delete without context, and says who writes its tombstone: nobody, where the key is absent.
+    /// Checks a delete without context; returns who writes its tombstone: nobody, where the key is absent.
     fn check_del_of_all(&self, key: &Key) -> Result<Option<Writer>, Refusal>
         ensures { DelOfAllGives self.now.state key.now result }
     {
@@ -245,7 +244,7 @@ impl<S: ClockStore> VnodeOver<S> {
     fn make_ready(&mut self, alloc: Global, ask: &Ask) -> Result<Readiness, Refusal>
         requires { self.old.prepared ≡ None }
         ensures same { self.new.state ≡ self.old.state }
-        ensures ok { IfOk result (λ readiness. Plans self.new ask.now (plan_in readiness ask.now)) }
+        ensures ok { IfOk result (λ r. Plans self.new ask.now (plan_in r ask.now)) }
         ensures err { IfErr result (λ refusal. Refuses self.old.state ask.now refusal) }
         ensures ended { IfErr result (λ refusal. self.new.prepared ≡ None) }
     {
@@ -270,7 +269,7 @@ impl<S: ClockStore> VnodeOver<S> {
         requires is { ask.now ≡ Del del.now }
         requires ended { self.old.prepared ≡ None }
         ensures same { self.new.state ≡ self.old.state }
-        ensures ok { IfOk result (λ readiness. Plans self.new (Del del.now) (plan_in readiness (Del del.now))) }
+        ensures ok { IfOk result (λ r. Plans self.new (Del del.now) (plan_in r (Del del.now))) }
         ensures err { IfErr result (λ refusal. Refuses self.old.state (Del del.now) refusal) }
         ensures ended { IfErr result (λ refusal. self.new.prepared ≡ None) }
     {
@@ -327,7 +326,7 @@ impl<S: ClockStore> VnodeOver<S> {
                 Ok(())
             }
             Err(_) => {
-                let_go(ready);
+                drop_ready(ready);
                 Err(Refusal::NoMemory)
             }
         }
@@ -349,7 +348,7 @@ impl<S: ClockStore> VnodeOver<S> {
     /// absent and the epoch 4,294,967,295 was given; `CounterUsedUp`, where the key's actor has the dot 4,294,967,295.
     /// `NoMemory`, where none of these holds and a growth was refused. Each leaves the state as it was. The options are
     /// a put's alone. Without a context a put covers nothing, and a delete all that is stored: `BadContext` and
-    /// `TooManySiblings` never come of such a delete.
+    /// `TooManySiblings` never refuse such a delete.
     pub fn prepare(&mut self, alloc: Global, ask: Ask) -> Result<Plan<Change, Answer>, Refusal>
         ensures same { self.new.state ≡ self.old.state }
         ensures ok { IfOk result (λ plan. Plans self.new ask plan) }
@@ -369,7 +368,8 @@ impl<S: ClockStore> VnodeOver<S> {
         requires { self.old.prepared ≡ Some change }
         ensures step { Steps self.old.state change result self.new.state }
         ensures ended { self.new.prepared ≡ None }
-        ensures register { RegistersAsk self.old.state change (Accepted (operation_of change) (response_of result) self.new.state) }
+        ensures register { RegistersAsk self.old.state change
+            (Accepted (operation_of change) (response_of result) self.new.state) }
     {
         match change.ask {
             Ask::Reap(key) => self.finish_reap(key),
@@ -384,7 +384,7 @@ impl<S: ClockStore> VnodeOver<S> {
         requires prepared { self.old.prepared ≡ Some ask }
         ensures step { Steps self.old.state ask result self.new.state }
         ensures ended { self.new.prepared ≡ None }
-        ensures register { RegistersAsk self.old.state ask (Accepted (operation_of ask) (response_of result) self.new.state) }
+        ensures register { RegistersStep self.old.state ask result self.new.state }
     {
         self.prepared = GhostValue::none(); // it is made now
         let Some(Ready { writer, answer }) = self.ready.take() else {

@@ -10,7 +10,7 @@ use Rattle.std.specs.Ordering.{is_lt, is_eq, eq_by_cmp, ordering_reverse}
 use Rattle.std.proofs.lemmas.Float.{T_from_true}
 use Rattle.std.specs.FinMap.Entries.{find, where_key, is_sorted, below_all, is_sorted-put, is_sorted-where_key}
 use Rattle.riak_msgs.specs.declared.Key.{Key}
-use Rattle.riak_msgs.specs.declared.Content.{Content}
+use Rattle.riak_msgs.specs.Contents.{Content}
 use Rattle.riak_msgs.specs.KeyOrder.{key_cmp, key_eq}
 use Rattle.sibling_register.specs.History.{Event, Operation, Write, Tombstone, Reap}
 use Rattle.actor_epoch.specs.Given.{Context}

@@ -1,10 +1,9 @@
 -- Whole exchanges, ask by ask, by the machine's step, at vnode 65536 before its first epoch.
 use Rattle.std.proofs.Common.{◌≡◌, ℕ, List, [], ◌∷◌, true, false, refl}
 use Rattle.std.specs.Prelude.{Some, None, Result, Ok, Err}
-use Rattle.riak_msgs.specs.declared.Content.{Content}
+use Rattle.riak_msgs.specs.Contents.{Content, no_content, tombstone}
 use Rattle.riak_msgs.specs.declared.Shown.{Shown}
 use Rattle.riak_msgs.specs.declared.DelAsk.{DelAsk}
-use Rattle.riak_msgs.specs.Contents.{no_content, tombstone}
 use Rattle.sibling_register.specs.Answers.{Ask, AskGet, AskPut, AskDel, AskReap}
 use Rattle.actor_epoch.specs.Entries.{entry_in}
 use Rattle.actor_epoch.specs.Given.{Context, Malformed, Pairs, context_of}

@@ -4,7 +4,7 @@ use Rattle.std.specs.Prelude.{nat_eq, nat_le, Option, Some, None, IsTrue, unwrap
 use Rattle.std.specs.Option.{option_map_or}
 use Rattle.std.proofs.lemmas.Bool.Decides.{nat_tests}
 use Rattle.riak_msgs.specs.declared.Key.{Key}
-use Rattle.riak_msgs.specs.declared.Content.{Content}
+use Rattle.riak_msgs.specs.Contents.{Content}
 use Rattle.sibling_register.specs.History.{Event, count_of, content_of}
 use Rattle.sibling_register.specs.Siblings.{siblings, is_defined}
 use Rattle.actor_epoch.specs.declared.Actor.{Actor}

@@ -3,7 +3,7 @@ use Rattle.std.proofs.Common.{◌≡◌, ℕ, Bool, true, not, ◌&&◌, List, l
 use Rattle.std.specs.Prelude.{nat_le, filter, Option, Some, None, is_some, ◌-◌}
 use Rattle.std.proofs.lemmas.List.Sums.{length-filter}
 use Rattle.riak_msgs.specs.declared.Key.{Key}
-use Rattle.riak_msgs.specs.declared.Content.{Content}
+use Rattle.riak_msgs.specs.Contents.{Content}
 use Rattle.sibling_register.specs.History.{content_of}
 use Rattle.sibling_register.specs.Siblings.{siblings, is_among, is_defined, is_present, is_dead}
 use Rattle.sibling_register.specs.Refusals.{max_siblings}

@@ -4,7 +4,7 @@ use Rattle.std.specs.Prelude.{nat_eq, Option, Some, None, IsTrue, is_some}
 use Rattle.std.specs.List.{list_any}
 use Rattle.std.proofs.lemmas.Bool.Decides.{nat_tests}
 use Rattle.riak_msgs.specs.declared.Key.{Key}
-use Rattle.riak_msgs.specs.declared.Content.{Content}
+use Rattle.riak_msgs.specs.Contents.{Content}
 use Rattle.riak_msgs.specs.KeyOrder.{key_eq}
 use Rattle.sibling_register.specs.History.{Event, Operation, Write, Tombstone, Reap, events_of, count_of}
 use Rattle.sibling_register.specs.Siblings.{is_defined}

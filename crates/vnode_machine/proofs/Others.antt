@@ -3,7 +3,7 @@ use Rattle.std.proofs.Common.{◌≡◌, ℕ, suc, ◌≤◌, true, false, not, 
 use Rattle.std.specs.Prelude.{nat_le, Option, Some, None, ◌==◌}
 use Rattle.std.proofs.lemmas.Bool.Decides.{nat_tests}
 use Rattle.riak_msgs.specs.declared.Key.{Key}
-use Rattle.riak_msgs.specs.declared.Content.{Content}
+use Rattle.riak_msgs.specs.Contents.{Content}
 use Rattle.riak_msgs.specs.KeyOrder.{key_eq}
 use Rattle.sibling_register.specs.History.{Event, is_update, count_of, numbers_to}
 use Rattle.sibling_register.specs.Siblings.{siblings, is_among}

@@ -5,7 +5,7 @@ use Rattle.std.specs.Option.{option_map_or}
 use Rattle.std.specs.List.{list_any}
 use Rattle.std.proofs.lemmas.Bool.Decides.{nat_tests}
 use Rattle.riak_msgs.specs.declared.Key.{Key}
-use Rattle.riak_msgs.specs.declared.Content.{Content}
+use Rattle.riak_msgs.specs.Contents.{Content}
 use Rattle.sibling_register.specs.History.{count_of, numbers_to}
 use Rattle.sibling_register.specs.Siblings.{siblings, is_defined}
 use Rattle.sibling_register.specs.Naming.{named}

@@ -1,7 +1,7 @@
 -- What comes of each ask is the register's.
 use Rattle.std.proofs.Common.{◌≡◌, ℕ, ◌+◌, ◌≤◌, sym, subst, arith}
 use Rattle.std.specs.Prelude.{◌<◌, ◌^◌}
-use Rattle.riak_msgs.specs.declared.Content.{Content}
+use Rattle.riak_msgs.specs.Contents.{Content}
 use Rattle.sibling_register.specs.Answers.{Ask, AskGet, AskPut, AskDel, AskReap}
 use Rattle.actor_epoch.specs.Limits.{max_epoch}
 use Rattle.actor_epoch.specs.Given.{Context}

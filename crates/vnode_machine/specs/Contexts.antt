@@ -2,7 +2,7 @@
 -- and what follows: what an event saw is what was there at a position of its key.
 use Rattle.std.specs.Prelude.{◌≡◌, ◌≢◌, ◌⊎◌, ◌++◌, List, [], ◌∷◌, ℕ, Option, Some, None, IsTrue}
 use Rattle.riak_msgs.specs.declared.Key.{Key}
-use Rattle.riak_msgs.specs.declared.Content.{Content}
+use Rattle.riak_msgs.specs.Contents.{Content}
 use Rattle.sibling_register.specs.History.{Event, count_of, content_of, numbers_to}
 use Rattle.sibling_register.specs.Siblings.{siblings, is_among, is_defined}
 use Rattle.sibling_register.specs.Naming.{named}

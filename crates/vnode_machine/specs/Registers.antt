@@ -1,7 +1,7 @@
 -- The machine's step as the sibling register's, at every history that a vnode in a state may have had.
 use Rattle.std.specs.Prelude.{◌≡◌, ◌∷◌, ℕ, Option, None, Result, Ok, Err}
 use Rattle.riak_msgs.specs.declared.Key.{Key}
-use Rattle.riak_msgs.specs.declared.Content.{Content}
+use Rattle.riak_msgs.specs.Contents.{Content}
 use Rattle.sibling_register.specs.History.{Event, Operation}
 use Rattle.sibling_register.specs.Answers.{Ask, AskGet, AskPut, AskDel, AskReap, Told, Refused as ToldRefused, Reaped, Answers, Accepts, MayGive}
 use Rattle.sibling_register.specs.Legal.{IsLegal}

@@ -1,7 +1,7 @@
 -- Runs: turns that a vnode takes one after another, and the history that the register has after them. A turn may be a
 -- client's, or the node's own as a sweep's reaps are; of a ring of vnodes each takes the turns at its own index.
 use Rattle.std.specs.Prelude.{◌≡◌, ◌⊎◌, List, [], ◌∷◌, ℕ, Result, Ok, Err}
-use Rattle.riak_msgs.specs.declared.Content.{Content}
+use Rattle.riak_msgs.specs.Contents.{Content}
 use Rattle.sibling_register.specs.Refusals.{no_memory}
 use Rattle.sibling_register.specs.Answers.{Ask, Told, Outcome, Answers, Accepts, MayGive}
 use Rattle.sibling_register.specs.Legal.{IsLegal}

@@ -1,7 +1,7 @@
 -- One step of the machine: what comes of an ask in a state.
 use Rattle.std.specs.Prelude.{not, ◌&&◌, if◌then◌else◌, ℕ, Option, Some, None, is_none}
 use Rattle.riak_msgs.specs.declared.Key.{Key}
-use Rattle.riak_msgs.specs.declared.Content.{Content}
+use Rattle.riak_msgs.specs.Contents.{Content}
 use Rattle.riak_msgs.specs.declared.GetReply.{GetReply}
 use Rattle.riak_msgs.specs.declared.PutReply.{PutReply}
 use Rattle.sibling_register.specs.History.{Operation, Write, Tombstone, Reap}

@@ -13,8 +13,9 @@ fn mark_shuts(gate: &Gate<Counter>) -> bool {
 #[test]
 fn a_mark_given_up_lets_readers_in(rt: HostRuntime) -> Result<(), Fail> {
     let gate = counter_gate(rt.alloc(), 7)?;
-    assert!(rt; mark_shuts(&gate));
-    assert_eq!(rt; shown(&gate), Some((7, 0)));
+    let is_so = mark_shuts(&gate) && shown(&gate) == Some((7, 0));
+    drop(gate);
+    assert!(rt; is_so);
     Ok(())
 }
 
@@ -34,7 +35,8 @@ fn mark_shuts_beside_a_reader(gate: &Gate<Counter>) -> bool {
 #[test]
 fn a_put_back_is_unmarked(rt: HostRuntime) -> Result<(), Fail> {
     let gate = counter_gate(rt.alloc(), 7)?;
-    assert!(rt; mark_shuts_beside_a_reader(&gate));
-    assert!(rt; lets_write(&gate) && lets_read(&gate));
+    let is_so = mark_shuts_beside_a_reader(&gate) && lets_write(&gate) && lets_read(&gate);
+    drop(gate);
+    assert!(rt; is_so);
     Ok(())
 }

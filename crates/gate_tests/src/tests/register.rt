@@ -326,6 +326,8 @@ fn register_gate(alloc: Global) -> Result<Gate<Register>, Fail> {
 #[test]
 fn a_register_behind_a_gate(rt: HostRuntime) -> Result<(), Fail> {
     let gate = register_gate(rt.alloc())?;
-    assert!(rt; lives_and_dies(&gate, rt.alloc()));
+    let is_so = lives_and_dies(&gate, rt.alloc());
+    drop(gate);
+    assert!(rt; is_so);
     Ok(())
 }

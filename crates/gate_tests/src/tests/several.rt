@@ -72,7 +72,9 @@ fn catches_up(gate: &Gate<Counter>, alloc: Global) -> bool {
 #[test]
 fn an_overtaken_pass_catches_up(rt: HostRuntime) -> Result<(), Fail> {
     let gate = counter_gate(rt.alloc(), 0)?;
-    assert!(rt; catches_up(&gate, rt.alloc()));
+    let is_so = catches_up(&gate, rt.alloc());
+    drop(gate);
+    assert!(rt; is_so);
     Ok(())
 }
 
@@ -89,7 +91,9 @@ fn publishes_behind(gate: &Gate<Counter>, alloc: Global) -> bool {
 #[test]
 fn an_overtaken_pass_publishes_behind(rt: HostRuntime) -> Result<(), Fail> {
     let gate = counter_gate(rt.alloc(), 0)?;
-    assert!(rt; publishes_behind(&gate, rt.alloc()));
+    let is_so = publishes_behind(&gate, rt.alloc());
+    drop(gate);
+    assert!(rt; is_so);
     Ok(())
 }
 

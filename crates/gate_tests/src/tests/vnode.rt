@@ -108,7 +108,7 @@ fn has(reply: &GetReply, values: &[&[u8]], context: &[u8]) -> bool {
     let contents = reply.contents.as_slice();
     let mut are_same = contents.len() == values.len();
     for (shown, value) in contents.iter().zip(values) {
-        are_same = are_same && shown.content.value.as_slice() == *value;
+        are_same = are_same && shown.content.value().as_slice() == *value;
     }
     are_same && reply.context.as_slice() == context
 }
@@ -158,8 +158,9 @@ fn is_shared(gate: &Gate<Vnode>, alloc: Global) -> bool {
 #[test]
 fn a_write_is_read_back(rt: HostRuntime) -> Result<(), Fail> {
     let gate = vnode_gate(rt.alloc()).ok_or("a gate")?;
-    assert!(rt; writes_and_reads(&gate, rt.alloc()));
-    assert!(rt; is_shared(&gate, rt.alloc()));
+    let is_so = writes_and_reads(&gate, rt.alloc()) && is_shared(&gate, rt.alloc());
+    drop(gate);
+    assert!(rt; is_so);
     Ok(())
 }
 

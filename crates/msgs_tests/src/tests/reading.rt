@@ -43,9 +43,9 @@ pub(crate) fn put_of(read: &Result<Request, MsgFault>) -> Option<&PutAsk> {
 /// The message is refused by this fault.
 pub(crate) fn refuses(rt: &impl Abort, alloc: Global, code: u8, body: &[u8], want: MsgFault) {
     let read = read_request(alloc, code, body);
-    let told = fault_of(&read);
+    let fault = fault_of(&read);
     let_go(read);
-    assert_eq!(rt; told, Some(want), "at {code} {body:?}");
+    assert_eq!(rt; fault, Some(want), "at {code} {body:?}");
 }
 
 fn fault_of(read: &Result<Request, MsgFault>) -> Option<MsgFault> {

@@ -12,12 +12,10 @@ fn writes(rt: &impl Abort, alloc: Global, reply: &Reply, want: &[u8]) -> Result<
     Ok(())
 }
 
-/// A sibling of which nothing is said but its value.
+/// A sibling of a value without details.
 fn sibling(alloc: Global, value: &[u8]) -> Result<Shown, AllocError> {
-    let mut content = Content::new(alloc);
-    content.value = Bytes::from_slice(alloc, value)?;
     Ok(Shown {
-        content,
+        content: Content::of_value(alloc, value)?,
         deleted: false,
     })
 }
@@ -133,10 +131,14 @@ fn indexes(alloc: Global) -> Result<Sequence<Pair>, AllocError> {
 
 /// A content with every field, and with fields of no bytes.
 fn full(alloc: Global) -> Result<Content, AllocError> {
+    let value = Bytes::from_slice(alloc, b"v")?;
+    Content::with_details(alloc, value, details(alloc)?)
+}
+
+fn details(alloc: Global) -> Result<Details, AllocError> {
     let (content_type, charset, content_encoding) = labels(alloc)?;
     let (links, usermeta, indexes) = parts(alloc)?;
-    Ok(Content {
-        value: Bytes::from_slice(alloc, b"v")?,
+    Ok(Details {
         content_type,
         charset,
         content_encoding,
@@ -231,34 +233,34 @@ fn writes_whole_and_head(rt: &impl Abort, alloc: Global, want: &[u8]) -> Result<
 const BEHIND_VALUE: &[u8] =
     b"\x12\x0atext/plain\x1a\x05utf-8\x22\x002\x09\x0a\x01b\x12\x01k\x1a\x01t2\x02\x12\x00J\x06\x0a\x01m\x12\x011J\x02\x0a\x00R\x8c\x01\x0a\x05i_bin\x12\x82\x01";
 
-fn tells(rt: &impl Abort, text: Text, want: &[u8]) {
+fn has_text(rt: &impl Abort, text: Text, want: &[u8]) {
     assert_eq!(rt; text_of(text), want);
 }
 
 #[test]
-fn texts_are_told_to_the_letter(rt: HostRuntime) {
-    tells(&rt, Text::UnknownCode, b"unknown message code");
-    tells(&rt, Text::BadMessage, b"bad message");
-    tells(&rt, Text::MissingField, b"missing field");
-    tells(&rt, Text::EmptyName, b"empty name");
-    tells(&rt, Text::NoKey, b"key required");
-    tells(&rt, Text::NoMemory, b"no memory");
-    tells(&rt, Text::Moved, b"moved");
-    tells(&rt, Text::HistoryFull, b"history full");
-    tells(&rt, Text::BadFrame, b"bad frame");
-    tells(&rt, Text::FrameTooLarge, b"frame too large");
+fn texts_are_those_of_the_formats(rt: HostRuntime) {
+    has_text(&rt, Text::UnknownCode, b"unknown message code");
+    has_text(&rt, Text::BadMessage, b"bad message");
+    has_text(&rt, Text::MissingField, b"missing field");
+    has_text(&rt, Text::EmptyName, b"empty name");
+    has_text(&rt, Text::NoKey, b"key required");
+    has_text(&rt, Text::NoMemory, b"no memory");
+    has_text(&rt, Text::Moved, b"moved");
+    has_text(&rt, Text::HistoryFull, b"history full");
+    has_text(&rt, Text::BadFrame, b"bad frame");
+    has_text(&rt, Text::FrameTooLarge, b"frame too large");
 }
 
 #[test]
-fn texts_of_refusals_are_told_to_the_letter(rt: HostRuntime) {
-    tells(&rt, Text::MatchFound, b"match_found");
-    tells(&rt, Text::Modified, b"modified");
-    tells(&rt, Text::NotFound, b"notfound");
-    tells(&rt, Text::BadContext, b"bad context");
-    tells(&rt, Text::TooManySiblings, b"too many siblings");
-    tells(&rt, Text::ClockFull, b"clock full");
-    tells(&rt, Text::EpochsUsedUp, b"epochs used up");
-    tells(&rt, Text::CounterUsedUp, b"counter used up");
+fn texts_of_refusals_are_those_of_the_formats(rt: HostRuntime) {
+    has_text(&rt, Text::MatchFound, b"match_found");
+    has_text(&rt, Text::Modified, b"modified");
+    has_text(&rt, Text::NotFound, b"notfound");
+    has_text(&rt, Text::BadContext, b"bad context");
+    has_text(&rt, Text::TooManySiblings, b"too many siblings");
+    has_text(&rt, Text::ClockFull, b"clock full");
+    has_text(&rt, Text::EpochsUsedUp, b"epochs used up");
+    has_text(&rt, Text::CounterUsedUp, b"counter used up");
 }
 
 /// Reads a reply, and a second time where memory was refused: then the answer is the same as it would have been.
@@ -342,9 +344,9 @@ fn a_bool_is_read_from_all_its_bits(rt: HostRuntime) {
 
 fn refuses(rt: &impl Abort, alloc: Global, message: &[u8], want: MsgFault) {
     let read = read_again(alloc, message);
-    let told = fault_of(&read);
+    let fault = fault_of(&read);
     let_go(read);
-    assert_eq!(rt; told, Some(want), "at {message:?}");
+    assert_eq!(rt; fault, Some(want), "at {message:?}");
 }
 
 fn fault_of(read: &Result<Reply, MsgFault>) -> Option<MsgFault> {

@@ -61,7 +61,7 @@ fn has_put(
 fn is_plain_put(ask: &PutAsk, bucket_type: &[u8], context: &[u8], value: &[u8]) -> bool {
     is_of(&ask.key, bucket_type)
         && ask.context.as_slice() == context
-        && ask.content.value.as_slice() == value
+        && ask.content.as_content().value().as_slice() == value
         && !ask.return_body
         && !ask.return_head
         && !ask.if_not_modified
@@ -122,10 +122,10 @@ fn a_put_in_any_encoding(rt: HostRuntime) {
 }
 
 fn is_value_and_type(content: &Content) -> bool {
-    content.value.as_slice() == b"v".as_slice() && is_some_t(&content.content_type)
+    content.value().as_slice() == b"v".as_slice() && is_some_t(content.content_type())
 }
 
-fn is_some_t(bytes: &Option<Bytes>) -> bool {
+fn is_some_t(bytes: Option<&Bytes>) -> bool {
     match bytes {
         Some(bytes) => bytes.as_slice() == b"t".as_slice(),
         None => false,
@@ -133,9 +133,9 @@ fn is_some_t(bytes: &Option<Bytes>) -> bool {
 }
 
 fn is_merged(content: &Content) -> bool {
-    content.value.as_slice() == b"w".as_slice()
-        && content.links.len() == 1
-        && are_m_and_n(content.usermeta.as_slice())
+    content.value().as_slice() == b"w".as_slice()
+        && content.links().len() == 1
+        && are_m_and_n(content.usermeta())
 }
 
 /// The keys are m and n, and only the first has a value.
@@ -167,14 +167,14 @@ fn a_content_given_twice_is_merged(rt: HostRuntime) {
 
 fn has_value_and_type(rt: &impl Abort, read: &Result<Request, MsgFault>) {
     match put_of(read) {
-        Some(ask) => assert!(rt; is_value_and_type(&ask.content)),
+        Some(ask) => assert!(rt; is_value_and_type(ask.content.as_content())),
         None => assert!(rt; false, "a put"),
     }
 }
 
 fn has_merged(rt: &impl Abort, read: &Result<Request, MsgFault>) {
     match put_of(read) {
-        Some(ask) => assert!(rt; is_merged(&ask.content)),
+        Some(ask) => assert!(rt; is_merged(ask.content.as_content())),
         None => assert!(rt; false, "a put"),
     }
 }

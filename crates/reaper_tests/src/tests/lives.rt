@@ -37,7 +37,7 @@ fn second_life_begins(alloc: Global, vnode: &mut Vnode) -> bool {
         && shows(vnode, alloc, b"k", &[b"b"], FIRST_OF_SECOND)
 }
 
-/// A put by the context of the first life covers nothing: both values stand, and the clock knows both lives.
+/// A put by the context of the first life covers nothing: both values stay, and the clock knows both lives.
 #[test]
 fn old_context_covers_nothing(rt: HostRuntime) {
     let mut vnode = Vnode::new(rt.alloc(), ID, 1);

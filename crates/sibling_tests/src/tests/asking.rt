@@ -1,4 +1,4 @@
-//! Commands of tests, each asked again where memory was refused, and what they are told.
+//! Commands of tests, each asked again where memory was refused, and their answers.
 
 ghost use Rattle.sibling_register.specs.Plain.{IsPosition, GivesPositions};
 
@@ -64,7 +64,7 @@ impl Put {
     }
 }
 
-/// What a command should be told.
+/// The answer that is wanted.
 #[derive(Clone, Copy)]
 pub enum Want<'a> {
     /// These siblings, and the context of this position.
@@ -93,7 +93,7 @@ fn is_shown(told: &Told, numbers: &[u64], position: Option<u64>, flags: (bool, b
 }
 
 /// The answer is what it should be.
-fn is_told(told: &Told, want: Want<'_>) -> bool {
+fn is_answer(told: &Told, want: Want<'_>) -> bool {
     match want {
         Want::Shown(numbers, position) => is_shown(told, numbers, position, (false, false)),
         Want::Bare(numbers, position) => is_shown(told, numbers, position, (false, true)),
@@ -203,12 +203,12 @@ fn reap_once(
 /// An answer is what it should be.
 fn agrees(told: Result<Told, RegisterFault>, want: Want<'_>) -> bool {
     match told {
-        Ok(told) => is_told(&told, want),
+        Ok(told) => is_answer(&told, want),
         Err(_) => false,
     }
 }
 
-/// A get is told this.
+/// A get has this answer.
 pub fn get_gives(
     rt: &impl Abort,
     register: &mut PlainRegister<u8>,
@@ -224,7 +224,7 @@ pub fn get_gives(
     assert!(rt; well, "a get of {}", get.name);
 }
 
-/// A put is told this.
+/// A put has this answer.
 pub fn put_gives(
     rt: &impl Abort,
     register: &mut PlainRegister<u8>,
@@ -240,7 +240,7 @@ pub fn put_gives(
     assert!(rt; well, "a put of {} on {}", put.value, put.name);
 }
 
-/// A delete is told this.
+/// A delete has this answer.
 pub fn del_gives(
     rt: &impl Abort,
     register: &mut PlainRegister<u8>,
@@ -257,7 +257,7 @@ pub fn del_gives(
     assert!(rt; well, "a delete of {name}");
 }
 
-/// A reap is told this.
+/// A reap has this answer.
 pub fn reap_gives(
     rt: &impl Abort,
     register: &mut PlainRegister<u8>,

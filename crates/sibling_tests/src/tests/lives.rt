@@ -6,7 +6,7 @@ use std::alloc::Global;
 use std::process::Abort;
 use std::test::Fail;
 
-/// A put of a value under a context of key "k", which is told the siblings.
+/// A put of a value under a context of key "k", whose answer shows the siblings.
 fn write(value: u8, context: Option<u64>) -> Put {
     Put {
         context,
@@ -15,7 +15,7 @@ fn write(value: u8, context: Option<u64>) -> Put {
     }
 }
 
-/// A get of key "k", which is told the context of a dead key too.
+/// A get of key "k", whose answer shows the context of a dead key too.
 fn read(if_modified: Option<u64>) -> Get {
     Get {
         if_modified,

@@ -2,10 +2,8 @@
 
 ghost use Rattle.std.specs.Prelude.{◌≡◌, None, Some};
 ghost use Rattle.vnode_machine.specs.Dead.{has_dead};
-ghost use Rattle.vnode_machine.specs.Step.{Accepted};
 ghost use Rattle.vnode_core.specs.declared.ask.Ask.TheVariants.{Reap, ReapFirst};
-ghost use Rattle.vnode_core.specs.Plans.{Plans, RegistersAsk, RegistersReap, RegistersFirstReap, Steps};
-ghost use Rattle.vnode_core.specs.Plans.{operation_of, response_of};
+ghost use Rattle.vnode_core.specs.Plans.{Plans, RegistersReap, RegistersFirstReap, RegistersStep, Steps};
 ghost use Rattle.vnode_core.specs.Readiness.{plan_in};
 ghost use Rattle.vnode_core.specs.Reaping.{key_given, reap_result, after_reap, after_first_reap};
 ghost use Rattle.vnode_core.specs.Reaping.{LosesFirstDead};
@@ -52,12 +50,13 @@ impl<S: ClockStore> VnodeOver<S> {
         found
     }
 
-    /// Whether a dead key stands at or after the given one, or anywhere where none is given. It takes no memory.
+    /// Whether there is a dead key at or after the given one, or anywhere where none is given. It takes no memory.
     pub fn has_dead(&self, from: Option<&Key>) -> bool
         ensures { result ≡ has_dead self.now.state (key_given from.entry) }
     {
         self.store.has_dead(from)
     }
+
     /// Plans the reap of a key, where nothing is prepared; it is prepared then where the key is dead.
     pub(crate) fn make_reap_ready(&mut self, ask: &Ask, key: &Key) -> Readiness
         requires is { ask.now ≡ Reap key.now }
@@ -81,7 +80,8 @@ impl<S: ClockStore> VnodeOver<S> {
         requires is { ask.now ≡ ReapFirst (key_given from) }
         requires ended { self.old.prepared ≡ None }
         ensures same { self.new.state ≡ self.old.state }
-        ensures plans { Plans self.new (ReapFirst (key_given from.entry)) (plan_in result (ReapFirst (key_given from.entry))) }
+        ensures plans { Plans self.new (ReapFirst (key_given from.entry))
+            (plan_in result (ReapFirst (key_given from.entry))) }
     {
         if self.store.has_dead(from) {
             self.prepared = GhostValue::some(ask);
@@ -95,7 +95,7 @@ impl<S: ClockStore> VnodeOver<S> {
         requires { self.old.prepared ≡ Some (Reap key) }
         ensures step { Steps self.old.state (Reap key) result self.new.state }
         ensures ended { self.new.prepared ≡ None }
-        ensures register { RegistersAsk self.old.state (Reap key) (Accepted (operation_of (Reap key)) (response_of result) self.new.state) }
+        ensures register { RegistersStep self.old.state (Reap key) result self.new.state }
     {
         self.drop_prepared();
         let reaped = self.reap(&key);
@@ -107,7 +107,7 @@ impl<S: ClockStore> VnodeOver<S> {
         requires { self.old.prepared ≡ Some (ReapFirst from) }
         ensures step { Steps self.old.state (ReapFirst from) result self.new.state }
         ensures ended { self.new.prepared ≡ None }
-        ensures register { RegistersAsk self.old.state (ReapFirst from) (Accepted (operation_of (ReapFirst from)) (response_of result) self.new.state) }
+        ensures register { RegistersStep self.old.state (ReapFirst from) result self.new.state }
     {
         self.drop_prepared();
         if self.reap_first(from.as_ref()) {

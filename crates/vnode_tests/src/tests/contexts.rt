@@ -7,7 +7,7 @@ use std::alloc::Global;
 use std::process::Abort;
 use vnode_core::{Refusal, Vnode};
 
-/// v, then w beside it; x, which has seen v alone, replaces v and stands beside w. A put that memory is refused leaves
+/// v, then w beside it; x, which has seen v alone, replaces v and stays beside w. A put that memory is refused leaves
 /// what was there.
 #[test]
 fn context_covers_what_it_saw(rt: HostRuntime) {

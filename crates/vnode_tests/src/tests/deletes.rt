@@ -36,7 +36,7 @@ fn delete_without_context_sees_all_of(alloc: Global, vnode: &mut Vnode) -> bool 
         && shows(vnode, alloc, b"k", &[], b"")
 }
 
-/// v, w, then a delete that has seen v alone: the tombstone stands beside w.
+/// v, w, then a delete that has seen v alone: the tombstone stays beside w.
 #[test]
 fn old_delete_leaves_newer_value(rt: HostRuntime) {
     let mut vnode = Vnode::new(rt.alloc(), ID, 1);
@@ -94,7 +94,7 @@ fn delete_by_context_of_absent_key_of(alloc: Global, vnode: &mut Vnode) -> bool 
         )
 }
 
-/// A dead key takes another tombstone, at its life's next dot; a put then stands beside it, and by its context alone.
+/// A dead key takes another tombstone, at its life's next dot; a put then is a sibling beside it.
 #[test]
 fn dead_key_takes_another_tombstone(rt: HostRuntime) {
     let mut vnode = Vnode::new(rt.alloc(), ID, 1);

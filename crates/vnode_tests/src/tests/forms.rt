@@ -64,7 +64,7 @@ impl Told {
         }
     }
 
-    /// Whether it is told the same.
+    /// Whether it is answered the same.
     fn is_same(&self, other: &Told) -> bool {
         self.shown.as_slice() == other.shown.as_slice()
             && self.context.as_slice() == other.context.as_slice()
@@ -80,7 +80,8 @@ impl Told {
     fn note(&mut self, siblings: &[Shown]) -> Result<(), AllocError> {
         for one in siblings {
             self.shown.push(u8::from(one.deleted))?;
-            self.shown.extend_from_slice(one.content.value.as_slice())?;
+            self.shown
+                .extend_from_slice(one.content.value().as_slice())?;
             self.shown.push(0)?;
         }
         Ok(())
@@ -135,7 +136,7 @@ fn note_refusal(told: &mut Told, refusal: Refusal) -> Result<(), Refusal> {
     Ok(told.mark(mark)?)
 }
 
-/// Plans a command, makes its change where there is one, and notes what is told.
+/// Plans a command, makes its change where there is one, and notes its answer.
 fn make<S: ClockStore>(
     vnode: &mut VnodeOver<S>,
     alloc: Global,
@@ -165,20 +166,81 @@ fn del_of(alloc: Global, step: Step<'_>) -> Result<DelAsk, AllocError> {
     Ok(DelAsk { key, context })
 }
 
+fn get_of(alloc: Global, step: Step<'_>) -> Result<GetAsk, AllocError> {
+    match GetAsk::plain(alloc, b"b", step.key) {
+        Ok(mut get) => {
+            get.deletedvclock = step.return_body;
+            Ok(get)
+        }
+        Err(error) => Err(error),
+    }
+}
+
+/// Notes what a get was answered.
+fn note_read(told: &mut Told, read: &Result<GetReply, Refusal>) -> Result<(), Refusal> {
+    match read {
+        Ok(reply) => Ok(told.note_get(reply)?),
+        Err(refusal) => Err(*refusal),
+    }
+}
+
+/// Makes a get, which goes then, and notes what it is answered.
+fn read<S: ClockStore>(
+    vnode: &VnodeOver<S>,
+    alloc: Global,
+    get: GetAsk,
+    told: &mut Told,
+) -> Result<(), Refusal> {
+    let read = vnode.get(alloc, &get);
+    let noted = note_read(told, &read);
+    drop(read);
+    drop(get);
+    noted
+}
+
 fn get<S: ClockStore>(
     vnode: &VnodeOver<S>,
     alloc: Global,
     step: Step<'_>,
     told: &mut Told,
 ) -> Result<(), Refusal> {
-    let mut ask = GetAsk::plain(alloc, b"b", step.key)?;
-    ask.deletedvclock = step.return_body;
-    let reply = vnode.get(alloc, &ask)?;
-    let noted = told.note_get(&reply);
-    Ok(noted?)
+    match get_of(alloc, step) {
+        Ok(get) => read(vnode, alloc, get, told),
+        Err(_) => Err(Refusal::NoMemory),
+    }
 }
 
-/// Asks a vnode, and notes what is told.
+fn reap_of(alloc: Global, step: Step<'_>, is_first: bool) -> Result<Ask, AllocError> {
+    let key = Key::of_default_type(alloc, b"b", step.key)?;
+    if is_first {
+        return Ok(Ask::ReapFirst(Some(key)));
+    }
+    Ok(Ask::Reap(key))
+}
+
+/// The change that a step asks for.
+fn change_of(alloc: Global, step: Step<'_>) -> Result<Ask, AllocError> {
+    match step.command {
+        Command::Put => Ok(Ask::Put(put_of(alloc, step)?)),
+        Command::Del => Ok(Ask::Del(del_of(alloc, step)?)),
+        Command::Reap | Command::Get => reap_of(alloc, step, false),
+        Command::ReapFirst => reap_of(alloc, step, true),
+    }
+}
+
+fn change<S: ClockStore>(
+    vnode: &mut VnodeOver<S>,
+    alloc: Global,
+    step: Step<'_>,
+    told: &mut Told,
+) -> Result<(), Refusal> {
+    match change_of(alloc, step) {
+        Ok(ask) => make(vnode, alloc, ask, told),
+        Err(_) => Err(Refusal::NoMemory),
+    }
+}
+
+/// Asks a vnode, and notes its answer.
 fn ask<S: ClockStore>(
     vnode: &mut VnodeOver<S>,
     alloc: Global,
@@ -187,21 +249,8 @@ fn ask<S: ClockStore>(
 ) -> Result<(), Refusal> {
     match step.command {
         Command::Get => get(vnode, alloc, step, told),
-        Command::Put => {
-            let put = put_of(alloc, step)?;
-            make(vnode, alloc, Ask::Put(put), told)
-        }
-        Command::Del => {
-            let del = del_of(alloc, step)?;
-            make(vnode, alloc, Ask::Del(del), told)
-        }
-        Command::Reap => {
-            let key = Key::of_default_type(alloc, b"b", step.key)?;
-            make(vnode, alloc, Ask::Reap(key), told)
-        }
-        Command::ReapFirst => {
-            let key = Key::of_default_type(alloc, b"b", step.key)?;
-            make(vnode, alloc, Ask::ReapFirst(Some(key)), told)
+        Command::Put | Command::Del | Command::Reap | Command::ReapFirst => {
+            change(vnode, alloc, step, told)
         }
     }
 }
@@ -237,7 +286,7 @@ fn shown_of(contexts: &[Vec<u8>], at: Option<u8>) -> &[u8] {
     }
 }
 
-/// Asks both the same, and keeps the context that they show: whether they tell the same.
+/// Asks both the same, and keeps the context that they show: whether they answer the same.
 fn ask_both(
     alloc: Global,
     draws: &mut Draws,
@@ -259,18 +308,33 @@ fn ask_both(
     };
     let mut told = Told::new(alloc);
     let mut also = Told::new(alloc);
-    ask(vnode, alloc, step, &mut told)?;
-    ask(list, alloc, step, &mut also)?;
+    let asked = ask_each(alloc, step, vnode, &mut told, list, &mut also);
     let is_same = told.is_same(&also);
-    let Told { shown: _, context } = told;
-    if !context.is_empty() {
-        keep(contexts, own, context);
-    }
+    drop(also);
+    keep(contexts, own, told);
+    asked?;
     Ok(is_same)
 }
 
-/// Keeps a context as the last that was shown of a key.
-fn keep(contexts: &mut Vec<Vec<u8>>, own: u8, context: Vec<u8>) {
+/// Asks the one vnode, and then the other, and notes the answer of each.
+fn ask_each(
+    alloc: Global,
+    step: Step<'_>,
+    vnode: &mut Vnode,
+    told: &mut Told,
+    list: &mut ListVnode,
+    also: &mut Told,
+) -> Result<(), Refusal> {
+    ask(vnode, alloc, step, told)?;
+    ask(list, alloc, step, also)
+}
+
+/// Keeps the context that was answered, where there is one, as the last that was shown of a key.
+fn keep(contexts: &mut Vec<Vec<u8>>, own: u8, told: Told) {
+    let Told { shown: _, context } = told;
+    if context.is_empty() {
+        return;
+    }
     match contexts.get_mut(usize::from(own)) {
         None => {}
         Some(place) => *place = context,
@@ -286,7 +350,7 @@ fn no_contexts(alloc: Global) -> Result<Vec<Vec<u8>>, AllocError> {
     Ok(contexts)
 }
 
-/// Whether both tell the same of 1,000 asks, and count the same.
+/// Whether both answer 1,000 asks alike, and count the same.
 fn tell_the_same(alloc: Global, vnode: &mut Vnode, list: &mut ListVnode) -> Result<bool, Refusal> {
     let mut contexts = no_contexts(alloc)?;
     let mut draws = Draws { state: 1 };

@@ -90,7 +90,7 @@ fn absent_key_is_not_found(alloc: Global, vnode: &mut Vnode) -> bool {
     refusal_of_put(vnode, alloc, b"v", b"", IF_NOT_MODIFIED) == Some(Refusal::NotFound)
 }
 
-/// An old context and none, where v and w stand.
+/// An old context and none, where v and w are siblings.
 fn other_contexts_are_refused(alloc: Global, vnode: &mut Vnode) -> bool {
     put(vnode, alloc, b"k", b"v")
         && put(vnode, alloc, b"k", b"w")
@@ -109,7 +109,7 @@ fn dead_key_is_not_found(alloc: Global, vnode: &mut Vnode) -> bool {
         && refusal_of_put(vnode, alloc, b"y", b"", IF_NOT_MODIFIED) == Some(Refusal::NotFound)
 }
 
-/// With both conditions if_none_match decides; a context that runs ahead is told before either.
+/// With both conditions if_none_match decides; a context that runs ahead is refused before either.
 #[test]
 fn if_none_match_decides(rt: HostRuntime) {
     let mut vnode = Vnode::new(rt.alloc(), ID, 1);

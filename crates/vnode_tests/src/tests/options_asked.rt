@@ -117,7 +117,7 @@ pub(crate) fn refusal_of_delete(
     }
 }
 
-/// What a put is told: a reply, where there is one.
+/// What a put is answered: a reply, where there is one.
 type Told = Result<Option<PutReply>, Refusal>;
 
 /// The answer to a put, where it is one.
@@ -253,8 +253,8 @@ fn get_with(
 
 fn is_sibling(shown: &Shown, wanted: &Sibling) -> bool {
     match wanted {
-        Value(value) => !shown.deleted && shown.content.value.as_slice() == *value,
-        Tombstone => shown.deleted && shown.content.value.is_empty(),
+        Value(value) => !shown.deleted && shown.content.value().as_slice() == *value,
+        Tombstone => shown.deleted && shown.content.value().is_empty(),
     }
 }
 
@@ -296,7 +296,7 @@ fn has_siblings(read: &Result<GetReply, Refusal>, siblings: &[Sibling], context:
     }
 }
 
-/// Whether a get with options tells that nothing changed, and nothing else.
+/// Whether a get with options is answered `unchanged`, and nothing else.
 pub(crate) fn is_unchanged(
     vnode: &Vnode,
     alloc: Global,

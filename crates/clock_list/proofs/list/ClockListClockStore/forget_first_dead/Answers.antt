@@ -1,4 +1,4 @@
-use Rattle.std.proofs.Common.{◌∙◌, ◌<◌, ap, map, length, subst}
+use Rattle.std.proofs.Common.{◌∙◌, ◌<◌, ap, map, subst}
 use Rattle.std.specs.Prelude.{Some, None}
 use Rattle.std.proofs.lemmas.List.{length-map}
 use Rattle.vnode_machine.specs.Dead.{has_dead}

@@ -1,5 +1,4 @@
 use Rattle.std.proofs.Common.{◌∙◌, ap, map, refl}
-use Rattle.std.specs.Prelude.{is_some}
 use Rattle.vnode_machine.specs.Dead.{has_dead}
 use Rattle.clock_store.specs.Forgetting.{holding, key_given}
 use Rattle.clock_list.specs.Rows.{entry_of}

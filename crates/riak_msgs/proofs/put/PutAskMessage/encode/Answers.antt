@@ -13,5 +13,5 @@ returns g c =
     let seen = joins _ _ _ _ _ named c.in_ok-encode_context.ensures in
     let told = joins _ _ _ _ _ seen c.in_ok-encode_message.ensures in
     let options = joins _ _ _ _ _ told c.in_ok-encode_options.ensures in
-    rw (← c.as_slice.ensures, ← c.as_slice-2.ensures)
+    rw (← c.as_slice.ensures, ← c.as_slice-2.ensures, ← c.as_content.ensures)
     (OnOk-map c.encode_type.result _ _ (λ last. joins _ _ _ _ _ options last) c.encode_type.ensures)

@@ -2,6 +2,7 @@ use Rattle.std.proofs.Common.{ℕ, List, [], Option, sym, subst}
 use Rattle.std.specs.List.{cons_option}
 use Rattle.riak_msgs.specs.Embedded.{StandForContent}
 use Rattle.riak_msgs.specs.Seen.{no_fields}
+use Rattle.riak_msgs.specs.SeenContents.{content_in}
 use Rattle.riak_msgs.proofs.Contents.{StandForContent-nil, with_parts-no_fields}
 use Rattle.riak_msgs.proofs.Walks.{IfErr-each, IfErr-weaker}
 use Rattle.riak_msgs.proofs.read_put.PutCopyMerge.merge_field.Goals as goal
@@ -16,4 +17,4 @@ returns-in-Some-clause-err c =
 pub returns-in-None-clause-ok : goal.returns-in-None-clause-ok
 returns-in-None-clause-ok c =
     let P : Option (List ℕ) → Type 0 = λ o. StandForContent (cons_option o []) no_fields in
-    (no_fields, subst P c.in-None.ensures StandForContent-nil, sym (with_parts-no_fields c.args.self.now.parts.content))
+    (no_fields, subst P c.in-None.ensures StandForContent-nil, sym (with_parts-no_fields (content_in c.args.self.now.parts)))

@@ -1,6 +1,6 @@
 use Rattle.std.proofs.Common.{◌∙◌, sym, ap, subst}
 use Rattle.std.specs.Prelude.{Some}
-use Rattle.riak_msgs.specs.declared.Content.{Content}
+use Rattle.riak_msgs.specs.Contents.{Content}
 use Rattle.dvv_set.specs.Clocks.{event}
 use Rattle.actor_epoch.specs.declared.Actor.{Actor}
 use Rattle.actor_epoch.specs.Contexts.{is_well_formed}
@@ -13,27 +13,23 @@ use Rattle.vnode_core.specs.Vnodes.{IsReached}
 use Rattle.vnode_core.proofs.Reached.{within-put, form-after, reply-put}
 use Rattle.vnode_core.proofs.vnode.VnodeOver.plan_put.Goals as goal
 
-pub put_reply-requires-clause-within : goal.put_reply-requires-clause-within
-put_reply-requires-clause-within g c =
+pub put_reply-requires : goal.put_reply-requires
+put_reply-requires g c =
     let put = c.args.put.now in
     let state : State Content = c.args.self.now.state in
     let seen = seen_in c.args.context in
     let is = subst (λ w. IsReached w.state) c.self.view_is c.self.invariant.reached in
-    let within = within-put state is put c.in_ok-writer.ensures.given seen c.requires in
-    let found = c.get-found.ensures ∙ ap (λ w. stored w.state put.key) c.self.view_is in
-    subst (λ o. IsWithin (clock_found o).known seen c.in_ok-writer.writer.actor) (sym found)
-    (subst (λ (actor : Actor). IsWithin (clock_of state put.key).known seen actor) (sym (ap (λ writer. writer.actor) c.in_ok-writer.ensures.writer)) within)
-
-pub put_reply-requires-clause-form : goal.put_reply-requires-clause-form
-put_reply-requires-clause-form g c =
-    let put = c.args.put.now in
-    let state : State Content = c.args.self.now.state in
-    let seen = seen_in c.args.context in
-    let is = subst (λ w. IsReached w.state) c.self.view_is c.self.invariant.reached in
-    let form = form-after state is put c.in_ok-writer.ensures.given seen c.requires in
     let found = c.get-found.ensures ∙ ap (λ w. stored w.state put.key) c.self.view_is in
     let own = ap (λ (w : Writer). w.actor) c.in_ok-writer.ensures.writer in
-    (λ i. is_well_formed (known_after (own i) (known_with seen (clock_found (found i)).known))) ∙ form
+    record {
+      within =
+          subst (λ o. IsWithin (clock_found o).known seen c.in_ok-writer.writer.actor) (sym found)
+          (subst (λ (actor : Actor). IsWithin (clock_of state put.key).known seen actor) (sym own)
+          (within-put state is put c.in_ok-writer.ensures.given seen c.requires));
+      form =
+          (λ i. is_well_formed (known_after (own i) (known_with seen (clock_found (found i)).known)))
+          ∙ form-after state is put c.in_ok-writer.ensures.given seen c.requires;
+    }
 
 pub returns-clause-ok : goal.returns-clause-ok
 returns-clause-ok g c =

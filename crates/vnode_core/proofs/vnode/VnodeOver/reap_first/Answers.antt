@@ -1,5 +1,5 @@
 use Rattle.std.proofs.Common.{◌∙◌, sym, ap, subst, drop}
-use Rattle.riak_msgs.specs.declared.Content.{Content}
+use Rattle.riak_msgs.specs.Contents.{Content}
 use Rattle.vnode_machine.specs.Dead.{dead_keys}
 use Rattle.vnode_machine.specs.Machine.{State}
 use Rattle.vnode_core.specs.Reaping.{key_given}
