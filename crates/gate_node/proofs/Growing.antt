@@ -5,7 +5,7 @@ use Rattle.pb_frame.specs.Message.{Message}
 use Rattle.riak_msgs.specs.declared.GetAsk.{GetAsk}
 use Rattle.riak_msgs.specs.declared.GetReply.{GetReply}
 use Rattle.riak_msgs.specs.declared.PutReply.{PutReply}
-use Rattle.riak_msgs.specs.declared.Content.{Content}
+use Rattle.riak_msgs.specs.Contents.{Content}
 use Rattle.riak_msgs.specs.declared.Key.{Key}
 use Rattle.riak_msgs.specs.declared.Text.{Text}
 use Rattle.riak_msgs.specs.declared.Text.TheVariants as texts

@@ -1,6 +1,6 @@
 -- The positions of a gate's history are legal histories.
 use Rattle.std.proofs.Common.{ℕ, List, subst}
-use Rattle.riak_msgs.specs.declared.Content.{Content}
+use Rattle.riak_msgs.specs.Contents.{Content}
 use Rattle.vnode_machine.specs.Machine.{State}
 use Rattle.rw_gate.specs.Machines.{MachineRun}
 use Rattle.rw_gate.specs.Views.{GateId}

@@ -1,6 +1,6 @@
 -- Where a node over gates answers, as a history of the register.
 use Rattle.std.specs.Prelude.{ℕ, List, []}
-use Rattle.riak_msgs.specs.declared.Content.{Content}
+use Rattle.riak_msgs.specs.Contents.{Content}
 use Rattle.vnode_machine.specs.Machine.{State}
 use Rattle.vnode_machine.specs.Replay.{IsWithinLimits}
 use Rattle.rw_gate.specs.Views.{GateId}

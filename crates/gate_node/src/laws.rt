@@ -1,7 +1,7 @@
 //! Where a node over gates answers.
 ghost use Rattle.std.specs.Prelude.{◌≡◌, ℕ, List};
 ghost use Rattle.pb_frame.specs.Message.{Message};
-ghost use Rattle.riak_msgs.specs.declared.Content.{Content};
+ghost use Rattle.riak_msgs.specs.Contents.{Content};
 ghost use Rattle.riak_msgs.specs.declared.Reply.{Reply};
 ghost use Rattle.vnode_machine.specs.Machine.{State};
 ghost use Rattle.rw_gate.specs.Views.{GateId};

@@ -26,17 +26,17 @@ module _ {S E State : Type 0} (content : S → State) (accepts : State → E →
     abbrev pub written : ℕ → ℕ
     written found = either (found == n) (n + 1) found
 
-    abbrev pub Told : ℕ → View (LogEntry S E) (Unit {0}) → Type 0
-    Told = Publishes content accepts (step 0 n (n + 1) (Made e)) (v, (no_nib, None))
+    abbrev pub Found : ℕ → View (LogEntry S E) (Unit {0}) → Type 0
+    Found = Publishes content accepts (step 0 n (n + 1) (Made e)) (v, (no_nib, None))
 
     abbrev pub GoesOn : List Cell → List (LogEntry S E) → Type 0
-    GoesOn = Goes (IsLawful content accepts) shown moved 0 (v, (no_nib, None)) written Told
+    GoesOn = Goes (IsLawful content accepts) shown moved 0 (v, (no_nib, None)) written Found
 
     -- a log of n events that goes on from v is v, and may go on by e
     abbrev pub MayFollow : Type 0
     MayFollow = (log : List (LogEntry S E)) → IsRun content accepts log → IsPrefix v log → length (events log) ≡ n → (v ≡ log) × IsRun content accepts (log ++ Made e ∷ [])
 
-    -- the log may go on by entries that keep it a run, where the word counts them, and the caller is told what is true
+    -- the log may go on by entries that keep it a run, where the word counts them, and the caller finds what is true
     pub goes_by : (log more : List (LogEntry S E)) → written (length (events log)) ≡ length (events (log ++ more)) → IsRun content accepts (log ++ more) → (length (events log) ≡ n → (log ++ more ≡ v ++ Made e ∷ []) × (length (events v) ≡ length (events log)))
         → (length (events log) ≢ n → length (events (log ++ more)) ≡ length (events log)) → GoesOn ((length (events log), true) ∷ []) log
     goes_by log more counted legal hit missed = (
@@ -64,7 +64,7 @@ module _ {S E State : Type 0} (content : S → State) (accepts : State → E →
     ]
 
     -- whatever the log is by then, the exchange appends the event to all that had been seen, or finds that the log has gone on
-    pub moves_on : MayFollow → Moves (IsLawful content accepts) shown moved 0 (v, (no_nib, None)) written Told
+    pub moves_on : MayFollow → Moves (IsLawful content accepts) shown moved 0 (v, (no_nib, None)) written Found
     moves_on may cs log kept begins away = subst (λ (c : List Cell). (0 < length c) × ((cell c 0).1 ≡ true) × GoesOn c log) (sym kept.counted) (omega arith, refl, goes_on may log kept.run begins)
 
   -- what had been seen goes on from a log of n events, which leads to a state where the machine accepts e

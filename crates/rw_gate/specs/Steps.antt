@@ -1,4 +1,4 @@
--- The rule of a gate's log, and what the two kinds of step on its word tell.
+-- The rule of a gate's log, and what the two kinds of step on its word find.
 use Rattle.std.specs.Prelude.{◌≡◌, ◌≢◌, ℕ, true, List, [], ◌∷◌, ◌++◌, length}
 use Rattle.logbook.specs.Pages.{Cell, Step, View, Book, Named}
 use Rattle.rw_gate.specs.declared.log.LogEntry.{LogEntry}

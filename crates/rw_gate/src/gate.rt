@@ -13,8 +13,11 @@ use counted_slot::{Counted, FREE, PRESENT, TAKEN};
 use logbook::{Pens, Seen, Start, Word};
 use std::alloc::Global;
 use std::marker::Model;
-use std::sync::Wait;
+use std::sync::{Mutex, Wait};
 use std::thread;
+
+/// How often a waiting call attempts before it waits for its turn.
+const MAX_AWAKE_ATTEMPTS: u32 = 16;
 
 /// A state that many may read or one may write, with the history of its changes.
 ///
@@ -43,6 +46,10 @@ pub struct Gate<S: Kept> {
     slot: Counted<Option<SlotValue<S>>>,
     pub(crate) word: Length<S>,
     start: SeenLog<S>,
+    /// Held by the one reader that goes on attempting, while further ones that wait sleep.
+    read_turn: Mutex<()>,
+    /// The same for writers. Were it one turn for both, a reader that waits for a mark to go would keep out the writer that ends it.
+    write_turn: Mutex<()>,
 }
 
 impl<S: Kept> Model for Gate<S> {
@@ -79,6 +86,8 @@ impl<S: Kept> Gate<S> {
             slot: Counted::new(None, &seen),
             word: Word::tracked(0, &mut pen),
             start: seen.again(),
+            read_turn: Mutex::new(()),
+            write_turn: Mutex::new(()),
         };
         match gate.put_back(SlotValue {
             state,
@@ -136,7 +145,7 @@ impl<S: Kept> Gate<S> {
             claim.done();
             return None;
         }
-        // the value goes into the hand, and the word says FREE until it is put back
+        // the value goes into the hand, and the word is FREE until it is put back
         let value = claim.put(None, FREE)?;
         Some(WriteRight::new(self, value))
     }
@@ -163,32 +172,66 @@ impl<S: Kept> Gate<S> {
         found == word
     }
 
-    /// Waits until it may read: attempts, again and again.
+    /// A few attempts to come in as a reader, between which other threads may run.
+    fn try_read_awake(&self) -> Option<ReadRight<'_, S>>
+        ensures gate { IfSome result (λ r. r.gate ≡ self.now) }
+        ensures state { IfSome result (IsReplayed S.content S.accepts) }
+    {
+        for _ in 0..MAX_AWAKE_ATTEMPTS {
+            if let Some(right) = self.try_read() {
+                return Some(right);
+            }
+            thread::yield_now();
+        }
+        None
+    }
+
+    /// Waits until it may read: attempts, again and again. Of many readers that wait long one goes on attempting, and the others sleep.
     pub fn read<R: Wait>(&self, rt: &R) -> ReadRight<'_, S>
         ensures gate { result.gate ≡ self.now }
         ensures state { IsReplayed S.content S.accepts result }
     {
+        if let Some(right) = self.try_read_awake() {
+            return right;
+        }
+        let _turn = self.read_turn.lock(rt);
         for _ in rt.forever() {
-            if let Some(right) = self.try_read() {
+            if let Some(right) = self.try_read_awake() {
                 return right;
             }
-            thread::yield_now();
         }
         unreachable!()
     }
 
-    /// Waits until it has the state in hand. While it waits it marks the state, at each turn at which it finds it unmarked, so that
-    /// readers leave and none comes.
+    /// A few attempts to take the state in hand, each of which marks the state where it fails. Between them other threads may run.
+    fn try_write_awake(&self) -> Option<WriteRight<'_, S>>
+        ensures gate { IfSome result (λ r. r.gate ≡ self.now) }
+        ensures state { IfSome result (IsReplayed S.content S.accepts) }
+    {
+        for _ in 0..MAX_AWAKE_ATTEMPTS {
+            if let Some(right) = self.try_write() {
+                return Some(right);
+            }
+            self.mark();
+            thread::yield_now();
+        }
+        None
+    }
+
+    /// Waits until it has the state in hand. While it attempts it marks the state, wherever it finds it unmarked, so that readers
+    /// leave and none comes. Of many writers that wait long one goes on attempting, and the others sleep.
     pub fn write<R: Wait>(&self, rt: &R) -> WriteRight<'_, S>
         ensures gate { result.gate ≡ self.now }
         ensures state { IsReplayed S.content S.accepts result }
     {
+        if let Some(right) = self.try_write_awake() {
+            return right;
+        }
+        let _turn = self.write_turn.lock(rt);
         for _ in rt.forever() {
-            if let Some(right) = self.try_write() {
+            if let Some(right) = self.try_write_awake() {
                 return right;
             }
-            self.mark();
-            thread::yield_now();
         }
         unreachable!()
     }

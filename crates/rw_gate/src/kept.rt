@@ -14,7 +14,7 @@ pub enum Plan<C, R> {
 ///
 /// An ask that changes something is answered in two steps. `prepare` plans it: it may take memory and may refuse, and leaves the
 /// content as it was. `apply` makes the change: it takes no memory and cannot refuse. Between them the change becomes an event of the
-/// history, and the event says what was asked and what is answered. `Counter` is the smallest example.
+/// history, and the event holds what was asked and what is answered. `Counter` is the smallest example.
 pub trait Kept: Drop {
     /// What may be asked. It is let go where it is not handed to `prepare`.
     type Ask: Drop;
@@ -28,7 +28,7 @@ pub trait Kept: Drop {
     /// Why an ask was refused.
     type Refusal;
 
-    /// An entry of the history. Clauses alone speak of it and code needs to make none, so it may be a struct whose one ghost field says
+    /// An entry of the history. Clauses alone speak of it and code needs to make none, so it may be a struct whose one ghost field is
     /// what happened.
     type Event;
 

@@ -1,14 +1,25 @@
 //! A gate round a state: many may read it or one may write it, and each change is one event of one history.
 //!
 //! What it means: each state that is shown is the replay of a prefix of that history (`IsReplay` of `specs/Histories`), the prefix
-//! that the right holds. A caller's `Pass` says which prefix the caller has seen, and no look shows it an older one. A change is made
+//! that the right holds. A caller's `Pass` holds which prefix the caller has seen, and no look shows it an older one. A change is made
 //! at one atomic exchange, `WriteRight::publish`, and the history has then just one event more, with the reply that was answered.
 //!
+//! ```text
+//! let gate = Gate::new(alloc, Counter { value: 0 })?;
+//! let mut pass = gate.pass();         // pass.seen() is 0
+//! let mut right = gate.write(rt);     // the counter is in hand, and no one else is in
+//! right.look(&mut pass)               // Ok: the counter 0
+//! right.prepare(alloc, 5)             // Ok(Plan::Change(change)), and the counter is 0 still
+//! right.publish(&mut pass, change)    // Ok(5): the history is `+5 = 5`, and pass.seen() is 1
+//! right.release();                    // the counter 5 is in place, and may be read
+//! ```
+//!
 //! What it costs: an attempt is a load and an exchange, a look a load, a publish an exchange, a release an atomic step or two. A writer
-//! moves the state out of its place and back. No call but `prepare` takes memory, and none but `Gate::read` and `Gate::write` waits.
+//! moves the state out of its place and back. No call but `prepare` takes memory, and none but `Gate::read` and `Gate::write` waits:
+//! these attempt again and again, and where many wait for long, one of each goes on attempting and the others sleep.
 //!
 //! How it is built: the state lies in place in a slot with a counting word (`counted_slot`); the steps of that word are functions, in
-//! `words`. The history exists in the proofs alone; threads share its length, a word under a rule (`logbook`). The rule says that the
+//! `words`. The history exists in the proofs alone; threads share its length, a word under a rule (`logbook`). By the rule the
 //! history is a run of the state's machine, and names no pass and no thread. What lies in the slot knows a prefix of the history and is
 //! its replay, so where the length of that prefix is found in the word, it is the whole history, and the event that was prepared from
 //! the state may follow.

@@ -11,7 +11,7 @@ pub(crate) struct SlotValue<S: Kept> {
     pub count: u64,
 }
 
-/// The tag says which gate it is, by its log as it was opened.
+/// The tag is which gate it is, by its log as it was opened.
 impl<S: Kept> Fits for SlotValue<S> {
     type Tag = SeenLog<S>;
 

@@ -156,7 +156,7 @@ impl<'a, S: Kept> WriteRight<'a, S> {
             count,
             here: _,
         } = self;
-        // the slot is free while its state is in hand, which no clause of the slot says
+        // the slot is free while its state is in hand, which no clause of the slot states
         if let Err(value) = gate.put_back(SlotValue { state, seen, count }) {
             drop(value);
         }
