@@ -1,53 +1,148 @@
--- The end of a job, and the ends of all.
-use Rattle.std.proofs.Common.{◌≡◌, ◌≤◌, ℕ, zero, suc, List, [], ◌∷◌, ◌++◌, length, map, arith, sym, subst}
+-- The turns of the workers, and the places of their ends.
+use Rattle.std.proofs.Common.{◌≡◌, ◌∙◌, ◌+◌, ◌<◌, ◌≤◌, ◌⊎◌, ℕ, zero, suc, List, [], ◌∷◌, ◌++◌, length, length-append, map, arith, ap, sym, refl, subst, inl, inr}
+use Rattle.std.proofs.lemmas.List.Sorted.{IsPermutation-refl, IsPermutation-trans, IsPermutation-sym, IsPermutation-cons, IsPermutation-middle, IsPermutation-push_more, length_permutation}
+use Rattle.std.specs.List.Sorted.{IsPermutation}
 use Rattle.std.specs.Prelude.{Option, Some, None, slice_get, slice_set}
 use Rattle.job_pool.specs.Lists.{Every, Pairwise}
+use Rattle.job_pool.specs.Turns.{Turn, Chain, jobs_of, ends_of}
 use Rattle.job_pool.specs.declared.queue.NumberedJob.{NumberedJob}
 use Rattle.job_pool.specs.declared.worker.NumberedEnd.{NumberedEnd}
 use Rattle.job_pool.specs.Queue.{IsNumbered}
-use Rattle.job_pool.specs.Ends.{IsEndOfTaken, IsEndOfGiven, AreCollected}
-use Rattle.job_pool.proofs.Lists.{get_more, get_last, all_more, all_at}
+use Rattle.job_pool.specs.Ends.{IsTurnOfTaken, IsTurnOfGiven, AreFilled, AreCollected, HasServed, placed}
+use Rattle.job_pool.proofs.Lists.{get_more, get_last, all_at, set_length, pairs_more, pairs_snoc}
+
+module _ {E : Type 0} where
+  -- a place that isn't there
+  pub no_place : (places : List (Option E)) (n : ℕ) (end : Option E) → length places ≤ n → slice_set places n end ≡ places
+  no_place [] zero end h = refl
+  no_place [] (suc n) end h = refl
+  no_place (place ∷ places) zero end h = absurd (omega (arith, h))
+  no_place (place ∷ places) (suc n) end h = ap (λ ps. place ∷ ps) (no_place places n end (omega (arith, h)))
+
+  pub placed_length : (places : List (Option E)) (ends : List (NumberedEnd E)) → length (placed places ends) ≡ length places
+  placed_length places [] = refl
+  placed_length places (one ∷ rest) = placed_length (slice_set places one.number (Some one.end)) rest ∙ set_length places one.number (Some one.end)
 
 none_some : {A : Type 0} (x : A) → None ≡ Some x → ⊥
 none_some x h = cc
 
-module _ {J E : Type 0} (Serves : J → E → Type 0) where
-  taken_more : (taken more : List (NumberedJob J)) (done : NumberedEnd E) → IsEndOfTaken Serves taken done → IsEndOfTaken Serves (taken ++ more) done
-  taken_more taken more done d = record { place = d.place; next = d.next; at = get_more taken more d.place d.next d.at; number = d.number; serves = d.serves }
+-- empty places, at most one a job
+filled_none : {J E : Type 0} (W : Type 0) (jobs : List J) (places : List (Option E)) → Every (λ place. place ≡ None) places → length places ≤ length jobs → AreFilled {W = W} jobs places []
+filled_none W jobs [] h fit = tt
+filled_none W [] (place ∷ places) h fit = absurd (omega (arith, fit))
+filled_none W (job ∷ jobs) (None ∷ places) h fit = filled_none W jobs places h.1 (omega (arith, fit))
+filled_none W (job ∷ jobs) (Some end ∷ places) h fit = absurd (none_some end (sym h.0))
 
-  -- more was taken
-  pub all_taken_more : (taken more : List (NumberedJob J)) (dones : List (NumberedEnd E)) → Every (IsEndOfTaken Serves taken) dones → Every (IsEndOfTaken Serves (taken ++ more)) dones
-  all_taken_more taken more dones = all_more (taken_more taken more) dones
-
-  -- the job that was taken last has ended
-  pub taken_last : (taken : List (NumberedJob J)) (next : NumberedJob J) (done : NumberedEnd E) → done.number ≡ next.number → Serves next.job done.end → IsEndOfTaken Serves (taken ++ next ∷ []) done
-  taken_last taken next done number serves = record { place = length taken; next = next; at = get_last taken next; number = number; serves = serves }
+module _ {W J E : Type 0} where
+  taken_more : (taken more : List (NumberedJob J)) (turn : Turn W J E) (done : NumberedEnd E) → IsTurnOfTaken taken turn done → IsTurnOfTaken (taken ++ more) turn done
+  taken_more taken more turn done d = record { place = d.place; next = d.next; at = get_more taken more d.place d.next d.at; number = d.number; job = d.job; end = d.end }
 
   -- what was taken was given
-  pub given_of_taken : (jobs : List J) (taken : List (NumberedJob J)) → Every (IsNumbered jobs) taken → (done : NumberedEnd E) → IsEndOfTaken Serves taken done → IsEndOfGiven Serves jobs done
-  given_of_taken jobs taken all done d =
-      record { job = d.next.job; at = subst (λ (k : ℕ). slice_get jobs k ≡ Some d.next.job) (sym d.number) (all_at (IsNumbered jobs) taken d.place d.next all d.at); serves = d.serves }
+  given_of_taken : (jobs : List J) (taken : List (NumberedJob J)) → Every (IsNumbered jobs) taken → (turn : Turn W J E) (done : NumberedEnd E) → IsTurnOfTaken taken turn done → IsTurnOfGiven jobs turn done
+  given_of_taken jobs taken all turn done d =
+      let at : slice_get jobs d.next.number ≡ Some d.next.job = all_at (IsNumbered jobs) taken d.place d.next all d.at in
+      record { at = subst (λ (k : ℕ). slice_get jobs k ≡ Some turn.job) (sym d.number) (at ∙ ap (λ j. Some j) (sym d.job)); end = d.end }
 
-  -- empty places, at most one a job
-  pub collected_none : (jobs : List J) (places : List (Option E)) → Every (λ place. place ≡ None) places → length places ≤ length jobs → AreCollected Serves jobs places
-  collected_none jobs [] h fit = tt
-  collected_none [] (place ∷ places) h fit = absurd (omega (arith, fit))
-  collected_none (job ∷ jobs) (None ∷ places) h fit = collected_none jobs places h.1 (omega (arith, fit))
-  collected_none (job ∷ jobs) (Some end ∷ places) h fit = absurd (none_some end (sym h.0))
+  pub all_given : (jobs : List J) (taken : List (NumberedJob J)) → Every (IsNumbered jobs) taken → (turns : List (Turn W J E)) (dones : List (NumberedEnd E)) → Pairwise (IsTurnOfTaken taken) turns dones → Pairwise (IsTurnOfGiven jobs) turns dones
+  all_given jobs taken all turns dones each = pairs_more (given_of_taken jobs taken all) turns dones each
 
-  -- an end comes into its job's place
-  pub collected_at : (jobs : List J) (places : List (Option E)) (n : ℕ) (job : J) (end : E) → AreCollected Serves jobs places → slice_get jobs n ≡ Some job → Serves job end → AreCollected Serves jobs (slice_set places n (Some end))
-  collected_at jobs [] zero job end h at is = tt
-  collected_at jobs [] (suc n) job end h at is = tt
-  collected_at [] (place ∷ places) n job end h at is = absurd h
-  collected_at (first ∷ jobs) (None ∷ places) zero job end h at is = let same : first ≡ job = cc in (subst (λ x. Serves x end) (sym same) is, h)
-  collected_at (first ∷ jobs) (Some was ∷ places) zero job end h at is = let same : first ≡ job = cc in (subst (λ x. Serves x end) (sym same) is, h.1)
-  collected_at (first ∷ jobs) (None ∷ places) (suc n) job end h at is = collected_at jobs places n job end h at is
-  collected_at (first ∷ jobs) (Some was ∷ places) (suc n) job end h at is = (h.0, collected_at jobs places n job end h.1 at is)
+  module _ (Serves : W → J → W → E → Type 0) where
+    chain_more : (first : W) (turns : List (Turn W J E)) (mid : W) (job : J) (last : W) (end : E) → Chain Serves first turns mid → Serves mid job last end
+        → Chain Serves first (turns ++ record { before = mid; job = job; after = last; end = end } ∷ []) last
+    chain_more first [] mid job last end is serves = (is, serves, refl)
+    chain_more first (turn ∷ turns) mid job last end h serves = (h.0, h.1, chain_more turn.after turns mid job last end h.2 serves)
 
-  -- where each place has an end, they are the jobs' ends
-  pub collected_all : (jobs : List J) (ends : List E) → length ends ≡ length jobs → AreCollected Serves jobs (map (λ end. Some end) ends) → Pairwise Serves jobs ends
-  collected_all [] [] many h = tt
-  collected_all [] (end ∷ ends) many h = absurd h
-  collected_all (job ∷ jobs) [] many h = absurd (omega (arith, many))
-  collected_all (job ∷ jobs) (end ∷ ends) many h = (h.0, collected_all jobs ends (omega (arith, many)) h.1)
+    pub none_served : (first : W) → HasServed Serves [] [] first first
+    none_served first = record { turns = []; chained = refl; each = tt; count = omega arith }
+
+    -- more was taken
+    pub more_taken : (taken more : List (NumberedJob J)) (ends : List (NumberedEnd E)) (first last : W) → HasServed Serves taken ends first last → HasServed Serves (taken ++ more) ends first last
+    more_taken taken more ends first last h =
+        let long = length-append taken more in let count = h.count in
+        record { turns = h.turns; chained = h.chained; each = pairs_more (taken_more taken more) h.turns ends h.each; count = omega (arith, long, count) }
+
+    -- the job that was taken last was served
+    pub one_served : (taken : List (NumberedJob J)) (ends : List (NumberedEnd E)) (first mid last : W) (next : NumberedJob J) (done : NumberedEnd E)
+        → done.number ≡ next.number → HasServed Serves taken ends first mid → Serves mid next.job last done.end → HasServed Serves (taken ++ next ∷ []) (ends ++ done ∷ []) first last
+    one_served taken ends first mid last next done number h serves =
+        let turn : Turn W J E = record { before = mid; job = next.job; after = last; end = done.end } in
+        let long = length-append taken (next ∷ []) in let longer = length-append h.turns (turn ∷ []) in let count = h.count in
+        record {
+          turns = h.turns ++ turn ∷ [];
+          chained = chain_more first h.turns mid next.job last done.end h.chained serves;
+          each = pairs_snoc (IsTurnOfTaken (taken ++ next ∷ [])) h.turns ends turn done (pairs_more (taken_more taken (next ∷ [])) h.turns ends h.each)
+              (record { place = length taken; next = next; at = get_last taken next; number = number; job = refl; end = refl });
+          count = omega (arith, long, longer, count);
+        }
+
+  -- none has ended
+  pub collected_none : (jobs : List J) (places : List (Option E)) → Every (λ place. place ≡ None) places → length places ≤ length jobs → AreCollected {W = W} jobs [] places
+  collected_none jobs places none fit = record { turns = []; filled = filled_none W jobs places none fit; once = inl (IsPermutation-refl []) }
+
+  -- an end is laid into its place, which was empty or not
+  abbrev Laid : List J → List (Turn W J E) → List (Option E) → ℕ → Turn W J E → Type 0
+  Laid jobs turns places n turn = (now : List (Turn W J E)) × AreFilled jobs (slice_set places n (Some turn.end)) now × (IsPermutation (turn ∷ turns) now ⊎ (length now ≤ length turns))
+
+  behind : (turn other : Turn W J E) (turns now : List (Turn W J E)) → IsPermutation (turn ∷ turns) now ⊎ (length now ≤ length turns) → IsPermutation (turn ∷ other ∷ turns) (other ∷ now) ⊎ (length (other ∷ now) ≤ length (other ∷ turns))
+  behind turn other turns now (inl h) =
+      inl (IsPermutation-trans (turn ∷ other ∷ turns) (other ∷ turn ∷ turns) (other ∷ now) (IsPermutation-sym (other ∷ turn ∷ turns) (turn ∷ other ∷ turns) (IsPermutation-middle (other ∷ []) turn turns)) (IsPermutation-cons other (turn ∷ turns) now h))
+  behind turn other turns now (inr h) = inr (omega (arith, h))
+
+  laid : (jobs : List J) (places : List (Option E)) (turns : List (Turn W J E)) (n : ℕ) (turn : Turn W J E) → slice_get jobs n ≡ Some turn.job → AreFilled jobs places turns → Laid jobs turns places n turn
+  laid jobs [] [] zero turn at h = ([], tt, inr (omega arith))
+  laid jobs [] [] (suc n) turn at h = ([], tt, inr (omega arith))
+  laid jobs [] (other ∷ turns) n turn at h = absurd h
+  laid [] (place ∷ places) turns n turn at h = absurd h
+  laid (job ∷ jobs) (None ∷ places) turns zero turn at h = let same : job ≡ turn.job = cc in (turn ∷ turns, (sym same, refl, h), inl (IsPermutation-refl (turn ∷ turns)))
+  laid (job ∷ jobs) (None ∷ places) turns (suc n) turn at h = laid jobs places turns n turn at h
+  laid (job ∷ jobs) (Some end ∷ places) [] n turn at h = absurd h
+  laid (job ∷ jobs) (Some end ∷ places) (other ∷ turns) zero turn at h = let same : job ≡ turn.job = cc in (turn ∷ turns, (sym same, refl, h.2), inr (omega arith))
+  laid (job ∷ jobs) (Some end ∷ places) (other ∷ turns) (suc n) turn at h =
+      let rest = laid jobs places turns n turn at h.2 in (other ∷ rest.0, (h.0, h.1, rest.1), behind turn other turns rest.0 rest.2)
+
+  counted : (done turns now : List (Turn W J E)) (turn : Turn W J E) → IsPermutation done turns ⊎ (length turns < length done) → IsPermutation (turn ∷ turns) now ⊎ (length now ≤ length turns)
+      → IsPermutation (done ++ turn ∷ []) now ⊎ (length now < length (done ++ turn ∷ []))
+  counted done turns now turn (inl h) (inl k) = inl (IsPermutation-push_more done turns now turn h k)
+  counted done turns now turn (inl h) (inr k) = let same = length_permutation done turns h in let long = length-append done (turn ∷ []) in inr (omega (arith, same, long, k))
+  counted done turns now turn (inr h) (inl k) = let same = length_permutation (turn ∷ turns) now k in let long = length-append done (turn ∷ []) in inr (omega (arith, same, long, h))
+  counted done turns now turn (inr h) (inr k) = let long = length-append done (turn ∷ []) in inr (omega (arith, long, h, k))
+
+  one_placed : (jobs : List J) (done : List (Turn W J E)) (places : List (Option E)) (turn : Turn W J E) (one : NumberedEnd E) → IsTurnOfGiven jobs turn one → AreCollected jobs done places
+      → AreCollected jobs (done ++ turn ∷ []) (slice_set places one.number (Some one.end))
+  one_placed jobs done places turn one is h =
+      let now = laid jobs places h.turns one.number turn is.at h.filled in
+      subst (λ (end : E). AreCollected jobs (done ++ turn ∷ []) (slice_set places one.number (Some end))) is.end
+      (record { turns = now.0; filled = now.1; once = counted done h.turns now.0 turn h.once now.2 })
+
+  snoc_more : (done : List (Turn W J E)) (turn : Turn W J E) (turns : List (Turn W J E)) → (done ++ turn ∷ []) ++ turns ≡ done ++ turn ∷ turns
+  snoc_more [] turn turns = refl
+  snoc_more (other ∷ done) turn turns = ap (λ l. other ∷ l) (snoc_more done turn turns)
+
+  and_none : (done : List (Turn W J E)) → done ++ [] ≡ done
+  and_none [] = refl
+  and_none (turn ∷ done) = ap (λ l. turn ∷ l) (and_none done)
+
+  pub all_placed : (jobs : List J) (turns : List (Turn W J E)) (ends : List (NumberedEnd E)) (places : List (Option E)) → Pairwise (IsTurnOfGiven jobs) turns ends
+      → (done : List (Turn W J E)) → AreCollected jobs done places → AreCollected jobs (done ++ turns) (placed places ends)
+  all_placed jobs [] [] places each done h = subst (λ l. AreCollected jobs l places) (sym (and_none done)) h
+  all_placed jobs [] (one ∷ ends) places each done h = absurd each
+  all_placed jobs (turn ∷ turns) [] places each done h = absurd each
+  all_placed jobs (turn ∷ turns) (one ∷ ends) places each done h =
+      subst (λ l. AreCollected jobs l (placed places (one ∷ ends))) (snoc_more done turn turns)
+      (all_placed jobs turns ends (slice_set places one.number (Some one.end)) each.1 (done ++ turn ∷ []) (one_placed jobs done places turn one each.0 h))
+
+  -- where each place has an end, each job was served
+  pub filled_jobs : (jobs : List J) (ends : List E) (turns : List (Turn W J E)) → length ends ≡ length jobs → AreFilled jobs (map (λ end. Some end) ends) turns → jobs_of turns ≡ jobs
+  filled_jobs [] [] [] many h = refl
+  filled_jobs [] [] (turn ∷ turns) many h = absurd h
+  filled_jobs [] (end ∷ ends) turns many h = absurd h
+  filled_jobs (job ∷ jobs) [] turns many h = absurd (omega (arith, many))
+  filled_jobs (job ∷ jobs) (end ∷ ends) [] many h = absurd h
+  filled_jobs (job ∷ jobs) (end ∷ ends) (turn ∷ turns) many h = let rest = filled_jobs jobs ends turns (omega (arith, many)) h.2 in λ i. h.0 i ∷ rest i
+
+  pub filled_ends : (jobs : List J) (ends : List E) (turns : List (Turn W J E)) → AreFilled jobs (map (λ end. Some end) ends) turns → ends_of turns ≡ ends
+  filled_ends jobs [] [] h = refl
+  filled_ends jobs [] (turn ∷ turns) h = absurd h
+  filled_ends [] (end ∷ ends) turns h = absurd h
+  filled_ends (job ∷ jobs) (end ∷ ends) [] h = absurd h
+  filled_ends (job ∷ jobs) (end ∷ ends) (turn ∷ turns) h = let rest = filled_ends jobs ends turns h.2 in λ i. h.1 i ∷ rest i

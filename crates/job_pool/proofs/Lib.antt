@@ -5,4 +5,6 @@ pub mod Rule
 pub mod Ends
 pub mod Lending
 pub mod Starting
+pub mod Joining
+pub mod Once
 pub mod Results

@@ -1,6 +1,6 @@
 -- Lists: what each element has, and what stands at an index.
 use Rattle.std.proofs.Common.{◌≡◌, ◌<◌, ℕ, zero, suc, List, [], ◌∷◌, ◌++◌, length, arith, refl, subst}
-use Rattle.job_pool.specs.Lists.{Every}
+use Rattle.job_pool.specs.Lists.{Every, Pairwise}
 use Rattle.std.specs.Prelude.{Some, None, slice_get, slice_set, slice_index_or}
 
 none_some : {A : Type 0} (x : A) → None ≡ Some x → ⊥
@@ -43,6 +43,20 @@ module _ {A : Type 0} where
     all_at [] k x h at = absurd (none_some x at)
     all_at (y ∷ xs) zero x h at = let same : y ≡ x = cc in subst P same h.0
     all_at (y ∷ xs) (suc k) x h at = all_at xs k x h.1 at
+
+module _ {A B : Type 0} {P Q : A → B → Type 0} where
+  pub pairs_more : ((x : A) (y : B) → P x y → Q x y) → (xs : List A) (ys : List B) → Pairwise P xs ys → Pairwise Q xs ys
+  pairs_more f [] [] h = tt
+  pairs_more f [] (y ∷ ys) h = absurd h
+  pairs_more f (x ∷ xs) [] h = absurd h
+  pairs_more f (x ∷ xs) (y ∷ ys) h = (f x y h.0, pairs_more f xs ys h.1)
+
+module _ {A B : Type 0} (P : A → B → Type 0) where
+  pub pairs_snoc : (xs : List A) (ys : List B) (x : A) (y : B) → Pairwise P xs ys → P x y → Pairwise P (xs ++ x ∷ []) (ys ++ y ∷ [])
+  pairs_snoc [] [] x y h p = (p, tt)
+  pairs_snoc [] (v ∷ ys) x y h p = absurd h
+  pairs_snoc (u ∷ xs) [] x y h p = absurd h
+  pairs_snoc (u ∷ xs) (v ∷ ys) x y h p = (h.0, pairs_snoc xs ys x y h.1 p)
 
 pub all_one : {A : Type 0} (P : A → Type 0) (x : A) → P x → (k : ℕ) (d : A) → k < length (x ∷ []) → P (slice_index_or (x ∷ []) k d)
 all_one P x p zero d below = p

@@ -1,5 +1,5 @@
 -- Each move keeps the rule of the queue.
-use Rattle.std.proofs.Common.{◌≡◌, ◌≢◌, ◌∙◌, ℕ, zero, suc, true, true≢false, List, [], ◌∷◌, ◌++◌, length, set, sym, refl, ap, subst, ⊎_elim}
+use Rattle.std.proofs.Common.{◌≡◌, ◌≢◌, ◌∙◌, ◌+◌, ◌≤◌, arith, length-append, ℕ, zero, suc, true, true≢false, List, [], ◌∷◌, ◌++◌, length, set, sym, refl, ap, subst, ⊎_elim}
 use Rattle.job_pool.specs.Lists.{Every}
 use Rattle.std.specs.Prelude.{Some, slice_get}
 use mathlib.Core.Option.{some, some-ne-none, some-injective}
@@ -10,7 +10,7 @@ use Rattle.job_pool.specs.declared.queue.NumberedJob.{NumberedJob}
 use Rattle.job_pool.specs.declared.queue.Task.{Task}
 use Rattle.job_pool.specs.declared.queue.Task.TheVariants.{Serve, Stop}
 use Rattle.job_pool.specs.declared.queue.Knowledge.{Knowledge}
-use Rattle.job_pool.specs.Queue.{leader, newcomer, after_push, after_pop, together, IsNumbered, IsAccepted, IsNext, WasGiven, Agrees, AllGiven}
+use Rattle.job_pool.specs.Queue.{leader, newcomer, after_push, after_pop, together, IsNumbered, IsAccepted, IsNext, WasGiven, Agrees, AllGiven, AreOfGiven, waiting, taken_by}
 use Rattle.job_pool.proofs.Lists.{get_more, get_last, all_more, all_join, all_snoc}
 
 module _ {J : Type 0} where
@@ -32,9 +32,32 @@ module _ {J : Type 0} where
   more_given Accepts jobs job (Serve next) h = (more_of jobs job next h.0, h.1)
   more_given Accepts jobs job Stop h = tt
 
+  taken_set : (views : List (Knowledge J)) (port : ℕ) (v w : Knowledge J) → get_elem? views port ≡ some v → taken_by (set views port w) + length v.taken ≡ taken_by views + length w.taken
+  taken_set [] port v w at = absurd (some-ne-none v (sym at))
+  taken_set (u ∷ views) zero v w at = let same : length u.taken ≡ length v.taken = ap (λ (x : Knowledge J). length x.taken) (some-injective u v at) in omega (arith, same)
+  taken_set (u ∷ views) (suc port) v w at = let rest = taken_set views port v w at in omega (arith, rest)
+
+  taken_snoc : (views : List (Knowledge J)) (v : Knowledge J) → taken_by (views ++ v ∷ []) ≡ taken_by views + length v.taken
+  taken_snoc [] v = omega arith
+  taken_snoc (u ∷ views) v = let rest = taken_snoc views v in omega (arith, rest)
+
+  taken_at : (views : List (Knowledge J)) (port : ℕ) (v : Knowledge J) → get_elem? views port ≡ some v → length v.taken ≤ taken_by views
+  taken_at [] port v at = absurd (some-ne-none v (sym at))
+  taken_at (u ∷ views) zero v at = let same : length u.taken ≡ length v.taken = ap (λ (x : Knowledge J). length x.taken) (some-injective u v at) in omega (arith, same)
+  taken_at (u ∷ views) (suc port) v at = let rest = taken_at views port v at in omega (arith, rest)
+
+  waiting_snoc : (tasks : List (Task J)) (task : Task J) → waiting (tasks ++ task ∷ []) ≡ waiting tasks + waiting (task ∷ [])
+  waiting_snoc [] task = omega arith
+  waiting_snoc (Serve next ∷ tasks) task = let rest = waiting_snoc tasks task in omega (arith, rest)
+  waiting_snoc (Stop ∷ tasks) task = let rest = waiting_snoc tasks task in omega (arith, rest)
+
+  -- a view that took as much takes the place of one
+  taken_same : (views : List (Knowledge J)) (port : ℕ) (v w : Knowledge J) → get_elem? views port ≡ some v → length w.taken ≡ length v.taken → taken_by (set views port w) ≡ taken_by views
+  taken_same views port v w at same = let here = taken_set views port v w at in omega (arith, here, same)
+
   module _ (Accepts : J → Type 0) where
     pub begins : AllGiven {J = J} Accepts [] (leader ∷ [])
-    begins = (0, [], tt, first) where
+    begins = (0, [], tt, first, refl) where
       first : Each (Agrees 0 []) (leader ∷ [])
       first zero v e = subst (λ (u : Knowledge J). Agrees 0 [] 0 u) (some-injective leader v e) ((λ _. (refl, refl)), tt)
       first (suc j) v e = absurd (some-ne-none v (sym e))
@@ -42,7 +65,13 @@ module _ {J : Type 0} where
     pub pushes : (n port : ℕ) (v : Knowledge J) (x : Task J) → v.leads ≡ true → IsNext v.given x → IsAccepted Accepts x → Pushes (AllGiven Accepts) n port v x (λ w. w ≡ after_push v x)
     pushes n port v Stop leads come for items views room h at = let mine = h.3 port v at in (
       v,
-      (h.0, h.1, all_snoc (WasGiven Accepts h.1) items Stop h.2 tt, each_set (Agrees h.0 h.1) views port v mine (λ j u other e. h.3 j u e)),
+      (
+        h.0,
+        h.1,
+        all_snoc (WasGiven Accepts h.1) items Stop h.2 tt,
+        each_set (Agrees h.0 h.1) views port v mine (λ j u other e. h.3 j u e),
+        let same = taken_same views port v v at refl in let more = waiting_snoc items Stop in let was = h.4 in omega (arith, same, more, was),
+      ),
       refl,
     )
     pushes n port v (Serve next) leads come for items views room h at =
@@ -58,22 +87,25 @@ module _ {J : Type 0} where
             all_snoc (WasGiven Accepts jobs) items (Serve next) (all_more (more_given Accepts h.1 next.job) items h.2) (here, for),
             each_set (Agrees h.0 jobs) views port w ((λ _. ((mine.0 leads).0, ap (λ l. l ++ next.job ∷ []) (mine.0 leads).1)), all_more (more_of h.1 next.job) v.taken mine.1)
                 (λ j u other e. ((λ p. absurd (other (((h.3 j u e).0 p).0 ∙ sym (mine.0 leads).0))), all_more (more_of h.1 next.job) u.taken (h.3 j u e).1)),
+            let same = taken_same views port v w at refl in let more = waiting_snoc items (Serve next) in let long = length-append h.1 (next.job ∷ []) in let was = h.4 in omega (arith, same, more, long, was),
           ),
           refl,
         )
 
     pub pops : (port : ℕ) (v : Knowledge J) → Pops (AllGiven Accepts) port v (λ x w. (w ≡ after_pop v x) × IsAccepted Accepts x)
-    pops port v Stop items views h at = let mine = h.3 port v at in (v, (h.0, h.1, h.2.1, each_set (Agrees h.0 h.1) views port v mine (λ j u other e. h.3 j u e)), (refl, tt))
+    pops port v Stop items views h at = let mine = h.3 port v at in (v, (h.0, h.1, h.2.1, each_set (Agrees h.0 h.1) views port v mine (λ j u other e. h.3 j u e), let same = taken_same views port v v at refl in let was = h.4 in omega (arith, same, was)), (refl, tt))
     pops port v (Serve next) items views h at =
         let mine = h.3 port v at in
         let w : Knowledge J = after_pop v (Serve next) in
-        (w, (h.0, h.1, h.2.1, each_set (Agrees h.0 h.1) views port w (mine.0, all_snoc (IsNumbered h.1) v.taken next mine.1 h.2.0.0) (λ j u other e. h.3 j u e)), (refl, h.2.0.1))
+        let same = taken_set views port v w at in let long = length-append v.taken (next ∷ []) in let was = h.4 in
+        (w, (h.0, h.1, h.2.1, each_set (Agrees h.0 h.1) views port w (mine.0, all_snoc (IsNumbered h.1) v.taken next mine.1 h.2.0.0) (λ j u other e. h.3 j u e), omega (arith, same, long, was)), (refl, h.2.0.1))
 
     pub forks : (port : ℕ) (v : Knowledge J) → Forks (AllGiven Accepts) port v v newcomer
     forks port v items views h at =
         let vs : List (Knowledge J) = set views port v in
         let old : Each (Agrees h.0 h.1) vs = each_set (Agrees h.0 h.1) views port v (h.3 port v at) (λ j u other e. h.3 j u e) in
-        (h.0, h.1, h.2, λ j u e. ⊎_elim (λ x. old j u x) (λ (is : newcomer ≡ u). subst (λ (y : Knowledge J). Agrees h.0 h.1 j y) is (new_agrees h.0 h.1 j)) (at_snoc vs newcomer u j e))
+        let same = taken_same views port v v at refl in let more = taken_snoc vs newcomer in let was = h.4 in
+        (h.0, h.1, h.2, λ j u e. ⊎_elim (λ x. old j u x) (λ (is : newcomer ≡ u). subst (λ (y : Knowledge J). Agrees h.0 h.1 j y) is (new_agrees h.0 h.1 j)) (at_snoc vs newcomer u j e), omega (arith, same, more, was))
 
     pub merges : (port : ℕ) (v : Knowledge J) (other : ℕ) (u : Knowledge J) → Merges (AllGiven Accepts) port v other u (together v u) newcomer
     merges port v other u items views h at two at' =
@@ -82,7 +114,12 @@ module _ {J : Type 0} where
         let vs : List (Knowledge J) = set views port both in
         let was : get_elem? views other ≡ some u = ⊎_elim (λ x. absurd (two x.0)) (λ x. x.1) (at_set views port other both u at') in
         let now : Each (Agrees h.0 h.1) vs = each_set (Agrees h.0 h.1) views port both (mine.0, all_join (IsNumbered h.1) v.taken u.taken mine.1 (h.3 other u was).1) (λ j y apart e. h.3 j y e) in
-        (h.0, h.1, h.2, each_set (Agrees h.0 h.1) vs other newcomer (new_agrees h.0 h.1 other) (λ j y apart e. now j y e))
+        let more = taken_set views port v both at in let gone = taken_set vs other u newcomer at' in let long = length-append v.taken u.taken in let count = h.4 in
+        (h.0, h.1, h.2, each_set (Agrees h.0 h.1) vs other newcomer (new_agrees h.0 h.1 other) (λ j y apart e. now j y e), omega (arith, more, gone, long, count))
 
-    pub learns : (port : ℕ) (v : Knowledge J) → v.leads ≡ true → Learns (AllGiven Accepts) port v (λ items. Every (IsNumbered v.given) v.taken)
-    learns port v leads items views h at = let mine = h.3 port v at in subst (λ (jobs : List J). Every (IsNumbered jobs) v.taken) (sym (mine.0 leads).1) mine.1
+    pub learns : (port : ℕ) (v : Knowledge J) → v.leads ≡ true → Learns (AllGiven Accepts) port v (λ items. AreOfGiven v)
+    learns port v leads items views h at =
+        let mine = h.3 port v at in let some_of = taken_at views port v at in let all = h.4 in
+        let given : h.1 ≡ v.given = sym (mine.0 leads).1 in
+        let many : length h.1 ≡ length v.given = ap length given in
+        record { numbered = subst (λ (jobs : List J). Every (IsNumbered jobs) v.taken) given mine.1; count = omega (arith, some_of, all, many) }

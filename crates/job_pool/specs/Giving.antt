@@ -1,6 +1,7 @@
 -- What a source of jobs gives over many calls.
 use Rattle.std.specs.Prelude.{◌≡◌, List, [], ◌∷◌, Option, Some, None, Result, Ok, Err}
 use Rattle.job_pool.specs.Lists.{Pairwise}
+use Rattle.job_pool.specs.Turns.{ServedOnce}
 use Rattle.job_pool.specs.declared.fault.RunFault.{RunFault}
 use Rattle.job_pool.specs.declared.fault.RunFault.TheVariants.{NoMemory, NoThread, JobsFailed}
 
@@ -17,6 +18,10 @@ module _ {G J F : Type 0} (Gives : G → Result (Option J) F → G → Type 0) w
   -- all jobs until there was none, with one end for each, in their order
   abbrev pub AllServed : {E : Type 0} → (J → E → Type 0) → G → List E → G → Type 0
   AllServed Serves first ends last = (jobs : List J) × GaveAll first jobs last × Pairwise Serves jobs ends
+
+  -- all jobs until there was none, each served in one turn of a worker
+  abbrev pub AllServedOnce : {W E : Type 0} → (W → J → W → E → Type 0) → G → List W → List E → List W → G → Type 0
+  AllServedOnce Serves first firsts ends lasts last = (jobs : List J) × GaveAll first jobs last × ServedOnce Serves jobs firsts ends lasts
 
   -- some jobs, and then a fault
   abbrev pub GaveThenFailed : G → G → Type 0

@@ -1,5 +1,6 @@
 -- The definitions of this crate.
 pub mod Lists
+pub mod Turns
 pub mod Giving
 pub mod Queue
 pub mod Ends

@@ -1,5 +1,5 @@
 -- What the queue of jobs holds, and what its passes know.
-use Rattle.std.specs.Prelude.{◌≡◌, ℕ, Bool, true, false, List, [], ◌∷◌, ◌++◌, Some, slice_get, length}
+use Rattle.std.specs.Prelude.{◌≡◌, ◌+◌, ◌≤◌, ℕ, Bool, true, false, List, [], ◌∷◌, ◌++◌, Some, slice_get, length}
 use mathlib.Core.Option.{some}
 use lib.ListN.{get_elem?}
 use Rattle.job_pool.specs.Lists.{Every}
@@ -55,8 +55,25 @@ module _ {J : Type 0} where
   abbrev pub Agrees : ℕ → List J → ℕ → Knowledge J → Type 0
   Agrees lead jobs port v = (v.leads ≡ true → (port ≡ lead) × (v.given ≡ jobs)) × Every (IsNumbered jobs) v.taken
 
-  -- there are jobs that one pass gave, of which are all that the queue holds and that each pass took
+  -- how many of the tasks are jobs
+  abbrev pub waiting : List (Task J) → ℕ
+  waiting [] = 0
+  waiting (Serve next ∷ tasks) = 1 + waiting tasks
+  waiting (Stop ∷ tasks) = waiting tasks
+
+  -- how many jobs the passes took
+  abbrev pub taken_by : List (Knowledge J) → ℕ
+  taken_by [] = 0
+  taken_by (v ∷ views) = length v.taken + taken_by views
+
+  -- there are jobs that one pass gave, of which are all that the queue holds and that each pass took; each waits or was taken once
   abbrev pub AllGiven : (J → Type 0) → List (Task J) → List (Knowledge J) → Type 0
   AllGiven Accepts tasks views =
       (lead : ℕ) × (jobs : List J) × Every (WasGiven Accepts jobs) tasks
       × ((port : ℕ) (v : Knowledge J) → get_elem? views port ≡ some v → Agrees lead jobs port v)
+      × (taken_by views + waiting tasks ≡ length jobs)
+
+  -- what this pass took are jobs that it gave, and no more than it gave
+  pub record AreOfGiven (v : Knowledge J) : Type 0 where
+    pub numbered : Every (IsNumbered v.given) v.taken
+    pub count : length v.taken ≤ length v.given

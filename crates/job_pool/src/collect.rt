@@ -1,15 +1,17 @@
 //! How the ends of all workers are put in the order of the jobs.
-ghost use Rattle.std.specs.Prelude.{◌≡◌, true, length, map, Some, None, IfOk, IfErr};
+ghost use Rattle.std.specs.Prelude.{◌≡◌, ◌≤◌, true, [], length, map, vec_capacity};
+ghost use Rattle.std.specs.Prelude.{Some, None, IfOk, IfErr};
 ghost use Rattle.crossbeam_queue.specs.Passes.{view, IsPassOf};
-ghost use Rattle.job_pool.specs.Ends.{AreCollected};
-ghost use Rattle.job_pool.specs.Lists.{Every, Pairwise};
+ghost use Rattle.job_pool.specs.Ends.{AreCollected, AreJoined, IsJoined, placed};
+ghost use Rattle.job_pool.specs.Lists.{Every};
+ghost use Rattle.job_pool.specs.Turns.{ServedOnce};
 ghost use Rattle.job_pool.specs.Workers.{IsOn, state_before};
 ghost use Rattle.job_pool.specs.declared.fault.RunFault.TheVariants.{NoMemory};
 
 use crate::fault::RunFault;
 use crate::queue::{Accepts, Fork, JobQueue, QueuePass, Reconcile};
 use crate::service::Service;
-use crate::worker::{WorkerOutput, WorkerPromise};
+use crate::worker::{NumberedEnd, WorkerOutput, WorkerPromise};
 use std::alloc::Global;
 use std::snapshot::Snapshot;
 use std::thread::{PromisedHandle, Threads};
@@ -43,7 +45,19 @@ fn empty_places<E: Drop>(alloc: Global, count: usize) -> Result<Vec<Option<E>>, 
     Ok(places)
 }
 
-/// Joins a worker, and puts its ends into their jobs' places. Returns its state.
+/// Lays each end into the place of its number, where there is such a place.
+fn place_ends<E: Drop>(places: &mut Vec<Option<E>>, ends: Vec<NumberedEnd<E>>)
+    ensures { places.new.items ≡ placed places.old.items ends.items }
+{
+    for one in ends {
+        let number = one.number;
+        if number < places.len() {
+            places[number] = Some(one.end);
+        }
+    }
+}
+
+/// Joins a worker, and lays its ends into their jobs' places. Returns its state.
 fn collect<H: Accepts<S::Job>, S: Service, T: Threads>(
     rt: &T,
     queue: &JobQueue<H, S::Job>,
@@ -53,14 +67,13 @@ fn collect<H: Accepts<S::Job>, S: Service, T: Threads>(
 ) -> S::Worker
     requires queue { IsPassOf queue.now pass.old × ((view pass.old).leads ≡ true) }
     requires child { child.promise.pass.value.table_id ≡ queue.now.table.shared.table_id }
-    requires collected { AreCollected (S.serves child.promise.service.value)
-        (view pass.old).given places.old.items }
     ensures queue { IsPassOf queue.now pass.new × ((view pass.new).leads ≡ true) }
     ensures given { (view pass.new).given ≡ (view pass.old).given }
+    ensures taken { length (view pass.new).taken ≤ length (view pass.new).given }
     ensures len { length places.new.items ≡ length places.old.items }
-    ensures collected { AreCollected (S.serves child.promise.service.value)
-        (view pass.new).given places.new.items }
-    ensures worker { S.keeps child.promise.service.value child.promise.worker.value result }
+    ensures joined { IsJoined (S.serves child.promise.service.value) (view pass.old).given
+        (view pass.old).taken (view pass.new).taken child.promise.worker.value result
+        places.old.items places.new.items }
 {
     let WorkerOutput {
         worker,
@@ -69,12 +82,7 @@ fn collect<H: Accepts<S::Job>, S: Service, T: Threads>(
     } = child.join(rt);
     queue.absorb::<Fork>(pass, theirs);
     queue.learn_as::<Reconcile>(pass);
-    for one in ends {
-        let number = one.number;
-        if number < places.len() {
-            places[number] = Some(one.end);
-        }
-    }
+    place_ends(places, ends);
     worker
 }
 
@@ -101,6 +109,35 @@ fn in_order<E: Drop>(alloc: Global, places: Vec<Option<E>>) -> Result<Vec<E>, Ru
     Ok(ends)
 }
 
+/// Joins the workers, in their order, and lays their ends into the places. Returns their states, in the vector that was handed in.
+fn collect_each<H: Accepts<S::Job>, S: Service, T: Threads>(
+    rt: &T,
+    service: Snapshot<S>,
+    queue: &JobQueue<H, S::Job>,
+    pass: &mut QueuePass<S::Job>,
+    children: Vec<Child<S>>,
+    places: &mut Vec<Option<S::End>>,
+    room: Vec<S::Worker>,
+) -> Vec<S::Worker>
+    requires queue { IsPassOf queue.now pass.old × ((view pass.old).leads ≡ true) }
+    requires taken { length (view pass.old).taken ≤ length (view pass.old).given }
+    requires children { Every (IsOn queue.now.table.shared.table_id service.value) children.items }
+    requires places { AreCollected {W = S.Worker} (view pass.old).given [] places.old.items }
+    requires room { (room.items ≡ []) × (length children.items ≤ vec_capacity room) }
+    ensures given { (view pass.new).given ≡ (view pass.old).given }
+    ensures taken { length (view pass.new).taken ≤ length (view pass.new).given }
+    ensures len { length places.new.items ≡ length places.old.items }
+    ensures joined { AreJoined (S.serves service.value) (view pass.old).given
+        (view pass.new).taken (map state_before children.items) [] result.items places.new.items }
+{
+    let mut workers = room;
+    for child in children {
+        let worker = collect(rt, queue, pass, child, places);
+        workers.push_reserved(worker);
+    }
+    workers
+}
+
 /// Joins the workers, in their order. Returns the ends in the order of the jobs, and the workers' states.
 pub(crate) fn collect_all<H, S, T>(
     rt: &T,
@@ -118,25 +155,21 @@ where
     requires queue { IsPassOf queue.now pass.old × ((view pass.old).leads ≡ true) }
     requires children { Every (IsOn queue.now.table.shared.table_id service.value) children.items }
     requires count { count ≡ length (view pass.old).given }
-    ensures ends { IfOk result (λ done.
-        Pairwise (S.serves service.value) (view pass.old).given done.ends.items) }
-    ensures workers { IfOk result (λ done.
-        Pairwise (S.keeps service.value) (map state_before children.items) done.workers.items) }
+    ensures served { IfOk result (λ done.
+        ServedOnce (S.serves service.value) (view pass.old).given
+        (map state_before children.items) done.ends.items done.workers.items) }
     ensures fault { IfErr result (λ fault. fault ≡ NoMemory) }
 {
+    queue.learn_as::<Reconcile>(pass);
     let Ok(mut places) = empty_places(alloc, count) else {
         join_all(rt, children);
         return Err(RunFault::NoMemory);
     };
-    let mut workers = Vec::new(alloc);
-    if workers.reserve(children.len()).is_err() {
+    let Ok(room) = Vec::with_capacity(alloc, children.len()) else {
         join_all(rt, children);
         return Err(RunFault::NoMemory);
-    }
-    for child in children {
-        let worker = collect(rt, queue, pass, child, &mut places);
-        workers.push_reserved(worker);
-    }
+    };
+    let workers = collect_each(rt, service, queue, pass, children, &mut places, room);
     match in_order(alloc, places) {
         Ok(ends) => Ok(Finished { ends, workers }),
         Err(_) => Err(RunFault::NoMemory),

@@ -1,16 +1,19 @@
 //! A pool of workers: each job of a source is served once, by one of many threads, and its end stands in its place.
 //!
 //! What it means: [`run`] takes all jobs of a [`Jobs`] source and gives one end for each, in the order in which the source gave the
-//! jobs (`specs/Giving`: `AllServed`). Each end is one to which the [`Service`] may bring that job, so no end is made up, none is
-//! another job's, and no job comes twice. Each worker has a state of its own, which its calls of the service change in turn; all
-//! states come back, each as the service's calls may leave it (`keeps`). Nothing is said of which worker serves which job, nor when.
+//! jobs (`specs/Giving`: `AllServedOnce`). Each end is that of a turn (`specs/Turns`): one call of the [`Service`], by a worker in one
+//! state, with that job, which left the worker in its next state. There is one turn for each job, and these turns are those of the
+//! workers: the turns of one worker lead from the state that was handed in to the one that comes back. So no end is made up, none is
+//! another job's, no job is served twice, and what the workers' states gained is what the turns gained, each counted once. Nothing is
+//! said of which worker serves which job, nor when.
 //!
 //! What it costs: a job goes through one queue of [`MAX_WAITING`] places, is moved and not copied, and takes no lock. After each push all
 //! workers are woken; where the queue is full the leading thread yields and tries again. A run takes memory for the queue, a thread and a
 //! parker for each worker, and a place for each end, twice.
 //!
 //! How it is built: the queue is under a rule (`specs/Queue`: `AllGiven`): what lies in it, and what each worker took, is a job that was
-//! given, under its number. A worker promises that its ends are those of jobs that it took; the leading thread joins it, learns by the
+//! given, under its number, and each job that was given waits in it or was taken once. A worker promises that its ends are those of its
+//! turns with jobs that it took; the leading thread joins it, learns by the
 //! rule that these are the jobs that it gave, and puts each end into the place of its number. A source comes by `&mut`, and no clause
 //! follows a `&mut` through a scope of threads, so it goes through as a value that comes back (`Lent`).
 //!

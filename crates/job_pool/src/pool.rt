@@ -1,8 +1,8 @@
 //! A run of the pool.
 ghost use Rattle.std.specs.Prelude.{◌≡◌, ◌<◌, length, map, IfOk, IfErr};
 ghost use Rattle.crossbeam_queue.specs.Passes.{view, IsPassOf};
-ghost use Rattle.job_pool.specs.Giving.{AllServed, GivesOnly, Leaves};
-ghost use Rattle.job_pool.specs.Lists.{Every, Pairwise};
+ghost use Rattle.job_pool.specs.Giving.{AllServedOnce, GivesOnly, Leaves};
+ghost use Rattle.job_pool.specs.Lists.{Every};
 ghost use Rattle.job_pool.specs.Queue.{leader};
 ghost use Rattle.job_pool.specs.Workers.{IsOn, state_before};
 
@@ -44,10 +44,9 @@ where
     requires queue { IsPassOf queue.now pass.old × (view pass.old ≡ leader) }
     requires accepts { GivesOnly G.gives H.accepts jobs.old }
     requires children { Every (IsOn queue.now.table.shared.table_id service.value) children.items }
-    ensures ends { IfOk result (λ done.
-        AllServed G.gives (S.serves service.value) jobs.old done.ends.items jobs.new) }
-    ensures workers { IfOk result (λ done.
-        Pairwise (S.keeps service.value) (map state_before children.items) done.workers.items) }
+    ensures served { IfOk result (λ done.
+        AllServedOnce G.gives (S.serves service.value) jobs.old
+        (map state_before children.items) done.ends.items done.workers.items jobs.new) }
     ensures fault { IfErr result (λ fault. Leaves G.gives fault jobs.old jobs.new) }
 {
     let given = submit_all(rt, queue, pass, sleepers, jobs);
@@ -93,10 +92,9 @@ where
     requires queue { IsPassOf queue.now pass × (view pass ≡ leader) }
     requires accepts { (job : S.Job) → H.accepts job → S.accepts service.now job }
     requires jobs { GivesOnly G.gives H.accepts jobs }
-    ensures ends { IfOk result.1 (λ done.
-        AllServed G.gives (S.serves service.now) jobs done.ends.items result.0) }
-    ensures workers { IfOk result.1 (λ done.
-        Pairwise (S.keeps service.now) workers.items done.workers.items) }
+    ensures served { IfOk result.1 (λ done.
+        AllServedOnce G.gives (S.serves service.now) jobs
+        workers.items done.ends.items done.workers.items result.0) }
     ensures fault { IfErr result.1 (λ fault. Leaves G.gives fault jobs result.0) }
 {
     thread::scope(
@@ -106,10 +104,9 @@ where
             requires queue { IsPassOf queue.now pass × (view pass ≡ leader) }
             requires accepts { (job : S.Job) → H.accepts job → S.accepts service.now job }
             requires jobs { GivesOnly G.gives H.accepts jobs }
-            ensures ends { IfOk result.1 (λ done.
-                AllServed G.gives (S.serves service.entry.now) jobs done.ends.items result.0) }
-            ensures workers { IfOk result.1 (λ done.
-                Pairwise (S.keeps service.entry.now) workers.items done.workers.items) }
+            ensures served { IfOk result.1 (λ done.
+                AllServedOnce G.gives (S.serves service.entry.now) jobs
+                workers.items done.ends.items done.workers.items result.0) }
             ensures fault { IfErr result.1 (λ fault. Leaves G.gives fault jobs result.0) }
         {
             let mut mine = pass;
@@ -162,10 +159,9 @@ where
     T: Threads + Wait + Sync,
     requires accepts { (job : S.Job) → H.accepts job → S.accepts service.now job }
     requires jobs { GivesOnly G.gives H.accepts jobs }
-    ensures ends { IfOk result.1 (λ done.
-        AllServed G.gives (S.serves service.now) jobs done.ends.items result.0) }
-    ensures workers { IfOk result.1 (λ done.
-        Pairwise (S.keeps service.now) workers.items done.workers.items) }
+    ensures served { IfOk result.1 (λ done.
+        AllServedOnce G.gives (S.serves service.now) jobs
+        workers.items done.ends.items done.workers.items result.0) }
     ensures fault { IfErr result.1 (λ fault. Leaves G.gives fault jobs result.0) }
 {
     let Ok((queue, pass)) = JobQueue::<H, S::Job>::ruled(alloc, MAX_WAITING) else {
@@ -176,8 +172,9 @@ where
 
 /// Serves all jobs of a source, each once, by as many workers as there are states.
 ///
-/// The ends stand in the order of the jobs, and the workers' states, each as its worker left it, in the order in which they were
-/// handed in. There has to be a worker, and each job that the source may give is one that the service takes.
+/// The ends are in the order of the jobs, and the workers' states, each as its worker left it, in the order in which they were
+/// handed in. Each job was served in one call of the service, and the calls that one worker made lead from its first state to its
+/// last. There has to be a worker, and each job that the source may give is one that the service takes.
 ///
 /// Where the run ends by a fault, the workers that were started have been joined, and their states and the ends are let go:
 ///
@@ -199,10 +196,9 @@ where
     T: Threads + Wait + Sync,
     requires some { 0 < length workers.items }
     requires jobs { GivesOnly G.gives (S.accepts service.now) jobs.old }
-    ensures ends { IfOk result (λ done.
-        AllServed G.gives (S.serves service.now) jobs.old done.ends.items jobs.new) }
-    ensures workers { IfOk result (λ done.
-        Pairwise (S.keeps service.now) workers.items done.workers.items) }
+    ensures served { IfOk result (λ done.
+        AllServedOnce G.gives (S.serves service.now) jobs.old
+        workers.items done.ends.items done.workers.items jobs.new) }
     ensures fault { IfErr result (λ fault. Leaves G.gives fault jobs.old jobs.new) }
 {
     let lent = Lent { jobs };

@@ -107,12 +107,11 @@ impl<J> Join<Knowledge<J>> for Fork {
     ghost spent = { newcomer };
 }
 
-/// The leader learns that what it knows as taken is what it gave.
+/// The leader learns that what it knows as taken is what it gave, each job once.
 pub struct Reconcile;
 
 impl<J> Lesson<Task<J>, Knowledge<J>> for Reconcile {
-    ghost use Rattle.job_pool.specs.Lists.{Every};
-    ghost use Rattle.job_pool.specs.Queue.{IsNumbered};
+    ghost use Rattle.job_pool.specs.Queue.{AreOfGiven};
 
-    ghost fact = { λ v items. Every (IsNumbered v.given) v.taken };
+    ghost fact = { λ v items. AreOfGiven v };
 }

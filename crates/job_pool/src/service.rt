@@ -17,10 +17,8 @@ pub trait Service: Sync {
 
     // The service takes this job.
     ghost accepts: { Self → Self.Job → Type 0 };
-    // This job may come to this end.
-    ghost serves: { Self → Self.Job → Self.End → Type 0 };
-    // Over some jobs the first state of a worker may become the second.
-    ghost keeps: { Self → Self.Worker → Self.Worker → Type 0 };
+    // In the first state of a worker a call with this job may leave the worker in the second, and bring the job to this end.
+    ghost serves: { Self → Self.Worker → Self.Job → Self.Worker → Self.End → Type 0 };
 
     /// Serves one job to its end, and hands the worker's state back. A job that goes wrong has an end that says so.
     fn serve(
@@ -30,11 +28,5 @@ pub trait Service: Sync {
         job: Self::Job,
     ) -> (Self::Worker, Self::End)
         requires { accepts self.now job }
-        ensures worker { keeps self.now worker result.0 }
-        ensures end { serves self.now job result.1 };
-
-    // A worker that serves nothing keeps its state.
-    ghost keeps_same: { (s : Self) (w : Self.Worker) → keeps s w w };
-    // What is kept over some jobs and then over others is kept over all.
-    ghost keeps_on: { (s : Self) (u v w : Self.Worker) → keeps s u v → keeps s v w → keeps s u w };
+        ensures { serves self.now worker job result.0 result.1 };
 }

@@ -2,7 +2,7 @@
 ghost use Rattle.std.specs.Prelude.{◌≡◌, [], map, IfOk, IfErr};
 ghost use Rattle.crossbeam_queue.specs.Passes.{view, IsPassOf};
 ghost use Rattle.job_pool.specs.Lists.{Every};
-ghost use Rattle.job_pool.specs.Ends.{IsEndOfTaken};
+ghost use Rattle.job_pool.specs.Ends.{HasServed};
 ghost use Rattle.job_pool.specs.Queue.{leader, newcomer};
 ghost use Rattle.job_pool.specs.Workers.{IsOn, IsOfStart, state_before};
 
@@ -52,9 +52,8 @@ where
             requires queue { IsPassOf queue.now theirs × (view theirs ≡ newcomer) }
             requires accepts { (job : S.Job) → H.accepts job → S.accepts service.now job }
             ensures queue { IsPassOf queue.entry.now result.pass }
-            ensures ends { Every (IsEndOfTaken (S.serves service.entry.now)
-                (view result.pass).taken) result.ends.items }
-            ensures worker { S.keeps service.entry.now worker result.worker }
+            ensures served { HasServed (S.serves service.entry.now) (view result.pass).taken
+                result.ends.items worker result.worker }
         { work::<H, S, T>(rt, alloc, service, queue, worker, theirs, parker) },
     ) else {
         return Err(RunFault::NoThread);

@@ -1,9 +1,8 @@
 //! A worker: it takes jobs and serves them until it takes a stop mark.
 ghost use Rattle.std.specs.Prelude.{◌≡◌};
 ghost use Rattle.crossbeam_queue.specs.Passes.{view, IsPassOf};
-ghost use Rattle.job_pool.specs.Lists.{Every};
 ghost use Rattle.job_pool.specs.Queue.{newcomer};
-ghost use Rattle.job_pool.specs.Ends.{IsEndOfTaken};
+ghost use Rattle.job_pool.specs.Ends.{HasServed};
 
 use crate::queue::{Accepts, JobQueue, Pop, QueuePass, Task};
 use crate::service::Service;
@@ -28,8 +27,8 @@ pub struct WorkerOutput<W, J, E> {
     pub ends: Vec<NumberedEnd<E>>,
 }
 
-/// What a worker promises of its work: its pass is of the same queue, each end is the service's end of a job that it took, and its
-/// state is one that the service's calls lead to.
+/// What a worker promises of its work: its pass is of the same queue, and its ends are those of its calls of the service, each with a
+/// job that it took, which lead from its first state to its last.
 #[derive(Drop)]
 pub struct WorkerPromise<S, W, J> {
     pub service: Snapshot<S>,
@@ -41,13 +40,12 @@ impl<S: Service> Promise<WorkerOutput<S::Worker, S::Job, S::End>>
     for WorkerPromise<S, S::Worker, S::Job> {
     ghost use Rattle.std.specs.Prelude.{◌≡◌, []};
     ghost use Rattle.crossbeam_queue.specs.Passes.{view};
-    ghost use Rattle.job_pool.specs.Lists.{Every};
-    ghost use Rattle.job_pool.specs.Ends.{IsEndOfTaken};
+    ghost use Rattle.job_pool.specs.Ends.{HasServed};
 
     ghost kept_by = { λ p work.
         ((work.pass.table_id ≡ p.pass.value.table_id) × (work.pass.me.1 ≡ []))
-        × Every (IsEndOfTaken (S.serves p.service.value) (view work.pass).taken) work.ends.items
-        × S.keeps p.service.value p.worker.value work.worker };
+        × HasServed (S.serves p.service.value) (view work.pass).taken work.ends.items
+        p.worker.value work.worker };
 }
 
 /// Serves jobs until it takes a stop mark. It sleeps where the queue is empty. A job for whose end there is no memory is let go and
@@ -64,9 +62,8 @@ pub(crate) fn work<H: Accepts<S::Job>, S: Service, T: Wait>(
     requires queue { IsPassOf queue.now pass × (view pass ≡ newcomer) }
     requires accepts { (job : S.Job) → H.accepts job → S.accepts service.now job }
     ensures queue { IsPassOf queue.now result.pass }
-    ensures ends { Every (IsEndOfTaken (S.serves service.now) (view result.pass).taken)
-        result.ends.items }
-    ensures worker { S.keeps service.now worker result.worker }
+    ensures served { HasServed (S.serves service.now) (view result.pass).taken
+        result.ends.items worker result.worker }
 {
     let mut state = worker;
     let mut mine = pass;

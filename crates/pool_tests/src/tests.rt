@@ -30,23 +30,17 @@ impl<'a> Service for Multiplier<'a> {
 
     type Worker = Tally;
 
-    ghost use Rattle.std.proofs.Common.{rules};
     ghost use Rattle.std.specs.Prelude.{◌≡◌, ◌*◌, ◌≤◌, ◌%◌, ◌^◌, ⊤};
 
     ghost accepts = { λ service job. ⊤ };
 
-    ghost serves = { λ service job end. end ≡ (job * service.factor.now) % 2 ^ 64 };
-
-    ghost keeps = { λ service first last. first.served ≤ last.served };
+    ghost serves = { λ service first job last end. (first.served ≤ last.served)
+        × (end ≡ (job * service.factor.now) % 2 ^ 64) };
 
     fn serve(&self, _alloc: Global, worker: Tally, job: u32) -> (Tally, u64) {
         let served = worker.served.saturating_add(1);
         (Tally { served }, u64::from(job).wrapping_mul(*self.factor))
     }
-
-    ghost keeps_same = { Prim.search rules };
-
-    ghost keeps_on = { Prim.search rules };
 }
 
 /// Gives the numbers from `next` on, as many as are left, and then none, or a fault.

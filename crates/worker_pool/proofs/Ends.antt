@@ -8,12 +8,6 @@ use Rattle.worker_pool.specs.declared.server.Served.{Served}
 use Rattle.worker_pool.specs.Serving.{counted_whole}
 use Rattle.worker_pool.specs.Leaving.{MetFullBook}
 
-pub pairwise_length : {A B : Type 0} (R : A → B → Type 0) (xs : List A) (ys : List B) → Pairwise R xs ys → length ys ≡ length xs
-pairwise_length R [] [] h = refl
-pairwise_length R [] (y ∷ ys) h = absurd h
-pairwise_length R (x ∷ xs) [] h = absurd h
-pairwise_length R (x ∷ xs) (y ∷ ys) h = let rest = pairwise_length R xs ys h.1 in omega (arith, rest)
-
 pub replicate_length : {A : Type 0} (n : ℕ) (x : A) → length (replicate n x) ≡ n
 replicate_length zero x = refl
 replicate_length (suc n) x = let rest = replicate_length n x in omega (arith, rest)

@@ -4,3 +4,4 @@ pub mod Sessions
 pub mod Ends
 pub mod Faults
 pub mod Sources
+pub mod Summing

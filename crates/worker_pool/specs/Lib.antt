@@ -1,5 +1,5 @@
 -- The definitions of this crate.
 pub mod Tallies
 pub mod Serving
-pub mod CountsOn
+pub mod Summing
 pub mod Leaving

@@ -1,5 +1,5 @@
 -- What the end of a job says.
-use Rattle.std.specs.Prelude.{◌≡◌, ℕ, false, List, [], ◌∷◌, Option, IfSome, MatchResult, map}
+use Rattle.std.specs.Prelude.{◌≡◌, ℕ, false, List, Option, IfSome, MatchResult, map}
 use Rattle.node_session.specs.declared.ended.Ended.{Ended}
 use Rattle.node_session.specs.declared.fault.SessionFault.{SessionFault}
 use Rattle.node_session.specs.Answered.{Answered}
@@ -57,16 +57,7 @@ module _ {I O : Type 0} where
     abbrev pub EndsWell : Job I O → End I O → Type 0
     EndsWell job end = Serves job (counted_whole end)
 
-    -- the session of a job counted on from the first numbers to the last
-    abbrev pub CountsInSession : Totals → Totals → Type 0
-    CountsInSession first last = (job : Job I O) × (served : Served I O) × (before : Node) × (after : Node)
+    -- a session of the job counted on from the first numbers to the last, and came to this end
+    abbrev pub CountsInSession : Totals → Job I O → Totals → Served I O → Type 0
+    CountsInSession first job last served = (before : Node) × (after : Node)
         × (before.count.counted ≡ first) × (after.count.counted ≡ last) × Joins job served before after
-
-    -- sessions did, one after another, through these numbers
-    abbrev pub CountsThrough : List Totals → Totals → Totals → Type 0
-    CountsThrough [] first last = last ≡ first
-    CountsThrough (next ∷ rest) first last = CountsInSession first next × CountsThrough rest next last
-
-    -- some sessions did
-    abbrev pub CountsOn : Totals → Totals → Type 0
-    CountsOn first last = (through : List Totals) × CountsThrough through first last

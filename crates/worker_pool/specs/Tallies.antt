@@ -1,6 +1,6 @@
 -- What a tally says of a vnode.
 use Rattle.std.specs.Prelude.{◌≡◌, List}
-use Rattle.riak_msgs.specs.declared.Content.{Content}
+use Rattle.riak_msgs.specs.Contents.{Content}
 use Rattle.vnode_machine.specs.Machine.{State}
 use Rattle.rw_gate.specs.Views.{GateId}
 use Rattle.rw_gate.specs.Histories.{RunFrom}

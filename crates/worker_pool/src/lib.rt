@@ -3,7 +3,8 @@
 //! What it means: [`Pool::run`] takes all jobs of a source, each a connection with passes of the run's gates, and gives one end for each,
 //! in the order in which the source gave the jobs (`specs/Serving`: `Serves`). An end is what `serve` of `node_session` makes of that
 //! job's reader and writer, by a run of the step of a node over the gates (`gate_node`) from the job's passes to the end's. With the
-//! ends come the totals of what all workers counted (`stats_book`), and the tally of each vnode after the last job.
+//! ends come the totals of what these sessions counted, each session once (`specs/Summing`: `SumsSessions`), and the tally of each
+//! vnode after the last job.
 //!
 //! What it costs: what a run of `job_pool` costs, the book's lock once for each answer that is counted, and a thread for each worker. A
 //! tally is one look under a right to read.

@@ -1,11 +1,11 @@
 //! A run of the pool.
-ghost use Rattle.std.specs.Prelude.{◌≡◌, ◌≤◌, List, map, replicate, vec_len, IfOk, IfErr};
+ghost use Rattle.std.specs.Prelude.{◌≡◌, ◌≤◌, map, vec_len, IfOk, IfErr};
 ghost use Rattle.job_pool.specs.Giving.{AllServed, GivesOnly};
 ghost use Rattle.job_pool.specs.Lists.{Pairwise};
-ghost use Rattle.stats_book.specs.Counting.{sum_of, zeros};
+ghost use Rattle.stats_book.specs.Counting.{sum_of};
 ghost use Rattle.stats_book.specs.Holdings.{AllAre};
-ghost use Rattle.stats_book.specs.declared.totals.Totals.{Totals};
-ghost use Rattle.worker_pool.specs.Serving.{EndsWell, IsForGates, CountsOn, counted_whole};
+ghost use Rattle.worker_pool.specs.Serving.{EndsWell, IsForGates, counted_whole};
+ghost use Rattle.worker_pool.specs.Summing.{SumsSessions};
 ghost use Rattle.worker_pool.specs.Leaving.{Leaves, IsFaultAfter, pool_fault};
 ghost use Rattle.worker_pool.specs.Tallies.{IsTally};
 
@@ -131,9 +131,9 @@ where
     ensures ends { IfOk result (λ closed.
         AllServed J.gives (EndsWell I.remaining O.contents shared.now)
         jobs.old closed.ends.items jobs.new) }
-    ensures totals { IfOk result (λ closed. (counts : List Totals)
-        × Pairwise (CountsOn I.remaining O.contents shared.now) (replicate workers zeros) counts
-        × (closed.totals ≡ sum_of counts)) }
+    ensures totals { IfOk result (λ closed.
+        SumsSessions J.gives I.remaining O.contents shared.now workers
+        jobs.old closed.ends.items closed.totals jobs.new) }
     ensures tallies { IfOk result (λ closed. Pairwise IsTally shared.now.gates closed.tallies.items) }
     ensures fault { IfErr result (λ fault.
         Leaves J.gives I.remaining O.contents shared.now fault jobs.old jobs.new) }
@@ -161,8 +161,8 @@ impl Pool {
     /// jobs from the source and hands them to the workers; each is served by one worker, whose calls pass the turnstile. On success
     /// there is one end for each job, in the order in which the source gave them. The end has the job's own reader, writer and
     /// passes, and what `serve` returned: what was written is the output for what was read, by a run of the step of a node over the
-    /// gates from the job's passes to the end's, which may serve a later job. The totals are the sums of what the workers counted, each in the sessions that it
-    /// served. The tallies stand in the order of the partitions, each of one look after the workers were joined.
+    /// gates from the job's passes to the end's, which may serve a later job. The totals are what the sessions of these ends counted,
+    /// each session once. The tallies are in the order of the partitions, each of one look after the workers were joined.
     ///
     /// Where it is refused, the workers that were started have been joined, and what they did to the vnodes stays:
     ///
@@ -192,9 +192,9 @@ impl Pool {
         ensures ends { IfOk result (λ closed.
             AllServed J.gives (EndsWell I.remaining O.contents shared.now)
             jobs.old closed.ends.items jobs.new) }
-        ensures totals { IfOk result (λ closed. (counts : List Totals)
-            × Pairwise (CountsOn I.remaining O.contents shared.now) (replicate workers zeros) counts
-            × (closed.totals ≡ sum_of counts)) }
+        ensures totals { IfOk result (λ closed.
+            SumsSessions J.gives I.remaining O.contents shared.now workers
+            jobs.old closed.ends.items closed.totals jobs.new) }
         ensures tallies { IfOk result (λ closed.
             Pairwise IsTally shared.now.gates closed.tallies.items) }
         ensures fault { IfErr result (λ fault.

@@ -44,14 +44,11 @@ where
 
     type Worker = Share<G, P, D, E, R>;
 
-    ghost use Rattle.worker_pool.specs.Serving.{IsForGates, Serves, CountsOn};
-    ghost use Rattle.worker_pool.specs.CountsOn.{counts_on_none, counts_on_more};
+    ghost use Rattle.worker_pool.specs.Serving.{IsForGates, CountsInSession};
 
     ghost accepts = { λ server job. IsForGates server.shared.now job };
 
-    ghost serves = { λ server. Serves I.remaining O.contents server.shared.now };
-
-    ghost keeps = { λ server. CountsOn I.remaining O.contents server.shared.now };
+    ghost serves = { λ server. CountsInSession I.remaining O.contents server.shared.now };
 
     fn serve(
         &self,
@@ -90,10 +87,4 @@ where
         };
         (share, Served { end, book_full })
     }
-
-    ghost keeps_same = { λ server share.
-        counts_on_none I.remaining O.contents server.shared.now share };
-
-    ghost keeps_on = { λ server first next last h k.
-        counts_on_more I.remaining O.contents server.shared.now first next last h k };
 }

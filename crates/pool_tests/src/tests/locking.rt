@@ -25,19 +25,13 @@ impl<'a, T: Wait + Sync> Service for Adder<'a, T> {
 
     ghost accepts = { λ service job. ⊤ };
 
-    ghost serves = { λ service job end. end ≡ job };
-
-    ghost keeps = { λ service first last. ⊤ };
+    ghost serves = { λ service first job last end. end ≡ job };
 
     fn serve(&self, _alloc: Global, _worker: (), job: u32) -> ((), u32) {
         let mut sum = self.sum.lock(self.rt);
         *sum = sum.saturating_add(u64::from(job));
         ((), job)
     }
-
-    ghost keeps_same = { λ service worker. tt };
-
-    ghost keeps_on = { λ service first next last h k. tt };
 }
 
 /// How many ends a run on three workers has.

@@ -6,10 +6,10 @@ use Rattle.job_pool.proofs.pool.run.Goals as goal
 pub run_owned-jobs-requires-clause-jobs : goal.run_owned-jobs-requires-clause-jobs
 run_owned-jobs-requires-clause-jobs g c κs within = only_inside g.G.Jobs.gives (g.S.Service.accepts c.args.service.now) _ c.requires.jobs
 
-pub returns-clause-ends : goal.returns-clause-ends
-returns-clause-ends g c =
+pub returns-clause-served : goal.returns-clause-served
+returns-clause-served g c =
     let tie = c.jobs-1.given.1 in
-    if_ok _ _ c.run_owned-jobs.result.1 (λ done h. (h.0, all_back g.G.Jobs.gives _ h.0 c.run_owned-jobs.result.0 c.jobs-1.given.0 (λ name. sym (tie (sym name) ∙ c.take_back.ensures)) h.1, h.2)) c.run_owned-jobs.ensures.ends
+    if_ok _ _ c.run_owned-jobs.result.1 (λ done h. (h.0, all_back g.G.Jobs.gives _ h.0 c.run_owned-jobs.result.0 c.jobs-1.given.0 (λ name. sym (tie (sym name) ∙ c.take_back.ensures)) h.1, h.2)) c.run_owned-jobs.ensures.served
 
 pub returns-clause-fault : goal.returns-clause-fault
 returns-clause-fault g c =

@@ -1,11 +1,9 @@
 use Rattle.std.proofs.Common.{refl, sym, ap, subst, ◌∙◌}
 use Rattle.crossbeam_queue.specs.Passes.{view}
-use Rattle.job_pool.specs.Lists.{Every}
 use Rattle.job_pool.specs.Queue.{after_pop}
-use Rattle.job_pool.specs.Ends.{IsEndOfTaken}
-use Rattle.job_pool.proofs.Lists.{all_snoc}
+use Rattle.job_pool.specs.Ends.{HasServed}
 use Rattle.job_pool.proofs.Rule.{pops}
-use Rattle.job_pool.proofs.Ends.{all_taken_more, taken_last}
+use Rattle.job_pool.proofs.Ends.{more_taken, one_served}
 use Rattle.job_pool.proofs.worker.work.Goals as goal
 
 pub pop_as-requires-clause-rule : goal.pop_as-requires-clause-rule
@@ -14,16 +12,14 @@ pop_as-requires-clause-rule g c = (pops g.H.Accepts.accepts _ _, λ items views 
 pub loop-preserved-then-has_room : goal.loop-preserved-then-has_room
 loop-preserved-then-has_room g c =
     let Serves = g.S.Service.serves c.args.service.now in
-    let laws = g.met.S.Service g.world.𝓛 g.world.𝓜 g.world.𝓡 ((λ s x. x), (λ x. x), (λ x. x), λ x. x) in
     let same = c.in-Some-Serve.ensures.queue in
     let was = c.loop.invariant in
     let taken = ap (λ v. v.taken) c.in-Some-Serve.ensures.rule.0 ∙ ap (λ x. (after_pop (view c.loop.mine) x).taken) c.in-Some-Serve.field-0-is in (
       tt,
       tt,
       (same.0 ∙ was.2.0, same.2 ∙ was.2.1),
-      subst (λ t. Every (IsEndOfTaken Serves t) c.push_reserved.new.self.items) (sym taken)
-          (rw (c.push_reserved.ensures.items, c.reserve.ensures.items) (all_snoc (IsEndOfTaken Serves _) _ _ (all_taken_more Serves _ _ _ was.3) (taken_last Serves _ _ _ refl c.serve-next_state.ensures.end))),
-      laws.keeps_on _ _ _ _ was.4 c.serve-next_state.ensures.worker,
+      subst (λ t. HasServed Serves t c.push_reserved.new.self.items c.args.worker c.serve-next_state.result.0) (sym taken)
+          (rw (c.push_reserved.ensures.items, c.reserve.ensures.items) (one_served Serves _ _ _ _ _ _ _ refl was.3 c.serve-next_state.ensures)),
     )
 
 pub loop-preserved-else-has_room : goal.loop-preserved-else-has_room
@@ -32,4 +28,4 @@ loop-preserved-else-has_room g c =
     let same = c.in-Some-Serve.ensures.queue in
     let was = c.loop.invariant in
     let taken = ap (λ v. v.taken) c.in-Some-Serve.ensures.rule.0 ∙ ap (λ x. (after_pop (view c.loop.mine) x).taken) c.in-Some-Serve.field-0-is in
-    (tt, tt, (same.0 ∙ was.2.0, same.2 ∙ was.2.1), subst (λ t. Every (IsEndOfTaken Serves t) c.reserve.new.self.items) (sym taken) (rw c.reserve.ensures.items (all_taken_more Serves _ _ _ was.3)), was.4)
+    (tt, tt, (same.0 ∙ was.2.0, same.2 ∙ was.2.1), subst (λ t. HasServed Serves t c.reserve.new.self.items c.args.worker c.loop.state) (sym taken) (rw c.reserve.ensures.items (more_taken Serves _ _ _ _ _ was.3)))

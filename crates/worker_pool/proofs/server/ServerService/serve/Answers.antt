@@ -2,7 +2,6 @@ use Rattle.std.proofs.Common.{◌∙◌, ap, sym}
 use Rattle.worker_pool.specs.declared.job.End.{End}
 use Rattle.worker_pool.specs.declared.server.Served.{Served}
 use Rattle.worker_pool.specs.Serving.{Joins}
-use Rattle.worker_pool.specs.CountsOn.{counts_on_one}
 use Rattle.worker_pool.proofs.Keeping.{session_keeps}
 use Rattle.worker_pool.proofs.Sessions.{session_kept}
 use Rattle.worker_pool.proofs.server.ServerService.serve.Goals as goal
@@ -27,7 +26,4 @@ returns g c =
       full = sym c.parts-share.ensures.full;
       session = session_kept remaining contents shared c.args.job before after c.serve-result.new.reader c.serve-result.new.writer c.reads.result c.reads.ensures.reads end c.ended.ensures c.ended-2.ensures said.ended said.all said.stopped said.too_many;
     } in
-    record {
-      worker = counts_on_one remaining contents shared _ _ (c.args.job, served, before, after, ap (λ n. n.counted) c.new-node.ensures.count, sym c.parts-share.ensures.share, joins);
-      end = (before, after, joins);
-    }
+    (before, after, ap (λ n. n.counted) c.new-node.ensures.count, sym c.parts-share.ensures.share, joins)

@@ -1,0 +1,85 @@
+-- The totals of the shares are what the sessions counted.
+use Rattle.std.proofs.Common.{◌≡◌, ◌+◌, ℕ, zero, suc, List, [], ◌∷◌, map, arith, sym, refl, subst}
+use Rattle.std.proofs.lemmas.List.Sums.{sum_by-cons}
+use Rattle.std.specs.List.{sum_by}
+use Rattle.std.specs.Prelude.{Option, Result, replicate}
+use Rattle.job_pool.specs.Giving.{AllServed, AllServedOnce}
+use Rattle.job_pool.specs.Turns.{ServedOnce}
+use Rattle.job_pool.specs.declared.jobs.JobFault.{JobFault}
+use Rattle.job_pool.proofs.Lists.{pairs_more}
+use Rattle.job_pool.proofs.Once.{once_pairs, once_sums}
+use Rattle.stats_book.specs.Counting.{both, sum_of, zeros}
+use Rattle.stats_book.specs.declared.totals.Totals.{Totals}
+use Rattle.gate_node.specs.Gates.{Gates}
+use Rattle.worker_pool.specs.declared.job.Job.{Job}
+use Rattle.worker_pool.specs.declared.job.End.{End}
+use Rattle.worker_pool.specs.declared.server.Served.{Served}
+use Rattle.worker_pool.specs.Serving.{CountsInSession, Serves, counted_whole}
+use Rattle.worker_pool.specs.Summing.{Session, SumsSessions, sums_before, sums_after}
+
+module _ (q : Totals → ℕ) (none : q zeros ≡ 0) (add : (a b : Totals) → q (both a b) ≡ q a + q b) where
+  number_sum : {A : Type 0} (f : A → Totals) (xs : List A) → q (sum_of (map f xs)) ≡ sum_by (λ x. q (f x)) xs
+  number_sum f [] = none
+  number_sum f (x ∷ xs) =
+      let rest = number_sum f xs in
+      let one = sum_by-cons (λ y. q (f y)) x xs in
+      let here = add (f x) (sum_of (map f xs)) in
+      omega (arith, rest, one, here)
+
+  plain_sum : (ts : List Totals) → q (sum_of ts) ≡ sum_by q ts
+  plain_sum [] = none
+  plain_sum (t ∷ ts) =
+      let rest = plain_sum ts in
+      let one = sum_by-cons q t ts in
+      let here = add t (sum_of ts) in
+      omega (arith, rest, one, here)
+
+  none_sum : (n : ℕ) → sum_by q (replicate n zeros) ≡ 0
+  none_sum zero = refl
+  none_sum (suc n) =
+      let rest = none_sum n in
+      let one = sum_by-cons q zeros (replicate n zeros) in
+      omega (arith, rest, one, none)
+
+  module _ {I O : Type 0} (R : Totals → Job I O → Totals → Served I O → Type 0) (jobs : List (Job I O)) (n : ℕ) (ends : List (Served I O)) (lasts : List Totals) where
+    number_raised : (h : ServedOnce R jobs (replicate n zeros) ends lasts) → q (both (sums_before h.turns) (sum_of lasts)) ≡ q (sums_after h.turns)
+    number_raised h =
+        let all = once_sums R q jobs (replicate n zeros) ends lasts h in
+        let first = none_sum n in
+        let last = plain_sum lasts in
+        let before = number_sum (λ (s : Session I O). s.before) h.turns in
+        let after = number_sum (λ (s : Session I O). s.after) h.turns in
+        let here = add (sums_before h.turns) (sum_of lasts) in
+        omega (arith, all, first, last, before, after, here)
+
+module _ {I O : Type 0} (R : Totals → Job I O → Totals → Served I O → Type 0) (jobs : List (Job I O)) (n : ℕ) (ends : List (Served I O)) (lasts : List Totals) where
+  all_raised : (h : ServedOnce R jobs (replicate n zeros) ends lasts) → both (sums_before h.turns) (sum_of lasts) ≡ sums_after h.turns
+  all_raised h =
+      let gets = number_raised (λ t. t.gets) refl (λ a b. refl) R jobs n ends lasts h in
+      let puts = number_raised (λ t. t.puts) refl (λ a b. refl) R jobs n ends lasts h in
+      let deletes = number_raised (λ t. t.deletes) refl (λ a b. refl) R jobs n ends lasts h in
+      let refusals = number_raised (λ t. t.refusals) refl (λ a b. refl) R jobs n ends lasts h in
+      let reaps = number_raised (λ t. t.reaps) refl (λ a b. refl) R jobs n ends lasts h in
+      λ i. record { gets = gets i; puts = puts i; deletes = deletes i; refusals = refusals i; reaps = reaps i }
+
+module _ {J I O : Type 0} (Gives : J → Result (Option (Job I O)) JobFault → J → Type 0) (remaining : I → Option (List ℕ)) (contents : O → Option (List ℕ)) (shared : Gates) (first last : J) where
+  abbrev Counts : Totals → Job I O → Totals → Served I O → Type 0
+  Counts = CountsInSession remaining contents shared
+
+  -- each job was served
+  pub served_all : (firsts : List Totals) (ends : List (Served I O)) (lasts : List Totals) → AllServedOnce Gives Counts first firsts ends lasts last → AllServed Gives (Serves remaining contents shared) first ends last
+  served_all firsts ends lasts h = (h.0, h.1, pairs_more (λ job served was. (was.2.0, was.2.1, was.2.4)) h.0 ends (once_pairs Counts h.0 firsts ends lasts h.2))
+
+  -- and by the sums of the shares the sessions raised the numbers
+  pub sums_sessions : (n : ℕ) (firsts : List Totals) (served : List (Served I O)) (lasts : List Totals) (ends : List (End I O)) (totals : Totals) → firsts ≡ replicate n zeros → map counted_whole ends ≡ served → totals ≡ sum_of lasts
+      → AllServedOnce Gives Counts first firsts served lasts last → SumsSessions Gives remaining contents shared n first ends totals last
+  sums_sessions n firsts served lasts ends totals new whole sums h =
+      let once : ServedOnce Counts h.0 (replicate n zeros) (map counted_whole ends) lasts = subst (λ es. ServedOnce Counts h.0 (replicate n zeros) es lasts) (sym whole) (subst (λ fs. ServedOnce Counts h.0 fs served lasts) new h.2) in
+      record {
+        jobs = h.0;
+        counts = lasts;
+        gave = h.1;
+        once = once;
+        sums = sums;
+        raised = subst (λ t. both (sums_before once.turns) t ≡ sums_after once.turns) (sym sums) (all_raised Counts h.0 n (map counted_whole ends) lasts once);
+      }
