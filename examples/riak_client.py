@@ -107,7 +107,7 @@ class Client:
         return reply
 
     def _read(self, length):
-        """Reads so many bytes, or says that the stream has ended."""
+        """Reads so many bytes, or raises ConnectionError where the stream has ended."""
         got = self.from_node.read(length)
         if len(got) < length:
             raise ConnectionError("the node ended the connection")

@@ -1,10 +1,10 @@
-// Refuses memory to a program that it is loaded into by LD_PRELOAD, or tells what the program asks for.
+// Refuses memory to a program that it is loaded into by LD_PRELOAD, or prints the sizes that the program asks for.
 //
 // A call of malloc, calloc, realloc or aligned_alloc counts where it comes from the program's own code: from the code of the first
 // object that is loaded, by the address that the call returns to. The loader's and the C library's own calls always go through.
 //
 //   REFUSED_CALL=N     the Nth such call answers NULL, and a line is written to file descriptor 9
-//   TOLD_CALLS=1       each such call is let through, and its size is written there, one line each
+//   PRINT_SIZES=1      each such call is let through, and its size is written there, one line each
 #define _GNU_SOURCE
 #include <errno.h>
 #include <link.h>
@@ -18,7 +18,7 @@ extern void *__libc_realloc(void *old, size_t size);
 extern void *__libc_memalign(size_t alignment, size_t size);
 
 static uintptr_t code_begin, code_end;
-static long refused_call, is_told, calls;
+static long refused_call, prints_sizes, calls;
 
 // Notes where the code of the first object is, and ends the walk over the objects.
 static int note_code(struct dl_phdr_info *object, size_t size, void *unused) {
@@ -40,7 +40,7 @@ static long number_of(const char *name) {
 
 __attribute__((constructor)) static void begin(void) {
   refused_call = number_of("REFUSED_CALL");
-  is_told = number_of("TOLD_CALLS");
+  prints_sizes = number_of("PRINT_SIZES");
   dl_iterate_phdr(note_code, NULL);
 }
 
@@ -50,7 +50,7 @@ static int refuses(void *caller, size_t size) {
   if (at < code_begin || at >= code_end) return 0;
   long call = __atomic_add_fetch(&calls, 1, __ATOMIC_SEQ_CST);
   int is_refused = call == refused_call;
-  if (is_refused || is_told) dprintf(9, "%zu\n", size);
+  if (is_refused || prints_sizes) dprintf(9, "%zu\n", size);
   if (is_refused) errno = ENOMEM;
   return is_refused;
 }

@@ -13,7 +13,7 @@ use Rattle.node_commands.specs.declared.serving.Settings.{Settings}
 abbrev pub address_line : ℕ → List ℕ
 address_line port = codes "listening 127.0.0.1:" ++ decimal port ++ codes "\n"
 
--- the gates of a new run, as the settings say
+-- the gates of a new run with these settings
 pub record AreOfRun (settings : Settings) (gates : Gates) : Type 0 where
   pub ring : gates.index_bits ≡ settings.ring
   pub run : gates.run ≡ settings.run
@@ -21,8 +21,8 @@ pub record AreOfRun (settings : Settings) (gates : Gates) : Type 0 where
   pub made_new : AreMadeNew settings.run 0 gates.gates
 
 module _ {I O : Type 0} where
-  -- so many connections were served over these gates, each once and to its end, and then each vnode was tallied; of the bytes of a
-  -- socket nothing is known
+  -- so many connections were served over these gates, each once and to its end, and then each vnode was tallied; of the bytes of
+  -- a socket nothing is known
   pub record AreServed (gates : Gates) (connections : ℕ) (closed : Closed I O) : Type 0 where
     pub jobs : List (Job I O)
     pub count : length jobs ≡ connections

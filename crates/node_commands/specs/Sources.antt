@@ -20,4 +20,5 @@ module _ {I O : Type 0} where
   -- so does a source of connections over these gates, of which so many are to come
   module _ {S : Type 0} (gates : S → Gates) (left : S → ℕ) where
     abbrev pub GivesNext : S → Result (Option (Job I O)) JobFault → S → Type 0
-    GivesNext first given last = (gates last ≡ gates first) × IsNext (gates first) (left first) given (left last)
+    GivesNext first given last =
+        (gates last ≡ gates first) × IsNext (gates first) (left first) given (left last)

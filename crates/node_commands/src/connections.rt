@@ -1,5 +1,5 @@
 //! Connections as jobs of the pool.
-ghost use Rattle.std.specs.Prelude.{IfOk};
+ghost use Rattle.std.specs.Prelude.{IfOk, IfSome};
 ghost use Rattle.node_commands.specs.Sources.{IsNew};
 
 use crate::fault::ServeFault;
@@ -7,6 +7,7 @@ use crate::halves::{ReplyHalf, RequestHalf, new_halves};
 use log::{Log, info, warn};
 use std::alloc::Global;
 use std::net::{SocketAddr, TcpListener, TcpStream};
+use std::{io, thread};
 use worker_pool::{Job, JobFault, Jobs, Passes, Shared};
 
 /// The job of a connection.
@@ -21,30 +22,43 @@ pub(crate) struct Connections<'a, L: Log> {
     pub(crate) shared: &'a Shared,
     /// How many are still to come.
     pub(crate) left: u16,
-    /// What the last call failed of, if it did.
+    /// Why the last call failed, if it did.
     pub(crate) fault: ServeFault,
 }
 
+/// The job of a connection that was accepted from `peer`. None where memory is refused; the connection is closed then.
+fn new_job(
+    alloc: Global,
+    shared: &Shared,
+    stream: TcpStream,
+    peer: SocketAddr,
+) -> Option<ConnectionJob>
+    ensures { IfSome result (IsNew shared.now) }
+{
+    let passes = Passes::new(alloc, shared).ok()?;
+    let (reader, writer) = new_halves(alloc, stream, peer).ok()?;
+    Some(Job {
+        reader,
+        writer,
+        passes,
+    })
+}
+
 impl<'a, L: Log> Connections<'a, L> {
-    /// The job of a connection that has come.
-    fn job(&self, stream: TcpStream, peer: SocketAddr) -> Result<ConnectionJob, ServeFault>
-        ensures { IfOk result (IsNew self.now.shared.now) }
-    {
+    /// Has replies sent without delay, and logs the connection.
+    fn begin(&self, stream: &TcpStream, peer: SocketAddr) {
         if stream.set_nodelay(true).is_err() {
             warn!(self.rt; "connection from {peer}: replies may be delayed");
         }
-        let Ok(passes) = Passes::new(self.alloc, self.shared) else {
-            return Err(ServeFault::NoMemory);
-        };
-        let Ok((reader, writer)) = new_halves(self.alloc, stream, peer) else {
-            return Err(ServeFault::NoMemory);
-        };
         info!(self.rt; "connection from {peer}");
-        Ok(Job {
-            reader,
-            writer,
-            passes,
-        })
+    }
+
+    /// The job of a connection that was accepted from `peer`.
+    fn job(&self, stream: TcpStream, peer: SocketAddr) -> Result<ConnectionJob, ServeFault>
+        ensures { IfOk result (IsNew self.now.shared.now) }
+    {
+        self.begin(&stream, peer);
+        new_job(self.alloc, self.shared, stream, peer).ok_or(ServeFault::NoMemory)
     }
 
     /// Waits for the next connection.

@@ -10,7 +10,7 @@ use worker_pool::{EndRead, EndWrite};
 /// The socket of a connection, which both of its halves have. It is closed when both have let go of it.
 type Socket = Arc<TcpStream, Global>;
 
-/// The half by which requests come. After the session's end it has let go of the socket, and reads as at the end of its input.
+/// The half from which requests are read. After the session's end it has let go of the socket, and reads as at the end of its input.
 #[derive(Drop)]
 pub struct RequestHalf {
     socket: Option<Socket>,
@@ -23,7 +23,7 @@ struct SocketOut {
     socket: Socket,
 }
 
-/// The half by which replies go. It gathers up to 8,192 bytes, or what comes until it is flushed, for one write to the socket. After the
+/// The half to which replies are written. It gathers them, up to 8,192 bytes or until it is flushed, for one write to the socket. After the
 /// session's end it has let go of the socket, and takes nothing more.
 #[derive(Drop)]
 pub struct ReplyHalf {
@@ -83,7 +83,7 @@ impl Write for ReplyHalf {
 }
 
 impl EndWrite for ReplyHalf {
-    /// Tells the client that no more replies come, and lets go of the socket.
+    /// Shuts down the side to the client, which then reads the end of the replies, and lets go of the socket.
     fn ended(&mut self) {
         if let Some(gathered) = &self.gathered {
             let _ = gathered.get_ref().socket.shutdown(Shutdown::Write);

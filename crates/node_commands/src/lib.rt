@@ -3,9 +3,17 @@
 //! [`pipe`] serves one reader to one writer by a node of its own. [`serve_on`] serves the connections of a listener, many at a time, over
 //! the gates of one run (`worker_pool`).
 //!
-//! What it means: what a session writes is what `node_session` says of it, over a node for one thread (`pipe`) or over the gates
-//! (`specs/Runs`: `IsServed`). No clause says what a socket gives or takes; of a connection it is said that it was served once, to its end,
-//! over the run's gates, by passes that had seen nothing.
+//! ```text
+//! pipe(alloc, Ring::new(1)?, 1, 0, &mut reader, &mut writer)      // reader: 00 00 00 01 01, a ping
+//!     == Ok(Ended { replies: 1, rest: 0 })                        // writer: 00 00 00 01 02
+//! let settings = Settings { connections: 2, workers: 2, ring: Ring::new(64)?, run: 1, sweep: 0 };
+//! serve_on(&rt, alloc, TcpListener::bind(&rt, "127.0.0.1:0")?, &settings, &mut writer)?.ends.len() == 2
+//! // writer: `listening 127.0.0.1:40001`, and at the end `gets 2 puts 2 deletes 0 refusals 0 reaps 0`
+//! ```
+//!
+//! What it means: what a session writes is defined in `node_session`, over a node for one thread (`pipe`) or over the gates (`specs/Runs`:
+//! `IsServed`). What a socket gives or takes is unknown; a connection was served once, to its end, over the run's gates, by passes that had
+//! seen nothing.
 //!
 //! What it costs: a connection takes a descriptor, a pass of each gate, and 8,192 bytes for replies until it ends. Replies to what one read
 //! brought go out by one write, where they have room there.

@@ -126,7 +126,10 @@ fn report<T: Log, W: Write>(rt: &T, served: &Served, writer: &mut W) {
 ///
 /// It writes two lines: `listening 127.0.0.1:P` before the first connection is accepted, and the totals after the last one has ended. A
 /// failed write of them is passed over. Each connection is served by one thread, to its end; where more come than there are threads, they
-/// wait. A connection that fails ends alone, and the log says why.
+/// wait. A connection that fails ends alone. The log has a line for each connection when it is accepted, and for each
+/// one's end, with its fault, after the last one has ended.
+///
+/// The outcome keeps each connection's end: with its passes about 700 bytes on a ring of 64, 45 MB for 65,535.
 pub fn serve_on<T, W>(
     rt: &T,
     alloc: Global,

@@ -26,11 +26,13 @@ pub fn pipe<R: Read, W: Write>(
     requires { 1 ≤ run }
 
     // All of the input was read, and what was written is what the sibling register answers to it.
-    ensures ended { IfOk result (λ e. Given (R.remaining reader.old) (R.remaining reader.new) (2 ^ 32) (λ input.
-        PipeEnds run ring sweep input (W.contents writer.old) (W.contents writer.new) e.replies e.rest)) }
+    ensures ended { IfOk result (λ e.
+        Given (R.remaining reader.old) (R.remaining reader.new) (2 ^ 32) (λ input.
+        PipeEnds run ring sweep input
+        (W.contents writer.old) (W.contents writer.new) e.replies e.rest)) }
     ensures all { IfOk result (λ _. IsAtEnd (R.remaining reader.new)) }
 
-    // The same of what was read and written before a fault, as far as the fault lets it come.
+    // The same of what was read and written before a fault, as far as the session got.
     ensures stopped { IfErr result (λ fault.
         IsNotBegun (R.remaining reader.old) (R.remaining reader.new)
         (W.contents writer.old) (W.contents writer.new) fault

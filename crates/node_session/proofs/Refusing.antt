@@ -1,6 +1,6 @@
 -- What the vnode refuses is a step of the plain node.
 use Rattle.std.proofs.Common.{◌≡◌, refl, sym, subst, inr}
-use Rattle.riak_msgs.specs.declared.Content.{Content}
+use Rattle.riak_msgs.specs.Contents.{Content}
 use Rattle.riak_msgs.specs.declared.Reply.TheVariants.{Error}
 use Rattle.vnode_machine.specs.Machine.{State}
 use Rattle.vnode_machine.specs.Step.{StepOutcome, Refused, Answered, Accepted}

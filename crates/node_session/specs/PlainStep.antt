@@ -1,6 +1,6 @@
 -- What a vnode does for a node: what comes of the ask that a request makes, as a reply.
 use Rattle.std.specs.Prelude.{◌≡◌, ◌⊎◌, ◌==◌, if◌then◌else◌, ℕ, Option, Some, None, Result, Ok, Err}
-use Rattle.riak_msgs.specs.declared.Content.{Content}
+use Rattle.riak_msgs.specs.Contents.{Content}
 use Rattle.riak_msgs.specs.declared.Text.{Text}
 use Rattle.riak_msgs.specs.declared.Text.TheVariants as texts
 use Rattle.riak_msgs.specs.declared.Request.{Request}

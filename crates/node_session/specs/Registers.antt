@@ -2,7 +2,7 @@
 use Rattle.std.specs.Prelude.{[], ℕ}
 use Rattle.ring_map.specs.Ring.{id_of}
 use Rattle.riak_msgs.specs.declared.Key.{Key}
-use Rattle.riak_msgs.specs.declared.Content.{Content}
+use Rattle.riak_msgs.specs.Contents.{Content}
 use Rattle.riak_msgs.specs.declared.Request.{Request}
 use Rattle.riak_msgs.specs.declared.Reply.{Reply}
 use Rattle.sibling_register.specs.Legal.{IsLegal}

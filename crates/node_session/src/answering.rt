@@ -15,6 +15,7 @@ use riak_msgs::{MsgFault, Reply, Text, read_request};
 use std::alloc::Global;
 use std::io::Write;
 
+/// The text of the error for a message that is no request.
 fn message_fault_text(fault: MsgFault) -> Text
     ensures { result ≡ message_fault_text fault }
 {
@@ -28,6 +29,7 @@ fn message_fault_text(fault: MsgFault) -> Text
     }
 }
 
+/// The text of the error for a bad length.
 fn frame_fault_text(fault: FrameFault) -> Text
     ensures { result ≡ frame_fault_text fault }
 {
@@ -79,7 +81,8 @@ fn answer<W: Write, N: Node>(
     writer: &mut W,
     node: &mut N,
 ) -> Result<(), Stop>
-    ensures { Answering N.step node.old (record { code = code; body = body.now }) node.new (W.contents writer.old) (W.contents writer.new) result }
+    ensures { Answering N.step node.old (record { code = code; body = body.now }) node.new
+        (W.contents writer.old) (W.contents writer.new) result }
 {
     match read_request(alloc, code, body) {
         Ok(request) => {
@@ -99,7 +102,8 @@ fn answer_next<W: Write, N: Node>(
 ) -> Result<bool, Stop>
     requires limit { framer.old.limit ≡ max_request_len }
     requires untold { framer.old.fault ≡ None }
-    ensures { AnswersNext N.step node.old node.new framer.old framer.new (W.contents writer.old) (W.contents writer.new) result }
+    ensures { AnswersNext N.step node.old node.new framer.old framer.new
+        (W.contents writer.old) (W.contents writer.new) result }
 {
     match framer.take() {
         Ok(Some(frame)) => {
@@ -124,7 +128,8 @@ fn answer_all<W: Write, N: Node>(
     requires limit { framer.old.limit ≡ max_request_len }
     requires untold { framer.old.fault ≡ None }
     requires room { length framer.old.rest < 2 ^ 64 }
-    ensures { AnswersAll N.step node.old node.new framer.old framer.new (W.contents writer.old) (W.contents writer.new) result.0 result.1 }
+    ensures { AnswersAll N.step node.old node.new framer.old framer.new
+        (W.contents writer.old) (W.contents writer.new) result.0 result.1 }
 {
     let mut replies = 0;
     loop {
@@ -151,7 +156,8 @@ pub(crate) fn answer_piece<W: Write, N: Node>(
     requires some { 0 < length piece.now }
     requires bound { length piece.now ≤ 4096 }
     requires room { length framer.old.rest + length piece.now < 2 ^ 64 }
-    ensures { AnswersPiece N.step node.old node.new framer.old framer.new piece.now (W.contents writer.old) (W.contents writer.new) result.0 result.1 }
+    ensures { AnswersPiece N.step node.old node.new framer.old framer.new piece.now
+        (W.contents writer.old) (W.contents writer.new) result.0 result.1 }
 {
     if framer.feed(piece).is_err() {
         return (0, Err(Stop::NoMemory));

@@ -1,4 +1,4 @@
-//! Errors as they are written.
+//! The encoded error replies.
 
 ghost use Rattle.std.specs.Prelude.{◌≡◌};
 ghost use Rattle.riak_msgs.specs.declared.reply.Reply.TheVariants.{Error};
@@ -6,7 +6,7 @@ ghost use Rattle.node_session.specs.Answers.{reply_frame};
 
 use riak_msgs::Text;
 
-/// The frame of an error reply. It takes no memory, so that want of memory can be told too.
+/// The frame of an error reply. It takes no memory, so that `no memory` can always be answered.
 #[tactic(auto, unfolding(pb_frame::specs::Message::frame, wire_varint::specs::Varint::encoding, wire_varint::specs::Varint::encoded))]
 pub(crate) fn error_frame(text: Text) -> &'static [u8]
     ensures { result.now ≡ reply_frame (Error text) }

@@ -1,10 +1,18 @@
 //! One connection of the node, over any reader, any writer and any node: requests come in frames, and each is answered
 //! by one reply in a frame, in order.
 //!
+//! ```text
+//! let mut node = PlainNode::new(alloc, 1)?;                       // run 1, a ring of one partition, no sweeps
+//! serve(alloc, &mut reader, &mut writer, &mut node, 1000)         // reader: 00 00 00 01 01 (a ping) and 00 00 07
+//!     == Ok(Ended { replies: 1, rest: 3 })                        // writer: 00 00 00 01 02; three bytes were no frame
+//! serve(alloc, &mut reader, &mut writer, &mut node, 1000)         // reader: 00 00 00 00 (a length that no frame has)
+//!     == Err(SessionFault::BadFrame(0))                           // writer: the error `bad frame`, which isn't counted
+//! ```
+//!
 //! What a session writes is `Answered` by its input (`specs/Answered`): the frames of the input's messages are read one
 //! after another, each message is answered by a step of the node, or by its error where it is no request, and the frames
 //! of these replies are written. A length that no frame has is answered by one error, and ends the session. Each other
-//! end is told as well, with how many whole replies went out before it and with where the node stands (`specs/Session`).
+//! end has its clause too: how many whole replies went out before it, and the state of the node (`specs/Session`).
 //!
 //! A session reads up to 4,096 bytes at a time, and answers each whole frame that has come before it reads on. Where it
 //! stops among its answers, no frame is left unanswered but those that its last 4,096 bytes at most made whole. It never

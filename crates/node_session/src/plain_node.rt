@@ -36,7 +36,7 @@ impl From<AllocError> for NodeFault {
 ///
 /// One of run 1 and one partition, over its life: a get of b/k shows that the key is absent. A put of "v" on b/k is
 /// stored, at the first dot of the actor (65536, 1). A get shows "v" with the context of that dot. A put of "w" without
-/// context stands beside "v", and a get shows "w", "v" and the context of both dots. A delete without context leaves a
+/// context is stored beside "v", and a get shows "w", "v" and the context of both dots. A delete without context leaves a
 /// tombstone alone: a get shows that the key is absent, and its context to who asks for it. With a budget of 1 the key is
 /// forgotten after the delete's answer, and a put begins a new life, at the actor (65536, 2).
 #[derive(Drop)]
@@ -52,7 +52,8 @@ impl Model for PlainNode {
 
     ghost Value = { NodeState };
 
-    ghost view = { λ n. record { index_bits = n.ring; budget = n.budget; vnodes = states_of n.vnodes.items } };
+    ghost view = { λ n.
+        record { index_bits = n.ring; budget = n.budget; vnodes = states_of n.vnodes.items } };
 
     ghost invariant = { λ n. length n.vnodes.items ≡ 2 ^ n.ring };
 }

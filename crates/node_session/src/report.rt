@@ -1,4 +1,4 @@
-//! The end of a session, as the program tells it.
+//! The end of a session as a line of text and an exit status.
 
 ghost use Rattle.std.specs.Prelude.{◌≡◌, OnOk};
 ghost use Rattle.std.specs.Io.KnownBytes.{Appends};
@@ -19,8 +19,8 @@ pub fn exit_status(outcome: Result<Ended, SessionFault>) -> u8
     }
 }
 
-/// Writes the line by which the program tells of a fault, as `riak_node: bad frame after 2 replies`. It takes no
-/// memory. An `Err` is the writer's.
+/// Writes the program's line for a fault, such as `riak_node: bad frame after 2 replies`. It takes no memory. An `Err` is
+/// the writer's.
 pub fn write_fault<W: Write>(writer: &mut W, fault: SessionFault) -> io::Result<()>
     ensures { OnOk result
         (Appends (W.contents writer.old) (W.contents writer.new) (fault_line fault)) }

@@ -65,7 +65,7 @@ pub fn serve<R: Read, W: Write, N: Node>(
         Stops N.step node.old node.new input
         (W.contents writer.old) (W.contents writer.new) fault)) }
 
-    // Too many reads are told once all were made: where none was interrupted, as many bytes came at least.
+    // Too many reads are a fault only after all were made: where none was interrupted, as many bytes came at least.
     ensures too_many { IfErr result (λ fault. IsTooManyReads fault
         → MadeReads (R.remaining reader.old) (R.remaining reader.new) reads) }
 {

@@ -46,7 +46,8 @@ pub fn answer_reply(answer: Answer) -> Reply
 
 /// Answers a get.
 fn answer_get(vnode: &Vnode, alloc: Global, ask: &GetAsk) -> Reply
-    ensures { StepsBy vnode.now.state (outcome vnode.now.state (AskGet (get_command ask.now))) result vnode.now.state }
+    ensures { StepsBy vnode.now.state
+        (outcome vnode.now.state (AskGet (get_command ask.now))) result vnode.now.state }
 {
     match vnode.get(alloc, ask) {
         Ok(reply) => Reply::Get(reply),
@@ -76,7 +77,8 @@ fn forget_first(vnode: &mut Vnode, budget: u32)
 
 /// Answers a get, and forgets the vnode's first dead keys, so many at most.
 pub(crate) fn get_and_sweep(vnode: &mut Vnode, alloc: Global, ask: &GetAsk, budget: u32) -> Reply
-    ensures { AnswersAndSweeps budget vnode.old.state (outcome vnode.old.state (AskGet (get_command ask.now))) result vnode.new.state }
+    ensures { AnswersAndSweeps budget vnode.old.state
+        (outcome vnode.old.state (AskGet (get_command ask.now))) result vnode.new.state }
 {
     let reply = answer_get(vnode, alloc, ask);
     forget_first(vnode, budget);
@@ -85,7 +87,8 @@ pub(crate) fn get_and_sweep(vnode: &mut Vnode, alloc: Global, ask: &GetAsk, budg
 
 /// Answers what may change the vnode, and forgets the vnode's first dead keys, so many at most.
 pub(crate) fn change_and_sweep(vnode: &mut Vnode, alloc: Global, ask: Ask, budget: u32) -> Reply
-    ensures { AnswersAndSweeps budget vnode.old.state (ask_outcome vnode.old.state ask) result vnode.new.state }
+    ensures { AnswersAndSweeps budget vnode.old.state
+        (ask_outcome vnode.old.state ask) result vnode.new.state }
 {
     let reply = answer_change(vnode, alloc, ask);
     forget_first(vnode, budget);

@@ -54,7 +54,7 @@ fn incomplete(alloc: Global) -> Result<Vec<u8>, AllocError> {
     Ok(requests)
 }
 
-/// What they are told.
+/// Their replies.
 fn what_is_missing(alloc: Global) -> Result<Vec<u8>, AllocError> {
     let mut replies = Vec::new(alloc);
     replies.extend_from_slice(b"\0\0\0\x11\0\x0a\x0ckey required\x10\x01")?;
@@ -73,7 +73,7 @@ fn get_replies(alloc: Global, requests: &[u8], replies: &[u8]) -> bool {
     outcome == ended(5, 0) && sink.bytes.as_slice() == replies
 }
 
-// Each is told, and the session goes on.
+// Each is answered by its error, and the session goes on.
 #[test]
 fn what_is_missing_is_told(rt: HostRuntime) -> Result<(), Fail> {
     let requests = incomplete(rt.alloc())?;

@@ -50,7 +50,7 @@ fn put_and_get(alloc: Global) -> Result<Vec<u8>, AllocError> {
     Ok(bytes)
 }
 
-/// What they are told.
+/// Their replies.
 fn stored_and_shown(alloc: Global) -> Result<Vec<u8>, AllocError> {
     let mut bytes = Vec::new(alloc);
     bytes.extend_from_slice(b"\0\0\0\x01\x0c\0\0\x17\x8a\x0a\x0a\xf3\x2e\x0a\xf0\x2e")?;

@@ -11,7 +11,7 @@ use std::test::Fail;
 
 const NO_MEMORY: &[u8] = b"\0\0\0\x0e\0\x0a\x09no memory\x10\x01";
 
-/// Takes one of the replies off the front, and tells which.
+/// Takes one of the replies off the front, and returns which.
 fn taken<'a>(left: &mut &'a [u8], replies: &[&[u8]]) -> Option<usize> {
     for (i, reply) in replies.iter().enumerate() {
         if left.starts_with(reply) {
@@ -56,12 +56,12 @@ fn put_reply(alloc: Global, node: &mut PlainNode, room: Vec<u8>) -> Option<Optio
     }
 }
 
-/// A get is told this, asked once more where memory was refused.
+/// A get has this reply, asked once more where memory was refused.
 fn shows(alloc: Global, node: &mut PlainNode, reply: &[u8]) -> bool {
     answers(alloc, node, &GET, reply) || answers(alloc, node, &GET, reply)
 }
 
-/// A put that was told stands, and one that was refused does not.
+/// A put that was answered is stored, and one that was refused is not.
 fn stands(alloc: Global, node: &mut PlainNode, reply: Option<usize>) -> bool {
     match reply {
         Some(0) => shows(alloc, node, &REPLIES[10..]),
@@ -71,7 +71,7 @@ fn stands(alloc: Global, node: &mut PlainNode, reply: Option<usize>) -> bool {
 }
 
 #[test]
-fn a_refusal_of_memory_is_told_or_ends(rt: HostRuntime) -> Result<(), Fail> {
+fn a_refusal_of_memory_is_answered_or_ends(rt: HostRuntime) -> Result<(), Fail> {
     let alloc = rt.alloc();
     let (Ok(room), Ok(mut node)) = (Vec::with_capacity(alloc, 256), PlainNode::new(alloc, 1)) else {
         return Ok(());
@@ -110,8 +110,12 @@ fn delete_replies(
     }
 }
 
-/// A delete that was refused leaves the value, and one that was told leaves none.
-fn is_deleted_as_told(alloc: Global, node: &mut PlainNode, replies: [Option<usize>; 2]) -> bool {
+/// A delete that was refused leaves the value, and one that was answered leaves none.
+fn is_deleted_as_answered(
+    alloc: Global,
+    node: &mut PlainNode,
+    replies: [Option<usize>; 2],
+) -> bool {
     match replies {
         [Some(0), Some(1)] => shows(alloc, node, &REPLIES[10..]),
         [Some(_), Some(_)] => shows(alloc, node, &ABSENT),
@@ -128,7 +132,7 @@ fn a_refused_delete_leaves_the_value(rt: HostRuntime) -> Result<(), Fail> {
     let mut node = node.with_budget(1);
     let replies = delete_replies(alloc, &mut node, room);
     let well = match replies {
-        Some(replies) => is_deleted_as_told(alloc, &mut node, replies),
+        Some(replies) => is_deleted_as_answered(alloc, &mut node, replies),
         None => false,
     };
     assert!(rt; well);
@@ -139,7 +143,7 @@ fn a_refused_delete_leaves_the_value(rt: HostRuntime) -> Result<(), Fail> {
 const BAD_REQUESTS: &[u8] =
     b"\0\0\0\x01\x07\0\0\0\x06\x09\x0a\0\x12\x01k\0\0\0\x06\x09\x0a\x01b\x12\x01\0\0\0\0";
 
-/// What they are told.
+/// Their replies.
 const ERRORS: &[u8] =
     b"\0\0\0\x19\0\x0a\x14unknown message code\x10\x01\0\0\0\x0f\0\x0a\x0aempty name\x10\x01\0\0\0\x10\0\x0a\x0bbad message\x10\x01\0\0\0\x0e\0\x0a\x09bad frame\x10\x01";
 

@@ -1,4 +1,4 @@
-//! What clients ask, and what they are told.
+//! What clients ask, and the replies.
 
 use crate::tests::sessions::{
     ABSENT, GET, PUT_V, PUT_W, REPLIES, STORED, asked, ended, new_node, serve_new,
@@ -81,7 +81,7 @@ fn longest_put(alloc: Global) -> Result<Vec<u8>, AllocError> {
     Ok(request)
 }
 
-/// A get is told a frame whose length is the longest request's and 13 bytes more.
+/// A get's reply is a frame whose length is the longest request's and 13 bytes more.
 fn shows_longest(alloc: Global, node: &mut PlainNode) -> bool {
     let mut source = Source::new(&GET, 11);
     let mut sink = Sink::new(alloc, 5000);

@@ -1,4 +1,4 @@
-//! The line and the status by which the program tells of a session's end.
+//! The program's line and status for a session's end.
 
 use crate::tests::sessions::{ended, serve_new};
 use crate::tests::streams::{Sink, Source, fails_at};
@@ -6,7 +6,7 @@ use node_session::{SessionFault, exit_status, write_fault};
 use std::alloc::Global;
 use std::test::Fail;
 
-/// The fault is told by this line, on a writer that takes so many bytes at a time, and by status 1.
+/// The fault has this line, on a writer that takes so many bytes at a time, and status 1.
 fn is_line(alloc: Global, fault: SessionFault, most: usize, line: &[u8]) -> bool {
     let mut sink = Sink::new(alloc, most);
     let written = write_fault(&mut sink, fault).is_ok();
@@ -14,7 +14,7 @@ fn is_line(alloc: Global, fault: SessionFault, most: usize, line: &[u8]) -> bool
 }
 
 #[test]
-fn a_failed_read_is_told(rt: HostRuntime) -> Result<(), Fail> {
+fn a_failed_read_has_its_line(rt: HostRuntime) -> Result<(), Fail> {
     let fault = SessionFault::ReadFailed(0);
     let line = b"riak_node: read failed after 0 replies\n";
     assert!(rt; is_line(rt.alloc(), fault, 100, line));
@@ -22,7 +22,7 @@ fn a_failed_read_is_told(rt: HostRuntime) -> Result<(), Fail> {
 }
 
 #[test]
-fn a_failed_write_is_told(rt: HostRuntime) -> Result<(), Fail> {
+fn a_failed_write_has_its_line(rt: HostRuntime) -> Result<(), Fail> {
     let fault = SessionFault::WriteFailed(10);
     let line = b"riak_node: write failed after 10 replies\n";
     assert!(rt; is_line(rt.alloc(), fault, 1, line));
@@ -30,7 +30,7 @@ fn a_failed_write_is_told(rt: HostRuntime) -> Result<(), Fail> {
 }
 
 #[test]
-fn a_bad_frame_is_told(rt: HostRuntime) -> Result<(), Fail> {
+fn a_bad_frame_has_its_line(rt: HostRuntime) -> Result<(), Fail> {
     let fault = SessionFault::BadFrame(2);
     let line = b"riak_node: bad frame after 2 replies\n";
     assert!(rt; is_line(rt.alloc(), fault, 100, line));
@@ -38,7 +38,7 @@ fn a_bad_frame_is_told(rt: HostRuntime) -> Result<(), Fail> {
 }
 
 #[test]
-fn too_many_reads_are_told(rt: HostRuntime) -> Result<(), Fail> {
+fn too_many_reads_have_their_line(rt: HostRuntime) -> Result<(), Fail> {
     let fault = SessionFault::TooManyReads(4_294_967_296);
     let line = b"riak_node: too many reads after 4294967296 replies\n";
     assert!(rt; is_line(rt.alloc(), fault, 3, line));
@@ -46,14 +46,14 @@ fn too_many_reads_are_told(rt: HostRuntime) -> Result<(), Fail> {
 }
 
 #[test]
-fn refused_memory_is_told(rt: HostRuntime) -> Result<(), Fail> {
+fn refused_memory_has_its_line(rt: HostRuntime) -> Result<(), Fail> {
     let fault = SessionFault::NoMemory(1);
     let line = b"riak_node: no memory after 1 replies\n";
     assert!(rt; is_line(rt.alloc(), fault, 100, line));
     Ok(())
 }
 
-/// Standard error that fails is told too.
+/// Standard error that fails is an error of the call.
 #[test]
 fn a_line_that_is_not_written_is_an_error(rt: HostRuntime) -> Result<(), Fail> {
     let mut sink = Sink::new(rt.alloc(), 100);

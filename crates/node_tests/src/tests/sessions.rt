@@ -15,7 +15,7 @@ pub const REQUESTS: [u8; 32] = [
     98, 18, 1, 107,
 ];
 
-/// What they are told: a ping, an empty put reply, and "v" with its context.
+/// Their replies: a ping, an empty put reply, and "v" with its context.
 pub const REPLIES: [u8; 39] = [
     0, 0, 0, 1, 2, 0, 0, 0, 1, 12, 0, 0, 0, 25, 10, 10, 3, 10, 1, 118, 18, 17, 1, 0, 0, 0, 0, 0, 1,
     0, 0, 0, 0, 0, 1, 0, 0, 0, 1,
@@ -24,7 +24,7 @@ pub const REPLIES: [u8; 39] = [
 /// A get of b/k alone.
 pub const GET: [u8; 11] = [0, 0, 0, 7, 9, 10, 1, 98, 18, 1, 107];
 
-/// What it is told where the key is absent.
+/// Its reply where the key is absent.
 pub const ABSENT: [u8; 5] = [0, 0, 0, 1, 10];
 
 pub const PUT_V: &[u8] = b"\0\0\0\x0c\x0b\x0a\x01b\x12\x01k\x22\x03\x0a\x01v";
@@ -76,7 +76,7 @@ pub fn answers(alloc: Global, node: &mut PlainNode, request: &[u8], reply: &[u8]
     outcome == ended(1, 0) && sink.bytes.as_slice() == reply
 }
 
-/// Asks, and compares what is told: one reply.
+/// Asks, and compares the one reply.
 pub fn asked(rt: &impl Abort, alloc: Global, node: &mut PlainNode, request: &[u8], reply: &[u8]) {
     let well = answers(alloc, node, request, reply);
     assert!(rt; well, "asked {request:?}");

@@ -168,7 +168,7 @@ impl Read for Patient<'_> {
     }
 }
 
-/// A sink that tells how many of its bytes were flushed.
+/// A sink that counts how many of its bytes were flushed.
 #[derive(Drop)]
 pub struct Flushing<'a> {
     pub sink: Sink,
