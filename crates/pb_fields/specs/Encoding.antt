@@ -52,3 +52,9 @@ optional_field number (Some bytes) = bytes_field number bytes
 abbrev pub repeated_field : {A : Type 0} → (A → List ℕ) → ℕ → List A → List ℕ
 repeated_field encode number [] = []
 repeated_field encode number (x ∷ xs) = bytes_field number (encode x) ++ repeated_field encode number xs
+
+-- the key and the length of a message's field, and whether the message is to follow: where it isn't, its bytes are appended too,
+-- whichever they are
+abbrev pub BeginsMessage : {A : Type 0} → (List ℕ → A → Type 0) → ℕ → ℕ → Bool → A → Type 0
+BeginsMessage appends number len true after = appends (bytes_head number len) after
+BeginsMessage appends number len false after = (bytes : List ℕ) → length bytes ≡ len → appends (bytes_field number bytes) after

@@ -9,7 +9,7 @@ use Rattle.pb_fields.specs.declared.fault.FieldFault.{FieldFault}
 abbrev pub left : Fields → List ℕ
 left fields = fields.rest.now
 
--- What a step tells of the bytes that are left, and what is left behind it: nothing comes at the end, a field
+-- What a step gives of the bytes that are left, and what is left behind it: nothing comes at the end, a field
 -- is what the bytes begin with, and a fault says why they begin with none and ends the list.
 abbrev pub Yields : List ℕ → Option (Result Field FieldFault) → List ℕ → Type 0
 Yields bs None behind = (bs ≡ []) × (behind ≡ [])

@@ -1,6 +1,14 @@
 //! Fields, the wire form of a Protocol Buffers message: one behind the other, each a key (its number and wire
 //! type in one varint) and a value.
 //!
+//! ```text
+//! FieldOut::varint(&mut out, 1, 150)?             appends 08 96 01
+//! FieldOut::bytes(&mut out, 2, b"b")?             appends 12 01 62
+//! let mut fields = Fields::new(b"\x08\x96\x01\x12\x01b");
+//! fields.next(), fields.next(), fields.next()     number 1: Varint(150); number 2: Bytes("b"); None
+//! Fields::new(b"\x12\x02b").next()                FieldFault::Short: the value goes past the end
+//! ```
+//!
 //! Bytes stand for a list of fields (`Encodes`) by the grammar alone, and for one list at most. [`Fields`] gives that
 //! list, borrowed, or the first fault of a table (`fault_table`). [`scan`] merges each field into a value, by the value's
 //! step for one field ([`Merge`]): what it did is the fold of that step over the list (`MergesAll`).

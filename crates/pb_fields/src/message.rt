@@ -31,6 +31,8 @@ pub fn encoded_len<M: Message>(message: &M) -> Result<usize, AllocError>
 
 /// Encodes a message as the number's field of another. Refused only where the output is.
 ///
+/// It counts the message's bytes once, and then encodes it, where the output doesn't only count.
+///
 /// Source: the Protocol Buffers documentation, "Encoding", section "Submessages".
 #[inline(always)]
 pub fn encode_message<O: Output, M: Message>(
@@ -42,8 +44,11 @@ pub fn encode_message<O: Output, M: Message>(
     ensures { OnOk result
         (O.appends out.old (bytes_field number (M.encoding message.now)) out.new) }
 {
-    out.encode_head(number, encoded_len(message)?)?;
-    message.encode(out)
+    if out.begin_message(number, encoded_len(message)?)? {
+        message.encode(out)
+    } else {
+        Ok(())
+    }
 }
 
 /// Encodes each of the messages as a field of the number, in their order. Refused only where the output is.

@@ -1,11 +1,11 @@
 //! Where encoded fields go: a vector, or a count of their bytes.
 
-ghost use Rattle.std.specs.Prelude.{◌≡◌, ◌+◌, ◌++◌, List, ℕ, [], length, Ok, OnOk};
+ghost use Rattle.std.specs.Prelude.{◌≡◌, ◌+◌, ◌++◌, List, ℕ, [], length, Ok, IfOk, OnOk};
 ghost use Rattle.std.proofs.Common.{◌∙◌, ap, sym, append_assoc, length-append, arith};
 ghost use Rattle.std.proofs.lemmas.List.{append-nil};
 ghost use Rattle.wire_varint.specs.Varint.{encoding as varint_encoding};
 ghost use Rattle.pb_fields.specs.Field.{IsNumber};
-ghost use Rattle.pb_fields.specs.Encoding.{bool_field, bytes_field, bytes_head, varint_field};
+ghost use Rattle.pb_fields.specs.Encoding.{bool_field, bytes_field, bytes_head, varint_field, BeginsMessage};
 
 use crate::field_out::{FieldOut, append_head, key_of};
 use crate::value::{BYTES, VARINT};
@@ -17,9 +17,9 @@ use std::alloc::AllocError;
 /// made for it. Each call is refused only where memory is, or where the count passes the greatest `usize`. The numbers are
 /// those that a field may have, from 1 to [`MAX_FIELD_NUMBER`](crate::MAX_FIELD_NUMBER).
 pub trait Output {
-    ghost use Rattle.std.specs.Prelude.{◌++◌, List, ℕ, [], OnOk};
+    ghost use Rattle.std.specs.Prelude.{◌++◌, List, ℕ, [], IfOk, OnOk};
     ghost use Rattle.pb_fields.specs.Field.{IsNumber};
-    ghost use Rattle.pb_fields.specs.Encoding.{bool_field, bytes_field, bytes_head, varint_field};
+    ghost use Rattle.pb_fields.specs.Encoding.{bool_field, bytes_field, varint_field, BeginsMessage};
 
     // The second is the first with the bytes behind it.
     ghost appends: { Self → List ℕ → Self → Type 0 };
@@ -34,10 +34,12 @@ pub trait Output {
         requires { IsNumber number }
         ensures { OnOk result (appends self.old (bytes_field number content.now) self.new) };
 
-    /// Encodes the key and the length of a field of so many bytes, which the caller encodes next.
-    fn encode_head(&mut self, number: u32, len: usize) -> Result<(), AllocError>
+    /// Begins the number's field with a message of so many bytes: encodes its key and length. It answers whether the message is
+    /// to be encoded next; a counter has counted it.
+    fn begin_message(&mut self, number: u32, len: usize) -> Result<bool, AllocError>
         requires { IsNumber number }
-        ensures { OnOk result (appends self.old (bytes_head number len) self.new) };
+        ensures { IfOk result (λ follows.
+            BeginsMessage (appends self.old) number len follows self.new) };
 
     /// Encodes a true as the number's field with 1, and a false not at all.
     fn encode_bool(&mut self, number: u32, value: bool) -> Result<(), AllocError>
@@ -75,8 +77,9 @@ impl Output for Vec<u8> {
     }
 
     #[inline(always)]
-    fn encode_head(&mut self, number: u32, len: usize) -> Result<(), AllocError> {
-        append_head(self, number, len)
+    fn begin_message(&mut self, number: u32, len: usize) -> Result<bool, AllocError> {
+        append_head(self, number, len)?;
+        Ok(true)
     }
 }
 
@@ -96,6 +99,16 @@ impl LengthCounter {
         self.len = self.len.checked_add(len).ok_or(AllocError)?;
         Ok(())
     }
+
+    // Counts a field of so many bytes, with its key and length.
+    #[inline(always)]
+    fn add_field(&mut self, number: u32, len: usize) -> Result<(), AllocError>
+        requires { IsNumber number }
+        ensures { OnOk result (self.new.len ≡ self.old.len + length (bytes_head number len) + len) }
+    {
+        self.add(pair_len(key_of(number, BYTES), len as u64))?;
+        self.add(len)
+    }
 }
 
 impl Output for LengthCounter {
@@ -112,13 +125,13 @@ impl Output for LengthCounter {
 
     #[inline(always)]
     fn encode_bytes(&mut self, number: u32, content: &[u8]) -> Result<(), AllocError> {
-        self.encode_head(number, content.len())?;
-        self.add(content.len())
+        self.add_field(number, content.len())
     }
 
     #[inline(always)]
-    fn encode_head(&mut self, number: u32, len: usize) -> Result<(), AllocError> {
-        self.add(pair_len(key_of(number, BYTES), len as u64))
+    fn begin_message(&mut self, number: u32, len: usize) -> Result<bool, AllocError> {
+        self.add_field(number, len)?;
+        Ok(false)
     }
 }
 

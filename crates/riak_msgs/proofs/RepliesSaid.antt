@@ -21,12 +21,12 @@ use Rattle.riak_msgs.specs.SeenReplies.{DecodesError, DecodesShown, ReadsShown, 
 use Rattle.riak_msgs.proofs.RepliesSteps.{shown_once, contents_of-whole}
 
 -- a body says one thing at most
-pub DecodesBy-once : {A F : Type 0} (Stands : F → Type 0) (told : F → Result A MsgFault) (a b : Result A MsgFault) →
-    ((x y : F) → Stands x → Stands y → x ≡ y) → DecodesBy Stands told a → DecodesBy Stands told b → a ≡ b
-DecodesBy-once Stands told a b once (inl (x, s, e)) (inl (y, t, f)) = e ∙ ap told (once x y s t) ∙ sym f
-DecodesBy-once Stands told a b once (inl (x, s, e)) (inr (none, f)) = absurd (none x s)
-DecodesBy-once Stands told a b once (inr (none, e)) (inl (y, t, f)) = absurd (none y t)
-DecodesBy-once Stands told a b once (inr (none, e)) (inr (other, f)) = e ∙ sym f
+pub DecodesBy-once : {A F : Type 0} (Holds : F → Type 0) (told : F → Result A MsgFault) (a b : Result A MsgFault) →
+    ((x y : F) → Holds x → Holds y → x ≡ y) → DecodesBy Holds told a → DecodesBy Holds told b → a ≡ b
+DecodesBy-once Holds told a b once (inl (x, s, e)) (inl (y, t, f)) = e ∙ ap told (once x y s t) ∙ sym f
+DecodesBy-once Holds told a b once (inl (x, s, e)) (inr (none, f)) = absurd (none x s)
+DecodesBy-once Holds told a b once (inr (none, e)) (inl (y, t, f)) = absurd (none y t)
+DecodesBy-once Holds told a b once (inr (none, e)) (inr (other, f)) = e ∙ sym f
 
 -- what is said, as a part of something
 pub mapped : {A B : Type 0} → (A → B) → Result A MsgFault → Result B MsgFault
@@ -38,11 +38,11 @@ unfolding mapped
 said_by-mapped f None a = refl
 said_by-mapped f (Some fault) a = refl
 
-DecodesBy-mapped : {A B F : Type 0} (f : A → B) (Stands : F → Type 0) (fault : F → Option MsgFault) (told : F → A) (said : Result A MsgFault) →
-    DecodesBy Stands (λ x. said_by (fault x) (told x)) said → DecodesBy Stands (λ x. said_by (fault x) (f (told x))) (mapped f said)
+DecodesBy-mapped : {A B F : Type 0} (f : A → B) (Holds : F → Type 0) (fault : F → Option MsgFault) (told : F → A) (said : Result A MsgFault) →
+    DecodesBy Holds (λ x. said_by (fault x) (told x)) said → DecodesBy Holds (λ x. said_by (fault x) (f (told x))) (mapped f said)
 unfolding mapped
-DecodesBy-mapped f Stands fault told said (inl (x, s, e)) = inl (x, s, ap (mapped f) e ∙ said_by-mapped f (fault x) (told x))
-DecodesBy-mapped f Stands fault told said (inr (none, e)) = inr (none, ap (mapped f) e)
+DecodesBy-mapped f Holds fault told said (inl (x, s, e)) = inl (x, s, ap (mapped f) e ∙ said_by-mapped f (fault x) (told x))
+DecodesBy-mapped f Holds fault told said (inr (none, e)) = inr (none, ap (mapped f) e)
 
 -- a reply whose contents are whole is said
 pub DecodesShown-whole : (body : List ℕ) (fields : ShownFields) → EncodesShown body fields → is_none (contents_of fields) ≡ false →

@@ -20,7 +20,7 @@ pub is_some-option_copied : {A : Type 0} (o : Option (Bor A)) → is_some (optio
 is_some-option_copied None = refl
 is_some-option_copied (Some x) = refl
 
--- what was seen tells whether the content is whole
+-- what was seen says whether the content is whole
 pub seen_whole : (seen : ContentView) (c : ContentFields) → IsSeenOf seen c →
     is_some (content_of c) ≡ is_some seen.value && not seen.misses_key
 seen_whole seen c is =

@@ -1,6 +1,5 @@
 -- A content: a value, and its details.
 use Rattle.std.specs.Prelude.{ℕ, List, [], Option, None}
-use Rattle.std.specs.Option.{option_map_or}
 use Rattle.riak_msgs.specs.declared.link.Link.{Link}
 use Rattle.riak_msgs.specs.declared.pair.Pair.{Pair}
 use Rattle.riak_msgs.specs.declared.details.Details.{Details}

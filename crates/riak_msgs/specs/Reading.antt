@@ -98,9 +98,9 @@ said_by (Some fault) asked = Err fault
 
 -- a body says what its fields say; one that stands for no fields is a bad message
 abbrev pub DecodesBy : {A F : Type 0} → (F → Type 0) → (F → Result A MsgFault) → Result A MsgFault → Type 0
-DecodesBy {F = F} Stands told said =
-    ((fields : F) × Stands fields × (said ≡ told fields))
-    ⊎ (((fields : F) → Stands fields → ⊥) × (said ≡ Err faults.BadMessage))
+DecodesBy {F = F} Holds told said =
+    ((fields : F) × Holds fields × (said ≡ told fields))
+    ⊎ (((fields : F) → Holds fields → ⊥) × (said ≡ Err faults.BadMessage))
 
 -- a code of a request: of a ping, a get, a put or a delete
 abbrev pub IsRequestCode : ℕ → Type 0

@@ -1,7 +1,7 @@
 //! The bucket type of a key.
 
 ghost use Rattle.std.specs.Prelude.{◌≡◌, ◌==◌, List, ℕ, IfOk};
-ghost use Rattle.std.specs.Option.{unwrap_or};
+ghost use Rattle.std.specs.Option.{option_map_or};
 ghost use Rattle.std.proofs.Common.{rules};
 ghost use Rattle.std.specs.Cmp.{partial_order_from_own_ties};
 ghost use Rattle.std.specs.Cmp.Lexicographic.{pointwise, slice_cmp};
@@ -19,16 +19,23 @@ pub const DEFAULT_TYPE: &[u8] = b"default";
 
 /// The bucket type of a key: a byte string, ordered byte by byte. [`DEFAULT_TYPE`] takes no memory. Contracts see the
 /// list of its bytes.
-#[derive(Debug, Drop)]
+#[derive(Debug)]
 pub struct BucketType {
-    // None is the default.
-    content: Option<Bytes>,
+    // None is the default. Another is rarely given, and so it lies behind a pointer: a key has a byte string less.
+    content: Option<Box<Bytes>>,
+}
+
+/// One call at each place where a bucket type is let go.
+impl Drop for BucketType {
+    fn drop(self) {
+        let BucketType { content: _content } = self;
+    }
 }
 
 impl Model for BucketType {
     ghost Value = { List ℕ };
 
-    ghost view = { λ t. unwrap_or t.content default_type };
+    ghost view = { λ t. option_map_or (λ b. b.value) t.content default_type };
 }
 
 impl BucketType {
@@ -47,8 +54,16 @@ impl BucketType {
         if content == DEFAULT_TYPE {
             return Ok(BucketType { content: None });
         }
+        BucketType::behind(alloc, Bytes::from_slice(alloc, content)?)
+    }
+
+    /// Bytes behind a pointer.
+    fn behind(alloc: Global, content: Bytes) -> Result<BucketType, AllocError>
+        ensures { IfOk result (λ bucket_type. bucket_type ≡ content) }
+    {
+        let place = Box::new(alloc, content)?;
         Ok(BucketType {
-            content: Some(Bytes::from_slice(alloc, content)?),
+            content: Some(place),
         })
     }
 
@@ -67,9 +82,7 @@ impl BucketType {
         ensures { IfOk result (λ copy. copy ≡ self.now) }
     {
         match &self.content {
-            Some(content) => Ok(BucketType {
-                content: Some(content.clone(alloc)?),
-            }),
+            Some(content) => BucketType::behind(alloc, Bytes::clone(content, alloc)?),
             None => Ok(BucketType { content: None }),
         }
     }
@@ -109,7 +122,8 @@ impl Ord for BucketType {
 impl PartialOrd for BucketType {
     ghost partial_cmp = { as_partial_cmp (slice_cmp nat_cmp) };
 
-    ghost laws = { partial_order_from_own_ties (Prim.search (comparing, rules)) (Prim.search (comparing, rules)) };
+    ghost laws = { partial_order_from_own_ties (Prim.search (comparing, rules))
+        (Prim.search (comparing, rules)) };
 
     fn partial_cmp(&self, other: &BucketType) -> Option<Ordering> {
         Some(self.cmp(other))

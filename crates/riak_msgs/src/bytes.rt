@@ -7,14 +7,23 @@ ghost use Rattle.std.specs.Cmp.Lexicographic.{pointwise, slice_cmp};
 ghost use Rattle.std.specs.Cmp.Rules.{comparing};
 ghost use Rattle.std.specs.Ordering.{nat_cmp, as_partial_cmp};
 
+use smallvec::SmallVec;
 use std::alloc::{AllocError, Global};
 use std::cmp::Ordering;
 use std::marker::Model;
 
-/// A byte string of any length, ordered byte by byte. Contracts see the list of its bytes.
-#[derive(Debug, Drop)]
+/// A byte string of any length, ordered byte by byte. Up to 16 bytes lie in the value itself, more in a place of their own on the
+/// heap. Contracts see the list of its bytes.
+#[derive(Debug)]
 pub struct Bytes {
-    content: Vec<u8>,
+    content: SmallVec<u8, 16>,
+}
+
+/// One call, where a derived one would be a case for each form at each place where a byte string is let go.
+impl Drop for Bytes {
+    fn drop(self) {
+        let Bytes { content: _content } = self;
+    }
 }
 
 impl Model for Bytes {
@@ -29,24 +38,26 @@ impl Bytes {
         ensures { result ≡ [] }
     {
         Bytes {
-            content: Vec::new(alloc),
+            content: SmallVec::new(alloc),
         }
     }
 
-    /// The bytes of a vector, which is kept as it is.
+    /// The bytes of a vector, which is kept as it is where it has room for more than 16.
     pub fn from_vec(content: Vec<u8>) -> Bytes
         ensures { result ≡ content.items }
     {
-        Bytes { content }
+        Bytes {
+            content: SmallVec::from_vec(content),
+        }
     }
 
-    /// A copy of a slice.
+    /// A copy of a slice. Up to 16 bytes take no memory.
     #[inline(always)]
     pub fn from_slice(alloc: Global, content: &[u8]) -> Result<Bytes, AllocError>
         ensures { IfOk result (λ bytes. bytes ≡ content.now) }
     {
         Ok(Bytes {
-            content: Vec::from_slice(alloc, content)?,
+            content: SmallVec::from_slice(alloc, content)?,
         })
     }
 
@@ -71,7 +82,7 @@ impl Bytes {
         self.content.is_empty()
     }
 
-    /// A copy.
+    /// A copy. Up to 16 bytes take no memory.
     pub fn clone(&self, alloc: Global) -> Result<Bytes, AllocError>
         ensures { IfOk result (λ copy. copy ≡ self.now) }
     {
@@ -110,7 +121,8 @@ impl Ord for Bytes {
 impl PartialOrd for Bytes {
     ghost partial_cmp = { as_partial_cmp (slice_cmp nat_cmp) };
 
-    ghost laws = { partial_order_from_own_ties (Prim.search (comparing, rules)) (Prim.search (comparing, rules)) };
+    ghost laws = { partial_order_from_own_ties (Prim.search (comparing, rules))
+        (Prim.search (comparing, rules)) };
 
     fn partial_cmp(&self, other: &Bytes) -> Option<Ordering> {
         Some(self.cmp(other))

@@ -1,11 +1,13 @@
 //! The names that a request gives, as a walk over its fields sees them.
 
 ghost use Rattle.std.specs.Prelude.{◌≡◌, ◌∷◌, ◌++◌, ℕ, List, [], IfOk, option_copied};
+ghost use Rattle.std.specs.Option.{unwrap_or};
 ghost use Rattle.pb_fields.specs.Field.{WireField, seen};
+ghost use Rattle.riak_msgs.specs.BucketTypes.{default_type};
 ghost use Rattle.riak_msgs.specs.Reading.{has_empty_name, is_empty_name, named_key, names_fault};
 ghost use Rattle.riak_msgs.specs.SeenRequests.{AreNamesOf};
 
-use crate::bucket_type::{BucketType, DEFAULT_TYPE};
+use crate::bucket_type::BucketType;
 use crate::bytes::Bytes;
 use crate::fault::MsgFault;
 use crate::field_access::last_of;
@@ -68,6 +70,18 @@ impl<'a> KeyView<'a> {
         None
     }
 
+    /// A copy of the bucket type that is given; the default where none is, which takes no memory.
+    #[inline(always)]
+    fn bucket_type(&self, alloc: Global) -> Result<BucketType, AllocError>
+        ensures { IfOk result (λ bucket_type.
+            bucket_type ≡ unwrap_or (option_copied self.now.bucket_type) default_type) }
+    {
+        match self.bucket_type {
+            Some(bytes) => BucketType::from_slice(alloc, bytes),
+            None => Ok(BucketType::default_type()),
+        }
+    }
+
     /// A copy of the key that is named: of the default type where no type is given.
     #[inline(always)]
     pub(crate) fn key(&self, alloc: Global) -> Result<Key, AllocError>
@@ -76,7 +90,7 @@ impl<'a> KeyView<'a> {
             → IfOk result (λ key. key ≡ named_key type_number fields) }
     {
         Ok(Key {
-            bucket_type: BucketType::from_slice(alloc, self.bucket_type.unwrap_or(DEFAULT_TYPE))?,
+            bucket_type: self.bucket_type(alloc)?,
             bucket: Bytes::from_slice(alloc, self.bucket.unwrap_or(&[]))?,
             key: Bytes::from_slice(alloc, self.key.unwrap_or(&[]))?,
         })

@@ -20,8 +20,9 @@
 //!
 //! Reading is one scan over the fields as they lie ([`pb_fields::scan`]), in which each message has its step for one field,
 //! and then a copy of each kept field. A content's links and pairs are scanned once more only where the first scan met
-//! some. Writing counts the bytes first and takes one buffer of that size. Both take time linear in the bytes. What is called
-//! for each field is marked `inline(always)`, a hint to LLVM, since its results are wide.
+//! some. Writing counts the bytes first, takes one buffer of that size, and writes them once. A message in it (a content, and a
+//! link or pair in that) is counted once for its own length and once for that of each message around it. Reading and writing take
+//! time linear in the bytes. What is called for each field is marked `inline(always)`, a hint to LLVM, since its results are wide.
 //!
 //! Contracts see [`Bytes`], [`BucketType`] and [`Sequence`] as lists and [`Content`] as a record, so a request, a reply and all
 //! within them are plain data. A content's [`Details`], which most have none of, lie behind one pointer, and the content of a put

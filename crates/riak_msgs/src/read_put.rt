@@ -141,12 +141,24 @@ impl<'a> PutView<'a> {
         Ok(PutAsk {
             key: self.names.key(alloc)?,
             context: Bytes::from_slice(alloc, self.context.unwrap_or(&[]))?,
-            content: BoxedContent::new(alloc, self.content(alloc, body)?)?,
+            content: self.boxed_content(alloc, body)?,
             return_body: self.flags.return_body,
             return_head: self.flags.return_head,
             if_not_modified: self.flags.if_not_modified,
             if_none_match: self.flags.if_none_match,
         })
+    }
+
+    /// A copy of the content, behind a pointer. (Apart from the others, since each value that is held at a `?` costs the prover
+    /// time.)
+    fn boxed_content(&self, alloc: Global, body: &[u8]) -> Result<BoxedContent, MsgFault>
+        ensures ok { (put : PutFields) → IsSeenPutOf self.now put → EncodesPut body.now put
+            → IfOk result (λ content. content ≡ with_parts (scalars_of put.content) put.content) }
+        ensures err { (put : PutFields) → IsSeenPutOf self.now put → EncodesPut body.now put
+            → IfErr result (λ fault. fault ≡ MsgFault.NoMemory) }
+    {
+        let content = self.content(alloc, body)?;
+        Ok(BoxedContent::new(alloc, content)?)
     }
 
     /// A copy of the content. Where links or pairs were seen in it the body is scanned once more, to copy them.

@@ -171,6 +171,18 @@ fn copied_content(alloc: Global, bytes: &[u8], view: ContentView<'_>) -> Result<
     if !view.has_parts {
         return Ok(view.scalars(alloc)?);
     }
+    content_with_parts(alloc, bytes, view)
+}
+
+// The same where links or pairs were seen, by a scan for these.
+fn content_with_parts(
+    alloc: Global,
+    bytes: &[u8],
+    view: ContentView<'_>,
+) -> Result<Content, MsgFault>
+    ensures { (c : ContentFields) → IsSeenOf view.entry c → StandForContent (bytes.now ∷ []) c
+        → IfOk result (λ content. content ≡ with_parts (scalars_of c) c) }
+{
     let mut copy = view.parts_copy(alloc)?;
     copy_parts(bytes, &mut copy)?;
     Ok(copy.content()?)

@@ -1,7 +1,7 @@
 use Rattle.std.proofs.Common.{◌∷◌, [], ap, ◌∙◌}
 use Rattle.riak_msgs.specs.Seen.{scalars_of, with_parts}
 use Rattle.riak_msgs.proofs.Contents.{content_once}
-use Rattle.riak_msgs.proofs.reply_view.copied_content.Goals as goal
+use Rattle.riak_msgs.proofs.reply_view.content_with_parts.Goals as goal
 
 pub returns : goal.returns
 returns c = λ d is stands.
