@@ -336,21 +336,32 @@ fn there_are_64_actors(rt: HostRuntime) {
     assert!(rt; is_refused && count == 64);
 }
 
-// Two allocations are the room of a first value, for its actor and for it, and to put it takes none. So where the third of
-// this test is refused, it is the one that is made at the end, and the test fails; where the first or the second is, the room
-// is made again.
+// Two values of one actor and one of another have places in the clock. So where the first allocation of this test is refused,
+// it is the one that is made at the end, and the test fails.
+#[test]
+fn a_clock_of_two_actors_takes_no_memory(rt: HostRuntime) -> Result<(), Fail> {
+    let mut clock = Clock::new(rt.alloc());
+    put(&rt, &mut clock, B, b'p');
+    put(&rt, &mut clock, A, b'v');
+    put(&rt, &mut clock, A, b'w');
+    Vec::<u8>::with_capacity(rt.alloc(), 1)?;
+    Ok(())
+}
+
+// One allocation is the room of a third value, and to put it takes none. So where the second of this test is refused, it is
+// the one that is made at the end, and the test fails; where the first is, the room is made again.
 #[test]
 fn an_overwrite_takes_no_memory(rt: HostRuntime) -> Result<(), Fail> {
-    let mut clock = Clock::new(rt.alloc());
+    let mut clock = clock_of(&rt, b"vw");
     overwrite(&rt, &mut clock, A);
     Vec::<u8>::with_capacity(rt.alloc(), 1)?;
     Ok(())
 }
 
-// The first value takes two as above. The second, of the same actor by a context of the first, takes room for itself alone.
+// The same of a put by a context of the first value.
 #[test]
 fn a_put_takes_no_memory(rt: HostRuntime) -> Result<(), Fail> {
-    let mut clock = clock_of(&rt, b"v");
+    let mut clock = clock_of(&rt, b"vw");
     if let Some(context) = Context::read(SEEN_1) {
         replace(&rt, &mut clock, &context);
     }

@@ -1,26 +1,25 @@
 -- How many actors and values there are.
-use Rattle.std.proofs.Common.{◌≡◌, ℕ, suc, ◌+◌, ◌-◌, ◌≤◌, Bool, true, false, ◌&&◌, cond, IsTrue, List, [], ◌∷◌, length, take, refl, sym, ◌∙◌, ap, arith, length-append}
-use Rattle.std.specs.Prelude.{T, nat_le, Some, unwrap_or, is_some}
+use Rattle.std.proofs.Common.{◌≡◌, ℕ, zero, suc, ◌+◌, ◌<◌, ◌≤◌, drop, get_or, Bool, true, false, ◌&&◌, cond, IsTrue, List, [], ◌∷◌, length, refl, sym, ◌∙◌, ap, arith}
+use Rattle.std.specs.Prelude.{T, nat_le, Some, is_some}
 use Rattle.std.specs.List.{list_all}
 use Rattle.std.specs.Ordering.{is_lt, is_eq, ordering_reverse}
 use Rattle.std.specs.declared.cmp.Ordering.TheVariants.{Less, Greater}
-use Rattle.std.specs.FinMap.Entries.{find, is_sorted, below_all, find-put, length-put}
+use Rattle.std.specs.FinMap.Entries.{find, below_all, find-put, length-put}
 use Rattle.std.proofs.lemmas.Bool.Decides.{nat_tests}
-use Rattle.std.proofs.lemmas.List.{length-take, length-map}
-use Rattle.std.proofs.lemmas.List.Elements.{filter-append}
+use Rattle.std.proofs.lemmas.List.{length-map}
 use Rattle.actor_epoch.specs.declared.Actor.{Actor}
 use Rattle.actor_epoch.specs.declared.Dot.{Dot}
-use Rattle.actor_epoch.specs.Dots.{actor_cmp, actor_eq}
+use Rattle.actor_epoch.specs.Dots.{actor_cmp}
 use Rattle.actor_epoch.proofs.Rising.{and_first, and_second}
-use Rattle.actor_epoch.proofs.Order.{actor_cmp_total, actor_eq-same}
-use Rattle.dvv_set.specs.ClockEntries.{ClockEntries, known_of, live_of, dot_state_of, values_from, is_entry, entry_for, merged, merge_entry, merge_all, AreEntries, count_new, entries_of_pairs}
-use Rattle.dvv_set.specs.Held.{values_of}
+use Rattle.actor_epoch.proofs.Order.{actor_cmp_total}
+use Rattle.dvv_set.specs.declared.entry.Entry.{Entry}
+use Rattle.dvv_set.specs.Stored.{clock_entries}
+use Rattle.dvv_set.specs.ClockEntries.{ClockEntries, known_of, dot_state_of, is_entry, entry_for, merged, merge_entry, merge_all, AreEntries, count_new, entries_of_pairs}
 use Rattle.actor_epoch.specs.Contexts.{is_well_formed}
 use Rattle.dvv_set.specs.Clocks.{sync, discard}
 use Rattle.dvv_set.proofs.Events.{AreEntries-pairs, dot_state_of-without}
 use Rattle.dvv_set.proofs.Live.{dot_state_of-merge_all}
-use Rattle.dvv_set.proofs.Orders.{eq_by_cmp-actor, T-first, T-second, T-less}
-use Rattle.dvv_set.proofs.ClockEntries.{actor_eq-back, entry_for-below}
+use Rattle.dvv_set.proofs.Orders.{T-first, T-second, T-less}
 use Rattle.dvv_set.proofs.Merges.{AreEntries-tail, AreEntries-merge_entry}
 
 module _ {V : Type 0} where
@@ -51,49 +50,6 @@ module _ {V : Type 0} where
       by true n k = omega arith
       by false n k = omega arith
 
-  length-values_from : (a b : Actor) (n : ℕ) (vs : List V) → length (values_of a (values_from b n vs)) ≡ cond (actor_eq b a) (length vs) 0
-  length-values_from a b n [] = by (actor_eq b a)
-    where
-      by : (t : Bool) → let none : ℕ = 0 in none ≡ cond t none none
-      by true = refl
-      by false = refl
-  length-values_from a b n (v ∷ vs) = by (actor_eq b a) (length-values_from a b (n - 1) vs)
-    where
-      by : (t : Bool) → length (values_of a (values_from b (n - 1) vs)) ≡ cond t (length vs) 0
-          → length (cond t ((let d : Dot = record { actor = b; counter = n } in d, v) ∷ values_of a (values_from b (n - 1) vs)) (values_of a (values_from b (n - 1) vs))) ≡ cond t (suc (length vs)) 0
-      by true h = ap suc h
-      by false h = h
-
-  -- the live dots of an actor are its entry's values
-  pub length-values_of : (a : Actor) (entries : ClockEntries V) → T (is_sorted actor_cmp entries) → length (values_of a (live_of entries)) ≡ length (entry_for a entries).1
-  length-values_of a [] h = refl
-  length-values_of a (entry ∷ entries) h =
-      ap length (filter-append (λ entry. actor_eq entry.0.actor a) (values_from entry.0 entry.1.0 entry.1.1) (live_of entries))
-      ∙ length-append (values_of a (values_from entry.0 entry.1.0 entry.1.1)) (values_of a (live_of entries))
-      ∙ (λ i. (length-values_from a entry.0 entry.1.0 entry.1.1 ∙ ap (λ t. cond t (length entry.1.1) 0) (actor_eq-back entry.0 a)) i
-      + length-values_of a entries (T-second (below_all actor_cmp entry.0 entries) _ h) i)
-      ∙ by (actor_eq a entry.0) refl
-      ∙ ap (λ t. length (unwrap_or (cond t (Some entry.1) (find actor_cmp a entries)) (0, [])).1) (sym (eq_by_cmp-actor a entry.0))
-    where
-      by : (t : Bool) → actor_eq a entry.0 ≡ t
-          → cond t (length entry.1.1) 0 + length (entry_for a entries).1 ≡ length (unwrap_or (cond t (Some entry.1) (find actor_cmp a entries)) (0, [])).1
-      by true e =
-          let same : a ≡ entry.0 = actor_eq-same a entry.0 e in
-          let gone : entry_for a entries ≡ (0, []) = ap (λ k. entry_for k entries) same ∙ entry_for-below entry.0 entries (T-first _ (is_sorted actor_cmp entries) h) in
-          ap (λ r. length entry.1.1 + length r.1) gone ∙ omega arith
-      by false e = omega arith
-
-  -- a merge with an entry without values leaves no more values
-  pub length-merged : (own : ℕ × List V) (n : ℕ) → length (merged own (n, [])).1 ≤ length own.1
-  length-merged own n = by (nat_le n own.0)
-    where
-      by : (b : Bool) → length (let r : ℕ × List V = cond b (own.0, take (own.0 - n + 0) own.1) (n, take (n - own.0 + length own.1) []) in r).1 ≤ length own.1
-      by true = omega (arith, length-take (own.0 - n + 0) own.1)
-      by false = ap_le (n - own.0 + length own.1)
-        where
-          ap_le : (k : ℕ) → length (take k (let none : List V = [] in none)) ≤ length own.1
-          ap_le k = omega (arith, length-take k (let none : List V = [] in none))
-
   -- the first of others, and those after it
   pub AreEntries-rest : (all : ClockEntries V) (entry : Actor × (ℕ × List V)) (others : ClockEntries V) → all ≡ entry ∷ others → AreEntries all → AreEntries others
   AreEntries-rest all entry others e g = let g' : AreEntries (entry ∷ others) = rw (← e) g in AreEntries-tail entry others g'
@@ -123,6 +79,17 @@ module _ {V : Type 0} where
       by : (b : Bool) → count_new others entries ≤ length others → cond b 0 1 + count_new others entries ≤ suc (length others)
       by true h = omega arith
       by false h = omega arith
+
+  -- the entry at an index, and those after it
+  pub count_new-next : (others : List (Entry V)) (entries : ClockEntries V) (i : ℕ) (d : Entry V) → i < length others
+      → count_new (clock_entries (drop i others)) entries ≡ cond (is_some (find actor_cmp (get_or others i d).actor entries)) 0 1 + count_new (clock_entries (drop (i + 1) others)) entries
+  count_new-next others entries i d h = let one : i + 1 ≡ suc i = omega arith in rw one (by others i h)
+    where
+      by : (others : List (Entry V)) (i : ℕ) → i < length others
+          → count_new (clock_entries (drop i others)) entries ≡ cond (is_some (find actor_cmp (get_or others i d).actor entries)) 0 1 + count_new (clock_entries (drop (suc i) others)) entries
+      by [] i h = absurd (omega arith)
+      by (other ∷ others) zero h = refl
+      by (other ∷ others) (suc i) h = by others i (omega arith)
 
   -- how many actors a sync knows
   pub length-sync : (entries others : ClockEntries V) → AreEntries entries → AreEntries others

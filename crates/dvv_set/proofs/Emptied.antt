@@ -142,9 +142,6 @@ module _ {V : Type 0} where
   pub overwrite-counter : (entries : ClockEntries V) (a : Actor) → AreEntries entries → (entry_for a (map emptied entries)).0 ≡ counter_in (known_of entries) a
   overwrite-counter entries a h = ap (λ entry. entry.0) (entry_for-emptied a entries) ∙ sym (counter_in-known_of a entries h.sorted)
 
-  pub overwrite-values : (entries : ClockEntries V) (a : Actor) → length (entry_for a (map emptied entries)).1 ≡ 0
-  overwrite-values entries a = ap (λ entry. length entry.1) (entry_for-emptied a entries)
-
   pub overwrite-length : (entries : ClockEntries V) (a : Actor) (value : V) → AreEntries entries
       → length (put actor_cmp a (with_value value (entry_for a (map emptied entries))) (map emptied entries)) ≡ actors_after (known_of entries) None a
   overwrite-length entries a value h =

@@ -10,6 +10,7 @@ pub mod Stored
 pub mod Events
 pub mod Counts
 pub mod Ready
+pub mod Rooms
 pub mod References
 pub mod ShownValues
 pub mod SetLaws

@@ -1,8 +1,7 @@
 -- What is ready for a value is so entry by entry.
-use Rattle.std.proofs.Common.{◌≡◌, ℕ, ◌+◌, ◌<◌, ◌≤◌, ◌&&◌, cond, IsTrue, List, [], ◌∷◌, length, refl, sym, ◌∙◌, ap, arith, Bool, true, false}
+use Rattle.std.proofs.Common.{◌≡◌, ℕ, ◌+◌, ◌<◌, ◌≤◌, ◌&&◌, cond, IsTrue, List, [], length, refl, sym, ◌∙◌, ap, arith, Bool, true, false}
 use Rattle.std.specs.Prelude.{max, Option, Some, None, nat_le, unwrap_or, is_some}
 use Rattle.std.specs.FinMap.Entries.{put, find, length-put}
-use Rattle.std.specs.Ordering.{eq_by_cmp}
 use Rattle.actor_epoch.specs.declared.Actor.{Actor}
 use Rattle.actor_epoch.specs.declared.Dot.{Dot}
 use Rattle.actor_epoch.specs.Dots.{actor_cmp, counter_in, covers}
@@ -10,14 +9,13 @@ use Rattle.actor_epoch.specs.Contexts.{is_well_formed}
 use Rattle.actor_epoch.proofs.Order.{actor_cmp_total, covers-counter_in}
 use Rattle.std.proofs.lemmas.Bool.Decides.{nat_tests}
 use Rattle.dvv_set.specs.Clocks.{DotState, event}
-use Rattle.dvv_set.specs.Held.{without, known_with, known_after, values_of}
-use Rattle.dvv_set.specs.ClockEntries.{ClockEntries, AreEntries, dot_state_of, known_of, live_of, entry_for, merged, with_value, entries_of_pairs, entries_without, count_new}
+use Rattle.dvv_set.specs.Held.{without, known_with, known_after}
+use Rattle.dvv_set.specs.ClockEntries.{ClockEntries, AreEntries, dot_state_of, known_of, entry_for, with_value, entries_of_pairs, entries_without, count_new}
 use Rattle.dvv_set.proofs.ClockEntries.{counter_in-known_of}
-use Rattle.dvv_set.proofs.Merges.{entry_for-merge_all}
-use Rattle.dvv_set.proofs.Events.{AreEntries-pairs, AreEntries-without, AreEntries-event, dot_state_of-without, dot_state_of-event}
+use Rattle.dvv_set.proofs.Events.{AreEntries-without, AreEntries-event, dot_state_of-without, dot_state_of-event}
 use Rattle.actor_epoch.proofs.Pairs.{counter_in-union}
 use Rattle.dvv_set.proofs.Known.{ArePairs, ArePairs-known_of, length-insert_max}
-use Rattle.dvv_set.proofs.Counts.{length-discard, length-known_of, length-values_of, length-merged}
+use Rattle.dvv_set.proofs.Counts.{length-discard, length-known_of}
 
 pub first_holds : (c n : ℕ) → 1 ≤ c → nat_le c n ≡ (nat_le 1 c && nat_le c n)
 first_holds c n h = grind (arith, nat_tests)
@@ -32,27 +30,6 @@ module _ {V : Type 0} where
   known-without : (pairs : Option (List Dot)) (m : DotState V) → (without pairs m).known ≡ known_with pairs m.known
   known-without None m = refl
   known-without (Some ps) m = refl
-
-  no_values : (a : Actor) (pairs : List Dot) → (entry_for a (let entries : ClockEntries V = entries_of_pairs pairs in entries)).1 ≡ []
-  no_values a [] = refl
-  no_values a (pair ∷ pairs) = by (eq_by_cmp actor_cmp a pair.actor) (no_values a pairs)
-    where
-      others : ClockEntries V
-      others = entries_of_pairs pairs
-
-      by : (b : Bool) → (entry_for a others).1 ≡ [] → (unwrap_or (cond b (Some (let entry : ℕ × List V = (pair.counter, []) in entry)) (find actor_cmp a others)) (0, [])).1 ≡ []
-      by true h = refl
-      by false h = h
-
-  fewer : (a : Actor) (pairs : Option (List Dot)) (entries : ClockEntries V) → ((ps : List Dot) → pairs ≡ Some ps → IsTrue (is_well_formed ps)) → AreEntries entries
-      → length (entry_for a (entries_without pairs entries)).1 ≤ length (entry_for a entries).1
-  fewer a None entries f h = omega arith
-  fewer a (Some ps) entries f h =
-      let is : entry_for a (entries_without (Some ps) entries) ≡ merged (entry_for a entries) ((entry_for a (let given : ClockEntries V = entries_of_pairs ps in given)).0, []) =
-      entry_for-merge_all a (entries_of_pairs ps) entries (AreEntries-pairs V ps (f ps refl)) h
-      ∙ ap (λ values. merged (entry_for a entries) ((entry_for a (let given : ClockEntries V = entries_of_pairs ps in given)).0, values)) (no_values a ps) in
-      let long = ap (λ r. length r.1) is in
-      omega (arith, long, length-merged (entry_for a entries) (entry_for a (let given : ClockEntries V = entries_of_pairs ps in given)).0)
 
   module _ (entries : ClockEntries V) (pairs : Option (List Dot)) (f : (ps : List Dot) → pairs ≡ Some ps → IsTrue (is_well_formed ps)) (h : AreEntries entries) where
     after : AreEntries (entries_without pairs entries)
@@ -78,9 +55,6 @@ module _ {V : Type 0} where
 
     pub ready-next : (a : Actor) (value : V) → AreEntries (put actor_cmp a (with_value value (entry_for a (entries_without pairs entries))) (entries_without pairs entries))
     ready-next a value = AreEntries-event a value (entries_without pairs entries) after
-
-    pub ready-values : (a : Actor) → length (entry_for a (entries_without pairs entries)).1 ≤ length (values_of a (live_of entries))
-    ready-values a = omega (arith, fewer a pairs entries f h, length-values_of a entries h.sorted)
 
     pub ready-room : (a : Actor) (value : V) → length (entries_without pairs entries) ≤ length (known_after a (known_with pairs (known_of entries)))
     ready-room a value =

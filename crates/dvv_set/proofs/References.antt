@@ -1,5 +1,5 @@
 -- Entries with other values in the places of theirs: the same are entries, and their meaning has those values.
-use Rattle.std.proofs.Common.{◌≡◌, ℕ, ◌+◌, ◌-◌, Bool, true, false, not, ◌&&◌, cond, IsTrue, List, [], ◌∷◌, ◌++◌, length, map, refl, sym, ◌∙◌, ap, subst}
+use Rattle.std.proofs.Common.{◌≡◌, ℕ, zero, suc, ◌+◌, ◌-◌, ◌<◌, drop, get_or, arith, Bool, true, false, not, ◌&&◌, cond, List, [], ◌∷◌, ◌++◌, length, map, refl, sym, ◌∙◌, ap, subst}
 use Rattle.std.specs.Prelude.{T, nat_le, filter, Option, Some, None}
 use Rattle.std.specs.List.{list_all}
 use Rattle.std.specs.declared.cmp.Ordering.{Ordering}
@@ -13,7 +13,9 @@ use Rattle.actor_epoch.specs.Dots.{actor_cmp, covers, counter_in, insert_max, un
 use Rattle.dvv_set.specs.Clocks.{DotState, show_cmp, event}
 use Rattle.dvv_set.specs.Held.{without}
 use Rattle.dvv_set.specs.ClockEntries.{ClockEntries, values_from, known_of, live_of, dot_state_of, is_entry, AreEntries}
+use Rattle.dvv_set.specs.declared.entry.Entry.{Entry}
 use Rattle.dvv_set.specs.References.{with_entry, with_values}
+use Rattle.dvv_set.specs.Stored.{clock_entry, clock_entries}
 
 module _ {V W : Type 0} (f : V → W) where
   below_all-with : (a : Actor) (entries : ClockEntries V) → below_all actor_cmp a (map (with_entry f) entries) ≡ below_all actor_cmp a entries
@@ -97,3 +99,16 @@ module _ {U V W : Type 0} (f : U → W) (g : V → W) (entries : ClockEntries U)
 
   pub length-same : length entries ≡ length others
   length-same = sym (length-map entries (with_entry f)) ∙ ap length same ∙ length-map others (with_entry g)
+
+-- one more of the same entries
+module _ {U V W : Type 0} (f : U → W) (g : V → W) where
+  first_same : (own : List (Entry V)) (i : ℕ) (made : Entry U) (d : Entry V) → i < length own → with_entry f (clock_entry made) ≡ with_entry g (clock_entry (get_or own i d))
+      → with_entry f (clock_entry made) ∷ map (with_entry g) (clock_entries (drop (suc i) own)) ≡ map (with_entry g) (clock_entries (drop i own))
+  first_same [] i made d h n = absurd (omega arith)
+  first_same (entry ∷ own) zero made d h n = ap (λ first. first ∷ map (with_entry g) (clock_entries own)) n
+  first_same (entry ∷ own) (suc i) made d h n = first_same own i made d (omega arith) n
+
+  pub next-same : (entries : List (Entry U)) (own : List (Entry V)) (i : ℕ) (made : Entry U) (d : Entry V) → i < length own → with_entry f (clock_entry made) ≡ with_entry g (clock_entry (get_or own i d))
+      → map (with_entry f) (clock_entries (entries ++ made ∷ [])) ++ map (with_entry g) (clock_entries (drop (i + 1) own)) ≡ map (with_entry f) (clock_entries entries) ++ map (with_entry g) (clock_entries (drop i own))
+  next-same [] own i made d h n = let one : i + 1 ≡ suc i = omega arith in rw one (first_same own i made d h n)
+  next-same (entry ∷ entries) own i made d h n = ap (λ rest. with_entry f (clock_entry entry) ∷ rest) (next-same entries own i made d h n)

@@ -4,3 +4,4 @@ pub mod Stored
 pub mod Held
 pub mod Laws
 pub mod References
+pub mod InlineLists

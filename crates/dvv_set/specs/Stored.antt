@@ -1,12 +1,13 @@
 -- The entries of the code as the contracts see them: (actor, (counter, values)), without how they lie in memory.
-use Rattle.std.specs.Prelude.{List, [], ◌∷◌, ℕ, ◌+◌, map, flat_map}
+use Rattle.std.specs.Prelude.{Bool, List, [], ◌∷◌, ℕ, ◌+◌, length, map, flat_map, nat_lt, cond}
+use Rattle.std.specs.List.{list_all}
 use Rattle.std.specs.FinMap.Entries.{by_order}
 use Rattle.actor_epoch.specs.declared.Actor.{Actor}
 use Rattle.actor_epoch.specs.Dots.{actor_cmp}
 use Rattle.dvv_set.specs.declared.entry.Entry.{Entry}
 use Rattle.dvv_set.specs.declared.entry.Place.{Place}
 use Rattle.dvv_set.specs.declared.entry.Place.TheVariants.{Taken, Free}
-use Rattle.dvv_set.specs.ClockEntries.{ClockEntries}
+use Rattle.dvv_set.specs.ClockEntries.{ClockEntries, live_of}
 
 -- one place further on
 abbrev pub one_on : Place → Place
@@ -28,3 +29,11 @@ module _ {V : Type 0} where
   -- the values of entries, in the order in which they are shown
   abbrev pub values_in : List (Entry V) → List V
   values_in entries = flat_map (λ entry. entry.values.items) entries
+
+  -- one more value fits into an entry without memory
+  abbrev pub has_room : Entry V → Bool
+  has_room entry = nat_lt (length entry.values.items) entry.values.capacity
+
+  -- how many values an actor may come to have without memory: none more where an entry is full
+  abbrev pub values_room : List (Entry V) → ℕ
+  values_room entries = cond (list_all has_room entries) (length (live_of (clock_entries entries)) + 1) 0

@@ -4,6 +4,7 @@ ghost use Rattle.std.specs.Prelude.{◌≡◌, ◌<◌, ◌≤◌, ◌↔◌, []
 
 use crate::entry::{self, Entry};
 use crate::fault::{ClockFault, Rejected};
+use crate::inline::InlineList;
 use crate::known_pairs::KnownPairs;
 use crate::needed::Needed;
 use crate::room;
@@ -12,7 +13,6 @@ use actor_epoch::{Actor, Context, Counter, Dot, MAX_ACTORS, MAX_COUNTER};
 use std::alloc::{AllocError, Global};
 use std::default::MadeWith;
 use std::marker::Model;
-use std::mem;
 
 /// The clock of a key, with its concurrent values. Contracts see what it means, the dots that it knows and those of them
 /// that are live, each with its value (`DotState`), and how much it has room for (`Held`).
@@ -24,22 +24,28 @@ use std::mem;
 /// `reserve`, puts y at (a, 4) and leaves nothing else.
 #[derive(Drop)]
 pub struct Clock<V: MadeWith<Global> + Drop> {
-    entries: Vec<Entry<V>>,
-    spare: Vec<V>,
+    entries: InlineList<Entry<V>>,
 }
 
 impl<V: MadeWith<Global> + Drop> Model for Clock<V> {
-    ghost use Rattle.std.specs.Prelude.{◌≡◌, ◌≤◌, [], length, vec_capacity};
+    ghost use Rattle.std.specs.Prelude.{◌≤◌, length};
     ghost use Rattle.dvv_set.specs.Held.{Held};
 
     ghost Value = { Held V };
 
     ghost use Rattle.dvv_set.specs.ClockEntries.{dot_state_of, AreEntries};
-    ghost use Rattle.dvv_set.specs.Stored.{clock_entries};
+    ghost use Rattle.dvv_set.specs.Stored.{clock_entries, values_room};
 
-    ghost view = { λ c. record { meaning = dot_state_of (clock_entries c.entries.items); actors_room = vec_capacity c.entries; values_room = vec_capacity c.spare } };
+    ghost view = { λ c. record {
+      meaning = dot_state_of (clock_entries c.entries.items);
+      actors_room = c.entries.capacity;
+      values_room = values_room c.entries.items;
+    } };
 
-    ghost invariant = { λ c. record { entries : AreEntries (clock_entries c.entries.items); few : length c.entries.items ≤ 64; empty : c.spare.items ≡ [] } };
+    ghost invariant = { λ c. record {
+      entries : AreEntries (clock_entries c.entries.items);
+      few : length c.entries.items ≤ 64;
+    } };
 }
 
 impl<V: MadeWith<Global> + Drop> Clock<V> {
@@ -54,8 +60,7 @@ impl<V: MadeWith<Global> + Drop> Clock<V> {
         ensures { result.meaning ≡ record { known = []; live = [] } }
     {
         Clock {
-            entries: Vec::new(alloc),
-            spare: Vec::new(alloc),
+            entries: InlineList::new(alloc),
         }
     }
 
@@ -65,10 +70,13 @@ impl<V: MadeWith<Global> + Drop> Clock<V> {
     /// CounterFull.
     pub fn sync(&mut self, other: Clock<V>) -> Result<(), Rejected<Clock<V>>>
         ensures synced { OnOk result (self.new.meaning ≡ sync self.old.meaning other.meaning) }
-        ensures refused { IfErr result (λ refused. (refused.value ≡ other) × (self.new.meaning ≡ self.old.meaning)) }
-        ensures full { IfErr result (λ refused. (refused.fault ≡ ClockFault.ActorsFull) ↔ (MAX_ACTORS < length (sync self.old.meaning other.meaning).known)) }
+        ensures refused { IfErr result (λ refused. (refused.value ≡ other)
+            × (self.new.meaning ≡ self.old.meaning)) }
+        ensures full { IfErr result (λ refused. (refused.fault ≡ ClockFault.ActorsFull)
+            ↔ (MAX_ACTORS < length (sync self.old.meaning other.meaning).known)) }
         ensures never { IfErr result (λ refused. refused.fault ≡ ClockFault.CounterFull → ⊥) }
-        ensures within { OnOk result (length (sync self.old.meaning other.meaning).known ≤ MAX_ACTORS) }
+        ensures within { OnOk result (length (sync self.old.meaning other.meaning).known
+            ≤ MAX_ACTORS) }
     {
         let new = room::count_new(&self.entries, &other.entries);
         if let Err(fault) = room::reserve_actors(&mut self.entries, new) {
@@ -77,7 +85,7 @@ impl<V: MadeWith<Global> + Drop> Clock<V> {
                 value: other,
             });
         }
-        let Clock { entries, spare: _ } = other;
+        let Clock { entries } = other;
         entry::merge_all(&mut self.entries, entries);
         Ok(())
     }
@@ -87,15 +95,17 @@ impl<V: MadeWith<Global> + Drop> Clock<V> {
     pub fn discard(&mut self, context: &Context<'_>) -> Result<(), ClockFault>
         ensures discarded { OnOk result (self.new.meaning ≡ discard context.now self.old.meaning) }
         ensures refused { OnErr result (self.new.meaning ≡ self.old.meaning) }
-        ensures full { IfErr result (λ fault. (fault ≡ ClockFault.ActorsFull) ↔ (MAX_ACTORS < length (discard context.now self.old.meaning).known)) }
+        ensures full { IfErr result (λ fault. (fault ≡ ClockFault.ActorsFull)
+            ↔ (MAX_ACTORS < length (discard context.now self.old.meaning).known)) }
         ensures never { IfErr result (λ fault. fault ≡ ClockFault.CounterFull → ⊥) }
-        ensures within { OnOk result (length (discard context.now self.old.meaning).known ≤ MAX_ACTORS) }
+        ensures within { OnOk result (length (discard context.now self.old.meaning).known
+            ≤ MAX_ACTORS) }
     {
         let new = room::count_new_pairs(&self.entries, context.pairs());
         if let Err(fault) = room::reserve_actors(&mut self.entries, new) {
             return Err(fault);
         }
-        let alloc = *self.entries.allocator();
+        let alloc = self.entries.allocator();
         entry::merge_pairs(alloc, &mut self.entries, context.pairs());
         Ok(())
     }
@@ -122,23 +132,21 @@ impl<V: MadeWith<Global> + Drop> Clock<V> {
 
     /// A clock that knows the same, with references to its values in their places. Refused where there is no memory.
     pub fn references(&self, alloc: Global) -> Result<Clock<Option<&V>>, AllocError>
-        ensures { IfOk result (λ clock. with_values referred clock.meaning ≡ with_values (λ value. Some value) self.now.meaning) }
+        ensures { IfOk result (λ clock. with_values referred clock.meaning
+            ≡ with_values (λ value. Some value) self.now.meaning) }
     {
-        let mut entries = Vec::new(alloc);
-        for entry in &self.entries {
+        let mut entries = InlineList::new(alloc);
+        for entry in self.entries.iter() {
             entries.push(entry.references(alloc)?)?;
         }
-        Ok(Clock {
-            entries,
-            spare: Vec::new(alloc),
-        })
+        Ok(Clock { entries })
     }
 
     /// Whether it knows a dot.
     pub fn covers(&self, dot: &Dot) -> bool
         ensures { result ≡ covers self.now.meaning.known dot.now }
     {
-        let (counter, _) = entry::entry_counts(&self.entries, dot.actor);
+        let counter = entry::last_counter(&self.entries, dot.actor);
         1 <= dot.counter && dot.counter <= counter
     }
 
@@ -146,8 +154,7 @@ impl<V: MadeWith<Global> + Drop> Clock<V> {
     pub fn counter_of(&self, actor: Actor) -> Counter
         ensures { result ≡ counter_in self.now.meaning.known actor }
     {
-        let (counter, _) = entry::entry_counts(&self.entries, actor);
-        counter
+        entry::last_counter(&self.entries, actor)
     }
 
     /// How many of its values a context doesn't cover (None: all).
@@ -159,8 +166,10 @@ impl<V: MadeWith<Global> + Drop> Clock<V> {
 
     /// What the next event of an actor needs, without what a context saw (None: nothing).
     pub fn needed(&self, context: Option<&Context<'_>>, actor: Actor) -> Needed
-        ensures actors { result.actors ≡ actors_after self.now.meaning.known (pairs_of context.entry) actor }
-        ensures counter { result.counter ≡ counter_before self.now.meaning.known (pairs_of context.entry) actor }
+        ensures actors { result.actors
+            ≡ actors_after self.now.meaning.known (pairs_of context.entry) actor }
+        ensures counter { result.counter
+            ≡ counter_before self.now.meaning.known (pairs_of context.entry) actor }
         ensures clock { IsClock self.now.meaning }
     {
         let (counter, more) = room::required_room(&self.entries, context, actor);
@@ -178,9 +187,8 @@ impl<V: MadeWith<Global> + Drop> Clock<V> {
         ensures unchanged { self.new.meaning ≡ self.old.meaning }
     {
         let (_, more) = room::required_room(&self.entries, context, actor);
-        let (_, values) = entry::entry_counts(&self.entries, actor);
         self.entries.reserve(more)?;
-        self.spare.reserve(values + 1)?;
+        entry::reserve_values(&mut self.entries)?;
         Ok(())
     }
 
@@ -190,8 +198,10 @@ impl<V: MadeWith<Global> + Drop> Clock<V> {
     pub fn ready(&mut self, context: Option<&Context<'_>>, actor: Actor) -> Result<(), ClockFault>
         ensures ready { OnOk result (IsReady self.new (pairs_of context.entry) actor) }
         ensures unchanged { self.new.meaning ≡ self.old.meaning }
-        ensures actors_full { IfErr result (λ fault. (fault ≡ ClockFault.ActorsFull) ↔ IsActorsFull self.old.meaning.known (pairs_of context.entry) actor) }
-        ensures counter_full { IfErr result (λ fault. (fault ≡ ClockFault.CounterFull) ↔ IsCounterFull self.old.meaning.known (pairs_of context.entry) actor) }
+        ensures actors_full { IfErr result (λ fault. (fault ≡ ClockFault.ActorsFull)
+            ↔ IsActorsFull self.old.meaning.known (pairs_of context.entry) actor) }
+        ensures counter_full { IfErr result (λ fault. (fault ≡ ClockFault.CounterFull)
+            ↔ IsCounterFull self.old.meaning.known (pairs_of context.entry) actor) }
     {
         let needed = self.needed(context, actor);
         if MAX_ACTORS < needed.actors {
@@ -200,21 +210,25 @@ impl<V: MadeWith<Global> + Drop> Clock<V> {
         if needed.counter == MAX_COUNTER {
             return Err(ClockFault::CounterFull);
         }
-        if self.reserve(context, actor).is_err() {
-            return Err(ClockFault::NoMemory);
+        match self.reserve(context, actor) {
+            Ok(()) => Ok(()),
+            Err(_) => Err(ClockFault::NoMemory),
         }
-        Ok(())
     }
 
     /// Puts a value at the next dot of an actor: it is known, and live with the value. Refused as `ready` without a context
     /// is, with the value back.
     pub fn event(&mut self, actor: Actor, value: V) -> Result<(), Rejected<V>>
         ensures put { OnOk result (self.new.meaning ≡ event actor value self.old.meaning) }
-        ensures within { OnOk result (length (event actor value self.old.meaning).known ≤ MAX_ACTORS) }
+        ensures within { OnOk result (length (event actor value self.old.meaning).known
+            ≤ MAX_ACTORS) }
         ensures counter { OnOk result (counter_in self.old.meaning.known actor < MAX_COUNTER) }
-        ensures refused { IfErr result (λ refused. (refused.value ≡ value) × (self.new.meaning ≡ self.old.meaning)) }
-        ensures actors_full { IfErr result (λ refused. (refused.fault ≡ ClockFault.ActorsFull) ↔ IsActorsFull self.old.meaning.known None actor) }
-        ensures counter_full { IfErr result (λ refused. (refused.fault ≡ ClockFault.CounterFull) ↔ IsCounterFull self.old.meaning.known None actor) }
+        ensures refused { IfErr result (λ refused. (refused.value ≡ value)
+            × (self.new.meaning ≡ self.old.meaning)) }
+        ensures actors_full { IfErr result (λ refused. (refused.fault ≡ ClockFault.ActorsFull)
+            ↔ IsActorsFull self.old.meaning.known None actor) }
+        ensures counter_full { IfErr result (λ refused. (refused.fault ≡ ClockFault.CounterFull)
+            ↔ IsCounterFull self.old.meaning.known None actor) }
     {
         if let Err(fault) = self.ready(None, actor) {
             return Err(Rejected { fault, value });
@@ -227,22 +241,23 @@ impl<V: MadeWith<Global> + Drop> Clock<V> {
     /// memory and succeeds.
     pub fn put_ready(&mut self, context: Option<&Context<'_>>, actor: Actor, value: V)
         requires { IsReady self.old (pairs_of context) actor }
-        ensures { self.new.meaning ≡ event actor value (without (pairs_of context.entry) self.old.meaning) }
+        ensures { self.new.meaning
+            ≡ event actor value (without (pairs_of context.entry) self.old.meaning) }
     {
-        let alloc = *self.entries.allocator();
+        let alloc = self.entries.allocator();
         entry::merge_context(alloc, &mut self.entries, context);
-        let spare = mem::replace(&mut self.spare, Vec::new(alloc));
-        entry::put_value(&mut self.entries, spare, actor, value);
+        entry::put_value(alloc, &mut self.entries, actor, value);
     }
+
     /// Puts a value at the next dot of an actor, in place of all values, in the room that `ready` or `reserve` made without
     /// a context: what it knew is known, and the value alone is live. It takes no memory and succeeds.
     pub fn overwrite_ready(&mut self, actor: Actor, value: V)
         requires { IsReady self.old None actor }
-        ensures { self.new.meaning ≡ event actor value (discard self.old.meaning.known self.old.meaning) }
+        ensures { self.new.meaning
+            ≡ event actor value (discard self.old.meaning.known self.old.meaning) }
     {
-        let alloc = *self.entries.allocator();
+        let alloc = self.entries.allocator();
         entry::drop_values(&mut self.entries);
-        let spare = mem::replace(&mut self.spare, Vec::new(alloc));
-        entry::put_value(&mut self.entries, spare, actor, value);
+        entry::put_value(alloc, &mut self.entries, actor, value);
     }
 }

@@ -1,6 +1,6 @@
 //! The entry of one actor, and lists of entries that strictly rise by actor.
 
-ghost use Rattle.std.specs.Prelude.{◌≡◌, ◌≤◌, ◌<◌, ◌∷◌, ◌+◌, ℕ, List, T, IsTrue, length, map, is_some, vec_len, vec_capacity, [], ◌++◌, Some, IfOk};
+ghost use Rattle.std.specs.Prelude.{◌≡◌, ◌≤◌, ◌<◌, ◌∷◌, ◌+◌, ℕ, List, T, IsTrue, length, map, is_some, [], Some, IfOk, OnOk};
 ghost use Rattle.std.specs.FinMap.Entries.{find, put, is_sorted};
 ghost use Rattle.std.specs.List.{list_all, insert};
 ghost use Rattle.actor_epoch.specs.Dots.{actor_cmp};
@@ -9,27 +9,41 @@ ghost use Rattle.actor_epoch.specs.Contexts.{is_well_formed};
 ghost use Rattle.actor_epoch.specs.declared.Dot.{Dot};
 ghost use Rattle.dvv_set.specs.Held.{pairs_of};
 ghost use Rattle.dvv_set.specs.References.{referred, with_entry};
-ghost use Rattle.dvv_set.specs.Stored.{clock_entry, clock_entries, search_actor};
+ghost use Rattle.dvv_set.specs.Stored.{clock_entry, clock_entries, has_room, search_actor};
 
+use crate::inline::InlineList;
 use actor_epoch::{Actor, Context, ContextPairs, Counter, MAX_COUNTER};
 use std::alloc::{AllocError, Global};
 use std::cmp::Ordering;
+use std::default::MadeWith;
 
-/// What a clock has seen of one actor: the dots 1 to `counter`, of which the last have `values`, newest first.
+/// What a clock has seen of one actor: the dots 1 to `counter`, of which the last have `values`, newest first, two of them
+/// in place.
 #[derive(Drop)]
 pub(crate) struct Entry<V> {
     pub(crate) actor: Actor,
     pub(crate) counter: Counter,
-    pub(crate) values: Vec<V>,
+    pub(crate) values: InlineList<V>,
+}
+
+impl<V: MadeWith<Global> + Drop> MadeWith<Global> for Entry<V> {
+    fn made_with(alloc: Global) -> Entry<V> {
+        Entry {
+            actor: Actor { vnode: 0, epoch: 0 },
+            counter: 0,
+            values: InlineList::new(alloc),
+        }
+    }
 }
 
 impl<V> Entry<V> {
     /// An entry that has seen the same, with references to its values in their places.
     pub(crate) fn references(&self, alloc: Global) -> Result<Entry<Option<&V>>, AllocError>
-        ensures { IfOk result (λ entry. with_entry referred (clock_entry entry) ≡ with_entry (λ value. Some value) (clock_entry self.now)) }
+        ensures { IfOk result (λ entry. with_entry referred (clock_entry entry)
+            ≡ with_entry (λ value. Some value) (clock_entry self.now)) }
     {
-        let mut values = Vec::new(alloc);
-        for value in &self.values {
+        let mut values = InlineList::new(alloc);
+        for value in self.values.iter() {
             values.push(Some(value))?;
         }
         Ok(Entry {
@@ -39,6 +53,7 @@ impl<V> Entry<V> {
         })
     }
 
+    /// The last counter of the actor that it has seen.
     fn counter(&self) -> Counter
         ensures { result ≡ self.now.counter }
     {
@@ -69,10 +84,12 @@ pub(crate) fn search_actor<V>(entries: &[Entry<V>], actor: Actor) -> Place
 
 /// Merges another entry of the same actor into one: of the two, the one that has seen more stays, without the values
 /// that the other has seen and dropped.
-pub(crate) fn merge<V: Drop>(own: &mut Entry<V>, other: Entry<V>)
+pub(crate) fn merge<V: MadeWith<Global> + Drop>(own: &mut Entry<V>, other: Entry<V>)
     requires own_entry { IsTrue (is_entry (clock_entry own.old)) }
     requires other_entry { IsTrue (is_entry (clock_entry other)) }
-    ensures merged { clock_entry own.new ≡ (own.old.actor, merged (clock_entry own.old).1 (clock_entry other).1) }
+    ensures merged { clock_entry own.new
+        ≡ (own.old.actor, merged (clock_entry own.old).1 (clock_entry other).1) }
+    ensures room { IsTrue (has_room own.old) → IsTrue (has_room other) → IsTrue (has_room own.new) }
 {
     if other.counter <= own.counter {
         let kept = (own.counter - other.counter) as usize + other.values.len();
@@ -98,60 +115,68 @@ pub(crate) fn has<V>(entries: &[Entry<V>], actor: Actor) -> bool
 }
 
 /// Merges an entry into entries: with that of its actor, or in the place of a new one, for which there is room.
-pub(crate) fn merge_entry<V: Drop>(entries: &mut Vec<Entry<V>>, entry: Entry<V>)
+pub(crate) fn merge_entry<V: MadeWith<Global> + Drop>(
+    entries: &mut InlineList<Entry<V>>,
+    entry: Entry<V>,
+)
     requires sorted { T (is_sorted actor_cmp (clock_entries entries.old.items)) }
     requires entries { IsTrue (list_all is_entry (clock_entries entries.old.items)) }
     requires entry { IsTrue (is_entry (clock_entry entry)) }
-    requires room { length (merge_entry (clock_entry entry) (clock_entries entries.old.items)) ≤ vec_capacity entries.old }
-    ensures merged_in { clock_entries entries.new.items ≡ merge_entry (clock_entry entry) (clock_entries entries.old.items) }
-    ensures capacity { vec_capacity entries.old ≤ vec_capacity entries.new }
+    requires room { length (merge_entry (clock_entry entry) (clock_entries entries.old.items))
+        ≤ entries.old.capacity }
+    ensures merged_in { clock_entries entries.new.items
+        ≡ merge_entry (clock_entry entry) (clock_entries entries.old.items) }
+    ensures rooms { IsTrue (has_room entry) → IsTrue (list_all has_room entries.old.items)
+        → IsTrue (list_all has_room entries.new.items) }
+    ensures capacity { entries.old.capacity ≤ entries.new.capacity }
 {
     match search_actor(entries, entry.actor) {
-        Place::Taken(at) => merge(&mut entries[at], entry),
-        Place::Free(at) => insert(entries, at, entry),
-    }
-}
-
-/// Inserts an entry, for which there is room.
-pub(crate) fn insert<V: Drop>(entries: &mut Vec<Entry<V>>, at: usize, entry: Entry<V>)
-    requires place { at ≤ vec_len entries.old }
-    requires room { vec_len entries.old < vec_capacity entries.old }
-    ensures inserted { entries.new.items ≡ insert entries.old.items at entry }
-    ensures capacity { vec_capacity entries.old ≤ vec_capacity entries.new }
-{
-    if entries.insert(at, entry).is_err() {
-        unreachable!()
+        Place::Taken(at) => match entries.get_mut(at) {
+            Some(own) => merge(own, entry),
+            None => unreachable!(),
+        },
+        Place::Free(at) => entries.insert(at, entry),
     }
 }
 
 /// Merges other entries into entries, for all of which there is room.
-pub(crate) fn merge_all<V: Drop>(entries: &mut Vec<Entry<V>>, others: Vec<Entry<V>>)
+pub(crate) fn merge_all<V: MadeWith<Global> + Drop>(
+    entries: &mut InlineList<Entry<V>>,
+    others: InlineList<Entry<V>>,
+)
     requires own_entries { AreEntries (clock_entries entries.old.items) }
     requires other_entries { AreEntries (clock_entries others.items) }
-    requires room { length (merge_all (clock_entries others.items) (clock_entries entries.old.items)) ≤ vec_capacity entries.old }
-    ensures merged_in { clock_entries entries.new.items ≡ merge_all (clock_entries others.items) (clock_entries entries.old.items) }
-    ensures capacity { vec_capacity entries.old ≤ vec_capacity entries.new }
+    requires room { length (merge_all (clock_entries others.items)
+        (clock_entries entries.old.items)) ≤ entries.old.capacity }
+    ensures merged_in { clock_entries entries.new.items
+        ≡ merge_all (clock_entries others.items) (clock_entries entries.old.items) }
+    ensures capacity { entries.old.capacity ≤ entries.new.capacity }
 {
-    let mut others = others.into_iter();
-    while let Some(entry) = others.next() {
+    let mut others = others;
+    while !others.is_empty() {
+        let entry = others.remove_first();
         merge_entry(entries, entry);
     }
 }
 
 /// Merges pairs, as entries without values, into entries, for all of which there is room.
-pub(crate) fn merge_pairs<V: Drop>(
+pub(crate) fn merge_pairs<V: MadeWith<Global> + Drop>(
     alloc: Global,
-    entries: &mut Vec<Entry<V>>,
+    entries: &mut InlineList<Entry<V>>,
     pairs: ContextPairs<'_>,
 )
     requires own_entries { AreEntries (clock_entries entries.old.items) }
     requires of_form { IsTrue (is_well_formed pairs) }
-    requires room { length (merge_all (entries_of_pairs pairs) (clock_entries entries.old.items)) ≤ vec_capacity entries.old }
-    ensures merged_in { clock_entries entries.new.items ≡ merge_all (entries_of_pairs pairs.entry) (clock_entries entries.old.items) }
-    ensures capacity { vec_capacity entries.old ≤ vec_capacity entries.new }
+    requires room { length (merge_all (entries_of_pairs pairs) (clock_entries entries.old.items))
+        ≤ entries.old.capacity }
+    ensures merged_in { clock_entries entries.new.items
+        ≡ merge_all (entries_of_pairs pairs.entry) (clock_entries entries.old.items) }
+    ensures rooms { IsTrue (list_all has_room entries.old.items)
+        → IsTrue (list_all has_room entries.new.items) }
+    ensures capacity { entries.old.capacity ≤ entries.new.capacity }
 {
     for (actor, counter) in pairs {
-        let values = Vec::new(alloc);
+        let values = InlineList::new(alloc);
         merge_entry(
             entries,
             Entry {
@@ -163,75 +188,84 @@ pub(crate) fn merge_pairs<V: Drop>(
     }
 }
 
-/// The counter of an actor's entry, and how many values it has: 0 and 0 where there is none.
-pub(crate) fn entry_counts<V>(entries: &Vec<Entry<V>>, actor: Actor) -> (Counter, usize)
-    requires { T (is_sorted actor_cmp (clock_entries entries.now.items)) }
-    ensures counter { result.0 ≡ (entry_for actor (clock_entries entries.now.items)).0 }
-    ensures greatest { result.0 ≤ MAX_COUNTER }
-    ensures values { result.1 ≡ length (entry_for actor (clock_entries entries.now.items)).1 }
+/// The last counter of an actor in entries, 0 where it has no entry.
+pub(crate) fn last_counter<V>(entries: &[Entry<V>], actor: Actor) -> Counter
+    requires { T (is_sorted actor_cmp (clock_entries entries.now)) }
+    ensures counter { result ≡ (entry_for actor (clock_entries entries.now)).0 }
+    ensures greatest { result ≤ MAX_COUNTER }
 {
     match search_actor(entries, actor) {
-        Place::Taken(at) => {
-            let entry = &entries[at];
-            (entry.counter(), entry.values.len())
-        }
-        Place::Free(_) => (0, 0),
+        Place::Taken(at) => entries[at].counter(),
+        Place::Free(_) => 0,
     }
 }
 
-/// Puts a value in front of an actor's, with its next counter. The values move into `spare`, which has room for them.
-pub(crate) fn put_value<V: Drop>(entries: &mut Vec<Entry<V>>, spare: Vec<V>, actor: Actor, value: V)
+/// Puts a value in front of an actor's, with its next counter, in the room of its entry or in that of a new one.
+pub(crate) fn put_value<V: MadeWith<Global> + Drop>(
+    alloc: Global,
+    entries: &mut InlineList<Entry<V>>,
+    actor: Actor,
+    value: V,
+)
     requires entries { AreEntries (clock_entries entries.old.items) }
-    requires empty { spare.items ≡ [] }
     requires counter { (entry_for actor (clock_entries entries.old.items)).0 < MAX_COUNTER }
-    requires values { length (entry_for actor (clock_entries entries.old.items)).1 + 1 ≤ vec_capacity spare }
-    requires actors { length (put actor_cmp actor (with_value value (entry_for actor (clock_entries entries.old.items))) (clock_entries entries.old.items)) ≤ vec_capacity entries.old }
-    ensures { clock_entries entries.new.items ≡ put actor_cmp actor (with_value value (entry_for actor (clock_entries entries.old.items))) (clock_entries entries.old.items) }
+    requires rooms { IsTrue (list_all has_room entries.old.items) }
+    requires actors { length (put actor_cmp actor
+        (with_value value (entry_for actor (clock_entries entries.old.items)))
+        (clock_entries entries.old.items)) ≤ entries.old.capacity }
+    ensures { clock_entries entries.new.items ≡ put actor_cmp actor
+        (with_value value (entry_for actor (clock_entries entries.old.items)))
+        (clock_entries entries.old.items) }
 {
-    let mut values = spare;
-    values.push_reserved(value);
     match search_actor(entries, actor) {
-        Place::Taken(at) => add_values(&mut entries[at], values),
-        Place::Free(at) => {
-            let counter = 1;
-            insert(
-                entries,
-                at,
-                Entry {
-                    actor,
-                    counter,
-                    values,
-                },
-            );
-        }
+        Place::Taken(at) => match entries.get_mut(at) {
+            Some(entry) => add_value(entry, value),
+            None => unreachable!(),
+        },
+        Place::Free(at) => entries.insert(at, first_entry(alloc, actor, value)),
     }
 }
 
-/// Counts one more, and has the entry's values behind the new one, in its room.
-fn add_values<V: Drop>(entry: &mut Entry<V>, values: Vec<V>)
-    requires counter { entry.old.counter < MAX_COUNTER }
-    requires room { length values.items + length entry.old.values.items ≤ vec_capacity values }
-    ensures { clock_entry entry.new ≡ (entry.old.actor, (entry.old.counter + 1, values.items ++ entry.old.values.items)) }
+/// The entry of an actor that has its first value.
+fn first_entry<V: MadeWith<Global> + Drop>(alloc: Global, actor: Actor, value: V) -> Entry<V>
+    ensures { clock_entry result ≡ (actor, (1, value ∷ [])) }
 {
-    let mut values = values;
-    if values.append(&mut entry.values).is_err() {
-        unreachable!()
+    let mut values = InlineList::new(alloc);
+    values.push_reserved(value);
+    Entry {
+        actor,
+        counter: 1,
+        values,
     }
-    entry.values = values;
+}
+
+/// Counts one more, and puts its value before the others, for which there is room.
+fn add_value<V: MadeWith<Global> + Drop>(entry: &mut Entry<V>, value: V)
+    requires counter { entry.old.counter < MAX_COUNTER }
+    requires room { IsTrue (has_room entry.old) }
+    ensures { clock_entry entry.new
+        ≡ (entry.old.actor, (entry.old.counter + 1, value ∷ entry.old.values.items)) }
+{
+    entry.values.insert(0, value);
     entry.counter += 1;
 }
 
 /// Merges what a context saw into entries, for all of which there is room; no context saw nothing.
-pub(crate) fn merge_context<V: Drop>(
+pub(crate) fn merge_context<V: MadeWith<Global> + Drop>(
     alloc: Global,
-    entries: &mut Vec<Entry<V>>,
+    entries: &mut InlineList<Entry<V>>,
     context: Option<&Context<'_>>,
 )
     requires entries { AreEntries (clock_entries entries.old.items) }
-    requires room { length (entries_without (pairs_of context) (clock_entries entries.old.items)) ≤ vec_capacity entries.old }
-    ensures merged_in { clock_entries entries.new.items ≡ entries_without (pairs_of context.entry) (clock_entries entries.old.items) }
-    ensures capacity { vec_capacity entries.old ≤ vec_capacity entries.new }
-    ensures of_form { (ps : List Dot) → pairs_of context.entry ≡ Some ps → IsTrue (is_well_formed ps) }
+    requires room { length (entries_without (pairs_of context) (clock_entries entries.old.items))
+        ≤ entries.old.capacity }
+    ensures merged_in { clock_entries entries.new.items
+        ≡ entries_without (pairs_of context.entry) (clock_entries entries.old.items) }
+    ensures rooms { IsTrue (list_all has_room entries.old.items)
+        → IsTrue (list_all has_room entries.new.items) }
+    ensures capacity { entries.old.capacity ≤ entries.new.capacity }
+    ensures of_form { (ps : List Dot) → pairs_of context.entry ≡ Some ps
+        → IsTrue (is_well_formed ps) }
 {
     if let Some(context) = context {
         merge_pairs(alloc, entries, context.pairs());
@@ -239,11 +273,35 @@ pub(crate) fn merge_context<V: Drop>(
 }
 
 /// Drops the values of all entries; what they have seen stays.
-pub(crate) fn drop_values<V: Drop>(entries: &mut Vec<Entry<V>>)
-    ensures emptied { clock_entries entries.new.items ≡ map emptied (clock_entries entries.old.items) }
-    ensures capacity { vec_capacity entries.new ≡ vec_capacity entries.old }
+pub(crate) fn drop_values<V: MadeWith<Global> + Drop>(entries: &mut InlineList<Entry<V>>)
+    ensures emptied { clock_entries entries.new.items
+        ≡ map emptied (clock_entries entries.old.items) }
+    ensures capacity { entries.new.capacity ≡ entries.old.capacity }
+    ensures rooms { IsTrue (list_all has_room entries.old.items)
+        → IsTrue (list_all has_room entries.new.items) }
 {
     for at in 0..entries.len() {
-        entries[at].values.clear();
+        match entries.get_mut(at) {
+            Some(entry) => entry.values.clear(),
+            None => unreachable!(),
+        }
     }
+}
+
+/// Makes room for one value more in each entry. Refused where there is no memory; no value changes, and an entry may keep
+/// the room that it got.
+pub(crate) fn reserve_values<V: MadeWith<Global> + Drop>(
+    entries: &mut InlineList<Entry<V>>,
+) -> Result<(), AllocError>
+    ensures same { clock_entries entries.new.items ≡ clock_entries entries.old.items }
+    ensures capacity { entries.new.capacity ≡ entries.old.capacity }
+    ensures rooms { OnOk result (IsTrue (list_all has_room entries.new.items)) }
+{
+    for at in 0..entries.len() {
+        match entries.get_mut(at) {
+            Some(entry) => entry.values.reserve(1)?,
+            None => unreachable!(),
+        }
+    }
+    Ok(())
 }

@@ -13,20 +13,29 @@ ghost use Rattle.dvv_set.specs.Laws.{IsClock, KnowsItsLive, SameDots, SyncKnows,
 pub fn calls_are_set_operations<V>()
     ensures sync_knows { (own other : DotState V) (dot : Dot) → SyncKnows own other dot }
     ensures sync_keeps { (own other : DotState V) (dot : Dot) → SyncKeeps own other dot }
-    ensures discard_knows { (pairs : List Dot) (clock : DotState V) (dot : Dot) → DiscardKnows pairs clock dot }
-    ensures discard_keeps { (pairs : List Dot) (clock : DotState V) (dot : Dot) → DiscardKeeps pairs clock dot }
-    ensures event_knows { (actor : Actor) (value : V) (clock : DotState V) (dot : Dot) → EventKnows actor value clock dot }
-    ensures event_keeps { (actor : Actor) (value : V) (clock : DotState V) (dot : Dot) → EventKeeps actor value clock dot }
+    ensures discard_knows { (pairs : List Dot) (clock : DotState V) (dot : Dot)
+        → DiscardKnows pairs clock dot }
+    ensures discard_keeps { (pairs : List Dot) (clock : DotState V) (dot : Dot)
+        → DiscardKeeps pairs clock dot }
+    ensures event_knows { (actor : Actor) (value : V) (clock : DotState V) (dot : Dot)
+        → EventKnows actor value clock dot }
+    ensures event_keeps { (actor : Actor) (value : V) (clock : DotState V) (dot : Dot)
+        → EventKeeps actor value clock dot }
 {}
 
 /// A sync is idempotent, commutative and associative in what is known and what is live, and knows all that either side
 /// knows; a discard is the sync with the context's pairs, none live.
 pub fn sync_joins<V>()
-    ensures idempotent { (clock : DotState V) → KnowsItsLive clock → SameDots (sync clock clock) clock }
-    ensures commutative { (a b : DotState V) → KnowsItsLive a → KnowsItsLive b → SameDots (sync a b) (sync b a) }
-    ensures associative { (a b c : DotState V) → KnowsItsLive a → KnowsItsLive b → KnowsItsLive c → SameDots (sync (sync a b) c) (sync a (sync b c)) }
-    ensures above { (a b : DotState V) (dot : Dot) → IsTrue (covers a.known dot) → IsTrue (covers (sync a b).known dot) }
-    ensures discards { (pairs : List Dot) (clock : DotState V) → discard pairs clock ≡ sync clock (record { known = pairs; live = [] }) }
+    ensures idempotent { (clock : DotState V) → KnowsItsLive clock
+        → SameDots (sync clock clock) clock }
+    ensures commutative { (a b : DotState V) → KnowsItsLive a → KnowsItsLive b
+        → SameDots (sync a b) (sync b a) }
+    ensures associative { (a b c : DotState V) → KnowsItsLive a → KnowsItsLive b → KnowsItsLive c
+        → SameDots (sync (sync a b) c) (sync a (sync b c)) }
+    ensures above { (a b : DotState V) (dot : Dot) → IsTrue (covers a.known dot)
+        → IsTrue (covers (sync a b).known dot) }
+    ensures discards { (pairs : List Dot) (clock : DotState V)
+        → discard pairs clock ≡ sync clock (record { known = pairs; live = [] }) }
 {}
 
 /// A discard of all that a clock knows leaves what it knows and no value.

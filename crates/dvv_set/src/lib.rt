@@ -7,7 +7,8 @@
 //!
 //! Known and live dots follow the `dvvset` module of Riak without its anonymous values; `discard` is this project's name
 //! for the sync with a context's pairs that its update does first. An actor is found by a walk over the entries, 64 at
-//! most; an event moves the actor's values once; the calls take memory for entries that are new and for one value more.
+//! most; an event moves the actor's values once. A clock holds two entries and each entry two values in place
+//! (`InlineList`). It takes memory for more, and, to make room for a value, for one more in each entry that is full.
 //!
 //! Where a change is accepted before it is made, `uncovered` and `needed` return what its limits are checked against,
 //! `reserve` makes its room and is refused by memory alone, and `put_ready` or `overwrite_ready` makes it in that room.
@@ -24,6 +25,7 @@
 mod clock;
 mod entry;
 mod fault;
+mod inline;
 mod known_pairs;
 mod laws;
 mod needed;

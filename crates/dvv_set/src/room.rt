@@ -1,6 +1,6 @@
 //! What a change of a clock needs: how many actors are new, and room for them.
 
-ghost use Rattle.std.specs.Prelude.{◌≡◌, ◌≤◌, ◌<◌, ◌+◌, ◌-◌, List, [], IsTrue, length, min, unwrap_or, vec_capacity, ◌↔◌, OnOk, IfErr, Some};
+ghost use Rattle.std.specs.Prelude.{◌≡◌, ◌≤◌, ◌<◌, ◌+◌, ◌-◌, List, [], IsTrue, length, min, unwrap_or, ◌↔◌, OnOk, IfErr, Some};
 ghost use Rattle.actor_epoch.specs.declared.Dot.{Dot};
 ghost use Rattle.actor_epoch.specs.Contexts.{is_well_formed};
 ghost use Rattle.actor_epoch.specs.Dots.{counter_in};
@@ -8,9 +8,12 @@ ghost use Rattle.dvv_set.specs.Held.{pairs_of, actors_after, counter_before};
 ghost use Rattle.dvv_set.specs.ClockEntries.{AreEntries, known_of, entries_of_pairs, count_new, count_uncovered, newer};
 ghost use Rattle.dvv_set.specs.Stored.{clock_entry, clock_entries};
 
-use crate::entry::{Entry, entry_counts, has};
+use crate::entry::{Entry, has, last_counter};
 use crate::fault::ClockFault;
+use crate::inline::InlineList;
 use actor_epoch::{Actor, Context, ContextPairs, Counter, MAX_ACTORS, MAX_COUNTER};
+use std::alloc::Global;
+use std::default::MadeWith;
 
 /// How many of other entries have actors that are new.
 pub(crate) fn count_new<V>(entries: &[Entry<V>], others: &[Entry<V>]) -> usize
@@ -28,7 +31,8 @@ pub(crate) fn count_new<V>(entries: &[Entry<V>], others: &[Entry<V>]) -> usize
 /// How many of the pairs have actors that are new.
 pub(crate) fn count_new_pairs<V>(entries: &[Entry<V>], pairs: ContextPairs<'_>) -> usize
     requires { IsTrue (is_well_formed pairs) }
-    ensures counted { result ≡ count_new (entries_of_pairs pairs.entry) (clock_entries entries.now) }
+    ensures counted { result
+        ≡ count_new (entries_of_pairs pairs.entry) (clock_entries entries.now) }
     ensures few { result ≤ 64 }
 {
     let mut new = 0usize;
@@ -47,9 +51,11 @@ fn context_counts<V>(
     actor: Actor,
 ) -> (Counter, usize)
     ensures counter { result.0 ≡ counter_in (unwrap_or (pairs_of context.entry) []) actor }
-    ensures new { result.1 ≡ count_new (entries_of_pairs (unwrap_or (pairs_of context.entry) [])) (clock_entries entries.now) }
+    ensures new { result.1 ≡ count_new
+        (entries_of_pairs (unwrap_or (pairs_of context.entry) [])) (clock_entries entries.now) }
     ensures few { result.1 ≤ 64 }
-    ensures of_form { (ps : List Dot) → pairs_of context.entry ≡ Some ps → IsTrue (is_well_formed ps) }
+    ensures of_form { (ps : List Dot) → pairs_of context.entry ≡ Some ps
+        → IsTrue (is_well_formed ps) }
 {
     match context {
         None => (0, 0),
@@ -63,19 +69,21 @@ fn context_counts<V>(
 /// What is known after the next event of an actor, without what a context saw: the actor's counter before it, and how
 /// many actors there are more.
 pub(crate) fn required_room<V>(
-    entries: &Vec<Entry<V>>,
+    entries: &[Entry<V>],
     context: Option<&Context<'_>>,
     actor: Actor,
 ) -> (Counter, usize)
-    requires { AreEntries (clock_entries entries.now.items) }
-    ensures counter { result.0 ≡ counter_before (known_of (clock_entries entries.now.items)) (pairs_of context.entry) actor }
-    ensures more { length entries.now.items + result.1
-        ≡ actors_after (known_of (clock_entries entries.now.items)) (pairs_of context.entry) actor }
+    requires { AreEntries (clock_entries entries.now) }
+    ensures counter { result.0
+        ≡ counter_before (known_of (clock_entries entries.now)) (pairs_of context.entry) actor }
+    ensures more { length entries.now + result.1
+        ≡ actors_after (known_of (clock_entries entries.now)) (pairs_of context.entry) actor }
     ensures greatest { result.0 ≤ MAX_COUNTER }
     ensures few { result.1 ≤ 65 }
-    ensures of_form { (ps : List Dot) → pairs_of context.entry ≡ Some ps → IsTrue (is_well_formed ps) }
+    ensures of_form { (ps : List Dot) → pairs_of context.entry ≡ Some ps
+        → IsTrue (is_well_formed ps) }
 {
-    let (own, _) = entry_counts(entries, actor);
+    let own = last_counter(entries, actor);
     let (given, new) = context_counts(entries, context, actor);
     let seen = own.max(given);
     if seen == 0 {
@@ -87,7 +95,8 @@ pub(crate) fn required_room<V>(
 /// How many values entries have that a context doesn't cover.
 pub(crate) fn uncovered<V>(entries: &[Entry<V>], context: Option<&Context<'_>>) -> usize
     requires { length entries.now ≤ 64 }
-    ensures { result ≡ count_uncovered (unwrap_or (pairs_of context.entry) []) (clock_entries entries.now) }
+    ensures { result ≡ count_uncovered
+        (unwrap_or (pairs_of context.entry) []) (clock_entries entries.now) }
 {
     let mut count = 0usize;
     for entry in entries {
@@ -98,7 +107,9 @@ pub(crate) fn uncovered<V>(entries: &[Entry<V>], context: Option<&Context<'_>>) 
 
 /// How many values of an entry a context doesn't cover: those above the actor's counter in it, which are the newest.
 fn newer<V>(entry: &Entry<V>, context: Option<&Context<'_>>) -> usize
-    ensures newer { result ≡ newer (counter_in (unwrap_or (pairs_of context.entry) []) entry.now.actor) (clock_entry entry.now).1 }
+    ensures newer { result ≡ newer
+        (counter_in (unwrap_or (pairs_of context.entry) []) entry.now.actor)
+        (clock_entry entry.now).1 }
     ensures few { result ≤ MAX_COUNTER }
 {
     let seen = match context {
@@ -110,20 +121,24 @@ fn newer<V>(entry: &Entry<V>, context: Option<&Context<'_>>) -> usize
 }
 
 /// Makes room for more entries, which are refused past 64.
-pub(crate) fn reserve_actors<V>(entries: &mut Vec<Entry<V>>, more: usize) -> Result<(), ClockFault>
+pub(crate) fn reserve_actors<V: MadeWith<Global> + Drop>(
+    entries: &mut InlineList<Entry<V>>,
+    more: usize,
+) -> Result<(), ClockFault>
     requires few { length entries.old.items ≤ 64 }
     requires more { more ≤ 65 }
     ensures unchanged { entries.new.items ≡ entries.old.items }
     ensures ok { OnOk result ((length entries.old.items + more ≤ MAX_ACTORS)
-        × (length entries.old.items + more ≤ vec_capacity entries.new)) }
-    ensures full { IfErr result (λ fault. (fault ≡ ClockFault.ActorsFull) ↔ (MAX_ACTORS < length entries.old.items + more)) }
+        × (length entries.old.items + more ≤ entries.new.capacity)) }
+    ensures full { IfErr result (λ fault. (fault ≡ ClockFault.ActorsFull)
+        ↔ (MAX_ACTORS < length entries.old.items + more)) }
     ensures never { IfErr result (λ fault. fault ≡ ClockFault.CounterFull → ⊥) }
 {
     if entries.len() + more > MAX_ACTORS {
         return Err(ClockFault::ActorsFull);
     }
-    if entries.reserve(more).is_err() {
-        return Err(ClockFault::NoMemory);
+    match entries.reserve(more) {
+        Ok(()) => Ok(()),
+        Err(_) => Err(ClockFault::NoMemory),
     }
-    Ok(())
 }

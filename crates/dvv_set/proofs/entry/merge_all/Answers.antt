@@ -1,21 +1,43 @@
-use Rattle.std.proofs.Common.{◌∙◌, ap, arith, length}
+use Rattle.std.proofs.Common.{◌≡◌, [], ◌∙◌, sym, ap, arith, length}
+use Rattle.std.proofs.lemmas.Bool.Decides.{nat_tests}
+use Rattle.dvv_set.specs.ClockEntries.{merge_all}
 use Rattle.dvv_set.specs.Stored.{clock_entries}
-use Rattle.dvv_set.proofs.Counts.{AreEntries-rest, AreEntries-next, merge_entry-fits, merge_all-next}
+use Rattle.dvv_set.proofs.Counts.{AreEntries-rest, AreEntries-next, is_entry-first, merge_entry-fits, merge_all-next}
+use Rattle.dvv_set.proofs.Rooms.{no_items}
 use Rattle.dvv_set.proofs.entry.merge_all.Goals as goal
 
-pub merge_entry-requires-clause-room : goal.merge_entry-requires-clause-room
-merge_entry-requires-clause-room g c =
-    let e = ap clock_entries c.in-Some.ensures.items in
-    let fits = rw (← c.into_iter-others.ensures.rest) at c.requires.room in
-    let same = ap length c.loop-entry.invariant.same in
-    merge_entry-fits _ _ _ _ _ e c.loop-entry.invariant.others c.loop-entry.invariant.entries (omega (arith, same, fits, c.loop-entry.invariant.room))
+pub merge_entry-requires : goal.merge_entry-requires
+merge_entry-requires g c =
+    let e = ap clock_entries c.remove_first-entry.ensures in
+    let same = ap length c.loop-others.invariant.same in
+    let fits = c.well_formed in (
+      omega arith,
+      (
+        omega arith,
+        (
+          c.loop-others.invariant.entries.sorted,
+          (
+            c.loop-others.invariant.entries.each,
+            (
+              is_entry-first _ _ _ e c.loop-others.invariant.others,
+              merge_entry-fits _ _ _ _ _ e c.loop-others.invariant.others c.loop-others.invariant.entries (omega (arith, same, c.requires.room, c.loop-others.invariant.room)),
+            ),
+          ),
+        ),
+      ),
+    )
 
-pub loop-entry-preserved : goal.loop-entry-preserved
-loop-entry-preserved g c =
-    let e = ap clock_entries c.in-Some.ensures.items in
+pub loop-others-preserved : goal.loop-others-preserved
+loop-others-preserved g c =
+    let e = ap clock_entries c.remove_first-entry.ensures in
     record {
-      entries = AreEntries-next _ _ _ _ _ e c.merge_entry.ensures.merged_in c.loop-entry.invariant.others c.loop-entry.invariant.entries;
-      others = AreEntries-rest _ _ _ e c.loop-entry.invariant.others;
-      room = omega (arith, c.loop-entry.invariant.room, c.merge_entry.ensures.capacity);
-      same = merge_all-next _ _ _ _ _ e c.merge_entry.ensures.merged_in ∙ c.loop-entry.invariant.same;
+      entries = AreEntries-next _ _ _ _ _ e c.merge_entry.ensures.merged_in c.loop-others.invariant.others c.loop-others.invariant.entries;
+      others = AreEntries-rest _ _ _ e c.loop-others.invariant.others;
+      room = omega (arith, c.loop-others.invariant.room, c.merge_entry.ensures.capacity);
+      same = merge_all-next _ _ _ _ _ e c.merge_entry.ensures.merged_in ∙ c.loop-others.invariant.same;
     }
+
+pub returns-clause-merged_in : goal.returns-clause-merged_in
+returns-clause-merged_in g c =
+    let none : c.loop-others.others.items ≡ [] = no_items c.loop-others.others.items (grind (arith, nat_tests, c.loop-others-test.false, c.is_empty.ensures)) in
+    ap (λ items. merge_all (clock_entries items) (clock_entries c.loop-others.entries.items)) (sym none) ∙ c.loop-others.invariant.same

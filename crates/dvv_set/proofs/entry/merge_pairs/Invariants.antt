@@ -1,12 +1,14 @@
-use Rattle.std.proofs.Common.{◌≡◌, ◌≤◌, vec_capacity}
+use Rattle.std.proofs.Common.{◌≡◌, ◌≤◌, IsTrue}
+use Rattle.std.specs.List.{list_all}
 use Rattle.dvv_set.specs.ClockEntries.{merge_all, AreEntries, entries_of_pairs}
-use Rattle.dvv_set.specs.Stored.{clock_entries}
+use Rattle.dvv_set.specs.Stored.{clock_entries, has_room}
 use Rattle.dvv_set.proofs.entry.merge_pairs.Given as goal
 
 abbrev pub invariant-loop-actor : goal.invariant-loop-actor
 invariant-loop-actor g l = record {
   entries : AreEntries (clock_entries l.entries.items);
   others : AreEntries (entries_of_pairs {V = g.row.V.Denot} l.actor-iterator);
-  room : vec_capacity l.initial.entries ≤ vec_capacity l.entries;
+  room : l.initial.entries.capacity ≤ l.entries.capacity;
+  rooms : IsTrue (list_all has_room l.initial.entries.items) → IsTrue (list_all has_room l.entries.items);
   same : merge_all (entries_of_pairs l.actor-iterator) (clock_entries l.entries.items) ≡ merge_all (entries_of_pairs l.initial.actor-iterator) (clock_entries l.initial.entries.items);
 }

@@ -1,4 +1,5 @@
 use Rattle.std.proofs.Common.{◌∙◌, sym, ap, arith, length}
+use Rattle.actor_epoch.specs.Contexts.{is_well_formed}
 use Rattle.dvv_set.specs.Clocks.{discard}
 use Rattle.dvv_set.specs.ClockEntries.{dot_state_of, merge_all, count_new, entries_of_pairs}
 use Rattle.dvv_set.specs.Stored.{clock_entries}
@@ -8,40 +9,42 @@ use Rattle.dvv_set.proofs.Events.{AreEntries-pairs}
 use Rattle.dvv_set.proofs.Counts.{length-discard, count_new-pairs-within, dot_state_of-discard, length-merge_all}
 use Rattle.dvv_set.proofs.clock.Clock.discard.Goals as goal
 
-pub reserve_actors-requires-clause-more : goal.reserve_actors-requires-clause-more
-reserve_actors-requires-clause-more g c =
+pub reserve_actors-requires : goal.reserve_actors-requires
+reserve_actors-requires g c =
     let own = c.self.inside.entries.items in
     let pairs = c.args.context.now in
-    let counted = c.count_new_pairs-new.ensures.counted ∙ (λ i. count_new (entries_of_pairs {V = g.row.V.Denot} (c.pairs.ensures.pairs i)) (clock_entries (c.deref.ensures.value i))) in
-    omega (arith, counted, count_new-pairs-within g.row.V.Denot pairs (clock_entries own) c.pairs.ensures.of_form)
+    let counted = c.count_new_pairs-new.ensures.counted ∙ (λ i. count_new (entries_of_pairs {V = g.row.V.Denot} (c.pairs.ensures.pairs i)) (clock_entries (c.deref.ensures i))) in
+    let fits = c.well_formed in
+    (omega arith, (omega arith, (c.self.invariant.few, omega (arith, counted, count_new-pairs-within g.row.V.Denot pairs (clock_entries own) c.pairs.ensures.of_form))))
 
 pub returns-in-Err-clause-full : goal.returns-in-Err-clause-full
 returns-in-Err-clause-full g c =
     let own = c.self.inside.entries.items in
     let pairs = c.args.context.now in
-    let counted = c.count_new_pairs-new.ensures.counted ∙ (λ i. count_new (entries_of_pairs {V = g.row.V.Denot} (c.pairs.ensures.pairs i)) (clock_entries (c.deref.ensures.value i))) in
+    let counted = c.count_new_pairs-new.ensures.counted ∙ (λ i. count_new (entries_of_pairs {V = g.row.V.Denot} (c.pairs.ensures.pairs i)) (clock_entries (c.deref.ensures i))) in
     let total =
     (λ i. length (discard pairs (sym c.self.view_is i).meaning).known)
     ∙ length-discard (clock_entries own) pairs c.self.invariant.entries c.pairs.ensures.of_form in
     let count = length-clock_entries own in
     (λ e. omega (arith, counted, total, count, c.in-Err.ensures.full.0 e), λ h. c.in-Err.ensures.full.1 (omega (arith, counted, total, count, h)))
 
-pub merge_pairs-requires-clause-room : goal.merge_pairs-requires-clause-room
-merge_pairs-requires-clause-room g c =
+pub merge_pairs-requires : goal.merge_pairs-requires
+merge_pairs-requires g c =
     let own = c.self.inside.entries.items in
     let pairs = c.args.context.now in
-    let counted = c.count_new_pairs-new.ensures.counted ∙ (λ i. count_new (entries_of_pairs {V = g.row.V.Denot} (c.pairs.ensures.pairs i)) (clock_entries (c.deref.ensures.value i))) in
+    let counted = c.count_new_pairs-new.ensures.counted ∙ (λ i. count_new (entries_of_pairs {V = g.row.V.Denot} (c.pairs.ensures.pairs i)) (clock_entries (c.deref.ensures i))) in
     let form = AreEntries-pairs g.row.V.Denot pairs c.pairs.ensures.of_form in
     let long =
     (λ i. length (merge_all (entries_of_pairs (c.pairs-2.ensures.pairs i)) (clock_entries (c.in_default.ensures.unchanged i))))
     ∙ length-merge_all (entries_of_pairs pairs) (clock_entries own) form c.self.invariant.entries in
-    omega (arith, counted, long, length-clock_entries own, c.in_default.ensures.ok.1)
+    let fits = c.well_formed in
+    (omega arith, (omega arith, (rw c.in_default.ensures.unchanged c.self.invariant.entries, (ap is_well_formed c.pairs-2.ensures.pairs ∙ c.pairs-2.ensures.of_form, omega (arith, counted, long, length-clock_entries own, c.in_default.ensures.ok.1)))))
 
 pub invariant_of-self-2 : goal.invariant_of-self-2
 invariant_of-self-2 g c =
     let own = c.self.inside.entries.items in
     let pairs = c.args.context.now in
-    let counted = c.count_new_pairs-new.ensures.counted ∙ (λ i. count_new (entries_of_pairs {V = g.row.V.Denot} (c.pairs.ensures.pairs i)) (clock_entries (c.deref.ensures.value i))) in
+    let counted = c.count_new_pairs-new.ensures.counted ∙ (λ i. count_new (entries_of_pairs {V = g.row.V.Denot} (c.pairs.ensures.pairs i)) (clock_entries (c.deref.ensures i))) in
     let merged_in =
     c.merge_pairs.ensures.merged_in
     ∙ (λ i. merge_all (entries_of_pairs (c.pairs-2.ensures.pairs i)) (clock_entries (c.in_default.ensures.unchanged i))) in
@@ -50,7 +53,6 @@ invariant_of-self-2 g c =
     record {
       entries = rw merged_in (AreEntries-merge_all (entries_of_pairs pairs) (clock_entries own) form c.self.invariant.entries);
       few = omega (arith, counted, long, length-clock_entries own, length-clock_entries c.merge_pairs.new.entries.items, c.in_default.ensures.ok.0);
-      empty = c.self.invariant.empty;
     }
 
 pub returns-clause-discarded : goal.returns-clause-discarded
@@ -68,7 +70,7 @@ pub returns-clause-within : goal.returns-clause-within
 returns-clause-within g c =
     let own = c.self.inside.entries.items in
     let pairs = c.args.context.now in
-    let counted = c.count_new_pairs-new.ensures.counted ∙ (λ i. count_new (entries_of_pairs {V = g.row.V.Denot} (c.pairs.ensures.pairs i)) (clock_entries (c.deref.ensures.value i))) in
+    let counted = c.count_new_pairs-new.ensures.counted ∙ (λ i. count_new (entries_of_pairs {V = g.row.V.Denot} (c.pairs.ensures.pairs i)) (clock_entries (c.deref.ensures i))) in
     let total =
     (λ i. length (discard pairs (sym c.self.view_is i).meaning).known)
     ∙ length-discard (clock_entries own) pairs c.self.invariant.entries c.pairs.ensures.of_form in

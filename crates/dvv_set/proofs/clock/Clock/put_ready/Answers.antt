@@ -1,4 +1,4 @@
-use Rattle.std.proofs.Common.{◌∙◌, ap, arith, length, vec_capacity}
+use Rattle.std.proofs.Common.{◌∙◌, ap, arith, length}
 use Rattle.std.specs.Option.{option_map}
 use Rattle.std.specs.FinMap.Entries.{put}
 use Rattle.actor_epoch.specs.Dots.{actor_cmp, counter_in}
@@ -7,52 +7,48 @@ use Rattle.dvv_set.specs.Held.{without, known_with, known_after, values_of}
 use Rattle.dvv_set.specs.ClockEntries.{dot_state_of, entry_for, with_value}
 use Rattle.dvv_set.specs.Stored.{clock_entries}
 use Rattle.dvv_set.proofs.Stored.{length-clock_entries}
-use Rattle.dvv_set.proofs.Ready.{ready-entries, ready-next, ready-counter, ready-length, ready-values, ready-room, ready-meaning}
+use Rattle.dvv_set.proofs.Ready.{ready-entries, ready-next, ready-counter, ready-length, ready-room, ready-meaning}
+use Rattle.dvv_set.proofs.Rooms.{room-each}
 use Rattle.dvv_set.proofs.clock.Clock.put_ready.Goals as goal
 
-pub merge_context-requires-clause-room : goal.merge_context-requires-clause-room
-merge_context-requires-clause-room g c =
+pub merge_context-requires : goal.merge_context-requires
+merge_context-requires g c =
     let own = clock_entries c.self.inside.entries.items in
     let pairs = option_map (λ context. context.now) c.args.context in
     let room = ready-room own pairs c.requires.of_form c.self.invariant.entries c.args.actor c.args.value in
     let same = ap (λ held. length (known_after c.args.actor (known_with pairs held.meaning.known))) c.self.view_is in
     let fits = ap (λ held. held.actors_room) c.self.view_is in
-    omega (arith, room, same, fits, c.requires.actors)
+    let size = c.well_formed in
+    (omega arith, (omega arith, (c.self.invariant.entries, omega (arith, room, same, fits, c.requires.actors))))
 
-pub put_value-requires-clause-entries : goal.put_value-requires-clause-entries
-put_value-requires-clause-entries g c =
+pub put_value-requires : goal.put_value-requires
+put_value-requires g c =
     let own = clock_entries c.self.inside.entries.items in
     let pairs = option_map (λ context. context.now) c.args.context in
-    rw c.merge_context.ensures.merged_in (ready-entries own pairs c.requires.of_form c.self.invariant.entries)
-
-pub put_value-requires-clause-counter : goal.put_value-requires-clause-counter
-put_value-requires-clause-counter g c =
-    let own = clock_entries c.self.inside.entries.items in
-    let pairs = option_map (λ context. context.now) c.args.context in
-    let is = ap (λ entries. (entry_for c.args.actor entries).0) c.merge_context.ensures.merged_in ∙ ready-counter own pairs c.requires.of_form c.self.invariant.entries c.args.actor in
-    let same = ap (λ held. counter_in (known_with pairs held.meaning.known) c.args.actor) c.self.view_is in
-    omega (arith, is, same, c.requires.counter)
-
-pub put_value-requires-clause-values : goal.put_value-requires-clause-values
-put_value-requires-clause-values g c =
-    let own = clock_entries c.self.inside.entries.items in
-    let pairs = option_map (λ context. context.now) c.args.context in
-    let is = ap (λ entries. length (entry_for c.args.actor entries).1) c.merge_context.ensures.merged_in in
-    let fewer = ready-values own pairs c.requires.of_form c.self.invariant.entries c.args.actor in
-    let same = ap (λ held. length (values_of c.args.actor held.meaning.live)) c.self.view_is in
-    let fits = ap (λ held. held.values_room) c.self.view_is in
-    let spare = ap vec_capacity c.replace-spare.ensures.value in
-    omega (arith, is, fewer, same, fits, spare, c.requires.values)
-
-pub put_value-requires-clause-actors : goal.put_value-requires-clause-actors
-put_value-requires-clause-actors g c =
-    let own = clock_entries c.self.inside.entries.items in
-    let pairs = option_map (λ context. context.now) c.args.context in
-    let is = ap (λ entries. length (put actor_cmp c.args.actor (with_value c.args.value (entry_for c.args.actor entries)) entries)) c.merge_context.ensures.merged_in in
+    let merged_in = c.merge_context.ensures.merged_in in
+    let last = ap (λ entries. (entry_for c.args.actor entries).0) merged_in ∙ ready-counter own pairs c.requires.of_form c.self.invariant.entries c.args.actor in
+    let counter = ap (λ held. counter_in (known_with pairs held.meaning.known) c.args.actor) c.self.view_is in
+    let room = ap (λ held. held.values_room) c.self.view_is in
+    let is = ap (λ entries. length (put actor_cmp c.args.actor (with_value c.args.value (entry_for c.args.actor entries)) entries)) merged_in in
     let long = ready-length own pairs c.requires.of_form c.self.invariant.entries c.args.actor c.args.value in
     let same = ap (λ held. length (known_after c.args.actor (known_with pairs held.meaning.known))) c.self.view_is in
     let fits = ap (λ held. held.actors_room) c.self.view_is in
-    omega (arith, is, long, same, fits, c.requires.actors, c.merge_context.ensures.capacity)
+    let size = c.well_formed in (
+      omega arith,
+      (
+        omega arith,
+        (
+          rw merged_in (ready-entries own pairs c.requires.of_form c.self.invariant.entries),
+          (
+            omega (arith, last, counter, c.requires.counter),
+            (
+              c.merge_context.ensures.rooms (room-each c.self.inside.entries.items (length (values_of c.args.actor c.args.self.now.meaning.live)) (omega (arith, room, c.requires.values))),
+              omega (arith, is, long, same, fits, c.requires.actors, c.merge_context.ensures.capacity),
+            ),
+          ),
+        ),
+      ),
+    )
 
 pub invariant_of-self : goal.invariant_of-self
 invariant_of-self g c =
@@ -66,7 +62,6 @@ invariant_of-self g c =
     record {
       entries = rw put_is (ready-next own pairs c.requires.of_form c.self.invariant.entries c.args.actor c.args.value);
       few = omega (arith, long, same, length-clock_entries c.put_value.new.entries.items, c.requires.few);
-      empty = ap (λ v. v.items) c.replace-spare.ensures.after ∙ c.new.ensures.items;
     }
 
 pub returns : goal.returns

@@ -8,45 +8,46 @@ use Rattle.dvv_set.proofs.Merges.{AreEntries-merge_all}
 use Rattle.dvv_set.proofs.Counts.{count_new-within, length-sync, length-merge_all}
 use Rattle.dvv_set.proofs.clock.Clock.sync.Goals as goal
 
-pub reserve_actors-requires-clause-more : goal.reserve_actors-requires-clause-more
-reserve_actors-requires-clause-more g c =
+pub reserve_actors-requires : goal.reserve_actors-requires
+reserve_actors-requires g c =
     let own = c.self.inside.entries.items in
     let others = c.other.inside.entries.items in
-    let counted = c.count_new-new.ensures ∙ (λ i. count_new (clock_entries (c.deref-2.ensures.value i)) (clock_entries (c.deref.ensures.value i))) in
-    omega (arith, counted, count_new-within (clock_entries others) (clock_entries own), length-clock_entries others, c.other.invariant.few)
+    let counted = c.count_new-new.ensures ∙ (λ i. count_new (clock_entries (c.deref-2.ensures i)) (clock_entries (c.deref.ensures i))) in
+    let fits = c.well_formed in
+    (omega arith, (omega arith, (c.self.invariant.few, omega (arith, counted, count_new-within (clock_entries others) (clock_entries own), length-clock_entries others, c.other.invariant.few))))
 
 pub returns-in-Err-clause-full : goal.returns-in-Err-clause-full
 returns-in-Err-clause-full g c =
     let own = c.self.inside.entries.items in
     let others = c.other.inside.entries.items in
-    let counted = c.count_new-new.ensures ∙ (λ i. count_new (clock_entries (c.deref-2.ensures.value i)) (clock_entries (c.deref.ensures.value i))) in
+    let counted = c.count_new-new.ensures ∙ (λ i. count_new (clock_entries (c.deref-2.ensures i)) (clock_entries (c.deref.ensures i))) in
     let total =
     (λ i. length (sync (sym c.self.view_is i).meaning (sym c.other.view_is i).meaning).known)
     ∙ length-sync (clock_entries own) (clock_entries others) c.self.invariant.entries c.other.invariant.entries in
     let count = length-clock_entries own in
     (λ e. omega (arith, counted, total, count, c.in-Err.ensures.full.0 e), λ h. c.in-Err.ensures.full.1 (omega (arith, counted, total, count, h)))
 
-pub merge_all-requires-clause-room : goal.merge_all-requires-clause-room
-merge_all-requires-clause-room g c =
+pub merge_all-requires : goal.merge_all-requires
+merge_all-requires g c =
     let own = c.self.inside.entries.items in
     let others = c.other.inside.entries.items in
-    let counted = c.count_new-new.ensures ∙ (λ i. count_new (clock_entries (c.deref-2.ensures.value i)) (clock_entries (c.deref.ensures.value i))) in
+    let counted = c.count_new-new.ensures ∙ (λ i. count_new (clock_entries (c.deref-2.ensures i)) (clock_entries (c.deref.ensures i))) in
     let long =
     ap (λ es. length (merge_all (clock_entries others) (clock_entries es))) c.in_default.ensures.unchanged
     ∙ length-merge_all (clock_entries others) (clock_entries own) c.other.invariant.entries c.self.invariant.entries in
-    omega (arith, counted, long, length-clock_entries own, c.in_default.ensures.ok.1)
+    let fits = c.well_formed in
+    (omega arith, (omega arith, (rw c.in_default.ensures.unchanged c.self.invariant.entries, (c.other.invariant.entries, omega (arith, counted, long, length-clock_entries own, c.in_default.ensures.ok.1)))))
 
 pub invariant_of-self-2 : goal.invariant_of-self-2
 invariant_of-self-2 g c =
     let own = c.self.inside.entries.items in
     let others = c.other.inside.entries.items in
-    let counted = c.count_new-new.ensures ∙ (λ i. count_new (clock_entries (c.deref-2.ensures.value i)) (clock_entries (c.deref.ensures.value i))) in
+    let counted = c.count_new-new.ensures ∙ (λ i. count_new (clock_entries (c.deref-2.ensures i)) (clock_entries (c.deref.ensures i))) in
     let merged_in = c.merge_all.ensures.merged_in ∙ ap (λ es. merge_all (clock_entries others) (clock_entries es)) c.in_default.ensures.unchanged in
     let long = ap length merged_in ∙ length-merge_all (clock_entries others) (clock_entries own) c.other.invariant.entries c.self.invariant.entries in
     record {
       entries = rw merged_in (AreEntries-merge_all (clock_entries others) (clock_entries own) c.other.invariant.entries c.self.invariant.entries);
       few = omega (arith, counted, long, length-clock_entries own, length-clock_entries c.merge_all.new.entries.items, c.in_default.ensures.ok.0);
-      empty = c.self.invariant.empty;
     }
 
 pub returns-clause-synced : goal.returns-clause-synced
@@ -62,7 +63,7 @@ pub returns-clause-within : goal.returns-clause-within
 returns-clause-within g c =
     let own = c.self.inside.entries.items in
     let others = c.other.inside.entries.items in
-    let counted = c.count_new-new.ensures ∙ (λ i. count_new (clock_entries (c.deref-2.ensures.value i)) (clock_entries (c.deref.ensures.value i))) in
+    let counted = c.count_new-new.ensures ∙ (λ i. count_new (clock_entries (c.deref-2.ensures i)) (clock_entries (c.deref.ensures i))) in
     let total =
     (λ i. length (sync (sym c.self.view_is i).meaning (sym c.other.view_is i).meaning).known)
     ∙ length-sync (clock_entries own) (clock_entries others) c.self.invariant.entries c.other.invariant.entries in

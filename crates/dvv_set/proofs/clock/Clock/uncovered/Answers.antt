@@ -10,6 +10,6 @@ pub returns : goal.returns
 returns g c =
     let pairs = unwrap_or (pairs_of c.args.context) [] in
     c.uncovered.ensures
-    ∙ ap (λ entries. count_uncovered pairs (clock_entries entries)) c.deref.ensures.value
+    ∙ ap (λ entries. count_uncovered pairs (clock_entries entries)) c.deref.ensures
     ∙ length-uncovered pairs (clock_entries c.self.inside.entries.items) c.self.invariant.entries.each
     ∙ ap (λ held. uncovered pairs held.meaning) c.self.view_is

@@ -1,0 +1,34 @@
+use Rattle.std.proofs.Common.{◌<◌, ◌+◌, ◌∙◌, ◌≤◌, length, arith, ap}
+use Rattle.std.specs.Prelude.{nat_lt}
+use Rattle.std.proofs.lemmas.List.{length-set}
+use Rattle.dvv_set.specs.Stored.{clock_entry}
+use Rattle.dvv_set.proofs.Rooms.{above_room, rooms-next, clock_entries-same}
+use Rattle.dvv_set.proofs.entry.reserve_values.Goals as goal
+
+pub unreachable-requires : goal.unreachable-requires
+unreachable-requires g c =
+    let some = c.in-None.ensures.variant.1 (omega (arith, c.loop-at-test.true, c.len-at-end.ensures, c.loop-at.invariant.length)) in
+    cc
+
+pub returns-in_err-reserve-in-Some-clause-same : goal.returns-in_err-reserve-in-Some-clause-same
+returns-in_err-reserve-in-Some-clause-same g c =
+    let here = c.in-Some.entry.now in
+    clock_entries-same c.loop-at.entries.items c.loop-at.at here _ ((λ i. (here.actor, (here.counter, c.reserve.ensures.items i))) ∙ ap clock_entry c.in-Some.ensures.value)
+    ∙ c.loop-at.invariant.same
+
+pub returns-in_err-reserve-in-Some-clause-capacity : goal.returns-in_err-reserve-in-Some-clause-capacity
+returns-in_err-reserve-in-Some-clause-capacity g c = c.loop-at.invariant.capacity
+
+pub loop-at-preserved : goal.loop-at-preserved
+loop-at-preserved g c =
+    let here = c.in-Some.entry.now in
+    let within : c.loop-at.at < length c.loop-at.entries.items = omega (arith, c.loop-at-test.true, c.len-at-end.ensures, c.loop-at.invariant.length) in
+    let room : length here.values.items + 1 ≤ c.reserve.new.self.capacity = c.in_ok-reserve-in-Some.ensures.ok in
+    record {
+      same =
+          clock_entries-same c.loop-at.entries.items c.loop-at.at here _ ((λ i. (here.actor, (here.counter, c.reserve.ensures.items i))) ∙ ap clock_entry c.in-Some.ensures.value)
+          ∙ c.loop-at.invariant.same;
+      length = length-set c.loop-at.entries.items c.loop-at.at _ ∙ c.loop-at.invariant.length;
+      capacity = c.loop-at.invariant.capacity;
+      rooms = rooms-next c.loop-at.entries.items c.loop-at.at _ within (ap (λ values. nat_lt (length values) c.reserve.new.self.capacity) c.reserve.ensures.items ∙ above_room _ _ room) c.loop-at.invariant.rooms;
+    }

@@ -1,0 +1,151 @@
+//! A list with its first two items in the value itself.
+
+ghost use Rattle.std.specs.Prelude.{◌≡◌, ◌≤◌, ◌<◌, ◌∷◌, ◌+◌, length, [], ◌++◌, ◌==◌, ◌↔◌, take, IsSome, IfSome, OnOk, get_or};
+ghost use Rattle.std.specs.List.{insert};
+
+use smallvec::SmallVec;
+use std::alloc::{AllocError, Global};
+use std::default::MadeWith;
+use std::marker::Model;
+use std::ops::DerefSlice;
+
+/// A list that holds up to two items in place, and more in an allocation. Contracts see its items, and how many fit into
+/// the room that it has. It has no more than what a clock needs, over the kit's `SmallVec`.
+#[derive(Drop)]
+pub(crate) struct InlineList<T> {
+    content: SmallVec<T, 2>,
+}
+
+impl<T> Model for InlineList<T> {
+    ghost use Rattle.smallvec.specs.SmallVec.{SmallVec as Items, small_vec_code};
+
+    ghost Value = { Items T };
+
+    ghost coded = { small_vec_code T.code };
+
+    ghost view = { λ v. v.content };
+}
+
+impl<T> InlineList<T> {
+    ghost use Rattle.std.specs.Borrow.{sem};
+    ghost use Rattle.dvv_set.specs.InlineLists.{LendsItem};
+
+    /// The item at an index, for writing, if there is one.
+    pub(crate) fn get_mut(&mut self, at: usize) -> Option<&mut T>
+        ensures* writes_back { sem 𝓛 (LendsItem T.row self.entry at result) }
+        ensures variant { IsSome result ↔ (at < length self.old.items) }
+        ensures value { IfSome result (λ x. x.now ≡ get_or self.old.items at x.now) }
+    {
+        self.content.get_mut(at)
+    }
+
+    /// The allocator.
+    pub(crate) fn allocator(&self) -> Global {
+        *self.content.allocator()
+    }
+
+    /// The items.
+    pub(crate) fn as_slice(&self) -> &[T]
+        ensures { result.now ≡ self.now.items }
+    {
+        self.content.as_slice()
+    }
+
+    /// Whether there is no item.
+    pub(crate) fn is_empty(&self) -> bool
+        ensures { result ≡ (length self.now.items == 0) }
+    {
+        self.content.is_empty()
+    }
+
+    /// How many items there are.
+    pub(crate) fn len(&self) -> usize
+        ensures { result ≡ length self.now.items }
+    {
+        self.content.len()
+    }
+}
+
+impl<T> DerefSlice for InlineList<T> {
+    type Elem = T;
+
+    ghost deref_gives = { λ v xs. xs ≡ v.items };
+
+    fn deref(&self) -> &[T] {
+        self.content.as_slice()
+    }
+}
+
+impl<T: MadeWith<Global> + Drop> InlineList<T> {
+    /// An empty list, for which no memory is taken.
+    pub(crate) fn new(alloc: Global) -> Self
+        ensures items { result.items ≡ [] }
+        ensures capacity { result.capacity ≡ 2 }
+    {
+        InlineList {
+            content: SmallVec::new(alloc),
+        }
+    }
+
+    /// Makes room for more items. Refused where there is no memory, and then nothing changes.
+    pub(crate) fn reserve(&mut self, more: usize) -> Result<(), AllocError>
+        ensures items { self.new.items ≡ self.old.items }
+        ensures ok { OnOk result (length self.old.items + more ≤ self.new.capacity) }
+        ensures capacity { self.old.capacity ≤ self.new.capacity }
+    {
+        self.content.reserve(more)
+    }
+
+    /// Puts an item at the end, in room that is there.
+    pub(crate) fn push_reserved(&mut self, item: T)
+        requires { length self.old.items < self.old.capacity }
+        ensures items { self.new.items ≡ self.old.items ++ item ∷ [] }
+        ensures capacity { self.new.capacity ≡ self.old.capacity }
+    {
+        self.content.push_reserved(item);
+    }
+
+    /// Puts an item at the end. Refused where there is no memory.
+    pub(crate) fn push(&mut self, item: T) -> Result<(), AllocError>
+        ensures { OnOk result (self.new.items ≡ self.old.items ++ item ∷ []) }
+    {
+        self.content.push(item)?;
+        Ok(())
+    }
+
+    /// Inserts an item, in room that is there.
+    pub(crate) fn insert(&mut self, at: usize, item: T)
+        requires place { at ≤ length self.old.items }
+        requires room { length self.old.items < self.old.capacity }
+        ensures inserted { self.new.items ≡ insert self.old.items at item }
+        ensures capacity { self.new.capacity ≡ self.old.capacity }
+    {
+        if self.content.insert(at, item).is_err() {
+            unreachable!()
+        }
+    }
+
+    /// Keeps the first items.
+    pub(crate) fn truncate(&mut self, len: usize)
+        ensures items { self.new.items ≡ take len self.old.items }
+        ensures capacity { self.new.capacity ≡ self.old.capacity }
+    {
+        self.content.truncate(len);
+    }
+
+    /// Drops all items.
+    pub(crate) fn clear(&mut self)
+        ensures items { self.new.items ≡ [] }
+        ensures capacity { self.new.capacity ≡ self.old.capacity }
+    {
+        self.content.clear();
+    }
+
+    /// Takes the first item out.
+    pub(crate) fn remove_first(&mut self) -> T
+        requires { 0 < length self.old.items }
+        ensures { self.old.items ≡ result ∷ self.new.items }
+    {
+        self.content.remove(0)
+    }
+}
