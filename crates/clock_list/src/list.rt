@@ -56,9 +56,11 @@ fn make_room(
     kind: WriteKind,
 ) -> Result<Room, AllocError>
     requires sorted { IsTrue (is_sorted key_cmp (map entry_of rows.old.items)) }
-    requires fits { IsWithin (clock_at (map entry_of rows.old.items) key.now).known (seen_in seen) actor }
+    requires fits { IsWithin (clock_at (map entry_of rows.old.items) key.now).known
+        (seen_in seen) actor }
     ensures same { map entry_of rows.new.items ≡ map entry_of rows.old.items }
-    ensures ok { IfOk result (λ room. HasRoom (contents_in rows.new.items (Some room)) key.now (seen_in seen.entry) actor kind) }
+    ensures ok { IfOk result (λ room.
+        HasRoom (contents_in rows.new.items (Some room)) key.now (seen_in seen.entry) actor kind) }
     ensures fits { IfOk result (λ room. IsRoom rows.new (Some room)) }
 {
     let _kind = kind; // a list has room for either

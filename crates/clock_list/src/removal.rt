@@ -28,7 +28,8 @@ fn is_dead_from(from: Option<&Key>, row: &Row) -> bool
 
 /// The place of the first dead key at or after one.
 pub(crate) fn first_dead(rows: &[Row], from: Option<&Key>) -> Option<usize>
-    ensures { result ≡ position_from (is_dead_from (key_given from.entry)) 0 (map entry_of rows.now) }
+    ensures { result
+        ≡ position_from (is_dead_from (key_given from.entry)) 0 (map entry_of rows.now) }
 {
     for (i, row) in rows.iter().enumerate() {
         if is_dead_from(from, row) {

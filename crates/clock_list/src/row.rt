@@ -64,7 +64,8 @@ pub(crate) fn write_at(
 )
     requires placed { place_in key (map entry_of rows.old.items) ≡ places.At i }
     requires ready { ReadyAt rows.old.items i (seen_in seen) actor }
-    ensures { map entry_of rows.new.items ≡ written (map entry_of rows.old.items) key (seen_in seen.entry) actor value }
+    ensures { map entry_of rows.new.items
+        ≡ written (map entry_of rows.old.items) key (seen_in seen.entry) actor value }
 {
     let _key = key;
     rows[i].stored.write(seen, actor, value);
@@ -80,7 +81,8 @@ pub(crate) fn overwrite_at(
 )
     requires placed { place_in key (map entry_of rows.old.items) ≡ places.At i }
     requires ready { ReadyAt rows.old.items i None actor }
-    ensures { map entry_of rows.new.items ≡ overwritten (map entry_of rows.old.items) key actor value }
+    ensures { map entry_of rows.new.items
+        ≡ overwritten (map entry_of rows.old.items) key actor value }
 {
     let _key = key;
     rows[i].stored.overwrite(actor, value);
@@ -98,7 +100,8 @@ pub(crate) fn write_new(
     requires sorted { IsTrue (is_sorted key_cmp (map entry_of rows.old.items)) }
     requires fits { FitsIn rows.old i row }
     requires ready { IsReady row.stored.clock (seen_in seen) actor }
-    ensures { map entry_of rows.new.items ≡ written (map entry_of rows.old.items) row.key (seen_in seen.entry) actor value }
+    ensures { map entry_of rows.new.items
+        ≡ written (map entry_of rows.old.items) row.key (seen_in seen.entry) actor value }
 {
     row.stored.write(seen, actor, value);
     if rows.insert(i, row).is_err() {

@@ -1,7 +1,7 @@
 -- What always holds of a map of clocks, after each of its calls.
 use Rattle.std.proofs.Common.{◌≡◌, ◌∙◌, inl, inr, refl, sym, ap, subst, List, [], ℕ, Bool, true, false, not, cond}
 use lib.Dec.{T}
-use Rattle.std.specs.Prelude.{Option, Some, None, IsSome, is_some, option_and_then}
+use Rattle.std.specs.Prelude.{◌==◌, ◌&&◌, ◌||◌, Option, Some, None, IsSome, is_some, option_and_then}
 use Rattle.std.specs.Prelude.{Result, Ok, Err, OnErr}
 use Rattle.std.specs.Borrow.{Bor}
 use Rattle.std.specs.Option.{option_map, option_map_or, option_copied}
@@ -28,15 +28,22 @@ use Rattle.clock_store.proofs.Reaps.{reap-none, reap-kept}
 use Rattle.vnode_machine.specs.Machine.{holds_dead}
 use Rattle.vnode_machine.specs.Dead.{is_from, first_dead, has_dead, reaped}
 use Rattle.vnode_machine.proofs.DeadKeys.{first_is_dead, dead_by}
-use Rattle.vnode_machine.proofs.Tests.{and_right}
+use Rattle.vnode_machine.proofs.Tests.{and_left, and_right, nat_eq-refl}
 use Rattle.clock_map.specs.declared.room.Room.{Room}
-use Rattle.clock_map.specs.declared.index.DeadMark.TheVariants.{Spare}
+use Rattle.clock_map.specs.declared.index.DeadMark.{DeadMark}
+use Rattle.clock_map.specs.declared.index.DeadMark.TheVariants.{Spare, Dead}
 use Rattle.clock_map.specs.Index.{Index, is_marked, mark_of, without_spare, SpareIsNew, first_marked}
-use Rattle.clock_map.specs.Places.{Places, Clocks, place_of, stored_at, lives, lives_at, FitsAt, IsReadyAt, StoresSame, WritesAt, AddsAt, Unchanged, RemovesAt, DropsSpare}
+use Rattle.clock_map.specs.Places.{Places, Clocks, place_of, stored_at, lives, lives_at, has_no_mark, FitsAt, IsReadyAt, StoresSame, WritesAt, AddsAt, Unchanged, RemovesAt, DropsSpare}
 use Rattle.clock_map.specs.Maps.{is_dead, shown_at, shown_of, keys_in, reserved_in, IsRoomOf, IsRoom, MayDie, IsMap}
 use Rattle.clock_map.proofs.Entries.{find_shown, keys_same, sorted_shown}
 use Rattle.clock_map.proofs.Ties.{clash, tied_stored, tied_written, tied_removed, removed_shown, tied_added, added_place, added_shown, tied_dropped, dropped_shown, written_shown, written_keys, ReservedAt, reserved_at, reserved_for}
 use Rattle.clock_map.proofs.Marks.{settled_marks, settled_spare, unspared, no_spare, any_put, first_same}
+
+-- what is new, or has a content, isn't dead
+not_dead : (is_new same : Bool) (o : Option (Stored Content)) → same ≡ true → (is_new || lives o) ≡ true → is_dead (cond (is_new && same) None o) ≡ false
+not_dead true same o e h = ap (λ b. is_dead (cond b None o)) e
+not_dead false same None e h = refl
+not_dead false same (Some s) e h = ap not h
 
 -- a write in the room of a key
 module _ (places : Places) (old new : Clocks) (dead : Index) (room : Room) (key : Key) (actor : Actor) (value : Option Content)
@@ -45,6 +52,23 @@ module _ (places : Places) (old new : Clocks) (dead : Index) (room : Room) (key 
     (wrote : WritesAt old new room.place actor (λ clock. event actor value (left clock))) where
   room_key : holds.room.0 ≡ key
   room_key = holds.tied.one holds.room.0 key room.place holds.room.1.placed at.placed
+
+  -- a key that isn't dead before the write, nor may be after it, has no entry
+  pub unmarked : has_no_mark old room ≡ true → tree.get key_cmp dead key ≡ None
+  unmarked h = by (tree.get key_cmp dead key) refl
+    where
+      alive : is_dead (shown_of places old (Some room) key) ≡ false
+      alive =
+          ap (λ o. is_dead (option_and_then (shown_at old (Some room)) o)) at.placed
+          ∙ not_dead room.is_new (room.place == room.place) (stored_at old room.place) (nat_eq-refl room.place) (and_right (not room.may_die) _ h)
+
+      by : (o : Option DeadMark) → tree.get key_cmp dead key ≡ o → o ≡ None
+      by None is = refl
+      by (Some Spare) is =
+          let may = holds.spare key is in
+          let same : room ≡ may.0 = (let e = may.1 in cc) in
+          clash (sym (and_left (not room.may_die) _ h) ∙ ap not (ap (λ (r : Room). r.may_die) same ∙ may.2))
+      by (Some Dead) is = clash (sym (ap is_marked is) ∙ holds.marks key ∙ alive)
 
   abbrev after : Stored Content
   after = record { own = Some actor; clock = event actor value (left wrote.stored.clock.meaning) }

@@ -305,6 +305,15 @@ module _ (dead new : Index) (key : Key) (same : new.entries ≡ dead.entries) wh
   pub kept_spare : (q : Key) → SpareIsNew dead new key q
   kept_spare q h = inr (ap (λ es. lookup (is_at (key_cmp q)) es) (sym same) ∙ h)
 
+-- a key without an entry that isn't dead keeps none
+pub unmarked_same : (index : Index) (key : Key) (is_dead : Bool) → is_dead ≡ false → tree.get key_cmp index key ≡ None → (q : Key)
+    → tree.get key_cmp index q ≡ mark_of key is_dead q (tree.get key_cmp index q)
+unmarked_same index key is_dead alive absent q = by (is_at (key_cmp key) q) refl
+  where
+    by : (b : Bool) → is_at (key_cmp key) q ≡ b → tree.get key_cmp index q ≡ cond b (cond is_dead (Some Dead) None) (tree.get key_cmp index q)
+    by true at = ap (tree.get key_cmp index) (sym (same_key key q at)) ∙ absent ∙ sym (ap (λ b. cond b (Some Dead) None) alive)
+    by false at = refl
+
 -- the entries of dead keys alone
 pub filtered : (dead new : Index) → IsOrdered key_cmp dead → new.entries ≡ filter (λ e. is_dead_mark e.1) dead.entries → (q : Key)
     → tree.get key_cmp new q ≡ without_spare (tree.get key_cmp dead q)

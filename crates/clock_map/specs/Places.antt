@@ -1,5 +1,5 @@
 -- Keys and the places of their clocks, and what a call leaves of them.
-use Rattle.std.specs.Prelude.{◌≡◌, ◌≢◌, ◌&&◌, ℕ, Bool, false, List, Option, Some, None, IsSome, is_some, if◌then◌else◌, ◌==◌}
+use Rattle.std.specs.Prelude.{◌≡◌, ◌≢◌, ◌&&◌, ◌||◌, ℕ, Bool, false, not, List, Option, Some, None, IsSome, is_some, if◌then◌else◌, ◌==◌}
 use Rattle.std.specs.Option.{option_map}
 use Rattle.std.specs.List.{list_any}
 use Rattle.std.specs.BTreeMap as tree
@@ -38,6 +38,10 @@ lives (Some stored) = list_any (λ entry. is_some entry.1) stored.clock.live
 
 abbrev pub lives_at : Clocks → ℕ → Bool
 lives_at clocks place = lives (stored_at clocks place)
+
+-- the key of this room is not dead before the write, since it is new or has a content, and not after it
+abbrev pub has_no_mark : Clocks → Room → Bool
+has_no_mark clocks room = not room.may_die && (room.is_new || lives_at clocks room.place)
 
 -- each key's place has a clock and is no other key's, and each clock is some key's
 pub record IsTied (places : Places) (clocks : Clocks) : Type 0 where

@@ -71,6 +71,24 @@ pub(crate) fn set_mark(index: &mut BTreeMap<Key, DeadMark>, key: &Key, is_dead: 
     }
 }
 
+/// Marks a key dead, or takes its entry out, as [`set_mark`] does; a key that is known to have no entry, and isn't dead,
+/// isn't searched for. It takes no memory.
+pub(crate) fn update_mark(
+    index: &mut BTreeMap<Key, DeadMark>,
+    key: &Key,
+    is_absent: bool,
+    is_dead: bool,
+)
+    requires absent { is_absent ≡ true → get key_cmp index.old key.now ≡ None }
+    requires dead { is_dead ≡ true → IsSome (get key_cmp index.old key.now) }
+    ensures { (q : Key) →
+        get key_cmp index.new q ≡ mark_of key.now is_dead q (get key_cmp index.old q) }
+{
+    if is_dead || !is_absent {
+        set_mark(index, key, is_dead);
+    }
+}
+
 /// Takes the spare entries out, by a pass over all of them.
 pub(crate) fn drop_spares(index: &mut BTreeMap<Key, DeadMark>)
     ensures { (q : Key) → get key_cmp index.new q ≡ without_spare (get key_cmp index.old q) }

@@ -1,12 +1,22 @@
 //! The storage of a vnode as an ordered map of clocks.
 //!
+//! ```text
+//! let mut map = ClockMap::new(alloc);
+//! map.reserve(alloc, &k, None, a, WriteKind::Value)?;         k has a spare place with an empty clock, and is no key
+//! map.write(k.clone(alloc)?, None, a, Some(v));               k is a key, with v in the clock at its place
+//! map.reserve(alloc, &k, None, a, WriteKind::Tombstone)?;     k has a spare entry in the index of dead keys
+//! map.overwrite(k, a, None);                                  that entry marks k dead
+//! map.forget_first_dead(None)                                 true: the key, its clock and its entry are gone
+//! ```
+//!
 //! A [`ClockMap`] is a [`ClockStore`](clock_store::ClockStore): keys in their order, each with what is stored of it, and
 //! room for one write. Its clocks lie in a slab; a tree leads from each key to its clock's place there, and another holds
 //! the dead keys alone, so that the least of them is found without passing over live ones.
 //!
 //! Cost, of n keys and d dead ones: a get is one search among n and one access of the slab. A `reserve` is one search
 //! more where the key is new, and one among d for a tombstone; a write goes straight to the place that was reserved, and
-//! is one search among d. A look for a dead key is a search among d; forgetting one is a search among d and one among n.
+//! is one search among d where the key was dead or may be. A look for a dead key is a search among d; forgetting one is a
+//! search among d and one among n.
 //! Room that a write never used is the one thing that is taken away by a pass over all keys.
 //! A key's bytes are held once, and a second time while it is dead or may be.
 #![tactic(auto)]

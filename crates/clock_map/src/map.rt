@@ -178,8 +178,9 @@ impl ClockStore for ClockMap {
         let Some(room) = self.room.take() else {
             unreachable!()
         };
+        let is_absent = places::has_no_mark(&self.clocks, room);
         let lives = places::write_at(&mut self.clocks, room.place, seen, actor, value);
-        index::set_mark(&mut self.dead, &key, !lives);
+        index::update_mark(&mut self.dead, &key, is_absent, !lives);
     }
 
     fn overwrite(&mut self, key: Key, actor: Actor, value: Option<BoxedContent>) {
@@ -200,7 +201,8 @@ impl ClockStore for ClockMap {
             Reaped::Absent => Reaped::Absent,
             Reaped::Kept => Reaped::Kept,
             Reaped::Gone => {
-                let _own = places::remove(&mut self.places, &mut self.clocks, key);
+                let own = places::remove(&mut self.places, &mut self.clocks, key);
+                drop(own);
                 index::set_mark(&mut self.dead, key, false);
                 Reaped::Gone
             }

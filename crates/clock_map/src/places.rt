@@ -4,7 +4,7 @@ ghost use Rattle.std.specs.Prelude.{◌≡◌, [], IfOk, OnOk, OnErr, None, IsSo
 ghost use Rattle.dvv_set.specs.Clocks.{event, discard};
 ghost use Rattle.dvv_set.specs.Held.{IsWithin, IsReady, without, pairs_of as seen_in};
 ghost use Rattle.clock_store.specs.Keys.{empty};
-ghost use Rattle.clock_map.specs.Places.{place_of, lives_at, FitsAt, IsReadyAt, StoresSame, WritesAt, AddsAt, Unchanged, RemovesAt, DropsSpare};
+ghost use Rattle.clock_map.specs.Places.{place_of, lives_at, has_no_mark, FitsAt, IsReadyAt, StoresSame, WritesAt, AddsAt, Unchanged, RemovesAt, DropsSpare};
 
 use crate::room::Room;
 use actor_epoch::{Actor, Context};
@@ -30,6 +30,22 @@ pub(crate) fn reserve_at(
         unreachable!()
     };
     stored.reserve(seen, actor)
+}
+
+/// Whether the key of this room has no entry in the index of dead keys: it isn't dead, and won't be after the write.
+pub(crate) fn has_no_mark(clocks: &Slab<StoredClock>, room: Room) -> bool
+    ensures { result ≡ has_no_mark clocks.now room }
+{
+    if room.may_die {
+        return false;
+    }
+    if room.is_new {
+        return true;
+    }
+    match clocks.get(room.place) {
+        None => false,
+        Some(stored) => stored.has_value(),
+    }
 }
 
 /// Writes in the room at a place; says whether there is a value now.

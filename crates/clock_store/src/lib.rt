@@ -1,5 +1,13 @@
 //! The storage of a vnode: what is stored of each key, and room for one write.
 //!
+//! ```text
+//! let mut store = S::new(alloc);                              no key, no room
+//! store.reserve(alloc, &k, None, a, WriteKind::Value)?;       still no key, and room for one write of k at a
+//! store.write(k.clone(alloc)?, None, a, Some(v));             k has v at the dot 1 of a, and there is no room
+//! store.get(&k)                                               its clock: has_value() is true
+//! store.forget_dead(&k)                                       Reaped::Kept: it isn't dead
+//! ```
+//!
 //! A store means the keys in their order, each with the actor of its life and its clock, and the room that was made for
 //! one write (`Contents` in `specs/Contents`). [`ClockStore`] is what each form of storage promises over that meaning;
 //! a form says by its ghost view `shows` what its own bytes mean, and where it keeps room is its own matter. What a write

@@ -56,7 +56,8 @@ pub trait ClockStore: Drop {
 
     /// What is stored of a key; None where it is absent.
     fn get(&self, key: &Key) -> Option<&StoredClock>
-        ensures { option_map (λ stored. stored_of stored.now) result ≡ find key_cmp key.now (shows self.now).keys };
+        ensures { option_map (λ stored. stored_of stored.now) result
+            ≡ find key_cmp key.now (shows self.now).keys };
 
     /// Makes room for a write of a key at an actor, which discards what a context has seen (None: nothing), in place of
     /// what room there was. Refused where memory is, and then there is none. The keys stay either way.
@@ -70,7 +71,8 @@ pub trait ClockStore: Drop {
     ) -> Result<(), AllocError>
         requires { IsWithin (clock_at (shows self.old).keys key.now).known (seen_in seen) actor }
         ensures same { (shows self.new).keys ≡ (shows self.old).keys }
-        ensures ok { OnOk result (HasRoom (shows self.new) key.now (seen_in seen.entry) actor kind) }
+        ensures ok { OnOk result
+            (HasRoom (shows self.new) key.now (seen_in seen.entry) actor kind) }
         ensures none { OnErr result ((shows self.new).room ≡ None) };
 
     /// Gives what room there was away.
@@ -87,7 +89,8 @@ pub trait ClockStore: Drop {
         value: Option<BoxedContent>,
     )
         requires { HasRoom (shows self.old) key (seen_in seen) actor (kind_of value) }
-        ensures keys { (shows self.new).keys ≡ written (shows self.old).keys key (seen_in seen.entry) actor value }
+        ensures keys { (shows self.new).keys
+            ≡ written (shows self.old).keys key (seen_in seen.entry) actor value }
         ensures room { (shows self.new).room ≡ None };
 
     /// Writes a value of a key, or a tombstone, in place of all its values, where there is room for it without a context;
@@ -104,13 +107,15 @@ pub trait ClockStore: Drop {
     /// Forgets a key, where it is dead; says whether it was. What room there was ends. It takes no memory.
     fn forget_dead(&mut self, key: &Key) -> Reaped
         ensures result { result ≡ reap_result (holding (shows self.old).keys) key.now }
-        ensures keys { (shows self.new).keys ≡ (after_reap (holding (shows self.old).keys) key.now).keys }
+        ensures keys { (shows self.new).keys
+            ≡ (after_reap (holding (shows self.old).keys) key.now).keys }
         ensures room { (shows self.new).room ≡ None };
 
     /// Forgets the least dead key at or after one, or of all where none is given; says whether there was one. What room
     /// there was ends. It takes no memory.
     fn forget_first_dead(&mut self, from: Option<&Key>) -> bool
         ensures found { result ≡ has_dead (holding (shows self.old).keys) (key_given from.entry) }
-        ensures keys { (shows self.new).keys ≡ (after_first_reap (holding (shows self.old).keys) (key_given from.entry)).keys }
+        ensures keys { (shows self.new).keys
+            ≡ (after_first_reap (holding (shows self.old).keys) (key_given from.entry)).keys }
         ensures room { (shows self.new).room ≡ None };
 }

@@ -72,7 +72,8 @@ impl StoredClock {
     pub fn write(&mut self, seen: Option<&Context<'_>>, actor: Actor, value: Option<BoxedContent>)
         requires { IsReady self.old.clock (seen_in seen) actor }
         ensures actor { self.new.actor ≡ actor }
-        ensures clock { self.new.clock.meaning ≡ event actor value (without (seen_in seen.entry) self.old.clock.meaning) }
+        ensures clock { self.new.clock.meaning
+            ≡ event actor value (without (seen_in seen.entry) self.old.clock.meaning) }
     {
         self.actor = actor;
         self.clock.put_ready(seen, actor, value);
@@ -83,7 +84,8 @@ impl StoredClock {
     pub fn overwrite(&mut self, actor: Actor, value: Option<BoxedContent>)
         requires { IsReady self.old.clock None actor }
         ensures actor { self.new.actor ≡ actor }
-        ensures clock { self.new.clock.meaning ≡ event actor value (discard self.old.clock.meaning.known self.old.clock.meaning) }
+        ensures clock { self.new.clock.meaning
+            ≡ event actor value (discard self.old.clock.meaning.known self.old.clock.meaning) }
     {
         self.actor = actor;
         self.clock.overwrite_ready(actor, value);
