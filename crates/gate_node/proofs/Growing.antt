@@ -23,17 +23,17 @@ use Rattle.vnode_machine.specs.Machine.{State, is_held, put_check, del_check, ap
 use Rattle.vnode_machine.specs.Asks.{get_command, put_command, del_command}
 use Rattle.vnode_machine.specs.Replies.{get_reply, put_reply}
 use Rattle.vnode_machine.specs.Step.{Response, PutDone, DelDone, Refused, Answered, Accepted, unless_refused}
-use Rattle.vnode_core.specs.declared.ask.Ask.{Ask}
-use Rattle.vnode_core.specs.declared.ask.Ask.TheVariants as asks
-use Rattle.vnode_core.specs.declared.ask.Answer.{Answer}
-use Rattle.vnode_core.specs.declared.ask.Answer.TheVariants as answers
+use Rattle.vnode_protocol.specs.declared.ask.Ask.{Ask}
+use Rattle.vnode_protocol.specs.declared.ask.Ask.TheVariants as asks
+use Rattle.vnode_protocol.specs.declared.ask.Answer.{Answer}
+use Rattle.vnode_protocol.specs.declared.ask.Answer.TheVariants as answers
 use Rattle.clock_store.specs.declared.store.Reaped.{Reaped}
 use Rattle.clock_store.specs.declared.store.Reaped.TheVariants.{Gone, Kept, Absent}
-use Rattle.vnode_core.specs.declared.event.Event.{Event}
-use Rattle.vnode_core.specs.declared.event.Event.TheVariants as events
-use Rattle.vnode_core.specs.declared.refusal.Refusal.{Refusal}
-use Rattle.vnode_core.specs.Events.{AsksReap, Asks, Tells, IsAnswered}
-use Rattle.vnode_core.specs.Plans.{response_of}
+use Rattle.vnode_protocol.specs.declared.event.Event.{Event}
+use Rattle.vnode_protocol.specs.declared.event.Event.TheVariants as events
+use Rattle.vnode_protocol.specs.declared.refusal.Refusal.{Refusal}
+use Rattle.vnode_protocol.specs.Events.{AsksReap, Asks, AnsweredBy, IsAnswered}
+use Rattle.vnode_protocol.specs.Plans.{response_of}
 use Rattle.node_session.specs.Answers.{AnswersRead, Run, message_fault_text}
 use Rattle.node_session.specs.PlainNodes.{partition_of}
 use Rattle.node_session.specs.PlainStep.{response_reply}
@@ -186,7 +186,7 @@ put-reaped reaped reply h = cc
 del-reaped : (reaped : Reaped) → answers.Reaped reaped ≡ answers.Del → ⊥
 del-reaped reaped h = cc
 
-made-no-reap : (ask : Ask) → IsCommand ask → (event : Event) (reaped : Reaped) → Asks event ask → Tells event (answers.Reaped reaped) → ⊥
+made-no-reap : (ask : Ask) → IsCommand ask → (event : Event) (reaped : Reaped) → Asks event ask → AnsweredBy event (answers.Reaped reaped) → ⊥
 made-no-reap ask command (events.Put put reply) reaped asked told = put-reaped reaped reply told
 made-no-reap ask command (events.Del del) reaped asked told = del-reaped reaped told
 made-no-reap ask command (events.Reap key) reaped asked told = no-reap ask command key asked

@@ -6,8 +6,8 @@ use Rattle.std.specs.Option.{option_map}
 use Rattle.std.proofs.lemmas.Option.{slice_get-get_or, slice_get-map}
 use Rattle.ring_map.specs.Ring.{id_of}
 use Rattle.rw_gate.specs.Views.{GateId}
-use Rattle.vnode_core.specs.Plans.{View}
-use Rattle.vnode_core.specs.Events.{IsMadeNew}
+use Rattle.vnode_protocol.specs.Plans.{View}
+use Rattle.vnode_protocol.specs.Events.{IsMadeNew}
 use Rattle.stats_book.specs.declared.quantity.Quantity.{Quantity}
 use Rattle.gate_node.specs.Asked.{Sight, AnswersAndReaps}
 use Rattle.gate_node.specs.Counting.{Count, CountsAnswer}

@@ -13,16 +13,17 @@ use Rattle.vnode_machine.specs.Step.{outcome}
 use Rattle.stats_book.specs.declared.quantity.Quantity.{Quantity}
 use Rattle.stats_book.specs.declared.quantity.Quantity.TheVariants as quantities
 use Rattle.rw_gate.specs.Views.{PassView}
-use Rattle.vnode_core.specs.declared.ask.Ask.{Ask}
-use Rattle.vnode_core.specs.declared.ask.Ask.TheVariants as asks
-use Rattle.vnode_core.specs.declared.ask.Answer.{Answer}
-use Rattle.vnode_core.specs.declared.ask.Answer.TheVariants as answers
-use Rattle.vnode_core.specs.declared.event.Event.{Event}
-use Rattle.vnode_core.specs.declared.refusal.Refusal.{Refusal}
-use Rattle.vnode_core.specs.Plans.{View, Refuses, response_of}
-use Rattle.vnode_core.specs.Refusals.{number_of}
-use Rattle.vnode_core.specs.Events.{Makes, IsAnswered, Asks, Tells}
-use Rattle.node_session.specs.PlainStep.{refusal_text, response_reply, StepsBy}
+use Rattle.vnode_protocol.specs.declared.ask.Ask.{Ask}
+use Rattle.vnode_protocol.specs.declared.ask.Ask.TheVariants as asks
+use Rattle.vnode_protocol.specs.declared.ask.Answer.{Answer}
+use Rattle.vnode_protocol.specs.declared.ask.Answer.TheVariants as answers
+use Rattle.vnode_protocol.specs.declared.event.Event.{Event}
+use Rattle.vnode_protocol.specs.declared.refusal.Refusal.{Refusal}
+use Rattle.vnode_protocol.specs.Plans.{View, Refuses, response_of}
+use Rattle.vnode_protocol.specs.Refusals.{number_of}
+use Rattle.vnode_protocol.specs.Events.{Makes, IsAnswered, Asks, AnsweredBy}
+use Rattle.sibling_register.specs.Refusals.{refusal_text}
+use Rattle.node_session.specs.PlainStep.{response_reply, StepsBy}
 use Rattle.gate_node.specs.declared.asking.Outcome.{Outcome}
 use Rattle.gate_node.specs.declared.asking.Outcome.TheVariants.{Made, Told, Refused, Moved, Full}
 use Rattle.gate_node.specs.Asking.{Comes, IsMade, IsSaid, IsOvertaken}
@@ -37,13 +38,13 @@ state_of vnode = vnode.state
 
 -- what came of an ask, an ask that was made, and what the machine says at the end of what was seen
 abbrev pub ComesOf : Ask → Sight → Sight → Outcome Answer Refusal → Type 0
-ComesOf = Comes state_of Makes IsAnswered Refuses Asks Tells
+ComesOf = Comes state_of Makes IsAnswered Refuses Asks AnsweredBy
 
 abbrev pub IsMadeBy : Ask → Sight → Sight → Answer → Type 0
-IsMadeBy = IsMade state_of Makes IsAnswered Refuses Asks Tells
+IsMadeBy = IsMade state_of Makes IsAnswered Refuses Asks AnsweredBy
 
 abbrev pub IsSaidOf : (State Content → Type 0) → Sight → Sight → Type 0
-IsSaidOf = IsSaid state_of Makes IsAnswered Refuses Asks Tells
+IsSaidOf = IsSaid state_of Makes IsAnswered Refuses Asks AnsweredBy
 
 -- the reply for what came of an ask
 abbrev pub outcome_reply : Outcome Answer Refusal → Reply

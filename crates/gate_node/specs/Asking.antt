@@ -16,7 +16,7 @@ pub record IsFull {S E : Type 0} (old new : PassView S E) : Type 0 where
   pub full : length new.prefix ≡ 2 ^ 64 - 1
   pub own : new.own ≡ old.own
 
-module _ {S E State Ask Reply Refusal : Type 0} (content : S → State) (accepts : State → E → State → Type 0) (answers : State → Ask → Reply → Type 0) (refuses : State → Ask → Refusal → Type 0) (asks : E → Ask → Type 0) (tells : E → Reply → Type 0) where
+module _ {S E State Ask Reply Refusal : Type 0} (content : S → State) (accepts : State → E → State → Type 0) (answers : State → Ask → Reply → Type 0) (refuses : State → Ask → Refusal → Type 0) (asks : E → Ask → Type 0) (answered_by : E → Reply → Type 0) where
   -- the ask was accepted: its event is the next one at one position, behind all that the pass had seen; it is the pass's
   -- own, and the pass has seen the history up to it
   pub record IsMade (ask : Ask) (old new : PassView S E) (reply : Reply) : Type 0 where
@@ -28,7 +28,7 @@ module _ {S E State Ask Reply Refusal : Type 0} (content : S → State) (accepts
     pub leads : RunFrom content accepts old.gate.opening position state
     pub step : accepts state event after
     pub asked : asks event ask
-    pub told : tells event reply
+    pub told : answered_by event reply
     pub seen : new.prefix ≡ position ++ event ∷ []
     pub own : new.own ≡ old.own ++ length position ∷ []
 

@@ -5,9 +5,9 @@ use Rattle.riak_msgs.specs.declared.Request.{Request}
 use Rattle.riak_msgs.specs.declared.Request.TheVariants as requests
 use Rattle.riak_msgs.specs.declared.Reply.{Reply}
 use Rattle.riak_msgs.specs.declared.Reply.TheVariants as replies
-use Rattle.vnode_core.specs.declared.ask.Ask.TheVariants as asks
+use Rattle.vnode_protocol.specs.declared.ask.Ask.TheVariants as asks
 use Rattle.stats_book.specs.declared.quantity.Quantity.{Quantity}
-use Rattle.vnode_core.specs.Events.{IsMadeNew}
+use Rattle.vnode_protocol.specs.Events.{IsMadeNew}
 use Rattle.node_session.specs.PlainNodes.{partition_of}
 use Rattle.gate_node.specs.Gates.{Gates}
 use Rattle.gate_node.specs.Counting.{Count, CountsAnswer}

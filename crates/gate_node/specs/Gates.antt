@@ -2,9 +2,9 @@
 use Rattle.std.specs.Prelude.{◌≡◌, ◌+◌, ℕ, List, [], ◌∷◌}
 use Rattle.ring_map.specs.Ring.{id_of}
 use Rattle.rw_gate.specs.Views.{GateId, PassView}
-use Rattle.vnode_core.specs.declared.event.Event.{Event}
-use Rattle.vnode_core.specs.Plans.{View}
-use Rattle.vnode_core.specs.Events.{IsMadeNew}
+use Rattle.vnode_protocol.specs.declared.event.Event.{Event}
+use Rattle.vnode_protocol.specs.Plans.{View}
+use Rattle.vnode_protocol.specs.Events.{IsMadeNew}
 
 -- how many bits number the partitions, which run it is, how many dead keys are forgotten at most after an answer, how often a
 -- session reads at most, and the gates in the partitions' order

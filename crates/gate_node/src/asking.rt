@@ -34,7 +34,7 @@ pub fn ask<S: Kept, R: Wait>(
     requires { pass.old.gate ≡ gate.now }
     ensures gate { pass.new.gate ≡ pass.old.gate }
     ensures more { IsPrefix pass.old.prefix pass.new.prefix }
-    ensures outcome { Comes S.content S.accepts S.answers S.refuses S.asks S.tells
+    ensures outcome { Comes S.content S.accepts S.answers S.refuses S.asks S.answered_by
         ask pass.old pass.new result }
 {
     let mut right = gate.write(rt);
@@ -53,7 +53,7 @@ pub(crate) fn ask_under<S: Kept>(
     requires { pass.old.gate ≡ right.old.gate }
     ensures gate { pass.new.gate ≡ pass.old.gate }
     ensures more { IsPrefix pass.old.prefix pass.new.prefix }
-    ensures outcome { Comes S.content S.accepts S.answers S.refuses S.asks S.tells
+    ensures outcome { Comes S.content S.accepts S.answers S.refuses S.asks S.answered_by
         ask pass.old pass.new result }
 {
     if right.look(pass).is_err() {

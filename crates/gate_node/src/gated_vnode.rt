@@ -7,7 +7,6 @@ use crate::asking::{Outcome, ask, ask_under};
 use crate::replies::{get_quantity, outcome_quantity, outcome_reply};
 use crate::shared::Shared;
 use crate::turnstile::Turnstile;
-use node_session::refusal_text;
 use riak_msgs::{GetAsk, Reply, Text};
 use rw_gate::{Gate, Pass};
 use stats_book::Quantity;
@@ -21,7 +20,7 @@ fn show(vnode: &Vnode, alloc: Global, get: &GetAsk) -> Reply
 {
     match vnode.get(alloc, get) {
         Ok(reply) => Reply::Get(reply),
-        Err(refusal) => Reply::Error(refusal_text(refusal)),
+        Err(refusal) => Reply::Error(Text::from(refusal)),
     }
 }
 

@@ -16,6 +16,14 @@
 //! that was forgotten, and by nothing else; where the book has no room for that, the reply is the same and the node keeps
 //! that fact.
 //!
+//! ```text
+//! let shared = Shared::new(alloc, ring, 1, 0, 100)?          the gates of run 1, each round a new vnode; no reaps, 100 reads a session
+//! let passes = Passes::new(alloc, &shared)?                  one pass for each gate, which has seen nothing
+//! GateNode::new(&rt, &shared, &book, share, passes, &Open)   a node of this thread; others may have nodes over the same gates
+//! node.answer(alloc, Request::Put(put))                      Reply::Put; the pass of the key's vnode has one event, its own; puts: 1
+//! node.parts()                                               the share, the passes, and whether the book was full
+//! ```
+//!
 //! What it costs: a request waits while another thread has its vnode's state in hand, and while another counts. What is
 //! answered lies between the taking and the giving back of a right, and so a get copies its reply while other readers may
 //! be in. Memory is taken by the vnode alone, and by `Shared::new` and `Passes::new`.

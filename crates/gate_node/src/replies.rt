@@ -3,7 +3,7 @@ ghost use Rattle.std.specs.Prelude.{◌≡◌};
 ghost use Rattle.gate_node.specs.Asked.{answer_quantity, get_quantity, outcome_quantity, outcome_reply};
 
 use crate::asking::Outcome;
-use node_session::{answer_reply, refusal_text};
+use node_session::answer_reply;
 use riak_msgs::{Reply, Text};
 use stats_book::Quantity;
 use vnode_core::{Answer, Refusal};
@@ -14,7 +14,7 @@ pub(crate) fn outcome_reply(outcome: Outcome<Answer, Refusal>) -> Reply
 {
     match outcome {
         Outcome::Made(answer) | Outcome::Told(answer) => answer_reply(answer),
-        Outcome::Refused(refusal) => Reply::Error(refusal_text(refusal)),
+        Outcome::Refused(refusal) => Reply::Error(Text::from(refusal)),
         Outcome::Moved => Reply::Error(Text::Moved),
         Outcome::Full => Reply::Error(Text::HistoryFull),
     }

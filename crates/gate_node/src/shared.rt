@@ -1,6 +1,6 @@
 //! The gates of a run, and a caller's passes of them.
 ghost use Rattle.std.specs.Prelude.{◌≡◌, ◌≤◌, ◌^◌, IfOk, IsOkUnless, All, length, map};
-ghost use Rattle.vnode_core.specs.Events.{IsMadeNew};
+ghost use Rattle.vnode_protocol.specs.Events.{IsMadeNew};
 ghost use Rattle.gate_node.specs.Gates.{AreMadeNew, IsUnused};
 
 use crate::fault::PoolFault;

@@ -4,13 +4,14 @@ use Rattle.riak_msgs.specs.Contents.{Content}
 use Rattle.riak_msgs.specs.declared.Reply.TheVariants.{Error}
 use Rattle.vnode_machine.specs.Machine.{State}
 use Rattle.vnode_machine.specs.Step.{StepOutcome, Refused, Answered, Accepted}
-use Rattle.vnode_core.specs.declared.ask.Ask.{Ask}
-use Rattle.vnode_core.specs.declared.ask.Ask.TheVariants.{Put, Del, Reap, ReapFirst}
-use Rattle.vnode_core.specs.declared.refusal.Refusal.{Refusal}
-use Rattle.vnode_core.specs.declared.refusal.Refusal.TheVariants.{MatchFound, Modified, NotFound, BadContext, TooManySiblings, ClockFull, EpochsUsedUp, CounterUsedUp, NoMemory}
-use Rattle.vnode_core.specs.Plans.{IsAccepted, Refuses, ask_outcome}
-use Rattle.vnode_core.specs.Refusals.{number_of}
-use Rattle.node_session.specs.PlainStep.{StepsBy, refusal_text}
+use Rattle.vnode_protocol.specs.declared.ask.Ask.{Ask}
+use Rattle.vnode_protocol.specs.declared.ask.Ask.TheVariants.{Put, Del, Reap, ReapFirst}
+use Rattle.vnode_protocol.specs.declared.refusal.Refusal.{Refusal}
+use Rattle.vnode_protocol.specs.declared.refusal.Refusal.TheVariants.{MatchFound, Modified, NotFound, BadContext, TooManySiblings, ClockFull, EpochsUsedUp, CounterUsedUp, NoMemory}
+use Rattle.vnode_protocol.specs.Plans.{IsAccepted, Refuses, ask_outcome}
+use Rattle.vnode_protocol.specs.Refusals.{number_of}
+use Rattle.sibling_register.specs.Refusals.{refusal_text}
+use Rattle.node_session.specs.PlainStep.{StepsBy}
 
 -- what the machine accepts may be refused memory
 gives_up : (state new : State Content) (o : StepOutcome) → IsAccepted o → new ≡ state → StepsBy state o (Error (refusal_text (number_of NoMemory))) new

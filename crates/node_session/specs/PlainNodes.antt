@@ -12,7 +12,7 @@ use Rattle.vnode_machine.specs.Machine.{State, opening}
 use Rattle.vnode_machine.specs.Step.{StepOutcome, outcome}
 use Rattle.vnode_machine.specs.Dead.{swept}
 use Rattle.vnode_machine.specs.Registers.{key_of}
-use Rattle.vnode_core.specs.Plans.{View}
+use Rattle.vnode_protocol.specs.Plans.{View}
 use Rattle.node_session.specs.PlainStep.{StepsBy, ask_of}
 
 -- how many bits number the partitions, how many dead keys a sweep forgets at most, and the state of the vnode of each

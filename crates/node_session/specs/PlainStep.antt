@@ -1,13 +1,12 @@
 -- What a vnode does for a node: what comes of the ask that a request makes, as a reply.
-use Rattle.std.specs.Prelude.{◌≡◌, ◌⊎◌, ◌==◌, if◌then◌else◌, ℕ, Option, Some, None, Result, Ok, Err}
+use Rattle.std.specs.Prelude.{◌≡◌, ◌⊎◌, ℕ, Option, Some, None, Result, Ok, Err}
 use Rattle.riak_msgs.specs.Contents.{Content}
-use Rattle.riak_msgs.specs.declared.Text.{Text}
 use Rattle.riak_msgs.specs.declared.Text.TheVariants as texts
 use Rattle.riak_msgs.specs.declared.Request.{Request}
 use Rattle.riak_msgs.specs.declared.Request.TheVariants as requests
 use Rattle.riak_msgs.specs.declared.Reply.{Reply}
 use Rattle.riak_msgs.specs.declared.Reply.TheVariants as replies
-use Rattle.sibling_register.specs.Refusals.{match_found, modified, not_found, bad_context, too_many_siblings, clock_full, epochs_used_up, counter_used_up}
+use Rattle.sibling_register.specs.Refusals.{refusal_text}
 use Rattle.sibling_register.specs.Answers.{Ask, AskGet, AskPut, AskDel}
 use Rattle.actor_epoch.specs.Given.{Context}
 use Rattle.vnode_machine.specs.Machine.{State}
@@ -20,19 +19,6 @@ ask_of requests.Ping = None
 ask_of (requests.Get get) = Some (AskGet (get_command get))
 ask_of (requests.Put put) = Some (AskPut (put_command put))
 ask_of (requests.Del del) = Some (AskDel (del_command del))
-
--- the text of the error for a refusal, by its number
-abbrev pub refusal_text : ℕ → Text
-refusal_text number =
-    if number == match_found then texts.MatchFound
-    else if number == modified then texts.Modified
-    else if number == not_found then texts.NotFound
-    else if number == bad_context then texts.BadContext
-    else if number == too_many_siblings then texts.TooManySiblings
-    else if number == clock_full then texts.ClockFull
-    else if number == epochs_used_up then texts.EpochsUsedUp
-    else if number == counter_used_up then texts.CounterUsedUp
-    else texts.NoMemory
 
 -- the reply for a response; that to a reap, which no request asks for, is that to a delete
 abbrev pub response_reply : Response → Reply

@@ -44,4 +44,4 @@ pub use node::Node;
 pub use plain_node::{NodeFault, PlainNode};
 pub use report::{exit_status, write_fault};
 pub use session::serve;
-pub use vnode_reply::{answer_reply, refusal_text};
+pub use vnode_reply::answer_reply;

@@ -5,32 +5,14 @@ ghost use Rattle.sibling_register.specs.Answers.{AskGet};
 ghost use Rattle.vnode_machine.specs.Asks.{get_command};
 ghost use Rattle.vnode_machine.specs.Dead.{swept};
 ghost use Rattle.vnode_machine.specs.Step.{outcome};
-ghost use Rattle.vnode_core.specs.Plans.{ask_outcome, response_of};
-ghost use Rattle.vnode_core.specs.Refusals.{number_of};
-ghost use Rattle.node_session.specs.PlainStep.{refusal_text, response_reply, StepsBy};
+ghost use Rattle.vnode_protocol.specs.Plans.{ask_outcome, response_of};
+ghost use Rattle.node_session.specs.PlainStep.{response_reply, StepsBy};
 ghost use Rattle.node_session.specs.PlainNodes.{AnswersAndSweeps};
 
 use riak_msgs::{GetAsk, Reply, Text};
 use std::alloc::Global;
 use tomb_reaper::sweep;
-use vnode_core::{Answer, Ask, Plan, Reaped, Refusal, Vnode};
-
-/// The text of the error reply for a refusal: each refusal has one of its own. It takes no memory.
-pub fn refusal_text(refusal: Refusal) -> Text
-    ensures { result ≡ refusal_text (number_of refusal) }
-{
-    match refusal {
-        Refusal::MatchFound => Text::MatchFound,
-        Refusal::Modified => Text::Modified,
-        Refusal::NotFound => Text::NotFound,
-        Refusal::BadContext => Text::BadContext,
-        Refusal::TooManySiblings => Text::TooManySiblings,
-        Refusal::ClockFull => Text::ClockFull,
-        Refusal::EpochsUsedUp => Text::EpochsUsedUp,
-        Refusal::CounterUsedUp => Text::CounterUsedUp,
-        Refusal::NoMemory => Text::NoMemory,
-    }
-}
+use vnode_core::{Answer, Ask, Plan, Reaped, Vnode};
 
 /// The reply for a vnode's answer to a change. No request asks for a reap, and one is replied to as a delete is. It takes
 /// no memory.
@@ -51,7 +33,7 @@ fn answer_get(vnode: &Vnode, alloc: Global, ask: &GetAsk) -> Reply
 {
     match vnode.get(alloc, ask) {
         Ok(reply) => Reply::Get(reply),
-        Err(refusal) => Reply::Error(refusal_text(refusal)),
+        Err(refusal) => Reply::Error(Text::from(refusal)),
     }
 }
 
@@ -62,7 +44,7 @@ fn answer_change(vnode: &mut Vnode, alloc: Global, ask: Ask) -> Reply
     match vnode.prepare(alloc, ask) {
         Ok(Plan::Change(change)) => answer_reply(vnode.finish(change)),
         Ok(Plan::Nothing(answer)) => answer_reply(answer),
-        Err(refusal) => Reply::Error(refusal_text(refusal)),
+        Err(refusal) => Reply::Error(Text::from(refusal)),
     }
 }
 

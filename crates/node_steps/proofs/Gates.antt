@@ -8,8 +8,8 @@ use Rattle.actor_epoch.specs.Given.{Context}
 use Rattle.vnode_machine.specs.Machine.{State, opening}
 use Rattle.vnode_machine.specs.Replay.{History}
 use Rattle.rw_gate.specs.Machines.{MachineRun}
-use Rattle.vnode_core.specs.declared.event.Event.{Event}
-use Rattle.vnode_core.specs.Events.{Makes, event_command, event_deed, event_response, register_event, history_after}
+use Rattle.vnode_protocol.specs.declared.event.Event.{Event}
+use Rattle.vnode_protocol.specs.Events.{Makes, event_command, event_deed, event_response, register_event, history_after}
 use Rattle.node_steps.specs.World.{Word, Open, Taken, Plan, Phase, Idle, Asked, Holding, Done, Vnode, Worker, World, fresh_vnode, fresh_worker, id_of, opening_vnodes, prefix_of, history_at}
 use Rattle.node_steps.specs.Steps.{Action, Asks, Takes, Looks, Publishes, Puts, Step, Outcome, Turn, looks_by, turn_of, site_of, turned, happens, after}
 use Rattle.node_steps.specs.Schedules.{Start, world_after}
@@ -53,15 +53,15 @@ module _ (start : Start) (index id : ℕ) where
   vnode_with word history place = record { id = id; word = word; history = history; place = place }
 
   -- after a schedule the first worker is idle, and the vnode is this
-  abbrev Stands : History → State Content → Type 0
-  Stands history state = (schedule : List Step) × IsThere (world_after start schedule) index Idle (vnode_with (Open 0 false) history state)
+  abbrev IsReachable : History → State Content → Type 0
+  IsReachable history state = (schedule : List Step) × IsThere (world_after start schedule) index Idle (vnode_with (Open 0 false) history state)
 
   abbrev plan_of_event : Event → State Content → Plan
   plan_of_event event next = record { operation = event_deed event; response = event_response event; next = next }
 
   -- one event more
-  one_event : (history : History) (state next : State Content) (event : Event) → Makes state event next → Stands history state
-      → Stands (register_event id 0 history event ∷ history) next
+  one_event : (history : History) (state next : State Content) (event : Event) → Makes state event next → IsReachable history state
+      → IsReachable (register_event id 0 history event ∷ history) next
   one_event history state next event makes (schedule, there) =
       let ask : Ask Content Context = event_command event in
       let plan : Plan = plan_of_event event next in
@@ -83,7 +83,7 @@ module _ (start : Start) (index id : ℕ) where
       (λ seen. (_, refl, refl, refl)) published in
       (step_of_first Puts ∷ step_of_first Publishes ∷ step_of_first Looks ∷ step_of_first Takes ∷ step_of_first (Asks index ask) ∷ schedule, laid)
 
-  all_events : (events : List Event) (history : History) (state last : State Content) → MachineRun Makes state events last → Stands history state
+  all_events : (events : List Event) (history : History) (state last : State Content) → MachineRun Makes state events last → IsReachable history state
       → (schedule : List Step) × (history_at (world_after start schedule) index ≡ history_after id 0 history events)
   all_events [] history state last run (schedule, there) = (schedule, ap (λ o. option_map_or (λ (v : Vnode). v.history) o []) there.3)
   all_events (event ∷ events) history state last (next, makes, run) stands =

@@ -6,8 +6,8 @@ use Rattle.vnode_machine.specs.Asks.{get_command}
 use Rattle.vnode_machine.specs.Machine.{State}
 use Rattle.vnode_machine.specs.Replies.{get_reply}
 use Rattle.vnode_machine.specs.Step.{GetDone, StepOutcome, Refused, Answered, Accepted}
-use Rattle.vnode_core.specs.declared.ask.Ask.{Ask}
-use Rattle.vnode_core.specs.Plans.{ask_outcome, IsPrepared}
+use Rattle.vnode_protocol.specs.declared.ask.Ask.{Ask}
+use Rattle.vnode_protocol.specs.Plans.{ask_outcome, IsPrepared}
 use Rattle.node_steps.specs.declared.hand.Hand.TheInside.{Inside}
 use Rattle.node_steps.specs.declared.outcome.Outcome.{Outcome as Returned}
 use Rattle.node_steps.specs.World.{Plan}

@@ -1,26 +1,11 @@
 -- What a running step returns for what comes of it.
-use Rattle.std.specs.Prelude.{◌==◌, if◌then◌else◌, ℕ, Result, Ok, Err}
-use Rattle.riak_msgs.specs.declared.Text.{Text}
-use Rattle.riak_msgs.specs.declared.Text.TheVariants as texts
+use Rattle.std.specs.Prelude.{ℕ, Result, Ok, Err}
 use Rattle.riak_msgs.specs.declared.Reply.TheVariants as replies
-use Rattle.sibling_register.specs.Refusals.{match_found, modified, not_found, bad_context, too_many_siblings, clock_full, epochs_used_up, counter_used_up}
+use Rattle.sibling_register.specs.Refusals.{refusal_text}
 use Rattle.vnode_machine.specs.Step.{Response, GetDone, PutDone, DelDone, ReapDone, ReapKept}
 use Rattle.node_steps.specs.declared.outcome.Outcome.{Outcome as Returned}
 use Rattle.node_steps.specs.declared.outcome.Outcome.TheVariants as outcomes
 use Rattle.node_steps.specs.Steps.{Outcome, NotPossible, Happened, Replied}
-
--- the text of the error for a refusal, by its number
-abbrev pub refusal_text : ℕ → Text
-refusal_text number =
-    if number == match_found then texts.MatchFound
-    else if number == modified then texts.Modified
-    else if number == not_found then texts.NotFound
-    else if number == bad_context then texts.BadContext
-    else if number == too_many_siblings then texts.TooManySiblings
-    else if number == clock_full then texts.ClockFull
-    else if number == epochs_used_up then texts.EpochsUsedUp
-    else if number == counter_used_up then texts.CounterUsedUp
-    else texts.NoMemory
 
 abbrev pub returned_response : Response → Returned
 returned_response (GetDone reply) = outcomes.Reply (replies.Get reply)

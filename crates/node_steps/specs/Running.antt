@@ -4,8 +4,8 @@ use Rattle.riak_msgs.specs.Contents.{Content}
 use Rattle.sibling_register.specs.Answers.{Ask, AskGet, AskPut, AskDel, AskReap}
 use Rattle.actor_epoch.specs.Given.{Context}
 use Rattle.vnode_machine.specs.Asks.{get_command, put_command, del_command}
-use Rattle.vnode_core.specs.declared.ask.Ask.{Ask as Change}
-use Rattle.vnode_core.specs.declared.ask.Ask.TheVariants as changes
+use Rattle.vnode_protocol.specs.declared.ask.Ask.{Ask as Change}
+use Rattle.vnode_protocol.specs.declared.ask.Ask.TheVariants as changes
 use Rattle.node_steps.specs.declared.call.Call.{Call}
 use Rattle.node_steps.specs.declared.call.Call.TheVariants as calls
 use Rattle.node_steps.specs.declared.outcome.Outcome.{Outcome as Returned}

@@ -3,14 +3,14 @@
 ghost use Rattle.std.specs.Prelude.{◌≡◌, ◌≤◌, ◌-◌, None, IfOk, IfErr, is_some};
 ghost use Rattle.vnode_machine.specs.Machine.{opening};
 ghost use Rattle.vnode_machine.specs.Step.{outcome};
-ghost use Rattle.vnode_core.specs.Plans.{ask_outcome};
+ghost use Rattle.vnode_protocol.specs.Plans.{ask_outcome};
 ghost use Rattle.node_steps.specs.Hands.{ShowsBy, PlansBy, PublishesPlan};
 ghost use Rattle.node_steps.specs.Running.{ask_of};
 
 use crate::call::Call;
 use crate::fault::StepFault;
-use crate::outcome::{Outcome, answered, refusal_text};
-use riak_msgs::{GetAsk, Reply};
+use crate::outcome::{Outcome, answered};
+use riak_msgs::{GetAsk, Reply, Text};
 use std::alloc::Global;
 use std::marker::Model;
 use vnode_core::{Ask, Change, Plan, Refusal, Vnode};
@@ -108,7 +108,7 @@ impl Hand {
             }
             Ok(Plan::Nothing(answer)) => Ok(Some(answered(answer))),
             Err(Refusal::NoMemory) => Err(StepFault::NoMemory),
-            Err(refusal) => Ok(Some(Outcome::Reply(Reply::Error(refusal_text(refusal))))),
+            Err(refusal) => Ok(Some(Outcome::Reply(Reply::Error(Text::from(refusal))))),
         }
     }
 

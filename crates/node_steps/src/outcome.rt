@@ -1,12 +1,11 @@
 //! The outcome of a step.
 
 ghost use Rattle.std.specs.Prelude.{◌≡◌, Ok};
-ghost use Rattle.vnode_core.specs.Plans.{response_of};
-ghost use Rattle.vnode_core.specs.Refusals.{number_of};
-ghost use Rattle.node_steps.specs.Returned.{refusal_text, returned_response};
+ghost use Rattle.vnode_protocol.specs.Plans.{response_of};
+ghost use Rattle.node_steps.specs.Returned.{returned_response};
 
-use riak_msgs::{Reply, Text};
-use vnode_core::{Answer, Reaped, Refusal};
+use riak_msgs::Reply;
+use vnode_core::{Answer, Reaped};
 
 /// The outcome of a step.
 #[derive(Debug, Drop)]
@@ -21,23 +20,6 @@ pub enum Outcome {
     Reaped,
     /// It answered the worker's reap: the key isn't dead, and stays as it is.
     Kept,
-}
-
-/// The text of the error for a refusal.
-pub(crate) fn refusal_text(refusal: Refusal) -> Text
-    ensures { result ≡ refusal_text (number_of refusal) }
-{
-    match refusal {
-        Refusal::MatchFound => Text::MatchFound,
-        Refusal::Modified => Text::Modified,
-        Refusal::NotFound => Text::NotFound,
-        Refusal::BadContext => Text::BadContext,
-        Refusal::TooManySiblings => Text::TooManySiblings,
-        Refusal::ClockFull => Text::ClockFull,
-        Refusal::EpochsUsedUp => Text::EpochsUsedUp,
-        Refusal::CounterUsedUp => Text::CounterUsedUp,
-        Refusal::NoMemory => Text::NoMemory,
-    }
 }
 
 /// What a worker is returned for an answer of its vnode.

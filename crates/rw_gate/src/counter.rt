@@ -44,7 +44,7 @@ impl Kept for Counter {
 
     ghost asks = { λ e ask. e.by ≡ ask };
 
-    ghost tells = { λ e reply. e.to ≡ reply };
+    ghost answered_by = { λ e reply. e.to ≡ reply };
 
     ghost event = { λ c. c };
 

@@ -48,7 +48,7 @@ pub trait Kept: Drop {
     // What an event asks, and what it answers. Asks that differ in what they own alone, as in spare room, may be one event's.
     ghost asks: { Self.Event → Self.Ask → Type 0 };
 
-    ghost tells: { Self.Event → Self.Reply → Type 0 };
+    ghost answered_by: { Self.Event → Self.Reply → Type 0 };
     // The event that a change makes.
     ghost event: { Self.Change → Self.Event };
     // The change was prepared from this value.
@@ -69,7 +69,7 @@ pub trait Kept: Drop {
     /// Makes the change that was prepared from this value, with no call between, and answers the reply of its event. It takes no memory.
     fn apply(&mut self, change: Self::Change) -> Self::Reply
         requires { ready self.old change }
-        ensures reply { tells (event change) result }
+        ensures reply { answered_by (event change) result }
         ensures moved { accepts (content self.old) (event change) (content self.new) };
 
     // The machine accepts what was prepared. It is a law, since an event is in the history before the change is applied.

@@ -123,7 +123,7 @@ impl<'a, S: Kept> WriteRight<'a, S> {
         ensures gate { pass.new.gate ≡ pass.old.gate }
         ensures event { OnOk result (
             GoesOnBy S.content S.accepts (S.event change) self.old self.new) }
-        ensures reply { IfOk result (S.tells (S.event change)) }
+        ensures reply { IfOk result (S.answered_by (S.event change)) }
         ensures state { IsReplayed S.content S.accepts self.new }
         ensures before { OnOk result (IsPrefix pass.old.prefix self.old.history) }
         ensures seen { OnOk result (pass.new.prefix ≡ self.new.history) }

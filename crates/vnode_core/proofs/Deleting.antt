@@ -2,11 +2,9 @@
 use Rattle.std.proofs.Common.{◌≡◌, ℕ, Bool, true, false, not, ◌&&◌, cond, List, [], ◌∷◌, refl, sym, ◌∙◌, ap, subst}
 use Rattle.std.specs.Prelude.{◌≤◌, ◌<◌, nat_le, nat_lt, ◌^◌, Result, Ok, Err, Option, Some, None, is_none, length, option_map, IsTrue}
 use Rattle.std.specs.List.{list_all}
-use Rattle.std.specs.FinMap.Entries.{find}
 use Rattle.riak_msgs.specs.declared.Key.{Key}
 use Rattle.riak_msgs.specs.Contents.{Content}
 use Rattle.riak_msgs.specs.declared.DelAsk.{DelAsk}
-use Rattle.riak_msgs.specs.KeyOrder.{key_cmp}
 use Rattle.sibling_register.specs.History.{Tombstone}
 use Rattle.sibling_register.specs.Answers.{AskDel}
 use Rattle.actor_epoch.specs.declared.Actor.{Actor}
@@ -22,20 +20,21 @@ use Rattle.vnode_machine.specs.Asks.{del_command}
 use Rattle.vnode_machine.specs.Machine.{State, Stored, is_held, clock_of, actor_for, del_pairs, update_check, updated, apply_operation}
 use Rattle.vnode_machine.specs.Step.{StepOutcome, Refused, Answered, Accepted, DelDone, del_step, unless_refused}
 use Rattle.vnode_machine.proofs.Forms.{IsForm, IsFormed}
-use Rattle.vnode_machine.proofs.Keys.{find_stored, key_eq-refl}
 use Rattle.vnode_machine.proofs.Seen.{form-within}
 use Rattle.vnode_machine.proofs.Tests.{and_left, and_right, and_both}
-use Rattle.vnode_core.specs.declared.ask.Ask.TheVariants.{Del}
-use Rattle.vnode_core.specs.declared.ask.Answer.{Answer}
-use Rattle.vnode_core.specs.declared.ask.Answer.TheVariants as answers
-use Rattle.vnode_core.specs.declared.ready.Writer.{Writer}
-use Rattle.vnode_core.specs.declared.refusal.Refusal.{Refusal}
-use Rattle.vnode_core.specs.declared.refusal.Refusal.TheVariants.{NoMemory}
-use Rattle.vnode_core.specs.Plans.{Steps, Refuses, ask_outcome}
-use Rattle.vnode_core.specs.Refusals.{RefusedBy}
+use Rattle.vnode_protocol.specs.declared.ask.Ask.TheVariants.{Del}
+use Rattle.vnode_protocol.specs.declared.ask.Answer.{Answer}
+use Rattle.vnode_protocol.specs.declared.ask.Answer.TheVariants as answers
+use Rattle.vnode_replies.specs.declared.checks.Writer.{Writer}
+use Rattle.vnode_protocol.specs.declared.refusal.Refusal.{Refusal}
+use Rattle.vnode_protocol.specs.declared.refusal.Refusal.TheVariants.{NoMemory}
+use Rattle.vnode_protocol.specs.Plans.{Steps, Refuses, ask_outcome, IsReached}
+use Rattle.vnode_protocol.specs.Refusals.{RefusedBy}
 use Rattle.clock_store.specs.Keys.{deleted}
-use Rattle.vnode_core.specs.Vnodes.{IsReached, DelGives, DelOfAllGives, state_after, writer_of}
-use Rattle.vnode_core.proofs.Reached.{formed, rising-at, within-at, reached-next}
+use Rattle.vnode_core.specs.Vnodes.{DelGives, DelOfAllGives, state_after}
+use Rattle.vnode_replies.specs.Checks.{writer_of}
+use Rattle.vnode_core.proofs.Putting.{find-next}
+use Rattle.vnode_protocol.proofs.Reached.{formed, known-at, reached-next}
 
 -- a delete of a key by what was given as its context
 abbrev step_by : State Content → Key → Option Context → StepOutcome
@@ -124,15 +123,13 @@ module _ (state : State Content) (is : IsReached state) (del : DelAsk) (answer :
   -- what is stored next is of the form
   form-del : IsForm (next_by (context_of del.context))
   form-del =
-      subst IsFormed
-      (find_stored del.key del.key (next_by (context_of del.context)) state.keys
-      ∙ ap (λ b. cond b (Some (next_by (context_of del.context))) (find key_cmp del.key state.keys)) (key_eq-refl del.key))
+      subst IsFormed (find-next del.key (next_by (context_of del.context)) state.keys)
       (formed (state_after state (Del del)) (reached-next state is (AskDel (del_command del)) _ _ (state_after state (Del del)) step) del.key)
 
   of-all : IsForm (next_by None) → IsWithin clock.known None own
   of-all form =
-      let within = form-within own None clock (Some clock.known) (rising-at state is del.key) form in
-      let known = union-itself clock.known (rising-at state is del.key) (positive clock.known (within-at state is del.key)) in
+      let within = form-within own None clock (Some clock.known) (known-at state is del.key).rising form in
+      let known = union-itself clock.known (known-at state is del.key).rising (positive clock.known (known-at state is del.key).within) in
       record {
         few = subst (λ (ps : List Dot). length (known_after own ps) ≤ max_actors) known within.few;
         counter = subst (λ (ps : List Dot). counter_in ps own < max_counter) known within.counter;
@@ -141,4 +138,4 @@ module _ (state : State Content) (is : IsReached state) (del : DelAsk) (answer :
   -- so it is within the limits of its clock
   pub within-del : (seen : Option (List Dot)) → context_of del.context ≡ option_map Pairs seen → IsWithin clock.known seen own
   within-del None reads = of-all (subst (λ g. IsForm (next_by g)) reads form-del)
-  within-del (Some pairs) reads = form-within own None clock (Some pairs) (rising-at state is del.key) (subst (λ g. IsForm (next_by g)) reads form-del)
+  within-del (Some pairs) reads = form-within own None clock (Some pairs) (known-at state is del.key).rising (subst (λ g. IsForm (next_by g)) reads form-del)

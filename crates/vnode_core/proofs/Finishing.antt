@@ -9,20 +9,22 @@ use Rattle.actor_epoch.specs.Given.{Pairs, context_of, pairs_read}
 use Rattle.vnode_machine.specs.Machine.{State, actor_for}
 use Rattle.sibling_register.specs.History.{Operation}
 use Rattle.vnode_machine.specs.Step.{Response, StepOutcome, Accepted}
-use Rattle.vnode_core.specs.declared.ask.Ask.{Ask}
-use Rattle.vnode_core.specs.declared.ask.Ask.TheVariants.{Put, Del, Reap, ReapFirst}
-use Rattle.vnode_core.specs.declared.ask.Answer.{Answer}
+use Rattle.vnode_protocol.specs.declared.ask.Ask.{Ask}
+use Rattle.vnode_protocol.specs.declared.ask.Ask.TheVariants.{Put, Del, Reap, ReapFirst}
+use Rattle.vnode_protocol.specs.declared.ask.Answer.{Answer}
 use Rattle.vnode_core.specs.declared.ready.Ready.{Ready}
-use Rattle.vnode_core.specs.Plans.{View, AcceptsPrepared, IsAccepted, IsWrite, ask_outcome, RegistersAsk, Steps, operation_of, response_of}
+use Rattle.vnode_protocol.specs.Plans.{View, AcceptsPrepared, IsAccepted, IsWrite, ask_outcome, RegistersAsk, Steps, operation_of, response_of, IsReached}
 use Rattle.vnode_machine.specs.Asks.{put_command}
 use Rattle.vnode_machine.specs.Replies.{put_reply}
 use Rattle.clock_store.specs.declared.store.WriteKind.TheVariants.{Value}
 use Rattle.clock_store.specs.Contents.{Contents, HasRoom}
-use Rattle.vnode_core.specs.declared.ask.Answer.TheVariants as answers
-use Rattle.vnode_core.specs.declared.ready.Writer.{Writer}
+use Rattle.vnode_protocol.specs.declared.ask.Answer.TheVariants as answers
+use Rattle.vnode_replies.specs.declared.checks.Writer.{Writer}
 use Rattle.clock_store.specs.Keys.{Keys}
-use Rattle.vnode_core.specs.Vnodes.{IsReached, IsReady, IsReadyFor, IsVnode, state_of, view_of, key_in, writer_of, written_by, state_after, writes_after, tombstones_after, Fields, fields, PutGives}
-use Rattle.vnode_core.proofs.Reached.{registers-ask, reached-after, written-put, steps-put}
+use Rattle.vnode_core.specs.Vnodes.{IsReady, IsReadyFor, IsVnode, state_of, view_of, key_in, written_by, state_after, writes_after, tombstones_after, Fields, fields, PutGives}
+use Rattle.vnode_replies.specs.Checks.{writer_of}
+use Rattle.vnode_protocol.proofs.Reached.{registers-ask, reached-after}
+use Rattle.vnode_core.proofs.Putting.{written-put, steps-put}
 use Rattle.vnode_core.proofs.Deleting.{written-del, not-malformed}
 
 pub record IsFinished (state : State Content) (ask : Ask) (answer : Answer) (after : State Content) : Type 0 where
@@ -45,7 +47,7 @@ module _ (v : Fields) (is : IsReached (state_of v)) (ask : Ask) (write : IsWrite
       by : (ask : Ask) (write : IsWrite ask) → epochs ≡ (writer_of (state_of v) (key_in ask write)).last_epoch → writes ≡ writes_after v.writes ask → tombstones ≡ tombstones_after v.tombstones ask
           → keys ≡ written_by v.store.keys ask (actor_for (state_of v) (key_in ask write)) → (answer : Answer) → Steps (state_of v) ask answer (state_after (state_of v) ask)
           → after epochs writes tombstones keys ≡ state_after (state_of v) ask
-      by (Put put) write e n m k answer step = λ i. after (e i) (n i) (m i) ((k ∙ written-put (state_of v) is put (pairs_read (context_of put.context)) refl) i)
+      by (Put put) write e n m k answer step = λ i. after (e i) (n i) (m i) ((k ∙ written-put (state_of v) is put) i)
       by (Del del) write e n m k answer step =
           λ i. after (e i) (n i) (m i) ((k ∙ written-del (state_of v) del.key (context_of del.context) (not-malformed (state_of v) del answer _ step)) i)
       by (Reap key) write e n m k answer step = absurd write

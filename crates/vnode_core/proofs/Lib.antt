@@ -1,10 +1,4 @@
 pub mod Deleting
 pub mod Finishing
-pub mod Previews
 pub mod Putting
-pub mod Reached
 pub mod Reaping
-pub mod Registers
-pub mod Rooms
-pub mod Showing
-pub mod Events

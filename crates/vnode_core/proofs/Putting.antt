@@ -1,142 +1,96 @@
--- The checks of a put, by what was found of its key.
-use Rattle.std.proofs.Common.{◌≡◌, ℕ, Bool, true, false, not, ◌||◌, ◌&&◌, List, [], ◌∷◌, refl, sym, ◌∙◌, ap, subst}
-use Rattle.std.specs.Prelude.{Result, Option, Some, None, nat_lt, ◌==◌, is_some, option_map, option_and_then}
-use Rattle.std.specs.Option.{option_map_or}
-use Rattle.std.specs.List.{list_any}
+-- A put that the machine accepts: what it writes, and what it is answered.
+use Rattle.std.proofs.Common.{◌≡◌, true, cond, refl, sym, ◌∙◌, ap, subst}
+use Rattle.std.specs.Prelude.{List, Option, Some, None, option_map}
+use Rattle.std.specs.FinMap.Entries.{find, put as insert_key}
 use Rattle.riak_msgs.specs.declared.Key.{Key}
 use Rattle.riak_msgs.specs.Contents.{Content}
 use Rattle.riak_msgs.specs.declared.PutAsk.{PutAsk}
-use Rattle.sibling_register.specs.Refusals.{bad_context, match_found, modified, not_found, first_of}
+use Rattle.riak_msgs.specs.KeyOrder.{key_cmp}
+use Rattle.sibling_register.specs.History.{Write}
+use Rattle.sibling_register.specs.Answers.{AskPut}
 use Rattle.actor_epoch.specs.declared.Actor.{Actor}
 use Rattle.actor_epoch.specs.declared.Dot.{Dot}
-use Rattle.actor_epoch.specs.Dots.{actor_eq, counter_in}
-use Rattle.actor_epoch.specs.Given.{Context, Pairs, context_of}
+use Rattle.actor_epoch.specs.Contexts.{is_well_formed}
+use Rattle.actor_epoch.specs.Given.{Context, Malformed, Pairs, context_of, pairs_read}
+use Rattle.dvv_set.specs.Clocks.{DotState, discard, event}
+use Rattle.dvv_set.specs.Held.{IsWithin, known_after, known_with, without}
 use Rattle.vnode_machine.specs.Asks.{put_command}
-use Rattle.vnode_machine.specs.Machine.{State, Stored, stored, is_bad_context, has_value, matches_clock, own_of, clock_of, put_check, update_check, pairs_of, room_checks, same_pairs}
-use Rattle.vnode_core.specs.declared.refusal.Refusal.{Refusal}
-use Rattle.vnode_core.specs.declared.refusal.Refusal.TheVariants.{NoMemory}
-use Rattle.vnode_core.specs.Checks.{pairs_in, AreRead, is_ahead, last_dot, has_value_in, is_current_in, options_check}
-use Rattle.vnode_core.specs.Refusals.{RefusedBy, GivenBy}
+use Rattle.vnode_machine.specs.Machine.{State, Stored, stored, clock_of, actor_for, pairs_of, put_check, apply_operation, updated}
+use Rattle.vnode_machine.specs.Step.{Accepted, PutDone, outcome, unless_refused}
+use Rattle.vnode_machine.specs.Replies.{put_reply}
+use Rattle.vnode_machine.proofs.Forms.{IsForm, IsFormed, form-whole}
 use Rattle.vnode_machine.proofs.Invariants.{clock_in}
-use Rattle.vnode_core.proofs.Reached.{pairs-given}
+use Rattle.vnode_machine.proofs.Keys.{find_stored, key_eq-refl}
+use Rattle.vnode_machine.proofs.Seen.{form-within, without-pairs}
+use Rattle.clock_store.specs.Keys.{Keys, written}
+use Rattle.vnode_protocol.specs.Plans.{IsReached}
+use Rattle.vnode_protocol.proofs.Reached.{formed, known-at, reached-next}
+use Rattle.vnode_replies.specs.Checks.{pairs_in}
+use Rattle.vnode_replies.specs.Replies.{reply_after}
+use Rattle.vnode_replies.proofs.Options.{pairs-given}
+use Rattle.vnode_replies.proofs.Previews.{known-event}
 
--- what one check refuses another does
-refused-map : (check other : Option ℕ) → ((n : ℕ) → check ≡ Some n → other ≡ Some n) → (refusal : Refusal) → RefusedBy refusal check → RefusedBy refusal other
-refused-map check other f NoMemory h = absurd h
-refused-map check other f refusal h = f _ h
+-- what is stored of a key is found
+pub find-next : (key : Key) (s : Stored Content) (keys : Keys) → find key_cmp key (insert_key key_cmp key s keys) ≡ Some s
+find-next key s keys = find_stored key key s keys ∙ ap (λ b. cond b (Some s) (find key_cmp key keys)) (key_eq-refl key)
 
-first-some : (a b c : Bool) (i j k : ℕ) (rest : List (Bool × ℕ)) (n : ℕ) → first_of ((a, i) ∷ (b, j) ∷ (c, k) ∷ []) ≡ Some n → first_of ((a, i) ∷ (b, j) ∷ (c, k) ∷ rest) ≡ Some n
-first-some true b c i j k rest n h = h
-first-some false true c i j k rest n h = h
-first-some false false true i j k rest n h = h
-first-some false false false i j k rest n h = cc
+pairs-read : (given : Option Context) → pairs_of given ≡ pairs_in (pairs_read given)
+pairs-read None = refl
+pairs-read (Some Malformed) = refl
+pairs-read (Some (Pairs pairs)) = refl
 
-first-none : (a b c : Bool) (i j k : ℕ) (rest : List (Bool × ℕ)) → first_of ((a, i) ∷ (b, j) ∷ (c, k) ∷ []) ≡ None → first_of ((a, i) ∷ (b, j) ∷ (c, k) ∷ rest) ≡ first_of rest
-first-none true b c i j k rest h = cc
-first-none false true c i j k rest h = cc
-first-none false false true i j k rest h = cc
-first-none false false false i j k rest h = refl
+-- a put is written as the machine has it
+pub written-put : (state : State Content) → IsReached state → (put : PutAsk)
+    → written state.keys put.key (pairs_read (context_of put.context)) (actor_for state put.key) (Some put.content) ≡ updated state put.key (pairs_of (context_of put.context)) (Some put.content)
+written-put state is put =
+    let own : Actor = actor_for state put.key in
+    let clock : DotState (Option Content) = clock_of state put.key in
+    ap (λ (m : DotState (Option Content)). insert_key key_cmp put.key (let s : Stored Content = record { own = Some own; clock = event own (Some put.content) m } in s) state.keys)
+    (without-pairs (pairs_read (context_of put.context)) clock (known-at state is put.key).rising ∙ ap (λ ps. discard ps clock) (sym (pairs-read (context_of put.context))))
 
-ahead-same : (vnode last_epoch : ℕ) (own : Option Actor) (known pairs : List Dot)
-    → list_any (is_ahead vnode last_epoch (option_map (λ (own : Actor). (let d : Dot = record { actor = own; counter = counter_in known own } in d)) own)) pairs
-    ≡ list_any (λ (pair : Dot). ((pair.actor.vnode == vnode) && nat_lt last_epoch pair.actor.epoch)
-    || option_map_or (λ own. actor_eq pair.actor own && nat_lt (counter_in known own) pair.counter) own false) pairs
-ahead-same vnode last_epoch None known pairs = refl
-ahead-same vnode last_epoch (Some own) known pairs = refl
+-- a put that the machine accepts
+module _ (state : State Content) (is : IsReached state) (put : PutAsk) (accepted : put_check state (put_command put) ≡ None) where
+  abbrev next : State Content
+  next = apply_operation state put.key (context_of put.context) (Write put.content)
 
--- the last dot of a key that was found
-last-found : (o : Option (Stored Content))
-    → last_dot o ≡ option_map (λ (own : Actor). (let d : Dot = record { actor = own; counter = counter_in (clock_in o).known own } in d)) (option_and_then (λ (s : Stored Content). s.own) o)
-last-found None = refl
-last-found (Some s) = refl
+  pub steps-put : outcome state (AskPut (put_command put)) ≡ Accepted (Write put.content) (PutDone (put_reply next (put_command put))) next
+  steps-put = ap (λ check. unless_refused check (Accepted (Write put.content) (PutDone (put_reply next (put_command put))) next)) accepted
 
--- a context that was read, and what was found of its key
-module _ (state : State Content) (key : Key) (given : Option Context) (seen : Option (List Dot)) (reads : given ≡ option_map Pairs seen) (read : AreRead seen)
-    (o : Option (Stored Content)) (found : o ≡ stored state key) where
-  abbrev last : Option Dot
-  last = last_dot o
+  abbrev own : Actor
+  own = actor_for state put.key
 
-  last-is : last ≡ option_map (λ (own : Actor). (let d : Dot = record { actor = own; counter = counter_in (clock_of state key).known own } in d)) (own_of state key)
-  last-is = ap last_dot found ∙ last-found (stored state key)
+  abbrev clock : DotState (Option Content)
+  clock = clock_of state put.key
 
-  pub bad-is : is_bad_context state key given ≡ list_any (is_ahead state.vnode state.last_epoch last) (pairs_in seen)
-  bad-is = ap (is_bad_context state key) reads ∙ by seen read
-    where
-      by : (seen : Option (List Dot)) → AreRead seen → is_bad_context state key (option_map Pairs seen) ≡ list_any (is_ahead state.vnode state.last_epoch last) (pairs_in seen)
-      by None read = refl
-      by (Some pairs) read =
-          let runs = sym (ahead-same state.vnode state.last_epoch (own_of state key) (clock_of state key).known pairs)
-          ∙ ap (λ l. list_any (is_ahead state.vnode state.last_epoch l) pairs) (sym last-is) in
-          λ i. not (read i) || runs i
+  -- it is stored next
+  abbrev next_stored : Stored Content
+  next_stored = record { own = Some own; clock = event own (Some put.content) (discard (pairs_of (context_of put.context)) clock) }
 
-  -- a write or tombstone by a context that runs ahead, or doesn't
-  pub update-bad : list_any (is_ahead state.vnode state.last_epoch last) (pairs_in seen) ≡ true → (pairs : List Dot) → update_check state key given pairs ≡ Some bad_context
-  update-bad ahead pairs = ap (λ b. first_of ((b, bad_context) ∷ room_checks state key pairs)) (bad-is ∙ ahead)
+  stored-next : stored next put.key ≡ Some next_stored
+  stored-next = find-next put.key next_stored state.keys
 
-  pub update-follows : list_any (is_ahead state.vnode state.last_epoch last) (pairs_in seen) ≡ false → (pairs : List Dot)
-      → update_check state key given pairs ≡ first_of (room_checks state key pairs)
-  update-follows behind pairs = ap (λ b. first_of ((b, bad_context) ∷ room_checks state key pairs)) (bad-is ∙ behind)
+  -- in the form
+  form-put : IsForm next_stored
+  form-put = subst IsFormed stored-next (formed next (reached-next state is (AskPut (put_command put)) (Write put.content) (PutDone (put_reply next (put_command put))) next steps-put) put.key)
 
--- a key that was found, and a context that was read and doesn't run ahead
-module _ (state : State Content) (put : PutAsk) (seen : Option (List Dot)) (given : context_of put.context ≡ option_map Pairs seen) (read : AreRead seen)
-    (o : Option (Stored Content)) (found : o ≡ stored state put.key)
-    (behind : list_any (is_ahead state.vnode state.last_epoch (last_dot o)) (pairs_in seen) ≡ false) where
-  not-bad : is_bad_context state put.key (context_of put.context) ≡ false
-  not-bad = bad-is state put.key (context_of put.context) seen given read o found ∙ behind
+  -- so it is within the limits of its clock
+  pub within-put : (seen : Option (List Dot)) → context_of put.context ≡ option_map Pairs seen → IsWithin clock.known seen own
+  within-put seen given =
+      form-within own (Some put.content) clock seen (known-at state is put.key).rising
+      (subst (λ ps. IsForm (record { own = Some own; clock = event own (Some put.content) (discard ps clock) })) (ap pairs_of given ∙ pairs-given seen) form-put)
 
-  value-is : has_value_in o ≡ has_value state put.key
-  value-is = ap has_value_in found ∙ by (stored state put.key)
-    where
-      by : (o : Option (Stored Content)) → has_value_in o ≡ list_any (λ entry. is_some entry.1) (option_map_or (λ (s : Stored Content). s.clock) o (record { known = []; live = [] })).live
-      by None = refl
-      by (Some s) = refl
+  module _ (seen : Option (List Dot)) (given : context_of put.context ≡ option_map Pairs seen) where
+    after-is : event own (Some put.content) (without seen clock) ≡ next_stored.clock
+    after-is =
+        ap (λ (m : DotState (Option Content)). event own (Some put.content) m)
+        (without-pairs seen clock (known-at state is put.key).rising ∙ ap (λ ps. discard ps clock) (sym (ap pairs_of given ∙ pairs-given seen)))
 
-  current-is : is_current_in o seen ≡ matches_clock state put.key (context_of put.context)
-  current-is = ap (λ o. is_current_in o seen) found ∙ by seen ∙ ap (matches_clock state put.key) (sym given)
-    where
-      some : (o : Option (Stored Content)) (pairs : List Dot)
-          → is_current_in o (Some pairs) ≡ (is_some o && same_pairs pairs (option_map_or (λ (s : Stored Content). s.clock) o (record { known = []; live = [] })).known)
-      some None pairs = refl
-      some (Some s) pairs = refl
+    -- what is known next is of the form
+    pub form-after : is_well_formed (known_after own (known_with seen clock.known)) ≡ true
+    form-after = ap is_well_formed (sym (known-event own (Some put.content) seen clock) ∙ ap (λ (m : DotState (Option Content)). m.known) after-is) ∙ form-whole next_stored form-put
 
-      none : (o : Option (Stored Content)) → is_current_in o None ≡ false
-      none None = refl
-      none (Some s) = refl
-
-      by : (seen : Option (List Dot)) → is_current_in (stored state put.key) seen ≡ matches_clock state put.key (option_map Pairs seen)
-      by None = none (stored state put.key)
-      by (Some pairs) = some (stored state put.key) pairs
-
-  abbrev none_match : Bool
-  none_match = put.if_none_match && has_value_in o
-
-  abbrev not_present : Bool
-  not_present = (put.if_not_modified && not put.if_none_match) && not (has_value_in o)
-
-  abbrev not_current : Bool
-  not_current = (put.if_not_modified && not put.if_none_match) && not (is_current_in o seen)
-
-  abbrev rest : List (Bool × ℕ)
-  rest = room_checks state put.key (pairs_of (context_of put.context))
-
-  -- the options, then the room
-  check-is : put_check state (put_command put)
-      ≡ first_of ((none_match, match_found) ∷ (not_present, not_found) ∷ (not_current, modified) ∷ rest)
-  check-is =
-      let value = sym value-is in
-      let current = sym current-is in
-      λ i. first_of (
-      (not-bad i, bad_context)
-      ∷ (put.if_none_match && value i, match_found) ∷ ((put.if_not_modified && not put.if_none_match) && not (value i), not_found)
-      ∷ ((put.if_not_modified && not put.if_none_match) && not (current i), modified) ∷ rest)
-
-  pub options-refuse : (refusal : Refusal) → RefusedBy refusal (options_check put o seen) → RefusedBy refusal (put_check state (put_command put))
-  options-refuse refusal h = refused-map (options_check put o seen) (put_check state (put_command put)) (λ n e. check-is ∙ first-some none_match not_present not_current match_found not_found modified rest n e) refusal h
-
-  pub rooms-follow : options_check put o seen ≡ None → put_check state (put_command put) ≡ first_of (room_checks state put.key (pairs_in seen))
-  rooms-follow h = check-is ∙ first-none none_match not_present not_current match_found not_found modified rest h ∙ ap (λ ps. first_of (room_checks state put.key ps)) (ap pairs_of given ∙ pairs-given seen)
-
--- a free check lets a put be given the next one's result
-pub rooms-give : {X : Type 0} (state : State Content) (put : PutAsk) (check : Option ℕ) → put_check state (put_command put) ≡ check → (r : Result X Refusal) → GivenBy r check
-    → GivenBy r (put_check state (put_command put))
-rooms-give state put check is r h = subst (λ c. GivenBy r c) (sym is) h
+    -- and the reply shows it
+    pub reply-put : reply_after (event own (Some put.content) (without seen clock)) put ≡ put_reply next (put_command put)
+    reply-put =
+        ap (λ (m : DotState (Option Content)). reply_after m put) after-is
+        ∙ ap (λ o. reply_after (clock_in o) put) (sym stored-next)

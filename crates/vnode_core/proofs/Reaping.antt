@@ -19,21 +19,20 @@ use denote.Enum.Bare.{sameb}
 use Rattle.clock_store.specs.contracts.store.Reaped.{the_type}
 use Rattle.clock_store.specs.declared.store.Reaped.{Reaped}
 use Rattle.clock_store.specs.declared.store.Reaped.TheVariants.{Gone, Kept, Absent}
-use Rattle.vnode_core.specs.declared.ask.Ask.TheVariants.{ReapFirst}
-use Rattle.vnode_core.specs.Plans.{IsAccepted, Registers, ask_outcome, reap_response}
+use Rattle.vnode_protocol.specs.declared.ask.Ask.TheVariants.{ReapFirst}
+use Rattle.vnode_protocol.specs.Plans.{IsAccepted, Registers, ask_outcome, reap_response, IsReached}
 use Rattle.clock_store.specs.Forgetting.{holding, reap_result, after_reap, after_first_reap}
-use Rattle.vnode_core.specs.Reaping.{reap_outcome}
+use Rattle.vnode_protocol.specs.Reaping.{reap_outcome}
 use Rattle.clock_store.specs.Keys.{Keys}
-use Rattle.vnode_core.specs.Vnodes.{IsReached, state_of, Fields}
-use Rattle.vnode_core.proofs.Reached.{registers-view, reached-next}
+use Rattle.vnode_core.specs.Vnodes.{state_of, Fields}
+use Rattle.vnode_protocol.proofs.Reached.{registers-view, reached-next}
 
 -- the keys of a vnode stand in their order
 pub sorted-now : (state : State Content) → IsReached state → is_sorted key_cmp state.keys ≡ true
 sorted-now state is = ap (λ (s : State Content). is_sorted key_cmp s.keys) is.after.is ∙ keys_sorted is.id is.opened is.history
 
 -- a reap, by its result and the state after it
-module _ (state : State Content) (is : IsReached state) (key : Key) (result : Reaped) (after : State Content)
-    (exact : result ≡ reap_result state key) (leads : after ≡ after_reap state key) where
+module _ (state : State Content) (key : Key) (result : Reaped) (after : State Content) (exact : result ≡ reap_result state key) (leads : after ≡ after_reap state key) where
   outcome-is : outcome state (AskReap key) ≡ reap_outcome result after
   outcome-is = by (holds_dead state key) (has_value state key) (reaped state key) ∙ (λ i. reap_outcome (sym exact i) (sym leads i))
     where
@@ -44,11 +43,11 @@ module _ (state : State Content) (is : IsReached state) (key : Key) (result : Re
       by false true next = refl
       by false false next = refl
 
-  pub register-reap : (seen : State Content) → state ≡ seen → Registers seen (AskReap key) (reap_outcome result after)
-  register-reap seen same = registers-view state seen same is (AskReap key) (reap_outcome result after) outcome-is
+  pub register-reap : IsReached state → (seen : State Content) → state ≡ seen → Registers seen (AskReap key) (reap_outcome result after)
+  register-reap is seen same = registers-view state seen same is (AskReap key) (reap_outcome result after) outcome-is
 
-  pub reached-reap : IsReached after
-  reached-reap = subst IsReached (sym leads) (by (holds_dead state key) refl)
+  pub reached-reap : IsReached state → IsReached after
+  reached-reap is = subst IsReached (sym leads) (by (holds_dead state key) refl)
     where
       by : (dead : Bool) → holds_dead state key ≡ dead → IsReached (state_after_step state (if dead then Accepted Reap ReapDone (reaped state key) else Answered ReapKept))
       by true h = reached-next state is (AskReap key) Reap ReapDone (reaped state key) (ap (λ b. if b then Accepted Reap ReapDone (reaped state key) else Answered ReapKept) h)
@@ -136,33 +135,20 @@ result-some keys key s false h v = rw (sym h, sym v) refl
 
 -- a reap that is planned, by its result
 module _ (state : State Content) (key : Key) where
-  by-result : (dead value : Bool) (next : State Content) (result : Reaped) → result ≡ (if dead then Gone else if value then Kept else Absent) → (result ≡ Gone → ⊥)
-      → (let o : StepOutcome = if dead then Accepted Reap ReapDone next else Answered ReapKept in o) ≡ Answered (reap_response result)
-  by-result true value next result e not_gone = absurd (not_gone e)
-  by-result false true next result e not_gone = ap (λ r. Answered (reap_response r)) (sym e)
-  by-result false false next result e not_gone = ap (λ r. Answered (reap_response r)) (sym e)
-
   pub not-accepted : (result : Reaped) → result ≡ reap_result state key → (result ≡ Gone → ⊥) → outcome state (AskReap key) ≡ Answered (reap_response result)
-  not-accepted result e not_gone = by-result (holds_dead state key) (has_value state key) (reaped state key) result e not_gone
+  not-accepted Gone e not_gone = absurd (not_gone refl)
+  not-accepted Kept e not_gone = outcome-is state key Kept (after_reap state key) e refl
+  not-accepted Absent e not_gone = outcome-is state key Absent (after_reap state key) e refl
 
   pub is-accepted : Gone ≡ reap_result state key → IsAccepted (outcome state (AskReap key))
-  is-accepted e = by (holds_dead state key) (has_value state key) (reaped state key) e
-    where
-      by : (dead value : Bool) (next : State Content) → Gone ≡ (if dead then Gone else if value then Kept else Absent) → IsAccepted (if dead then Accepted Reap ReapDone next else Answered ReapKept)
-      by true value next e = tt
-      by false true next e = cc
-      by false false next e = cc
+  is-accepted e = subst IsAccepted (sym (outcome-is state key Gone (after_reap state key) e refl)) tt
 
   -- one that is accepted forgets its key
   pub steps-reap : (result : Reaped) (after : State Content) → IsAccepted (outcome state (AskReap key)) → result ≡ reap_result state key → after ≡ after_reap state key
       → outcome state (AskReap key) ≡ Accepted Reap (reap_response result) after
-  steps-reap result after accepted e leads = by (holds_dead state key) (has_value state key) (reaped state key) accepted e leads
-    where
-      by : (dead value : Bool) (next : State Content) → IsAccepted (if dead then Accepted Reap ReapDone next else Answered ReapKept)
-          → result ≡ (if dead then Gone else if value then Kept else Absent) → after ≡ state_after_step state (if dead then Accepted Reap ReapDone next else Answered ReapKept)
-          → (let o : StepOutcome = if dead then Accepted Reap ReapDone next else Answered ReapKept in o) ≡ Accepted Reap (reap_response result) after
-      by true value next a e leads = λ i. Accepted Reap (reap_response (sym e i)) (sym leads i)
-      by false value next a e leads = absurd a
+  steps-reap Gone after accepted e leads = outcome-is state key Gone after e leads
+  steps-reap Kept after accepted e leads = absurd (subst IsAccepted (outcome-is state key Kept after e leads) accepted)
+  steps-reap Absent after accepted e leads = absurd (subst IsAccepted (outcome-is state key Absent after e leads) accepted)
 
 -- a reap of the first dead key that is planned
 module _ (state : State Content) (is : IsReached state) (from : Option Key) where

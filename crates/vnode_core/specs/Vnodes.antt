@@ -1,34 +1,33 @@
 -- What a vnode's fields mean, and what is always true of them.
-use Rattle.std.specs.Prelude.{◌≡◌, ℕ, ◌+◌, true, false, List, Option, Some, None, Result, Ok, Err, IfOk}
+use Rattle.std.specs.Prelude.{◌≡◌, ℕ, true, false, List, Option, Some, None, Result, Ok, Err}
 use Rattle.riak_msgs.specs.declared.Key.{Key}
 use Rattle.riak_msgs.specs.Contents.{Content}
 use Rattle.riak_msgs.specs.declared.DelAsk.{DelAsk}
 use Rattle.riak_msgs.specs.declared.PutAsk.{PutAsk}
-use Rattle.sibling_register.specs.History.{Event, Write, Tombstone}
-use Rattle.actor_epoch.specs.Given.{Context, Pairs, context_of, pairs_read}
+use Rattle.sibling_register.specs.History.{Write, Tombstone}
+use Rattle.actor_epoch.specs.Given.{Pairs, context_of, pairs_read}
 use Rattle.actor_epoch.specs.declared.Actor.{Actor}
 use Rattle.actor_epoch.specs.declared.Dot.{Dot}
 use Rattle.dvv_set.specs.Clocks.{join}
 use Rattle.vnode_machine.specs.Asks.{put_command}
 use Rattle.vnode_machine.specs.Dead.{reaped}
-use Rattle.vnode_machine.specs.Machine.{State, Stored, is_held, clock_of, actor_for, epoch_after, put_check, update_check, apply_operation, counted}
-use Rattle.vnode_machine.specs.Replay.{IsWithinLimits, IsAfter}
+use Rattle.vnode_machine.specs.Machine.{State, is_held, clock_of, actor_for, put_check, update_check, apply_operation, counted}
 use Rattle.vnode_machine.specs.Replies.{put_reply}
 use Rattle.vnode_machine.specs.Step.{DelDone, Answered}
-use Rattle.vnode_core.specs.declared.ask.Ask.{Ask}
-use Rattle.vnode_core.specs.declared.ask.Ask.TheVariants.{Put, Del, Reap, ReapFirst}
-use Rattle.vnode_core.specs.declared.ask.Answer.{Answer}
-use Rattle.vnode_core.specs.declared.ask.Answer.TheVariants as answers
-use Rattle.vnode_core.specs.declared.refusal.Refusal.{Refusal}
+use Rattle.vnode_protocol.specs.declared.ask.Ask.{Ask}
+use Rattle.vnode_protocol.specs.declared.ask.Ask.TheVariants.{Put, Del, Reap, ReapFirst}
+use Rattle.vnode_protocol.specs.declared.ask.Answer.{Answer}
+use Rattle.vnode_protocol.specs.declared.ask.Answer.TheVariants as answers
+use Rattle.vnode_protocol.specs.declared.refusal.Refusal.{Refusal}
 use Rattle.vnode_core.specs.declared.ready.Ready.{Ready}
-use Rattle.vnode_core.specs.declared.ready.Writer.{Writer}
-use Rattle.vnode_core.specs.Plans.{View, IsAccepted, IsWrite, Steps, Refuses, ask_outcome}
+use Rattle.vnode_replies.specs.declared.checks.Writer.{Writer}
+use Rattle.vnode_protocol.specs.Plans.{View, IsAccepted, IsReached, IsWrite, Steps, Refuses, ask_outcome}
 use Rattle.clock_store.specs.declared.store.WriteKind.TheVariants.{Value, Tombstone as Dead}
 use Rattle.clock_store.specs.Contents.{Contents, HasRoom}
 use Rattle.clock_store.specs.Forgetting.{after_first_reap}
 use Rattle.clock_store.specs.Keys.{Keys, written, deleted}
-use Rattle.vnode_core.specs.Checks.{pairs_in, IsFound}
-use Rattle.vnode_core.specs.Refusals.{RefusedBy}
+use Rattle.vnode_protocol.specs.Refusals.{RefusedBy}
+use Rattle.vnode_replies.specs.Checks.{writer_of}
 
 -- the fields of a vnode, its store as what it means
 pub record Fields : Type 0 where
@@ -67,38 +66,12 @@ state_of v = record {
 abbrev pub view_of : Fields → View
 view_of v = record { state = state_of v; prepared = v.prepared }
 
--- the state comes after some history of a vnode of this id, which had given this epoch last, within limits
-pub record IsReached (state : State Content) : Type 0 where
-  pub id : ℕ
-  pub opened : ℕ
-  pub history : List (Event Content Context)
-  pub limits : IsWithinLimits id opened
-  pub after : IsAfter id opened history state
-
 -- the key of a write
 abbrev pub key_in : (ask : Ask) → IsWrite ask → Key
 key_in (Put put) write = put.key
 key_in (Del del) write = del.key
 key_in (Reap key) write = key
 key_in (ReapFirst from) write = absurd write
-
--- who writes a key next
-abbrev pub writer_of : State Content → Key → Writer
-writer_of state key = record { actor = actor_for state key; last_epoch = epoch_after state key }
-
--- who begins the next life of a vnode of this id that gave this epoch last
-abbrev pub first_writer : (id last_epoch : ℕ) → Writer
-first_writer id last_epoch = record {
-  actor = record { vnode = id; epoch = last_epoch + 1 };
-  last_epoch = last_epoch + 1;
-}
-
--- a check's writer, wherever this was found of a key
-abbrev pub GivesWriter : (id last_epoch : ℕ) → Option (Stored Content) → Option (List Dot)
-    → Result Writer Refusal → Type 0
-GivesWriter id last_epoch found seen result =
-    (state : State Content) (key : Key) → IsFound state key id last_epoch found (pairs_in seen)
-    → IfOk result (λ writer. writer ≡ writer_of state key)
 
 -- the keys after the write of a command at this actor, and the room for it
 abbrev pub written_by : Keys → Ask → Actor → Keys

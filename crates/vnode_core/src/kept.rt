@@ -2,15 +2,13 @@
 
 ghost use Rattle.std.specs.Prelude.{◌≡◌};
 
-use crate::ask::{Answer, Ask};
 use crate::change::Change;
-use crate::event::Event;
-use crate::refusal::Refusal;
 use crate::vnode::VnodeOver;
 use clock_store::ClockStore;
-use rw_gate::{Kept, Plan};
+use rw_gate::Kept;
 use std::alloc::Global;
 use std::snapshot::Snapshot;
+use vnode_protocol::{Answer, Ask, Event, Plan, Refusal};
 
 /// A change, and for clauses alone the vnode as it was when the change was prepared: the two fix the event that the
 /// change makes in a gate's history, its answer too.
@@ -37,8 +35,8 @@ impl<S: ClockStore> Kept for VnodeOver<S> {
     ghost use Rattle.std.specs.Prelude.{◌≡◌};
     ghost use Rattle.riak_msgs.specs.Contents.{Content};
     ghost use Rattle.vnode_machine.specs.Machine.{State};
-    ghost use Rattle.vnode_core.specs.Plans.{Refuses};
-    ghost use Rattle.vnode_core.specs.Events.{Makes, IsAnswered, Asks, Tells, event_of, IsLoggable};
+    ghost use Rattle.vnode_protocol.specs.Plans.{Refuses};
+    ghost use Rattle.vnode_protocol.specs.Events.{Makes, IsAnswered, Asks, AnsweredBy, event_of, IsLoggable};
 
     ghost State = { State Content };
 
@@ -52,7 +50,7 @@ impl<S: ClockStore> Kept for VnodeOver<S> {
 
     ghost asks = { Asks };
 
-    ghost tells = { Tells };
+    ghost answered_by = { AnsweredBy };
 
     ghost event = { λ logged. event_of logged.before.value.state logged.change };
 

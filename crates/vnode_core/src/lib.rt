@@ -3,25 +3,23 @@
 //! A [`Vnode`] is the vnode machine (`State` in `specs/Machine` of `vnode_machine`), and each call is the machine's step
 //! (`outcome` in its `specs/Step`): each key that it holds has the actor of its life, and a clock whose live dots are its
 //! siblings. A command is refused, or planned by [`Vnode::prepare`] and made by [`Vnode::finish`]. At every history that
-//! may have led to its state, each call answers as the sibling register does (`Registers` in `specs/Plans`).
+//! may have led to its state, each call answers as the sibling register does (`Registers` in `specs/Plans` of
+//! `vnode_protocol`, which has the commands, answers, refusals and events too).
 //!
 //! What is prepared is in the vnode's model, the whole command with its options and its context as given, and a
 //! [`Change`] is that command and nothing else. Room, the actor and the answer that were made for it lie in the vnode, so
 //! nothing that callers see is a place, an index or a number of actors; the next `prepare` or `finish` ends it.
 //!
 //! Behind a gate (`rw_gate`) a vnode is a [`Kept`] state. Its change there, a [`LoggedChange`], carries for clauses alone the
-//! vnode that it was prepared from, and the two name the [`Event`] that it makes in the gate's history, with its answer
-//! (`specs/Events`). [`histories_are_legal`] is the law of such a history.
+//! vnode that it was prepared from, and the two name the [`Event`] that it makes in the gate's history, with its answer.
+//! [`histories_are_legal`] is the law of such a history.
 //!
 //! Its storage is any [`ClockStore`](clock_store::ClockStore): a [`VnodeOver`] is proved from that trait's contract
 //! alone, so each form of storage gives the same vnode, and [`Vnode`] is the one over the ordered map. What a key costs
-//! to find is the form's; a put looks its key up once for its checks and its answer, and once for room. A get copies what
-//! it shows, and so does a put that asks for it: the content that is put, and the siblings that stay, which it finds by a
-//! clock of references to them. A put or a delete takes memory in `prepare` alone: room in the store for its key, in the
-//! key's clock for the actors that are new to it, and for its siblings with one more. `finish` takes none, so what is
-//! accepted is never half made.
-//! The checks take none either: they look through the context's pairs once, and ask the clock how many siblings the
-//! context leaves uncovered and how many actors a write needs. Making a put moves the key's siblings once.
+//! to find is the form's; a put looks its key up once for its checks and its answer, which are `vnode_replies`, and once for
+//! room. A put or a delete takes memory in `prepare` alone: room in the store for its key, in the key's clock for the actors
+//! that are new to it, and for its siblings with one more. `finish` takes none, so what is accepted is never half made.
+//! Making a put moves the key's siblings once.
 //!
 //! ```text
 //! Vnode::new(alloc, 65536, 1)               no key; the first life's epoch is 1
@@ -35,27 +33,19 @@
 //! dotted version vector sets (Preguiça, Baquero, Almeida, Fonte, Gonçalves) for dots, and for which siblings stay.
 #![tactic(auto)]
 
-mod ask;
 mod change;
-mod checks;
-mod event;
-mod given;
 mod kept;
 mod laws;
 mod ready;
-mod refusal;
-mod replies;
 mod vnode;
 
-pub use ask::{Answer, Ask, Plan, Reaped};
 pub use change::Change;
-pub use event::{Event, histories_are_legal};
 pub use kept::LoggedChange;
 pub use laws::{
     dots_are_of_lives, first_dead_is_least, machine_is_register, no_dot_is_issued_twice,
     runs_are_histories, shown_context_is_the_name, shown_contexts_name_positions,
     values_leave_only_covered,
 };
-pub use refusal::Refusal;
 pub use rw_gate::Kept;
 pub use vnode::{Tally, Vnode, VnodeOver};
+pub use vnode_protocol::{Answer, Ask, Event, Plan, Reaped, Refusal, histories_are_legal};

@@ -5,24 +5,15 @@ ghost use Rattle.riak_msgs.specs.declared.Key.{Key};
 ghost use Rattle.riak_msgs.specs.Contents.{Content};
 ghost use Rattle.rw_gate.specs.declared.kept.Plan.TheVariants.{Nothing};
 ghost use Rattle.vnode_machine.specs.Machine.{State, stored};
-ghost use Rattle.vnode_core.specs.Checks.{found_in};
-ghost use Rattle.vnode_core.specs.Reaping.{reap_result};
+ghost use Rattle.vnode_replies.specs.Checks.{found_in};
+ghost use Rattle.vnode_protocol.specs.Reaping.{reap_result};
 ghost use Rattle.vnode_core.specs.Vnodes.{writes_after, tombstones_after};
 ghost use Rattle.vnode_core.specs.Readiness.{plan_in};
 
-use crate::ask::{Answer, Ask, Plan, Reaped};
 use crate::change::Change;
-use crate::refusal::Refusal;
-use actor_epoch::Actor;
 use clock_store::StoredClock;
-
-/// Who makes a write: the actor of its key's life, or the next one's where it begins a life; and the last epoch that is
-/// given once it is made.
-#[derive(Clone, Copy, Debug, Drop, PartialEq, Eq)]
-pub(crate) struct Writer {
-    pub(crate) actor: Actor,
-    pub(crate) last_epoch: u32,
-}
+use vnode_protocol::{Answer, Ask, Plan, Reaped, Refusal};
+use vnode_replies::Writer;
 
 /// Who makes the write that is prepared, and its answer.
 #[derive(Drop)]

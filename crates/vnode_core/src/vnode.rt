@@ -9,34 +9,34 @@ ghost use Rattle.vnode_machine.specs.Asks.{get_command, put_command};
 ghost use Rattle.vnode_machine.specs.Machine.{opening, stored, put_check};
 ghost use Rattle.vnode_machine.specs.Replay.{IsAfter};
 ghost use Rattle.vnode_machine.specs.Step.{outcome, Answered, Accepted, GetDone};
-ghost use Rattle.vnode_core.specs.Checks.{found_in};
-ghost use Rattle.vnode_core.specs.declared.ask.Ask.TheVariants.{Put, Del};
-ghost use Rattle.vnode_core.specs.Plans.{IsPrepared, Plans, Refuses, Registers, RegistersAsk, RegistersStep, Steps, planned, operation_of, response_of, AcceptsPrepared, IsWrite};
+ghost use Rattle.vnode_replies.specs.Checks.{found_in, writer_of};
+ghost use Rattle.vnode_protocol.specs.declared.ask.Ask.TheVariants.{Put, Del};
+ghost use Rattle.vnode_protocol.specs.Plans.{IsPrepared, Plans, Refuses, Registers, RegistersAsk, RegistersStep, Steps, planned, operation_of, response_of, AcceptsPrepared, IsWrite, IsReached};
 ghost use Rattle.vnode_core.specs.Readiness.{plan_in};
-ghost use Rattle.vnode_core.specs.Refusals.{GivenBy};
-ghost use Rattle.vnode_core.specs.Vnodes.{writer_of, written_by, del_check_by, state_after, HasRoomFor, DelOfAllGives, DelGives, PutGives, IsReached};
+ghost use Rattle.vnode_protocol.specs.Refusals.{GivenBy};
+ghost use Rattle.vnode_core.specs.Vnodes.{written_by, HasRoomFor, PutGives};
 
+mod deleting;
 mod reaping;
 mod tally;
 
-use crate::ask::{Answer, Ask, Plan};
 use crate::change::Change;
-use crate::checks::{check_options, check_overwrite, check_room, last_of};
-use crate::given;
 use crate::ready::{
-    Readiness, Ready, Writer, drop_ready, plan_of, refuse, set_ready, tombstones_after,
-    writes_after,
+    Readiness, Ready, drop_ready, plan_of, refuse, set_ready, tombstones_after, writes_after,
 };
-use crate::refusal::Refusal;
-use crate::replies::{absent, put_reply, siblings};
 use actor_epoch::{Actor, Context, EpochSource};
 use clock_map::ClockMap;
 use clock_store::{ClockStore, StoredClock, WriteKind};
 use ghost_state::GhostValue;
-use riak_msgs::{DelAsk, GetAsk, GetReply, Key, PutAsk};
+use riak_msgs::{DelAsk, GetAsk, GetReply, PutAsk};
 use std::alloc::Global;
 use std::marker::Model;
 pub use tally::Tally;
+use vnode_protocol::{Answer, Ask, Plan, Refusal};
+use vnode_replies::{
+    Writer, absent_reply, check_options, check_room, last_of, names_unissued_dot, put_reply,
+    siblings_reply,
+};
 
 /// One vnode: the keys that it holds, each with its siblings. Contracts see the vnode machine's state, and the command
 /// that was prepared last and isn't made yet.
@@ -73,7 +73,7 @@ pub struct VnodeOver<S: ClockStore> {
 }
 
 impl<S: ClockStore> Model for VnodeOver<S> {
-    ghost use Rattle.vnode_core.specs.Plans.{View};
+    ghost use Rattle.vnode_protocol.specs.Plans.{View};
 
     ghost Value = { View };
 
@@ -161,8 +161,8 @@ impl<S: ClockStore> VnodeOver<S> {
             Registers self.now.state (AskGet (get_command ask.now)) (Answered (GetDone reply))) }
     {
         match self.store.get(&ask.key) {
-            None => Ok(absent(alloc)),
-            Some(key) => Ok(siblings(alloc, key, ask)?),
+            None => Ok(absent_reply(alloc)),
+            Some(key) => Ok(siblings_reply(alloc, key, ask)?),
         }
     }
 
@@ -179,53 +179,11 @@ impl<S: ClockStore> VnodeOver<S> {
         ensures writer { IfOk result (λ writer. writer ≡ writer_of self.now.state put.now.key) }
     {
         let last_epoch = self.epochs.last();
-        if given::names_unissued_dot(context, self.id, last_epoch, last_of(found)) {
+        if names_unissued_dot(context, self.id, last_epoch, last_of(found)) {
             return Err(Refusal::BadContext);
         }
         check_options(put, found, context)?;
         check_room(self.id, last_epoch, found, context)
-    }
-
-    /// Checks a delete by a context; returns who writes its tombstone.
-    fn check_del(&self, key: &Key, context: &Context<'_>) -> Result<Writer, Refusal>
-        ensures given { GivenBy result (del_check_by self.now.state key.now context.now) }
-        ensures writer { IfOk result (λ writer. writer ≡ writer_of self.now.state key.now) }
-    {
-        let last_epoch = self.epochs.last();
-        let found = self.store.get(key);
-        if given::names_unissued_dot(Some(context), self.id, last_epoch, last_of(found)) {
-            return Err(Refusal::BadContext);
-        }
-        check_room(self.id, last_epoch, found, Some(context))
-    }
-
-    /// Checks a delete without context; returns who writes its tombstone: nobody, where the key is absent.
-    fn check_del_of_all(&self, key: &Key) -> Result<Option<Writer>, Refusal>
-        ensures { DelOfAllGives self.now.state key.now result }
-    {
-        let Some(found) = self.store.get(key) else {
-            return Ok(None);
-        };
-        check_overwrite(found)?;
-        Ok(Some(Writer {
-            actor: found.actor,
-            last_epoch: self.epochs.last(),
-        }))
-    }
-
-    /// Who writes the tombstone of a delete; nobody, where it does nothing.
-    fn tombstone_writer(
-        &self,
-        del: &DelAsk,
-        context: Option<&Context<'_>>,
-    ) -> Result<Option<Writer>, Refusal>
-        requires { context_of del.now.context ≡ option_map Pairs (seen_in context) }
-        ensures { DelGives self.now.state del.now result }
-    {
-        match context {
-            None => self.check_del_of_all(&del.key),
-            Some(context) => Ok(Some(self.check_del(&del.key, context)?)),
-        }
     }
 
     /// Gives up what was prepared.
@@ -257,34 +215,6 @@ impl<S: ClockStore> VnodeOver<S> {
             Ask::Reap(key) => Ok(self.make_reap_ready(ask, key)),
             Ask::ReapFirst(from) => Ok(self.make_first_reap_ready(ask, from.as_ref())),
         }
-    }
-
-    /// Makes ready what a delete needs: room for its tombstone. One that does nothing needs nothing.
-    fn make_del_ready(
-        &mut self,
-        alloc: Global,
-        ask: &Ask,
-        del: &DelAsk,
-    ) -> Result<Readiness, Refusal>
-        requires is { ask.now ≡ Del del.now }
-        requires ended { self.old.prepared ≡ None }
-        ensures same { self.new.state ≡ self.old.state }
-        ensures ok { IfOk result (λ r. Plans self.new (Del del.now) (plan_in r (Del del.now))) }
-        ensures err { IfErr result (λ refusal. Refuses self.old.state (Del del.now) refusal) }
-        ensures ended { IfErr result (λ refusal. self.new.prepared ≡ None) }
-    {
-        let context = Context::given(del.context.as_slice())?;
-        let Some(writer) = self.tombstone_writer(del, context.as_ref())? else {
-            return Ok(Readiness::NothingToDelete);
-        };
-        let seen = context.as_ref();
-        let actor = writer.actor;
-        self.store
-            .reserve(alloc, &del.key, seen, actor, WriteKind::Tombstone)?;
-        let answer = Answer::Del;
-        set_ready(&mut self.ready, Ready { writer, answer });
-        self.prepared = GhostValue::some(ask);
-        Ok(Readiness::Ready)
     }
 
     /// Who makes a put, and its reply: its key is looked up once.

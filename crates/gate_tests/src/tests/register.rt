@@ -88,28 +88,28 @@ impl Kept for Register {
 
     ghost use Rattle.std.specs.Prelude.{◌≡◌, ℕ, true, List, Some, refl};
     ghost use Rattle.sibling_register.specs.History.{Event};
-    ghost use Rattle.sibling_register.specs.Plain.{Gives, told_of};
+    ghost use Rattle.sibling_register.specs.Plain.{Gives, answer_of};
     ghost use Rattle.gate_tests.specs.Registers.{applied, Makes};
 
     ghost State = { List (Event ℕ ℕ) };
 
     ghost content = { λ r. applied r.is_ahead r.register };
 
-    ghost accepts = { λ old e new. Makes e.command (told_of e.told) old new };
+    ghost accepts = { λ old e new. Makes e.command (answer_of e.told) old new };
 
-    ghost answers = { λ h ask told. Gives h ask (told_of told) h };
+    ghost answers = { λ h ask told. Gives h ask (answer_of told) h };
 
     // want of memory, and a state that is ahead, are no part of the machine
     ghost refuses = { λ h ask refusal. Unit {0} };
 
     ghost asks = { λ e ask. e.command ≡ Some ask };
 
-    ghost tells = { λ e told. e.told ≡ told };
+    ghost answered_by = { λ e told. e.told ≡ told };
 
     ghost event = { λ c. c };
 
     ghost ready = { λ r c. (r.is_ahead ≡ true)
-        × Makes c.command (told_of c.told) (applied r.is_ahead r.register) r.register };
+        × Makes c.command (answer_of c.told) (applied r.is_ahead r.register) r.register };
 
     fn prepare(
         &mut self,

@@ -1,6 +1,6 @@
 use Rattle.std.proofs.Common.{◌≡◌, ◌+◌, ap, subst, ◌∙◌, length, length-append, ◌∷◌, [], arith}
 use Rattle.ring_map.specs.Ring.{id_of}
-use Rattle.vnode_core.specs.Events.{IsMadeNew}
+use Rattle.vnode_protocol.specs.Events.{IsMadeNew}
 use Rattle.gate_node.proofs.Opened.{made_new_push}
 use Rattle.gate_node.proofs.shared.new_gates.Goals as goal
 

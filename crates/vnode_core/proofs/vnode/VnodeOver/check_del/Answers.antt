@@ -1,5 +1,5 @@
 use Rattle.vnode_core.specs.Vnodes.{fields, state_of}
-use Rattle.vnode_core.proofs.Reached.{rising-found}
+use Rattle.vnode_replies.proofs.Options.{rising-found}
 use Rattle.vnode_core.proofs.vnode.VnodeOver.check_del.Goals as goal
 
 pub check_room-requires : goal.check_room-requires

@@ -5,12 +5,11 @@ use Rattle.std.specs.List.{list_any}
 use Rattle.vnode_machine.specs.Asks.{put_command}
 use Rattle.vnode_machine.specs.Machine.{stored, put_check}
 use Rattle.dvv_set.specs.Held.{pairs_of as seen_in}
-use Rattle.vnode_core.specs.Checks.{is_ahead, pairs_in}
-use Rattle.vnode_core.specs.Refusals.{RefusedBy, GivenBy}
+use Rattle.vnode_replies.specs.Checks.{is_ahead, pairs_in}
+use Rattle.vnode_protocol.specs.Refusals.{RefusedBy, GivenBy}
 use Rattle.clock_store.specs.Keys.{stored_of}
 use Rattle.vnode_core.specs.Vnodes.{fields, state_of}
-use Rattle.vnode_core.proofs.Putting.{options-refuse, rooms-follow, rooms-give}
-use Rattle.vnode_core.proofs.Reached.{rising-found}
+use Rattle.vnode_replies.proofs.Options.{options-refuse, rooms-follow, rising-found}
 use Rattle.vnode_core.proofs.vnode.VnodeOver.check_put.Goals as goal
 
 pub returns-in_err-check_options-clause-given : goal.returns-in_err-check_options-clause-given
@@ -40,7 +39,7 @@ returns-clause-given g c =
     let behind = (λ i. list_any (is_ahead v.id (sym c.last-last_epoch.ensures i) (sym c.last_of.ensures i)) (pairs_in (seen_in c.args.context)))
     ∙ sym c.names_unissued_dot.ensures.ahead ∙ c.if-names_unissued_dot.false in
     subst (λ w. GivenBy c.check_room.result (put_check w.state (put_command c.args.put.now))) c.self.view_is
-    (rooms-give (state_of v) c.args.put.now _
-    (rooms-follow (state_of v) c.args.put.now (seen_in c.args.context) c.requires.given c.names_unissued_dot.ensures.read found here behind c.in_ok-check_options.ensures)
-    c.check_room.result (c.check_room.ensures.given (state_of v) c.args.put.now.key
+    (subst (λ check. GivenBy c.check_room.result check)
+    (sym (rooms-follow (state_of v) c.args.put.now (seen_in c.args.context) c.requires.given c.names_unissued_dot.ensures.read found here behind c.in_ok-check_options.ensures))
+    (c.check_room.ensures.given (state_of v) c.args.put.now.key
     (record { stored = sym here; vnode = refl; epoch = sym c.last-last_epoch.ensures; behind = sym (ap (λ last. list_any (is_ahead v.id c.last-last_epoch.result last) (pairs_in (seen_in c.args.context))) c.last_of.ensures) ∙ sym c.names_unissued_dot.ensures.ahead ∙ c.if-names_unissued_dot.false })))

@@ -1,6 +1,6 @@
 use Rattle.std.proofs.Common.{subst}
-use Rattle.vnode_core.specs.Plans.{AcceptsPrepared}
-use Rattle.vnode_core.specs.Vnodes.{fields, IsReached}
+use Rattle.vnode_protocol.specs.Plans.{AcceptsPrepared, IsReached}
+use Rattle.vnode_core.specs.Vnodes.{fields}
 use Rattle.vnode_core.proofs.Finishing.{accepts-prepared}
 use Rattle.vnode_core.proofs.vnode.VnodeOver.drop_prepared.Goals as goal
 

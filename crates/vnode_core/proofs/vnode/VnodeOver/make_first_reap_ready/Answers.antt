@@ -1,6 +1,6 @@
 use Rattle.std.proofs.Common.{◌∙◌, sym, ap, subst, refl}
 use Rattle.std.specs.Prelude.{Some}
-use Rattle.vnode_core.specs.Reaping.{key_given}
+use Rattle.vnode_protocol.specs.Reaping.{key_given}
 use Rattle.vnode_core.specs.Vnodes.{fields, IsReadyFor, state_of}
 use Rattle.vnode_core.proofs.Reaping.{accepts-some}
 use Rattle.vnode_core.proofs.vnode.VnodeOver.make_first_reap_ready.Goals as goal

@@ -6,9 +6,10 @@ use Rattle.actor_epoch.specs.declared.Actor.{Actor}
 use Rattle.actor_epoch.specs.Given.{Pairs, context_of}
 use Rattle.dvv_set.specs.Held.{IsWithin, pairs_of as seen_in}
 use Rattle.vnode_machine.specs.Machine.{State, clock_of}
-use Rattle.vnode_core.specs.Vnodes.{fields, IsReached}
-use Rattle.vnode_core.specs.declared.ready.Writer.{Writer}
-use Rattle.vnode_core.proofs.Reached.{within-put}
+use Rattle.vnode_core.specs.Vnodes.{fields}
+use Rattle.vnode_protocol.specs.Plans.{IsReached}
+use Rattle.vnode_replies.specs.declared.checks.Writer.{Writer}
+use Rattle.vnode_core.proofs.Putting.{within-put}
 use Rattle.vnode_core.proofs.Finishing.{put-ready}
 use Rattle.vnode_core.proofs.vnode.VnodeOver.make_put_ready.Goals as goal
 

@@ -1,7 +1,7 @@
 use Rattle.std.proofs.Common.{rules, refl}
-use Rattle.vnode_core.specs.Plans.{ask_outcome}
-use Rattle.vnode_core.proofs.Reached.{registers-ask}
-use Rattle.vnode_core.proofs.Registers.{registers-refused}
+use Rattle.vnode_protocol.specs.Plans.{ask_outcome}
+use Rattle.vnode_protocol.proofs.Reached.{registers-ask}
+use Rattle.vnode_protocol.proofs.Registers.{registers-refused}
 use Rattle.vnode_core.proofs.vnode.VnodeOver.prepare.Goals as goal
 
 pub returns-in-Ok-clause-register : goal.returns-in-Ok-clause-register

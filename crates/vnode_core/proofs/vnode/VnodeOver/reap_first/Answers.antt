@@ -2,8 +2,9 @@ use Rattle.std.proofs.Common.{◌∙◌, sym, ap, subst, drop}
 use Rattle.riak_msgs.specs.Contents.{Content}
 use Rattle.vnode_machine.specs.Dead.{dead_keys}
 use Rattle.vnode_machine.specs.Machine.{State}
-use Rattle.vnode_core.specs.Reaping.{key_given}
-use Rattle.vnode_core.specs.Vnodes.{fields, IsReached, IsReadyFor, state_of}
+use Rattle.vnode_protocol.specs.Reaping.{key_given}
+use Rattle.vnode_core.specs.Vnodes.{fields, IsReadyFor, state_of}
+use Rattle.vnode_protocol.specs.Plans.{IsReached}
 use Rattle.vnode_core.proofs.Reaping.{first-gone, reached-first, left-first, register-first}
 use Rattle.vnode_core.proofs.vnode.VnodeOver.reap_first.Goals as goal
 

@@ -1,5 +1,5 @@
 use Rattle.std.proofs.Common.{◌≡◌, refl, ap, sym, ◌∙◌}
-use Rattle.sibling_register.specs.Plain.{told_of}
+use Rattle.sibling_register.specs.Plain.{answer_of}
 use Rattle.gate_tests.specs.Registers.{before_newest}
 use Rattle.gate_tests.proofs.Registers.{given_longer}
 use Rattle.gate_tests.proofs.tests.register.RegisterKept.prepare.Goals as goal
@@ -9,7 +9,7 @@ returns-clause-change c =
     let old = c.args.self.now.register in
     let new = c.ask.new.self in
     let gives = c.in_ok-told.ensures.gives in
-    let longer = given_longer old new c.args.ask (told_of c.in_ok-told.told) gives (λ same. c.if-len-before.false (c.len.ensures.value ∙ same ∙ sym c.len-before.ensures.value)) in
+    let longer = given_longer old new c.args.ask (answer_of c.in_ok-told.told) gives (λ same. c.if-len-before.false (c.len.ensures.value ∙ same ∙ sym c.len-before.ensures.value)) in
     let kept : before_newest new ≡ old = ap before_newest longer.1 in (
       (
         refl,

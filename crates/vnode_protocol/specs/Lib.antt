@@ -1,0 +1,4 @@
+pub mod Events
+pub mod Plans
+pub mod Reaping
+pub mod Refusals

@@ -1,0 +1,4 @@
+pub mod Options
+pub mod Previews
+pub mod Rooms
+pub mod Showing
