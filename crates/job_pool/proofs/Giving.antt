@@ -1,9 +1,9 @@
 -- A source that has given some jobs gives one more.
-use Rattle.std.proofs.Common.{List, [], ◌∷◌, ◌++◌, refl, subst}
+use Rattle.std.proofs.Common.{◌≡◌, List, [], ◌∷◌, ◌++◌, refl, sym, subst, inl, inr}
 use Rattle.std.specs.Prelude.{Option, Some, Result, Ok}
 use Rattle.job_pool.specs.declared.fault.RunFault.{RunFault}
 use Rattle.job_pool.specs.declared.fault.RunFault.TheVariants.{NoMemory, NoThread, JobsFailed}
-use Rattle.job_pool.specs.Giving.{Gave, Leaves}
+use Rattle.job_pool.specs.Giving.{Gave, GaveAll, Leaves}
 use Rattle.job_pool.specs.Workers.{IsOfStart}
 
 module _ {G J F : Type 0} (Gives : G → Result (Option J) F → G → Type 0) where
@@ -13,6 +13,10 @@ module _ {G J F : Type 0} (Gives : G → Result (Option J) F → G → Type 0) w
 
   -- before a job was taken the source is as it was
   pub none_taken : (fault : RunFault) (first : G) → IsOfStart fault → Leaves Gives fault first first
-  none_taken NoMemory first h = tt
+  none_taken NoMemory first h = ([], inl refl)
   none_taken NoThread first h = refl
   none_taken JobsFailed first h = absurd h
+
+  -- after the last job the ends were refused memory
+  pub all_taken : (fault : RunFault) (first : G) (jobs : List J) (last : G) → fault ≡ NoMemory → GaveAll Gives first jobs last → Leaves Gives fault first last
+  all_taken fault first jobs last is h = subst (λ f. Leaves Gives f first last) (sym is) (jobs, inr h)

@@ -1,5 +1,5 @@
 -- The workers are joined one after another.
-use Rattle.std.proofs.Common.{◌≡◌, ◌∙◌, ◌+◌, ◌<◌, ◌≤◌, List, [], ◌∷◌, ◌++◌, length, length-append, map, arith, ap, sym, refl, subst, inl, inr}
+use Rattle.std.proofs.Common.{◌≡◌, ◌∙◌, ◌<◌, ◌≤◌, List, [], ◌∷◌, ◌++◌, length, length-append, map, arith, ap, sym, refl, subst, inl, inr}
 use Rattle.std.proofs.lemmas.List.{length-map}
 use Rattle.std.specs.List.Sorted.{IsPermutation}
 use Rattle.std.specs.Prelude.{Option, Some, ◌⊎◌}

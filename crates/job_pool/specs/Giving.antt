@@ -1,5 +1,5 @@
 -- What a source of jobs gives over many calls.
-use Rattle.std.specs.Prelude.{◌≡◌, List, [], ◌∷◌, Option, Some, None, Result, Ok, Err}
+use Rattle.std.specs.Prelude.{◌≡◌, ◌⊎◌, List, [], ◌∷◌, Option, Some, None, Result, Ok, Err}
 use Rattle.job_pool.specs.Lists.{Pairwise}
 use Rattle.job_pool.specs.Turns.{ServedOnce}
 use Rattle.job_pool.specs.declared.fault.RunFault.{RunFault}
@@ -23,6 +23,10 @@ module _ {G J F : Type 0} (Gives : G → Result (Option J) F → G → Type 0) w
   abbrev pub AllServedOnce : {W E : Type 0} → (W → J → W → E → Type 0) → G → List W → List E → List W → G → Type 0
   AllServedOnce Serves first firsts ends lasts last = (jobs : List J) × GaveAll first jobs last × ServedOnce Serves jobs firsts ends lasts
 
+  -- some jobs, or all until there was none
+  abbrev pub GaveSome : G → G → Type 0
+  GaveSome first last = (jobs : List J) × (Gave first jobs last ⊎ GaveAll first jobs last)
+
   -- some jobs, and then a fault
   abbrev pub GaveThenFailed : G → G → Type 0
   GaveThenFailed first last = (jobs : List J) × (next : G) × (fault : F) × Gave first jobs next × Gives next (Err fault) last
@@ -35,4 +39,4 @@ module _ {G J F : Type 0} (Gives : G → Result (Option J) F → G → Type 0) w
   abbrev pub Leaves : RunFault → G → G → Type 0
   Leaves NoThread first last = last ≡ first
   Leaves JobsFailed first last = GaveThenFailed first last
-  Leaves NoMemory first last = Unit {0}
+  Leaves NoMemory first last = GaveSome first last

@@ -180,7 +180,8 @@ where
 ///
 /// - `NoThread`: the system refused a thread. No job was taken from the source.
 /// - `JobsFailed`: the source gave some jobs and then a fault. The jobs that it gave were served.
-/// - `NoMemory`: memory was refused, to the run or to a worker for the end of a job, which was then not served.
+/// - `NoMemory`: memory was refused, to the run or to a worker for the end of a job, which was then not served. The source gave some
+///   jobs, or all of them.
 ///
 /// It waits for the workers, and they for jobs. It returns if each call of `next` and of `serve` does.
 pub fn run<S, G, T>(

@@ -1,5 +1,5 @@
 -- What is left of a source where a run ends by a fault.
-use Rattle.std.proofs.Common.{ℕ, List}
+use Rattle.std.proofs.Common.{ℕ, List, inr}
 use Rattle.std.specs.Prelude.{Option, Result}
 use Rattle.job_pool.specs.Giving.{AllServed}
 use Rattle.job_pool.specs.Giving as pools
@@ -17,13 +17,13 @@ use Rattle.worker_pool.specs.Leaving.{IsFaultAfter, Leaves, pool_fault}
 module _ {J I O : Type 0} (Gives : J → Result (Option (Job I O)) JobFault → J → Type 0) (remaining : I → Option (List ℕ)) (contents : O → Option (List ℕ)) (shared : Gates) (first last : J) where
   -- of the workers' run
   pub leaves_as : (fault : RunFault) → pools.Leaves Gives fault first last → Leaves Gives remaining contents shared (pool_fault fault) first last
-  leaves_as runs.NoMemory h = tt
+  leaves_as runs.NoMemory h = h
   leaves_as runs.NoThread h = h
   leaves_as runs.JobsFailed h = h
 
   -- behind it
   pub leaves_after : (served : List (Served I O)) → AllServed Gives (Serves remaining contents shared) first served last → (fault : PoolFault) → IsFaultAfter served fault → Leaves Gives remaining contents shared fault first last
-  leaves_after served all NoMemory h = tt
+  leaves_after served all NoMemory h = (all.0, inr all.1)
   leaves_after served all NoThread h = absurd h
   leaves_after served all JobsFailed h = absurd h
   leaves_after served all BookFull h = (served, all, h)

@@ -1,6 +1,6 @@
 -- What a run that ends by a fault leaves.
 use Rattle.std.specs.Prelude.{◌≡◌, ◌⊎◌, ℕ, true, List, [], ◌∷◌, Option, Result}
-use Rattle.job_pool.specs.Giving.{AllServed, GaveThenFailed}
+use Rattle.job_pool.specs.Giving.{AllServed, GaveSome, GaveThenFailed}
 use Rattle.job_pool.specs.declared.jobs.JobFault.{JobFault}
 use Rattle.job_pool.specs.declared.fault.RunFault.{RunFault}
 use Rattle.job_pool.specs.declared.fault.RunFault.TheVariants as runs
@@ -36,7 +36,7 @@ module _ {J I O : Type 0} (Gives : J → Result (Option (Job I O)) JobFault → 
 
   -- what is left of the source of jobs
   abbrev pub Leaves : PoolFault → J → J → Type 0
-  Leaves NoMemory first last = Unit {0}
+  Leaves NoMemory first last = GaveSome Gives first last
   Leaves NoThread first last = last ≡ first
   Leaves JobsFailed first last = GaveThenFailed Gives first last
   Leaves BookFull first last = ServedPastFullBook first last

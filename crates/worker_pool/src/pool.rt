@@ -76,7 +76,8 @@ where
     requires all { AllAre (vec_len finished.workers) G.parts P.parts D.parts E.parts R.parts }
     ensures ends { IfOk result (λ closed.
         map counted_whole closed.ends.items ≡ finished.ends.items) }
-    ensures tallies { IfOk result (λ closed. Pairwise IsTally shared.now.gates closed.tallies.items) }
+    ensures tallies { IfOk result (λ closed.
+        Pairwise IsTally shared.now.gates closed.tallies.items) }
     ensures totals { IfOk result (λ closed. closed.totals ≡ sum_of finished.workers.items) }
     ensures fault { IfErr result (IsFaultAfter finished.ends.items) }
 {
@@ -134,7 +135,8 @@ where
     ensures totals { IfOk result (λ closed.
         SumsSessions J.gives I.remaining O.contents shared.now workers
         jobs.old closed.ends.items closed.totals jobs.new) }
-    ensures tallies { IfOk result (λ closed. Pairwise IsTally shared.now.gates closed.tallies.items) }
+    ensures tallies { IfOk result (λ closed.
+        Pairwise IsTally shared.now.gates closed.tallies.items) }
     ensures fault { IfErr result (λ fault.
         Leaves J.gives I.remaining O.contents shared.now fault jobs.old jobs.new) }
 {
@@ -166,7 +168,8 @@ impl Pool {
     ///
     /// Where it is refused, the workers that were started have been joined, and what they did to the vnodes stays:
     ///
-    /// - `NoMemory`: memory was refused, to the run or to a worker for the end of a job, which was then not served.
+    /// - `NoMemory`: memory was refused, to the run or to a worker for the end of a job, which was then not served. The source gave
+    ///   some jobs, or all of them.
     /// - `NoThread`: the system refused a thread. No job was taken from the source.
     /// - `JobsFailed`: the source gave some jobs and then a fault. The jobs that it gave were served.
     /// - `BookFull`: all jobs were served, and in one of their sessions a total would have passed 18,446,744,073,709,551,615.
