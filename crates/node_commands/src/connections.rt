@@ -2,12 +2,13 @@
 ghost use Rattle.std.specs.Prelude.{IfOk, IfSome};
 ghost use Rattle.node_commands.specs.Sources.{IsNew};
 
+use crate::accept::accept;
 use crate::fault::ServeFault;
 use crate::halves::{ReplyHalf, RequestHalf, new_halves};
 use log::{Log, info, warn};
 use std::alloc::Global;
-use std::net::{SocketAddr, TcpListener, TcpStream};
-use std::{io, thread};
+use std::net::{OpenListener, SocketAddr, TcpStream};
+use std::rt::Clock;
 use worker_pool::{Job, JobFault, Jobs, Passes, Shared};
 
 /// The job of a connection.
@@ -15,10 +16,10 @@ pub(crate) type ConnectionJob = Job<RequestHalf, ReplyHalf>;
 
 /// The next connections of a listener, so many, each with new passes of the gates of a run.
 #[derive(Drop)]
-pub(crate) struct Connections<'a, L: Log> {
-    pub(crate) rt: &'a L,
+pub(crate) struct Connections<'a, T, L> {
+    pub(crate) rt: &'a T,
     pub(crate) alloc: Global,
-    pub(crate) listener: &'a TcpListener,
+    pub(crate) listener: &'a L,
     pub(crate) shared: &'a Shared,
     /// How many are still to come.
     pub(crate) left: u16,
@@ -44,7 +45,7 @@ fn new_job(
     })
 }
 
-impl<'a, L: Log> Connections<'a, L> {
+impl<'a, T: Log + Clock, L: OpenListener<Stream = TcpStream>> Connections<'a, T, L> {
     /// Has replies sent without delay, and logs the connection.
     fn begin(&self, stream: &TcpStream, peer: SocketAddr) {
         if stream.set_nodelay(true).is_err() {
@@ -65,14 +66,14 @@ impl<'a, L: Log> Connections<'a, L> {
     fn accept(&self) -> Result<ConnectionJob, ServeFault>
         ensures { IfOk result (IsNew self.now.shared.now) }
     {
-        match self.listener.accept() {
+        match accept(self.rt, self.listener) {
             Ok((stream, peer)) => self.job(stream, peer),
             Err(_) => Err(ServeFault::AcceptFailed),
         }
     }
 }
 
-impl<'a, L: Log> Jobs for Connections<'a, L> {
+impl<'a, T: Log + Clock, L: OpenListener<Stream = TcpStream>> Jobs for Connections<'a, T, L> {
     type Job = ConnectionJob;
 
     ghost use Rattle.node_commands.specs.Sources.{GivesNext};

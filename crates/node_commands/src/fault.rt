@@ -5,7 +5,7 @@ use thiserror::Error;
 /// Why serving stopped before all connections were served. All threads have been joined.
 #[derive(Clone, Copy, Debug, Drop, PartialEq, Eq, Error)]
 pub enum ServeFault {
-    /// The system gave no further connection: the listener failed, or there was no descriptor or no memory for one.
+    /// The system gave no further connection: the listener failed, or for an hour there was no descriptor or no memory for one.
     /// Those that were accepted before were served.
     #[error("accept failed")]
     AcceptFailed,

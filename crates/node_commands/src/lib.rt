@@ -16,18 +16,21 @@
 //! seen nothing.
 //!
 //! What it costs: a connection takes a descriptor, a pass of each gate, and 8,192 bytes for replies until it ends. Replies to what one read
-//! brought go out by one write, where they have room there.
+//! brought go out by one write, where they have room there. Where the system has no descriptor or no memory for a further connection, that
+//! one waits until another has ended: it is accepted again every 10 ms, for an hour.
 //!
 //! How it is built: a connection's socket is shared by its two halves, [`RequestHalf`] and [`ReplyHalf`], and closed when both have let go
 //! of it, at the session's end. The listener is the pool's source of jobs.
 #![tactic(auto)]
 
+mod accept;
 mod connections;
 mod fault;
 mod halves;
 mod serving;
 mod streams;
 
+pub use accept::MAX_ACCEPT_TRIES;
 pub use fault::ServeFault;
 pub use halves::{ReplyHalf, RequestHalf};
 pub use serving::{Served, Settings, serve_on};

@@ -12,7 +12,8 @@ use stats_book::Totals;
 use std::alloc::Global;
 use std::io;
 use std::io::Write;
-use std::net::TcpListener;
+use std::net::{OpenListener, TcpStream};
+use std::rt::Clock;
 use std::sync::Wait;
 use std::thread::Threads;
 use worker_pool::{Closed, End, Open, Pool, PoolFault, Shared};
@@ -82,14 +83,17 @@ fn serve_fault(fault: PoolFault, of_connections: ServeFault) -> ServeFault {
 }
 
 /// Serves the next connections of a listener, so many, over the gates of a run.
-fn serve_over<T: Log + Threads + Wait + Sync>(
+fn serve_over<T, L>(
     rt: &T,
     alloc: Global,
     shared: &Shared,
-    listener: &TcpListener,
+    listener: &L,
     connections: u16,
     workers: u16,
 ) -> Result<Served, ServeFault>
+where
+    T: Log + Clock + Threads + Wait + Sync,
+    L: OpenListener<Stream = TcpStream>,
     requires { (1 ≤ workers) × (workers ≤ 64) }
     ensures { IfOk result (AreServed shared.now connections) }
 {
@@ -108,7 +112,7 @@ fn serve_over<T: Log + Threads + Wait + Sync>(
 }
 
 /// Writes the address, as far as that can be done.
-fn announce<W: Write>(listener: &TcpListener, writer: &mut W) {
+fn announce<L: OpenListener, W: Write>(listener: &L, writer: &mut W) {
     if let Ok(address) = listener.local_addr() {
         let _ = write_address(writer, address.port());
         let _ = writer.flush();
@@ -129,16 +133,20 @@ fn report<T: Log, W: Write>(rt: &T, served: &Served, writer: &mut W) {
 /// wait. A connection that fails ends alone. The log has a line for each connection when it is accepted, and for each
 /// one's end, with its fault, after the last one has ended.
 ///
+/// Where the system has no descriptor or no memory for a further connection, the log has a warning, and it is accepted again every 10 ms
+/// until there is one, [`MAX_ACCEPT_TRIES`](crate::MAX_ACCEPT_TRIES) times at most.
+///
 /// The outcome keeps each connection's end: with its passes about 700 bytes on a ring of 64, 45 MB for 65,535.
-pub fn serve_on<T, W>(
+pub fn serve_on<T, L, W>(
     rt: &T,
     alloc: Global,
-    listener: TcpListener,
+    listener: L,
     settings: &Settings,
     writer: &mut W,
 ) -> Result<Served, ServeFault>
 where
-    T: Log + Threads + Wait + Sync,
+    T: Log + Clock + Threads + Wait + Sync,
+    L: OpenListener<Stream = TcpStream> + Drop,
     W: Write,
     requires workers { (1 ≤ settings.now.workers) × (settings.now.workers ≤ 64) }
     requires run { 1 ≤ settings.now.run }

@@ -2,7 +2,17 @@
 //!
 //! `riak_node serve` serves connections, each a stream of requests of Riak's Protocol Buffers client API in frames, and their replies in
 //! frames. `riak_node pipe` serves standard input to standard output in the same way. `riak_node steps` plays a schedule of workers' steps,
-//! a line in and a line out. Each ends with status 0 at the end of its input, with 1 and one line on standard error where it had to stop before, and with 2 where the command line is none of its own.
+//! a line in and a line out.
+//!
+//! ```text
+//! $ riak_node serve --connections 2
+//! listening 127.0.0.1:8087
+//! gets 2 puts 2 deletes 0 refusals 0 reaps 0
+//! $ printf '\0\0\0\1\1' | riak_node pipe | xxd -p      a ping
+//! 0000000102
+//! ```
+//!
+//! Each ends with status 0 at the end of its input, with 1 and one line on standard error where it had to stop before, and with 2 where the command line is none of its own.
 #![tactic(auto)]
 
 mod command_line;
@@ -21,6 +31,7 @@ use std::io;
 use std::io::{BufWriter, Write};
 use std::net::{Net, TcpListener, TcpStream};
 use std::process::ExitCode;
+use std::rt::Clock;
 use std::sync::Wait;
 use std::thread::Threads;
 
@@ -69,7 +80,13 @@ fn serve_connections<R, W>(
     output: &mut W,
 ) -> io::Result<ExitCode>
 where
-    R: Log + Eprint + Net<Listener = TcpListener, Stream = TcpStream> + Threads + Wait + Sync,
+    R: Log
+        + Clock
+        + Eprint
+        + Net<Listener = TcpListener, Stream = TcpStream>
+        + Threads
+        + Wait
+        + Sync,
     W: Write,
 {
     let Some(ring) = Ring::new(options.ring) else {

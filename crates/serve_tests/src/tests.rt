@@ -1,6 +1,8 @@
 //! A run that serves connections, and its clients beside it.
 ghost use Rattle.std.specs.Prelude.{◌≤◌};
 
+mod exhausted;
+
 use log::sink::Console;
 use log::{LevelFilter, Log, Logged};
 use node_commands::{ServeFault, Served, Settings, serve_on};
@@ -8,7 +10,8 @@ use node_session::{Ended, SessionFault};
 use ring_map::Ring;
 use std::alloc::Global;
 use std::io::{Read, Write};
-use std::net::{Net, Shutdown, TcpListener, TcpStream};
+use std::net::{Net, OpenListener, Shutdown, TcpListener, TcpStream};
+use std::rt::Clock;
 use std::sync::Wait;
 use std::test::*;
 use std::thread::Threads;
@@ -38,13 +41,16 @@ struct Outcome {
 }
 
 /// Serves so many connections by so many workers, on a ring of one partition.
-fn serve_some<R: Log + Threads + Wait + Sync>(
+fn serve_some<R, L>(
     rt: &R,
     alloc: Global,
-    listener: TcpListener,
+    listener: L,
     connections: u16,
     workers: u16,
 ) -> Option<Outcome>
+where
+    R: Log + Clock + Threads + Wait + Sync,
+    L: OpenListener<Stream = TcpStream> + Drop,
     requires { (1 ≤ workers) × (workers ≤ 64) }
 {
     let settings = Settings {
