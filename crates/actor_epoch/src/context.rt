@@ -48,7 +48,8 @@ impl<'a> Model for Context<'a> {
 
     ghost view = { λ c. entries_in c.count c.entries.now };
 
-    ghost invariant = { λ c. (length c.entries.now ≡ 16 * c.count) × IsTrue (is_well_formed (entries_in c.count c.entries.now)) };
+    ghost invariant = { λ c. (length c.entries.now ≡ 16 * c.count)
+        × IsTrue (is_well_formed (entries_in c.count c.entries.now)) };
 }
 
 impl<'a> Context<'a> {

@@ -20,7 +20,8 @@ pub fn what_is_written_is_read()
 /// they are strictly rising by actor, as in a context, that is the counter of the one pair of the actor.
 pub fn pairs_cover_up_to_their_counters()
     ensures covers { (pairs : List Dot) (dot : Dot) → CoversUpTo pairs dot }
-    ensures counter { (before : List Dot) (pair : Dot) (after : List Dot) → HasItsCounter before pair after }
+    ensures counter { (before : List Dot) (pair : Dot) (after : List Dot)
+        → HasItsCounter before pair after }
 {}
 
 /// The limits of the code are those of the definitions: 4,294,967,295 epochs and counters, and 64 actors.

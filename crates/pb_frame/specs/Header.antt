@@ -15,7 +15,7 @@ pub record IsWhole (limit : ℕ) (bytes : List ℕ) (end : ℕ) : Type 0 where
   pub within : IsWithin limit (message_at bytes end)
   pub front : bytes ≡ frame (message_at bytes end) ++ drop end bytes
 
--- what the header tells of the bytes: less than a frame, a whole one, or a bad length
+-- what the header says of the bytes: less than a frame, a whole one, or a bad length
 abbrev pub IsHeader : ℕ → List ℕ → Header → Type 0
 IsHeader limit bytes Incomplete = IsPartial limit bytes
 IsHeader limit bytes (Complete end) = IsWhole limit bytes end

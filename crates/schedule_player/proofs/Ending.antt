@@ -15,7 +15,7 @@ use Rattle.schedule_player.specs.Answers.{answer_line, next_line}
 use Rattle.schedule_player.specs.Asked.{AsksFor, AsksForNone, AskForAll}
 use Rattle.schedule_player.specs.Lines.{PlaysLine}
 use Rattle.schedule_player.specs.Played.{Ends, Answered, Played}
-use Rattle.schedule_player.specs.Stands.{HasAnswered, WritesEnd}
+use Rattle.schedule_player.specs.Progress.{HasAnswered, WritesEnd}
 use Rattle.schedule_player.proofs.Texts.{whole_alone}
 
 module _ (start : Start) (ring : ℕ) where

@@ -8,9 +8,9 @@ use Rattle.schedule_player.specs.declared.fault.StepsFault.{StepsFault}
 use Rattle.schedule_player.specs.declared.fault.StepsFault.TheVariants.{ReadFailed, WriteFailed, NoMemory}
 use Rattle.schedule_player.specs.declared.player.Player.{Player}
 use Rattle.schedule_player.specs.Lines.{IsPlayed, PlaysLine}
-use Rattle.schedule_player.specs.Stands.{Stands, PlaysPiece, PlaysEnd, PlaysAll, WritesEnd}
+use Rattle.schedule_player.specs.Progress.{HasPlayed, PlaysPiece, PlaysEnd, PlaysAll, WritesEnd}
 use Rattle.schedule_player.proofs.Texts.{lines_at, last_line, lacks_both, whole_alone}
-use Rattle.schedule_player.proofs.Standing.{has_more, line_played, rest_kept, stands_flushed}
+use Rattle.schedule_player.proofs.Progress.{has_more, line_played, rest_kept, played_flushed}
 use Rattle.schedule_player.proofs.Ending.{stopped, ended_between, end_written}
 
 -- a part of a piece was answered, and this is left of it
@@ -23,7 +23,7 @@ pub none_gone : (old : Player) (partial piece : List ℕ) (held : Option (List �
 none_gone old partial piece held = record {
   done = [];
   split = refl;
-  goes = λ start ring input first s. subst (λ x. Stands start ring old x first held partial) (sym (append-nil input)) s;
+  goes = λ start ring input first s. subst (λ x. HasPlayed start ring old x first held partial) (sym (append-nil input)) s;
 }
 
 module _ (old player : Player) (partial piece rest left : List ℕ) (held held' : Option (List ℕ)) where
@@ -36,7 +36,7 @@ module _ (old player : Player) (partial piece rest left : List ℕ) (held held' 
         done = g.done ++ (front ++ feed);
         split = g.split ∙ ap (λ x. g.done ++ x) (cut.whole ∙ sym (append_assoc front feed behind)) ∙ sym (append_assoc g.done (front ++ feed) behind);
         goes = λ start ring input first s.
-            subst (λ x. Stands start ring new x first held'' []) (append_assoc input g.done (front ++ feed))
+            subst (λ x. HasPlayed start ring new x first held'' []) (append_assoc input g.done (front ++ feed))
             (line_played start ring player new (input ++ g.done) left front first held' held'' (g.goes start ring input first s) cut.first p);
       }
 
@@ -62,7 +62,7 @@ module _ (old player : Player) (partial piece rest left : List ℕ) (held held' 
   -- no line is left
   pub rest_gone : HasGone old partial piece held player rest left held' → Lacks 10 rest → PlaysPiece old partial piece held player (left ++ rest) held' (Ok tt)
   rest_gone g lacks = λ start ring input first s.
-      subst (λ x. Stands start ring player x first held' (left ++ rest)) (append_assoc input g.done rest ∙ ap (λ x. input ++ x) (sym g.split))
+      subst (λ x. HasPlayed start ring player x first held' (left ++ rest)) (append_assoc input g.done rest ∙ ap (λ x. input ++ x) (sym g.split))
       (rest_kept start ring player (input ++ g.done) left rest first held' (g.goes start ring input first s) lacks)
 
 -- the input ends behind a line feed
@@ -87,7 +87,7 @@ end_stops fault old new partial held held' some p = λ start ring input first s.
 pub record HasRead (old : Player) (unread unread' held : Option (List ℕ)) (player : Player) (left : List ℕ) (held' : Option (List ℕ)) : Type 0 where
   pub input : List ℕ
   pub read : Consumes unread unread' input
-  pub goes : (start : Start) (ring : ℕ) → Stands start ring old [] held held [] → Stands start ring player input held held' left
+  pub goes : (start : Start) (ring : ℕ) → HasPlayed start ring old [] held held [] → HasPlayed start ring player input held held' left
 
 pub none_read : (old : Player) (unread held : Option (List ℕ)) → HasRead old unread unread held old [] held
 none_read old unread held = record { input = []; read = Consumes-nil unread; goes = λ start ring s. s }
@@ -99,7 +99,7 @@ module _ (old player : Player) (unread unread' held held' held'' : Option (List 
   piece_read new unread'' held₃ piece left' h flushed read p = record {
     input = h.input ++ piece;
     read = Consumes-trans unread unread' unread'' h.input piece h.read read;
-    goes = λ start ring s. p start ring h.input held (stands_flushed start ring player h.input left held held' held'' (h.goes start ring s) flushed);
+    goes = λ start ring s. p start ring h.input held (played_flushed start ring player h.input left held held' held'' (h.goes start ring s) flushed);
   }
 
   -- a read was interrupted
@@ -107,7 +107,7 @@ module _ (old player : Player) (unread unread' held held' held'' : Option (List 
   nothing_read unread'' h flushed kept = record {
     input = h.input;
     read = Consumes-kept unread unread' unread'' h.input h.read kept;
-    goes = λ start ring s. stands_flushed start ring player h.input left held held' held'' (h.goes start ring s) flushed;
+    goes = λ start ring s. played_flushed start ring player h.input left held held' held'' (h.goes start ring s) flushed;
   }
 
   -- the run ends in a piece
@@ -116,7 +116,7 @@ module _ (old player : Player) (unread unread' held held' held'' : Option (List 
   piece_stops fault new unread'' held₃ piece left' h flushed read p = λ start ring s. record {
     input = h.input ++ piece;
     read = Consumes-trans unread unread' unread'' h.input piece h.read read;
-    answers = p start ring h.input held (stands_flushed start ring player h.input left held held' held'' (h.goes start ring s) flushed);
+    answers = p start ring h.input held (played_flushed start ring player h.input left held held' held'' (h.goes start ring s) flushed);
   }
 
   -- the input ends
@@ -125,7 +125,7 @@ module _ (old player : Player) (unread unread' held held' held'' : Option (List 
   end_read result unread'' held₃ h flushed read p = λ start ring s. record {
     input = h.input;
     read = subst (Consumes unread unread'') (append-nil h.input) (Consumes-trans unread unread' unread'' h.input [] h.read read);
-    answers = p start ring h.input held (stands_flushed start ring player h.input left held held' held'' (h.goes start ring s) flushed);
+    answers = p start ring h.input held (played_flushed start ring player h.input left held held' held'' (h.goes start ring s) flushed);
   }
 
   -- the reader fails

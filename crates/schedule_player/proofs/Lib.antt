@@ -1,5 +1,5 @@
 mod Known
 mod Texts
-mod Standing
+mod Progress
 mod Ending
 mod Going

@@ -5,4 +5,4 @@ pub mod Played
 pub mod Sent
 pub mod Reads
 pub mod Lines
-pub mod Stands
+pub mod Progress

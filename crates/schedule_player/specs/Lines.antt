@@ -12,7 +12,7 @@ use Rattle.schedule_player.specs.Answers.{answer_line}
 use Rattle.schedule_player.specs.Asked.{AsksFor, AsksForNone}
 
 -- one line more was written and counted; the world is the same
-pub record IsTold (old : Player) (outcome : Returned) (held held' : Option (List ℕ)) (new : Player) : Type 0 where
+pub record IsWritten (old : Player) (outcome : Returned) (held held' : Option (List ℕ)) (new : Player) : Type 0 where
   pub world : new.world ≡ old.world
   pub workers : new.workers ≡ old.workers
   pub ring : new.ring ≡ old.ring
@@ -25,12 +25,12 @@ abbrev pub IsCutTo : Player → Returned → Option (List ℕ) → Option (List 
 IsCutTo old outcome held held' = (len : ℕ) × Appends held held' (take len (answer_line (old.lines + 1) outcome))
 
 -- what came of a step is written as the next line
-abbrev pub Tells : Player → Returned → Option (List ℕ) → Option (List ℕ) → Player → Result (Unit {0}) StepsFault → Type 0
-Tells old outcome held held' new (Ok u) = IsTold old outcome held held' new
-Tells old outcome held held' new (Err (BadStep line)) = ⊥
-Tells old outcome held held' new (Err ReadFailed) = ⊥
-Tells old outcome held held' new (Err WriteFailed) = IsCutTo old outcome held held' × (new.world ≡ old.world)
-Tells old outcome held held' new (Err NoMemory) = Keeps held held'
+abbrev pub WritesLine : Player → Returned → Option (List ℕ) → Option (List ℕ) → Player → Result (Unit {0}) StepsFault → Type 0
+WritesLine old outcome held held' new (Ok u) = IsWritten old outcome held held' new
+WritesLine old outcome held held' new (Err (BadStep line)) = ⊥
+WritesLine old outcome held held' new (Err ReadFailed) = ⊥
+WritesLine old outcome held held' new (Err WriteFailed) = IsCutTo old outcome held held' × (new.world ≡ old.world)
+WritesLine old outcome held held' new (Err NoMemory) = Keeps held held'
 
 -- a step was taken, and what it returned is the next line
 pub record IsAnswered (old : Player) (step : Step) (held held' : Option (List ℕ)) (new : Player) : Type 0 where

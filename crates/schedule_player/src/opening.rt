@@ -3,7 +3,7 @@
 ghost use Rattle.std.specs.Prelude.{◌≡◌, IfErr, IfOk};
 ghost use Rattle.schedule_player.specs.declared.fault.StepsFault.TheVariants.{NoMemory};
 ghost use Rattle.schedule_player.specs.Played.{start_on};
-ghost use Rattle.schedule_player.specs.Stands.{IsOpening};
+ghost use Rattle.schedule_player.specs.Progress.{IsOpening};
 
 use crate::fault::StepsFault;
 use crate::player::Player;

@@ -1,7 +1,7 @@
 //! The lines of what is read, piece by piece.
 
 ghost use Rattle.schedule_text.specs.Cuts.{CutsAt};
-ghost use Rattle.schedule_player.specs.Stands.{PlaysEnd, PlaysPiece, WritesEnd};
+ghost use Rattle.schedule_player.specs.Progress.{PlaysEnd, PlaysPiece, WritesEnd};
 
 use crate::fault::StepsFault;
 use crate::player::Player;

@@ -2,7 +2,7 @@
 
 ghost use Rattle.std.specs.Prelude.{◌<◌};
 ghost use Rattle.node_steps.specs.Asked.{step_of};
-ghost use Rattle.schedule_player.specs.Lines.{AnswersStep, PlaysLine, Tells};
+ghost use Rattle.schedule_player.specs.Lines.{AnswersStep, PlaysLine, WritesLine};
 
 use crate::answer::write_answer;
 use crate::asking::{read_call, read_step, worker_of};
@@ -59,13 +59,13 @@ impl Player {
     {
         let worker = worker_of(&step);
         match self.world.step(alloc, step) {
-            Ok(outcome) => self.tell(alloc, worker, call, &outcome, writer),
+            Ok(outcome) => self.write_line(alloc, worker, call, &outcome, writer),
             Err(_) => Err(StepsFault::NoMemory),
         }
     }
 
     /// Writes what came of the next line's step.
-    fn tell<W: Write>(
+    fn write_line<W: Write>(
         &mut self,
         alloc: Global,
         worker: u16,
@@ -74,7 +74,7 @@ impl Player {
         writer: &mut W,
     ) -> Result<(), StepsFault>
         requires { self.old.lines < 100000 }
-        ensures { Tells self.old outcome.now
+        ensures { WritesLine self.old outcome.now
             (W.contents writer.old) (W.contents writer.new) self.new result }
     {
         let number = u64::from(self.lines) + 1;

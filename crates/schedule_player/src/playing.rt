@@ -3,7 +3,7 @@
 ghost use Rattle.std.specs.Prelude.{IfOk};
 ghost use Rattle.std.specs.Io.KnownBytes.{IsAtEnd};
 ghost use Rattle.schedule_player.specs.Played.{Played, start_on};
-ghost use Rattle.schedule_player.specs.Stands.{PlaysAll};
+ghost use Rattle.schedule_player.specs.Progress.{PlaysAll};
 
 use crate::fault::StepsFault;
 use crate::opening::new_player;

@@ -29,7 +29,7 @@ fn call_of(calls: &[Option<Box<Step>>], worker: u16) -> Option<&Step> {
     }
 }
 
-/// Tells of the answer to a worker's get, put or delete.
+/// Compares the answer to a worker's get, put or delete with the plain node's.
 fn compare(
     comparison: &mut Comparison,
     alloc: Global,
@@ -47,7 +47,7 @@ fn compare(
     }
 }
 
-/// Tells of the answer to a worker's reap.
+/// Has the plain node reap what a worker reaped.
 fn reap(comparison: &mut Comparison, alloc: Global, call: Option<&Step>) -> Result<(), AllocError>
     ensures { verdict_of comparison.new ≡ verdict_of comparison.old }
 {

@@ -10,7 +10,7 @@ use Rattle.sibling_register.specs.declared.command.Command.{Command}
 use Rattle.sibling_register.specs.declared.command.Command.TheVariants as commands
 use Rattle.sibling_register.specs.declared.told.Told.{Told}
 use Rattle.sibling_register.specs.History.{Event}
-use Rattle.sibling_register.specs.Plain.{Gives, told_of}
+use Rattle.sibling_register.specs.Plain.{Gives, answer_of}
 
 abbrev pub get_command : GetAsk → Option ℕ → Command Content
 get_command ask position = commands.Get ask.key position ask.head ask.deletedvclock
@@ -23,12 +23,12 @@ abbrev pub del_command : DelAsk → Option ℕ → Command Content
 del_command ask position = commands.Del ask.key position
 
 -- the register answers a command, and goes from one history to another
-abbrev pub Tells : List (Event Content ℕ) → Command Content → Told → List (Event Content ℕ) → Type 0
-Tells old command told new = Gives old command (told_of told) new
+abbrev pub AnswersWith : List (Event Content ℕ) → Command Content → Told → List (Event Content ℕ) → Type 0
+AnswersWith old command told new = Gives old command (answer_of told) new
 
 -- the same of a request; a ping changes nothing
-abbrev pub TellsRequest : List (Event Content ℕ) → Request → Option ℕ → Told → List (Event Content ℕ) → Type 0
-TellsRequest old requests.Ping position told new = new ≡ old
-TellsRequest old (requests.Get ask) position told new = Tells old (get_command ask position) told new
-TellsRequest old (requests.Put ask) position told new = Tells old (put_command ask position) told new
-TellsRequest old (requests.Del ask) position told new = Tells old (del_command ask position) told new
+abbrev pub AnswersRequest : List (Event Content ℕ) → Request → Option ℕ → Told → List (Event Content ℕ) → Type 0
+AnswersRequest old requests.Ping position told new = new ≡ old
+AnswersRequest old (requests.Get ask) position told new = AnswersWith old (get_command ask position) told new
+AnswersRequest old (requests.Put ask) position told new = AnswersWith old (put_command ask position) told new
+AnswersRequest old (requests.Del ask) position told new = AnswersWith old (del_command ask position) told new

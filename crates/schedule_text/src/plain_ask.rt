@@ -1,7 +1,7 @@
 //! Asking a plain register what a vnode was asked.
 
 ghost use Rattle.std.specs.Prelude.{◌≤◌, IfOk, IfSome};
-ghost use Rattle.schedule_text.specs.PlainAnswers.{Tells, TellsRequest, del_command, get_command, put_command};
+ghost use Rattle.schedule_text.specs.PlainAnswers.{AnswersWith, AnswersRequest, del_command, get_command, put_command};
 ghost use Rattle.sibling_register.specs.Plain.{IsPosition};
 
 use riak_msgs::{Content, DelAsk, GetAsk, PutAsk, Request};
@@ -27,7 +27,7 @@ fn ask_get(
 ) -> Result<Told, RegisterFault>
     requires { IsPosition register.old if_modified }
     ensures { IfOk result (λ told.
-        Tells register.old (get_command ask.now if_modified) told register.new) }
+        AnswersWith register.old (get_command ask.now if_modified) told register.new) }
 {
     let key = ask.key.clone(alloc)?;
     register.ask(
@@ -50,7 +50,7 @@ fn ask_put(
 ) -> Result<Told, RegisterFault>
     requires { IsPosition register.old context }
     ensures { IfOk result (λ told.
-        Tells register.old (put_command ask.now context) told register.new) }
+        AnswersWith register.old (put_command ask.now context) told register.new) }
 {
     let key = ask.key.clone(alloc)?;
     let value = ask.content.as_content().clone(alloc)?;
@@ -77,7 +77,7 @@ fn ask_del(
 ) -> Result<Told, RegisterFault>
     requires { IsPosition register.old context }
     ensures { IfOk result (λ told.
-        Tells register.old (del_command ask.now context) told register.new) }
+        AnswersWith register.old (del_command ask.now context) told register.new) }
 {
     let key = ask.key.clone(alloc)?;
     register.ask(alloc, Command::Del { key, context })
@@ -92,7 +92,7 @@ pub(crate) fn ask(
 ) -> Result<Told, AllocError>
     requires { IsPosition register.old position }
     ensures { IfOk result (λ told.
-        TellsRequest register.old request.now position told register.new) }
+        AnswersRequest register.old request.now position told register.new) }
 {
     let told = match request {
         Request::Ping => Ok(Told::Done),

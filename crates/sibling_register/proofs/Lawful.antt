@@ -57,9 +57,9 @@ module _ {V : Type 0} where
   idle_or true x y P p = refl
   idle_or false x y P p = p
 
-  abbrev told_of : Outcome V ℕ → Told ℕ
-  told_of (Answers told) = told
-  told_of (Accepts event told) = told
+  abbrev answer_of : Outcome V ℕ → Told ℕ
+  answer_of (Answers told) = told
+  answer_of (Accepts event told) = told
 
   -- what the plain register does is what the register may do
   pub may_give : (history : List (Event V ℕ)) (command : Command V) → MayGive by_count history (asked history command) (plain_outcome history (asked history command))
@@ -80,7 +80,7 @@ module _ {V : Type 0} where
       ((put.if_not_modified && not put.if_none_match) && not (is_name by_count history put.key put.context)) (has_too_many history put.key saw)
 
   abbrev IsDecided : Outcome V ℕ → Type 0
-  IsDecided outcome = IsTrue (is_decided (told_of outcome))
+  IsDecided outcome = IsTrue (is_decided (answer_of outcome))
 
   put_decided : (history : List (Event V ℕ)) (put : PutCommand V ℕ) (r : Option ℕ) → DecidedBy r → IsDecided (put_outcome_by history put r)
   put_decided history put None d =
@@ -118,7 +118,7 @@ module _ {V : Type 0} where
       (del_decided history del (del_saw history del) (has_too_many history key (del_saw history del)))
   decided history (Reap key) = reap_decided (is_dead history key) (record { key = key; operation = Forgotten; context = None; saw = numbers_to (count_of history key) })
 
-  same_told : (old : List (Event V ℕ)) (outcome : Outcome V ℕ) (told : Told ℕ) (new : List (Event V ℕ)) → Follows old outcome told new → told ≡ told_of outcome
+  same_told : (old : List (Event V ℕ)) (outcome : Outcome V ℕ) (told : Told ℕ) (new : List (Event V ℕ)) → Follows old outcome told new → told ≡ answer_of outcome
   same_told old (Answers given) told new f = f.0
   same_told old (Accepts event given) told new f = f.0
 

@@ -10,7 +10,7 @@ use Rattle.sibling_register.specs.declared.key_state.KeyState.{KeyState}
 use Rattle.sibling_register.specs.History.{Operation, Write, Tombstone, Reap, Event, numbers_to, is_update}
 use Rattle.sibling_register.specs.Answers.{Told, Ask, GetCommand, PutCommand, DelCommand, Outcome, Answers, Accepts}
 use Rattle.sibling_register.specs.Counting.{context_at}
-use Rattle.sibling_register.specs.Plain.{told_of}
+use Rattle.sibling_register.specs.Plain.{answer_of}
 use Rattle.sibling_register.specs.Plans.{plain_outcome}
 use Rattle.sibling_register.specs.Refusals.{max_siblings}
 
@@ -48,7 +48,7 @@ module _ {V : Type 0} where
 
   -- the outcome that was planned
   abbrev pub outcome_of : Planned V → Outcome V ℕ
-  outcome_of planned = outcome_by (told_of planned.told) planned.entry
+  outcome_of planned = outcome_by (answer_of planned.told) planned.entry
 
   -- what was planned is the outcome of the ask at the plain register
   abbrev pub IsOutcomeOf : List (Entry V) → Ask V ℕ → Planned V → Type 0

@@ -12,12 +12,12 @@ use Rattle.sibling_register.specs.Plans.{plain_outcome}
 use Rattle.sibling_register.specs.Counting.{by_count, context_at}
 
 -- the answer that a value of the type `Told` encodes
-abbrev pub told_of : TypeTold → Told ℕ
-told_of (TypeRefused number) = Refused number
-told_of (TypeShown siblings place unchanged bare) = Shown siblings place unchanged bare
-told_of TypeDone = Done
-told_of TypeReaped = Reaped
-told_of TypeKept = Kept
+abbrev pub answer_of : TypeTold → Told ℕ
+answer_of (TypeRefused number) = Refused number
+answer_of (TypeShown siblings place unchanged bare) = Shown siblings place unchanged bare
+answer_of TypeDone = Done
+answer_of TypeReaped = Reaped
+answer_of TypeKept = Kept
 
 -- no refusal but the checks that the history decides: match found, modified, not found, too many siblings
 abbrev pub is_decided : Told ℕ → Bool

@@ -2,7 +2,7 @@
 
 ghost use Rattle.std.specs.Prelude.{◌≡◌, IfOk, [], false};
 ghost use Rattle.sibling_register.specs.Answers.{AskGet, Shown};
-ghost use Rattle.sibling_register.specs.Plain.{IsPosition, told_of};
+ghost use Rattle.sibling_register.specs.Plain.{IsPosition, answer_of};
 ghost use Rattle.sibling_register.specs.Entries.{history_of, get_of, IsOutcomeOf};
 
 use crate::entry::Entry;
@@ -16,7 +16,7 @@ use std::alloc::{AllocError, Global};
 
 /// The answer without siblings.
 fn without_siblings(alloc: Global, place: Option<u64>, unchanged: bool) -> Told
-    ensures value { told_of result ≡ Shown [] place unchanged false }
+    ensures value { answer_of result ≡ Shown [] place unchanged false }
 {
     Told::Shown {
         siblings: Numbers::new(Vec::new(alloc)),

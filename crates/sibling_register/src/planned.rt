@@ -2,7 +2,7 @@
 
 ghost use Rattle.std.specs.Prelude.{◌≡◌, IfOk};
 ghost use Rattle.sibling_register.specs.Answers.{Answers};
-ghost use Rattle.sibling_register.specs.Plain.{asked, told_of, GivesPositions};
+ghost use Rattle.sibling_register.specs.Plain.{asked, answer_of, GivesPositions};
 ghost use Rattle.sibling_register.specs.Entries.{history_of, outcome_of, IsOutcomeOf};
 
 use crate::command::Command;
@@ -24,7 +24,7 @@ pub(crate) struct Planned<V> {
 impl<V> Planned<V> {
     /// An answer of which nothing is kept.
     pub(crate) fn answer(told: Told) -> Self
-        ensures value { outcome_of result ≡ Answers (told_of told) }
+        ensures value { outcome_of result ≡ Answers (answer_of told) }
     {
         Planned { told, entry: None }
     }

@@ -3,7 +3,7 @@
 ghost use Rattle.std.specs.Prelude.{◌≡◌, IfOk, Some, false, not, ◌||◌, if◌then◌else◌, nat_eq, unwrap_or};
 ghost use Rattle.std.specs.Option.{option_eq};
 ghost use Rattle.sibling_register.specs.Answers.{AskPut, Shown, Done};
-ghost use Rattle.sibling_register.specs.Plain.{IsPosition, told_of};
+ghost use Rattle.sibling_register.specs.Plain.{IsPosition, answer_of};
 ghost use Rattle.sibling_register.specs.Plans.{first_check_of};
 ghost use Rattle.sibling_register.specs.Entries.{history_of, put_of, has_too_many_by, IsOutcomeOf};
 
@@ -65,7 +65,7 @@ fn first_check(
 
 /// The answer to an accepted put, after which the key has these siblings.
 fn put_answer(siblings: Vec<u64>, position: u64, return_body: bool, return_head: bool) -> Told
-    ensures value { told_of result ≡ (if return_body || return_head
+    ensures value { answer_of result ≡ (if return_body || return_head
         then Shown siblings.items (Some position) false (not return_body) else Done) }
 {
     if return_body || return_head {

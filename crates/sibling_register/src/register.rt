@@ -2,7 +2,7 @@
 
 ghost use Rattle.std.specs.Prelude.{◌≡◌, [], IfOk, OnOk, OnErr, length, option_copied};
 ghost use Rattle.sibling_register.specs.History.{content_of};
-ghost use Rattle.sibling_register.specs.Plain.{GivesPositions, Gives, told_of};
+ghost use Rattle.sibling_register.specs.Plain.{GivesPositions, Gives, answer_of};
 ghost use Rattle.sibling_register.specs.Entries.{history_of, kept_of};
 
 use crate::command::Command;
@@ -93,7 +93,7 @@ impl<V: Drop> PlainRegister<V> {
     /// A refusal is an answer, and changes nothing. On `NoMemory` nothing changed either.
     pub fn ask(&mut self, alloc: Global, command: Command<V>) -> Result<Told, RegisterFault>
         requires { GivesPositions self.old command }
-        ensures gives { IfOk result (λ told. Gives self.old command (told_of told) self.new) }
+        ensures gives { IfOk result (λ told. Gives self.old command (answer_of told) self.new) }
         ensures err { OnErr result (self.new ≡ self.old) }
     {
         let Planned { told, entry } = plan(alloc, self.entries.as_slice(), command)?;

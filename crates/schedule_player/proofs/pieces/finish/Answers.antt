@@ -1,7 +1,7 @@
 use Rattle.std.proofs.Common.{◌≡◌, ◌<◌, length, arith, subst}
 use Rattle.std.proofs.lemmas.Result.{err_from_is_err_and}
 use Rattle.schedule_player.specs.declared.player.Player.{Player}
-use Rattle.schedule_player.specs.Stands.{WritesEnd}
+use Rattle.schedule_player.specs.Progress.{WritesEnd}
 use Rattle.schedule_player.proofs.Texts.{no_bytes}
 use Rattle.schedule_player.proofs.Going.{end_empty, end_line, end_stops}
 use Rattle.schedule_player.proofs.pieces.finish.Goals as goal

@@ -2,7 +2,7 @@ use Rattle.std.proofs.Common.{◌≡◌, List, ℕ, take, length, subst, ◌∙�
 use Rattle.std.proofs.lemmas.Result.{err_from_is_err_and}
 use Rattle.std.specs.Io.KnownBytes.{Consumes}
 use Rattle.std.proofs.KnownBytes.{Keeps-refl}
-use Rattle.schedule_player.specs.Stands.{PlaysEnd}
+use Rattle.schedule_player.specs.Progress.{PlaysEnd}
 use Rattle.schedule_player.proofs.Going.{piece_read, nothing_read, piece_stops, end_read, read_fails, flush_fails}
 use Rattle.schedule_player.proofs.playing.play.Goals as goal
 use Rattle.schedule_player.proofs.playing.play.Goals.{in-Ok+in_ok-play_piece-in-Ok, in-Err+else-ne}

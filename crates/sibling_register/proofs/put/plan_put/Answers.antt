@@ -6,7 +6,7 @@ use Rattle.sibling_register.specs.History.{Event, count_of}
 use Rattle.sibling_register.specs.Answers.{PutCommand, Accepts, put_refusal}
 use Rattle.sibling_register.specs.Counting.{by_count}
 use Rattle.sibling_register.specs.Plans.{saw_by, put_outcome_by}
-use Rattle.sibling_register.specs.Plain.{told_of}
+use Rattle.sibling_register.specs.Plain.{answer_of}
 use Rattle.sibling_register.specs.Entries.{event_of, history_of, follow_of}
 use Rattle.sibling_register.proofs.Plans.{put_refusal-by, put-kept, length-history_of}
 use Rattle.sibling_register.proofs.put.plan_put.Goals as goal
@@ -38,8 +38,8 @@ returns g c =
     ∙ ap (λ n. follow_of (entry (unwrap_or c.count_at-named.result 0)) (n + 1) c.in_ok-key_state.key_state.siblings.items) read.count
     ∙ ap (follow_of (entry (unwrap_or c.count_at-named.result 0)) (count_of history given.key + 1)) read.siblings in
     record {
-      value = ap (λ m. Accepts (event_of (entry m)) (told_of c.put_answer-told.result)) saw
-          ∙ put-kept history (put c.count_at-named.result) c.follow.new.numbers.items _ (told_of c.put_answer-told.result)
+      value = ap (λ m. Accepts (event_of (entry m)) (answer_of c.put_answer-told.result)) saw
+          ∙ put-kept history (put c.count_at-named.result) c.follow.new.numbers.items _ (answer_of c.put_answer-told.result)
           numbers (ap (λ n. n + 1) (sym (length-history_of c.args.entries.now))) c.put_answer-told.ensures.value
           ∙ ap (put_outcome_by history (put c.count_at-named.result)) (sym c.in_default.is ∙ check)
           ∙ ap (λ context. put_outcome_by history (put context) (put_refusal by_count history (put context) (saw_by context))) c.count_at-named.ensures.value;

@@ -1,4 +1,4 @@
--- Where a run stands between its lines.
+-- How far a run has come between its lines.
 use Rattle.std.specs.Prelude.{◌≡◌, ◌+◌, ◌<◌, ◌≤◌, ◌^◌, ℕ, List, [], ◌++◌, length, take, Option, Result, Ok, Err}
 use Rattle.std.specs.Io.KnownBytes.{Appends, Keeps}
 use Rattle.schedule_text.specs.Cuts.{Lacks, lines_of}
@@ -38,7 +38,7 @@ pub record HasAnswered (start : Start) (ring : ℕ) (player : Player) (texts : L
   pub written : Appends held held' (answer_lines start schedule)
 
 -- the whole lines of an input were answered, and behind them lies a part of a line
-pub record Stands (start : Start) (ring : ℕ) (player : Player) (input : List ℕ) (held held' : Option (List ℕ)) (partial : List ℕ) : Type 0 where
+pub record HasPlayed (start : Start) (ring : ℕ) (player : Player) (input : List ℕ) (held held' : Option (List ℕ)) (partial : List ℕ) : Type 0 where
   pub answered : List ℕ
   pub texts : List (List ℕ)
   pub parts : input ≡ answered ++ partial
@@ -47,19 +47,19 @@ pub record Stands (start : Start) (ring : ℕ) (player : Player) (input : List �
   pub has : HasAnswered start ring player texts schedule held held'
   pub unended : Lacks 10 partial
 
--- from wherever a player stands, a piece of the input is answered
+-- however far a player has come, a piece of the input is answered
 abbrev pub PlaysPiece : (old : Player) (partial piece : List ℕ) (held : Option (List ℕ)) (new : Player) (partial' : List ℕ) (held' : Option (List ℕ)) → Result (Unit {0}) StepsFault → Type 0
 PlaysPiece old partial piece held new partial' held' (Ok u) =
-    (start : Start) (ring : ℕ) (input : List ℕ) (first : Option (List ℕ)) → Stands start ring old input first held partial
-    → Stands start ring new (input ++ piece) first held' partial'
+    (start : Start) (ring : ℕ) (input : List ℕ) (first : Option (List ℕ)) → HasPlayed start ring old input first held partial
+    → HasPlayed start ring new (input ++ piece) first held' partial'
 PlaysPiece old partial piece held new partial' held' (Err fault) =
-    (start : Start) (ring : ℕ) (input : List ℕ) (first : Option (List ℕ)) → Stands start ring old input first held partial
+    (start : Start) (ring : ℕ) (input : List ℕ) (first : Option (List ℕ)) → HasPlayed start ring old input first held partial
     → Answered start ring (input ++ piece) first held' (Err fault)
 
--- from wherever a player stands, the input ends
+-- however far a player has come, the input ends
 abbrev pub PlaysEnd : (old : Player) (partial : List ℕ) (held held' : Option (List ℕ)) → Result (Unit {0}) StepsFault → Type 0
 PlaysEnd old partial held held' result =
-    (start : Start) (ring : ℕ) (input : List ℕ) (first : Option (List ℕ)) → Stands start ring old input first held partial
+    (start : Start) (ring : ℕ) (input : List ℕ) (first : Option (List ℕ)) → HasPlayed start ring old input first held partial
     → Answered start ring input first held' result
 
 -- the line of the verdict is written
@@ -74,4 +74,4 @@ WritesEnd player held held' (Err NoMemory) = Keeps held held'
 -- a new player plays a schedule
 abbrev pub PlaysAll : (old : Player) (unread unread' held held' : Option (List ℕ)) → Result (Unit {0}) StepsFault → Type 0
 PlaysAll old unread unread' held held' result =
-    (start : Start) (ring : ℕ) → Stands start ring old [] held held [] → Played start ring unread unread' held held' result
+    (start : Start) (ring : ℕ) → HasPlayed start ring old [] held held [] → Played start ring unread unread' held held' result

@@ -1,4 +1,4 @@
--- What a line makes of where a run stands.
+-- How far a run has come after a line.
 use Rattle.std.proofs.Common.{◌+◌, ◌<◌, ℕ, List, [], ◌∷◌, ◌++◌, length, Option, refl, sym, ap, subst, ◌∙◌, append_assoc, append-nil, arith}
 use Rattle.std.specs.Io.KnownBytes.{Appends, Keeps}
 use Rattle.std.proofs.KnownBytes.{Appends-trans, Appends-kept, Appends-nil}
@@ -8,7 +8,7 @@ use Rattle.node_steps.specs.Steps.{Step}
 use Rattle.node_steps.specs.Schedules.{Start}
 use Rattle.schedule_player.specs.declared.player.Player.{Player}
 use Rattle.schedule_player.specs.Lines.{IsPlayed}
-use Rattle.schedule_player.specs.Stands.{IsOpening, HasAnswered, Stands}
+use Rattle.schedule_player.specs.Progress.{IsOpening, HasAnswered, HasPlayed}
 use Rattle.schedule_player.proofs.Texts.{lacks_both, whole_more}
 use Rattle.schedule_player.proofs.Ending.{line_is, asks_on}
 
@@ -35,8 +35,8 @@ module _ (start : Start) (ring : ℕ) where
 
   -- a line that is ended by a line feed was answered
   pub line_played : (old new : Player) (input partial front : List ℕ) (first held held' : Option (List ℕ))
-      → Stands start ring old input first held partial → Lacks 10 front → IsPlayed old (partial ++ front) held held' new
-      → Stands start ring new (input ++ (front ++ 10 ∷ [])) first held' []
+      → HasPlayed start ring old input first held partial → Lacks 10 front → IsPlayed old (partial ++ front) held held' new
+      → HasPlayed start ring new (input ++ (front ++ 10 ∷ [])) first held' []
   line_played old new input partial front first held held' s lacks p =
       let text = partial ++ front in
       let feed : List ℕ = 10 ∷ [] in
@@ -53,7 +53,7 @@ module _ (start : Start) (ring : ℕ) where
 
   -- what stands behind the last line feed is kept
   pub rest_kept : (player : Player) (input partial rest : List ℕ) (first held : Option (List ℕ))
-      → Stands start ring player input first held partial → Lacks 10 rest → Stands start ring player (input ++ rest) first held (partial ++ rest)
+      → HasPlayed start ring player input first held partial → Lacks 10 rest → HasPlayed start ring player (input ++ rest) first held (partial ++ rest)
   rest_kept player input partial rest first held s lacks = record {
     answered = s.answered;
     texts = s.texts;
@@ -65,9 +65,9 @@ module _ (start : Start) (ring : ℕ) where
   }
 
   -- what was written is flushed
-  pub stands_flushed : (player : Player) (input partial : List ℕ) (first held held' : Option (List ℕ))
-      → Stands start ring player input first held partial → Keeps held held' → Stands start ring player input first held' partial
-  stands_flushed player input partial first held held' s kept = record {
+  pub played_flushed : (player : Player) (input partial : List ℕ) (first held held' : Option (List ℕ))
+      → HasPlayed start ring player input first held partial → Keeps held held' → HasPlayed start ring player input first held' partial
+  played_flushed player input partial first held held' s kept = record {
     answered = s.answered;
     texts = s.texts;
     parts = s.parts;
@@ -87,8 +87,8 @@ module _ (start : Start) (ring : ℕ) where
   }
 
   -- before any line
-  pub opening_stands : (player : Player) (held : Option (List ℕ)) → IsOpening start ring player → Stands start ring player [] held held []
-  opening_stands player held o = record {
+  pub opening_has_played : (player : Player) (held : Option (List ℕ)) → IsOpening start ring player → HasPlayed start ring player [] held held []
+  opening_has_played player held o = record {
     answered = [];
     texts = [];
     parts = refl;
