@@ -8,7 +8,7 @@ use riak_msgs::Reply;
 use vnode_core::{Answer, Reaped};
 
 /// The outcome of a step.
-#[derive(Debug, Drop)]
+#[derive(Drop)]
 pub enum Outcome {
     /// The step isn't possible, and nothing changed.
     No,

@@ -55,11 +55,11 @@ Encodes-split bs rest (f ∷ fs) (g ∷ gs) (x, begins_f, a) (y, begins_g, b) =
     let more = Encodes-split x rest fs gs a (subst P (sym one.1) b) in
     (more.0, ap (λ h. h ∷ gs) (sym one.0) ∙ ap (λ ts. f ∷ ts) more.1)
 
--- the field that was told
-pub field_told : (before after : List ℕ) (told : Result Field FieldFault) (field : Field) → Yields before (Some told) after → told ≡ Ok field →
+-- the field that was given
+pub field_given : (before after : List ℕ) (given : Result Field FieldFault) (field : Field) → Yields before (Some given) after → given ≡ Ok field →
     BeginsWithField before (seen field) after
-field_told before after told field tells e =
-    let P : Result Field FieldFault → Type 0 = λ r. Yields before (Some r) after in subst P e tells
+field_given before after given field yields e =
+    let P : Result Field FieldFault → Type 0 = λ r. Yields before (Some r) after in subst P e yields
 
 -- a field was refused behind some others
 pub RefusesOne-here : {F : Type 0} (refuses : WireField → F → Type 0) (body before after : List ℕ) (fields others : List WireField)

@@ -45,7 +45,7 @@ HasBadWire bs = (key : ℕ) × (behind : List ℕ) × BeginsWithVarint bs key be
 abbrev pub HasShortValue : List ℕ → Type 0
 HasShortValue bs = (key : ℕ) × (behind : List ℕ) × BeginsWithVarint bs key behind × IsPastEnd (key % 8) behind
 
--- what may be wrong with a field, in the order in which it is told
+-- what may be wrong with a field, in the order in which it is answered
 pub data Wrong : Type 0 where
   bad_varint : Wrong
   short_key : Wrong

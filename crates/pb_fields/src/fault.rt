@@ -2,7 +2,7 @@
 
 use thiserror::Error;
 
-/// Why the bytes begin no field. Of several faults the first is told, in this order: a bad varint, the end
+/// Why the bytes begin no field. Of several faults the first is answered, in this order: a bad varint, the end
 /// within the key, a bad key, a bad wire type, a value that goes past the end.
 #[derive(Clone, Copy, Debug, Drop, Error, PartialEq, Eq)]
 pub enum FieldFault {

@@ -144,9 +144,9 @@ all_of-filter_map {B = B} pick (x ∷ xs) some = first (pick x) (all_of (map pic
     first : (o : Option B) (rest : Option (List B)) (kept : List B) → (is_some rest ≡ true → rest ≡ Some kept) →
         is_some (option_and_then (λ y. option_map (λ ys. y ∷ ys) rest) o) ≡ true →
         option_and_then (λ y. option_map (λ ys. y ∷ ys) rest) o ≡ Some (cons_option o kept)
-    first None rest kept told some = absurd (false≢true some)
-    first (Some y) None kept told some = absurd (false≢true some)
-    first (Some y) (Some ys) kept told some = ap (option_map (λ zs. y ∷ zs)) (told refl)
+    first None rest kept same some = absurd (false≢true some)
+    first (Some y) None kept same some = absurd (false≢true some)
+    first (Some y) (Some ys) kept same some = ap (option_map (λ zs. y ∷ zs)) (same refl)
 
 -- a content is whole where its value and the key of each pair are there
 pub is_some-content_of : (c : ContentFields) →

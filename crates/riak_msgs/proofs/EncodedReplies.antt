@@ -117,17 +117,17 @@ get_reply_in r = record {
 }
 
 no_shown_fault : (f : ShownFields) (r : GetReply) → ReplyIn f r → shown_fault f ≡ None
-no_shown_fault f r told = ap (λ o. if is_none o then Some faults.MissingField else None) told.contents
+no_shown_fault f r given = ap (λ o. if is_none o then Some faults.MissingField else None) given.contents
 
 get_reply_of-is : (f : ShownFields) (r : GetReply) → ReplyIn f r → get_reply_of f ≡ r
-get_reply_of-is f r told = rw (told.contents, told.context, told.unchanged, unwrap_or-some_bytes r.context) refl
+get_reply_of-is f r given = rw (given.contents, given.context, given.unchanged, unwrap_or-some_bytes r.context) refl
 
 put_reply_of-is : (f : ShownFields) (r : GetReply) → ReplyIn f r → put_reply_of f ≡ record { contents = r.contents; context = r.context }
-put_reply_of-is f r told = rw (told.contents, told.context, unwrap_or-some_bytes r.context) refl
+put_reply_of-is f r given = rw (given.contents, given.context, unwrap_or-some_bytes r.context) refl
 
 get_reply_said : (f : ShownFields) (r : GetReply) → ReplyIn f r → Ok (replies.Get r) ≡ said_by (shown_fault f) (replies.Get (get_reply_of f))
-get_reply_said f r told =
-    said_ok (shown_fault f) (replies.Get r) (replies.Get (get_reply_of f)) (no_shown_fault f r told) (ap replies.Get (sym (get_reply_of-is f r told)))
+get_reply_said f r given =
+    said_ok (shown_fault f) (replies.Get r) (replies.Get (get_reply_of f)) (no_shown_fault f r given) (ap replies.Get (sym (get_reply_of-is f r given)))
 
 -- a reply to a put shows as one to a get
 shows : PutReply → GetReply
@@ -142,9 +142,9 @@ put_reply_stands r short =
 
 put_reply_said : (f : ShownFields) (r : PutReply) → ReplyIn f (shows r) → Ok (replies.Put r) ≡ said_by (shown_fault f) (replies.Put (put_reply_of f))
 unfolding shows
-put_reply_said f r told =
-    said_ok (shown_fault f) (replies.Put r) (replies.Put (put_reply_of f)) (no_shown_fault f (shows r) told)
-    (ap replies.Put (sym (put_reply_of-is f (shows r) told)))
+put_reply_said f r given =
+    said_ok (shown_fault f) (replies.Put r) (replies.Put (put_reply_of f)) (no_shown_fault f (shows r) given)
+    (ap replies.Put (sym (put_reply_of-is f (shows r) given)))
 
 pub reply_says : (r : Reply) → length (reply_body r) < 2 ^ 64 → DecodesReply (reply_code r) (reply_body r) (Ok r)
 reply_says (replies.Error t) short =

@@ -21,12 +21,12 @@ use Rattle.riak_msgs.specs.SeenReplies.{DecodesError, DecodesShown, ReadsShown, 
 use Rattle.riak_msgs.proofs.RepliesSteps.{shown_once, contents_of-whole}
 
 -- a body says one thing at most
-pub DecodesBy-once : {A F : Type 0} (Holds : F → Type 0) (told : F → Result A MsgFault) (a b : Result A MsgFault) →
-    ((x y : F) → Holds x → Holds y → x ≡ y) → DecodesBy Holds told a → DecodesBy Holds told b → a ≡ b
-DecodesBy-once Holds told a b once (inl (x, s, e)) (inl (y, t, f)) = e ∙ ap told (once x y s t) ∙ sym f
-DecodesBy-once Holds told a b once (inl (x, s, e)) (inr (none, f)) = absurd (none x s)
-DecodesBy-once Holds told a b once (inr (none, e)) (inl (y, t, f)) = absurd (none y t)
-DecodesBy-once Holds told a b once (inr (none, e)) (inr (other, f)) = e ∙ sym f
+pub DecodesBy-once : {A F : Type 0} (Holds : F → Type 0) (decoded : F → Result A MsgFault) (a b : Result A MsgFault) →
+    ((x y : F) → Holds x → Holds y → x ≡ y) → DecodesBy Holds decoded a → DecodesBy Holds decoded b → a ≡ b
+DecodesBy-once Holds decoded a b once (inl (x, s, e)) (inl (y, t, f)) = e ∙ ap decoded (once x y s t) ∙ sym f
+DecodesBy-once Holds decoded a b once (inl (x, s, e)) (inr (none, f)) = absurd (none x s)
+DecodesBy-once Holds decoded a b once (inr (none, e)) (inl (y, t, f)) = absurd (none y t)
+DecodesBy-once Holds decoded a b once (inr (none, e)) (inr (other, f)) = e ∙ sym f
 
 -- what is said, as a part of something
 pub mapped : {A B : Type 0} → (A → B) → Result A MsgFault → Result B MsgFault
@@ -38,11 +38,11 @@ unfolding mapped
 said_by-mapped f None a = refl
 said_by-mapped f (Some fault) a = refl
 
-DecodesBy-mapped : {A B F : Type 0} (f : A → B) (Holds : F → Type 0) (fault : F → Option MsgFault) (told : F → A) (said : Result A MsgFault) →
-    DecodesBy Holds (λ x. said_by (fault x) (told x)) said → DecodesBy Holds (λ x. said_by (fault x) (f (told x))) (mapped f said)
+DecodesBy-mapped : {A B F : Type 0} (f : A → B) (Holds : F → Type 0) (fault : F → Option MsgFault) (decoded : F → A) (said : Result A MsgFault) →
+    DecodesBy Holds (λ x. said_by (fault x) (decoded x)) said → DecodesBy Holds (λ x. said_by (fault x) (f (decoded x))) (mapped f said)
 unfolding mapped
-DecodesBy-mapped f Holds fault told said (inl (x, s, e)) = inl (x, s, ap (mapped f) e ∙ said_by-mapped f (fault x) (told x))
-DecodesBy-mapped f Holds fault told said (inr (none, e)) = inr (none, ap (mapped f) e)
+DecodesBy-mapped f Holds fault decoded said (inl (x, s, e)) = inl (x, s, ap (mapped f) e ∙ said_by-mapped f (fault x) (decoded x))
+DecodesBy-mapped f Holds fault decoded said (inr (none, e)) = inr (none, ap (mapped f) e)
 
 -- a reply whose contents are whole is said
 pub DecodesShown-whole : (body : List ℕ) (fields : ShownFields) → EncodesShown body fields → is_none (contents_of fields) ≡ false →
@@ -88,31 +88,31 @@ as_put r = record { contents = r.contents; context = r.context }
 -- a get's reply
 pub DecodesReply-get : (code : ℕ) (body : List ℕ) (said : Result GetReply MsgFault) → code ≡ 10 → DecodesShown body said →
     DecodesReply code body (mapped replies.Get said)
-DecodesReply-get code body said e told = inr (inr (inl (e, DecodesBy-mapped replies.Get (EncodesShown body) shown_fault get_reply_of said told)))
+DecodesReply-get code body said e decoded = inr (inr (inl (e, DecodesBy-mapped replies.Get (EncodesShown body) shown_fault get_reply_of said decoded)))
 
 -- a put's
 pub DecodesReply-put : (code : ℕ) (body : List ℕ) (said : Result GetReply MsgFault) → code ≡ 12 → DecodesShown body said →
     DecodesReply code body (mapped (λ r. replies.Put (as_put r)) said)
-DecodesReply-put code body said e told =
-    inr (inr (inr (inl (e, DecodesBy-mapped (λ r. replies.Put (as_put r)) (EncodesShown body) shown_fault get_reply_of said told))))
+DecodesReply-put code body said e decoded =
+    inr (inr (inr (inl (e, DecodesBy-mapped (λ r. replies.Put (as_put r)) (EncodesShown body) shown_fault get_reply_of said decoded))))
 
 pub ReadsReply-get_fault : (code : ℕ) (body : List ℕ) (fault : MsgFault) → code ≡ 10 → ReadsShown body (Err fault) → ReadsReply code body (Err fault)
 unfolding mapped
-ReadsReply-get_fault code body UnknownCode e told = absurd told
-ReadsReply-get_fault code body BadMessage e told = DecodesReply-get code body (Err BadMessage) e told
-ReadsReply-get_fault code body MissingField e told = DecodesReply-get code body (Err MissingField) e told
-ReadsReply-get_fault code body EmptyName e told = absurd told
-ReadsReply-get_fault code body NoKey e told = absurd told
-ReadsReply-get_fault code body NoMemory e (reply, told) = (replies.Get reply, DecodesReply-get code body (Ok reply) e told)
+ReadsReply-get_fault code body UnknownCode e decoded = absurd decoded
+ReadsReply-get_fault code body BadMessage e decoded = DecodesReply-get code body (Err BadMessage) e decoded
+ReadsReply-get_fault code body MissingField e decoded = DecodesReply-get code body (Err MissingField) e decoded
+ReadsReply-get_fault code body EmptyName e decoded = absurd decoded
+ReadsReply-get_fault code body NoKey e decoded = absurd decoded
+ReadsReply-get_fault code body NoMemory e (reply, decoded) = (replies.Get reply, DecodesReply-get code body (Ok reply) e decoded)
 
 pub ReadsReply-put_fault : (code : ℕ) (body : List ℕ) (fault : MsgFault) → code ≡ 12 → ReadsShown body (Err fault) → ReadsReply code body (Err fault)
 unfolding mapped
-ReadsReply-put_fault code body UnknownCode e told = absurd told
-ReadsReply-put_fault code body BadMessage e told = DecodesReply-put code body (Err BadMessage) e told
-ReadsReply-put_fault code body MissingField e told = DecodesReply-put code body (Err MissingField) e told
-ReadsReply-put_fault code body EmptyName e told = absurd told
-ReadsReply-put_fault code body NoKey e told = absurd told
-ReadsReply-put_fault code body NoMemory e (reply, told) = (replies.Put (as_put reply), DecodesReply-put code body (Ok reply) e told)
+ReadsReply-put_fault code body UnknownCode e decoded = absurd decoded
+ReadsReply-put_fault code body BadMessage e decoded = DecodesReply-put code body (Err BadMessage) e decoded
+ReadsReply-put_fault code body MissingField e decoded = DecodesReply-put code body (Err MissingField) e decoded
+ReadsReply-put_fault code body EmptyName e decoded = absurd decoded
+ReadsReply-put_fault code body NoKey e decoded = absurd decoded
+ReadsReply-put_fault code body NoMemory e (reply, decoded) = (replies.Put (as_put reply), DecodesReply-put code body (Ok reply) e decoded)
 
 wants_memory : {A : Type 0} → Result A MsgFault → Bool
 wants_memory (Ok a) = false
@@ -136,13 +136,13 @@ error_no_memory body (inl (fields, s, e)) =
     none false false r e = false≢true (sym e)
 
 pub ReadsReply-error : (code : ℕ) (body : List ℕ) (said : Result Reply MsgFault) → code ≡ 0 → DecodesError body said → ReadsReply code body said
-ReadsReply-error code body (Ok reply) e told = inl (e, told)
-ReadsReply-error code body (Err UnknownCode) e told = inl (e, told)
-ReadsReply-error code body (Err BadMessage) e told = inl (e, told)
-ReadsReply-error code body (Err MissingField) e told = inl (e, told)
-ReadsReply-error code body (Err EmptyName) e told = inl (e, told)
-ReadsReply-error code body (Err NoKey) e told = inl (e, told)
-ReadsReply-error code body (Err NoMemory) e told = absurd (error_no_memory body told)
+ReadsReply-error code body (Ok reply) e decoded = inl (e, decoded)
+ReadsReply-error code body (Err UnknownCode) e decoded = inl (e, decoded)
+ReadsReply-error code body (Err BadMessage) e decoded = inl (e, decoded)
+ReadsReply-error code body (Err MissingField) e decoded = inl (e, decoded)
+ReadsReply-error code body (Err EmptyName) e decoded = inl (e, decoded)
+ReadsReply-error code body (Err NoKey) e decoded = inl (e, decoded)
+ReadsReply-error code body (Err NoMemory) e decoded = absurd (error_no_memory body decoded)
 
 -- another code's part
 skip : {A R : Type 0} (code m n : ℕ) → (m ≡ n → ⊥) → code ≡ m → (R → ⊥) → ((code ≡ n) × A) ⊎ R → ⊥

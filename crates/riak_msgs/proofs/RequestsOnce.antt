@@ -22,12 +22,12 @@ put_once bs p q a b =
     rw (own, content) refl
 
 -- where a body stands for one thing at most it says one thing
-DecodesBy-once : {A F : Type 0} (Holds : F → Type 0) (told : F → Result A MsgFault) (a b : Result A MsgFault) →
-    ((f g : F) → Holds f → Holds g → f ≡ g) → DecodesBy Holds told a → DecodesBy Holds told b → a ≡ b
-DecodesBy-once Holds told a b once (inl (f, x, p)) (inl (g, y, q)) = p ∙ ap told (once f g x y) ∙ sym q
-DecodesBy-once Holds told a b once (inl (f, x, p)) (inr (none, q)) = absurd (none f x)
-DecodesBy-once Holds told a b once (inr (none, p)) (inl (g, y, q)) = absurd (none g y)
-DecodesBy-once Holds told a b once (inr (none, p)) (inr (other, q)) = p ∙ sym q
+DecodesBy-once : {A F : Type 0} (Holds : F → Type 0) (decoded : F → Result A MsgFault) (a b : Result A MsgFault) →
+    ((f g : F) → Holds f → Holds g → f ≡ g) → DecodesBy Holds decoded a → DecodesBy Holds decoded b → a ≡ b
+DecodesBy-once Holds decoded a b once (inl (f, x, p)) (inl (g, y, q)) = p ∙ ap decoded (once f g x y) ∙ sym q
+DecodesBy-once Holds decoded a b once (inl (f, x, p)) (inr (none, q)) = absurd (none f x)
+DecodesBy-once Holds decoded a b once (inr (none, p)) (inl (g, y, q)) = absurd (none g y)
+DecodesBy-once Holds decoded a b once (inr (none, p)) (inr (other, q)) = p ∙ sym q
 
 -- what a message of each code says
 says_ping : (code : ℕ) (body : List ℕ) (a : Result Request MsgFault) → code ≡ 1 → Decodes code body a → a ≡ Ok requests.Ping

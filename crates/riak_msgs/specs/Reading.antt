@@ -98,8 +98,8 @@ said_by (Some fault) asked = Err fault
 
 -- a body says what its fields say; one that stands for no fields is a bad message
 abbrev pub DecodesBy : {A F : Type 0} → (F → Type 0) → (F → Result A MsgFault) → Result A MsgFault → Type 0
-DecodesBy {F = F} Holds told said =
-    ((fields : F) × Holds fields × (said ≡ told fields))
+DecodesBy {F = F} Holds decoded said =
+    ((fields : F) × Holds fields × (said ≡ decoded fields))
     ⊎ (((fields : F) → Holds fields → ⊥) × (said ≡ Err faults.BadMessage))
 
 -- a code of a request: of a ping, a get, a put or a delete

@@ -8,7 +8,7 @@ use std::alloc::{AllocError, Global};
 use std::marker::Model;
 
 /// A content in a place of its own on the heap: moving it moves a pointer. Contracts see the content.
-#[derive(Debug, Drop)]
+#[derive(Drop)]
 pub struct BoxedContent {
     place: Box<Content>,
 }

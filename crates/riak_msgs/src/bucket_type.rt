@@ -19,7 +19,6 @@ pub const DEFAULT_TYPE: &[u8] = b"default";
 
 /// The bucket type of a key: a byte string, ordered byte by byte. [`DEFAULT_TYPE`] takes no memory. Contracts see the
 /// list of its bytes.
-#[derive(Debug)]
 pub struct BucketType {
     // None is the default. Another is rarely given, and so it lies behind a pointer: a key has a byte string less.
     content: Option<Box<Bytes>>,

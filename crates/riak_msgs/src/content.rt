@@ -19,7 +19,7 @@ use std::marker::Model;
 /// record of the value and each detail.
 ///
 /// Source: `RpbContent` of `riak_kv.proto`, without the tag and times that a server writes.
-#[derive(Debug, Drop)]
+#[derive(Drop)]
 pub struct Content {
     value: Bytes,
     details: Option<Box<Details>>,

@@ -12,7 +12,7 @@ use std::alloc::AllocError;
 /// Asks to write a tombstone under a key.
 ///
 /// Source: `RpbDelReq` of Riak's Protocol Buffers client API, without the fields that have no effect here.
-#[derive(Debug, Drop)]
+#[derive(Drop)]
 pub struct DelAsk {
     pub key: Key,
     /// What the deleter has seen. No bytes are no context: it sees all that is stored.

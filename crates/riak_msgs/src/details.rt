@@ -16,7 +16,7 @@ use std::alloc::{AllocError, Global};
 /// What a content may state beside its value. Each part may be absent, and most contents have none.
 ///
 /// Source: `RpbContent` of `riak_kv.proto`.
-#[derive(Debug, Drop)]
+#[derive(Drop)]
 pub struct Details {
     pub content_type: Option<Bytes>,
     pub charset: Option<Bytes>,

@@ -19,17 +19,17 @@ pub(crate) fn bytes_at<'a>(number: u32, field: Field<'a>) -> Option<&'a [u8]>
     }
 }
 
-/// The last bytes of this number: the field's, or else those before.
+/// Keeps the bytes of a field as the last of this number, where it is a byte string of it. (By a place that is written where they
+/// are, so that a walk over fields branches on each field's number once.)
 #[inline(always)]
-pub(crate) fn last_of<'a>(
-    number: u32,
-    field: Field<'a>,
-    before: Option<&'a [u8]>,
-) -> Option<&'a [u8]>
-    ensures { option_copied result
-        ≡ last_or (option_copied before.entry) (each_bytes number (seen field.entry ∷ [])) }
+pub(crate) fn keep_last<'a>(number: u32, field: Field<'a>, last: &mut Option<&'a [u8]>)
+    ensures { option_copied last.new
+        ≡ last_or (option_copied last.old) (each_bytes number (seen field.entry ∷ [])) }
 {
-    bytes_at(number, field).or(before)
+    match bytes_at(number, field) {
+        Some(bytes) => *last = Some(bytes),
+        None => {}
+    }
 }
 
 /// The number of a field, where it is a varint of this number.
@@ -43,14 +43,14 @@ pub(crate) fn varint_at(number: u32, field: Field<'_>) -> Option<u64>
     }
 }
 
-/// Whether the number of a field isn't 0, or else as before, where it is no varint of this number.
+/// Keeps whether the number of a field isn't 0, where it is a varint of this number.
 #[inline(always)]
-pub(crate) fn flag_at(number: u32, field: Field<'_>, before: bool) -> bool
-    ensures { result
-        ≡ option_map_or (λ n. not (n == 0)) (varint_at number (seen field.entry)) before }
+pub(crate) fn keep_flag(number: u32, field: Field<'_>, last: &mut bool)
+    ensures { last.new
+        ≡ option_map_or (λ n. not (n == 0)) (varint_at number (seen field.entry)) last.old }
 {
     match varint_at(number, field) {
-        Some(value) => value != 0,
-        None => before,
+        Some(value) => *last = value != 0,
+        None => {}
     }
 }

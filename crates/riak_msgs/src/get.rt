@@ -15,7 +15,7 @@ use std::alloc::{AllocError, Global};
 /// Asks for the siblings of a key.
 ///
 /// Source: `RpbGetReq` of Riak's Protocol Buffers client API, without the fields that have no effect here.
-#[derive(Debug, Drop)]
+#[derive(Drop)]
 pub struct GetAsk {
     pub key: Key,
     /// A context: a stored clock of the same entries is answered by `unchanged`. No bytes are no context.
@@ -56,7 +56,7 @@ impl Message for GetAsk {
 /// Answers a get: the siblings of the key, newest first, and the context of what was seen.
 ///
 /// Source: `RpbGetResp` of Riak's Protocol Buffers client API.
-#[derive(Debug, Drop)]
+#[derive(Drop)]
 pub struct GetReply {
     pub contents: Sequence<Shown>,
     /// No bytes are no context.

@@ -9,7 +9,7 @@ use crate::bytes::Bytes;
 use std::alloc::{AllocError, Global};
 
 /// What names a value in the store, ordered by bucket type, then bucket, then key, each by its bytes.
-#[derive(Debug, Drop, PartialEq, Eq, PartialOrd, Ord)]
+#[derive(Drop, PartialEq, Eq, PartialOrd, Ord)]
 pub struct Key {
     pub bucket_type: BucketType,
     pub bucket: Bytes,

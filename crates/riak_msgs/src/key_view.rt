@@ -10,7 +10,7 @@ ghost use Rattle.riak_msgs.specs.SeenRequests.{AreNamesOf};
 use crate::bucket_type::BucketType;
 use crate::bytes::Bytes;
 use crate::fault::MsgFault;
-use crate::field_access::last_of;
+use crate::field_access::keep_last;
 use crate::key::Key;
 use pb_fields::Field;
 use std::alloc::{AllocError, Global};
@@ -41,9 +41,9 @@ impl<'a> KeyView<'a> {
         ensures { (fields : List WireField) → AreNamesOf type_number self.old fields
             → AreNamesOf type_number self.new (fields ++ seen field.entry ∷ []) }
     {
-        self.bucket = last_of(1, field, self.bucket);
-        self.key = last_of(2, field, self.key);
-        self.bucket_type = last_of(type_number, field, self.bucket_type);
+        keep_last(1, field, &mut self.bucket);
+        keep_last(2, field, &mut self.key);
+        keep_last(type_number, field, &mut self.bucket_type);
     }
 
     /// Whether a name is given with no bytes.

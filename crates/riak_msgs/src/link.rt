@@ -10,7 +10,7 @@ use pb_fields::{Message, Output};
 use std::alloc::{AllocError, Global};
 
 /// A link from a value to another key. Each part may be absent.
-#[derive(Debug, Drop)]
+#[derive(Drop)]
 pub struct Link {
     pub bucket: Option<Bytes>,
     pub key: Option<Bytes>,

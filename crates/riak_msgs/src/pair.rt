@@ -10,7 +10,7 @@ use pb_fields::{Message, Output};
 use std::alloc::{AllocError, Global};
 
 /// A key of a content's metadata or indexes, with its value where it has one.
-#[derive(Debug, Drop)]
+#[derive(Drop)]
 pub struct Pair {
     pub key: Bytes,
     pub value: Option<Bytes>,

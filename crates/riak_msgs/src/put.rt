@@ -16,7 +16,7 @@ use std::alloc::{AllocError, Global};
 /// Asks to write a content under a key.
 ///
 /// Source: `RpbPutReq` of Riak's Protocol Buffers client API, without the fields that have no effect here.
-#[derive(Debug, Drop)]
+#[derive(Drop)]
 pub struct PutAsk {
     pub key: Key,
     /// What the writer has seen. No bytes are no context.
@@ -82,7 +82,7 @@ impl Message for PutAsk {
 /// Answers a put: what `return_body` or `return_head` asked to be shown, else nothing.
 ///
 /// Source: `RpbPutResp` of Riak's Protocol Buffers client API. Its key is never written.
-#[derive(Debug, Drop)]
+#[derive(Drop)]
 pub struct PutReply {
     pub contents: Sequence<Shown>,
     /// No bytes are no context.

@@ -10,7 +10,7 @@ ghost use Rattle.riak_msgs.specs.SeenRequests.{IsSeenDelOf};
 use crate::bytes::Bytes;
 use crate::del::DelAsk;
 use crate::fault::MsgFault;
-use crate::field_access::last_of;
+use crate::field_access::keep_last;
 use crate::key_view::KeyView;
 use crate::request::Request;
 use pb_fields::{Field, FieldFault, Merge, scan};
@@ -82,7 +82,7 @@ impl<'a> Merge<'a> for DelView<'a> {
 
     fn merge_field(&mut self, field: Field<'a>) -> Result<(), FieldFault> {
         self.names.merge_field(field, BUCKET_TYPE);
-        self.context = last_of(CONTEXT, field, self.context);
+        keep_last(CONTEXT, field, &mut self.context);
         Ok(())
     }
 }

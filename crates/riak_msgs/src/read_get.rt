@@ -9,7 +9,7 @@ ghost use Rattle.riak_msgs.specs.SeenRequests.{IsSeenGetOf};
 
 use crate::bytes::Bytes;
 use crate::fault::MsgFault;
-use crate::field_access::{flag_at, last_of};
+use crate::field_access::{keep_flag, keep_last};
 use crate::get::GetAsk;
 use crate::key_view::KeyView;
 use crate::request::Request;
@@ -94,9 +94,9 @@ impl<'a> Merge<'a> for GetView<'a> {
 
     fn merge_field(&mut self, field: Field<'a>) -> Result<(), FieldFault> {
         self.names.merge_field(field, BUCKET_TYPE);
-        self.if_modified = last_of(IF_MODIFIED, field, self.if_modified);
-        self.head = flag_at(HEAD, field, self.head);
-        self.deletedvclock = flag_at(DELETED_VCLOCK, field, self.deletedvclock);
+        keep_last(IF_MODIFIED, field, &mut self.if_modified);
+        keep_flag(HEAD, field, &mut self.head);
+        keep_flag(DELETED_VCLOCK, field, &mut self.deletedvclock);
         Ok(())
     }
 }

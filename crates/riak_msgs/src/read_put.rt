@@ -14,7 +14,7 @@ use crate::bytes::Bytes;
 use crate::content::Content;
 use crate::content_view::{ContentView, PartsCopy, copy_parts};
 use crate::fault::MsgFault;
-use crate::field_access::{bytes_at, flag_at, last_of};
+use crate::field_access::{bytes_at, keep_flag, keep_last};
 use crate::key_view::KeyView;
 use crate::put::PutAsk;
 use crate::request::Request;
@@ -68,14 +68,15 @@ impl PutFlags {
     }
 
     /// Merges one field more.
+    #[inline(always)]
     fn merge_field(&mut self, field: Field<'_>)
         ensures { (fields : List WireField) → AreFlagsOf self.old fields
             → AreFlagsOf self.new (fields ++ seen field.entry ∷ []) }
     {
-        self.return_body = flag_at(RETURN_BODY, field, self.return_body);
-        self.if_not_modified = flag_at(IF_NOT_MODIFIED, field, self.if_not_modified);
-        self.if_none_match = flag_at(IF_NONE_MATCH, field, self.if_none_match);
-        self.return_head = flag_at(RETURN_HEAD, field, self.return_head);
+        keep_flag(RETURN_BODY, field, &mut self.return_body);
+        keep_flag(IF_NOT_MODIFIED, field, &mut self.if_not_modified);
+        keep_flag(IF_NONE_MATCH, field, &mut self.if_none_match);
+        keep_flag(RETURN_HEAD, field, &mut self.return_head);
     }
 }
 
@@ -185,7 +186,7 @@ impl<'a> Merge<'a> for PutView<'a> {
 
     fn merge_field(&mut self, field: Field<'a>) -> Result<(), FieldFault> {
         self.names.merge_field(field, BUCKET_TYPE);
-        self.context = last_of(CONTEXT, field, self.context);
+        keep_last(CONTEXT, field, &mut self.context);
         self.flags.merge_field(field);
         match bytes_at(CONTENT, field) {
             Some(content) => self.content.merge(content),

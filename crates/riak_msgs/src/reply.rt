@@ -14,7 +14,7 @@ use std::alloc::{AllocError, Global};
 const ERROR_NUMBER: u64 = 1;
 
 /// The response to a request.
-#[derive(Debug, Drop)]
+#[derive(Drop)]
 pub enum Reply {
     Error(Text),
     Ping,

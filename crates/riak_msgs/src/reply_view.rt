@@ -12,7 +12,7 @@ use crate::bytes::Bytes;
 use crate::content::Content;
 use crate::content_view::{ContentView, copy_parts};
 use crate::fault::MsgFault;
-use crate::field_access::{bytes_at, flag_at, varint_at};
+use crate::field_access::{bytes_at, keep_flag, varint_at};
 use crate::get::GetReply;
 use crate::put::PutReply;
 use crate::reply::Reply;
@@ -118,7 +118,7 @@ impl<'a> Merge<'a> for ReplyView<'a> {
 
     fn merge_field(&mut self, field: Field<'a>) -> Result<(), FieldFault> {
         self.context = bytes_at(2, field).or(self.context);
-        self.unchanged = flag_at(3, field, self.unchanged);
+        keep_flag(3, field, &mut self.unchanged);
         match bytes_at(1, field) {
             Some(content) => self.merge_content(content),
             None => Ok(()),

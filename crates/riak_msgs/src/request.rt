@@ -12,7 +12,7 @@ use crate::read_put::read_put;
 use std::alloc::Global;
 
 /// What a client asks.
-#[derive(Debug, Drop)]
+#[derive(Drop)]
 pub enum Request {
     Ping,
     Get(GetAsk),

@@ -9,7 +9,7 @@ use pb_fields::{Message, Output};
 use std::alloc::{AllocError, Global};
 
 /// A sibling as a reply shows it. Of a tombstone the content is empty and `deleted` true.
-#[derive(Debug, Drop)]
+#[derive(Drop)]
 pub struct Shown {
     pub content: Content,
     pub deleted: bool,

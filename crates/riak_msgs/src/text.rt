@@ -6,7 +6,7 @@ ghost use Rattle.riak_msgs.specs.ReadingReplies.{text_named};
 ghost use Rattle.riak_msgs.specs.Text.{text_bytes};
 
 /// The error message of a reply: why a request was refused or a stream ended.
-#[derive(Clone, Copy, Debug, Drop, PartialEq, Eq)]
+#[derive(Clone, Copy, Drop, PartialEq, Eq)]
 pub enum Text {
     UnknownCode,
     BadMessage,

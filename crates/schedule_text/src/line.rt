@@ -8,7 +8,7 @@ use riak_msgs::{Key, Request};
 pub const MAX_LINES: u64 = 100_000;
 
 /// The step that a line asks for.
-#[derive(Debug, Drop)]
+#[derive(Drop)]
 pub struct Line {
     /// The number of the worker that takes it, from 1.
     pub worker: u16,
@@ -16,7 +16,7 @@ pub struct Line {
 }
 
 /// What a worker does in a step.
-#[derive(Debug, Drop)]
+#[derive(Drop)]
 pub enum Action {
     /// It is asked this get, put or delete.
     Ask(Request),

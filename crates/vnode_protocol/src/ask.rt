@@ -5,7 +5,7 @@ use riak_msgs::{DelAsk, Key, PutAsk, PutReply};
 pub use rw_gate::Plan;
 
 /// A command that may change a vnode.
-#[derive(Debug, Drop)]
+#[derive(Drop)]
 pub enum Ask {
     /// Write a content under a key.
     Put(PutAsk),
@@ -18,7 +18,7 @@ pub enum Ask {
 }
 
 /// The answer to an accepted command.
-#[derive(Debug, Drop)]
+#[derive(Drop)]
 pub enum Answer {
     /// To a put: what it asked to be shown, else nothing.
     Put(PutReply),

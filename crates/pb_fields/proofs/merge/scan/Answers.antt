@@ -1,7 +1,7 @@
 use Rattle.std.proofs.Common.{◌≡◌, Result, Ok, Err, IfErr, IsErrAnd, sym, subst}
 use Rattle.pb_fields.specs.Field.{seen}
 use Rattle.pb_fields.specs.Next.{left}
-use Rattle.pb_fields.proofs.Merging.{MergesAll-more, RefusesOne-here, field_told}
+use Rattle.pb_fields.proofs.Merging.{MergesAll-more, RefusesOne-here, field_given}
 use Rattle.pb_fields.proofs.Steps.{read_more, read_none}
 use Rattle.pb_fields.proofs.merge.scan.Goals as goal
 
@@ -37,7 +37,7 @@ returns-in_err-merge_field-clause-err g c =
     let (fields, read, merged) = c.loop-field.invariant in
     let before = left c.loop-field.field-iterator in
     let after = left c.next.new.self in
-    let begins = field_told before after c.in-Some.field c.in_ok-field.field-0 c.in-Some.ensures.steps c.in_ok-field.was in
+    let begins = field_given before after c.in-Some.field c.in_ok-field.field-0 c.in-Some.ensures.steps c.in_ok-field.was in
     IfErr-one c.from_residual-in_err-merge_field.result _ c.in_err-merge_field.field-0.0 c.from_residual-in_err-merge_field.ensures.1
     (λ others stands. RefusesOne-here g.M.Merge.refuses c.args.bytes.now before after fields others (seen c.in_ok-field.field-0)
     c.in_err-merge_field.field-0.0 read begins c.in_err-merge_field.ensures.err stands)

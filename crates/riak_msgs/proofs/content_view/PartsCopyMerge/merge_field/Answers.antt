@@ -19,21 +19,21 @@ returns-in_default c =
 
 pub returns-in-6-clause-ok : goal.returns-in-6-clause-ok
 returns-in-6-clause-ok c =
-    on_ok_weaker c.copy_link.result (λ told.
-    Copies-link (content_in c.args.self.now) (seen c.args.field) c.in-Bytes.bytes.now c.copy_link.new.links told.0
-    (seen-bytes c.args.field 6 c.in-Bytes.bytes c.in-6.is c.in-Bytes.is) told.1 told.2) c.copy_link.ensures.ok
+    on_ok_weaker c.copy_link.result (λ copied.
+    Copies-link (content_in c.args.self.now) (seen c.args.field) c.in-Bytes.bytes.now c.copy_link.new.links copied.0
+    (seen-bytes c.args.field 6 c.in-Bytes.bytes c.in-6.is c.in-Bytes.is) copied.1 copied.2) c.copy_link.ensures.ok
 
 pub returns-in-9-clause-ok : goal.returns-in-9-clause-ok
 returns-in-9-clause-ok c =
-    on_ok_weaker c.copy_pair.result (λ told.
-    Copies-usermeta (content_in c.args.self.now) (seen c.args.field) c.in-Bytes.bytes.now c.copy_pair.new.pairs told.0
-    (seen-bytes c.args.field 9 c.in-Bytes.bytes c.in-9.is c.in-Bytes.is) told.1 told.2) c.copy_pair.ensures.ok
+    on_ok_weaker c.copy_pair.result (λ copied.
+    Copies-usermeta (content_in c.args.self.now) (seen c.args.field) c.in-Bytes.bytes.now c.copy_pair.new.pairs copied.0
+    (seen-bytes c.args.field 9 c.in-Bytes.bytes c.in-9.is c.in-Bytes.is) copied.1 copied.2) c.copy_pair.ensures.ok
 
 pub returns-in-10-clause-ok : goal.returns-in-10-clause-ok
 returns-in-10-clause-ok c =
-    on_ok_weaker c.copy_pair-in-10.result (λ told.
-    Copies-index (content_in c.args.self.now) (seen c.args.field) c.in-Bytes.bytes.now c.copy_pair-in-10.new.pairs told.0
-    (seen-bytes c.args.field 10 c.in-Bytes.bytes c.in-10.is c.in-Bytes.is) told.1 told.2) c.copy_pair-in-10.ensures.ok
+    on_ok_weaker c.copy_pair-in-10.result (λ copied.
+    Copies-index (content_in c.args.self.now) (seen c.args.field) c.in-Bytes.bytes.now c.copy_pair-in-10.new.pairs copied.0
+    (seen-bytes c.args.field 10 c.in-Bytes.bytes c.in-10.is c.in-Bytes.is) copied.1 copied.2) c.copy_pair-in-10.ensures.ok
 
 pub returns-in_default-number-clause-ok : goal.returns-in_default-number-clause-ok
 returns-in_default-number-clause-ok c =

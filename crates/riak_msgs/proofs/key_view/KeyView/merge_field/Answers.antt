@@ -6,7 +6,7 @@ pub returns : goal.returns
 returns c = λ fields names.
     let field = seen c.args.field in
     record {
-      bucket = last_bytes-more 1 fields field _ _ names.bucket c.last_of-self.ensures;
-      key = last_bytes-more 2 fields field _ _ names.key c.last_of-self-2.ensures;
-      bucket_type = last_bytes-more c.args.type_number fields field _ _ names.bucket_type c.last_of-self-3.ensures;
+      bucket = last_bytes-more 1 fields field _ _ names.bucket c.keep_last.ensures;
+      key = last_bytes-more 2 fields field _ _ names.key c.keep_last-2.ensures;
+      bucket_type = last_bytes-more c.args.type_number fields field _ _ names.bucket_type c.keep_last-3.ensures;
     }

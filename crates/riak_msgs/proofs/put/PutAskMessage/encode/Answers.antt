@@ -11,7 +11,7 @@ returns g c =
     let joins = g.met.O.Output.joins in
     let named = joins _ _ _ _ _ c.in_ok-encode_bytes.ensures c.in_ok-encode_bytes-2.ensures in
     let seen = joins _ _ _ _ _ named c.in_ok-encode_context.ensures in
-    let told = joins _ _ _ _ _ seen c.in_ok-encode_message.ensures in
-    let options = joins _ _ _ _ _ told c.in_ok-encode_options.ensures in
+    let content = joins _ _ _ _ _ seen c.in_ok-encode_message.ensures in
+    let options = joins _ _ _ _ _ content c.in_ok-encode_options.ensures in
     rw (← c.as_slice.ensures, ← c.as_slice-2.ensures, ← c.as_content.ensures)
     (OnOk-map c.encode_type.result _ _ (λ last. joins _ _ _ _ _ options last) c.encode_type.ensures)

@@ -6,5 +6,5 @@ pub returns-clause-ok : goal.returns-clause-ok
 returns-clause-ok c = λ fields is.
     record {
       names = c.merge_field.ensures fields is.names;
-      context = last_bytes-more 4 fields (seen c.args.field) _ _ is.context c.last_of-self.ensures;
+      context = last_bytes-more 4 fields (seen c.args.field) _ _ is.context c.keep_last.ensures;
     }

@@ -9,7 +9,7 @@ returns-clause-ok c = λ fields is.
     let field = seen c.args.field in
     record {
       names = c.merge_field.ensures fields is.names;
-      if_modified = last_bytes-more 7 fields field _ _ is.if_modified c.last_of-self.ensures;
-      head = c.flag_at-self.ensures ∙ flag_of-more 8 fields field c.args.self.now.head is.head;
-      deletedvclock = c.flag_at-self-2.ensures ∙ flag_of-more 9 fields field c.args.self.now.deletedvclock is.deletedvclock;
+      if_modified = last_bytes-more 7 fields field _ _ is.if_modified c.keep_last.ensures;
+      head = c.keep_flag.ensures ∙ flag_of-more 8 fields field c.args.self.now.head is.head;
+      deletedvclock = c.keep_flag-2.ensures ∙ flag_of-more 9 fields field c.args.self.now.deletedvclock is.deletedvclock;
     }

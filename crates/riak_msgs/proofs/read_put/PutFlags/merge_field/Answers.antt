@@ -8,8 +8,8 @@ returns c = λ fields is.
     let field = seen c.args.field in
     let old = c.args.self.now in
     record {
-      return_body = c.flag_at-self.ensures ∙ flag_of-more 7 fields field old.return_body is.return_body;
-      if_not_modified = c.flag_at-self-2.ensures ∙ flag_of-more 9 fields field old.if_not_modified is.if_not_modified;
-      if_none_match = c.flag_at-self-3.ensures ∙ flag_of-more 10 fields field old.if_none_match is.if_none_match;
-      return_head = c.flag_at-self-4.ensures ∙ flag_of-more 11 fields field old.return_head is.return_head;
+      return_body = c.keep_flag.ensures ∙ flag_of-more 7 fields field old.return_body is.return_body;
+      if_not_modified = c.keep_flag-2.ensures ∙ flag_of-more 9 fields field old.if_not_modified is.if_not_modified;
+      if_none_match = c.keep_flag-3.ensures ∙ flag_of-more 10 fields field old.if_none_match is.if_none_match;
+      return_head = c.keep_flag-4.ensures ∙ flag_of-more 11 fields field old.return_head is.return_head;
     }

@@ -17,7 +17,7 @@ returns-in-Some-clause-ok c =
       content-more fields field c.in-Some.content.now put.content part (sym c.in-Some.ensures) stands one,
       record {
         names = c.merge_field.ensures put.own is.names;
-        context = last_bytes-more 3 put.own field _ _ is.context c.last_of-self.ensures;
+        context = last_bytes-more 3 put.own field _ _ is.context c.keep_last.ensures;
         flags = c.merge_field-2.ensures put.own is.flags;
         content = now;
       },
@@ -33,7 +33,7 @@ returns-in-None-clause-ok c = λ fields before.
       content-skip fields field put.content (sym c.in-None.ensures) stands,
       record {
         names = c.merge_field.ensures put.own is.names;
-        context = last_bytes-more 3 put.own field _ _ is.context c.last_of-self.ensures;
+        context = last_bytes-more 3 put.own field _ _ is.context c.keep_last.ensures;
         flags = c.merge_field-2.ensures put.own is.flags;
         content = is.content;
       },

@@ -24,7 +24,7 @@ returns-in-Some-clause-ok c =
       record {
         context = ap option_copied (merges.context ∙ c.or-self.ensures)
             ∙ last_bytes-more 2 reply.own field c.bytes_at.result old.context c.bytes_at.ensures is.context;
-        unchanged = merges.unchanged ∙ c.flag_at-self.ensures ∙ flag_of-more 3 reply.own field old.unchanged is.unchanged;
+        unchanged = merges.unchanged ∙ c.keep_flag.ensures ∙ flag_of-more 3 reply.own field old.unchanged is.unchanged;
         misses_field = merges.misses_field ∙ ap (λ b. b || is_none (content_of part)) is.misses_field
             ∙ ap (λ b. is_none (contents_of reply) || b) (sym (is_none-all_of-one part)) ∙ sym (is_none-contents_of reply.contents (part ∷ []));
         contents = λ m k. merges.contents m k
@@ -50,7 +50,7 @@ returns-in-None-clause-ok c = λ fields before.
       record {
         context = ap option_copied c.or-self.ensures
             ∙ last_bytes-more 2 reply.own field c.bytes_at.result old.context c.bytes_at.ensures is.context;
-        unchanged = c.flag_at-self.ensures ∙ flag_of-more 3 reply.own field old.unchanged is.unchanged;
+        unchanged = c.keep_flag.ensures ∙ flag_of-more 3 reply.own field old.unchanged is.unchanged;
         misses_field = is.misses_field ∙ ap (λ (xs : List ContentFields). is_none (all_of (map shown_of xs))) same;
         contents = λ m k. is.contents m k ∙ ap (map whole_of) same;
       },
