@@ -31,12 +31,23 @@ use std::marker::Model;
 /// - `reserve` of b/k for a tombstone: both are gone, and b/k has a spare entry in the index.
 /// - `overwrite` of b/k by a tombstone: that entry marks b/k dead.
 /// - `forget_first_dead`: the place 0, the key and the entry are gone.
-#[derive(Drop)]
 pub struct ClockMap {
     places: BTreeMap<Key, usize>,
     clocks: Slab<StoredClock>,
     dead: BTreeMap<Key, DeadMark>,
     room: Option<Room>,
+}
+
+/// One call at each place where one is let go.
+impl Drop for ClockMap {
+    fn drop(self) {
+        let ClockMap {
+            places: _places,
+            clocks: _clocks,
+            dead: _dead,
+            room: _room,
+        } = self;
+    }
 }
 
 impl Model for ClockMap {

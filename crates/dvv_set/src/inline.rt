@@ -11,9 +11,14 @@ use std::ops::DerefSlice;
 
 /// A list that holds up to two items in place, and more in an allocation. Contracts see its items, and how many fit into
 /// the room that it has. It has no more than what a clock needs, over the kit's `SmallVec`.
-#[derive(Drop)]
 pub(crate) struct InlineList<T> {
     content: SmallVec<T, 2>,
+}
+
+impl<T: Drop> Drop for InlineList<T> {
+    fn drop(self) {
+        let InlineList { content: _content } = self;
+    }
 }
 
 impl<T> Model for InlineList<T> {

@@ -17,7 +17,6 @@ const FIRST_EPOCH: u32 = 1;
 
 /// The gates of a run, one round the vnode of each partition of a ring, and what all sessions over them have in common.
 /// Threads share it by reference.
-#[derive(Drop)]
 pub struct Shared {
     pub(crate) ring: Ring,
     run: u32,
@@ -26,6 +25,20 @@ pub struct Shared {
     pub(crate) gates: Vec<Gate<Vnode>>,
     /// How many calls have got their right. It may wrap.
     calls: AtomicU64,
+}
+
+/// One call at each place where one is let go.
+impl Drop for Shared {
+    fn drop(self) {
+        let Shared {
+            ring: _ring,
+            run: _run,
+            budget: _budget,
+            reads: _reads,
+            gates: _gates,
+            calls: _calls,
+        } = self;
+    }
 }
 
 impl Model for Shared {

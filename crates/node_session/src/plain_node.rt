@@ -39,11 +39,21 @@ impl From<AllocError> for NodeFault {
 /// context is stored beside "v", and a get shows "w", "v" and the context of both dots. A delete without context leaves a
 /// tombstone alone: a get shows that the key is absent, and its context to who asks for it. With a budget of 1 the key is
 /// forgotten after the delete's answer, and a put begins a new life, at the actor (65536, 2).
-#[derive(Drop)]
 pub struct PlainNode {
     ring: Ring,
     budget: u32,
     vnodes: Vec<Vnode>,
+}
+
+/// One call at each place where one is let go.
+impl Drop for PlainNode {
+    fn drop(self) {
+        let PlainNode {
+            ring: _ring,
+            budget: _budget,
+            vnodes: _vnodes,
+        } = self;
+    }
 }
 
 impl Model for PlainNode {

@@ -32,9 +32,15 @@ const FIRST_EPOCH: u32 = 1;
 /// - 1 looks, which shows that the key is absent, and leaves. 2 takes the state, and looks: its put is planned. It publishes,
 ///   and the put is answered.
 /// - 3 can't enter until 2 has put the state back. Then it enters, looks, and sees "v".
-#[derive(Drop)]
 pub struct World {
     parts: Parts,
+}
+
+/// One call at each place where one is let go.
+impl Drop for World {
+    fn drop(self) {
+        let World { parts: _parts } = self;
+    }
 }
 
 impl Model for World {

@@ -60,7 +60,6 @@ use vnode_replies::{
 ///   tombstone, and the actor with counter 4, as a get shows them then.
 /// - delete of b/i, which is absent, without a context: it does nothing, and takes no epoch. By the context of b/j it is
 ///   a tombstone, and begins a life at (65536, 3).
-#[derive(Drop)]
 pub struct VnodeOver<S: ClockStore> {
     id: u64,
     epochs: EpochSource,
@@ -70,6 +69,22 @@ pub struct VnodeOver<S: ClockStore> {
     store: S,
     ready: Option<Ready>,
     prepared: GhostValue<Ask>,
+}
+
+/// One call at each place where one is let go.
+impl<S: ClockStore> Drop for VnodeOver<S> {
+    fn drop(self) {
+        let VnodeOver {
+            id: _id,
+            epochs: _epochs,
+            writes: _writes,
+            tombstones: _tombstones,
+            reaps: _reaps,
+            store: _store,
+            ready: _ready,
+            prepared: _prepared,
+        } = self;
+    }
 }
 
 impl<S: ClockStore> Model for VnodeOver<S> {
