@@ -17,3 +17,4 @@ pub mod SetLaws
 pub mod Sound
 pub mod Discards
 pub mod Emptied
+pub mod Walks

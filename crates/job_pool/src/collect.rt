@@ -102,9 +102,9 @@ fn in_order<E: Drop>(alloc: Global, places: Vec<Option<E>>) -> Result<Vec<E>, Ru
         let Some(end) = place else {
             return Err(RunFault::NoMemory);
         };
-        if ends.push(end).is_err() {
+        let Ok(()) = ends.push(end) else {
             return Err(RunFault::NoMemory);
-        }
+        };
     }
     Ok(ends)
 }

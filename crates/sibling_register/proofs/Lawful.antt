@@ -118,9 +118,9 @@ module _ {V : Type 0} where
       (del_decided history del (del_saw history del) (has_too_many history key (del_saw history del)))
   decided history (Reap key) = reap_decided (is_dead history key) (record { key = key; operation = Forgotten; context = None; saw = numbers_to (count_of history key) })
 
-  same_told : (old : List (Event V ℕ)) (outcome : Outcome V ℕ) (told : Told ℕ) (new : List (Event V ℕ)) → Follows old outcome told new → told ≡ answer_of outcome
-  same_told old (Answers given) told new f = f.0
-  same_told old (Accepts event given) told new f = f.0
+  same_answer : (old : List (Event V ℕ)) (outcome : Outcome V ℕ) (told : Told ℕ) (new : List (Event V ℕ)) → Follows old outcome told new → told ≡ answer_of outcome
+  same_answer old (Answers given) told new f = f.0
+  same_answer old (Accepts event given) told new f = f.0
 
   follows_kept : (history : List (Event V ℕ)) (told : Told ℕ) (entry : Option (Entry V)) → Follows history (outcome_by told entry) told (kept_of history entry)
   follows_kept history told None = (refl, refl)
@@ -140,7 +140,7 @@ module _ {V : Type 0} where
         exact = refl;
         may = may_give history command;
         follows = subst G (sym n) f;
-        decided = subst D (sym (same_told history outcome told _ f)) (decided history command);
+        decided = subst D (sym (same_answer history outcome told _ f)) (decided history command);
       }
 
   -- the same, of the histories that the plan read and that its entry was kept in

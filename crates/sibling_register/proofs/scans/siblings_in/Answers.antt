@@ -1,4 +1,4 @@
-use Rattle.std.proofs.Common.{arith, ◌≡◌, ◌∙◌, ap, sym, ◌<◌, length, true, false, ◌+◌}
+use Rattle.std.proofs.Common.{arith, ◌≡◌, ◌∙◌, ap, sym, true, false, ◌+◌}
 use Rattle.riak_msgs.specs.KeyOrder.{key_eq}
 use Rattle.sibling_register.specs.Entries.{follow_of}
 use Rattle.sibling_register.proofs.Scanning.{count-own, count-other, siblings-scan_own, siblings-scan_other}
@@ -7,10 +7,10 @@ use Rattle.sibling_register.proofs.scans.siblings_in.Goals.{then-is_same+in_ok-f
 
 pub loop-entry-preserved : goal.loop-entry-preserved
 loop-entry-preserved g c =
-    let within : c.loop-entry.entry-index < length c.args.entries.now = omega arith in
+    let within = c.loop-entry-test.true in
     elim c.if-is_same.branch [
       | then-is_same+in_ok-follow w ↦
-          let own : key_eq c.entry-item.result.key c.args.key.now ≡ true = cc in
+          let own : key_eq c.entry-item.result.key c.args.key.now ≡ true = sym c.is_same.ensures.value ∙ w.if-is_same.true in
           record {
             count = w.count-is ∙ ap (λ n. n + 1) c.loop-entry.invariant.count ∙ sym (count-own _ _ _ _ within c.entry-item.is own);
             bound = omega arith;
@@ -20,7 +20,7 @@ loop-entry-preserved g c =
                 ∙ sym (siblings-scan_own _ _ _ _ within c.entry-item.is own);
           }
       | else-is_same w ↦
-          let other : key_eq c.entry-item.result.key c.args.key.now ≡ false = cc in
+          let other : key_eq c.entry-item.result.key c.args.key.now ≡ false = sym c.is_same.ensures.value ∙ w.if-is_same.false in
           record {
             count = w.count-is ∙ c.loop-entry.invariant.count ∙ sym (count-other _ _ _ _ within c.entry-item.is other);
             bound = omega arith;

@@ -1,6 +1,6 @@
-use Rattle.std.proofs.Common.{◌∷◌, [], length, refl, ap, sym}
+use Rattle.std.proofs.Common.{◌∷◌, ◌∙◌, [], length, refl, ap, sym}
 use Rattle.rw_gate.specs.declared.log.LogEntry.TheVariants.{Opened}
-use Rattle.rw_gate.specs.Logs.{events}
+use Rattle.rw_gate.specs.Logs.{events, opening}
 use Rattle.rw_gate.specs.Views.{gate_id}
 use Rattle.rw_gate.proofs.Logs.{opened_leads}
 use Rattle.rw_gate.proofs.gate.Gate.new.Goals as goal
@@ -24,3 +24,9 @@ put_back-requires g c =
       counted = sym (ap (λ l. length (events l)) log);
       leads = opened_leads g.S.Kept.content g.S.Kept.accepts c.args.state c.open_row-seen.result.0.log log;
     }
+
+pub returns-in-Ok-clause-ok : goal.returns-in-Ok-clause-ok
+returns-in-Ok-clause-ok g c = ap opening (ap (λ s. s.log) c.again.ensures ∙ c.open_row-seen.ensures.1)
+
+pub returns-clause-err : goal.returns-clause-err
+returns-clause-err g c = ap (λ v. v.state) c.in-Err.ensures

@@ -8,10 +8,10 @@ use Rattle.rw_gate.proofs.pass.Pass.load.Goals as goal
 pub invariant_of-self : goal.invariant_of-self
 invariant_of-self g c =
     let own = c.self.inside in
-    let told = c.load-found.ensures.6.1 in
+    let seen = c.load-found.ensures.6.1 in
     let both : IsPrefix own.seen.log c.learn.new.self.log = subst (λ s. IsPrefix s.log c.learn.new.self.log) c.again-both.ensures c.learn.ensures.2 in
     let longer = prefix_length _ _ (events_prefix own.seen.log c.load-found.new.seen.log (prefix_trans own.seen.log c.learn.new.self.log c.load-found.new.seen.log both c.load-found.ensures.5)) in
-    (sym told.0, told.1, below_more own.count c.load-found.result own.own (omega (arith, told.0, c.self.invariant.0, longer)) c.self.invariant.2)
+    (sym seen.0, seen.1, below_more own.count c.load-found.result own.own (omega (arith, seen.0, c.self.invariant.0, longer)) c.self.invariant.2)
 
 pub returns-clause-more : goal.returns-clause-more
 returns-clause-more g c =

@@ -32,24 +32,24 @@ invariant_of-self-2 g c =
     let own = c.self.inside in
     let v = c.learn.new.self.log in
     let w = c.compare_exchange-found.new.seen.log in
-    let told = c.compare_exchange-found.ensures.7 in
-    let hit = told.hit c.if-found-count.false in
+    let seen = c.compare_exchange-found.ensures.7 in
+    let hit = seen.hit c.if-found-count.false in
     let is : w ≡ v ++ Made (g.S.Kept.event c.args.change.now) ∷ [] = rw (← c.plain-offer.ensures.1) hit.0 in
     let counted : length (events w) ≡ length (events v) + 1 = rw is (events_made v (g.S.Kept.event c.args.change.now)) in
     let longer = prefix_length _ _ (events_prefix own.seen.log v c.learn.ensures.3) in (
       rw c.again.ensures (omega (arith, counted, hit.1, c.if-found-count.false)),
-      rw c.again.ensures told.legal,
+      rw c.again.ensures seen.legal,
       rw c.push.ensures (below_push own.count (c.args.count + 1) c.args.count own.own (omega (arith, hit.1, longer, c.if-found-count.false, c.self.invariant.0)) (omega arith) c.self.invariant.2),
     )
 
 pub invariant_of-self : goal.invariant_of-self
 invariant_of-self g c =
     let own = c.self.inside in
-    let told = c.compare_exchange-found.ensures.7 in
+    let seen = c.compare_exchange-found.ensures.7 in
     let w = c.compare_exchange-found.new.seen.log in
-    let found = told.missed c.if-found-count.true in
+    let found = seen.missed c.if-found-count.true in
     let longer = prefix_length _ _ (events_prefix own.seen.log w (prefix_trans own.seen.log c.learn.new.self.log w c.learn.ensures.3 c.compare_exchange-found.ensures.6)) in
-    (sym found, told.legal, below_more own.count c.compare_exchange-found.result own.own (omega (arith, found, longer, c.self.invariant.0)) c.self.invariant.2)
+    (sym found, seen.legal, below_more own.count c.compare_exchange-found.result own.own (omega (arith, found, longer, c.self.invariant.0)) c.self.invariant.2)
 
 pub returns-clause-more : goal.returns-clause-more
 returns-clause-more g c =

@@ -38,9 +38,8 @@ returns-in-Err-clause-state g c =
 pub returns-in-Err-clause-fault : goal.returns-in-Err-clause-fault
 returns-in-Err-clause-fault g c =
     let own = c.self.inside in
-    let told = c.in-Err.ensures.err in
     let few : length (events own.seen.log) < 18446744073709551615 = omega (arith, c.self.invariant.counted, c.self.ranges, c.if-self.false) in
-    rw (← c.self.view_is) (told, few)
+    rw (← c.self.view_is) (c.in-Err.ensures.err, few)
 
 pub returns-in-Ok-clause-own : goal.returns-in-Ok-clause-own
 returns-in-Ok-clause-own g c = rw (← c.self.view_is) (c.in-Ok.ensures.own ∙ ap (λ n. c.args.pass.now.own ++ n ∷ []) c.self.invariant.counted)
