@@ -62,16 +62,16 @@ fn reads_each_wire_type(rt: HostRuntime) {
     );
 }
 
-// The faults of the formats, in their order; where two hold the first is told.
+// The faults of the formats, in their order; where two hold the first is returned.
 #[test]
-fn tells_the_first_fault(rt: HostRuntime) {
-    tells_bad_varints(&rt);
-    tells_bad_keys(&rt);
-    tells_bad_wires(&rt);
-    tells_short_fields(&rt);
+fn the_first_fault_is_returned(rt: HostRuntime) {
+    refuses_bad_varints(&rt);
+    refuses_bad_keys(&rt);
+    refuses_bad_wires(&rt);
+    refuses_short_fields(&rt);
 }
 
-fn tells_bad_varints(rt: &impl Abort) {
+fn refuses_bad_varints(rt: &impl Abort) {
     let long = b"\x18\xff\xff\xff\xff\xff\xff\xff\xff\xff\xff\x01";
     fails(rt, long, FieldFault::BadVarint);
     fails(rt, &long[1..], FieldFault::BadVarint);
@@ -87,21 +87,21 @@ fn tells_bad_varints(rt: &impl Abort) {
     );
 }
 
-fn tells_bad_keys(rt: &impl Abort) {
+fn refuses_bad_keys(rt: &impl Abort) {
     fails(rt, b"\x80", FieldFault::Short);
     fails(rt, b"\x00\x01", FieldFault::BadKey);
     fails(rt, b"\x07", FieldFault::BadKey);
     fails(rt, b"\x80\x80\x80\x80\x10\x01", FieldFault::BadKey);
 }
 
-fn tells_bad_wires(rt: &impl Abort) {
+fn refuses_bad_wires(rt: &impl Abort) {
     fails(rt, b"\x0b", FieldFault::BadWire);
     fails(rt, b"\x0c", FieldFault::BadWire);
     fails(rt, b"\x0e", FieldFault::BadWire);
     fails(rt, b"\x0f", FieldFault::BadWire);
 }
 
-fn tells_short_fields(rt: &impl Abort) {
+fn refuses_short_fields(rt: &impl Abort) {
     fails(rt, b"\x08", FieldFault::Short);
     fails(rt, b"\x08\x80", FieldFault::Short);
     fails(rt, b"\x09\x01\x02\x03\x04\x05\x06\x07", FieldFault::Short);

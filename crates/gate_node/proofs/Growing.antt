@@ -187,34 +187,34 @@ del-reaped : (reaped : Reaped) → answers.Reaped reaped ≡ answers.Del → ⊥
 del-reaped reaped h = cc
 
 made-no-reap : (ask : Ask) → IsCommand ask → (event : Event) (reaped : Reaped) → Asks event ask → AnsweredBy event (answers.Reaped reaped) → ⊥
-made-no-reap ask command (events.Put put reply) reaped asked told = put-reaped reaped reply told
-made-no-reap ask command (events.Del del) reaped asked told = del-reaped reaped told
-made-no-reap ask command (events.Reap key) reaped asked told = no-reap ask command key asked
+made-no-reap ask command (events.Put put reply) reaped asked answered = put-reaped reaped reply answered
+made-no-reap ask command (events.Del del) reaped asked answered = del-reaped reaped answered
+made-no-reap ask command (events.Reap key) reaped asked answered = no-reap ask command key asked
 
 -- what came of a command, and how it is counted
 made-fits : (ask : Ask) → IsCommand ask → (old new : Sight) (answer : Answer) → IsMadeBy ask old new answer → Fits (response_reply (response_of answer)) (Some (answer_quantity answer))
 made-fits ask command old new (answers.Put reply) made = refl
 made-fits ask command old new answers.Del made = inl refl
-made-fits ask command old new (answers.Reaped reaped) made = absurd (made-no-reap ask command made.event reaped made.asked made.told)
+made-fits ask command old new (answers.Reaped reaped) made = absurd (made-no-reap ask command made.event reaped made.asked made.answered)
 
-told-fits : (ask : Ask) → IsCommand ask → (old new : Sight) (answer : Answer) → IsSaidOf (λ s. IsAnswered s ask answer) old new → Fits (response_reply (response_of answer)) None
-told-fits (asks.Put put) command old new answer said =
+answered-fits : (ask : Ask) → IsCommand ask → (old new : Sight) (answer : Answer) → IsSaidOf (λ s. IsAnswered s ask answer) old new → Fits (response_reply (response_of answer)) None
+answered-fits (asks.Put put) command old new answer said =
     let c = put_command put in let s = said.state in
     let next = apply_operation s c.key c.context (Write c.value) in
     absurd (unless-answered (put_check s c) (Write c.value) (PutDone (put_reply next c)) (response_of answer) next said.says.0)
-told-fits (asks.Del del) command old new (answers.Put reply) said =
+answered-fits (asks.Del del) command old new (answers.Put reply) said =
     let c = del_command del in let s = said.state in
     absurd (idle-put (is_none c.context && not (is_held s c.key)) (del_check s c) Tombstone DelDone reply (apply_operation s c.key c.context Tombstone) said.says.0)
-told-fits (asks.Del del) command old new answers.Del said = inr refl
-told-fits (asks.Del del) command old new (answers.Reaped Gone) said = inr refl
-told-fits (asks.Del del) command old new (answers.Reaped Kept) said = inr refl
-told-fits (asks.Del del) command old new (answers.Reaped Absent) said = inr refl
-told-fits (asks.Reap key) command old new answer said = absurd command
-told-fits (asks.ReapFirst from) command old new answer said = absurd command
+answered-fits (asks.Del del) command old new answers.Del said = inr refl
+answered-fits (asks.Del del) command old new (answers.Reaped Gone) said = inr refl
+answered-fits (asks.Del del) command old new (answers.Reaped Kept) said = inr refl
+answered-fits (asks.Del del) command old new (answers.Reaped Absent) said = inr refl
+answered-fits (asks.Reap key) command old new answer said = absurd command
+answered-fits (asks.ReapFirst from) command old new answer said = absurd command
 
 outcome-fits : (ask : Ask) → IsCommand ask → (old new : Sight) (outcome : Outcome Answer Refusal) → ComesOf ask old new outcome → Fits (outcome_reply outcome) (outcome_quantity outcome)
 outcome-fits ask command old new (Made answer) comes = made-fits ask command old new answer comes
-outcome-fits ask command old new (Told answer) comes = told-fits ask command old new answer comes
+outcome-fits ask command old new (Told answer) comes = answered-fits ask command old new answer comes
 outcome-fits ask command old new (Outcomes.Refused refusal) comes = refl
 outcome-fits ask command old new Moved comes = refl
 outcome-fits ask command old new Full comes = refl

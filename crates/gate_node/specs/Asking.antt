@@ -28,7 +28,7 @@ module _ {S E State Ask Reply Refusal : Type 0} (content : S → State) (accepts
     pub leads : RunFrom content accepts old.gate.opening position state
     pub step : accepts state event after
     pub asked : asks event ask
-    pub told : answered_by event reply
+    pub answered : answered_by event reply
     pub seen : new.prefix ≡ position ++ event ∷ []
     pub own : new.own ≡ old.own ++ length position ∷ []
 

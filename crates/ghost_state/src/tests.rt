@@ -7,7 +7,7 @@ use std::test::*;
 // A struct that carries ghost state is as large as its other fields.
 struct Carrier {
     number: u64,
-    told: GhostValue<u64>,
+    noted: GhostValue<u64>,
     history: GhostList<u64>,
 }
 

@@ -72,7 +72,7 @@ module _ {S : Type 0} (Step : S → Request → Reply → S → Type 0) (a : S) 
   stops_then stops.BadFrame unread' unread'' h₀ h' h'' h₁ b new i j k reads y piece = Reached-flushed unread' unread'' h₀ h' h'' h₁ b i j k reads y piece (AtLastRead (IsBad new))
   stops_then stops.NoMemory unread' unread'' h₀ h' h'' h₁ b new i j k reads y piece = Reached-flushed unread' unread'' h₀ h' h'' h₁ b i j k reads y piece (AtLastRead (IsOutOfMemory Step new))
 
-  -- the same by the fault that is told
+  -- the same by the fault that is given
   pub Reached-stops : (stop : Stop) (fault : SessionFault) (unread' unread'' h₀ h' h'' h₁ : Option (List ℕ)) (b new : S) (i j k reads : ℕ) (y piece : List ℕ) → i < reads → fault ≡ fault_for stop (j + k)
       → Reached unread' h₀ i j (StandsAt b y) → Keeps h₀ h' → Consumes unread' unread'' piece → length piece ≤ 4096
       → Stops Step b new (y ++ piece) h' h'' (fault_for stop k) → Keeps h'' h₁ → Given unread unread'' reads (λ input. Stops Step a new input h h₁ fault)

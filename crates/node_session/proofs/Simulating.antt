@@ -17,8 +17,8 @@ module _ {S T : Type 0} (Step : S → Request → Reply → S → Type 0) (Step'
       let next = step s s' t request reply like made in (next.0, next.1, inl next.2)
   read_like s s' t (Ok request) reply like (inr refused) =
       (t, subst (λ (x : S). Like x t) (sym refused.1) like, inr (refused.0, refl))
-  read_like s s' t (Err fault) reply like told =
-      (t, subst (λ (x : S). Like x t) (sym told.1) like, (told.0, refl))
+  read_like s s' t (Err fault) reply like answered =
+      (t, subst (λ (x : S). Like x t) (sym answered.1) like, (answered.0, refl))
 
   answers_like : (s s' : S) (t : T) (m : Message) (reply : Reply) → Like s t → Answers Step s m reply s' → (t' : T) × Like s' t' × Answers Step' t m reply t'
   answers_like s s' t m reply like a =

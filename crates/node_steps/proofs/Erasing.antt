@@ -277,11 +277,11 @@ module _ (w : World) (orderly : IsOrderly w) (step : Step) where
   -- the same comes of a step in the erased world, and it leaves the same
   pub outcome_erased : outcome w step ≡ outcome (erase w) step
   outcome_erased =
-      told (happens w step) ∙ ap (λ o. option_map_or (λ (r : Result). r.1) o NotPossible) happens_erased ∙ sym (told (happens (erase w) step))
+      same_outcome (happens w step) ∙ ap (λ o. option_map_or (λ (r : Result). r.1) o NotPossible) happens_erased ∙ sym (same_outcome (happens (erase w) step))
     where
-      told : (o : Option Result) → option_map_or (λ (r : Result). r.1) o NotPossible ≡ option_map_or (λ (r : Result). r.1) (option_map erase_result o) NotPossible
-      told None = refl
-      told (Some r) = refl
+      same_outcome : (o : Option Result) → option_map_or (λ (r : Result). r.1) o NotPossible ≡ option_map_or (λ (r : Result). r.1) (option_map erase_result o) NotPossible
+      same_outcome None = refl
+      same_outcome (Some r) = refl
 
   pub after_erased : erase (after w step) ≡ erase (after (erase w) step)
   after_erased =

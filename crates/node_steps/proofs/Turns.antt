@@ -255,10 +255,10 @@ module _ (id index readers holders : ℕ) where
           shows = tt;
         })
     look_held word f p other ask hand e is (Answered response) h =
-        let told = registers ask hand (Answered response) is h in
+        let gives = registers ask hand (Answered response) is h in
         answered (Holding other ask hand None) (Done other (Some hand)) word f p refl refl (λ _. is) e refl (Ok response) (record { index = other; ask = ask }) refl (record {
           at = e;
-          answer = record { given = Answers told.told; may = told.given; leads = refl; shown = told.shown };
+          answer = record { given = Answers gives.told; may = gives.given; leads = refl; shown = gives.shown };
           seen = refl;
           event = inl refl;
           shows = subst (λ s. AreHeld s (key_of ask) (context_bytes response)) is (shows ask hand (Answered response) h);
@@ -286,11 +286,11 @@ module _ (id index readers holders : ℕ) where
         let turn : Turn = answers seen (vnode_in word) (Done other None) reply in
         let same : turn ≡ t = cc in
         let is : place ≡ replay id 0 history = place_read word history place f (omega (arith, n, one_same other at)) p in
-        let told = registers (AskGet get) place (Answered (GetDone (get_reply place get))) is refl in
+        let gives = registers (AskGet get) place (Answered (GetDone (get_reply place get))) is refl in
         subst (λ u. IsTurn Looks (Reading other get) history u) same
         (answered (Reading other get) (Done other None) word f p refl refl tt at refl reply (record { index = other; ask = AskGet get }) refl (record {
           at = at;
-          answer = record { given = Answers told.told; may = told.given; leads = refl; shown = told.shown };
+          answer = record { given = Answers gives.told; may = gives.given; leads = refl; shown = gives.shown };
           seen = refl;
           event = inl refl;
           shows = subst (λ s. AreHeld s get.key (get_reply place get).context) is (outcome_shows place (AskGet get));

@@ -60,7 +60,7 @@ all_taken limit lt events old new p out =
           short_not_bad limit old.rest fault partial.short (subst (λ (r : List ℕ). IsBadLength limit r fault) (sym same.1) faulty.faulty),
     )
 
--- where a bad length was told, all were taken, and the stream is faulty
+-- after the fault of a bad length all were taken, and the stream is faulty
 pub fault_behind : (limit : ℕ) (events : List Event) (old new : Stream) (fault : FrameFault) → Ran (opening limit) events old → IsRefused old fault new
     → Splits limit (fed_bytes events) (taken_messages events) new.rest × IsFaultyStream limit (fed_bytes events) fault
 fault_behind limit events old new fault p refused =

@@ -2,7 +2,7 @@
 use Rattle.std.specs.Prelude.{ℕ, List, [], Option, None}
 use Rattle.pb_frame.specs.declared.fault.FrameFault.{FrameFault}
 
--- the longest length of a frame, the bytes that were fed and not yet taken, and the fault, once it was told
+-- the longest length of a frame, the bytes that were fed and not yet taken, and the fault, once one was returned
 pub record Stream : Type 0 where
   pub limit : ℕ
   pub rest : List ℕ

@@ -84,7 +84,7 @@ impl Framer {
         ensures err { OnErr result (self.new ≡ self.old) }
 
         // Once a bad length was returned, its fault is, and no other. Before, only memory is refused.
-        ensures told { IfSome self.old.fault (λ e. IsErrOf result e) }
+        ensures stopped { IfSome self.old.fault (λ e. IsErrOf result e) }
         ensures memory { self.old.fault ≡ None → IsOkUnless result FrameFault.NoMemory }
     {
         if let Some(fault) = self.fault {

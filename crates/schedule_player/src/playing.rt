@@ -28,7 +28,7 @@ const MAX_READS: u64 = 4_294_967_296;
 /// may lack its line feed. A read, write or flush that is interrupted is tried again; such a read counts as one. The writer
 /// is flushed before each read, at the end, and, as far as that can be done, after a fault.
 ///
-/// Each line is answered before a fault of a later line is told:
+/// Each line is answered before a fault of a later line is returned:
 /// - `BadStep(n)`: line n asks for no step, or n is 100,001.
 /// - `ReadFailed`: the reader failed, or 4,294,967,296 reads were made and the input hadn't ended.
 /// - `WriteFailed`: the writer failed, or took no byte. A beginning of the next line may have been written.

@@ -1,4 +1,4 @@
-//! What the comparison with plain registers is told of a run.
+//! What the comparison with plain registers is given of a run.
 
 ghost use Rattle.std.specs.Prelude.{◌≡◌, IfOk};
 ghost use Rattle.schedule_text.specs.declared.verdict.Verdict.TheVariants.{Equal};
@@ -9,7 +9,7 @@ use riak_msgs::Reply;
 use schedule_text::Comparison;
 use std::alloc::{AllocError, Global};
 
-/// The last call of each worker, and the comparison, which is told of it once it is answered.
+/// The last call of each worker, and the comparison, which is given it once it is answered.
 #[derive(Drop)]
 pub(crate) struct Referee {
     pub(crate) calls: Vec<Option<Box<Step>>>,

@@ -212,12 +212,12 @@ fn half_a_frame(rt: HostRuntime) -> Result<(), Fail> {
 fn bad_length_is_sent<R: Net<Stream = TcpStream>>(rt: &R, port: u16) -> io::Result<bool> {
     let mut stream = connect(rt, port)?;
     stream.write_all(b"\0\0\0\x01\x01\0\0\0\0")?;
-    let is_told = brings(
+    let is_answered = brings(
         &mut stream,
         b"\0\0\0\x01\x02\0\0\0\x0e\0\x0a\x09bad frame\x10\x01",
         0,
     )?;
-    Ok(is_told && is_at_end(&mut stream)?)
+    Ok(is_answered && is_at_end(&mut stream)?)
 }
 
 /// A client that asks and goes without waiting for the reply, and then one that waits for its own.
@@ -233,8 +233,8 @@ fn one_goes_one_asks<R: Net<Stream = TcpStream>>(rt: &R, port: u16) -> io::Resul
 
 /// A client with a bad length, one that goes unanswered, and one that asks to the end.
 fn three_clients_ask<R: Net<Stream = TcpStream>>(rt: &R, port: u16) -> io::Result<bool> {
-    let is_told = bad_length_is_sent(rt, port)?;
-    Ok(is_told && one_goes_one_asks(rt, port)?)
+    let is_answered = bad_length_is_sent(rt, port)?;
+    Ok(is_answered && one_goes_one_asks(rt, port)?)
 }
 
 #[test]

@@ -23,7 +23,7 @@ pub(crate) struct Ready {
 }
 
 /// The outcome of a command that isn't refused.
-#[derive(Clone, Copy, Debug, Drop, PartialEq, Eq)]
+#[derive(Clone, Copy, Drop)]
 pub(crate) enum Readiness {
     /// All that it needs is ready.
     Ready,

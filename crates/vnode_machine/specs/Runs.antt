@@ -48,9 +48,9 @@ abbrev pub TakesTurn : State Content → Turn → State Content → Type 0
 TakesTurn state turn after = MakesStep state turn after ⊎ IsOutOfMemory state turn after
 
 -- the register's answer by what it gave
-abbrev pub told_by : Outcome Content Context → Told ℕ
-told_by (Answers told) = told
-told_by (Accepts event told) = told
+abbrev pub answer_by : Outcome Content Context → Told ℕ
+answer_by (Answers told) = told
+answer_by (Accepts event told) = told
 
 -- and the history after it
 abbrev pub history_by : History → Outcome Content Context → History
@@ -63,7 +63,7 @@ module _ (vnode last_epoch : ℕ) where
     pub given : Outcome Content Context
     pub may : MayGive (naming vnode last_epoch) history turn.ask given
     pub leads : after ≡ history_by history given
-    pub shown : reply_shown vnode last_epoch after turn.ask (told_by given) ≡ turn.reply
+    pub shown : reply_shown vnode last_epoch after turn.ask (answer_by given) ≡ turn.reply
 
   -- the register answers a turn, or memory is refused
   abbrev pub AnswersTurn : History → Turn → History → Type 0

@@ -19,7 +19,7 @@ const MAX_SIBLINGS: usize = 64;
 
 /// Who makes a write: the actor of its key's life, or the next one's where it begins a life; and the last epoch that is
 /// given once it is made.
-#[derive(Clone, Copy, Debug, Drop, PartialEq, Eq)]
+#[derive(Clone, Copy, Drop)]
 pub struct Writer {
     /// The actor of the key's life.
     pub actor: Actor,

@@ -5,14 +5,14 @@ use gate_node::Passes;
 use node_session::{Ended, SessionFault};
 use std::io::{Read, Write};
 
-/// A reader that is told once that its session is over.
+/// A reader whose `ended` is called once, after its session.
 pub trait EndRead: Read {
     /// The session is over. What is unread stays so.
     fn ended(&mut self)
         ensures { Keeps (Self.remaining self.old) (Self.remaining self.new) };
 }
 
-/// A writer that is told once that its session is over.
+/// A writer whose `ended` is called once, after its session.
 pub trait EndWrite: Write {
     /// The session is over. What was written stays so.
     fn ended(&mut self)

@@ -30,7 +30,7 @@ fn is_shut(gate: &Gate<Counter>) -> bool {
     !lets_read(gate) && !lets_write(gate) && !gate.mark()
 }
 
-// Whether a writer is alone, is shown 0, is told 5, and has then seen one event.
+// Whether a writer is alone, is shown 0, is answered 5, and has then seen one event.
 fn adds_five(gate: &Gate<Counter>, alloc: Global) -> bool {
     let mut pass = gate.pass();
     let Some(right) = gate.try_write() else {

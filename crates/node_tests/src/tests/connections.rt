@@ -125,7 +125,7 @@ fn leaves(alloc: Global, input: &[u8], replies: u64, rest: usize, output: &[u8])
 }
 
 #[test]
-fn a_rest_is_told(rt: HostRuntime) -> Result<(), Fail> {
+fn an_unread_rest_is_counted(rt: HostRuntime) -> Result<(), Fail> {
     let alloc = rt.alloc();
     assert!(rt; leaves(alloc, &[], 0, 0, &[]));
     assert!(rt; leaves(alloc, &[0, 0, 1], 0, 3, &[]));

@@ -75,7 +75,7 @@ fn get_replies(alloc: Global, requests: &[u8], replies: &[u8]) -> bool {
 
 // Each is answered by its error, and the session goes on.
 #[test]
-fn what_is_missing_is_told(rt: HostRuntime) -> Result<(), Fail> {
+fn what_is_missing_is_answered(rt: HostRuntime) -> Result<(), Fail> {
     let requests = incomplete(rt.alloc())?;
     let replies = what_is_missing(rt.alloc())?;
     assert!(rt; get_replies(rt.alloc(), &requests, &replies));

@@ -103,7 +103,13 @@ fn each_flush_fails_in_turn(rt: HostRuntime) -> Result<(), Fail> {
 }
 
 /// An input that ends by a fault gets this output, and so many bytes are not read any more.
-fn is_told(alloc: Global, input: &[u8], replies: u64, output: &[u8], unread: usize) -> bool {
+fn ends_by_bad_frame(
+    alloc: Global,
+    input: &[u8],
+    replies: u64,
+    output: &[u8],
+    unread: usize,
+) -> bool {
     let mut source = Source::new(input, 3);
     let mut sink = Sink::new(alloc, 64);
     let outcome = serve_new(alloc, &mut source, &mut sink, 100);
@@ -132,14 +138,14 @@ fn bad_length(
     output: &[u8],
     unread: usize,
 ) {
-    let well = is_told(alloc, input, replies, output, unread);
+    let well = ends_by_bad_frame(alloc, input, replies, output, unread);
     assert!(rt; well, "{input:?}");
     let well = is_cut_short(alloc, input, replies, output);
     assert!(rt; well, "{input:?}, cut short");
 }
 
 #[test]
-fn a_bad_length_is_told_once(rt: HostRuntime) -> Result<(), Fail> {
+fn a_bad_length_is_answered_once(rt: HostRuntime) -> Result<(), Fail> {
     let alloc = rt.alloc();
     let empty = b"\0\0\0\x0e\0\x0a\x09bad frame\x10\x01";
     bad_length(&rt, alloc, &[0, 0, 0, 0], 0, empty, 0);

@@ -1,4 +1,4 @@
-//! Runs that are compared with plain registers. Where memory was refused in a run, it is told again from its start.
+//! Runs that are compared with plain registers. Where memory was refused in a run, it is made again from its start.
 
 use crate::tests::check;
 use crate::tests::outcomes::reply_again;
@@ -45,8 +45,8 @@ fn request_again(alloc: Global, code: u8, body: &[u8]) -> Result<Request, MsgFau
 
 fn let_go(_request: Result<Request, MsgFault>, _reply: Result<Reply, MsgFault>) {}
 
-/// Tells of what was read.
-fn tells_read(
+/// Compares what was read.
+fn compares_read(
     comparison: &mut Comparison,
     alloc: Global,
     line: u64,
@@ -59,8 +59,8 @@ fn tells_read(
     }
 }
 
-/// Tells of the reply to a request, each by its code and body.
-fn tell(
+/// Compares the reply to a request, each by its code and body.
+fn compares(
     comparison: &mut Comparison,
     alloc: Global,
     line: u64,
@@ -69,9 +69,9 @@ fn tell(
 ) -> bool {
     let asked = request_again(alloc, request.0, request.1);
     let answered = reply_again(alloc, reply.0, reply.1);
-    let is_told = tells_read(comparison, alloc, line, &asked, &answered);
+    let is_compared = compares_read(comparison, alloc, line, &asked, &answered);
     let_go(asked, answered);
-    is_told
+    is_compared
 }
 
 #[test]
@@ -88,9 +88,9 @@ fn the_schedule_of_a_marking_writer_is_equal(rt: HostRuntime) -> Result<(), Fail
 
 fn marking_writer(alloc: Global, run: &mut Comparison) -> bool {
     run.verdict() == Verdict::Equal
-        && tell(run, alloc, 8, (9, GET), (10, b""))
-        && tell(run, alloc, 12, (11, PUT_V), (12, b""))
-        && tell(run, alloc, 16, (9, GET), (10, SHOWS_V))
+        && compares(run, alloc, 8, (9, GET), (10, b""))
+        && compares(run, alloc, 12, (11, PUT_V), (12, b""))
+        && compares(run, alloc, 16, (9, GET), (10, SHOWS_V))
         && run.verdict() == Verdict::Equal
 }
 
@@ -107,10 +107,10 @@ fn another_value_differs_at_its_line(rt: HostRuntime) -> Result<(), Fail> {
 }
 
 fn another_value(alloc: Global, run: &mut Comparison) -> bool {
-    tell(run, alloc, 12, (11, PUT_V), (12, b""))
-        && tell(run, alloc, 16, (9, GET), (10, SHOWS_W))
+    compares(run, alloc, 12, (11, PUT_V), (12, b""))
+        && compares(run, alloc, 16, (9, GET), (10, SHOWS_W))
         && run.verdict() == Verdict::DiffersAt(16)
-        && tell(run, alloc, 20, (9, GET), (10, b""))
+        && compares(run, alloc, 20, (9, GET), (10, b""))
         && run.verdict() == Verdict::DiffersAt(16)
 }
 
@@ -127,13 +127,13 @@ fn a_shown_context_is_the_position_that_it_was_shown_at(rt: HostRuntime) -> Resu
 }
 
 fn shown_context(alloc: Global, run: &mut Comparison) -> bool {
-    tell(run, alloc, 1, (11, PUT_V), (12, b""))
-        && tell(run, alloc, 2, (9, GET), (10, SHOWS_V))
-        && tell(run, alloc, 3, (11, PUT_W), (12, b""))
-        && tell(run, alloc, 4, (11, PUT_X), (12, b""))
-        && tell(run, alloc, 5, (9, GET), (10, SHOWS_X_W))
+    compares(run, alloc, 1, (11, PUT_V), (12, b""))
+        && compares(run, alloc, 2, (9, GET), (10, SHOWS_V))
+        && compares(run, alloc, 3, (11, PUT_W), (12, b""))
+        && compares(run, alloc, 4, (11, PUT_X), (12, b""))
+        && compares(run, alloc, 5, (9, GET), (10, SHOWS_X_W))
         && run.verdict() == Verdict::Equal
-        && tell(run, alloc, 6, (9, GET), (10, SHOWS_W_X))
+        && compares(run, alloc, 6, (9, GET), (10, SHOWS_W_X))
         && run.verdict() == Verdict::DiffersAt(6)
 }
 
@@ -150,8 +150,8 @@ fn a_context_that_was_not_shown_is_not_compared(rt: HostRuntime) -> Result<(), F
 }
 
 fn unknown_context(alloc: Global, run: &mut Comparison) -> bool {
-    tell(run, alloc, 1, (11, PUT_V), (12, b""))
-        && tell(run, alloc, 2, (11, PUT_X), (12, b""))
+    compares(run, alloc, 1, (11, PUT_V), (12, b""))
+        && compares(run, alloc, 2, (11, PUT_X), (12, b""))
         && run.verdict() == Verdict::NotCompared
 }
 
@@ -166,7 +166,7 @@ fn choosy(alloc: Global, context: &[u8], if_none_match: bool) -> Result<Request,
     }
 }
 
-/// Tells of the reply to such a put.
+/// Compares the reply to such a put.
 fn tell_choosy(
     run: &mut Comparison,
     alloc: Global,
@@ -176,9 +176,9 @@ fn tell_choosy(
 ) -> bool {
     let asked = choosy(alloc, put.0, put.1);
     let answered = reply_again(alloc, reply.0, reply.1);
-    let is_told = tells_read(run, alloc, line, &asked, &answered);
+    let is_compared = compares_read(run, alloc, line, &asked, &answered);
     let_go(asked, answered);
-    is_told
+    is_compared
 }
 
 #[test]
@@ -195,7 +195,7 @@ fn refusals_are_compared_but_for_those_of_clocks(rt: HostRuntime) -> Result<(), 
 
 fn refusals(alloc: Global, run: &mut Comparison) -> bool {
     let found = b"\x0a\x0bmatch_found\x10\x01";
-    tell(run, alloc, 1, (11, PUT_V), (12, b""))
+    compares(run, alloc, 1, (11, PUT_V), (12, b""))
         && tell_choosy(run, alloc, 2, (b"", true), (0, found))
         // a context of another form is refused, and the register isn't asked
         && tell_choosy(
@@ -205,7 +205,7 @@ fn refusals(alloc: Global, run: &mut Comparison) -> bool {
             (b"\x01", false),
             (0, b"\x0a\x0bbad context\x10\x01"),
         )
-        && tell(run, alloc, 4, (9, GET), (10, SHOWS_V))
+        && compares(run, alloc, 4, (9, GET), (10, SHOWS_V))
         && run.verdict() == Verdict::Equal
         && tell_choosy(run, alloc, 5, (b"", true), (0, b"\x0a\x08modified\x10\x01"))
         && run.verdict() == Verdict::DiffersAt(5)
@@ -237,7 +237,7 @@ fn get_head(alloc: Global) -> Result<Request, AllocError> {
     }
 }
 
-/// Tells of the reply to a request that was made.
+/// Compares the reply to a request that was made.
 fn tell_made(
     run: &mut Comparison,
     alloc: Global,
@@ -250,9 +250,9 @@ fn tell_made(
         Err(_) => Err(MsgFault::NoMemory),
     };
     let answered = reply_again(alloc, reply.0, reply.1);
-    let is_told = tells_read(run, alloc, line, &asked, &answered);
+    let is_compared = compares_read(run, alloc, line, &asked, &answered);
     let_go(asked, answered);
-    is_told
+    is_compared
 }
 
 #[test]
@@ -269,12 +269,12 @@ fn tombstones_and_heads_are_compared(rt: HostRuntime) -> Result<(), Fail> {
 
 fn tombstones_and_heads(alloc: Global, run: &mut Comparison) -> bool {
     let head = b"\x0a\x02\x0a\0\x12\x11\x01\0\0\0\0\0\x01\0\0\0\0\0\x01\0\0\0\x01";
-    tell(run, alloc, 1, (11, PUT_V), (12, b""))
-        && tell(run, alloc, 2, (9, GET), (10, SHOWS_V))
+    compares(run, alloc, 1, (11, PUT_V), (12, b""))
+        && compares(run, alloc, 2, (9, GET), (10, SHOWS_V))
         && tell_made(run, alloc, 3, get_head(alloc), (10, head))
-        && tell(run, alloc, 4, (11, PUT_W), (12, b""))
+        && compares(run, alloc, 4, (11, PUT_W), (12, b""))
         && tell_made(run, alloc, 5, delete(alloc, CONTEXT_OF_V), (14, b""))
-        && tell(run, alloc, 6, (9, GET), (10, SHOWS_TOMBSTONE_W))
+        && compares(run, alloc, 6, (9, GET), (10, SHOWS_TOMBSTONE_W))
         && run.verdict() == Verdict::Equal
         && tell_made(run, alloc, 7, get_head(alloc), (10, SHOWS_TOMBSTONE_W))
         && run.verdict() == Verdict::DiffersAt(7)
@@ -299,14 +299,14 @@ fn a_reap_forgets_a_dead_key(rt: HostRuntime) -> Result<(), Fail> {
 
 fn reaps(alloc: Global, run: &mut Comparison) -> bool {
     let shows = b"\x0a\x03\x0a\x01w\x12\x11\x01\0\0\0\0\0\x01\0\0\0\0\0\x02\0\0\0\x01";
-    tell(run, alloc, 1, (11, PUT_V), (12, b""))
+    compares(run, alloc, 1, (11, PUT_V), (12, b""))
         && tell_reap(run, alloc)
-        && tell(run, alloc, 2, (9, GET), (10, SHOWS_V))
+        && compares(run, alloc, 2, (9, GET), (10, SHOWS_V))
         && tell_made(run, alloc, 3, delete(alloc, b""), (14, b""))
-        && tell(run, alloc, 4, (9, GET), (10, b""))
+        && compares(run, alloc, 4, (9, GET), (10, b""))
         && tell_reap(run, alloc)
-        && tell(run, alloc, 5, (11, PUT_W), (12, b""))
-        && tell(run, alloc, 6, (9, GET), (10, shows))
+        && compares(run, alloc, 5, (11, PUT_W), (12, b""))
+        && compares(run, alloc, 6, (9, GET), (10, shows))
         && run.verdict() == Verdict::Equal
 }
 
@@ -323,7 +323,7 @@ fn each_vnode_has_its_register(rt: HostRuntime) -> Result<(), Fail> {
 }
 
 fn two_vnodes(alloc: Global, run: &mut Comparison) -> bool {
-    tell(run, alloc, 1, (11, PUT_V), (12, b""))
+    compares(run, alloc, 1, (11, PUT_V), (12, b""))
         && tell_at_another(run, alloc)
         && run.verdict() == Verdict::Equal
 }
@@ -332,12 +332,12 @@ fn two_vnodes(alloc: Global, run: &mut Comparison) -> bool {
 fn tell_at_another(run: &mut Comparison, alloc: Global) -> bool {
     let asked = request_again(alloc, 9, GET);
     let answered = reply_again(alloc, 10, b"");
-    let is_told = match (&asked, &answered) {
+    let is_compared = match (&asked, &answered) {
         (Ok(request), Ok(reply)) => run.compare(alloc, 2, 5, request, reply).is_ok(),
         _ => false,
     };
     let_go(asked, answered);
-    is_told
+    is_compared
 }
 
 /// Writes, and a second time where memory was refused.

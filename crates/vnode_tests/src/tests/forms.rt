@@ -51,21 +51,21 @@ struct Step<'a> {
 
 /// What an ask was answered: what was shown, and the context.
 #[derive(Drop)]
-struct Told {
+struct Answers {
     shown: Vec<u8>,
     context: Vec<u8>,
 }
 
-impl Told {
-    fn new(alloc: Global) -> Told {
-        Told {
+impl Answers {
+    fn new(alloc: Global) -> Answers {
+        Answers {
             shown: Vec::new(alloc),
             context: Vec::new(alloc),
         }
     }
 
     /// Whether it is answered the same.
-    fn is_same(&self, other: &Told) -> bool {
+    fn is_same(&self, other: &Answers) -> bool {
         self.shown.as_slice() == other.shown.as_slice()
             && self.context.as_slice() == other.context.as_slice()
     }
@@ -125,15 +125,15 @@ fn mark_of(refusal: Refusal) -> Result<u8, Refusal> {
 }
 
 /// Notes an answer, which goes then.
-fn note_and_drop(told: &mut Told, answer: Answer) -> Result<(), Refusal> {
-    let noted = told.note_answer(&answer);
+fn note_and_drop(answers: &mut Answers, answer: Answer) -> Result<(), Refusal> {
+    let noted = answers.note_answer(&answer);
     drop(answer);
     Ok(noted?)
 }
 
-fn note_refusal(told: &mut Told, refusal: Refusal) -> Result<(), Refusal> {
+fn note_refusal(answers: &mut Answers, refusal: Refusal) -> Result<(), Refusal> {
     let mark = mark_of(refusal)?;
-    Ok(told.mark(mark)?)
+    Ok(answers.mark(mark)?)
 }
 
 /// Plans a command, makes its change where there is one, and notes its answer.
@@ -141,12 +141,12 @@ fn make<S: ClockStore>(
     vnode: &mut VnodeOver<S>,
     alloc: Global,
     ask: Ask,
-    told: &mut Told,
+    answers: &mut Answers,
 ) -> Result<(), Refusal> {
     match vnode.prepare(alloc, ask) {
-        Ok(Plan::Change(change)) => note_and_drop(told, vnode.finish(change)),
-        Ok(Plan::Nothing(answer)) => note_and_drop(told, answer),
-        Err(refusal) => note_refusal(told, refusal),
+        Ok(Plan::Change(change)) => note_and_drop(answers, vnode.finish(change)),
+        Ok(Plan::Nothing(answer)) => note_and_drop(answers, answer),
+        Err(refusal) => note_refusal(answers, refusal),
     }
 }
 
@@ -177,9 +177,9 @@ fn get_of(alloc: Global, step: Step<'_>) -> Result<GetAsk, AllocError> {
 }
 
 /// Notes what a get was answered.
-fn note_read(told: &mut Told, read: &Result<GetReply, Refusal>) -> Result<(), Refusal> {
+fn note_read(answers: &mut Answers, read: &Result<GetReply, Refusal>) -> Result<(), Refusal> {
     match read {
-        Ok(reply) => Ok(told.note_get(reply)?),
+        Ok(reply) => Ok(answers.note_get(reply)?),
         Err(refusal) => Err(*refusal),
     }
 }
@@ -189,10 +189,10 @@ fn read<S: ClockStore>(
     vnode: &VnodeOver<S>,
     alloc: Global,
     get: GetAsk,
-    told: &mut Told,
+    answers: &mut Answers,
 ) -> Result<(), Refusal> {
     let read = vnode.get(alloc, &get);
-    let noted = note_read(told, &read);
+    let noted = note_read(answers, &read);
     drop(read);
     drop(get);
     noted
@@ -202,10 +202,10 @@ fn get<S: ClockStore>(
     vnode: &VnodeOver<S>,
     alloc: Global,
     step: Step<'_>,
-    told: &mut Told,
+    answers: &mut Answers,
 ) -> Result<(), Refusal> {
     match get_of(alloc, step) {
-        Ok(get) => read(vnode, alloc, get, told),
+        Ok(get) => read(vnode, alloc, get, answers),
         Err(_) => Err(Refusal::NoMemory),
     }
 }
@@ -232,10 +232,10 @@ fn change<S: ClockStore>(
     vnode: &mut VnodeOver<S>,
     alloc: Global,
     step: Step<'_>,
-    told: &mut Told,
+    answers: &mut Answers,
 ) -> Result<(), Refusal> {
     match change_of(alloc, step) {
-        Ok(ask) => make(vnode, alloc, ask, told),
+        Ok(ask) => make(vnode, alloc, ask, answers),
         Err(_) => Err(Refusal::NoMemory),
     }
 }
@@ -245,12 +245,12 @@ fn ask<S: ClockStore>(
     vnode: &mut VnodeOver<S>,
     alloc: Global,
     step: Step<'_>,
-    told: &mut Told,
+    answers: &mut Answers,
 ) -> Result<(), Refusal> {
     match step.command {
-        Command::Get => get(vnode, alloc, step, told),
+        Command::Get => get(vnode, alloc, step, answers),
         Command::Put | Command::Del | Command::Reap | Command::ReapFirst => {
-            change(vnode, alloc, step, told)
+            change(vnode, alloc, step, answers)
         }
     }
 }
@@ -306,12 +306,12 @@ fn ask_both(
         value: &value,
         return_body: draws.next() % 4 == 0,
     };
-    let mut told = Told::new(alloc);
-    let mut also = Told::new(alloc);
-    let asked = ask_each(alloc, step, vnode, &mut told, list, &mut also);
-    let is_same = told.is_same(&also);
+    let mut answers = Answers::new(alloc);
+    let mut also = Answers::new(alloc);
+    let asked = ask_each(alloc, step, vnode, &mut answers, list, &mut also);
+    let is_same = answers.is_same(&also);
     drop(also);
-    keep(contexts, own, told);
+    keep(contexts, own, answers);
     asked?;
     Ok(is_same)
 }
@@ -321,17 +321,17 @@ fn ask_each(
     alloc: Global,
     step: Step<'_>,
     vnode: &mut Vnode,
-    told: &mut Told,
+    answers: &mut Answers,
     list: &mut ListVnode,
-    also: &mut Told,
+    also: &mut Answers,
 ) -> Result<(), Refusal> {
-    ask(vnode, alloc, step, told)?;
+    ask(vnode, alloc, step, answers)?;
     ask(list, alloc, step, also)
 }
 
 /// Keeps the context that was answered, where there is one, as the last that was shown of a key.
-fn keep(contexts: &mut Vec<Vec<u8>>, own: u8, told: Told) {
-    let Told { shown: _, context } = told;
+fn keep(contexts: &mut Vec<Vec<u8>>, own: u8, answers: Answers) {
+    let Answers { shown: _, context } = answers;
     if context.is_empty() {
         return;
     }
@@ -351,7 +351,11 @@ fn no_contexts(alloc: Global) -> Result<Vec<Vec<u8>>, AllocError> {
 }
 
 /// Whether both answer 1,000 asks alike, and count the same.
-fn tell_the_same(alloc: Global, vnode: &mut Vnode, list: &mut ListVnode) -> Result<bool, Refusal> {
+fn answer_the_same(
+    alloc: Global,
+    vnode: &mut Vnode,
+    list: &mut ListVnode,
+) -> Result<bool, Refusal> {
     let mut contexts = no_contexts(alloc)?;
     let mut draws = Draws { state: 1 };
     for _ in 0..1000 {
@@ -366,11 +370,11 @@ fn tell_the_same(alloc: Global, vnode: &mut Vnode, list: &mut ListVnode) -> Resu
 /// 1,000 asks over 20 keys, by contexts of earlier replies, with deletes and reaps: each form answers the same, and counts
 /// the same. Where memory is refused they end.
 #[test]
-fn forms_tell_the_same(rt: HostRuntime) {
+fn forms_answer_the_same(rt: HostRuntime) {
     let mut vnode = Vnode::new(rt.alloc(), ID, 1);
     let mut list = ListVnode::new(rt.alloc(), ID, 1);
-    let told = tell_the_same(rt.alloc(), &mut vnode, &mut list);
+    let answers = answer_the_same(rt.alloc(), &mut vnode, &mut list);
     drop(vnode);
     drop(list);
-    assert!(&rt; told != Ok(false));
+    assert!(&rt; answers != Ok(false));
 }

@@ -118,7 +118,7 @@ pub(crate) fn refusal_of_delete(
 }
 
 /// What a put is answered: a reply, where there is one.
-type Told = Result<Option<PutReply>, Refusal>;
+type Answered = Result<Option<PutReply>, Refusal>;
 
 /// The answer to a put, where it is one.
 fn reply_of(answer: Answer) -> Option<PutReply> {
@@ -130,7 +130,7 @@ fn reply_of(answer: Answer) -> Option<PutReply> {
 }
 
 /// Plans a put, and makes it.
-fn told_by(vnode: &mut Vnode, alloc: Global, ask: Ask) -> Told {
+fn answered_by(vnode: &mut Vnode, alloc: Global, ask: Ask) -> Answered {
     match vnode.prepare(alloc, ask) {
         Ok(Plan::Change(change)) => Ok(reply_of(vnode.finish(change))),
         Ok(Plan::Nothing(answer)) => Ok(reply_of(answer)),
@@ -153,9 +153,9 @@ fn put_with_once(
     value: &[u8],
     context: &[u8],
     options: PutOptions,
-) -> Told {
+) -> Answered {
     match PutAsk::plain(alloc, b"b", b"k", context, value) {
-        Ok(ask) => told_by(vnode, alloc, Ask::Put(with_options(ask, options))),
+        Ok(ask) => answered_by(vnode, alloc, Ask::Put(with_options(ask, options))),
         Err(_) => Err(Refusal::NoMemory),
     }
 }
@@ -167,15 +167,15 @@ fn put_with(
     value: &[u8],
     context: &[u8],
     options: PutOptions,
-) -> Told {
+) -> Answered {
     match put_with_once(vnode, alloc, value, context, options) {
         Err(Refusal::NoMemory) => put_with_once(vnode, alloc, value, context, options),
         other => other,
     }
 }
 
-fn refusal_in(told: &Told) -> Option<Refusal> {
-    match told {
+fn refusal_in(answered: &Answered) -> Option<Refusal> {
+    match answered {
         Ok(_) => None,
         Err(refusal) => Some(*refusal),
     }
@@ -189,9 +189,9 @@ pub(crate) fn refusal_of_put(
     context: &[u8],
     options: PutOptions,
 ) -> Option<Refusal> {
-    let told = put_with(vnode, alloc, value, context, options);
-    let refusal = refusal_in(&told);
-    drop(told);
+    let answered = put_with(vnode, alloc, value, context, options);
+    let refusal = refusal_in(&answered);
+    drop(answered);
     refusal
 }
 
@@ -205,14 +205,14 @@ pub(crate) fn replies(
     siblings: &[Sibling],
     shown: &[u8],
 ) -> bool {
-    let told = put_with(vnode, alloc, value, context, options);
-    let is_so = is_reply(&told, siblings, shown);
-    drop(told);
+    let answered = put_with(vnode, alloc, value, context, options);
+    let is_so = is_reply(&answered, siblings, shown);
+    drop(answered);
     is_so
 }
 
-fn is_reply(told: &Told, siblings: &[Sibling], context: &[u8]) -> bool {
-    match told {
+fn is_reply(answered: &Answered, siblings: &[Sibling], context: &[u8]) -> bool {
+    match answered {
         Ok(Some(reply)) => {
             are_siblings(reply.contents.as_slice(), siblings) && reply.context.as_slice() == context
         }
@@ -304,12 +304,12 @@ pub(crate) fn is_unchanged(
     options: GetOptions<'_>,
 ) -> bool {
     let read = get_with(vnode, alloc, key, options);
-    let is_so = tells_unchanged(&read);
+    let is_so = shows_unchanged_alone(&read);
     drop(read);
     is_so
 }
 
-fn tells_unchanged(read: &Result<GetReply, Refusal>) -> bool {
+fn shows_unchanged_alone(read: &Result<GetReply, Refusal>) -> bool {
     match read {
         Ok(reply) => reply.contents.is_empty() && reply.context.is_empty() && reply.unchanged,
         Err(_) => false,

@@ -1,4 +1,4 @@
-//! Readers and writers of the tests, which count how often they were told that their session is over.
+//! Readers and writers of the tests, which count how often they were ended.
 use std::io;
 use std::io::{ErrorKind, Read, Write};
 use std::sync::atomic::{AtomicU64, Ordering};

@@ -27,7 +27,7 @@ const STORED: &[u8] = b"\0\0\0\x01\x0c";
 // A put of "w" on b/m.
 const PUT_W: &[u8] = b"\0\0\0\x0c\x0b\x0a\x01b\x12\x01m\x22\x03\x0a\x01w";
 
-/// Whether a session ended so, with these bytes written, and its reader and writer were told once.
+/// Whether a session ended so, with these bytes written, and its reader and writer were ended once.
 fn ends_with(
     end: &End<Input, Output<'_>>,
     wanted: Result<Ended, SessionFault>,
