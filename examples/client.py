@@ -1,9 +1,10 @@
 """One client of a node: put, get, put by what was seen, get, delete, get. Prints what it asks and what it is answered.
 
     python3 examples/client.py PROGRAM [--pipe]
+    python3 examples/client.py --port N
 
 PROGRAM is the built node. The client starts `PROGRAM serve` on a free port and connects to it; with --pipe it starts
-`PROGRAM pipe`, and talks to it over its standard streams.
+`PROGRAM pipe`, and talks to it over its standard streams; with --port it connects to a node that runs already.
 """
 
 import sys
@@ -44,7 +45,9 @@ def main():
     client.delete(b"cities", b"rome", context=seen.vclock)
     print("delete, by what that get showed: done")
     show("get", client.get(b"cities", b"rome"))
-    print(f"the node ended with status {node.end()}")
+    status = node.end()
+    if status is not None:
+        print(f"the node ended with status {status}")
 
 
 if __name__ == "__main__":

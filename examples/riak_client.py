@@ -20,7 +20,7 @@ class Refused(Exception):
 
 
 class Node:
-    """A node that was started for one client, which is `client`."""
+    """A node with one client, which is `client`; where the node was started for it, it is `process`, and None else."""
 
     def __init__(self, process, client):
         self.process = process
@@ -41,16 +41,23 @@ class Node:
         return cls(process, Client(process.stdin, process.stdout))
 
     @classmethod
+    def running(cls, port):
+        """A node that serves a port of this machine already."""
+        return cls(None, Client.of_port(port))
+
+    @classmethod
     def of_words(cls, words):
-        """The node for an example's arguments: PROGRAM, and perhaps `--pipe`. None where they are others."""
+        """The node for an example's arguments: PROGRAM, PROGRAM `--pipe`, or `--port N`. None where they are others."""
+        if len(words) == 2 and words[0] == "--port" and words[1].isdecimal():
+            return cls.running(int(words[1]))
         if len(words) == 2 and words[1] == "--pipe":
             return cls.piping(words[0])
         return cls.serving(words[0]) if len(words) == 1 else None
 
     def end(self):
-        """Ends the client's connection, and waits for the node to end. Its exit status is returned."""
+        """Ends the client's connection, and waits for a node that was started to end. Its exit status is returned, or None."""
         self.client.close()
-        return self.process.wait()
+        return self.process.wait() if self.process else None
 
 
 class Client:

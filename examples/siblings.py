@@ -1,9 +1,10 @@
 """Two writers of one key who don't know of each other, and how their values are merged. Nothing that was stored is lost.
 
     python3 examples/siblings.py PROGRAM [--pipe]
+    python3 examples/siblings.py --port N
 
 PROGRAM is the built node. The example starts `PROGRAM serve` on a free port and connects to it; with --pipe it starts
-`PROGRAM pipe`, and talks to it over its standard streams.
+`PROGRAM pipe`, and talks to it over its standard streams; with --port it connects to a node that runs already.
 """
 
 import sys
