@@ -15,3 +15,4 @@ pub mod ContentsWalked
 pub mod ContentsCopied
 pub mod Walks
 pub mod Scans
+pub mod ByteOrder

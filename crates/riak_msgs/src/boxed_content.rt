@@ -8,9 +8,15 @@ use std::alloc::{AllocError, Global};
 use std::marker::Model;
 
 /// A content in a place of its own on the heap: moving it moves a pointer. Contracts see the content.
-#[derive(Drop)]
 pub struct BoxedContent {
     place: Box<Content>,
+}
+
+/// One call at each place where one is let go.
+impl Drop for BoxedContent {
+    fn drop(self) {
+        let BoxedContent { place: _place } = self;
+    }
 }
 
 impl Model for BoxedContent {
@@ -48,7 +54,8 @@ impl BoxedContent {
     pub fn into_content(self) -> Content
         ensures { result ≡ self }
     {
-        Box::into_inner(self.place)
+        let BoxedContent { place } = self;
+        Box::into_inner(place)
     }
 
     /// A copy, in a place of its own.

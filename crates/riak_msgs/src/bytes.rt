@@ -7,6 +7,7 @@ ghost use Rattle.std.specs.Cmp.Lexicographic.{pointwise, slice_cmp};
 ghost use Rattle.std.specs.Cmp.Rules.{comparing};
 ghost use Rattle.std.specs.Ordering.{nat_cmp, as_partial_cmp};
 
+use crate::byte_order::compare;
 use smallvec::SmallVec;
 use std::alloc::{AllocError, Global};
 use std::cmp::Ordering;
@@ -113,7 +114,7 @@ impl Ord for Bytes {
     ghost matches_eq = { Prim.search (comparing, rules) };
 
     fn cmp(&self, other: &Bytes) -> Ordering {
-        self.content.as_slice().cmp(other.content.as_slice())
+        compare(self.content.as_slice(), other.content.as_slice())
     }
 }
 

@@ -19,10 +19,19 @@ use std::marker::Model;
 /// record of the value and each detail.
 ///
 /// Source: `RpbContent` of `riak_kv.proto`, without the tag and times that a server writes.
-#[derive(Drop)]
 pub struct Content {
     value: Bytes,
     details: Option<Box<Details>>,
+}
+
+/// One call at each place where one is let go.
+impl Drop for Content {
+    fn drop(self) {
+        let Content {
+            value: _value,
+            details: _details,
+        } = self;
+    }
 }
 
 impl Model for Content {

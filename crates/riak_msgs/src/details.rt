@@ -16,7 +16,6 @@ use std::alloc::{AllocError, Global};
 /// What a content may state beside its value. Each part may be absent, and most contents have none.
 ///
 /// Source: `RpbContent` of `riak_kv.proto`.
-#[derive(Drop)]
 pub struct Details {
     pub content_type: Option<Bytes>,
     pub charset: Option<Bytes>,
@@ -24,6 +23,20 @@ pub struct Details {
     pub links: Sequence<Link>,
     pub usermeta: Sequence<Pair>,
     pub indexes: Sequence<Pair>,
+}
+
+/// One call at each place where one is let go.
+impl Drop for Details {
+    fn drop(self) {
+        let Details {
+            content_type: _content_type,
+            charset: _charset,
+            content_encoding: _content_encoding,
+            links: _links,
+            usermeta: _usermeta,
+            indexes: _indexes,
+        } = self;
+    }
 }
 
 /// A content type, a charset and an encoding.

@@ -9,11 +9,22 @@ use crate::bytes::Bytes;
 use std::alloc::{AllocError, Global};
 
 /// What names a value in the store, ordered by bucket type, then bucket, then key, each by its bytes.
-#[derive(Drop, PartialEq, Eq, PartialOrd, Ord)]
+#[derive(PartialEq, Eq, PartialOrd, Ord)]
 pub struct Key {
     pub bucket_type: BucketType,
     pub bucket: Bytes,
     pub key: Bytes,
+}
+
+/// One call at each place where one is let go.
+impl Drop for Key {
+    fn drop(self) {
+        let Key {
+            bucket_type: _bucket_type,
+            bucket: _bucket,
+            key: _key,
+        } = self;
+    }
 }
 
 impl Key {

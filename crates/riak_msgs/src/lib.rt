@@ -36,6 +36,7 @@
 
 mod boxed_content;
 mod bucket_type;
+mod byte_order;
 mod bytes;
 mod content;
 mod content_view;

@@ -10,11 +10,21 @@ use pb_fields::{Message, Output};
 use std::alloc::{AllocError, Global};
 
 /// A link from a value to another key. Each part may be absent.
-#[derive(Drop)]
 pub struct Link {
     pub bucket: Option<Bytes>,
     pub key: Option<Bytes>,
     pub tag: Option<Bytes>,
+}
+
+/// One call at each place where one is let go.
+impl Drop for Link {
+    fn drop(self) {
+        let Link {
+            bucket: _bucket,
+            key: _key,
+            tag: _tag,
+        } = self;
+    }
 }
 
 impl Link {

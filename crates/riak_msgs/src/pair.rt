@@ -10,10 +10,19 @@ use pb_fields::{Message, Output};
 use std::alloc::{AllocError, Global};
 
 /// A key of a content's metadata or indexes, with its value where it has one.
-#[derive(Drop)]
 pub struct Pair {
     pub key: Bytes,
     pub value: Option<Bytes>,
+}
+
+/// One call at each place where one is let go.
+impl Drop for Pair {
+    fn drop(self) {
+        let Pair {
+            key: _key,
+            value: _value,
+        } = self;
+    }
 }
 
 impl Pair {

@@ -7,9 +7,15 @@ use std::alloc::{AllocError, Global};
 use std::marker::Model;
 
 /// Values in their order, as many as there are. Contracts see the list of them.
-#[derive(Drop)]
 pub struct Sequence<T> {
     content: Vec<T>,
+}
+
+/// One call at each place where one is let go.
+impl<T: Drop> Drop for Sequence<T> {
+    fn drop(self) {
+        let Sequence { content: _content } = self;
+    }
 }
 
 impl<T> Model for Sequence<T> {

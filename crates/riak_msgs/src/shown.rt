@@ -9,10 +9,19 @@ use pb_fields::{Message, Output};
 use std::alloc::{AllocError, Global};
 
 /// A sibling as a reply shows it. Of a tombstone the content is empty and `deleted` true.
-#[derive(Drop)]
 pub struct Shown {
     pub content: Content,
     pub deleted: bool,
+}
+
+/// One call at each place where one is let go.
+impl Drop for Shown {
+    fn drop(self) {
+        let Shown {
+            content: _content,
+            deleted: _deleted,
+        } = self;
+    }
 }
 
 impl Shown {
