@@ -18,12 +18,21 @@ use std::alloc::AllocError;
 /// A life, at the actor a: written "v" without a context, it has a's dot 1 with "v". Written "w" by the context (a, 1),
 /// it has dot 2 with "w" alone. Overwritten by a tombstone, it has dot 3 with None alone, and is dead: `has_value` is
 /// false.
-#[derive(Drop)]
 pub struct StoredClock {
     /// The actor of its key's life.
     pub actor: Actor,
     /// What is known of it, and its siblings.
     pub clock: Clock<Option<BoxedContent>>,
+}
+
+/// One call at each place where one is let go.
+impl Drop for StoredClock {
+    fn drop(self) {
+        let StoredClock {
+            actor: _actor,
+            clock: _clock,
+        } = self;
+    }
 }
 
 impl StoredClock {

@@ -13,7 +13,7 @@ use Rattle.actor_epoch.specs.Dots.{actor_cmp}
 use Rattle.actor_epoch.proofs.Rising.{and_first, and_second}
 use Rattle.actor_epoch.proofs.Order.{actor_cmp_total}
 use Rattle.dvv_set.specs.declared.entry.Entry.{Entry}
-use Rattle.dvv_set.specs.Stored.{clock_entries}
+use Rattle.dvv_set.specs.Stored.{actor_of, clock_entries}
 use Rattle.dvv_set.specs.ClockEntries.{ClockEntries, known_of, dot_state_of, is_entry, entry_for, merged, merge_entry, merge_all, AreEntries, count_new, entries_of_pairs}
 use Rattle.actor_epoch.specs.Contexts.{is_well_formed}
 use Rattle.dvv_set.specs.Clocks.{sync, discard}
@@ -82,11 +82,11 @@ module _ {V : Type 0} where
 
   -- the entry at an index, and those after it
   pub count_new-next : (others : List (Entry V)) (entries : ClockEntries V) (i : ℕ) (d : Entry V) → i < length others
-      → count_new (clock_entries (drop i others)) entries ≡ cond (is_some (find actor_cmp (get_or others i d).actor entries)) 0 1 + count_new (clock_entries (drop (i + 1) others)) entries
+      → count_new (clock_entries (drop i others)) entries ≡ cond (is_some (find actor_cmp (actor_of (get_or others i d).pair) entries)) 0 1 + count_new (clock_entries (drop (i + 1) others)) entries
   count_new-next others entries i d h = let one : i + 1 ≡ suc i = omega arith in rw one (by others i h)
     where
       by : (others : List (Entry V)) (i : ℕ) → i < length others
-          → count_new (clock_entries (drop i others)) entries ≡ cond (is_some (find actor_cmp (get_or others i d).actor entries)) 0 1 + count_new (clock_entries (drop (suc i) others)) entries
+          → count_new (clock_entries (drop i others)) entries ≡ cond (is_some (find actor_cmp (actor_of (get_or others i d).pair) entries)) 0 1 + count_new (clock_entries (drop (suc i) others)) entries
       by [] i h = absurd (omega arith)
       by (other ∷ others) zero h = refl
       by (other ∷ others) (suc i) h = by others i (omega arith)

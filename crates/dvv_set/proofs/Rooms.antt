@@ -20,6 +20,9 @@ room_fewer n k c h r = grind (arith, nat_tests)
 pub above_room : (n c : ℕ) → n + 1 ≤ c → nat_lt n c ≡ true
 above_room n c r = grind (arith, nat_tests)
 
+pub below_room : (n c : ℕ) → nat_lt n c ≡ true → n < c
+below_room n c r = grind (arith, nat_tests)
+
 pub no_items : {A : Type 0} (xs : List A) → length xs ≡ 0 → xs ≡ []
 no_items [] h = refl
 no_items (x ∷ xs) h = absurd (omega arith)

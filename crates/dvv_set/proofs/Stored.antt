@@ -13,7 +13,7 @@ use Rattle.actor_epoch.proofs.Order.{actor_cmp_total}
 use Rattle.dvv_set.specs.declared.entry.Entry.{Entry}
 use Rattle.dvv_set.specs.declared.entry.Place.TheVariants.{Taken, Free}
 use Rattle.dvv_set.specs.ClockEntries.{ClockEntries, is_entry, entry_for, merged, merge_entry}
-use Rattle.dvv_set.specs.Stored.{search_actor, clock_entry, clock_entries}
+use Rattle.dvv_set.specs.Stored.{search_actor, actor_of, clock_entry, clock_entries}
 use Rattle.dvv_set.proofs.ClockEntries.{is_entry-within, is_entry-positive}
 use Rattle.dvv_set.proofs.Places.{search_actor-taken, search_actor-free}
 
@@ -66,7 +66,7 @@ module _ {V : Type 0} where
       there.entry ∙ ap (λ r. r.1) (clock_entries-get entries i entry ∙ ap clock_entry (sym e))
 
   pub taken-put : (entries : List (Entry V)) (a : Actor) (i : ℕ) (entry next : Entry V) (counted : ℕ × List V → ℕ × List V) → search_actor a (clock_entries entries) ≡ Taken i → entry ≡ get_or entries i entry
-      → clock_entry next ≡ (entry.actor, counted (clock_entry entry).1) → clock_entries (set entries i next) ≡ put actor_cmp a (counted (entry_for a (clock_entries entries))) (clock_entries entries)
+      → clock_entry next ≡ (actor_of entry.pair, counted (clock_entry entry).1) → clock_entries (set entries i next) ≡ put actor_cmp a (counted (entry_for a (clock_entries entries))) (clock_entries entries)
   taken-put entries a i entry next counted h e n =
       let there = search_actor-taken a (clock_entries entries) i (clock_entry entry) h in
       let is : clock_entry entry ≡ get_or (clock_entries entries) i (clock_entry entry) = ap clock_entry e ∙ sym (clock_entries-get entries i entry) in
@@ -89,15 +89,15 @@ module _ {V : Type 0} where
   free-entry entries a i s h = ap (λ o. unwrap_or o (0, [])) (search_actor-free a (clock_entries entries) i s h).none
 
   pub free-put : (entries : List (Entry V)) (a : Actor) (i : ℕ) (next : Entry V) → T (is_sorted actor_cmp (clock_entries entries)) → search_actor a (clock_entries entries) ≡ Free i
-      → next.actor ≡ a → clock_entries (insert entries i next) ≡ put actor_cmp a (clock_entry next).1 (clock_entries entries)
+      → actor_of next.pair ≡ a → clock_entries (insert entries i next) ≡ put actor_cmp a (clock_entry next).1 (clock_entries entries)
   free-put entries a i next s h e =
       clock_entries-insert entries i next
       ∙ ap (insert (clock_entries entries) i) (λ j. (e j, (clock_entry next).1))
       ∙ sym ((search_actor-free a (clock_entries entries) i s h).put_is (clock_entry next).1)
 
   -- an entry that is merged in where its actor has none
-  pub free-merge_entry : (entries : List (Entry V)) (i : ℕ) (entry : Entry V) → T (is_sorted actor_cmp (clock_entries entries)) → IsTrue (is_entry (clock_entry entry)) → search_actor entry.actor (clock_entries entries) ≡ Free i
+  pub free-merge_entry : (entries : List (Entry V)) (i : ℕ) (entry : Entry V) → T (is_sorted actor_cmp (clock_entries entries)) → IsTrue (is_entry (clock_entry entry)) → search_actor (actor_of entry.pair) (clock_entries entries) ≡ Free i
       → clock_entries (insert entries i entry) ≡ merge_entry (clock_entry entry) (clock_entries entries)
   free-merge_entry entries i entry s r h =
-      free-put entries entry.actor i entry s h refl
-      ∙ ap (λ counted. put actor_cmp entry.actor counted (clock_entries entries)) (sym (ap (λ own. merged own (clock_entry entry).1) (free-entry entries entry.actor i s h) ∙ merged-own (clock_entry entry).1 r))
+      free-put entries (actor_of entry.pair) i entry s h refl
+      ∙ ap (λ counted. put actor_cmp (actor_of entry.pair) counted (clock_entries entries)) (sym (ap (λ own. merged own (clock_entry entry).1) (free-entry entries (actor_of entry.pair) i s h) ∙ merged-own (clock_entry entry).1 r))

@@ -16,7 +16,7 @@ use Rattle.dvv_set.specs.declared.entry.Entry.{Entry}
 use Rattle.dvv_set.specs.declared.entry.Place.{Place}
 use Rattle.dvv_set.specs.declared.entry.Place.TheVariants.{Taken, Free}
 use Rattle.dvv_set.specs.ClockEntries.{merged, newer, count_uncovered}
-use Rattle.dvv_set.specs.Stored.{clock_entry, clock_entries, one_on, search_actor}
+use Rattle.dvv_set.specs.Stored.{actor_of, clock_entry, clock_entries, one_on, search_actor}
 use Rattle.dvv_set.proofs.Places.{further}
 
 actor_cmp-eq : (a b : Actor) → is_eq (actor_cmp a b) ≡ actor_eq b a
@@ -53,33 +53,33 @@ take_within (suc n) (x ∷ xs) = let rest = take_within n xs in omega arith
 module _ {V : Type 0} where
   -- whether an actor has an entry among those from an index on
   pub has-next : (entries : List (Entry V)) (a : Actor) (i : ℕ) (d : Entry V) → i < length entries
-      → is_some (find actor_cmp a (clock_entries (drop i entries))) ≡ cond (actor_eq (get_or entries i d).actor a) true (is_some (find actor_cmp a (clock_entries (drop (i + 1) entries))))
+      → is_some (find actor_cmp a (clock_entries (drop i entries))) ≡ cond (actor_eq (actor_of (get_or entries i d).pair) a) true (is_some (find actor_cmp a (clock_entries (drop (i + 1) entries))))
   has-next entries a i d h = let one : i + 1 ≡ suc i = omega arith in rw one (by entries i h)
     where
       by : (entries : List (Entry V)) (i : ℕ) → i < length entries
-          → is_some (find actor_cmp a (clock_entries (drop i entries))) ≡ cond (actor_eq (get_or entries i d).actor a) true (is_some (find actor_cmp a (clock_entries (drop (suc i) entries))))
+          → is_some (find actor_cmp a (clock_entries (drop i entries))) ≡ cond (actor_eq (actor_of (get_or entries i d).pair) a) true (is_some (find actor_cmp a (clock_entries (drop (suc i) entries))))
       by [] i h = absurd (omega arith)
-      by (entry ∷ entries) zero h = found _ _ _ ∙ ap (λ b. cond b true (is_some (find actor_cmp a (clock_entries entries)))) (actor_cmp-eq a entry.actor)
+      by (entry ∷ entries) zero h = found _ _ _ ∙ ap (λ b. cond b true (is_some (find actor_cmp a (clock_entries entries)))) (actor_cmp-eq a (actor_of entry.pair))
       by (entry ∷ entries) (suc i) h = by entries i (omega arith)
 
   -- where it stands among those from an index on
   pub search_actor-next : (entries : List (Entry V)) (a : Actor) (i : ℕ) (d : Entry V) → i < length entries
-      → search_actor a (clock_entries (drop i entries)) ≡ by_order (actor_cmp (get_or entries i d).actor a) (one_on (search_actor a (clock_entries (drop (i + 1) entries)))) (Taken 0) (Free 0)
+      → search_actor a (clock_entries (drop i entries)) ≡ by_order (actor_cmp (actor_of (get_or entries i d).pair) a) (one_on (search_actor a (clock_entries (drop (i + 1) entries)))) (Taken 0) (Free 0)
   search_actor-next entries a i d h = let one : i + 1 ≡ suc i = omega arith in rw one (by entries i h)
     where
       by : (entries : List (Entry V)) (i : ℕ) → i < length entries
-          → search_actor a (clock_entries (drop i entries)) ≡ by_order (actor_cmp (get_or entries i d).actor a) (one_on (search_actor a (clock_entries (drop (suc i) entries)))) (Taken 0) (Free 0)
+          → search_actor a (clock_entries (drop i entries)) ≡ by_order (actor_cmp (actor_of (get_or entries i d).pair) a) (one_on (search_actor a (clock_entries (drop (suc i) entries)))) (Taken 0) (Free 0)
       by [] i h = absurd (omega arith)
       by (entry ∷ entries) zero h = refl
       by (entry ∷ entries) (suc i) h = by entries i (omega arith)
 
   -- how many of the values from an index on pairs don't cover
   pub count_uncovered-next : (pairs : List Dot) (entries : List (Entry V)) (i : ℕ) (d : Entry V) → i < length entries
-      → count_uncovered pairs (clock_entries (drop i entries)) ≡ newer (counter_in pairs (get_or entries i d).actor) (clock_entry (get_or entries i d)).1 + count_uncovered pairs (clock_entries (drop (i + 1) entries))
+      → count_uncovered pairs (clock_entries (drop i entries)) ≡ newer (counter_in pairs (actor_of (get_or entries i d).pair)) (clock_entry (get_or entries i d)).1 + count_uncovered pairs (clock_entries (drop (i + 1) entries))
   count_uncovered-next pairs entries i d h = let one : i + 1 ≡ suc i = omega arith in rw one (by entries i h)
     where
       by : (entries : List (Entry V)) (i : ℕ) → i < length entries
-          → count_uncovered pairs (clock_entries (drop i entries)) ≡ newer (counter_in pairs (get_or entries i d).actor) (clock_entry (get_or entries i d)).1 + count_uncovered pairs (clock_entries (drop (suc i) entries))
+          → count_uncovered pairs (clock_entries (drop i entries)) ≡ newer (counter_in pairs (actor_of (get_or entries i d).pair)) (clock_entry (get_or entries i d)).1 + count_uncovered pairs (clock_entries (drop (suc i) entries))
       by [] i h = absurd (omega arith)
       by (entry ∷ entries) zero h = refl
       by (entry ∷ entries) (suc i) h = by entries i (omega arith)

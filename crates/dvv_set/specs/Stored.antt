@@ -5,6 +5,7 @@ use Rattle.std.specs.FinMap.Entries.{by_order}
 use Rattle.actor_epoch.specs.declared.Actor.{Actor}
 use Rattle.actor_epoch.specs.Dots.{actor_cmp}
 use Rattle.dvv_set.specs.declared.entry.Entry.{Entry}
+use Rattle.dvv_set.specs.declared.entry.KnownPair.{KnownPair}
 use Rattle.dvv_set.specs.declared.entry.Place.{Place}
 use Rattle.dvv_set.specs.declared.entry.Place.TheVariants.{Taken, Free}
 use Rattle.dvv_set.specs.ClockEntries.{ClockEntries, live_of}
@@ -14,9 +15,13 @@ abbrev pub one_on : Place → Place
 one_on (Taken at) = Taken (at + 1)
 one_on (Free at) = Free (at + 1)
 
+-- the actor of a pair, which has its numbers alone
+abbrev pub actor_of : KnownPair → Actor
+actor_of pair = record { vnode = pair.vnode; epoch = pair.epoch }
+
 module _ {V : Type 0} where
   abbrev pub clock_entry : Entry V → Actor × (ℕ × List V)
-  clock_entry entry = (entry.actor, (entry.counter, entry.values.items))
+  clock_entry entry = (actor_of entry.pair, (entry.pair.counter, entry.values.items))
 
   abbrev pub clock_entries : List (Entry V) → ClockEntries V
   clock_entries entries = map clock_entry entries

@@ -22,9 +22,15 @@ use std::marker::Model;
 /// (a, 1): `discard` takes v, and `event(a, x)` makes (a, 3) live, so that it shows x, w. A context of all, (a, 3), leaves
 /// no value; the dots stay known, and a sync with an older copy brings none of them back. `overwrite_ready(a, y)`, after
 /// `reserve`, puts y at (a, 4) and leaves nothing else.
-#[derive(Drop)]
 pub struct Clock<V: MadeWith<Global> + Drop> {
     entries: InlineList<Entry<V>>,
+}
+
+/// One call at each place where one is let go.
+impl<V: MadeWith<Global> + Drop> Drop for Clock<V> {
+    fn drop(self) {
+        let Clock { entries: _entries } = self;
+    }
 }
 
 impl<V: MadeWith<Global> + Drop> Model for Clock<V> {

@@ -9,7 +9,7 @@ ghost use Rattle.actor_epoch.specs.Contexts.{is_well_formed};
 ghost use Rattle.actor_epoch.specs.declared.Dot.{Dot};
 ghost use Rattle.dvv_set.specs.Held.{pairs_of};
 ghost use Rattle.dvv_set.specs.References.{referred, with_entry};
-ghost use Rattle.dvv_set.specs.Stored.{clock_entry, clock_entries, has_room, search_actor};
+ghost use Rattle.dvv_set.specs.Stored.{actor_of, clock_entry, clock_entries, has_room, search_actor};
 
 use crate::inline::InlineList;
 use actor_epoch::{Actor, Context, ContextPairs, Counter, MAX_COUNTER};
@@ -17,20 +17,45 @@ use std::alloc::{AllocError, Global};
 use std::cmp::Ordering;
 use std::default::MadeWith;
 
-/// What a clock has seen of one actor: the dots 1 to `counter`, of which the last have `values`, newest first, two of them
-/// in place.
+/// A pair (actor, n): the dots 1 to `counter` of an actor are known.
+// Its numbers are flat, since an `Actor` ends in four bytes of padding, where the counter lies here: 16 bytes for 24, and a
+// key pays for two entries. It has no type parameter, so that a call on it owes no proof that an entry fits in memory.
+#[derive(Clone, Copy)]
+pub(crate) struct KnownPair {
+    pub(crate) vnode: u64,
+    pub(crate) epoch: u32,
+    pub(crate) counter: Counter,
+}
+
+impl KnownPair {
+    /// The actor.
+    #[inline(always)]
+    pub(crate) fn actor(&self) -> Actor
+        ensures { result ≡ actor_of self.now }
+    {
+        Actor {
+            vnode: self.vnode,
+            epoch: self.epoch,
+        }
+    }
+}
+
+/// What a clock has seen of one actor: the dots of `pair`, of which the last have `values`, newest first, two of them in
+/// place.
 #[derive(Drop)]
 pub(crate) struct Entry<V> {
-    pub(crate) actor: Actor,
-    pub(crate) counter: Counter,
+    pub(crate) pair: KnownPair,
     pub(crate) values: InlineList<V>,
 }
 
 impl<V: MadeWith<Global> + Drop> MadeWith<Global> for Entry<V> {
     fn made_with(alloc: Global) -> Entry<V> {
         Entry {
-            actor: Actor { vnode: 0, epoch: 0 },
-            counter: 0,
+            pair: KnownPair {
+                vnode: 0,
+                epoch: 0,
+                counter: 0,
+            },
             values: InlineList::new(alloc),
         }
     }
@@ -47,17 +72,16 @@ impl<V> Entry<V> {
             values.push(Some(value))?;
         }
         Ok(Entry {
-            actor: self.actor,
-            counter: self.counter,
+            pair: self.pair,
             values,
         })
     }
 
     /// The last counter of the actor that it has seen.
     fn counter(&self) -> Counter
-        ensures { result ≡ self.now.counter }
+        ensures { result ≡ self.now.pair.counter }
     {
-        self.counter
+        self.pair.counter
     }
 }
 
@@ -73,7 +97,7 @@ pub(crate) fn search_actor<V>(entries: &[Entry<V>], actor: Actor) -> Place
     ensures { result ≡ search_actor actor (clock_entries entries.now) }
 {
     for (at, entry) in entries.iter().enumerate() {
-        match entry.actor.cmp(&actor) {
+        match entry.pair.actor().cmp(&actor) {
             Ordering::Less => {}
             Ordering::Equal => return Place::Taken(at),
             Ordering::Greater => return Place::Free(at),
@@ -88,17 +112,17 @@ pub(crate) fn merge<V: MadeWith<Global> + Drop>(own: &mut Entry<V>, other: Entry
     requires own_entry { IsTrue (is_entry (clock_entry own.old)) }
     requires other_entry { IsTrue (is_entry (clock_entry other)) }
     ensures merged { clock_entry own.new
-        ≡ (own.old.actor, merged (clock_entry own.old).1 (clock_entry other).1) }
+        ≡ (actor_of own.old.pair, merged (clock_entry own.old).1 (clock_entry other).1) }
     ensures room { IsTrue (has_room own.old) → IsTrue (has_room other) → IsTrue (has_room own.new) }
 {
-    if other.counter <= own.counter {
-        let kept = (own.counter - other.counter) as usize + other.values.len();
+    if other.pair.counter <= own.pair.counter {
+        let kept = (own.pair.counter - other.pair.counter) as usize + other.values.len();
         own.values.truncate(kept);
     } else {
-        let kept = (other.counter - own.counter) as usize + own.values.len();
+        let kept = (other.pair.counter - own.pair.counter) as usize + own.values.len();
         own.values = other.values;
         own.values.truncate(kept);
-        own.counter = other.counter;
+        own.pair.counter = other.pair.counter;
     }
 }
 
@@ -107,7 +131,7 @@ pub(crate) fn has<V>(entries: &[Entry<V>], actor: Actor) -> bool
     ensures { result ≡ is_some (find actor_cmp actor (clock_entries entries.now)) }
 {
     for entry in entries {
-        if entry.actor == actor {
+        if entry.pair.actor() == actor {
             return true;
         }
     }
@@ -130,7 +154,7 @@ pub(crate) fn merge_entry<V: MadeWith<Global> + Drop>(
         → IsTrue (list_all has_room entries.new.items) }
     ensures capacity { entries.old.capacity ≤ entries.new.capacity }
 {
-    match search_actor(entries, entry.actor) {
+    match search_actor(entries, entry.pair.actor()) {
         Place::Taken(at) => match entries.get_mut(at) {
             Some(own) => merge(own, entry),
             None => unreachable!(),
@@ -180,8 +204,11 @@ pub(crate) fn merge_pairs<V: MadeWith<Global> + Drop>(
         merge_entry(
             entries,
             Entry {
-                actor,
-                counter,
+                pair: KnownPair {
+                    vnode: actor.vnode,
+                    epoch: actor.epoch,
+                    counter,
+                },
                 values,
             },
         );
@@ -233,21 +260,24 @@ fn first_entry<V: MadeWith<Global> + Drop>(alloc: Global, actor: Actor, value: V
     let mut values = InlineList::new(alloc);
     values.push_reserved(value);
     Entry {
-        actor,
-        counter: 1,
+        pair: KnownPair {
+            vnode: actor.vnode,
+            epoch: actor.epoch,
+            counter: 1,
+        },
         values,
     }
 }
 
 /// Counts one more, and puts its value before the others, for which there is room.
 fn add_value<V: MadeWith<Global> + Drop>(entry: &mut Entry<V>, value: V)
-    requires counter { entry.old.counter < MAX_COUNTER }
+    requires counter { entry.old.pair.counter < MAX_COUNTER }
     requires room { IsTrue (has_room entry.old) }
     ensures { clock_entry entry.new
-        ≡ (entry.old.actor, (entry.old.counter + 1, value ∷ entry.old.values.items)) }
+        ≡ (actor_of entry.old.pair, (entry.old.pair.counter + 1, value ∷ entry.old.values.items)) }
 {
     entry.values.insert(0, value);
-    entry.counter += 1;
+    entry.pair.counter += 1;
 }
 
 /// Merges what a context saw into entries, for all of which there is room; no context saw nothing.

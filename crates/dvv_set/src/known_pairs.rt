@@ -35,6 +35,6 @@ impl<'a, V> Iterator for KnownPairs<'a, V> {
     fn next(&mut self) -> Option<(Actor, Counter)> {
         let (entry, rest) = self.entries.split_first()?;
         self.entries = rest;
-        Some((entry.actor, entry.counter))
+        Some((entry.pair.actor(), entry.pair.counter))
     }
 }

@@ -6,7 +6,7 @@ ghost use Rattle.actor_epoch.specs.Contexts.{is_well_formed};
 ghost use Rattle.actor_epoch.specs.Dots.{counter_in};
 ghost use Rattle.dvv_set.specs.Held.{pairs_of, actors_after, counter_before};
 ghost use Rattle.dvv_set.specs.ClockEntries.{AreEntries, known_of, entries_of_pairs, count_new, count_uncovered, newer};
-ghost use Rattle.dvv_set.specs.Stored.{clock_entry, clock_entries};
+ghost use Rattle.dvv_set.specs.Stored.{actor_of, clock_entry, clock_entries};
 
 use crate::entry::{Entry, has, last_counter};
 use crate::fault::ClockFault;
@@ -21,7 +21,7 @@ pub(crate) fn count_new<V>(entries: &[Entry<V>], others: &[Entry<V>]) -> usize
 {
     let mut new = 0usize;
     for other in others {
-        if !has(entries, other.actor) {
+        if !has(entries, other.pair.actor()) {
             new += 1;
         }
     }
@@ -108,15 +108,15 @@ pub(crate) fn uncovered<V>(entries: &[Entry<V>], context: Option<&Context<'_>>) 
 /// How many values of an entry a context doesn't cover: those above the actor's counter in it, which are the newest.
 fn newer<V>(entry: &Entry<V>, context: Option<&Context<'_>>) -> usize
     ensures newer { result ≡ newer
-        (counter_in (unwrap_or (pairs_of context.entry) []) entry.now.actor)
+        (counter_in (unwrap_or (pairs_of context.entry) []) (actor_of entry.now.pair))
         (clock_entry entry.now).1 }
     ensures few { result ≤ MAX_COUNTER }
 {
     let seen = match context {
         None => 0,
-        Some(context) => context.counter_of(entry.actor),
+        Some(context) => context.counter_of(entry.pair.actor()),
     };
-    let above = entry.counter.saturating_sub(seen);
+    let above = entry.pair.counter.saturating_sub(seen);
     entry.values.len().min(above as usize)
 }
 

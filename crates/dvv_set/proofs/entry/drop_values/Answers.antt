@@ -2,7 +2,7 @@ use Rattle.std.proofs.Common.{◌≡◌, ◌<◌, ◌∙◌, length, arith, ap}
 use Rattle.std.specs.Prelude.{nat_lt}
 use Rattle.std.proofs.lemmas.List.{length-set}
 use Rattle.dvv_set.specs.ClockEntries.{emptied}
-use Rattle.dvv_set.specs.Stored.{clock_entry, clock_entries, has_room}
+use Rattle.dvv_set.specs.Stored.{actor_of, clock_entry, clock_entries, has_room}
 use Rattle.dvv_set.proofs.Stored.{length-clock_entries}
 use Rattle.dvv_set.proofs.Emptied.{emptied_to, emptied_to-all, set-emptied_next}
 use Rattle.dvv_set.proofs.Rooms.{room_fewer, rooms-get, rooms-set}
@@ -22,7 +22,7 @@ loop-at-preserved g c =
     let within : c.loop-at.at < length c.loop-at.entries.items = omega (arith, c.loop-at-test.true, c.len-at-end.ensures, c.loop-at.invariant.length) in
     record {
       entries = set-emptied_next c.loop-at.entries.items c.loop-at.at (clock_entries c.args.entries.now.items) here _ within c.loop-at.invariant.entries
-          ((λ i. (here.actor, (here.counter, c.clear.ensures.items i))) ∙ ap (λ entry. emptied (clock_entry entry)) c.in-Some.ensures.value);
+          ((λ i. (actor_of here.pair, (here.pair.counter, c.clear.ensures.items i))) ∙ ap (λ entry. emptied (clock_entry entry)) c.in-Some.ensures.value);
       length = length-set c.loop-at.entries.items c.loop-at.at _ ∙ c.loop-at.invariant.length;
       capacity = c.loop-at.invariant.capacity;
       rooms = λ all.

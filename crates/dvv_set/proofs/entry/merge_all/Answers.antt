@@ -1,10 +1,22 @@
-use Rattle.std.proofs.Common.{◌≡◌, [], ◌∙◌, sym, ap, arith, length}
+use Rattle.std.proofs.Common.{◌≡◌, ◌<◌, [], ◌∙◌, refl, sym, ap, arith, length}
 use Rattle.std.proofs.lemmas.Bool.Decides.{nat_tests}
 use Rattle.dvv_set.specs.ClockEntries.{merge_all}
 use Rattle.dvv_set.specs.Stored.{clock_entries}
 use Rattle.dvv_set.proofs.Counts.{AreEntries-rest, AreEntries-next, is_entry-first, merge_entry-fits, merge_all-next}
 use Rattle.dvv_set.proofs.Rooms.{no_items}
 use Rattle.dvv_set.proofs.entry.merge_all.Goals as goal
+
+pub loop-others-init : goal.loop-others-init
+loop-others-init g c = record { entries = c.requires.own_entries; others = c.requires.other_entries; room = omega arith; same = refl }
+
+pub remove_first-entry-requires : goal.remove_first-entry-requires
+remove_first-entry-requires g c =
+    let some : 0 < length c.loop-others.others.items = grind (arith, nat_tests, c.loop-others-test.true, c.is_empty.ensures) in
+    let fits = c.well_formed in
+    (omega arith, some)
+
+pub loop-others-smaller : goal.loop-others-smaller
+loop-others-smaller g c = omega (arith, ap length c.remove_first-entry.ensures)
 
 pub merge_entry-requires : goal.merge_entry-requires
 merge_entry-requires g c =
@@ -41,3 +53,6 @@ pub returns-clause-merged_in : goal.returns-clause-merged_in
 returns-clause-merged_in g c =
     let none : c.loop-others.others.items ≡ [] = no_items c.loop-others.others.items (grind (arith, nat_tests, c.loop-others-test.false, c.is_empty.ensures)) in
     ap (λ items. merge_all (clock_entries items) (clock_entries c.loop-others.entries.items)) (sym none) ∙ c.loop-others.invariant.same
+
+pub returns-clause-capacity : goal.returns-clause-capacity
+returns-clause-capacity g c = c.loop-others.invariant.room

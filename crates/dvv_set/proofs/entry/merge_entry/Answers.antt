@@ -1,46 +1,46 @@
 use Rattle.std.proofs.Common.{◌∙◌, sym, ap, arith}
 use Rattle.dvv_set.specs.ClockEntries.{merged, entry_for}
-use Rattle.dvv_set.specs.Stored.{clock_entry, clock_entries, has_room, search_actor}
+use Rattle.dvv_set.specs.Stored.{actor_of, clock_entry, clock_entries, has_room, search_actor}
 use Rattle.dvv_set.proofs.Stored.{taken-within, taken-entry, taken-put, free-within, free-length, free-merge_entry}
 use Rattle.dvv_set.proofs.Rooms.{rooms-get, rooms-set, rooms-insert}
 use Rattle.dvv_set.proofs.entry.merge_entry.Goals as goal
 
 pub unreachable-requires : goal.unreachable-requires
 unreachable-requires g c =
-    let at = ap (λ es. search_actor c.args.entry.actor (clock_entries es)) (sym c.deref.ensures) ∙ sym c.in-Taken.ensures in
-    let some = c.in-None.ensures.variant.1 (taken-within c.args.entries.now.items c.args.entry.actor c.in-Taken.at at) in
+    let at = (λ i. search_actor (sym c.actor.ensures i) (clock_entries (sym c.deref.ensures i))) ∙ sym c.in-Taken.ensures in
+    let some = c.in-None.ensures.variant.1 (taken-within c.args.entries.now.items (actor_of c.args.entry.pair) c.in-Taken.at at) in
     cc
 
 pub merge-requires : goal.merge-requires
 merge-requires g c =
-    let at = ap (λ es. search_actor c.args.entry.actor (clock_entries es)) (sym c.deref.ensures) ∙ sym c.in-Taken.ensures in
+    let at = (λ i. search_actor (sym c.actor.ensures i) (clock_entries (sym c.deref.ensures i))) ∙ sym c.in-Taken.ensures in
     let fits = c.well_formed in
-    (omega arith, (taken-entry c.args.entries.now.items c.args.entry.actor c.in-Taken.at c.in-Some.own.now at c.in-Some.ensures.value c.requires.entries, c.requires.entry))
+    (omega arith, (taken-entry c.args.entries.now.items (actor_of c.args.entry.pair) c.in-Taken.at c.in-Some.own.now at c.in-Some.ensures.value c.requires.entries, c.requires.entry))
 
 pub insert-requires : goal.insert-requires
 insert-requires g c =
-    let at = ap (λ es. search_actor c.args.entry.actor (clock_entries es)) (sym c.deref.ensures) ∙ sym c.in-Free.ensures in
-    let within = free-within c.args.entries.now.items c.args.entry.actor c.in-Free.at c.requires.sorted at in
-    let more = free-length c.args.entries.now.items c.args.entry.actor c.in-Free.at (merged (entry_for c.args.entry.actor (clock_entries c.args.entries.now.items)) (clock_entry c.args.entry).1) c.requires.sorted at in
+    let at = (λ i. search_actor (sym c.actor.ensures i) (clock_entries (sym c.deref.ensures i))) ∙ sym c.in-Free.ensures in
+    let within = free-within c.args.entries.now.items (actor_of c.args.entry.pair) c.in-Free.at c.requires.sorted at in
+    let more = free-length c.args.entries.now.items (actor_of c.args.entry.pair) c.in-Free.at (merged (entry_for (actor_of c.args.entry.pair) (clock_entries c.args.entries.now.items)) (clock_entry c.args.entry).1) c.requires.sorted at in
     let room = rw more at c.requires.room in
     let fits = c.well_formed in
     (omega arith, (within, omega arith))
 
 pub returns-in-Some-clause-merged_in : goal.returns-in-Some-clause-merged_in
 returns-in-Some-clause-merged_in g c =
-    let at = ap (λ es. search_actor c.args.entry.actor (clock_entries es)) (sym c.deref.ensures) ∙ sym c.in-Taken.ensures in
-    taken-put c.args.entries.now.items c.args.entry.actor c.in-Taken.at c.in-Some.own.now c.merge.new.own (λ own. merged own (clock_entry c.args.entry).1) at c.in-Some.ensures.value c.merge.ensures.merged
+    let at = (λ i. search_actor (sym c.actor.ensures i) (clock_entries (sym c.deref.ensures i))) ∙ sym c.in-Taken.ensures in
+    taken-put c.args.entries.now.items (actor_of c.args.entry.pair) c.in-Taken.at c.in-Some.own.now c.merge.new.own (λ own. merged own (clock_entry c.args.entry).1) at c.in-Some.ensures.value c.merge.ensures.merged
 
 pub returns-in-Some-clause-rooms : goal.returns-in-Some-clause-rooms
 returns-in-Some-clause-rooms g c given all =
-    let at = ap (λ es. search_actor c.args.entry.actor (clock_entries es)) (sym c.deref.ensures) ∙ sym c.in-Taken.ensures in
-    let within = taken-within c.args.entries.now.items c.args.entry.actor c.in-Taken.at at in
+    let at = (λ i. search_actor (sym c.actor.ensures i) (clock_entries (sym c.deref.ensures i))) ∙ sym c.in-Taken.ensures in
+    let within = taken-within c.args.entries.now.items (actor_of c.args.entry.pair) c.in-Taken.at at in
     let own = ap has_room c.in-Some.ensures.value ∙ rooms-get c.args.entries.now.items c.in-Taken.at c.in-Some.own.now within all in
     rooms-set c.args.entries.now.items c.in-Taken.at c.merge.new.own (c.merge.ensures.room own given) all
 
 pub returns-in-Free-clause-merged_in : goal.returns-in-Free-clause-merged_in
 returns-in-Free-clause-merged_in g c =
-    let at = ap (λ es. search_actor c.args.entry.actor (clock_entries es)) (sym c.deref.ensures) ∙ sym c.in-Free.ensures in
+    let at = (λ i. search_actor (sym c.actor.ensures i) (clock_entries (sym c.deref.ensures i))) ∙ sym c.in-Free.ensures in
     ap clock_entries c.insert.ensures.inserted ∙ free-merge_entry c.args.entries.now.items c.in-Free.at c.args.entry c.requires.sorted c.requires.entry at
 
 pub returns-in-Free-clause-rooms : goal.returns-in-Free-clause-rooms

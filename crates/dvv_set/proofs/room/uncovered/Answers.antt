@@ -4,7 +4,7 @@ use Rattle.std.proofs.Math.ListN.{drop_of_length-le}
 use Rattle.actor_epoch.specs.Dots.{counter_in}
 use Rattle.dvv_set.specs.Held.{pairs_of}
 use Rattle.dvv_set.specs.ClockEntries.{count_uncovered, newer}
-use Rattle.dvv_set.specs.Stored.{clock_entry, clock_entries}
+use Rattle.dvv_set.specs.Stored.{actor_of, clock_entry, clock_entries}
 use Rattle.dvv_set.proofs.Walks.{count_uncovered-next}
 use Rattle.dvv_set.proofs.room.uncovered.Goals as goal
 
@@ -21,7 +21,7 @@ loop-entry-preserved g c =
     let rest = count_uncovered pairs (clock_entries (drop (c.loop-entry.entry-index + 1) entries)) in
     let step =
     count_uncovered-next pairs entries c.loop-entry.entry-index c.entry-item.result c.loop-entry-test.true
-    ∙ ap (λ entry. newer (counter_in pairs entry.actor) (clock_entry entry).1 + rest) (sym c.entry-item.is)
+    ∙ ap (λ entry. newer (counter_in pairs (actor_of entry.pair)) (clock_entry entry).1 + rest) (sym c.entry-item.is)
     ∙ ap (λ n. n + rest) (sym c.newer-count.ensures.newer) in
     (omega (arith, c.loop-entry.invariant.0, c.newer-count.ensures.few), omega (arith, c.loop-entry.invariant.1, step))
 

@@ -76,3 +76,18 @@ returns-clause-within g c =
     ∙ length-discard (clock_entries own) pairs c.self.invariant.entries c.pairs.ensures.of_form in
     let count = length-clock_entries own in
     omega (arith, counted, total, count, c.in_default.ensures.ok.0)
+
+pub invariant_of-self : goal.invariant_of-self
+invariant_of-self g c = record {
+  entries = rw c.in-Err.ensures.unchanged c.self.invariant.entries;
+  few = omega (arith, ap length c.in-Err.ensures.unchanged, c.self.invariant.few);
+}
+
+pub returns-in-Err-clause-never : goal.returns-in-Err-clause-never
+returns-in-Err-clause-never g c = c.in-Err.ensures.never
+
+pub count_new_pairs-new-requires : goal.count_new_pairs-new-requires
+count_new_pairs-new-requires g c = let fits = c.well_formed in (omega arith, ap is_well_formed c.pairs.ensures.pairs ∙ c.pairs.ensures.of_form)
+
+pub returns-in-Err-clause-refused : goal.returns-in-Err-clause-refused
+returns-in-Err-clause-refused g c = ap (λ items. dot_state_of (clock_entries items)) c.in-Err.ensures.unchanged ∙ ap (λ held. held.meaning) c.self.view_is

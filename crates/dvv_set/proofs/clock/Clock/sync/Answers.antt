@@ -69,3 +69,12 @@ returns-clause-within g c =
     ∙ length-sync (clock_entries own) (clock_entries others) c.self.invariant.entries c.other.invariant.entries in
     let count = length-clock_entries own in
     omega (arith, counted, total, count, c.in_default.ensures.ok.0)
+
+pub invariant_of-self : goal.invariant_of-self
+invariant_of-self g c = record {
+  entries = rw c.in-Err.ensures.unchanged c.self.invariant.entries;
+  few = omega (arith, ap length c.in-Err.ensures.unchanged, c.self.invariant.few);
+}
+
+pub returns-in-Err-clause-never : goal.returns-in-Err-clause-never
+returns-in-Err-clause-never g c = c.in-Err.ensures.never
