@@ -41,7 +41,6 @@ const MAX_AWAKE_ATTEMPTS: u32 = 16;
 ///
 /// A state that is put back is unmarked. At most `MOST_READERS`, 1,073,741,823, are in at once, and an entry past them is refused.
 /// The gate is `Send` and `Sync` where the state is.
-#[derive(Drop)]
 pub struct Gate<S: Kept> {
     slot: Counted<Option<SlotValue<S>>>,
     pub(crate) word: Length<S>,
@@ -50,6 +49,19 @@ pub struct Gate<S: Kept> {
     read_turn: Mutex<()>,
     /// The same for writers. Were it one turn for both, a reader that waits for a mark to go would keep out the writer that ends it.
     write_turn: Mutex<()>,
+}
+
+/// One call at each place where one is let go.
+impl<S: Kept> Drop for Gate<S> {
+    fn drop(self) {
+        let Gate {
+            slot: _slot,
+            word: _word,
+            start: _start,
+            read_turn: _read_turn,
+            write_turn: _write_turn,
+        } = self;
+    }
 }
 
 impl<S: Kept> Model for Gate<S> {
@@ -76,8 +88,25 @@ impl<S: Kept> Gate<S> {
         ensures err { IfErr result (λ s. s ≡ state) }
     {
         let _ = alloc;
+        let (gate, seen) = Gate::opened(&state);
+        match gate.put_back(SlotValue {
+            state,
+            seen,
+            count: 0,
+        }) {
+            Ok(()) => Ok(gate),
+            Err(value) => Err(value.into_state()),
+        }
+    }
+
+    /// A gate with nothing in place, and its log, which was opened with this state.
+    fn opened(state: &S) -> (Gate<S>, SeenLog<S>)
+        ensures opening { result.0.opening ≡ Some state.now }
+        ensures value { IsSlotValue S.content S.accepts result.0
+            result.1.book result.1.log 0 state.now }
+    {
         let (seen, mut pens): (SeenLog<S>, Pens) = Seen::open_row::<S, GateRule<S>>(
-            &state,
+            state,
             Start::alone(),
             1,
         );
@@ -89,21 +118,7 @@ impl<S: Kept> Gate<S> {
             read_turn: Mutex::new(()),
             write_turn: Mutex::new(()),
         };
-        match gate.put_back(SlotValue {
-            state,
-            seen,
-            count: 0,
-        }) {
-            Ok(()) => Ok(gate),
-            Err(value) => {
-                let SlotValue {
-                    state,
-                    seen: _,
-                    count: _,
-                } = value;
-                Err(state)
-            }
-        }
+        (gate, seen)
     }
 
     /// A pass of this gate, whose holder has seen nothing yet.

@@ -1,5 +1,5 @@
 //! What a caller has seen, and the two steps that show it more.
-ghost use Rattle.std.specs.Prelude.{◌≡◌, ◌+◌, ◌<◌, ◌^◌, [], ◌∷◌, ◌++◌, length};
+ghost use Rattle.std.specs.Prelude.{◌≡◌, ◌≢◌, ◌+◌, ◌<◌, ◌^◌, [], ◌∷◌, ◌++◌, length};
 ghost use Rattle.std.specs.Prelude.{OnOk, OnErr, IfOk, IfErr};
 ghost use mathlib.Core.List.{IsPrefix};
 ghost use Rattle.rw_gate.specs.declared.log.LogEntry.TheVariants.{Made};
@@ -27,11 +27,21 @@ pub struct Moved {
 ///
 /// For clauses alone a pass also has the positions of the events that it published, its own events. A pass belongs to the gate that gave it.
 /// It may go to another thread.
-#[derive(Drop)]
 pub struct Pass<S: Kept> {
     count: u64,
     seen: SeenLog<S>,
     own: GhostList<u64>,
+}
+
+/// One call at each place where one is let go.
+impl<S: Kept> Drop for Pass<S> {
+    fn drop(self) {
+        let Pass {
+            count: _count,
+            seen: _seen,
+            own: _own,
+        } = self;
+    }
 }
 
 impl<S: Kept> Model for Pass<S> {
@@ -155,6 +165,42 @@ impl<S: Kept> Pass<S> {
     {
         let mut both = seen.again();
         both.learn(&self.seen);
+        let found = Pass::exchange(word, state, seen, count, change, &mut both);
+        if found != count {
+            self.count = found;
+            self.seen = both;
+            return Err(Moved { seen: found });
+        }
+        self.count = count + 1;
+        self.own.push(&count);
+        self.seen = both.again();
+        Ok(both)
+    }
+
+    /// The exchange by one who has seen `both`, which goes on from the log `seen`. Gives the number of events that was found. Where it is
+    /// `count`, `both` was the whole log, and the event of the change stands behind it.
+    fn exchange(
+        word: &Length<S>,
+        state: &S,
+        seen: &SeenLog<S>,
+        count: u64,
+        change: &S::Change,
+        both: &mut SeenLog<S>,
+    ) -> u64
+        requires word { word.now ≡ length_word both.old.book }
+        requires counted { count ≡ length (events seen.now.log) }
+        requires leads { LeadsTo S.content S.accepts seen.now.log (S.content state.now) }
+        requires ready { S.ready state.now change.now }
+        requires room { count + 1 < 2 ^ 64 }
+        requires begins { IsPrefix seen.now.log both.old.log }
+        requires run { IsRun S.content S.accepts both.old.log }
+        ensures book { both.new.book ≡ both.old.book }
+        ensures more { IsPrefix both.old.log both.new.log }
+        ensures run { IsRun S.content S.accepts both.new.log }
+        ensures hit { result ≡ count → (both.new.log ≡ both.old.log ++ Made (S.event change.now) ∷ [])
+            × (length (events both.old.log) ≡ count) }
+        ensures missed { result ≢ count → length (events both.new.log) ≡ result }
+    {
         let mut offer: Offer<LogEntry<S, S::Event>, (), GateRule<S>, NoTrade<S>> = both.plain::<
             NoTrade<S>,
             S::Change,
@@ -162,17 +208,6 @@ impl<S: Kept> Pass<S> {
         >(change);
         let mut pen = both.no_pen();
         let next = count + 1;
-        let found = word.compare_exchange::<Publish<S>, NoTrade<S>>(
-            count, next, &mut both, &mut offer, &mut pen,
-        );
-        if found != count {
-            self.count = found;
-            self.seen = both;
-            return Err(Moved { seen: found });
-        }
-        self.count = next;
-        self.own.push(&count);
-        self.seen = both.again();
-        Ok(both)
+        word.compare_exchange::<Publish<S>, NoTrade<S>>(count, next, both, &mut offer, &mut pen)
     }
 }

@@ -1,14 +1,48 @@
 //! What lies in the slot of a gate.
+ghost use Rattle.std.specs.Prelude.{◌≡◌};
+
 use crate::kept::Kept;
 use crate::log::SeenLog;
 use counted_slot::Fits;
 
 /// A state, the log that leads to it, and the number of that log's events.
-#[derive(Drop)]
 pub(crate) struct SlotValue<S: Kept> {
     pub state: S,
     pub seen: SeenLog<S>,
     pub count: u64,
+}
+
+/// One call at each place where one is let go.
+impl<S: Kept> Drop for SlotValue<S> {
+    fn drop(self) {
+        let SlotValue {
+            state: _state,
+            seen: _seen,
+            count: _count,
+        } = self;
+    }
+}
+
+impl<S: Kept> SlotValue<S> {
+    /// The state, its log and the number of that log's events.
+    pub(crate) fn into_parts(self) -> (S, SeenLog<S>, u64)
+        ensures { result ≡ (self.state, self.seen, self.count) }
+    {
+        let SlotValue { state, seen, count } = self;
+        (state, seen, count)
+    }
+
+    /// The state alone.
+    pub(crate) fn into_state(self) -> S
+        ensures { result ≡ self.state }
+    {
+        let SlotValue {
+            state,
+            seen: _seen,
+            count: _count,
+        } = self;
+        state
+    }
 }
 
 /// The tag is which gate it is, by its log as it was opened.

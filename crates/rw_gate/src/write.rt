@@ -64,7 +64,7 @@ impl<'a, S: Kept> WriteRight<'a, S> {
         ensures gate { result.gate ≡ gate.now }
         ensures state { IsReplayed S.content S.accepts result }
     {
-        let SlotValue { state, seen, count } = value;
+        let (state, seen, count) = value.into_parts();
         WriteRight {
             gate,
             state,

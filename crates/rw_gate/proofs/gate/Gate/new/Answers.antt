@@ -1,32 +1,11 @@
-use Rattle.std.proofs.Common.{◌∷◌, ◌∙◌, [], length, refl, ap, sym}
-use Rattle.rw_gate.specs.declared.log.LogEntry.TheVariants.{Opened}
-use Rattle.rw_gate.specs.Logs.{events, opening}
-use Rattle.rw_gate.specs.Views.{gate_id}
-use Rattle.rw_gate.proofs.Logs.{opened_leads}
+use Rattle.std.proofs.Common.{◌∙◌, ap}
 use Rattle.rw_gate.proofs.gate.Gate.new.Goals as goal
 
-pub open_row-seen-requires : goal.open_row-seen-requires
-open_row-seen-requires g c =
-    let s = c.args.state in (
-      record {
-        counted = refl;
-        run = (g.S.Kept.content s, opened_leads g.S.Kept.content g.S.Kept.accepts s (Opened s ∷ []) refl);
-      },
-      (λ log. tt),
-      c.alone.ensures.1,
-    )
-
 pub put_back-requires : goal.put_back-requires
-put_back-requires g c =
-    let log = c.open_row-seen.ensures.1 in
-    record {
-      of_gate = ap (λ s. gate_id s.book s.log) (sym c.again.ensures);
-      counted = sym (ap (λ l. length (events l)) log);
-      leads = opened_leads g.S.Kept.content g.S.Kept.accepts c.args.state c.open_row-seen.result.0.log log;
-    }
+put_back-requires g c = c.opened-gate.ensures.value
 
 pub returns-in-Ok-clause-ok : goal.returns-in-Ok-clause-ok
-returns-in-Ok-clause-ok g c = ap opening (ap (λ s. s.log) c.again.ensures ∙ c.open_row-seen.ensures.1)
+returns-in-Ok-clause-ok g c = c.opened-gate.ensures.opening
 
-pub returns-clause-err : goal.returns-clause-err
-returns-clause-err g c = ap (λ v. v.state) c.in-Err.ensures
+pub returns-in-Err-clause-err : goal.returns-in-Err-clause-err
+returns-in-Err-clause-err g c = c.into_state.ensures ∙ ap (λ v. v.state) c.in-Err.ensures

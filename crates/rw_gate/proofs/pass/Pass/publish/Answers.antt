@@ -2,75 +2,62 @@ use Rattle.std.proofs.Common.{◌≡◌, ◌+◌, [], ◌∷◌, ◌++◌, lengt
 use mathlib.Core.List.{IsPrefix}
 use Rattle.rw_gate.specs.declared.log.LogEntry.TheVariants.{Made}
 use Rattle.rw_gate.specs.Logs.{events}
+use Rattle.rw_gate.specs.Steps.{length_word}
 use Rattle.rw_gate.proofs.Prefixes.{prefix_trans, prefix_length}
 use Rattle.rw_gate.proofs.Logs.{events_prefix, events_made, run_whole}
-use Rattle.rw_gate.proofs.Appending.{may_follow, moves_on}
 use Rattle.rw_gate.proofs.Below.{below_more, below_push}
 use Rattle.rw_gate.proofs.pass.Pass.publish.Goals as goal
 
-pub compare_exchange-found-requires : goal.compare_exchange-found-requires
-compare_exchange-found-requires g c =
-    let word = c.requires.word in
-    let offer = c.plain-offer.ensures in
-    let pen = c.no_pen-pen.ensures in
-    let v = c.learn.new.self.log in
-    let mine = c.args.seen.now.log in
-    let e = g.S.Kept.event c.args.change.now in
-    let begins : IsPrefix mine v = subst (λ s. IsPrefix s.log v) c.again-both.ensures c.learn.ensures.2 in
-    let next = g.met.S.Kept.sound c.args.state.now c.args.change.now c.requires.ready in
-    let book : c.learn.new.self.book ≡ c.args.word.now.book = c.learn.ensures.0 ∙ ap (λ s. s.book) c.again-both.ensures ∙ sym (ap (λ w. w.book) word) in
-    let may = may_follow g.S.Kept.content g.S.Kept.accepts mine v e (g.S.Kept.content c.args.state.now) next.0 c.args.count c.requires.counted c.requires.leads next.1 c.learn.ensures.4.1.run begins in (
-      ap (λ w. w.tracked) word,
-      book,
-      pen.0 ∙ book,
-      offer.0,
-      rw (ap (λ w. w.key) word, pen.1, offer.1, offer.3) (moves_on g.S.Kept.content g.S.Kept.accepts v e c.args.count may),
-    )
+pub exchange-found-requires-clause-word : goal.exchange-found-requires-clause-word
+exchange-found-requires-clause-word g c = c.requires.word ∙ ap length_word (sym (c.learn.ensures.0 ∙ ap (λ s. s.book) c.again-both.ensures))
+
+pub exchange-found-requires-clause-begins : goal.exchange-found-requires-clause-begins
+exchange-found-requires-clause-begins g c = subst (λ s. IsPrefix s.log c.learn.new.self.log) c.again-both.ensures c.learn.ensures.2
+
+pub exchange-found-requires-clause-run : goal.exchange-found-requires-clause-run
+exchange-found-requires-clause-run g c = c.learn.ensures.4.1.run
 
 pub invariant_of-self-2 : goal.invariant_of-self-2
 invariant_of-self-2 g c =
     let own = c.self.inside in
     let v = c.learn.new.self.log in
-    let w = c.compare_exchange-found.new.seen.log in
-    let seen = c.compare_exchange-found.ensures.7 in
-    let hit = seen.hit c.if-found-count.false in
-    let is : w ≡ v ++ Made (g.S.Kept.event c.args.change.now) ∷ [] = rw (← c.plain-offer.ensures.1) hit.0 in
-    let counted : length (events w) ≡ length (events v) + 1 = rw is (events_made v (g.S.Kept.event c.args.change.now)) in
+    let w = c.exchange-found.new.both.log in
+    let hit = c.exchange-found.ensures.hit c.if-found-count.false in
+    let counted : length (events w) ≡ length (events v) + 1 = rw hit.0 (events_made v (g.S.Kept.event c.args.change.now)) in
     let longer = prefix_length _ _ (events_prefix own.seen.log v c.learn.ensures.3) in (
-      rw c.again.ensures (omega (arith, counted, hit.1, c.if-found-count.false)),
-      rw c.again.ensures seen.legal,
-      rw c.push.ensures (below_push own.count (c.args.count + 1) c.args.count own.own (omega (arith, hit.1, longer, c.if-found-count.false, c.self.invariant.0)) (omega arith) c.self.invariant.2),
+      rw c.again.ensures (omega (arith, counted, hit.1)),
+      rw c.again.ensures c.exchange-found.ensures.run,
+      rw c.push.ensures (below_push own.count (c.args.count + 1) c.args.count own.own (omega (arith, hit.1, longer, c.self.invariant.0)) (omega arith) c.self.invariant.2),
     )
 
 pub invariant_of-self : goal.invariant_of-self
 invariant_of-self g c =
     let own = c.self.inside in
-    let seen = c.compare_exchange-found.ensures.7 in
-    let w = c.compare_exchange-found.new.seen.log in
-    let found = seen.missed c.if-found-count.true in
-    let longer = prefix_length _ _ (events_prefix own.seen.log w (prefix_trans own.seen.log c.learn.new.self.log w c.learn.ensures.3 c.compare_exchange-found.ensures.6)) in
-    (sym found, seen.legal, below_more own.count c.compare_exchange-found.result own.own (omega (arith, found, longer, c.self.invariant.0)) c.self.invariant.2)
+    let w = c.exchange-found.new.both.log in
+    let found = c.exchange-found.ensures.missed c.if-found-count.true in
+    let longer = prefix_length _ _ (events_prefix own.seen.log w (prefix_trans own.seen.log c.learn.new.self.log w c.learn.ensures.3 c.exchange-found.ensures.more)) in
+    (sym found, c.exchange-found.ensures.run, below_more own.count c.exchange-found.result own.own (omega (arith, found, longer, c.self.invariant.0)) c.self.invariant.2)
 
 pub returns-clause-more : goal.returns-clause-more
 returns-clause-more g c =
     let own = c.self.inside in
-    let w = c.compare_exchange-found.new.seen.log in
-    rw (← c.self.view_is, c.again.ensures) (events_prefix own.seen.log w (prefix_trans own.seen.log c.learn.new.self.log w c.learn.ensures.3 c.compare_exchange-found.ensures.6))
+    let w = c.exchange-found.new.both.log in
+    rw (← c.self.view_is, c.again.ensures) (events_prefix own.seen.log w (prefix_trans own.seen.log c.learn.new.self.log w c.learn.ensures.3 c.exchange-found.ensures.more))
 
 pub returns-then-found-count-clause-more : goal.returns-then-found-count-clause-more
 returns-then-found-count-clause-more g c =
     let own = c.self.inside in
-    let w = c.compare_exchange-found.new.seen.log in
-    rw (← c.self.view_is) (events_prefix own.seen.log w (prefix_trans own.seen.log c.learn.new.self.log w c.learn.ensures.3 c.compare_exchange-found.ensures.6))
+    let w = c.exchange-found.new.both.log in
+    rw (← c.self.view_is) (events_prefix own.seen.log w (prefix_trans own.seen.log c.learn.new.self.log w c.learn.ensures.3 c.exchange-found.ensures.more))
 
 pub returns-then-found-count-clause-err : goal.returns-then-found-count-clause-err
 returns-then-found-count-clause-err g c =
     let v = c.learn.new.self.log in
-    let w = c.compare_exchange-found.new.seen.log in
+    let w = c.exchange-found.new.both.log in
     let mine = c.args.seen.now.log in
-    let found = c.compare_exchange-found.ensures.7.missed c.if-found-count.true in
+    let found = c.exchange-found.ensures.missed c.if-found-count.true in
     let begins : IsPrefix mine v = subst (λ s. IsPrefix s.log v) c.again-both.ensures c.learn.ensures.2 in
-    let on = events_prefix mine w (prefix_trans mine v w begins c.compare_exchange-found.ensures.6) in
+    let on = events_prefix mine w (prefix_trans mine v w begins c.exchange-found.ensures.more) in
     let longer = prefix_length (events mine) (events w) on in
     record {
       counted = sym found;
@@ -82,18 +69,16 @@ pub returns-clause-before : goal.returns-clause-before
 returns-clause-before g c =
     let v = c.learn.new.self.log in
     let mine = c.args.seen.now.log in
-    let hit = c.compare_exchange-found.ensures.7.hit c.if-found-count.false in
+    let hit = c.exchange-found.ensures.hit c.if-found-count.false in
     let begins : IsPrefix mine v = subst (λ s. IsPrefix s.log v) c.again-both.ensures c.learn.ensures.2 in
-    let whole : mine ≡ v = run_whole g.S.Kept.content g.S.Kept.accepts mine v (g.S.Kept.content c.args.state.now, c.requires.leads) c.learn.ensures.4.1.run begins (omega (arith, hit.1, c.requires.counted, c.if-found-count.false)) in
+    let whole : mine ≡ v = run_whole g.S.Kept.content g.S.Kept.accepts mine v (g.S.Kept.content c.args.state.now, c.requires.leads) c.learn.ensures.4.1.run begins (omega (arith, hit.1, c.requires.counted)) in
     rw (← c.self.view_is, whole) (events_prefix _ _ c.learn.ensures.3)
 
 pub returns-clause-log : goal.returns-clause-log
 returns-clause-log g c =
     let v = c.learn.new.self.log in
     let mine = c.args.seen.now.log in
-    let e = g.S.Kept.event c.args.change.now in
-    let hit = c.compare_exchange-found.ensures.7.hit c.if-found-count.false in
-    let is : c.compare_exchange-found.new.seen.log ≡ v ++ Made e ∷ [] = rw (← c.plain-offer.ensures.1) hit.0 in
+    let hit = c.exchange-found.ensures.hit c.if-found-count.false in
     let begins : IsPrefix mine v = subst (λ s. IsPrefix s.log v) c.again-both.ensures c.learn.ensures.2 in
-    let whole : mine ≡ v = run_whole g.S.Kept.content g.S.Kept.accepts mine v (g.S.Kept.content c.args.state.now, c.requires.leads) c.learn.ensures.4.1.run begins (omega (arith, hit.1, c.requires.counted, c.if-found-count.false)) in
-    is ∙ ap (λ l. l ++ Made e ∷ []) (sym whole)
+    let whole : mine ≡ v = run_whole g.S.Kept.content g.S.Kept.accepts mine v (g.S.Kept.content c.args.state.now, c.requires.leads) c.learn.ensures.4.1.run begins (omega (arith, hit.1, c.requires.counted)) in
+    hit.0 ∙ ap (λ l. l ++ Made (g.S.Kept.event c.args.change.now) ∷ []) (sym whole)
