@@ -1,5 +1,5 @@
 //! A run that serves connections, and its clients beside it.
-ghost use Rattle.std.specs.Prelude.{◌≤◌};
+ghost use Rattle.std.specs.Prelude.{◌≤◌, IfSome};
 
 mod exhausted;
 
@@ -40,7 +40,48 @@ struct Outcome {
     written: Vec<u8>,
 }
 
-/// Serves so many connections by so many workers, on a ring of one partition.
+/// How many connections are served by how many workers, and what the clients do.
+#[derive(Clone, Copy)]
+struct Run {
+    connections: u16,
+    workers: u16,
+    clients: Clients,
+}
+
+/// What the clients of a run do.
+#[derive(Clone, Copy)]
+enum Clients {
+    /// Two are connected at once.
+    Two,
+    /// One sends half a length, and ends.
+    HalfAFrame,
+    /// One has a bad length, one goes unanswered, and one asks to the end.
+    Three,
+}
+
+/// The settings of a run by 1 to 64 workers, on a ring of one partition.
+fn settings_of(connections: u16, workers: u16) -> Option<Settings>
+    ensures least { IfSome result (λ settings. 1 ≤ settings.workers) }
+    ensures most { IfSome result (λ settings. settings.workers ≤ 64) }
+    ensures run { IfSome result (λ settings. 1 ≤ settings.run) }
+{
+    if workers < 1 {
+        return None;
+    }
+    if workers > 64 {
+        return None;
+    }
+    let ring = Ring::new(1)?;
+    Some(Settings {
+        connections,
+        workers,
+        ring,
+        run: 1,
+        sweep: 0,
+    })
+}
+
+/// Serves so many connections by so many workers.
 fn serve_some<R, L>(
     rt: &R,
     alloc: Global,
@@ -51,18 +92,70 @@ fn serve_some<R, L>(
 where
     R: Log + Clock + Threads + Wait + Sync,
     L: OpenListener<Stream = TcpStream> + Drop,
-    requires { (1 ≤ workers) × (workers ≤ 64) }
 {
-    let settings = Settings {
-        connections,
-        workers,
-        ring: Ring::new(1)?,
-        run: 1,
-        sweep: 0,
-    };
-    let mut written = Vec::new(alloc);
-    let served = serve_on(rt, alloc, listener, &settings, &mut written);
-    Some(Outcome { served, written })
+    match settings_of(connections, workers) {
+        Some(settings) => {
+            let mut written = Vec::new(alloc);
+            let served = serve_on(rt, alloc, listener, &settings, &mut written);
+            Some(Outcome { served, written })
+        }
+        None => None,
+    }
+}
+
+/// Whether the clients got what they should.
+fn ask<R: Net<Stream = TcpStream>>(rt: &R, port: u16, clients: Clients) -> io::Result<bool> {
+    match clients {
+        Clients::Two => two_clients_ask(rt, port),
+        Clients::HalfAFrame => half_a_frame_is_sent(rt, port),
+        Clients::Three => three_clients_ask(rt, port),
+    }
+}
+
+/// What a run left, where its clients got what they should.
+fn outcome_of(outcome: Option<Outcome>, asked: io::Result<bool>) -> Result<Outcome, Fail> {
+    match asked {
+        Ok(true) => Ok(outcome.ok_or("1 to 64 workers")?),
+        Ok(false) => {
+            drop(outcome);
+            Err("the clients got other replies")?
+        }
+        Err(error) => {
+            drop(outcome);
+            Err(error)?
+        }
+    }
+}
+
+/// Serves by a listener of this port, beside the clients.
+fn serve_beside<R, L>(
+    rt: &R,
+    alloc: Global,
+    listener: L,
+    port: u16,
+    run: Run,
+) -> Result<Outcome, Fail>
+where
+    R: Log + Clock + Net<Stream = TcpStream> + Threads + Wait + Sync,
+    L: OpenListener<Stream = TcpStream> + Send + Drop,
+{
+    let (outcome, asked) = thread::join(
+        rt,
+        || serve_some(rt, alloc, listener, run.connections, run.workers),
+        || ask(rt, port, run.clients),
+    );
+    outcome_of(outcome, asked)
+}
+
+/// The same by a listener of its own, and its port.
+fn run_beside<R>(rt: &R, alloc: Global, run: Run) -> Result<(Outcome, u16), Fail>
+where
+    R: Log + Clock + Net<Listener = TcpListener, Stream = TcpStream> + Threads + Wait + Sync,
+{
+    let listener = TcpListener::bind(rt, "127.0.0.1:0")?;
+    let port = listener.local_addr()?.port();
+    let outcome = serve_beside(rt, alloc, listener, port, run)?;
+    Ok((outcome, port))
 }
 
 /// Connects to a port of this machine.
@@ -154,29 +247,24 @@ fn first_end(outcome: &Outcome) -> Option<Result<Ended, SessionFault>> {
     }
 }
 
+/// Two puts, and two gets, were served and counted.
+fn are_two_served(alloc: Global, outcome: &Outcome, port: u16) -> bool {
+    let totals = "gets 2 puts 2 deletes 0 refusals 0 reaps 0\n";
+    tally_is(outcome, 2, 0, 0) && is_written(alloc, outcome, port, totals) == Some(true)
+}
+
 #[test]
 fn two_clients(rt: HostRuntime) -> Result<(), Fail> {
-    let listener = TcpListener::bind(&rt, "127.0.0.1:0")?;
-    let port = listener.local_addr()?.port();
     let quiet = Logged::new(rt, LevelFilter::Off, Console(rt));
-    let alloc = rt.alloc();
-    let (outcome, asked) = thread::join(
-        &quiet,
-        || serve_some(&quiet, alloc, listener, 2, 2),
-        || two_clients_ask(&quiet, port),
-    );
-    assert!(rt; asked?);
-    let outcome = outcome.ok_or("a ring of 1")?;
-    assert!(rt; tally_is(&outcome, 2, 0, 0));
-    assert_eq!(rt;
-        is_written(
-            rt.alloc(),
-            &outcome,
-            port,
-            "gets 2 puts 2 deletes 0 refusals 0 reaps 0\n",
-        ),
-        Some(true)
-    );
+    let run = Run {
+        connections: 2,
+        workers: 2,
+        clients: Clients::Two,
+    };
+    let (outcome, port) = run_beside(&quiet, rt.alloc(), run)?;
+    let holds = are_two_served(rt.alloc(), &outcome, port);
+    drop(outcome);
+    assert!(rt; holds);
     Ok(())
 }
 
@@ -189,22 +277,20 @@ fn half_a_frame_is_sent<R: Net<Stream = TcpStream>>(rt: &R, port: u16) -> io::Re
 
 #[test]
 fn half_a_frame(rt: HostRuntime) -> Result<(), Fail> {
-    let listener = TcpListener::bind(&rt, "127.0.0.1:0")?;
-    let port = listener.local_addr()?.port();
     let quiet = Logged::new(rt, LevelFilter::Off, Console(rt));
-    let alloc = rt.alloc();
-    let (outcome, asked) = thread::join(
-        &quiet,
-        || serve_some(&quiet, alloc, listener, 1, 1),
-        || half_a_frame_is_sent(&quiet, port),
-    );
-    assert!(rt; asked?);
-    let outcome = outcome.ok_or("a ring of 1")?;
+    let run = Run {
+        connections: 1,
+        workers: 1,
+        clients: Clients::HalfAFrame,
+    };
+    let (outcome, _) = run_beside(&quiet, rt.alloc(), run)?;
+    let end = first_end(&outcome);
+    drop(outcome);
     let ended = Ended {
         replies: 0,
         rest: 3,
     };
-    assert!(rt; first_end(&outcome) == Some(Ok(ended)));
+    assert!(rt; end == Some(Ok(ended)));
     Ok(())
 }
 
@@ -237,22 +323,25 @@ fn three_clients_ask<R: Net<Stream = TcpStream>>(rt: &R, port: u16) -> io::Resul
     Ok(is_answered && one_goes_one_asks(rt, port)?)
 }
 
+/// The first connection ended by its fault, another one well, and two puts were made.
+fn is_first_alone_at_fault(outcome: &Outcome) -> bool {
+    first_end(outcome) == Some(Err(SessionFault::BadFrame(1)))
+        && count_of_whole(outcome) >= Some(1)
+        && tally_is(outcome, 2, 0, 0)
+}
+
 #[test]
 fn each_fault_ends_its_connection_alone(rt: HostRuntime) -> Result<(), Fail> {
-    let listener = TcpListener::bind(&rt, "127.0.0.1:0")?;
-    let port = listener.local_addr()?.port();
     let quiet = Logged::new(rt, LevelFilter::Off, Console(rt));
-    let alloc = rt.alloc();
-    let (outcome, asked) = thread::join(
-        &quiet,
-        || serve_some(&quiet, alloc, listener, 3, 1),
-        || three_clients_ask(&quiet, port),
-    );
-    assert!(rt; asked?);
-    let outcome = outcome.ok_or("a ring of 1")?;
-    assert!(rt; first_end(&outcome) == Some(Err(SessionFault::BadFrame(1))));
-    assert!(rt; count_of_whole(&outcome) >= Some(1));
-    assert!(rt; tally_is(&outcome, 2, 0, 0));
+    let run = Run {
+        connections: 3,
+        workers: 1,
+        clients: Clients::Three,
+    };
+    let (outcome, _) = run_beside(&quiet, rt.alloc(), run)?;
+    let holds = is_first_alone_at_fault(&outcome);
+    drop(outcome);
+    assert!(rt; holds);
     Ok(())
 }
 
@@ -261,14 +350,20 @@ fn is_accept_failed(outcome: &Outcome) -> bool {
     matches!(&outcome.served, Err(ServeFault::AcceptFailed))
 }
 
+/// Serving stopped at once, behind the line on the port.
+fn is_nothing_served(alloc: Global, outcome: &Outcome, port: u16) -> bool {
+    is_accept_failed(outcome) && is_written(alloc, outcome, port, "") == Some(true)
+}
+
 #[test]
 fn no_connection(rt: HostRuntime) -> Result<(), Fail> {
     let listener = TcpListener::bind(&rt, "127.0.0.1:0")?;
     let port = listener.local_addr()?.port();
     listener.set_nonblocking(true)?;
     let quiet = Logged::new(rt, LevelFilter::Off, Console(rt));
-    let outcome = serve_some(&quiet, rt.alloc(), listener, 1, 2).ok_or("a ring of 1")?;
-    assert!(rt; is_accept_failed(&outcome));
-    assert_eq!(rt; is_written(rt.alloc(), &outcome, port, ""), Some(true));
+    let outcome = serve_some(&quiet, rt.alloc(), listener, 1, 2).ok_or("1 to 64 workers")?;
+    let holds = is_nothing_served(rt.alloc(), &outcome, port);
+    drop(outcome);
+    assert!(rt; holds);
     Ok(())
 }

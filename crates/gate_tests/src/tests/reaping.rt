@@ -1,8 +1,8 @@
 //! A vnode behind a gate whose keys die: deletes, and reaps of the first dead key, by one thread and by four.
 ghost use Rattle.std.specs.Prelude.{◌≡◌};
 
-use crate::tests::vnode::{is_accepted, puts, shows, vnode_gate};
-use riak_msgs::{Bytes, DelAsk, Key, PutAsk};
+use crate::tests::vnode::{is_accepted, puts, puts_under, shows, vnode_gate};
+use riak_msgs::{Bytes, DelAsk, Key};
 use rw_gate::{Gate, Pass, Plan, ReadRight, WriteRight};
 use std::alloc::{AllocError, Global};
 use std::process::Abort;
@@ -36,23 +36,6 @@ fn reaps_under(
         },
         Ok(Plan::Nothing(answer)) => reaped_in(&answer),
         Err(_) => None,
-    }
-}
-
-// Whether a value is put under a key of the bucket "b".
-fn puts_key_under(
-    right: &mut WriteRight<'_, Vnode>,
-    pass: &mut Pass<Vnode>,
-    alloc: Global,
-    key: &[u8],
-) -> bool
-    requires { pass.old.gate ≡ right.old.gate }
-    ensures pass { pass.new.gate ≡ pass.old.gate }
-    ensures right { right.new.gate ≡ right.old.gate }
-{
-    match PutAsk::plain(alloc, b"b", key, b"", b"v") {
-        Ok(ask) => is_accepted(right, pass, alloc, Ask::Put(ask)),
-        Err(_) => false,
     }
 }
 
@@ -158,7 +141,7 @@ fn bury_five<R: Wait>(rt: &R, alloc: Global, gate: &Gate<Vnode>, name: u8) -> bo
     for round in 0..5u8 {
         let key = [name, round];
         let mut right = gate.write(rt);
-        let is_put = puts_key_under(&mut right, &mut pass, alloc, &key);
+        let is_put = puts_under(&mut right, &mut pass, alloc, &key, b"v");
         right.release();
         let mut right = gate.write(rt);
         let is_deleted = deletes_under(&mut right, &mut pass, alloc, &key);

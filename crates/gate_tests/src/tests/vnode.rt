@@ -33,24 +33,25 @@ pub(crate) fn is_accepted(
     }
 }
 
-// The same of a value under the key "k" of the bucket "b", without context. `false` also where memory was refused.
-fn puts_under(
+// The same of a value under a key of the bucket "b", without context. `false` also where memory was refused.
+pub(crate) fn puts_under(
     right: &mut WriteRight<'_, Vnode>,
     pass: &mut Pass<Vnode>,
     alloc: Global,
+    key: &[u8],
     value: &[u8],
 ) -> bool
     requires { pass.old.gate ≡ right.old.gate }
     ensures pass { pass.new.gate ≡ pass.old.gate }
     ensures right { right.new.gate ≡ right.old.gate }
 {
-    match PutAsk::plain(alloc, b"b", b"k", b"", value) {
+    match PutAsk::plain(alloc, b"b", key, b"", value) {
         Ok(ask) => is_accepted(right, pass, alloc, Ask::Put(ask)),
         Err(_) => false,
     }
 }
 
-// The same under a right of its own.
+// The same of the key "k" under a right of its own.
 fn puts_once(gate: &Gate<Vnode>, pass: &mut Pass<Vnode>, alloc: Global, value: &[u8]) -> bool
     requires { pass.old.gate ≡ gate.now }
     ensures { pass.new.gate ≡ pass.old.gate }
@@ -59,7 +60,7 @@ fn puts_once(gate: &Gate<Vnode>, pass: &mut Pass<Vnode>, alloc: Global, value: &
         return false;
     };
     let mut right = right;
-    let is_put = puts_under(&mut right, pass, alloc, value);
+    let is_put = puts_under(&mut right, pass, alloc, b"k", value);
     right.release();
     is_put
 }
@@ -189,7 +190,7 @@ fn put_fifteen<R: Wait>(rt: &R, alloc: Global, gate: &Gate<Vnode>) -> bool {
     for made in 0..15usize {
         let mut right = gate.write(rt);
         let shows_own = made <= count_under(&right, &mut pass, alloc);
-        let is_put = puts_under(&mut right, &mut pass, alloc, b"v");
+        let is_put = puts_under(&mut right, &mut pass, alloc, b"k", b"v");
         right.release();
         is_well = is_well && shows_own && is_put;
     }

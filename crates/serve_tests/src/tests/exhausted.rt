@@ -1,9 +1,10 @@
 //! A system that has no descriptor or no memory for a further connection.
-use crate::tests::{is_accept_failed, is_written, serve_some, tally_is, two_clients_ask};
+use crate::tests::{Clients, Run, is_nothing_served, serve_beside, serve_some, tally_is};
 use log::sink::Console;
 use log::{LevelFilter, Log, Logged};
 use node_commands::MAX_ACCEPT_TRIES;
 use std::alloc::Global;
+use std::io;
 use std::net::{Net, OpenListener, SocketAddr, TcpListener, TcpStream};
 use std::rt::Clock;
 use std::sync::Wait;
@@ -11,7 +12,6 @@ use std::sync::atomic::{AtomicU32, Ordering};
 use std::test::*;
 use std::thread::Threads;
 use std::time::Duration;
-use std::{io, thread};
 
 /// Linux's ENOMEM, ENFILE, EMFILE and ENOBUFS.
 const NO_MEMORY: i32 = 12;
@@ -82,13 +82,13 @@ where
         failures,
         accepts: &accepts,
     };
-    let (outcome, asked) = thread::join(
-        rt,
-        || serve_some(rt, alloc, failing, 2, 2),
-        || two_clients_ask(rt, port),
-    );
-    let outcome = outcome.ok_or("a ring of 1")?;
-    Ok(asked? && tally_is(&outcome, 2, 0, 0))
+    let run = Run {
+        connections: 2,
+        workers: 2,
+        clients: Clients::Two,
+    };
+    let outcome = serve_beside(rt, alloc, failing, port, run)?;
+    Ok(tally_is(&outcome, 2, 0, 0))
 }
 
 #[test]
@@ -119,12 +119,10 @@ where
         failures: u32::MAX,
         accepts: &accepts,
     };
-    let outcome = serve_some(rt, alloc, failing, 1, 1).ok_or("a ring of 1")?;
-    let is_written = is_written(alloc, &outcome, port, "") == Some(true);
-    if is_accept_failed(&outcome) && is_written {
-        return Ok(Some(accepts.load(Ordering::SeqCst)));
-    }
-    Ok(None)
+    let outcome = serve_some(rt, alloc, failing, 1, 1).ok_or("1 to 64 workers")?;
+    let holds = is_nothing_served(alloc, &outcome, port);
+    drop(outcome);
+    Ok(holds.then_some(accepts.load(Ordering::SeqCst)))
 }
 
 #[test]
