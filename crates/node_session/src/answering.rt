@@ -101,7 +101,7 @@ fn answer_next<W: Write, N: Node>(
     node: &mut N,
 ) -> Result<bool, Stop>
     requires limit { framer.old.limit ≡ max_request_len }
-    requires untold { framer.old.fault ≡ None }
+    requires no_fault { framer.old.fault ≡ None }
     ensures { AnswersNext N.step node.old node.new framer.old framer.new
         (W.contents writer.old) (W.contents writer.new) result }
 {
@@ -126,7 +126,7 @@ fn answer_all<W: Write, N: Node>(
     node: &mut N,
 ) -> (u64, Result<(), Stop>)
     requires limit { framer.old.limit ≡ max_request_len }
-    requires untold { framer.old.fault ≡ None }
+    requires no_fault { framer.old.fault ≡ None }
     requires room { length framer.old.rest < 2 ^ 64 }
     ensures { AnswersAll N.step node.old node.new framer.old framer.new
         (W.contents writer.old) (W.contents writer.new) result.0 result.1 }
@@ -151,7 +151,7 @@ pub(crate) fn answer_piece<W: Write, N: Node>(
     node: &mut N,
 ) -> (u64, Result<(), Stop>)
     requires limit { framer.old.limit ≡ max_request_len }
-    requires untold { framer.old.fault ≡ None }
+    requires no_fault { framer.old.fault ≡ None }
     requires partial { IsPartial max_request_len framer.old.rest }
     requires some { 0 < length piece.now }
     requires bound { length piece.now ≤ 4096 }

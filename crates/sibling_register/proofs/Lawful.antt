@@ -20,8 +20,8 @@ abbrev DecidedBy : Option ℕ → Type 0
 DecidedBy None = Unit {0}
 DecidedBy (Some number) = IsTrue (is_decided (Refused number))
 
-abbrev DecidedTold : Told ℕ → Type 0
-DecidedTold told = IsTrue (is_decided told)
+abbrev IsDecidedAnswer : Told ℕ → Type 0
+IsDecidedAnswer told = IsTrue (is_decided told)
 
 check_by : (a b c d : Bool) → DecidedBy (cond a (Some 1) (cond b (Some 3) (cond c (Some 2) (cond d (Some 5) None))))
 check_by true b c d = refl
@@ -30,15 +30,15 @@ check_by false false true d = refl
 check_by false false false true = refl
 check_by false false false false = tt
 
-get_by : (a b c d : Bool) (x y z w : Told ℕ) → DecidedTold x → DecidedTold y → DecidedTold z → DecidedTold w
-    → DecidedTold (cond a x (cond b (cond c y x) (cond d z w)))
+get_by : (a b c d : Bool) (x y z w : Told ℕ) → IsDecidedAnswer x → IsDecidedAnswer y → IsDecidedAnswer z → IsDecidedAnswer w
+    → IsDecidedAnswer (cond a x (cond b (cond c y x) (cond d z w)))
 get_by true b c d x y z w p q r s = p
 get_by false true true d x y z w p q r s = q
 get_by false true false d x y z w p q r s = p
 get_by false false c true x y z w p q r s = r
 get_by false false c false x y z w p q r s = s
 
-put_by : (b : Bool) (x : Told ℕ) → DecidedTold x → DecidedTold (cond b x Done)
+put_by : (b : Bool) (x : Told ℕ) → IsDecidedAnswer x → IsDecidedAnswer (cond b x Done)
 put_by true x p = p
 put_by false x p = refl
 

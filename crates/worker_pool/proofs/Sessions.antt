@@ -1,4 +1,4 @@
--- What a session did stays so when its reader and its writer are told of its end.
+-- What a session did stays so when its reader and its writer learn that it has ended.
 use Rattle.std.proofs.Common.{◌≡◌, ◌≤◌, ◌*◌, ◌+◌, ℕ, List, length, refl, subst}
 use Rattle.std.proofs.KnownBytes.{Consumes-kept, Consumes-whole, Appends-kept}
 use Rattle.std.specs.Prelude.{Option, Result, Ok, Err, IfOk, IfErr, MatchResult}
