@@ -110,13 +110,14 @@ def time_of(program, keys):
 
 
 def show_times(program, most):
-    print(f"{'keys':>9} {'put us':>8} {'get us':>8} {'puts: 10 times the keys':>24} {'gets':>6}")
+    print(f"{'keys':>9} {'put us':>8} {'get us':>8} {'10 times the keys: both':>24} {'puts':>6} {'gets':>6}")
     before, keys = None, 1000
     while keys <= most:
         now = time_of(program, keys)
         line = f"{keys:>9} {now[0]:>8.2f} {now[1]:>8.2f}"
         if before:
-            line += f" {10 * now[0] / before[0]:>24.1f} {10 * now[1] / before[1]:>6.1f}"
+            both = sum(now) / sum(before)
+            line += f" {10 * both:>24.1f} {10 * now[0] / before[0]:>6.1f} {10 * now[1] / before[1]:>6.1f}"
         print(line, flush=True)
         before, keys = now, keys * 10
 
