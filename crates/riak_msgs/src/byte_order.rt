@@ -54,6 +54,7 @@ fn compare_four(left: &[u8], right: &[u8]) -> Ordering
 }
 
 /// How two byte strings compare, one byte at a time.
+#[inline(always)]
 fn compare_bytes(left: &[u8], right: &[u8]) -> Ordering
     ensures { result ≡ slice_cmp nat_cmp left.now right.now }
 {

@@ -15,12 +15,12 @@ use std::marker::Model;
 
 /// What a client stores under a key: a value, and its details. All is kept as it came.
 ///
-/// The details lie together in a place of their own on the heap, which a content without details doesn't have. Contracts see the
-/// record of the value and each detail.
+/// The value's bytes lie on the heap, and so do the details, together, where there are some: a content takes 40 bytes beside them. Contracts
+/// see the record of the value and each detail.
 ///
 /// Source: `RpbContent` of `riak_kv.proto`, without the tag and times that a server writes.
 pub struct Content {
-    value: Bytes,
+    value: Vec<u8>,
     details: Option<Box<Details>>,
 }
 
@@ -40,7 +40,7 @@ impl Model for Content {
 
     ghost Value = { Content };
 
-    ghost view = { λ c. content_with c.value (option_map_or (λ b. b.value) c.details no_details) };
+    ghost view = { λ c. content_with c.value.items (option_map_or (λ b. b.value) c.details no_details) };
 }
 
 impl Content {
@@ -48,12 +48,12 @@ impl Content {
     pub fn new(alloc: Global) -> Content
         ensures { result ≡ no_content }
     {
-        Content::plain(Bytes::new(alloc))
+        Content::plain(Vec::new(alloc))
     }
 
     /// A value without details, which is kept as it is. It takes no memory.
-    pub fn plain(value: Bytes) -> Content
-        ensures { result ≡ record no_content { value = value } }
+    pub fn plain(value: Vec<u8>) -> Content
+        ensures { result ≡ record no_content { value = value.items } }
     {
         Content {
             value,
@@ -65,16 +65,16 @@ impl Content {
     pub fn of_value(alloc: Global, value: &[u8]) -> Result<Content, AllocError>
         ensures { IfOk result (λ content. content ≡ record no_content { value = value.now }) }
     {
-        Ok(Content::plain(Bytes::from_slice(alloc, value)?))
+        Ok(Content::plain(Vec::from_slice(alloc, value)?))
     }
 
     /// A value with these details, both kept as they are. It takes one place on the heap. Where memory is refused both are let go.
     pub fn with_details(
         alloc: Global,
-        value: Bytes,
+        value: Vec<u8>,
         details: Details,
     ) -> Result<Content, AllocError>
-        ensures { IfOk result (λ content. content ≡ content_with value details) }
+        ensures { IfOk result (λ content. content ≡ content_with value.items details) }
     {
         let details = Box::new(alloc, details)?;
         Ok(Content {
@@ -84,10 +84,10 @@ impl Content {
     }
 
     /// The value's bytes.
-    pub fn value(&self) -> &Bytes
+    pub fn value(&self) -> &[u8]
         ensures { result.now ≡ self.now.value }
     {
-        &self.value
+        self.value.as_slice()
     }
 
     /// The content type, where it is given.
@@ -154,19 +154,19 @@ impl Content {
     pub fn clone(&self, alloc: Global) -> Result<Content, AllocError>
         ensures { IfOk result (λ copy. copy ≡ self.now) }
     {
-        self.clone_details(alloc, self.value.clone(alloc)?)
+        self.clone_details(alloc, Vec::from_slice(alloc, self.value.as_slice())?)
     }
 
     /// A copy with an empty value: the value's bytes are neither copied nor given room.
     pub fn clone_head(&self, alloc: Global) -> Result<Content, AllocError>
         ensures { IfOk result (λ copy. copy ≡ bare self.now) }
     {
-        self.clone_details(alloc, Bytes::new(alloc))
+        self.clone_details(alloc, Vec::new(alloc))
     }
 
     /// Another value with a copy of the details.
-    fn clone_details(&self, alloc: Global, value: Bytes) -> Result<Content, AllocError>
-        ensures { IfOk result (λ copy. copy ≡ record self.now { value = value }) }
+    fn clone_details(&self, alloc: Global, value: Vec<u8>) -> Result<Content, AllocError>
+        ensures { IfOk result (λ copy. copy ≡ record self.now { value = value.items }) }
     {
         match &self.details {
             Some(details) => {

@@ -8,7 +8,6 @@ ghost use Rattle.riak_msgs.specs.Content.{no_details};
 ghost use Rattle.riak_msgs.specs.Seen.{Copies, HoldsNone, IsSeenOf, RefusesToCopy, Sees};
 ghost use Rattle.riak_msgs.specs.Seen.{no_fields, merged, scalars_of, with_parts};
 
-use crate::bytes::Bytes;
 use crate::content::Content;
 use crate::details::Details;
 use crate::fault::MsgFault;
@@ -117,7 +116,7 @@ impl<'a> ContentView<'a> {
         ensures { (c : ContentFields) → IsSeenOf self.now c
             → IfOk result (λ copy. content_in copy ≡ scalars_of c) }
     {
-        let value = Bytes::from_slice(alloc, self.value.unwrap_or(&[]))?;
+        let value = Vec::from_slice(alloc, self.value.unwrap_or(&[]))?;
         let details = self.labels(alloc)?;
         Ok(PartsCopy {
             alloc,
@@ -170,7 +169,7 @@ impl<'a> Merge<'a> for ContentView<'a> {
 #[derive(Drop)]
 pub(crate) struct PartsCopy {
     pub(crate) alloc: Global,
-    pub(crate) value: Bytes,
+    pub(crate) value: Vec<u8>,
     pub(crate) details: Details,
 }
 

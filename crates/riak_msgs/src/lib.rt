@@ -5,7 +5,7 @@
 //! read_request(alloc, 9, b"\x0a\x01b\x12\x01k")                           Request::Get of bucket b, key k
 //! read_request(alloc, 9, b"\x0a\x01b")                                    MsgFault::MissingField
 //! write_reply(alloc, &Reply::Error(Text::NotFound))                       00 0a 08 "notfound" 10 01
-//! Content::of_value(alloc, b"v")?.value().as_slice()                      "v"
+//! Content::of_value(alloc, b"v")?.value()                                 "v"
 //! ```
 //!
 //! A message decodes to a request, or to a reply, as a function of its list of fields (`Decodes`, `DecodesReply`): the last occurrence

@@ -109,7 +109,7 @@ fn has(reply: &GetReply, values: &[&[u8]], context: &[u8]) -> bool {
     let contents = reply.contents.as_slice();
     let mut are_same = contents.len() == values.len();
     for (shown, value) in contents.iter().zip(values) {
-        are_same = are_same && shown.content.value().as_slice() == *value;
+        are_same = are_same && shown.content.value() == *value;
     }
     are_same && reply.context.as_slice() == context
 }

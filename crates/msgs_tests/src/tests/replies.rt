@@ -131,7 +131,7 @@ fn indexes(alloc: Global) -> Result<Sequence<Pair>, AllocError> {
 
 /// A content with every field, and with fields of no bytes.
 fn full(alloc: Global) -> Result<Content, AllocError> {
-    let value = Bytes::from_slice(alloc, b"v")?;
+    let value = Vec::from_slice(alloc, b"v")?;
     Content::with_details(alloc, value, details(alloc)?)
 }
 

@@ -61,7 +61,7 @@ fn has_put(
 fn is_plain_put(ask: &PutAsk, bucket_type: &[u8], context: &[u8], value: &[u8]) -> bool {
     is_of(&ask.key, bucket_type)
         && ask.context.as_slice() == context
-        && ask.content.as_content().value().as_slice() == value
+        && ask.content.as_content().value() == value
         && !ask.return_body
         && !ask.return_head
         && !ask.if_not_modified
@@ -122,7 +122,7 @@ fn a_put_in_any_encoding(rt: HostRuntime) {
 }
 
 fn is_value_and_type(content: &Content) -> bool {
-    content.value().as_slice() == b"v".as_slice() && is_some_t(content.content_type())
+    content.value() == b"v".as_slice() && is_some_t(content.content_type())
 }
 
 fn is_some_t(bytes: Option<&Bytes>) -> bool {
@@ -133,7 +133,7 @@ fn is_some_t(bytes: Option<&Bytes>) -> bool {
 }
 
 fn is_merged(content: &Content) -> bool {
-    content.value().as_slice() == b"w".as_slice()
+    content.value() == b"w".as_slice()
         && content.links().len() == 1
         && are_m_and_n(content.usermeta())
 }

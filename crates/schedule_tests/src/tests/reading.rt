@@ -73,7 +73,7 @@ fn is_put(read: &Result<Line, LineFault>) -> bool {
             Action::Ask(Request::Put(ask)) => {
                 line.worker == 2
                     && is_key(&ask.key)
-                    && ask.content.as_content().value().as_slice() == b"v".as_slice()
+                    && ask.content.as_content().value() == b"v".as_slice()
             }
             _ => false,
         },

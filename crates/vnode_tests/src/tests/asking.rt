@@ -181,5 +181,5 @@ fn are_shown(shown: &[Shown], values: &[&[u8]]) -> bool {
 }
 
 fn is_value(shown: &Shown, value: &[u8]) -> bool {
-    shown.content.value().as_slice() == value && !shown.deleted
+    shown.content.value() == value && !shown.deleted
 }

@@ -80,8 +80,7 @@ impl Answers {
     fn note(&mut self, siblings: &[Shown]) -> Result<(), AllocError> {
         for one in siblings {
             self.shown.push(u8::from(one.deleted))?;
-            self.shown
-                .extend_from_slice(one.content.value().as_slice())?;
+            self.shown.extend_from_slice(one.content.value())?;
             self.shown.push(0)?;
         }
         Ok(())

@@ -253,7 +253,7 @@ fn get_with(
 
 fn is_sibling(shown: &Shown, wanted: &Sibling) -> bool {
     match wanted {
-        Value(value) => !shown.deleted && shown.content.value().as_slice() == *value,
+        Value(value) => !shown.deleted && shown.content.value() == *value,
         Tombstone => shown.deleted && shown.content.value().is_empty(),
     }
 }

@@ -1,4 +1,4 @@
-use Rattle.std.proofs.Common.{◌≡◌, ◌≤◌, ◌∙◌, sym, arith}
+use Rattle.std.proofs.Common.{◌∙◌, sym, arith}
 use Rattle.riak_msgs.proofs.ByteOrder.{lengths_cmp}
 use Rattle.riak_msgs.proofs.byte_order.compare_bytes.Goals as goal
 

@@ -1,4 +1,4 @@
-use Rattle.std.proofs.Common.{ℕ, arith, drop, sym, ap, ◌∙◌}
+use Rattle.std.proofs.Common.{arith, drop, sym, ap, ◌∙◌}
 use Rattle.std.specs.declared.cmp.Ordering.{Ordering}
 use Rattle.std.specs.Ordering.{nat_cmp, ordering_then}
 use Rattle.std.specs.Cmp.Lexicographic.{slice_cmp}
