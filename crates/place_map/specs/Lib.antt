@@ -1,0 +1,2 @@
+pub mod AssocList
+pub mod Nested

@@ -1,0 +1,105 @@
+//! All keys, with their places.
+
+ghost use Rattle.std.specs.Prelude.{◌≡◌, [], OnOk, OnErr, Some, None, if◌then◌else◌};
+ghost use Rattle.std.specs.BTreeMap.{is_at};
+ghost use Rattle.riak_msgs.specs.declared.key.Key.{Key};
+ghost use Rattle.riak_msgs.specs.KeyOrder.{key_cmp};
+ghost use Rattle.place_map.specs.AssocList.{get, IsOrdered};
+
+use crate::buckets::BucketPlaces;
+use riak_msgs::{BucketType, Key};
+use std::alloc::{AllocError, Global};
+use std::collections::BTreeMap;
+use std::marker::Model;
+
+/// Keys in their order, each with its place.
+///
+/// A bucket type is held once, a bucket once in its type, and in the bucket the bytes of each key. No bucket type is held
+/// without buckets, and no bucket without keys. Contracts see the list of all keys with their places.
+pub struct PlaceMap {
+    types: BTreeMap<BucketType, BucketPlaces>,
+}
+
+/// One call at each place where one is let go.
+impl Drop for PlaceMap {
+    fn drop(self) {
+        let PlaceMap { types: _types } = self;
+    }
+}
+
+impl Model for PlaceMap {
+    ghost use Rattle.std.specs.Prelude.{ℕ};
+    ghost use Rattle.riak_msgs.specs.declared.key.Key.{Key};
+    ghost use Rattle.place_map.specs.AssocList.{AssocList};
+    ghost use Rattle.place_map.specs.Nested.{places_of, AreTypes};
+
+    ghost Value = { AssocList Key ℕ };
+
+    ghost view = { λ p. places_of p.types };
+
+    ghost invariant = { λ p. AreTypes p.types };
+}
+
+impl PlaceMap {
+    /// No keys. It takes no memory.
+    pub fn new(alloc: Global) -> PlaceMap
+        ensures { result.entries ≡ [] }
+    {
+        PlaceMap {
+            types: BTreeMap::new(alloc),
+        }
+    }
+
+    /// The place of a key, if it has one.
+    pub fn get(&self, key: &Key) -> Option<usize>
+        ensures place { result ≡ get key_cmp self.now key.now }
+        ensures ordered { IsOrdered key_cmp self.now }
+    {
+        match self.types.get(&key.bucket_type) {
+            Some(buckets) => buckets.get(&key.bucket, &key.key),
+            None => None,
+        }
+    }
+
+    /// Gives a key a place, which replaces the one that it has. Only what is not held yet is copied: the key's bytes, its
+    /// bucket and its bucket type, each where it is new. Refused where memory is, and then each key has the place that it
+    /// had.
+    pub fn insert(&mut self, alloc: Global, key: &Key, place: usize) -> Result<(), AllocError>
+        ensures inserted { OnOk result ((other : Key) → get key_cmp self.new other
+            ≡ (if is_at (key_cmp key.now) other then Some place else get key_cmp self.old other)) }
+        ensures refused { OnErr result (self.new.entries ≡ self.old.entries) }
+        ensures ordered { IsOrdered key_cmp self.new }
+    {
+        match self.types.get_mut(&key.bucket_type) {
+            Some(buckets) => return buckets.insert(alloc, &key.bucket, &key.key, place),
+            None => {}
+        }
+        let buckets = BucketPlaces::one_key(alloc, &key.bucket, &key.key, place)?;
+        let own = key.bucket_type.clone(alloc)?;
+        match self.types.insert(own, buckets) {
+            Ok(_) => Ok(()),
+            Err(_) => Err(AllocError),
+        }
+    }
+
+    /// Removes a key, and its bucket and its bucket type where these have no other key; returns the place that it had, if
+    /// it had one. It takes no memory.
+    pub fn remove(&mut self, key: &Key) -> Option<usize>
+        ensures place { result ≡ get key_cmp self.old key.now }
+        ensures removed { (other : Key) → get key_cmp self.new other
+            ≡ (if is_at (key_cmp key.now) other then None else get key_cmp self.old other) }
+        ensures ordered { IsOrdered key_cmp self.new }
+    {
+        match self.types.get_mut(&key.bucket_type) {
+            None => None,
+            Some(buckets) => {
+                let place = buckets.remove(&key.bucket, &key.key);
+                let is_empty = buckets.is_empty();
+                if is_empty {
+                    drop(self.types.remove(&key.bucket_type));
+                }
+                place
+            }
+        }
+    }
+}
