@@ -5,7 +5,8 @@ use Rattle.std.specs.Prelude.{◌&&◌, ◌==◌, Option, Some, None, IsSome, op
 use Rattle.std.specs.Ordering.{eq_by_cmp, is_lt, is_eq}
 use Rattle.std.specs.Cmp.{eq_by_cmp_equiv}
 use Rattle.std.specs.FinMap.Entries.{find, put, where_key, below_all, is_sorted, is_sorted-put, is_sorted-where_key, same_entries}
-use Rattle.std.specs.BTreeMap.{is_at, IsOrdered}
+use Rattle.std.specs.BTreeMap.{is_at}
+use Rattle.place_map.specs.AssocList.{IsOrdered}
 use Rattle.std.specs.Map.{lookup, keys_of}
 use Rattle.std.specs.List.Sorted.{IsStrictlySortedBy}
 use Rattle.std.specs.List.{AllByRecursion}
@@ -38,7 +39,7 @@ pub exact : (a b : Key) → key_cmp a b ≡ Equal → a ≡ b
 exact a b h = same_key a b (equal _ h)
 
 -- no entry after one that ties with a key does so
-past : {X : Type 0} (q : Key) (e : Key × X) (es : List (Key × X)) → IsStrictlySortedBy key_cmp (keys_of (e ∷ es)) → is_at (key_cmp q) e.0 ≡ true → lookup (is_at (key_cmp q)) es ≡ None
+pub past : {X : Type 0} (q : Key) (e : Key × X) (es : List (Key × X)) → IsStrictlySortedBy key_cmp (keys_of (e ∷ es)) → is_at (key_cmp q) e.0 ≡ true → lookup (is_at (key_cmp q)) es ≡ None
 past q e es sorted at =
     lookup-none (is_at (key_cmp q)) es (none_past_head (eq_by_cmp_equiv key_cmp_total) q e es (IsDistinct-from_sorted key_cmp (keys_of (e ∷ es)) sorted) at)
 

@@ -2,3 +2,6 @@ mod Entries
 mod Ties
 mod Marks
 mod Maps
+mod Passed
+mod Until
+mod Taken

@@ -33,10 +33,10 @@ use Rattle.clock_map.specs.declared.room.Room.{Room}
 use Rattle.clock_map.specs.declared.index.DeadMark.{DeadMark}
 use Rattle.clock_map.specs.declared.index.DeadMark.TheVariants.{Spare, Dead}
 use Rattle.clock_map.specs.Index.{Index, is_marked, mark_of, without_spare, SpareIsNew, first_marked}
-use Rattle.clock_map.specs.Places.{Places, Clocks, place_of, stored_at, lives, lives_at, has_no_mark, FitsAt, IsReadyAt, StoresSame, WritesAt, AddsAt, Unchanged, RemovesAt, DropsSpare}
+use Rattle.clock_map.specs.Places.{Places, Clocks, place_of, stored_at, lives, lives_at, has_no_mark, FitsAt, IsReadyAt, StoresSame, WritesAt, AddsAt, Unchanged, RemovesAt, DropsSpare, IsSpareKey, is_for_new, is_spare}
 use Rattle.clock_map.specs.Maps.{is_dead, shown_at, shown_of, keys_in, reserved_in, IsRoomOf, IsRoom, MayDie, IsMap}
 use Rattle.clock_map.proofs.Entries.{find_shown, keys_same, sorted_shown}
-use Rattle.clock_map.proofs.Ties.{clash, tied_stored, tied_written, tied_removed, removed_shown, tied_added, added_place, added_shown, tied_dropped, dropped_shown, written_shown, written_keys, ReservedAt, reserved_at, reserved_for}
+use Rattle.clock_map.proofs.Ties.{clash, tied_stored, tied_written, tied_removed, removed_shown, tied_added, added_place, added_shown, tied_dropped, dropped_shown, written_shown, written_keys, ReservedAt, reserved_at, reserved_for, no_spare_key}
 use Rattle.clock_map.proofs.Marks.{settled_marks, settled_spare, unspared, no_spare, any_put, first_same}
 
 -- what is new, or has a content, isn't dead
@@ -211,6 +211,19 @@ module _ (old new : Places) (were are : Clocks) (dead : Index) (holds : IsMap ol
   pub unchanged_keys : keys_in (shown_at are None) new.entries ≡ keys_in (shown_at were None) old.entries
   unchanged_keys = keys_same (shown_at were None) (shown_at are None) old new holds.tied.ordered same.ordered unchanged_shown
 
+  pub unchanged_map : IsMap new are dead None
+  unchanged_map = record {
+    tied = record {
+      ordered = same.ordered;
+      held = λ q p is. ap is_some (same.clocks p) ∙ holds.tied.held q p (sym (same.places q) ∙ is);
+      one = λ a b p x y. holds.tied.one a b p (sym (same.places a) ∙ x) (sym (same.places b) ∙ y);
+      used = λ p is. (let k = holds.tied.used p (sym (ap is_some (same.clocks p)) ∙ is) in (k.0, same.places k.0 ∙ k.1));
+    };
+    marks = λ q. holds.marks q ∙ ap is_dead (sym (unchanged_shown q));
+    spare = λ q h. (let may = holds.spare q h in let e = may.1 in cc);
+    room = tt;
+  }
+
 -- the clock of a key, where there is no room
 module _ (places : Places) (clocks : Clocks) (dead : Index) (key : Key) (holds : IsMap places clocks dead None) where
   pub find_none : find key_cmp key (keys_in (shown_at clocks None) places.entries) ≡ shown_of places clocks None key
@@ -277,6 +290,53 @@ module _ (places : Places) (clocks : Clocks) (dead : Index) (made : Option Room)
 
     pub free_keys : keys_in (shown_at clocks None) places.entries ≡ seen.keys
     free_keys = ap (λ o. keys_in (shown_at clocks o) places.entries) (sym (now_none none)) ∙ keys_are
+
+-- nothing that is stored changed
+pub same_stored : (places : Places) (old new : Clocks) (dead : Index) (made : Option Room) → IsMap places old dead made → StoresSame old new → IsMap places new dead made
+same_stored places old new dead made holds same = record {
+  tied = tied_stored places old new holds.tied same;
+  marks = λ q. holds.marks q ∙ ap is_dead (sym (shown (place_of places q)));
+  spare = holds.spare;
+  room = by made holds.room;
+}
+  where
+    shown : (o : Option ℕ) → option_and_then (shown_at new made) o ≡ option_and_then (shown_at old made) o
+    shown None = refl
+    shown (Some p) = ap (λ o. cond (is_spare made p) None o) (same p)
+
+    by : (o : Option Room) → IsRoom places old dead o → IsRoom places new dead o
+    by None room = tt
+    by (Some r) room = (room.0, record { placed = room.1.placed; empty = λ h stored is. room.1.empty h stored (sym (same r.place) ∙ is); mark = room.1.mark })
+
+-- an index with the same entries serves as well
+pub same_index : (places : Places) (clocks : Clocks) (dead new : Index) (made : Option Room) → IsMap places clocks dead made
+    → ((q : Key) → tree.get key_cmp new q ≡ tree.get key_cmp dead q) → IsMap places clocks new made
+same_index places clocks dead new made holds same = record {
+  tied = holds.tied;
+  marks = λ q. ap is_marked (same q) ∙ holds.marks q;
+  spare = λ q h. holds.spare q (sym (same q) ∙ h);
+  room = by made holds.room;
+}
+  where
+    by : (o : Option Room) → IsRoom places clocks dead o → IsRoom places clocks new o
+    by None room = tt
+    by (Some r) room = (room.0, record { placed = room.1.placed; empty = room.1.empty; mark = λ h. ap is_some (same room.0) ∙ room.1.mark h })
+
+-- where there was no room, no key is kept, and none is where the room isn't for a new key
+pub no_key : (places now : Places) (made after : Option Room) (spare : Option Key) → IsSpareKey places made spare → made ≡ None → is_for_new after ≡ false → IsSpareKey now after spare
+no_key places now made after spare h none old =
+    subst (IsSpareKey now after) (sym (no_spare_key places spare (subst (λ o. IsSpareKey places o spare) none h))) old
+
+pub no_room_key : (places : Places) {made : Option Room} {spare : Option Key} → made ≡ None → spare ≡ None → IsSpareKey places made spare
+no_room_key places {made = made} none gone = subst (IsSpareKey places made) (sym gone) (ap is_for_new none)
+
+-- room for a write after which the key may be dead is at the same place
+pub dying_key : (places : Places) (room : Room) (spare : Option Key) → IsSpareKey places (Some room) spare
+    → IsSpareKey places (Some (record { place = room.place; is_new = room.is_new; may_die = true })) spare
+dying_key places room None h = h
+dying_key places room (Some key) h =
+    let same : room ≡ h.0 = (let e = h.1 in cc) in
+    (record { place = room.place; is_new = room.is_new; may_die = true }, refl, ap (λ (r : Room). r.is_new) same ∙ h.2, h.3 ∙ ap (λ (r : Room). Some r.place) (sym same))
 
 -- room in the clock at the place of a key
 pub has_room : (places : Places) (clocks : Clocks) (dead : Index) (room : Room) (key : Key) (seen : Option (List Dot)) (actor : Actor) (contents : Contents)

@@ -3,14 +3,8 @@ use Rattle.std.proofs.Common.{◌≡◌, ◌≢◌, ◌∙◌, ◌⊎◌, inl, i
 use Rattle.std.specs.Prelude.{◌&&◌, ◌==◌, Option, Some, None, IsSome, is_some, option_and_then}
 use Rattle.std.specs.Option.{option_map, option_map_or}
 use Rattle.std.specs.Ordering.{eq_by_cmp}
-use Rattle.std.specs.BTreeMap.{is_at, IsOrdered}
+use Rattle.std.specs.BTreeMap.{is_at}
 use Rattle.std.specs.FinMap.Entries.{put, where_key}
-use Rattle.std.specs.Prelude.{filter}
-use Rattle.std.specs.Cmp.{eq_by_cmp_equiv}
-use Rattle.std.specs.Map.{lookup, keys_of}
-use Rattle.std.proofs.lemmas.Map.Entries.{option_filter, lookup-filter-values}
-use Rattle.std.proofs.lemmas.Map.Keys.{IsDistinct-from_sorted}
-use Rattle.vnode_machine.proofs.Keys.{key_cmp_total}
 use Rattle.slab.specs.Slab as slab
 use Rattle.riak_msgs.specs.declared.Key.{Key}
 use Rattle.riak_msgs.specs.Contents.{Content}
@@ -25,7 +19,7 @@ use Rattle.clock_store.specs.declared.stored_clock.StoredClock.{StoredClock}
 use Rattle.clock_store.specs.Keys.{stored_of, empty, clock_at}
 use Rattle.clock_store.specs.Contents.{Reservation}
 use Rattle.clock_map.specs.declared.room.Room.{Room}
-use Rattle.clock_map.specs.Places.{Places, Clocks, place_of, stored_at, is_spare, unless_spare, IsTied, StoresSame, WritesAt, AddsAt, RemovesAt, DropsSpare}
+use Rattle.clock_map.specs.Places.{Places, Clocks, place_of, stored_at, is_spare, unless_spare, IsSpareKey, IsTied, StoresSame, WritesAt, AddsAt, RemovesAt, DropsSpare}
 use Rattle.clock_map.specs.Maps.{shown_at, shown_of, keys_in, key_at, reserved_in}
 use Rattle.clock_map.proofs.Entries.{same_key, find_shown, keys_put, keys_without, key_at-place, key_at-some}
 
@@ -321,30 +315,50 @@ reserved_for places clocks room key stored tied placed is = by (key_at room.plac
         let same : k ≡ key = tied.one k key room.place (key_at-place room.place places.entries k tied.ordered at) placed in
         ap (made k) is ∙ ap (λ key. made key (Some stored)) same
 
--- the entries of other places, and the slab without the clock of this one
-pub emptied : (old new : Places) (were are : Clocks) (room : Room) → room.is_new ≡ true → IsOrdered key_cmp old → IsOrdered key_cmp new
-    → new.entries ≡ filter (λ e. not (room.place == e.1)) old.entries → slab.Updates were are room.place None → DropsSpare old new were are room
-emptied old new were are room new_is was ordered kept gone = record {
-  ordered = ordered;
-  places = λ q.
-      ap (λ es. lookup (is_at (key_cmp q)) es) kept
-      ∙ lookup-filter-values (eq_by_cmp_equiv key_cmp_total) (λ p. not (room.place == p)) q old.entries (IsDistinct-from_sorted key_cmp (keys_of old.entries) was)
-      ∙ by (place_of old q);
-  clocks = λ p. clock p (room.place == p) refl;
-}
-  where
-    turned : (p : ℕ) (b : Bool) → cond (not b) (Some p) None ≡ cond b None (Some p)
-    turned p true = refl
-    turned p false = refl
+pub not_false : (b : Bool) → not b ≡ false → b ≡ true
+not_false true h = refl
+not_false false h = cc
 
-    by : (o : Option ℕ) → option_filter (λ p. not (room.place == p)) o ≡ unless_spare room o
-    by None = refl
-    by (Some p) = turned p (room.place == p) ∙ ap (λ b. cond (b && (room.place == p)) None (Some p)) (sym new_is)
+-- the spare place is its key's alone
+module _ (old new : Places) (were are : Clocks) (room : Room) (key : Key) (new_is : room.is_new ≡ true) (tied : IsTied old were)
+    (placed : place_of old key ≡ Some room.place) (left : RemovesAt old new were are key) where
+  removed_place : left.place ≡ room.place
+  removed_place = let e : Some left.place ≡ Some room.place = sym left.was ∙ placed in cc
 
-    clock : (p : ℕ) (b : Bool) → (room.place == p) ≡ b → slab.get are p ≡ cond (room.is_new && (room.place == p)) None (slab.get were p)
-    clock p true at =
-        ap (slab.get are) (sym (nat_eq-same room.place p at)) ∙ gone.changed
-        ∙ (λ i. cond (sym new_is i && sym at i) None (slab.get were p))
-    clock p false at =
-        gone.others p (λ same. clash (sym (ap (λ q. room.place == q) same ∙ nat_eq-refl room.place) ∙ at))
-        ∙ (λ i. cond (sym new_is i && sym at i) None (slab.get were p))
+  pub spare_removed : DropsSpare old new were are room
+  spare_removed = record {
+    ordered = left.ordered;
+    places = λ q. left.places q ∙ by q (is_at (key_cmp key) q) (place_of old q) refl refl;
+    clocks = λ p. clock p (room.place == p) refl;
+  }
+    where
+      by : (q : Key) (b : Bool) (o : Option ℕ) → is_at (key_cmp key) q ≡ b → place_of old q ≡ o → cond b None o ≡ unless_spare room o
+      by q true None at is = refl
+      by q true (Some p) at is =
+          let same : Some p ≡ Some room.place = sym is ∙ ap (place_of old) (sym (same_key key q at)) ∙ placed in
+          let at_place : p ≡ room.place = cc in
+          sym ((λ i. cond (new_is i && (room.place == at_place i)) None (Some p)) ∙ ap (λ b. cond b None (Some p)) (nat_eq-refl room.place))
+      by q false None at is = refl
+      by q false (Some p) at is =
+          sym (ap (λ b. cond b None (Some p)) (spare_apart room p (apart old were tied key q room.place p placed is at)))
+
+      clock : (p : ℕ) (b : Bool) → (room.place == p) ≡ b → slab.get are p ≡ cond (room.is_new && (room.place == p)) None (slab.get were p)
+      clock p true at =
+          ap (slab.get are) (sym (removed_place ∙ nat_eq-same room.place p at)) ∙ left.clocks.changed
+          ∙ (λ i. cond (sym new_is i && sym at i) None (slab.get were p))
+      clock p false at =
+          left.clocks.others p (λ same. clash (sym (ap (λ q. room.place == q) (same ∙ removed_place) ∙ nat_eq-refl room.place) ∙ at))
+          ∙ (λ i. cond (sym new_is i && sym at i) None (slab.get were p))
+
+-- ---- the key of the spare place
+
+-- it has that place
+pub spare_placed : (places : Places) (room : Room) (key : Key) → IsSpareKey places (Some room) (Some key) → place_of places key ≡ Some room.place
+spare_placed places room key h =
+    let same : room ≡ h.0 = (let e = h.1 in cc) in
+    h.3 ∙ ap (λ (r : Room). Some r.place) (sym same)
+
+-- where there is no room, none is kept
+pub no_spare_key : (places : Places) (spare : Option Key) → IsSpareKey places None spare → spare ≡ None
+no_spare_key places None h = refl
+no_spare_key places (Some key) h = let e = h.1 in cc

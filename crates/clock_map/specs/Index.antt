@@ -29,6 +29,11 @@ abbrev pub mark_of : Key → Bool → Key → Option DeadMark → Option DeadMar
 mark_of key is_dead other was =
     if is_at (key_cmp key) other then (if is_dead then Some Dead else None) else was
 
+-- what each key has once this entry was taken out
+abbrev pub left_by : Option (Key × DeadMark) → Key → Option DeadMark → Option DeadMark
+left_by None other was = was
+left_by (Some entry) other was = mark_of entry.0 false other was
+
 -- a spare entry stood there before, or it is this key's
 abbrev pub SpareIsNew : Index → Index → Key → Key → Type 0
 SpareIsNew old new key other =

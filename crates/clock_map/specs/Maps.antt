@@ -13,7 +13,7 @@ use Rattle.clock_map.specs.declared.index.DeadMark.TheVariants.{Spare}
 use Rattle.clock_map.specs.declared.room.Room.{Room}
 use Rattle.clock_map.specs.declared.map.ClockMap.TheInside.{Inside}
 use Rattle.clock_map.specs.Index.{Index, is_marked}
-use Rattle.clock_map.specs.Places.{Places, Clocks, place_of, stored_at, is_spare, IsTied}
+use Rattle.clock_map.specs.Places.{Places, Clocks, place_of, stored_at, is_spare, IsSpareKey, IsTied}
 
 -- tombstones alone
 abbrev pub is_dead : Option (Stored Content) → Bool
@@ -89,3 +89,8 @@ pub record IsMap (places : Places) (clocks : Clocks) (dead : Index) (made : Opti
   pub marks : (key : Key) → is_marked (tree.get key_cmp dead key) ≡ is_dead (shown_of places clocks made key)
   pub spare : (key : Key) → tree.get key_cmp dead key ≡ Some Spare → MayDie places made key
   pub room : IsRoom places clocks dead made
+
+-- and the key of the spare place is kept
+pub record IsWhole (places : Places) (clocks : Clocks) (dead : Index) (made : Option Room) (spare : Option Key) : Type 0 where
+  pub map : IsMap places clocks dead made
+  pub key : IsSpareKey places made spare

@@ -1,9 +1,10 @@
 -- Keys and the places of their clocks, and what a call leaves of them.
-use Rattle.std.specs.Prelude.{◌≡◌, ◌≢◌, ◌&&◌, ◌||◌, ℕ, Bool, false, not, List, Option, Some, None, IsSome, is_some, if◌then◌else◌, ◌==◌}
+use Rattle.std.specs.Prelude.{◌≡◌, ◌≢◌, ◌&&◌, ◌||◌, ℕ, Bool, true, false, not, List, Option, Some, None, IsSome, is_some, if◌then◌else◌, ◌==◌}
 use Rattle.std.specs.Option.{option_map}
 use Rattle.std.specs.List.{list_any}
-use Rattle.std.specs.BTreeMap as tree
-use Rattle.std.specs.BTreeMap.{BTreeMap, IsOrdered, is_at}
+use Rattle.std.specs.BTreeMap.{is_at}
+use Rattle.place_map.specs.AssocList as assoc
+use Rattle.place_map.specs.AssocList.{AssocList, IsOrdered}
 use Rattle.slab.specs.Slab as slab
 use Rattle.slab.specs.Slab.{Slab}
 use Rattle.riak_msgs.specs.declared.Key.{Key}
@@ -19,13 +20,13 @@ use Rattle.clock_store.specs.Keys.{stored_of, empty}
 use Rattle.clock_map.specs.declared.room.Room.{Room}
 
 abbrev pub Places : Type 0
-Places = BTreeMap Key ℕ
+Places = AssocList Key ℕ
 
 abbrev pub Clocks : Type 0
 Clocks = Slab StoredClock
 
 abbrev pub place_of : Places → Key → Option ℕ
-place_of places key = tree.get key_cmp places key
+place_of places key = assoc.get key_cmp places key
 
 -- what is stored at a place
 abbrev pub stored_at : Clocks → ℕ → Option (Stored Content)
@@ -101,6 +102,17 @@ pub record RemovesAt (old new : Places) (were are : Clocks) (key : Key) : Type 0
 abbrev pub is_spare : Option Room → ℕ → Bool
 is_spare None place = false
 is_spare (Some room) place = room.is_new && (room.place == place)
+
+-- whether the room is for a key that isn't held
+abbrev pub is_for_new : Option Room → Bool
+is_for_new None = false
+is_for_new (Some room) = room.is_new
+
+-- the key of the spare place is kept, where there is one, and no other key
+abbrev pub IsSpareKey : Places → Option Room → Option Key → Type 0
+IsSpareKey places made None = is_for_new made ≡ false
+IsSpareKey places made (Some key) =
+    (room : Room) × (made ≡ Some room) × (room.is_new ≡ true) × (place_of places key ≡ Some room.place)
 
 abbrev pub unless_spare : Room → Option ℕ → Option ℕ
 unless_spare room None = None

@@ -1,11 +1,11 @@
 //! The dead keys in their order.
 
-ghost use Rattle.std.specs.Prelude.{◌≡◌, true, OnOk, OnErr, IsSome, None};
+ghost use Rattle.std.specs.Prelude.{◌≡◌, true, false, OnOk, OnErr, IsSome, IfSome, IfNone, None, drop};
 ghost use Rattle.std.specs.BTreeMap.{get, IsOrdered};
 ghost use Rattle.riak_msgs.specs.KeyOrder.{key_cmp};
 ghost use Rattle.std.specs.Option.{option_map};
 ghost use Rattle.clock_store.specs.Forgetting.{key_given};
-ghost use Rattle.clock_map.specs.Index.{is_marked, mark_of, without_spare, SpareIsNew, is_dead_mark, first_marked};
+ghost use Rattle.clock_map.specs.Index.{is_marked, mark_of, without_spare, SpareIsNew, is_dead_mark, first_marked, left_by};
 
 use riak_msgs::Key;
 use std::alloc::{AllocError, Global};
@@ -120,5 +120,57 @@ pub(crate) fn first_dead<'a>(
     match from {
         None => first_in(index.range(..)),
         Some(from) => first_in(index.range(from..)),
+    }
+}
+
+/// How many keys of the index are before one; none where none is given.
+fn count_before(index: &BTreeMap<Key, DeadMark>, from: Option<&Key>) -> usize
+    ensures first { first_marked None (drop result index.now.entries)
+        ≡ first_marked (key_given from.entry) index.now.entries }
+{
+    match from {
+        None => 0,
+        Some(from) => index.range(..from).count(),
+    }
+}
+
+/// Takes out the entry of the first dead key behind so many entries.
+fn take_entry_after(index: &mut BTreeMap<Key, DeadMark>, passed: usize) -> Option<(Key, DeadMark)>
+    ensures first { option_map (λ entry. entry.0) result
+        ≡ first_marked None (drop passed index.old.entries) }
+    ensures taken { (q : Key) →
+        get key_cmp index.new q ≡ left_by result q (get key_cmp index.old q) }
+    ensures ordered { IsOrdered key_cmp index.old }
+{
+    let _count = index.len();
+    let mut left = passed;
+    let picks = move |_key: &Key, mark: &mut DeadMark| {
+        if left > 0 {
+            left -= 1;
+            return false;
+        }
+        mark.is_dead()
+    };
+    let mut dead = index.extract_if(.., picks);
+    dead.next()
+}
+
+/// Takes out the least dead key at or after one, or of all where none is given: there by one search, else by a pass over the keys
+/// before it. It takes no memory.
+pub(crate) fn take_first_dead(
+    index: &mut BTreeMap<Key, DeadMark>,
+    from: Option<&Key>,
+) -> Option<Key>
+    ensures first { result ≡ first_marked (key_given from.entry) index.old.entries }
+    ensures taken { IfSome result (λ key. (q : Key) →
+        get key_cmp index.new q ≡ mark_of key false q (get key_cmp index.old q)) }
+    ensures none { IfNone result ((q : Key) →
+        get key_cmp index.new q ≡ get key_cmp index.old q) }
+    ensures ordered { IsOrdered key_cmp index.old }
+{
+    let passed = count_before(index, from);
+    match take_entry_after(index, passed) {
+        None => None,
+        Some((key, _mark)) => Some(key),
     }
 }

@@ -10,15 +10,16 @@
 //! ```
 //!
 //! A [`ClockMap`] is a [`ClockStore`](clock_store::ClockStore): keys in their order, each with what is stored of it, and
-//! room for one write. Its clocks lie in a slab; a tree leads from each key to its clock's place there, and another holds
-//! the dead keys alone, so that the least of them is found without passing over live ones.
+//! room for one write. Its clocks lie in a slab; a [`PlaceMap`](place_map::PlaceMap) leads from each key to its clock's
+//! place there, and a tree holds the dead keys alone, so that the least of them is found without passing over live ones.
 //!
 //! Cost, of n keys and d dead ones: a get is one search among n and one access of the slab. A `reserve` is one search
 //! more where the key is new, and one among d for a tombstone; a write goes straight to the place that was reserved, and
-//! is one search among d where the key was dead or may be. A look for a dead key is a search among d; forgetting one is a
-//! search among d and one among n.
-//! Room that a write never used is the one thing that is taken away by a pass over all keys.
-//! A key's bytes are held once, and a second time while it is dead or may be.
+//! is one search among d where the key was dead or may be. A look for a dead key is a search among d; forgetting the least
+//! one is a search among d and one among n, and forgetting the least one at or after a key also passes over the dead keys
+//! before that.
+//! Room that a write never used is taken away by a search among n where the key was new, and a pass over the d dead keys.
+//! A key's bytes are held once, a second time while it is dead or may be, and a second time while a new key has room.
 #![tactic(auto)]
 
 mod index;

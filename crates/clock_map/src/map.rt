@@ -11,6 +11,7 @@ use crate::places;
 use crate::room::{Room, is_spare};
 use actor_epoch::{Actor, Context};
 use clock_store::{ClockStore, Reaped, StoredClock, WriteKind};
+use place_map::PlaceMap;
 use riak_msgs::{BoxedContent, Key};
 use slab::Slab;
 use std::alloc::{AllocError, Global};
@@ -32,10 +33,12 @@ use std::marker::Model;
 /// - `overwrite` of b/k by a tombstone: that entry marks b/k dead.
 /// - `forget_first_dead`: the place 0, the key and the entry are gone.
 pub struct ClockMap {
-    places: BTreeMap<Key, usize>,
+    places: PlaceMap,
     clocks: Slab<StoredClock>,
     dead: BTreeMap<Key, DeadMark>,
     room: Option<Room>,
+    /// The key of the spare place, where the room is for a key that isn't held yet.
+    spare: Option<Key>,
 }
 
 /// One call at each place where one is let go.
@@ -46,19 +49,20 @@ impl Drop for ClockMap {
             clocks: _clocks,
             dead: _dead,
             room: _room,
+            spare: _spare,
         } = self;
     }
 }
 
 impl Model for ClockMap {
     ghost use Rattle.clock_store.specs.Contents.{Contents};
-    ghost use Rattle.clock_map.specs.Maps.{view_of, IsMap};
+    ghost use Rattle.clock_map.specs.Maps.{view_of, IsWhole};
 
     ghost Value = { Contents };
 
     ghost view = { view_of };
 
-    ghost invariant = { λ m. IsMap m.places m.clocks m.dead m.room };
+    ghost invariant = { λ m. IsWhole m.places m.clocks m.dead m.room m.spare };
 }
 
 impl ClockMap {
@@ -81,14 +85,15 @@ impl ClockMap {
     {
         match self.places.get(key) {
             Some(place) => {
-                let place = *place;
                 places::reserve_at(&mut self.clocks, place, seen, actor)?;
                 self.room = Some(Room::at(place, false));
                 return Ok(());
             }
             None => {}
         }
+        let spare = key.clone(alloc)?;
         let place = places::add(&mut self.places, &mut self.clocks, alloc, key, seen, actor)?;
+        self.spare = Some(spare);
         self.room = Some(Room::at(place, true));
         Ok(())
     }
@@ -131,10 +136,11 @@ impl ClockStore for ClockMap {
 
     fn new(alloc: Global) -> ClockMap {
         ClockMap {
-            places: BTreeMap::new(alloc),
+            places: PlaceMap::new(alloc),
             clocks: Slab::new(alloc),
             dead: BTreeMap::new(alloc),
             room: None,
+            spare: None,
         }
     }
 
@@ -142,10 +148,10 @@ impl ClockStore for ClockMap {
         match self.places.get(key) {
             None => None,
             Some(place) => {
-                if is_spare(&self.room, *place) {
+                if is_spare(&self.room, place) {
                     return None;
                 }
-                self.clocks.get(*place)
+                self.clocks.get(place)
             }
         }
     }
@@ -174,7 +180,8 @@ impl ClockStore for ClockMap {
 
     fn drop_room(&mut self) {
         if let Some(room) = self.room.take() {
-            places::drop_spare(&mut self.places, &mut self.clocks, room);
+            let spare = self.spare.take();
+            places::drop_spare(&mut self.places, &mut self.clocks, room, spare);
             index::drop_spares(&mut self.dead);
         }
     }
@@ -189,6 +196,7 @@ impl ClockStore for ClockMap {
         let Some(room) = self.room.take() else {
             unreachable!()
         };
+        self.spare = None;
         let is_absent = places::has_no_mark(&self.clocks, room);
         let lives = places::write_at(&mut self.clocks, room.place, seen, actor, value);
         index::update_mark(&mut self.dead, &key, is_absent, !lives);
@@ -198,6 +206,7 @@ impl ClockStore for ClockMap {
         let Some(room) = self.room.take() else {
             unreachable!()
         };
+        self.spare = None;
         let lives = places::overwrite_at(&mut self.clocks, room.place, actor, value);
         index::set_mark(&mut self.dead, &key, !lives);
     }
@@ -212,8 +221,7 @@ impl ClockStore for ClockMap {
             Reaped::Absent => Reaped::Absent,
             Reaped::Kept => Reaped::Kept,
             Reaped::Gone => {
-                let own = places::remove(&mut self.places, &mut self.clocks, key);
-                drop(own);
+                places::remove(&mut self.places, &mut self.clocks, key);
                 index::set_mark(&mut self.dead, key, false);
                 Reaped::Gone
             }
@@ -222,11 +230,10 @@ impl ClockStore for ClockMap {
 
     fn forget_first_dead(&mut self, from: Option<&Key>) -> bool {
         self.drop_room();
-        let Some(key) = index::first_dead(&self.dead, from) else {
+        let Some(key) = index::take_first_dead(&mut self.dead, from) else {
             return false;
         };
-        let own = places::remove(&mut self.places, &mut self.clocks, key);
-        index::set_mark(&mut self.dead, &own, false);
+        places::remove(&mut self.places, &mut self.clocks, &key);
         true
     }
 }

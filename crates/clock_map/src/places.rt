@@ -1,19 +1,21 @@
 //! Keys, and the places of their clocks in a slab.
 
-ghost use Rattle.std.specs.Prelude.{◌≡◌, [], IfOk, OnOk, OnErr, None, IsSome};
+ghost use Rattle.std.specs.Prelude.{◌≡◌, [], IfOk, OnOk, OnErr, Some, None, IsSome};
+ghost use Rattle.riak_msgs.specs.KeyOrder.{key_cmp};
+ghost use Rattle.place_map.specs.AssocList.{IsOrdered};
 ghost use Rattle.dvv_set.specs.Clocks.{event, discard};
 ghost use Rattle.dvv_set.specs.Held.{IsWithin, IsReady, without, pairs_of as seen_in};
 ghost use Rattle.clock_store.specs.Keys.{empty};
-ghost use Rattle.clock_map.specs.Places.{place_of, lives_at, has_no_mark, FitsAt, IsReadyAt, StoresSame, WritesAt, AddsAt, Unchanged, RemovesAt, DropsSpare};
+ghost use Rattle.clock_map.specs.Places.{place_of, lives_at, has_no_mark, IsTied, IsSpareKey, FitsAt, IsReadyAt, StoresSame, WritesAt, AddsAt, Unchanged, RemovesAt, DropsSpare};
 
 use crate::room::Room;
 use actor_epoch::{Actor, Context};
 use clock_store::StoredClock;
 use dvv_set::Clock;
+use place_map::PlaceMap;
 use riak_msgs::{BoxedContent, Key};
 use slab::Slab;
 use std::alloc::{AllocError, Global};
-use std::collections::BTreeMap;
 
 /// Makes room for a write in the clock at a place. Refused where memory is.
 pub(crate) fn reserve_at(
@@ -104,82 +106,74 @@ fn empty_clock(
 
 /// Puts a new key's clock at a place of its own. Refused where memory is, and then nothing changes.
 fn put_new(
-    places: &mut BTreeMap<Key, usize>,
+    places: &mut PlaceMap,
     clocks: &mut Slab<StoredClock>,
-    key: Key,
+    alloc: Global,
+    key: &Key,
     stored: StoredClock,
     seen: Option<&Context<'_>>,
     actor: Actor,
 ) -> Result<usize, AllocError>
+    requires ordered { IsOrdered key_cmp places.old }
     requires empty { stored.clock.meaning ≡ empty }
     requires ready { IsReady stored.clock (seen_in seen) actor }
     ensures ok { IfOk result (λ place.
-        AddsAt places.old places.new clocks.old clocks.new key place (seen_in seen.entry) actor) }
+        AddsAt places.old places.new clocks.old clocks.new key.now place (seen_in seen.entry) actor) }
     ensures err { OnErr result (Unchanged places.old places.new clocks.old clocks.new) }
 {
     let _seen = seen;
     let _actor = actor;
-    let _count = places.len();
     clocks.reserve(1)?;
     let place = clocks.vacant_key();
-    match places.insert(key, place) {
-        Ok(_) => {
-            let _place = clocks.insert_reserved(stored);
-            Ok(place)
-        }
-        Err(_) => Err(AllocError),
-    }
+    places.insert(alloc, key, place)?;
+    let _place = clocks.insert_reserved(stored);
+    Ok(place)
 }
 
 /// Adds a key with an empty clock that has room for a write. Refused where memory is, and then nothing changes.
 pub(crate) fn add(
-    places: &mut BTreeMap<Key, usize>,
+    places: &mut PlaceMap,
     clocks: &mut Slab<StoredClock>,
     alloc: Global,
     key: &Key,
     seen: Option<&Context<'_>>,
     actor: Actor,
 ) -> Result<usize, AllocError>
-    requires { IsWithin [] (seen_in seen) actor }
+    requires ordered { IsOrdered key_cmp places.old }
+    requires fits { IsWithin [] (seen_in seen) actor }
     ensures ok { IfOk result (λ place.
         AddsAt places.old places.new clocks.old clocks.new key.now place (seen_in seen.entry) actor) }
     ensures err { OnErr result (Unchanged places.old places.new clocks.old clocks.new) }
 {
-    let _count = places.len();
-    let own = key.clone(alloc)?;
     let stored = empty_clock(alloc, seen, actor)?;
-    put_new(places, clocks, own, stored, seen, actor)
+    put_new(places, clocks, alloc, key, stored, seen, actor)
 }
 
-/// Removes a key that has a place, with its clock; returns the key as it was held.
-pub(crate) fn remove(
-    places: &mut BTreeMap<Key, usize>,
-    clocks: &mut Slab<StoredClock>,
-    key: &Key,
-) -> Key
+/// Removes a key that has a place, with its clock. It takes no memory.
+pub(crate) fn remove(places: &mut PlaceMap, clocks: &mut Slab<StoredClock>, key: &Key)
     requires { IsSome (place_of places.old key.now) }
-    ensures key { result ≡ key.now }
-    ensures removed { RemovesAt places.old places.new clocks.old clocks.new key.now }
+    ensures { RemovesAt places.old places.new clocks.old clocks.new key.now }
 {
-    let Some((own, place)) = places.remove_entry(key) else {
+    let Some(place) = places.remove(key) else {
         unreachable!()
     };
     let _ = clocks.try_remove(place);
-    own
 }
 
-/// Removes the key and the clock of a place that was made for a new key, by a pass over all keys.
+/// Removes the key and the clock of a place that was made for a new key. It takes no memory.
 pub(crate) fn drop_spare(
-    places: &mut BTreeMap<Key, usize>,
+    places: &mut PlaceMap,
     clocks: &mut Slab<StoredClock>,
     room: Room,
+    spare: Option<Key>,
 )
+    requires tied { IsTied places.old clocks.old }
+    requires key { IsSpareKey places.old (Some room) spare }
     ensures { DropsSpare places.old places.new clocks.old clocks.new room }
 {
-    let _count = places.len();
     if !room.is_new {
         return;
     }
-    places.retain(|_key, place| room.place != *place);
-    let _ = clocks.try_remove(room.place);
+    let Some(key) = spare else { unreachable!() };
+    remove(places, clocks, &key);
 }

@@ -1,10 +1,11 @@
-use Rattle.std.proofs.Common.{not, rules, ◌==◌}
-use Rattle.std.proofs.lemmas.Map.Made.{filter_same_pairs}
-use Rattle.clock_map.proofs.Ties.{emptied}
+use Rattle.std.proofs.Common.{subst}
+use Rattle.std.specs.Prelude.{Some}
+use Rattle.clock_map.specs.Places.{IsSpareKey}
+use Rattle.clock_map.proofs.Ties.{not_false, spare_placed, spare_removed}
 use Rattle.clock_map.proofs.places.drop_spare.Goals as goal
 
 pub returns : goal.returns
 returns c =
-    emptied c.args.places.now c.retain.new.self c.args.clocks.now c.try_remove.new.self c.args.room c.if-not-room.false c.retain.ensures.was_ordered c.retain.ensures.ordered
-    (filter_same_pairs _ (λ e. not (c.args.room.place == e.1)) _ (λ k v b w f' t. search rules) _ _ c.retain.ensures.filtered)
-    c.try_remove.ensures.updates
+    spare_removed c.args.places.now c.remove.new.places c.args.clocks.now c.remove.new.clocks c.args.room c.in-Some.key (not_false _ c.if-not-room.false) c.requires.tied
+    (spare_placed c.args.places.now c.args.room c.in-Some.key (subst (IsSpareKey c.args.places.now (Some c.args.room)) c.in-Some.is c.requires.key))
+    c.remove.ensures

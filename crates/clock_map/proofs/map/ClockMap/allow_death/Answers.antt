@@ -1,9 +1,14 @@
-use Rattle.clock_map.proofs.Maps.{dying_map, with_map, with_reserved}
+use Rattle.std.proofs.Common.{subst}
+use Rattle.clock_map.specs.Places.{IsSpareKey}
+use Rattle.clock_map.proofs.Maps.{dying_map, dying_key, with_map, with_reserved}
 use Rattle.clock_map.proofs.map.ClockMap.allow_death.Goals as goal
 
 pub invariant_of-self-2 : goal.invariant_of-self-2
 invariant_of-self-2 c =
     let v = c.self.inside in
-    let holds = with_map v.places v.clocks v.dead v.room c.self.invariant c.args.self.now c.self.view_is c.in-Some.room c.in-Some.is in
-    let at = with_reserved v.places v.clocks v.dead v.room c.self.invariant c.args.self.now c.self.view_is c.in-Some.room c.in-Some.is c.args.key.now c.requires.reserved c.requires.is c.requires.same in
-    dying_map v.places v.clocks v.dead c.add_spare.new.index c.in-Some.room c.args.key.now c.requires.reserved holds at c.add_spare.ensures.marked c.add_spare.ensures.spare c.in_ok-add_spare.ensures.ok
+    let holds = with_map v.places v.clocks v.dead v.room c.self.invariant.map c.args.self.now c.self.view_is c.in-Some.room c.in-Some.is in
+    let at = with_reserved v.places v.clocks v.dead v.room c.self.invariant.map c.args.self.now c.self.view_is c.in-Some.room c.in-Some.is c.args.key.now c.requires.reserved c.requires.is c.requires.same in
+    record {
+      map = dying_map v.places v.clocks v.dead c.add_spare.new.index c.in-Some.room c.args.key.now c.requires.reserved holds at c.add_spare.ensures.marked c.add_spare.ensures.spare c.in_ok-add_spare.ensures.ok;
+      key = dying_key v.places c.in-Some.room v.spare (subst (λ o. IsSpareKey v.places o v.spare) c.in-Some.is c.self.invariant.key);
+    }

@@ -1,21 +1,35 @@
 use Rattle.std.proofs.Common.{◌∙◌, sym, ap, subst}
+use Rattle.std.specs.Prelude.{Some}
+use Rattle.clock_map.specs.Places.{IsSpareKey}
 use Rattle.clock_map.specs.Maps.{keys_in, shown_at, IsMap}
-use Rattle.clock_map.proofs.Maps.{dropped_map, dropped_keys, with_map, with_keys}
+use Rattle.clock_map.proofs.Maps.{no_room_key, dropped_map, dropped_keys, with_map, with_keys}
 use Rattle.clock_map.proofs.map.ClockMapClockStore.drop_room.Goals as goal
+
+pub drop_spare-requires-clause-tied : goal.drop_spare-requires-clause-tied
+drop_spare-requires-clause-tied c = c.self.invariant.map.tied
+
+pub drop_spare-requires-clause-key : goal.drop_spare-requires-clause-key
+drop_spare-requires-clause-key c =
+    let was = sym c.take.ensures.value ∙ c.in-Some.is in
+    let v = c.self.inside in
+    subst (λ s. IsSpareKey v.places (Some c.in-Some.room) s) (sym c.take-spare.ensures.value) (subst (λ o. IsSpareKey v.places o v.spare) was c.self.invariant.key)
 
 pub invariant_of-self : goal.invariant_of-self
 invariant_of-self c =
     let was = sym c.take.ensures.value ∙ c.in-Some.is in
     let v = c.self.inside in
-    let holds = with_map v.places v.clocks v.dead v.room c.self.invariant c.args.self.now c.self.view_is c.in-Some.room was in
-    subst (IsMap c.drop_spare.new.places c.drop_spare.new.clocks c.drop_spares.new.index) (sym c.take.ensures.after)
-    (dropped_map v.places c.drop_spare.new.places v.clocks c.drop_spare.new.clocks v.dead c.drop_spares.new.index c.in-Some.room holds c.drop_spare.ensures c.drop_spares.ensures)
+    let holds = with_map v.places v.clocks v.dead v.room c.self.invariant.map c.args.self.now c.self.view_is c.in-Some.room was in
+    record {
+      map = subst (IsMap c.drop_spare.new.places c.drop_spare.new.clocks c.drop_spares.new.index) (sym c.take.ensures.after)
+          (dropped_map v.places c.drop_spare.new.places v.clocks c.drop_spare.new.clocks v.dead c.drop_spares.new.index c.in-Some.room holds c.drop_spare.ensures c.drop_spares.ensures);
+      key = no_room_key c.drop_spare.new.places c.take.ensures.after c.take-spare.ensures.after;
+    }
 
 pub returns-in-Some-clause-same : goal.returns-in-Some-clause-same
 returns-in-Some-clause-same c =
     let was = sym c.take.ensures.value ∙ c.in-Some.is in
     let v = c.self.inside in
-    let holds = with_map v.places v.clocks v.dead v.room c.self.invariant c.args.self.now c.self.view_is c.in-Some.room was in
+    let holds = with_map v.places v.clocks v.dead v.room c.self.invariant.map c.args.self.now c.self.view_is c.in-Some.room was in
     ap (λ o. keys_in (shown_at c.drop_spare.new.clocks o) c.drop_spare.new.places.entries) c.take.ensures.after
     ∙ dropped_keys v.places c.drop_spare.new.places v.clocks c.drop_spare.new.clocks v.dead c.drop_spares.new.index c.in-Some.room holds c.drop_spare.ensures c.drop_spares.ensures
-    ∙ with_keys v.places v.clocks v.dead v.room c.self.invariant c.args.self.now c.self.view_is c.in-Some.room was
+    ∙ with_keys v.places v.clocks v.dead v.room c.self.invariant.map c.args.self.now c.self.view_is c.in-Some.room was

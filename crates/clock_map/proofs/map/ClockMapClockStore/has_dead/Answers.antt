@@ -9,4 +9,4 @@ pub returns : goal.returns
 returns c =
     let v = c.self.inside in
     c.is_some.ensures ∙ sym (some_copied c.first_dead.result) ∙ ap is_some c.first_dead.ensures.first
-    ∙ ap is_some (first_view v.places v.clocks v.dead v.room c.self.invariant c.args.self.now c.self.view_is c.first_dead.ensures.ordered (key_given c.args.from))
+    ∙ ap is_some (first_view v.places v.clocks v.dead v.room c.self.invariant.map c.args.self.now c.self.view_is c.first_dead.ensures.ordered (key_given c.args.from))

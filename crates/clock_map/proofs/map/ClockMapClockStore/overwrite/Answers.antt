@@ -1,16 +1,16 @@
-use Rattle.std.proofs.Common.{◌∙◌, sym, ap, subst}
+use Rattle.std.proofs.Common.{◌∙◌, refl, sym, ap, subst}
 use Rattle.dvv_set.specs.Clocks.{discard}
 use Rattle.clock_store.specs.Keys.{Keys, overwritten}
 use Rattle.clock_map.specs.Maps.{keys_in, shown_at, IsMap}
-use Rattle.clock_map.proofs.Maps.{mark_ready, written_map, written_is, with_map, with_keys, with_reserved}
+use Rattle.clock_map.proofs.Maps.{no_room_key, mark_ready, written_map, written_is, with_map, with_keys, with_reserved}
 use Rattle.clock_map.proofs.map.ClockMapClockStore.overwrite.Goals as goal
 
 pub set_mark-requires : goal.set_mark-requires
 set_mark-requires c =
     let was = sym c.take.ensures.value ∙ c.in-Some.is in
     let v = c.self.inside in
-    let holds = with_map v.places v.clocks v.dead v.room c.self.invariant c.args.self.now c.self.view_is c.in-Some.room was in
-    let at = with_reserved v.places v.clocks v.dead v.room c.self.invariant c.args.self.now c.self.view_is c.in-Some.room was c.args.key c.requires.reserved c.requires.is c.requires.same in
+    let holds = with_map v.places v.clocks v.dead v.room c.self.invariant.map c.args.self.now c.self.view_is c.in-Some.room was in
+    let at = with_reserved v.places v.clocks v.dead v.room c.self.invariant.map c.args.self.now c.self.view_is c.in-Some.room was c.args.key c.requires.reserved c.requires.is c.requires.same in
     mark_ready v.places v.clocks c.overwrite_at-lives.new.clocks v.dead c.in-Some.room c.args.key c.args.actor c.args.value (λ clock. discard clock.known clock) holds c.requires.reserved at c.requires.dies
     c.overwrite_at-lives.ensures.wrote c.overwrite_at-lives.result c.overwrite_at-lives.ensures.lives
 
@@ -18,19 +18,22 @@ pub invariant_of-self : goal.invariant_of-self
 invariant_of-self c =
     let was = sym c.take.ensures.value ∙ c.in-Some.is in
     let v = c.self.inside in
-    let holds = with_map v.places v.clocks v.dead v.room c.self.invariant c.args.self.now c.self.view_is c.in-Some.room was in
-    let at = with_reserved v.places v.clocks v.dead v.room c.self.invariant c.args.self.now c.self.view_is c.in-Some.room was c.args.key c.requires.reserved c.requires.is c.requires.same in
-    subst (IsMap v.places c.overwrite_at-lives.new.clocks c.set_mark.new.index) (sym c.take.ensures.after)
-    (written_map v.places v.clocks c.overwrite_at-lives.new.clocks v.dead c.in-Some.room c.args.key c.args.actor c.args.value (λ clock. discard clock.known clock) holds c.requires.reserved at c.requires.dies
-    c.overwrite_at-lives.ensures.wrote c.set_mark.new.index c.overwrite_at-lives.result c.overwrite_at-lives.ensures.lives c.set_mark.ensures)
+    let holds = with_map v.places v.clocks v.dead v.room c.self.invariant.map c.args.self.now c.self.view_is c.in-Some.room was in
+    let at = with_reserved v.places v.clocks v.dead v.room c.self.invariant.map c.args.self.now c.self.view_is c.in-Some.room was c.args.key c.requires.reserved c.requires.is c.requires.same in
+    record {
+      map = subst (IsMap v.places c.overwrite_at-lives.new.clocks c.set_mark.new.index) (sym c.take.ensures.after)
+          (written_map v.places v.clocks c.overwrite_at-lives.new.clocks v.dead c.in-Some.room c.args.key c.args.actor c.args.value (λ clock. discard clock.known clock) holds c.requires.reserved at c.requires.dies
+          c.overwrite_at-lives.ensures.wrote c.set_mark.new.index c.overwrite_at-lives.result c.overwrite_at-lives.ensures.lives c.set_mark.ensures);
+      key = no_room_key v.places c.take.ensures.after refl;
+    }
 
 pub returns-clause-keys : goal.returns-clause-keys
 returns-clause-keys c =
     let was = sym c.take.ensures.value ∙ c.in-Some.is in
     let v = c.self.inside in
-    let holds = with_map v.places v.clocks v.dead v.room c.self.invariant c.args.self.now c.self.view_is c.in-Some.room was in
-    let at = with_reserved v.places v.clocks v.dead v.room c.self.invariant c.args.self.now c.self.view_is c.in-Some.room was c.args.key c.requires.reserved c.requires.is c.requires.same in
+    let holds = with_map v.places v.clocks v.dead v.room c.self.invariant.map c.args.self.now c.self.view_is c.in-Some.room was in
+    let at = with_reserved v.places v.clocks v.dead v.room c.self.invariant.map c.args.self.now c.self.view_is c.in-Some.room was c.args.key c.requires.reserved c.requires.is c.requires.same in
     ap (λ o. keys_in (shown_at c.overwrite_at-lives.new.clocks o) v.places.entries) c.take.ensures.after
     ∙ written_is v.places v.clocks c.overwrite_at-lives.new.clocks v.dead c.in-Some.room c.args.key c.args.actor c.args.value (λ clock. discard clock.known clock) holds c.requires.reserved at c.requires.dies
     c.overwrite_at-lives.ensures.wrote
-    ∙ ap (λ (keys : Keys). overwritten keys c.args.key c.args.actor c.args.value) (with_keys v.places v.clocks v.dead v.room c.self.invariant c.args.self.now c.self.view_is c.in-Some.room was)
+    ∙ ap (λ (keys : Keys). overwritten keys c.args.key c.args.actor c.args.value) (with_keys v.places v.clocks v.dead v.room c.self.invariant.map c.args.self.now c.self.view_is c.in-Some.room was)
