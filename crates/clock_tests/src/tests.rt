@@ -202,6 +202,40 @@ fn needs(
 
 const OTHER: Actor = Actor { vnode: 0, epoch: 1 };
 
+/// The actor of this epoch, of a vnode of its own.
+fn crowd(epoch: u32) -> Actor {
+    Actor { vnode: 9, epoch }
+}
+
+/// A clock of so many actors, each with a tombstone.
+fn crowded(rt: &(impl Abort + AllocGlobal), actors: u32) -> Clock<Option<u8>> {
+    let mut clock = Clock::new(rt.alloc());
+    for epoch in 1..=actors {
+        assert!(rt; clock.event(crowd(epoch), None).is_ok());
+    }
+    clock
+}
+
+// A clock of 63 actors and the context (A, 1), (C, 1), (D, 3): without it one actor more fits, with it none.
+#[test]
+fn sixty_four_actors_fit(rt: HostRuntime) {
+    let clock = crowded(&rt, 63);
+    let fits = !clock.is_actors_full(None, A) && !clock.is_actors_full(None, crowd(63));
+    let is_full = match Context::read(SEEN_A_C_D) {
+        Some(context) => clock.is_actors_full(Some(&context), crowd(1)),
+        None => false,
+    };
+    assert!(rt; fits && is_full);
+}
+
+// With 64, an event of one of them fits, and one of another does not.
+#[test]
+fn no_actor_fits_beside_sixty_four(rt: HostRuntime) {
+    let clock = crowded(&rt, 64);
+    let is_full = clock.is_actors_full(None, A) && !clock.is_actors_full(None, crowd(64));
+    assert!(rt; is_full);
+}
+
 /// Without a context an event of A knows the three actors, and any other its own too.
 fn needs_alone(clock: &Clock<Option<u8>>) -> bool {
     clock.uncovered(None) == 4

@@ -15,7 +15,8 @@ use Rattle.dvv_set.proofs.ClockEntries.{counter_in-known_of}
 use Rattle.dvv_set.proofs.Events.{AreEntries-without, AreEntries-event, dot_state_of-without, dot_state_of-event}
 use Rattle.actor_epoch.proofs.Pairs.{counter_in-union}
 use Rattle.dvv_set.proofs.Known.{ArePairs, ArePairs-known_of, length-insert_max}
-use Rattle.dvv_set.proofs.Counts.{length-discard, length-known_of}
+use Rattle.std.proofs.lemmas.List.{length-map}
+use Rattle.dvv_set.proofs.Counts.{length-discard, length-known_of, count_new-within}
 
 pub first_holds : (c n : ℕ) → 1 ≤ c → nat_le c n ≡ (nat_le 1 c && nat_le c n)
 first_holds c n h = grind (arith, nat_tests)
@@ -91,6 +92,18 @@ module _ {V : Type 0} where
       where
         pairs_are : ArePairs (known_with pairs (known_of entries))
         pairs_are = rw (← known_is) (ArePairs-known_of (entries_without pairs entries) after)
+
+    -- those of the entries, of the context, and one, are the most
+    pub after-most : (a : Actor) → length (known_after a (known_with pairs (known_of entries))) ≤ length entries + length (unwrap_or pairs []) + 1
+    after-most a =
+        let all = after-length a in
+        let new = count_new-within (entries_of_pairs (unwrap_or pairs [])) entries in
+        let long : length (entries_of_pairs {V = V} (unwrap_or pairs [])) ≡ length (unwrap_or pairs []) = length-map (unwrap_or pairs []) (λ pair. (pair.actor, (pair.counter, (let none : List V = [] in none)))) in
+        at_most (nat_le 1 (counter_in (known_with pairs (known_of entries)) a)) _ _ _ all (omega arith)
+      where
+        at_most : (b : Bool) (l k n : ℕ) → l ≡ cond b k (k + 1) → k ≤ n → l ≤ n + 1
+        at_most true l k n e h = omega arith
+        at_most false l k n e h = omega arith
 
 pub one_more : (n k l : ℕ) → n ≡ 0 → l ≡ cond (nat_le 1 n) k (k + 1) → k + 1 ≡ l
 one_more n k l z e = grind (arith, nat_tests)

@@ -1,6 +1,6 @@
 //! A dotted version vector set.
 
-ghost use Rattle.std.specs.Prelude.{◌≡◌, ◌<◌, ◌≤◌, ◌↔◌, [], length, map, OnOk, OnErr, IfOk, IfErr, None, Some, unwrap_or};
+ghost use Rattle.std.specs.Prelude.{◌≡◌, ◌<◌, ◌≤◌, ◌↔◌, [], true, false, length, map, OnOk, OnErr, IfOk, IfErr, None, Some, unwrap_or};
 
 use crate::entry::{self, Entry};
 use crate::fault::{ClockFault, Rejected};
@@ -183,6 +183,21 @@ impl<V: MadeWith<Global> + Drop> Clock<V> {
             actors: self.entries.len() + more,
             counter,
         }
+    }
+
+    /// Whether more than 64 actors would be known after the next event of an actor, without what a context saw (None:
+    /// nothing). Where its own actors and the context's are fewer than 64 together, they aren't compared.
+    pub fn is_actors_full(&self, context: Option<&Context<'_>>, actor: Actor) -> bool
+        ensures full { result ≡ true
+            → IsActorsFull self.now.meaning.known (pairs_of context.entry) actor }
+        ensures fits { result ≡ false
+            → actors_after self.now.meaning.known (pairs_of context.entry) actor ≤ MAX_ACTORS }
+        ensures clock { IsClock self.now.meaning }
+    {
+        if room::most_actors(&self.entries, context) <= MAX_ACTORS {
+            return false;
+        }
+        MAX_ACTORS < self.needed(context, actor).actors
     }
 
     /// Makes room to put a value for an actor without what a context saw (None: nothing), where what that needs is within

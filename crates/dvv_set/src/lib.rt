@@ -10,7 +10,7 @@
 //! most; an event moves the actor's values once. A clock holds two entries and each entry two values in place
 //! (`InlineList`). It takes memory for more, and, to make room for a value, for one more in each entry that is full.
 //!
-//! Where a change is accepted before it is made, `uncovered` and `needed` return what its limits are checked against,
+//! Where a change is accepted before it is made, `uncovered`, `is_actors_full` and `needed` say how its limits stand,
 //! `reserve` makes its room and is refused by memory alone, and `put_ready` or `overwrite_ready` makes it in that room.
 //!
 //! ```text

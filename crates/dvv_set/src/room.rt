@@ -1,6 +1,7 @@
 //! What a change of a clock needs: how many actors are new, and room for them.
 
 ghost use Rattle.std.specs.Prelude.{◌≡◌, ◌≤◌, ◌<◌, ◌+◌, ◌-◌, List, [], IsTrue, length, min, unwrap_or, ◌↔◌, OnOk, IfErr, Some};
+ghost use Rattle.actor_epoch.specs.declared.Actor.{Actor};
 ghost use Rattle.actor_epoch.specs.declared.Dot.{Dot};
 ghost use Rattle.actor_epoch.specs.Contexts.{is_well_formed};
 ghost use Rattle.actor_epoch.specs.Dots.{counter_in};
@@ -64,6 +65,21 @@ fn context_counts<V>(
             count_new_pairs(entries, context.pairs()),
         ),
     }
+}
+
+/// As many actors as can be known after the next event of one, without what a context saw: those of the entries, those of
+/// the context, and one.
+pub(crate) fn most_actors<V>(entries: &[Entry<V>], context: Option<&Context<'_>>) -> usize
+    requires entries { AreEntries (clock_entries entries.now) }
+    requires few { length entries.now ≤ 64 }
+    ensures { (actor : Actor) →
+        actors_after (known_of (clock_entries entries.now)) (pairs_of context.entry) actor ≤ result }
+{
+    let given = match context {
+        None => 0,
+        Some(context) => context.pairs().len(),
+    };
+    entries.len() + given + 1
 }
 
 /// What is known after the next event of an actor, without what a context saw: the actor's counter before it, and how

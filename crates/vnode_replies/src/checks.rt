@@ -95,7 +95,7 @@ fn check_stored(key: &StoredClock, context: Option<&Context<'_>>) -> Result<(), 
     if MAX_SIBLINGS <= key.clock.uncovered(context) {
         return Err(Refusal::TooManySiblings);
     }
-    if MAX_ACTORS < key.clock.needed(context, key.actor).actors {
+    if key.clock.is_actors_full(context, key.actor) {
         return Err(Refusal::ClockFull);
     }
     if key.clock.counter_of(key.actor) == MAX_COUNTER {
@@ -163,7 +163,7 @@ fn first_writer(id: u64, last_epoch: u32) -> Writer
 pub fn check_overwrite(key: &StoredClock) -> Result<(), Refusal>
     ensures { ChecksStored (stored_of key.now) (Some (join key.now.clock.meaning)) result }
 {
-    if MAX_ACTORS < key.clock.needed(None, key.actor).actors {
+    if key.clock.is_actors_full(None, key.actor) {
         return Err(Refusal::ClockFull);
     }
     if key.clock.counter_of(key.actor) == MAX_COUNTER {
