@@ -1,5 +1,5 @@
 -- Keys at their places in a list of rows.
-use Rattle.std.proofs.Common.{◌≡◌, ◌<◌, ◌≤◌, ℕ, Bool, true, false, cond, List, ◌∷◌, ◌++◌, refl, sym, ◌∙◌, ap, arith, subst, set, map, get_or, length, take, drop, length-set, get_or-set_same}
+use Rattle.std.proofs.Common.{◌≡◌, ◌<◌, ◌≤◌, ℕ, Bool, true, false, cond, List, [], ◌∷◌, ◌++◌, refl, sym, ◌∙◌, ap, arith, subst, set, map, get_or, length, take, drop, length-set, get_or-set_same}
 use lib.Dec.{T}
 use Rattle.std.specs.declared.vec.Vec.{Vec}
 use Rattle.std.specs.declared.alloc.Global.{Global}
@@ -29,7 +29,8 @@ use Rattle.clock_store.specs.declared.store.WriteKind.{WriteKind}
 use Rattle.clock_store.specs.declared.store.WriteKind.TheVariants.{Value, Tombstone}
 use Rattle.clock_store.specs.Contents.{Reservation, HasPlaceIfDead, HasRoom}
 use Rattle.clock_store.specs.Keys.{Keys, stored_of, empty, clock_at, written, overwritten}
-use Rattle.clock_list.specs.Rows.{entry_of, FitsAt, ReadyAt, IsNewRow, reservation_of, contents_in, IsRoom, IsList}
+use Rattle.std.specs.Ordering.{eq_by_cmp}
+use Rattle.clock_list.specs.Rows.{entry_of, place_entry, first_place, FitsAt, ReadyAt, IsNewRow, reservation_of, contents_in, IsRoom, IsList}
 use Rattle.clock_list.proofs.Finding.{at_place, new_place}
 
 -- a key stands at its place
@@ -69,6 +70,16 @@ found_at items key i read h is =
 pub found_none : (items : List Row) (key : Key) (i : ℕ) → IsTrue (is_sorted key_cmp (map entry_of items)) → place_in key (map entry_of items) ≡ New i
     → None ≡ find key_cmp key (map entry_of items)
 found_none items key i sorted h = sym (new_place 0 key (map entry_of items) i sorted h).find
+
+-- a key that is there has a place
+pub found_place : (items : List Row) (key : Key) → find key_cmp key (map place_entry items) ≡ option_map (λ s. first_place) (find key_cmp key (map entry_of items))
+found_place [] key = refl
+found_place (row ∷ items) key = by (eq_by_cmp key_cmp key row.key) (found_place items key)
+  where
+    by : (b : Bool) → find key_cmp key (map place_entry items) ≡ option_map (λ s. first_place) (find key_cmp key (map entry_of items))
+        → cond b (Some first_place) (find key_cmp key (map place_entry items)) ≡ option_map (λ s. first_place) (cond b (Some (stored_of row.stored)) (find key_cmp key (map entry_of items)))
+    by true rest = refl
+    by false rest = rest
 
 -- the place of a key, as it was found in a slice of the keys
 pub placed : (items slice : List Row) (key : Key) (found place : Place) → slice ≡ items → found ≡ place_in key (map entry_of slice) → found ≡ place

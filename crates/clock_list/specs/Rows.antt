@@ -13,6 +13,7 @@ use Rattle.dvv_set.specs.Held.{IsWithin, IsReady}
 use Rattle.vnode_machine.specs.Machine.{Stored}
 use Rattle.clock_store.specs.Contents.{Reservation, Contents}
 use Rattle.clock_store.specs.Keys.{empty, stored_of}
+use Rattle.clock_store.specs.declared.found.Place.{Place as KeyPlace}
 use Rattle.clock_list.specs.declared.place.Place.TheVariants as places
 use Rattle.clock_list.specs.declared.row.Row.{Row}
 use Rattle.clock_list.specs.declared.list.Room.{Room}
@@ -50,8 +51,15 @@ reserved_in items None = None
 reserved_in items (Some (At i key)) = option_map (reservation_of key) (slice_get items i)
 reserved_in items (Some (New i row)) = Some (reservation_of row.key row)
 
+-- a list looks for its keys each time: all have one place
+abbrev pub first_place : KeyPlace
+first_place = record { index = 0 }
+
+abbrev pub place_entry : Row → Key × KeyPlace
+place_entry row = (row.key, first_place)
+
 abbrev pub contents_in : List Row → Option Room → Contents
-contents_in items room = record { keys = map entry_of items; room = reserved_in items room }
+contents_in items room = record { keys = map entry_of items; places = map place_entry items; room = reserved_in items room }
 
 abbrev pub view_of : Inside → Contents
 view_of v = contents_in v.rows.items v.room

@@ -2,7 +2,7 @@
 //!
 //! ```text
 //! let mut list = ClockList::new(alloc);
-//! list.reserve(alloc, &k, None, a, WriteKind::Value)?;        room for the row of k, at its place in the order
+//! list.reserve(alloc, &k, None, None, a, WriteKind::Value)?;  room for the row of k, at its place in the order
 //! list.write(k.clone(alloc)?, None, a, Some(v));              the row stands there, with v in its clock
 //! list.has_dead(None)                                         false: k has a value
 //! list.forget_dead(&k)                                        Reaped::Kept: it isn't dead

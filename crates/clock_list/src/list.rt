@@ -12,7 +12,9 @@ use crate::place::{Place, place_of};
 use crate::removal::{first_dead, forget_at};
 use crate::row::{Row, new_row, overwrite_at, reserve_at, write_at, write_new};
 use actor_epoch::{Actor, Context};
-use clock_store::{ClockStore, Reaped, StoredClock, WriteKind};
+use clock_store::{
+    ClockStore, Found, Place as KeyPlace, Reaped, StoredClock, WriteKind, stored_in,
+};
 use riak_msgs::{BoxedContent, Key};
 use std::alloc::{AllocError, Global};
 use std::marker::Model;
@@ -89,8 +91,15 @@ impl ClockStore for ClockList {
     }
 
     fn get(&self, key: &Key) -> Option<&StoredClock> {
+        stored_in(self.find(key))
+    }
+
+    fn find(&self, key: &Key) -> Option<Found<'_>> {
         match place_of(self.rows.as_slice(), key) {
-            Place::At(i) => Some(&self.rows[i].stored),
+            Place::At(i) => Some(Found {
+                place: KeyPlace { index: 0 }, // a list looks for it again
+                stored: &self.rows[i].stored,
+            }),
             Place::New(_) => None,
         }
     }
@@ -99,10 +108,12 @@ impl ClockStore for ClockList {
         &mut self,
         alloc: Global,
         key: &Key,
+        place: Option<KeyPlace>,
         seen: Option<&Context<'_>>,
         actor: Actor,
         kind: WriteKind,
     ) -> Result<(), AllocError> {
+        let _place = place;
         self.room = None;
         let room = make_room(&mut self.rows, alloc, key, seen, actor, kind)?;
         self.room = Some(room);

@@ -44,12 +44,12 @@ past q e es sorted at =
     lookup-none (is_at (key_cmp q)) es (none_past_head (eq_by_cmp_equiv key_cmp_total) q e es (IsDistinct-from_sorted key_cmp (keys_of (e ∷ es)) sorted) at)
 
 -- what is found among the keys that are shown
-pub find_shown : (shows : Shows) (q : Key) (es : List (Key × ℕ)) → IsStrictlySortedBy key_cmp (keys_of es)
+pub find_shown : {X : Type 0} (shows : ℕ → Option X) (q : Key) (es : List (Key × ℕ)) → IsStrictlySortedBy key_cmp (keys_of es)
     → find key_cmp q (keys_in shows es) ≡ option_and_then shows (lookup (is_at (key_cmp q)) es)
 find_shown shows q [] sorted = refl
-find_shown shows q (e ∷ es) sorted = by (shows e.1) (is_at (key_cmp q) e.0) refl refl (find_shown shows q es (sorted_tail key_cmp e.0 (keys_of es) sorted))
+find_shown {X = X} shows q (e ∷ es) sorted = by (shows e.1) (is_at (key_cmp q) e.0) refl refl (find_shown shows q es (sorted_tail key_cmp e.0 (keys_of es) sorted))
   where
-    by : (o : Option (Stored Content)) (b : Bool) → shows e.1 ≡ o → is_at (key_cmp q) e.0 ≡ b
+    by : (o : Option X) (b : Bool) → shows e.1 ≡ o → is_at (key_cmp q) e.0 ≡ b
         → find key_cmp q (keys_in shows es) ≡ option_and_then shows (lookup (is_at (key_cmp q)) es)
         → find key_cmp q (with_shown e.0 o (keys_in shows es)) ≡ option_and_then shows (cond b (Some e.1) (lookup (is_at (key_cmp q)) es))
     by (Some s) true is at rest = ap (λ b. cond b (Some s) (find key_cmp q (keys_in shows es))) at ∙ sym is
@@ -61,7 +61,7 @@ both : (a b : Bool) → T a → T b → T (a && b)
 both true b p q = q
 both false b p q = p
 
-below_shown : (shows : Shows) (x : Key) (es : List (Key × ℕ)) → AllByRecursion (λ y. key_cmp x y ≡ Less) (keys_of es) → T (below_all key_cmp x (keys_in shows es))
+below_shown : {X : Type 0} (shows : ℕ → Option X) (x : Key) (es : List (Key × ℕ)) → AllByRecursion (λ y. key_cmp x y ≡ Less) (keys_of es) → T (below_all key_cmp x (keys_in shows es))
 below_shown shows x [] all = tt
 below_shown shows x (e ∷ es) all =
     let rest = below_shown shows x es all.1 in
@@ -70,7 +70,7 @@ below_shown shows x (e ∷ es) all =
       | None ↦ rest
     ]
 
-pub sorted_shown : (shows : Shows) (es : List (Key × ℕ)) → IsStrictlySortedBy key_cmp (keys_of es) → T (is_sorted key_cmp (keys_in shows es))
+pub sorted_shown : {X : Type 0} (shows : ℕ → Option X) (es : List (Key × ℕ)) → IsStrictlySortedBy key_cmp (keys_of es) → T (is_sorted key_cmp (keys_in shows es))
 sorted_shown shows [] sorted = tt
 sorted_shown shows (e ∷ es) sorted =
     let rest = sorted_shown shows es (sorted_tail key_cmp e.0 (keys_of es) sorted) in
@@ -80,16 +80,17 @@ sorted_shown shows (e ∷ es) sorted =
     ]
 
 -- what is shown of a key
-abbrev shown : Shows → Places → Key → Option (Stored Content)
+abbrev shown : {X : Type 0} → (ℕ → Option X) → Places → Key → Option X
 shown shows places key = option_and_then shows (place_of places key)
 
-module _ (f g : Shows) (m n : Places) (was : IsOrdered key_cmp m) (is : IsOrdered key_cmp n) where
-  -- where the same is shown of each key, the keys are the same
-  pub keys_same : ((q : Key) → shown g n q ≡ shown f m q) → keys_in g n.entries ≡ keys_in f m.entries
-  keys_same same =
-      same_entries key_cmp key_cmp_total exact (keys_in g n.entries) (keys_in f m.entries) (sorted_shown g n.entries is) (sorted_shown f m.entries was)
-      (λ q. find_shown g q n.entries is ∙ same q ∙ sym (find_shown f q m.entries was))
+-- where the same is shown of each key, the keys are the same
+pub keys_same : {X : Type 0} (f g : ℕ → Option X) (m n : Places) → IsOrdered key_cmp m → IsOrdered key_cmp n → ((q : Key) → shown g n q ≡ shown f m q)
+    → keys_in g n.entries ≡ keys_in f m.entries
+keys_same f g m n was is same =
+    same_entries key_cmp key_cmp_total exact (keys_in g n.entries) (keys_in f m.entries) (sorted_shown g n.entries is) (sorted_shown f m.entries was)
+    (λ q. find_shown g q n.entries is ∙ same q ∙ sym (find_shown f q m.entries was))
 
+module _ (f g : Shows) (m n : Places) (was : IsOrdered key_cmp m) (is : IsOrdered key_cmp n) where
   -- one key shows this
   pub keys_put : (key : Key) (s : Stored Content) → ((q : Key) → shown g n q ≡ cond (is_at (key_cmp key) q) (Some s) (shown f m q))
       → keys_in g n.entries ≡ put key_cmp key s (keys_in f m.entries)

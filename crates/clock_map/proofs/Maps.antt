@@ -1,14 +1,13 @@
 -- What always holds of a map of clocks, after each of its calls.
 use Rattle.std.proofs.Common.{◌≡◌, ◌∙◌, inl, inr, refl, sym, ap, subst, List, [], ℕ, Bool, true, false, not, cond}
-use lib.Dec.{T}
 use Rattle.std.specs.Prelude.{◌==◌, ◌&&◌, ◌||◌, Option, Some, None, IsSome, is_some, option_and_then}
 use Rattle.std.specs.Prelude.{Result, Ok, Err, OnErr}
 use Rattle.std.specs.Borrow.{Bor}
 use Rattle.std.specs.Option.{option_map, option_map_or, option_copied}
 use Rattle.std.specs.List.{list_any}
 use Rattle.std.specs.BTreeMap as tree
-use Rattle.std.specs.BTreeMap.{is_at, IsOrdered}
-use Rattle.std.specs.FinMap.Entries.{find, put, is_sorted}
+use Rattle.std.specs.BTreeMap.{is_at}
+use Rattle.std.specs.FinMap.Entries.{find, put}
 use Rattle.slab.specs.Slab as slab
 use Rattle.riak_msgs.specs.declared.Key.{Key}
 use Rattle.riak_msgs.specs.Contents.{Content}
@@ -23,21 +22,18 @@ use Rattle.clock_store.specs.Keys.{Keys, stored_of, empty, clock_at}
 use Rattle.clock_store.specs.Contents.{Contents, Reservation, HasPlaceIfDead, HasRoom, kind_of}
 use Rattle.clock_store.specs.declared.store.WriteKind.TheVariants.{Value}
 use Rattle.clock_store.specs.declared.store.Reaped.TheVariants.{Gone}
-use Rattle.clock_store.specs.Forgetting.{holding, reap_result, after_first_reap}
+use Rattle.clock_store.specs.Forgetting.{holding, reap_result}
 use Rattle.clock_store.proofs.Reaps.{reap-none, reap-kept}
-use Rattle.vnode_machine.specs.Machine.{holds_dead}
-use Rattle.vnode_machine.specs.Dead.{is_from, first_dead, has_dead, reaped}
-use Rattle.vnode_machine.proofs.DeadKeys.{first_is_dead, dead_by}
 use Rattle.vnode_machine.proofs.Tests.{and_left, and_right, nat_eq-refl}
 use Rattle.clock_map.specs.declared.room.Room.{Room}
 use Rattle.clock_map.specs.declared.index.DeadMark.{DeadMark}
 use Rattle.clock_map.specs.declared.index.DeadMark.TheVariants.{Spare, Dead}
-use Rattle.clock_map.specs.Index.{Index, is_marked, mark_of, without_spare, SpareIsNew, first_marked}
+use Rattle.clock_map.specs.Index.{Index, is_marked, mark_of, without_spare, SpareIsNew}
 use Rattle.clock_map.specs.Places.{Places, Clocks, place_of, stored_at, lives, lives_at, has_no_mark, FitsAt, IsReadyAt, StoresSame, WritesAt, AddsAt, Unchanged, RemovesAt, DropsSpare, IsSpareKey, is_for_new, is_spare}
 use Rattle.clock_map.specs.Maps.{is_dead, shown_at, shown_of, keys_in, reserved_in, IsRoomOf, IsRoom, MayDie, IsMap}
-use Rattle.clock_map.proofs.Entries.{find_shown, keys_same, sorted_shown}
-use Rattle.clock_map.proofs.Ties.{clash, tied_stored, tied_written, tied_removed, removed_shown, tied_added, added_place, added_shown, tied_dropped, dropped_shown, written_shown, written_keys, ReservedAt, reserved_at, reserved_for, no_spare_key}
-use Rattle.clock_map.proofs.Marks.{settled_marks, settled_spare, unspared, no_spare, any_put, first_same}
+use Rattle.clock_map.proofs.Entries.{find_shown, keys_same}
+use Rattle.clock_map.proofs.Ties.{clash, tied_stored, tied_written, tied_removed, removed_shown, tied_added, added_place, added_shown, tied_dropped, dropped_shown, written_shown, written_keys, ReservedAt, reserved_for, no_spare_key}
+use Rattle.clock_map.proofs.Marks.{settled_marks, settled_spare, unspared, no_spare, any_put}
 
 -- what is new, or has a content, isn't dead
 not_dead : (is_new same : Bool) (o : Option (Stored Content)) → same ≡ true → (is_new || lives o) ≡ true → is_dead (cond (is_new && same) None o) ≡ false
@@ -251,46 +247,6 @@ module _ (places : Places) (clocks : Clocks) (dead : Index) (key : Key) (holds :
       ap (λ o. option_map_or (λ (s : Stored Content). s.clock) o empty) (find_none ∙ ap (option_and_then (shown_at clocks None)) absent) in
       subst (λ (m : DotState (Option Content)). IsWithin m.known seen actor) clock fits
 
--- where the view shows no room, there is none
-module _ (places : Places) (clocks : Clocks) (dead : Index) (made : Option Room) (holds : IsMap places clocks dead made) (seen : Contents)
-    (view_is : record { keys = keys_in (shown_at clocks made) places.entries; room = reserved_in places clocks made } ≡ seen) where
-  pub keys_are : keys_in (shown_at clocks made) places.entries ≡ seen.keys
-  keys_are = ap (λ (v : Contents). v.keys) view_is
-
-  pub room_is : reserved_in places clocks made ≡ seen.room
-  room_is = ap (λ (v : Contents). v.room) view_is
-
-  pub find_view : (key : Key) → find key_cmp key seen.keys ≡ shown_of places clocks made key
-  find_view key = ap (find key_cmp key) (sym keys_are) ∙ find_shown (shown_at clocks made) key places.entries holds.tied.ordered
-
-  pub now_none : seen.room ≡ None → made ≡ None
-  now_none none = by made refl (room_is ∙ none) holds.room
-    where
-      by : (o : Option Room) → made ≡ o → reserved_in places clocks o ≡ None → IsRoom places clocks dead o → o ≡ None
-      by None is h room = refl
-      by (Some r) is h room = found (slab.get clocks r.place) refl (holds.tied.held room.0 r.place room.1.placed)
-        where
-          found : (c : Option StoredClock) → slab.get clocks r.place ≡ c → IsSome c → Some r ≡ None
-          found None is some = cc
-          found (Some stored) is some = clash (sym (ap is_some (reserved_for places clocks r room.0 stored holds.tied room.1.placed is)) ∙ ap is_some h)
-
-  module _ (room : Room) (is : made ≡ Some room) where
-    pub with_map : IsMap places clocks dead (Some room)
-    with_map = subst (IsMap places clocks dead) is holds
-
-    pub with_keys : keys_in (shown_at clocks (Some room)) places.entries ≡ seen.keys
-    with_keys = ap (λ o. keys_in (shown_at clocks o) places.entries) (sym is) ∙ keys_are
-
-    pub with_reserved : (key : Key) (reserved : Reservation) → seen.room ≡ Some reserved → reserved.key ≡ key → ReservedAt places clocks room key reserved
-    with_reserved key reserved there same = reserved_at places clocks room key reserved holds.tied (ap (reserved_in places clocks) (sym is) ∙ room_is ∙ there) same
-
-  module _ (none : seen.room ≡ None) where
-    pub free_map : IsMap places clocks dead None
-    free_map = subst (IsMap places clocks dead) (now_none none) holds
-
-    pub free_keys : keys_in (shown_at clocks None) places.entries ≡ seen.keys
-    free_keys = ap (λ o. keys_in (shown_at clocks o) places.entries) (sym (now_none none)) ∙ keys_are
-
 -- nothing that is stored changed
 pub same_stored : (places : Places) (old new : Clocks) (dead : Index) (made : Option Room) → IsMap places old dead made → StoresSame old new → IsMap places new dead made
 same_stored places old new dead made holds same = record {
@@ -402,35 +358,3 @@ shown_placed places clocks made key s h = by (place_of places key) h
     by : (o : Option ℕ) → option_and_then (shown_at clocks made) o ≡ Some s → IsSome o
     by None h = cc
     by (Some p) h = refl
-
--- the first dead key of the view
-module _ (places : Places) (clocks : Clocks) (dead : Index) (made : Option Room) (holds : IsMap places clocks dead made) (seen : Contents)
-    (view_is : record { keys = keys_in (shown_at clocks made) places.entries; room = reserved_in places clocks made } ≡ seen) (ordered : IsOrdered key_cmp dead) (from : Option Key) where
-  pub first_view : first_marked from dead.entries ≡ first_dead (holding seen.keys) from
-  first_view =
-      first_same seen.keys (true_from _ (subst (λ ks. T (is_sorted key_cmp ks)) (keys_are places clocks dead made holds seen view_is) (sorted_shown (shown_at clocks made) places.entries holds.tied.ordered)))
-      dead ordered (λ q. holds.marks q ∙ ap is_dead (sym (find_view places clocks dead made holds seen view_is q))) from
-    where
-      true_from : (b : Bool) → T b → b ≡ true
-      true_from true t = refl
-      true_from false t = absurd t
-
-  -- is dead there
-  pub first_is_shown : (key : Key) → first_marked from dead.entries ≡ Some key → (s : Stored Content) × (shown_of places clocks made key ≡ Some s)
-  first_is_shown key h = by (shown_of places clocks made key) refl
-    where
-      dead_now : holds_dead (holding seen.keys) key ≡ true
-      dead_now = and_right (is_from from key) _ (first_is_dead (holding seen.keys) from key (sym first_view ∙ h))
-
-      by : (o : Option (Stored Content)) → shown_of places clocks made key ≡ o → (s : Stored Content) × (o ≡ Some s)
-      by None is = clash (sym dead_now ∙ ap dead_by (find_view places clocks dead made holds seen view_is key ∙ is))
-      by (Some s) is = (s, refl)
-
--- what a reap of the least dead key comes to, by what was found
-module _ (keys : Keys) (from : Option Key) where
-  pub reaped_none : first_dead (holding keys) from ≡ None → (false ≡ has_dead (holding keys) from) × (keys ≡ (after_first_reap (holding keys) from).keys)
-  reaped_none h = (sym (ap is_some h), sym (ap (λ (o : Option Key). (option_map_or (reaped (holding keys)) o (holding keys)).keys) h))
-
-  pub reaped_some : (key : Key) → first_dead (holding keys) from ≡ Some key
-      → (true ≡ has_dead (holding keys) from) × ((reaped (holding keys) key).keys ≡ (after_first_reap (holding keys) from).keys)
-  reaped_some key h = (sym (ap is_some h), sym (ap (λ (o : Option Key). (option_map_or (reaped (holding keys)) o (holding keys)).keys) h))

@@ -7,7 +7,8 @@ use Rattle.riak_msgs.specs.Contents.{Content}
 use Rattle.riak_msgs.specs.KeyOrder.{key_cmp}
 use Rattle.std.specs.BTreeMap as tree
 use Rattle.vnode_machine.specs.Machine.{Stored}
-use Rattle.clock_store.specs.Keys.{Keys, empty}
+use Rattle.clock_store.specs.Keys.{empty}
+use Rattle.clock_store.specs.declared.found.Place.{Place}
 use Rattle.clock_store.specs.Contents.{Contents, Reservation}
 use Rattle.clock_map.specs.declared.index.DeadMark.TheVariants.{Spare}
 use Rattle.clock_map.specs.declared.room.Room.{Room}
@@ -28,14 +29,15 @@ shown_at clocks room place = if is_spare room place then None else stored_at clo
 abbrev pub shown_of : Places → Clocks → Option Room → Key → Option (Stored Content)
 shown_of places clocks room key = option_and_then (shown_at clocks room) (place_of places key)
 
-abbrev pub with_shown : Key → Option (Stored Content) → Keys → Keys
-with_shown key None keys = keys
-with_shown key (Some stored) keys = (key, stored) ∷ keys
+module _ {X : Type 0} where
+  abbrev pub with_shown : Key → Option X → List (Key × X) → List (Key × X)
+  with_shown key None keys = keys
+  with_shown key (Some x) keys = (key, x) ∷ keys
 
--- the keys in their order, each with what is shown at its place, but those at which nothing is
-abbrev pub keys_in : (ℕ → Option (Stored Content)) → List (Key × ℕ) → Keys
-keys_in shows [] = []
-keys_in shows (entry ∷ entries) = with_shown entry.0 (shows entry.1) (keys_in shows entries)
+  -- the keys in their order, each with what is shown at its place, but those at which nothing is
+  abbrev pub keys_in : (ℕ → Option X) → List (Key × ℕ) → List (Key × X)
+  keys_in shows [] = []
+  keys_in shows (entry ∷ entries) = with_shown entry.0 (shows entry.1) (keys_in shows entries)
 
 -- the key of a place
 abbrev pub key_at : ℕ → List (Key × ℕ) → Option Key
@@ -51,11 +53,19 @@ reserved_in places clocks (Some room) =
     (slab.get clocks room.place))
     (key_at room.place places.entries)
 
-abbrev pub view_of : Inside → Contents
-view_of v = record {
-  keys = keys_in (shown_at v.clocks v.room) v.places.entries;
-  room = reserved_in v.places v.clocks v.room;
+-- the place that is shown of a clock; the spare one is no key's
+abbrev pub place_at : Option Room → ℕ → Option Place
+place_at made index = if is_spare made index then None else Some (record { index = index })
+
+abbrev pub view_in : Places → Clocks → Option Room → Contents
+view_in places clocks made = record {
+  keys = keys_in (shown_at clocks made) places.entries;
+  places = keys_in (place_at made) places.entries;
+  room = reserved_in places clocks made;
 }
+
+abbrev pub view_of : Inside → Contents
+view_of v = view_in v.places v.clocks v.room
 
 -- the room is this key's
 pub record IsReservedFor (room : Option Reservation) (key : Key) : Type 0 where

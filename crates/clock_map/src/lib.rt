@@ -2,9 +2,11 @@
 //!
 //! ```text
 //! let mut map = ClockMap::new(alloc);
-//! map.reserve(alloc, &k, None, a, WriteKind::Value)?;         k has a spare place with an empty clock, and is no key
+//! map.reserve(alloc, &k, None, None, a, WriteKind::Value)?;   k has a spare place with an empty clock, and is no key
 //! map.write(k.clone(alloc)?, None, a, Some(v));               k is a key, with v in the clock at its place
-//! map.reserve(alloc, &k, None, a, WriteKind::Tombstone)?;     k has a spare entry in the index of dead keys
+//! let place = map.find(&k).map(|found| found.place);          the place of its clock
+//! map.reserve(alloc, &k, place, None, a, WriteKind::Tombstone)?;
+//!                                                             k has a spare entry in the index of dead keys
 //! map.overwrite(k, a, None);                                  that entry marks k dead
 //! map.forget_first_dead(None)                                 true: the key, its clock and its entry are gone
 //! ```
@@ -13,9 +15,9 @@
 //! room for one write. Its clocks lie in a slab; a [`PlaceMap`](place_map::PlaceMap) leads from each key to its clock's
 //! place there, and a tree holds the dead keys alone, so that the least of them is found without passing over live ones.
 //!
-//! Cost, of n keys and d dead ones: a get is one search among n and one access of the slab. A `reserve` is one search
-//! more where the key is new, and one among d for a tombstone; a write goes straight to the place that was reserved, and
-//! is one search among d where the key was dead or may be. A look for a dead key is a search among d; forgetting the least
+//! Cost, of n keys and d dead ones: a get is one search among n and one access of the slab. A `reserve` goes straight to
+//! the place that was found, is a search where the key is new, and one among d for a tombstone; a write goes straight to
+//! the place that was reserved, and is one search among d where the key was dead or may be. A look for a dead key is a search among d; forgetting the least
 //! one is a search among d and one among n, and forgetting the least one at or after a key also passes over the dead keys
 //! before that.
 //! Room that a write never used is taken away by a search among n where the key was new, and a pass over the d dead keys.

@@ -1,6 +1,8 @@
 //! The map of clocks.
 
 ghost use Rattle.std.specs.Prelude.{◌≡◌, OnOk, OnErr, None, true};
+ghost use Rattle.std.specs.FinMap.Entries.{find};
+ghost use Rattle.riak_msgs.specs.KeyOrder.{key_cmp};
 ghost use Rattle.dvv_set.specs.Held.{IsWithin, pairs_of as seen_in};
 ghost use Rattle.clock_store.specs.Keys.{clock_at};
 ghost use Rattle.clock_store.specs.Contents.{HasRoom};
@@ -10,7 +12,7 @@ use crate::index::{self, DeadMark};
 use crate::places;
 use crate::room::{Room, is_spare};
 use actor_epoch::{Actor, Context};
-use clock_store::{ClockStore, Reaped, StoredClock, WriteKind};
+use clock_store::{ClockStore, Found, Place, Reaped, StoredClock, WriteKind, stored_in};
 use place_map::PlaceMap;
 use riak_msgs::{BoxedContent, Key};
 use slab::Slab;
@@ -74,19 +76,21 @@ impl ClockMap {
         &mut self,
         alloc: Global,
         key: &Key,
+        place: Option<Place>,
         seen: Option<&Context<'_>>,
         actor: Actor,
     ) -> Result<(), AllocError>
         requires none { self.old.room ≡ None }
+        requires place { place ≡ find key_cmp key.now self.old.places }
         requires fits { IsWithin (clock_at self.old.keys key.now).known (seen_in seen) actor }
         ensures same { self.new.keys ≡ self.old.keys }
         ensures ok { OnOk result (HasRoom self.new key.now (seen_in seen.entry) actor Value) }
         ensures err { OnErr result (self.new.room ≡ None) }
     {
-        match self.places.get(key) {
+        match place {
             Some(place) => {
-                places::reserve_at(&mut self.clocks, place, seen, actor)?;
-                self.room = Some(Room::at(place, false));
+                places::reserve_at(&mut self.clocks, place.index, seen, actor)?;
+                self.room = Some(Room::at(place.index, false));
                 return Ok(());
             }
             None => {}
@@ -145,13 +149,21 @@ impl ClockStore for ClockMap {
     }
 
     fn get(&self, key: &Key) -> Option<&StoredClock> {
+        stored_in(self.find(key))
+    }
+
+    fn find(&self, key: &Key) -> Option<Found<'_>> {
         match self.places.get(key) {
             None => None,
-            Some(place) => {
-                if is_spare(&self.room, place) {
+            Some(index) => {
+                if is_spare(&self.room, index) {
                     return None;
                 }
-                self.clocks.get(place)
+                let Some(stored) = self.clocks.get(index) else {
+                    unreachable!()
+                };
+                let place = Place { index };
+                Some(Found { place, stored })
             }
         }
     }
@@ -160,12 +172,13 @@ impl ClockStore for ClockMap {
         &mut self,
         alloc: Global,
         key: &Key,
+        place: Option<Place>,
         seen: Option<&Context<'_>>,
         actor: Actor,
         kind: WriteKind,
     ) -> Result<(), AllocError> {
         self.drop_room();
-        self.make_room(alloc, key, seen, actor)?;
+        self.make_room(alloc, key, place, seen, actor)?;
         match kind {
             WriteKind::Value => Ok(()),
             WriteKind::Tombstone => {

@@ -8,7 +8,7 @@ ghost use Rattle.clock_store.specs.Contents.{HasRoom};
 
 use actor_epoch::{Actor, MAX_ACTORS, MAX_COUNTER};
 use clock_map::ClockMap;
-use clock_store::{ClockStore, Reaped, StoredClock, WriteKind};
+use clock_store::{ClockStore, Reaped, StoredClock, WriteKind, place_in};
 use dvv_set::{Clock, Needed};
 use riak_msgs::{BoxedContent, Content, Key};
 use std::alloc::{AllocError, Global};
@@ -54,10 +54,12 @@ fn reserve(
     if !is_within(store, alloc, key, actor) {
         return Err(AllocError);
     }
-    if store.reserve(alloc, key, None, actor, kind).is_ok() {
+    let place = place_in(store.find(key));
+    if store.reserve(alloc, key, place, None, actor, kind).is_ok() {
         return Ok(());
     }
-    store.reserve(alloc, key, None, actor, kind)
+    let place = place_in(store.find(key));
+    store.reserve(alloc, key, place, None, actor, kind)
 }
 
 /// An empty content, tried twice where memory is refused.

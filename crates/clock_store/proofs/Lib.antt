@@ -1,2 +1,3 @@
+pub mod Founds
 pub mod Reaps
 pub mod Values

@@ -1,10 +1,11 @@
--- What a store means: its keys, and the room that was made for one write.
+-- What a store means: its keys, the place of each, and the room that was made for one write.
 use Rattle.std.specs.Prelude.{◌≡◌, Bool, true, List, Option, Some, None}
 use Rattle.riak_msgs.specs.declared.Key.{Key}
 use Rattle.riak_msgs.specs.Contents.{Content}
 use Rattle.actor_epoch.specs.declared.Actor.{Actor}
 use Rattle.actor_epoch.specs.declared.Dot.{Dot}
 use Rattle.dvv_set.specs.Held.{Held as Clock, IsReady}
+use Rattle.clock_store.specs.declared.found.Place.{Place}
 use Rattle.clock_store.specs.declared.store.WriteKind.{WriteKind}
 use Rattle.clock_store.specs.declared.store.WriteKind.TheVariants.{Value, Tombstone}
 use Rattle.clock_store.specs.Keys.{Keys}
@@ -17,6 +18,7 @@ pub record Reservation : Type 0 where
 
 pub record Contents : Type 0 where
   pub keys : Keys
+  pub places : List (Key × Place)
   pub room : Option Reservation
 
 -- what a write puts

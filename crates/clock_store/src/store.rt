@@ -1,5 +1,6 @@
 //! What a form of storage promises.
 
+use crate::found::{Found, Place};
 use crate::stored_clock::StoredClock;
 use actor_epoch::{Actor, Context};
 use riak_msgs::{BoxedContent, Key};
@@ -29,8 +30,8 @@ pub enum Reaped {
 ///
 /// A life, of the keys b/k and b/j and the actor a:
 ///
-/// - `new`: no key, no room.
-/// - `reserve` of b/k for a value: still no key, and room for that one write.
+/// - `new`: no key, no room. `find` of b/k: nothing.
+/// - `reserve` of b/k, without a place, for a value: still no key, and room for that one write.
 /// - `write` of "v" on b/k: b/k has "v" at a's dot 1, and there is no room.
 /// - `reserve` of b/j, then of b/k for a tombstone: the keys stay, and the room is b/k's alone.
 /// - `overwrite` of b/k by a tombstone: b/k is dead. `forget_first_dead` from b/a on forgets it, and answers true; the next
@@ -46,7 +47,7 @@ pub trait ClockStore: Drop {
     ghost use Rattle.clock_store.specs.Contents.{Contents, HasRoom, kind_of};
     ghost use Rattle.clock_store.specs.Forgetting.{holding, key_given, reap_result, after_reap, after_first_reap};
 
-    // The keys in their order, and the room that was made for one write.
+    // The keys in their order, the place of each, and the room that was made for one write.
     ghost shows: { Self → Contents };
 
     /// A store with no key and no room. It takes no memory.
@@ -59,25 +60,37 @@ pub trait ClockStore: Drop {
         ensures { option_map (λ stored. stored_of stored.now) result
             ≡ find key_cmp key.now (shows self.now).keys };
 
+    /// What is stored of a key, with its place; None where it is absent.
+    fn find(&self, key: &Key) -> Option<Found<'_>>
+        ensures stored { option_map (λ found. stored_of found.stored.now) result
+            ≡ find key_cmp key.now (shows self.now).keys }
+        ensures place { option_map (λ found. found.place) result
+            ≡ find key_cmp key.now (shows self.now).places };
+
     /// Makes room for a write of a key at an actor, which discards what a context has seen (None: nothing), in place of
-    /// what room there was. Refused where memory is, and then there is none. The keys stay either way.
+    /// what room there was. The place is what `find` says of the key, which isn't searched for again. Refused where memory
+    /// is, and then there is none. The keys stay either way.
     fn reserve(
         &mut self,
         alloc: Global,
         key: &Key,
+        place: Option<Place>,
         seen: Option<&Context<'_>>,
         actor: Actor,
         kind: WriteKind,
     ) -> Result<(), AllocError>
-        requires { IsWithin (clock_at (shows self.old).keys key.now).known (seen_in seen) actor }
+        requires place { place ≡ find key_cmp key.now (shows self.old).places }
+        requires fits { IsWithin (clock_at (shows self.old).keys key.now).known
+            (seen_in seen) actor }
         ensures same { (shows self.new).keys ≡ (shows self.old).keys }
         ensures ok { OnOk result
             (HasRoom (shows self.new) key.now (seen_in seen.entry) actor kind) }
         ensures none { OnErr result ((shows self.new).room ≡ None) };
 
-    /// Gives what room there was away.
+    /// Gives what room there was away. Each key keeps its place.
     fn drop_room(&mut self)
         ensures same { (shows self.new).keys ≡ (shows self.old).keys }
+        ensures places { (shows self.new).places ≡ (shows self.old).places }
         ensures none { (shows self.new).room ≡ None };
 
     /// Writes a value of a key where there is room for it, or a tombstone; the room is used up. It takes no memory.

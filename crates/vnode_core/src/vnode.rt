@@ -26,7 +26,7 @@ use crate::ready::{
 };
 use actor_epoch::{Actor, Context, EpochSource};
 use clock_map::ClockMap;
-use clock_store::{ClockStore, StoredClock, WriteKind};
+use clock_store::{ClockStore, StoredClock, WriteKind, place_in, stored_in};
 use ghost_state::GhostValue;
 use riak_msgs::{DelAsk, GetAsk, GetReply, PutAsk};
 use std::alloc::Global;
@@ -190,6 +190,7 @@ impl<S: ClockStore> VnodeOver<S> {
     ) -> Result<Writer, Refusal>
         requires given { context_of put.now.context ≡ option_map Pairs (seen_in context) }
         requires found { found_in found ≡ stored self.now.state put.now.key }
+        ensures reached { IsReached self.now.state }
         ensures given { GivenBy result (put_check self.now.state (put_command put.now)) }
         ensures writer { IfOk result (λ writer. writer ≡ writer_of self.now.state put.now.key) }
     {
@@ -232,25 +233,26 @@ impl<S: ClockStore> VnodeOver<S> {
         }
     }
 
-    /// Who makes a put, and its reply: its key is looked up once.
+    /// Who makes a put, and its reply, by what was found of its key.
     fn plan_put(
         &self,
         alloc: Global,
         put: &PutAsk,
+        found: Option<&StoredClock>,
         context: Option<&Context<'_>>,
     ) -> Result<Ready, Refusal>
-        requires { context_of put.now.context ≡ option_map Pairs (seen_in context) }
+        requires given { context_of put.now.context ≡ option_map Pairs (seen_in context) }
+        requires found { found_in found ≡ stored self.now.state put.now.key }
         ensures ok { IfOk result (λ ready. PutGives self.now.state put.now ready) }
         ensures err { IfErr result (λ refusal. Refuses self.now.state (Put put.now) refusal) }
     {
-        let found = self.store.get(&put.key);
         let writer = self.check_put(put, found, context)?;
         let reply = put_reply(alloc, found, put, context, writer.actor)?;
         let answer = Answer::Put(reply);
         Ok(Ready { writer, answer })
     }
 
-    /// Makes ready what a put needs: room for its content, and its answer.
+    /// Makes ready what a put needs: room for its content, and its answer. Its key is searched for once.
     fn make_put_ready(&mut self, alloc: Global, ask: &Ask, put: &PutAsk) -> Result<(), Refusal>
         requires is { ask.now ≡ Put put.now }
         requires ended { self.old.prepared ≡ None }
@@ -260,11 +262,16 @@ impl<S: ClockStore> VnodeOver<S> {
         ensures ended { IfErr result (λ refusal. self.new.prepared ≡ None) }
     {
         let context = Context::given(put.context.as_slice())?;
-        let ready = self.plan_put(alloc, put, context.as_ref())?;
-        let actor = ready.writer.actor;
         let seen = context.as_ref();
+        let found = self.store.find(&put.key);
+        let ready = self.plan_put(alloc, put, stored_in(found), seen)?;
+        let actor = ready.writer.actor;
+        let place = place_in(found);
         let kind = WriteKind::Value;
-        match self.store.reserve(alloc, &put.key, seen, actor, kind) {
+        match self
+            .store
+            .reserve(alloc, &put.key, place, seen, actor, kind)
+        {
             Ok(()) => {
                 set_ready(&mut self.ready, ready);
                 self.prepared = GhostValue::some(ask);

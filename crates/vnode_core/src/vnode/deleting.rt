@@ -1,45 +1,59 @@
 //! Deletes of a vnode: a tombstone over what the deleter has seen of a key.
 
-ghost use Rattle.std.specs.Prelude.{◌≡◌, None, Some, Ok, IfOk, IfErr, OnOk, OnErr};
+ghost use Rattle.std.specs.Prelude.{◌≡◌, None, IfOk, IfErr};
 ghost use Rattle.std.specs.Option.{option_map};
 ghost use Rattle.actor_epoch.specs.Given.{context_of, Pairs};
 ghost use Rattle.dvv_set.specs.Held.{pairs_of as seen_in};
 ghost use Rattle.vnode_protocol.specs.declared.ask.Ask.TheVariants.{Del};
 ghost use Rattle.vnode_protocol.specs.Plans.{Plans, Refuses};
 ghost use Rattle.vnode_protocol.specs.Refusals.{GivenBy};
-ghost use Rattle.vnode_replies.specs.Checks.{writer_of};
+ghost use Rattle.vnode_machine.specs.Machine.{stored};
+ghost use Rattle.vnode_replies.specs.Checks.{found_in, writer_of};
 ghost use Rattle.vnode_core.specs.Readiness.{plan_in};
 ghost use Rattle.vnode_core.specs.Vnodes.{del_check_by, DelOfAllGives, DelGives};
 
 use crate::ready::{Readiness, Ready, set_ready};
 use crate::vnode::VnodeOver;
 use actor_epoch::Context;
-use clock_store::{ClockStore, WriteKind};
+use clock_store::{ClockStore, StoredClock, WriteKind, place_in, stored_in};
 use ghost_state::GhostValue;
 use riak_msgs::{DelAsk, Key};
-use std::alloc::{AllocError, Global};
+use std::alloc::Global;
 use vnode_protocol::{Answer, Ask, Refusal};
 use vnode_replies::{Writer, check_overwrite, check_room, last_of, names_unissued_dot};
 
 impl<S: ClockStore> VnodeOver<S> {
-    /// Checks a delete by a context; returns who writes its tombstone.
-    fn check_del(&self, key: &Key, context: &Context<'_>) -> Result<Writer, Refusal>
+    /// Checks a delete by a context, by what was found of its key; returns who writes its tombstone.
+    fn check_del(
+        &self,
+        key: &Key,
+        found: Option<&StoredClock>,
+        context: &Context<'_>,
+    ) -> Result<Writer, Refusal>
+        requires { found_in found ≡ stored self.now.state key.now }
         ensures given { GivenBy result (del_check_by self.now.state key.now context.now) }
         ensures writer { IfOk result (λ writer. writer ≡ writer_of self.now.state key.now) }
     {
+        let _key = key;
         let last_epoch = self.epochs.last();
-        let found = self.store.get(key);
         if names_unissued_dot(Some(context), self.id, last_epoch, last_of(found)) {
             return Err(Refusal::BadContext);
         }
         check_room(self.id, last_epoch, found, Some(context))
     }
 
-    /// Checks a delete without context; returns who writes its tombstone: nobody, where the key is absent.
-    fn check_del_of_all(&self, key: &Key) -> Result<Option<Writer>, Refusal>
+    /// Checks a delete without context, by what was found of its key; returns who writes its tombstone: nobody, where the
+    /// key is absent.
+    fn check_del_of_all(
+        &self,
+        key: &Key,
+        found: Option<&StoredClock>,
+    ) -> Result<Option<Writer>, Refusal>
+        requires { found_in found ≡ stored self.now.state key.now }
         ensures { DelOfAllGives self.now.state key.now result }
     {
-        let Some(found) = self.store.get(key) else {
+        let _key = key;
+        let Some(found) = found else {
             return Ok(None);
         };
         check_overwrite(found)?;
@@ -49,22 +63,25 @@ impl<S: ClockStore> VnodeOver<S> {
         }))
     }
 
-    /// Who writes the tombstone of a delete; nobody, where it does nothing.
+    /// Who writes the tombstone of a delete, by what was found of its key; nobody, where it does nothing.
     fn tombstone_writer(
         &self,
         del: &DelAsk,
+        found: Option<&StoredClock>,
         context: Option<&Context<'_>>,
     ) -> Result<Option<Writer>, Refusal>
-        requires { context_of del.now.context ≡ option_map Pairs (seen_in context) }
+        requires given { context_of del.now.context ≡ option_map Pairs (seen_in context) }
+        requires found { found_in found ≡ stored self.now.state del.now.key }
         ensures { DelGives self.now.state del.now result }
     {
         match context {
-            None => self.check_del_of_all(&del.key),
-            Some(context) => Ok(Some(self.check_del(&del.key, context)?)),
+            None => self.check_del_of_all(&del.key, found),
+            Some(context) => Ok(Some(self.check_del(&del.key, found, context)?)),
         }
     }
 
-    /// Makes ready what a delete needs: room for its tombstone. One that does nothing needs nothing.
+    /// Makes ready what a delete needs: room for its tombstone; then it is what is prepared. One that does nothing needs
+    /// nothing. Its key is searched for once.
     pub(crate) fn make_del_ready(
         &mut self,
         alloc: Global,
@@ -79,36 +96,19 @@ impl<S: ClockStore> VnodeOver<S> {
         ensures ended { IfErr result (λ refusal. self.new.prepared ≡ None) }
     {
         let context = Context::given(del.context.as_slice())?;
-        let Some(writer) = self.tombstone_writer(del, context.as_ref())? else {
+        let seen = context.as_ref();
+        let found = self.store.find(&del.key);
+        let Some(writer) = self.tombstone_writer(del, stored_in(found), seen)? else {
             return Ok(Readiness::NothingToDelete);
         };
-        self.reserve_tombstone(alloc, ask, del, context.as_ref(), writer)?;
-        Ok(Readiness::Ready)
-    }
-
-    /// Makes room for the tombstone of a delete that is accepted; then it is what is prepared.
-    fn reserve_tombstone(
-        &mut self,
-        alloc: Global,
-        ask: &Ask,
-        del: &DelAsk,
-        context: Option<&Context<'_>>,
-        writer: Writer,
-    ) -> Result<(), AllocError>
-        requires is { ask.now ≡ Del del.now }
-        requires given { context_of del.now.context ≡ option_map Pairs (seen_in context) }
-        requires accepted { DelGives self.old.state del.now (Ok (Some writer)) }
-        requires ended { self.old.prepared ≡ None }
-        ensures same { self.new.state ≡ self.old.state }
-        ensures ok { OnOk result (self.new.prepared ≡ Some (Del del.now)) }
-        ensures ended { OnErr result (self.new.prepared ≡ None) }
-    {
         let actor = writer.actor;
+        let place = place_in(found);
+        let kind = WriteKind::Tombstone;
         self.store
-            .reserve(alloc, &del.key, context, actor, WriteKind::Tombstone)?;
+            .reserve(alloc, &del.key, place, seen, actor, kind)?;
         let answer = Answer::Del;
         set_ready(&mut self.ready, Ready { writer, answer });
         self.prepared = GhostValue::some(ask);
-        Ok(())
+        Ok(Readiness::Ready)
     }
 }

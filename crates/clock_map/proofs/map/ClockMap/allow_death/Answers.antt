@@ -1,6 +1,7 @@
 use Rattle.std.proofs.Common.{subst}
 use Rattle.clock_map.specs.Places.{IsSpareKey}
-use Rattle.clock_map.proofs.Maps.{dying_map, dying_key, with_map, with_reserved}
+use Rattle.clock_map.proofs.Maps.{dying_map, dying_key}
+use Rattle.clock_map.proofs.Views.{with_map, with_reserved}
 use Rattle.clock_map.proofs.map.ClockMap.allow_death.Goals as goal
 
 pub invariant_of-self-2 : goal.invariant_of-self-2

@@ -1,8 +1,9 @@
 use Rattle.std.proofs.Common.{◌∙◌, sym, ap, subst}
 use Rattle.std.specs.Prelude.{Some}
 use Rattle.clock_map.specs.Places.{IsSpareKey}
-use Rattle.clock_map.specs.Maps.{keys_in, shown_at, IsMap}
-use Rattle.clock_map.proofs.Maps.{no_room_key, dropped_map, dropped_keys, with_map, with_keys}
+use Rattle.clock_map.specs.Maps.{keys_in, shown_at, place_at, IsMap}
+use Rattle.clock_map.proofs.Maps.{no_room_key, dropped_map, dropped_keys}
+use Rattle.clock_map.proofs.Views.{places_are, dropped_places, with_map, with_keys}
 use Rattle.clock_map.proofs.map.ClockMapClockStore.drop_room.Goals as goal
 
 pub drop_spare-requires-clause-tied : goal.drop_spare-requires-clause-tied
@@ -33,3 +34,12 @@ returns-in-Some-clause-same c =
     ap (λ o. keys_in (shown_at c.drop_spare.new.clocks o) c.drop_spare.new.places.entries) c.take.ensures.after
     ∙ dropped_keys v.places c.drop_spare.new.places v.clocks c.drop_spare.new.clocks v.dead c.drop_spares.new.index c.in-Some.room holds c.drop_spare.ensures c.drop_spares.ensures
     ∙ with_keys v.places v.clocks v.dead v.room c.self.invariant.map c.args.self.now c.self.view_is c.in-Some.room was
+
+pub returns-in-Some-clause-places : goal.returns-in-Some-clause-places
+returns-in-Some-clause-places c =
+    let was = sym c.take.ensures.value ∙ c.in-Some.is in
+    let v = c.self.inside in
+    ap (λ o. keys_in (place_at o) c.drop_spare.new.places.entries) c.take.ensures.after
+    ∙ dropped_places v.places c.drop_spare.new.places v.clocks c.drop_spare.new.clocks c.in-Some.room c.self.invariant.map.tied c.drop_spare.ensures
+    ∙ ap (λ o. keys_in (place_at o) v.places.entries) (sym was)
+    ∙ places_are v.places v.clocks v.dead v.room c.self.invariant.map c.args.self.now c.self.view_is

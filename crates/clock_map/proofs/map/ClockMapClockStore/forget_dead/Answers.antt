@@ -5,7 +5,8 @@ use Rattle.vnode_machine.specs.Dead.{reaped}
 use Rattle.clock_map.specs.Places.{is_for_new}
 use Rattle.clock_map.specs.Maps.{keys_in, shown_at, reserved_in, IsMap}
 use Rattle.clock_map.proofs.Ties.{removed_keys}
-use Rattle.clock_map.proofs.Maps.{no_key, now_none, free_map, free_keys, find_view, removed_map, gone_dead, shown_placed}
+use Rattle.clock_map.proofs.Maps.{no_key, removed_map, gone_dead, shown_placed}
+use Rattle.clock_map.proofs.Views.{now_none, free_map, free_keys, find_view}
 use Rattle.clock_map.proofs.map.ClockMapClockStore.forget_dead.Goals as goal
 
 pub remove-requires : goal.remove-requires

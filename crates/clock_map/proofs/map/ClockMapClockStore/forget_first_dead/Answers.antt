@@ -6,7 +6,8 @@ use Rattle.clock_map.specs.Index.{first_marked}
 use Rattle.clock_map.specs.Places.{is_for_new}
 use Rattle.clock_map.specs.Maps.{keys_in, shown_at, reserved_in, IsMap}
 use Rattle.clock_map.proofs.Ties.{removed_keys}
-use Rattle.clock_map.proofs.Maps.{no_key, same_index, keys_are, now_none, free_map, free_keys, removed_map, shown_placed, first_view, first_is_shown, reaped_none, reaped_some}
+use Rattle.clock_map.proofs.Maps.{no_key, same_index, removed_map, shown_placed}
+use Rattle.clock_map.proofs.Views.{keys_are, now_none, free_map, free_keys, first_view, first_is_shown, reaped_none, reaped_some}
 use Rattle.clock_map.proofs.map.ClockMapClockStore.forget_first_dead.Goals as goal
 
 pub returns-in_default-clause-found : goal.returns-in_default-clause-found

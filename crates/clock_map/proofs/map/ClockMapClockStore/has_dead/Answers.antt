@@ -2,7 +2,7 @@ use Rattle.std.proofs.Common.{◌∙◌, sym, ap}
 use Rattle.std.specs.Prelude.{is_some}
 use Rattle.clock_store.specs.Forgetting.{key_given}
 use Rattle.clock_map.proofs.Marks.{some_copied}
-use Rattle.clock_map.proofs.Maps.{first_view}
+use Rattle.clock_map.proofs.Views.{first_view}
 use Rattle.clock_map.proofs.map.ClockMapClockStore.has_dead.Goals as goal
 
 pub returns : goal.returns

@@ -2,7 +2,8 @@ use Rattle.std.proofs.Common.{◌∙◌, refl, sym, ap, subst}
 use Rattle.dvv_set.specs.Clocks.{discard}
 use Rattle.clock_store.specs.Keys.{Keys, overwritten}
 use Rattle.clock_map.specs.Maps.{keys_in, shown_at, IsMap}
-use Rattle.clock_map.proofs.Maps.{no_room_key, mark_ready, written_map, written_is, with_map, with_keys, with_reserved}
+use Rattle.clock_map.proofs.Maps.{no_room_key, mark_ready, written_map, written_is}
+use Rattle.clock_map.proofs.Views.{with_map, with_keys, with_reserved}
 use Rattle.clock_map.proofs.map.ClockMapClockStore.overwrite.Goals as goal
 
 pub set_mark-requires : goal.set_mark-requires

@@ -8,6 +8,7 @@ use Rattle.dvv_set.specs.Held.{pairs_of as seen_in}
 use Rattle.vnode_replies.specs.Checks.{is_ahead, pairs_in}
 use Rattle.vnode_protocol.specs.Refusals.{RefusedBy, GivenBy}
 use Rattle.clock_store.specs.Keys.{stored_of}
+use Rattle.vnode_protocol.specs.Plans.{IsReached}
 use Rattle.vnode_core.specs.Vnodes.{fields, state_of}
 use Rattle.vnode_replies.proofs.Options.{options-refuse, rooms-follow, rising-found}
 use Rattle.vnode_core.proofs.vnode.VnodeOver.check_put.Goals as goal
@@ -43,3 +44,12 @@ returns-clause-given g c =
     (sym (rooms-follow (state_of v) c.args.put.now (seen_in c.args.context) c.requires.given c.names_unissued_dot.ensures.read found here behind c.in_ok-check_options.ensures))
     (c.check_room.ensures.given (state_of v) c.args.put.now.key
     (record { stored = sym here; vnode = refl; epoch = sym c.last-last_epoch.ensures; behind = sym (ap (λ last. list_any (is_ahead v.id c.last-last_epoch.result last) (pairs_in (seen_in c.args.context))) c.last_of.ensures) ∙ sym c.names_unissued_dot.ensures.ahead ∙ c.if-names_unissued_dot.false })))
+
+pub returns-then-names_unissued_dot-clause-reached : goal.returns-then-names_unissued_dot-clause-reached
+returns-then-names_unissued_dot-clause-reached g c = subst (λ w. IsReached w.state) c.self.view_is c.self.invariant.reached
+
+pub returns-in_err-check_options-clause-reached : goal.returns-in_err-check_options-clause-reached
+returns-in_err-check_options-clause-reached g c = subst (λ w. IsReached w.state) c.self.view_is c.self.invariant.reached
+
+pub returns-clause-reached : goal.returns-clause-reached
+returns-clause-reached g c = subst (λ w. IsReached w.state) c.self.view_is c.self.invariant.reached

@@ -5,16 +5,25 @@ use Rattle.riak_msgs.specs.Contents.{Content}
 use Rattle.actor_epoch.specs.declared.Actor.{Actor}
 use Rattle.actor_epoch.specs.Given.{Pairs, context_of}
 use Rattle.dvv_set.specs.Held.{IsWithin, pairs_of as seen_in}
-use Rattle.vnode_machine.specs.Machine.{State, clock_of}
+use Rattle.vnode_machine.specs.Machine.{State, clock_of, stored}
+use Rattle.clock_store.proofs.Founds.{stored_found}
 use Rattle.vnode_core.specs.Vnodes.{fields}
+use Rattle.vnode_replies.specs.Checks.{found_in}
 use Rattle.vnode_protocol.specs.Plans.{IsReached}
 use Rattle.vnode_replies.specs.declared.checks.Writer.{Writer}
 use Rattle.vnode_core.proofs.Putting.{within-put}
 use Rattle.vnode_core.proofs.Finishing.{put-ready}
 use Rattle.vnode_core.proofs.vnode.VnodeOver.make_put_ready.Goals as goal
 
-pub reserve-requires : goal.reserve-requires
-reserve-requires g c =
+pub plan_put-requires-clause-found : goal.plan_put-requires-clause-found
+plan_put-requires-clause-found g c =
+    ap found_in c.stored_in.ensures ∙ stored_found c.find-found.result ∙ c.find-found.ensures.stored ∙ ap (λ w. stored w.state c.args.put.now.key) c.self.view_is
+
+pub reserve-requires-clause-place : goal.reserve-requires-clause-place
+reserve-requires-clause-place g c = c.place_in-place.ensures ∙ c.find-found.ensures.place
+
+pub reserve-requires-clause-fits : goal.reserve-requires-clause-fits
+reserve-requires-clause-fits g c =
     let state : State Content = c.args.self.now.state in
     let put = c.args.put.now in
     let seen = seen_in c.as_ref-seen.result in
