@@ -9,7 +9,7 @@ import tempfile
 import threading
 import time
 
-BUCKET = b"users"
+MANY_BUCKETS = 10_000
 VALUE = bytes(range(100))
 PUT_REPLY = b"\0\0\0\1\x0c"
 CHUNK = 500
@@ -20,16 +20,18 @@ def frame(code, body):
     return struct.pack(">IB", len(body) + 1, code) + body
 
 
-def names(key):
-    return b"\x0a\x05" + BUCKET + b"\x12\x0d" + b"user-%08d" % key
+def names(key, buckets=1):
+    """The fields of a key's names: its bucket has five bytes, the key thirteen."""
+    bucket = b"users" if buckets == 1 else b"u%04d" % (key % buckets)
+    return b"\x0a\x05" + bucket + b"\x12\x0d" + b"user-%08d" % key
 
 
-def put(key):
-    return frame(11, names(key) + b"\x22\x66\x0a\x64" + VALUE)
+def put(key, buckets=1):
+    return frame(11, names(key, buckets) + b"\x22\x66\x0a\x64" + VALUE)
 
 
-def get(key):
-    return frame(9, names(key))
+def get(key, buckets=1):
+    return frame(9, names(key, buckets))
 
 
 def scattered(keys):
@@ -122,16 +124,22 @@ def show_times(program, most):
         before, keys = now, keys * 10
 
 
-def show_memory(program, keys):
+def show_memory(program, keys, buckets):
     empty = Node(program)
     empty.ask([get(0)])
     base = empty.peak()
     empty.end()
     node = Node(program)
-    node.ask([put(key) for key in scattered(keys)], PUT_REPLY)
+    order = scattered(keys)
+    puts, _ = node.ask([put(key, buckets) for key in order], PUT_REPLY)
     each = (node.peak() - base) / keys
+    gets, reply = node.ask([get(key, buckets) for key in reversed(order)])
+    assert VALUE in reply
     node.end()
-    print(f"{keys} keys: {each:.0f} bytes a key at the peak, {each - len(VALUE):.0f} beside its value")
+    print(
+        f"{keys} keys in {buckets} bucket{'s' * (buckets > 1)}: {each:.0f} bytes a key at the peak, "
+        f"{each - len(VALUE):.0f} beside its value; put {puts / keys / 1000:.2f} us, get {gets / keys / 1000:.2f} us"
+    )
 
 
 def show_parts(program, keys, library):
@@ -157,8 +165,10 @@ def show_parts(program, keys, library):
 
 def main():
     program, library = sys.argv[1:3]
-    show_memory(program, int(os.environ.get("KEYS", "100000")))
-    show_parts(program, int(os.environ.get("KEYS", "100000")), library)
+    keys = int(os.environ.get("KEYS", "100000"))
+    show_memory(program, keys, 1)
+    show_memory(program, keys, MANY_BUCKETS)
+    show_parts(program, keys, library)
     show_times(program, int(os.environ.get("MOST", "1000000")))
 
 
