@@ -207,11 +207,11 @@ fn crowd(epoch: u32) -> Actor {
     Actor { vnode: 9, epoch }
 }
 
-/// A clock of so many actors, each with a tombstone.
+/// A clock of so many actors, each with one value.
 fn crowded(rt: &(impl Abort + AllocGlobal), actors: u32) -> Clock<Option<u8>> {
     let mut clock = Clock::new(rt.alloc());
     for epoch in 1..=actors {
-        assert!(rt; clock.event(crowd(epoch), None).is_ok());
+        put(rt, &mut clock, crowd(epoch), b'v');
     }
     clock
 }
@@ -348,23 +348,10 @@ fn a_put_that_is_ready_replaces_what_its_context_saw(rt: HostRuntime) {
     assert!(rt; is_held);
 }
 
-/// A clock of the first dots of 64 actors of one vnode.
-fn clock_of_64(rt: &(impl Abort + AllocGlobal)) -> Clock<Option<u8>> {
-    let mut clock = Clock::new(rt.alloc());
-    for epoch in 1..65u32 {
-        let actor = Actor {
-            vnode: 65_536,
-            epoch,
-        };
-        put(rt, &mut clock, actor, b'v');
-    }
-    clock
-}
-
 // 64 actors have one dot each; the 65th is refused, and the 64 stay.
 #[test]
 fn there_are_64_actors(rt: HostRuntime) {
-    let mut clock = clock_of_64(&rt);
+    let mut clock = crowded(&rt, 64);
     let is_refused = is_refused(&mut clock, C, ClockFault::ActorsFull);
     let count = count(&clock);
     assert!(rt; is_refused && count == 64);
