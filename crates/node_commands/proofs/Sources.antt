@@ -1,9 +1,7 @@
 -- What a source of connections gives over many calls.
-use Rattle.std.proofs.Common.{◌≡◌, ◌∙◌, ℕ, ◌+◌, List, [], ◌∷◌, length, ap, sym, subst, refl, arith}
-use Rattle.std.specs.Prelude.{Option, Some, None, Result, Ok, Err}
-use Rattle.job_pool.specs.declared.jobs.JobFault.{JobFault}
-use Rattle.job_pool.specs.Giving.{Gave, GaveAll, GivesOnly, AllServed}
-use Rattle.job_pool.specs.Lists.{Every, Pairwise}
+use Rattle.std.proofs.Common.{◌≡◌, ◌∙◌, ℕ, ◌+◌, List, [], ◌∷◌, length, ap, subst, arith}
+use Rattle.job_pool.specs.Giving.{Gave, GivesOnly}
+use Rattle.job_pool.specs.Lists.{Every}
 use Rattle.gate_node.specs.Gates.{Gates}
 use Rattle.worker_pool.specs.declared.job.Job.{Job}
 use Rattle.worker_pool.specs.Serving.{IsForGates}

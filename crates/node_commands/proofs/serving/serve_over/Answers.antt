@@ -1,6 +1,5 @@
-use Rattle.std.proofs.Common.{◌≡◌, ℕ, ◌+◌, length, arith}
+use Rattle.std.proofs.Common.{arith}
 use Rattle.node_commands.proofs.Sources.{gives_new, all_new, counts_jobs}
-use Rattle.node_commands.specs.Runs.{AreServed}
 use Rattle.node_commands.proofs.serving.serve_over.Goals as goal
 
 pub run-requires-clause-jobs : goal.run-requires-clause-jobs

@@ -1,0 +1,12 @@
+use Rattle.std.proofs.Common.{◌∙◌}
+use Rattle.std.proofs.lemmas.List.{take_all}
+use Rattle.gate_node.proofs.shared.new_passes.Goals as goal
+
+pub returns-clause-gates : goal.returns-clause-gates
+returns-clause-gates c =
+    c.loop-gate.invariant.0
+    ∙ take_all c.loop-gate.gate-index c.deref-gate-items.result.now c.loop-gate-test.false
+    ∙ c.deref-gate-items.ensures.value
+
+pub returns-clause-new : goal.returns-clause-new
+returns-clause-new c = c.loop-gate.invariant.1
