@@ -37,16 +37,16 @@ use Rattle.vnode_protocol.specs.Plans.{response_of}
 use Rattle.node_session.specs.Answers.{AnswersRead, Run, message_fault_text}
 use Rattle.node_session.specs.PlainNodes.{partition_of}
 use Rattle.node_session.specs.PlainStep.{response_reply}
-use Rattle.gate_node.specs.declared.asking.Outcome.{Outcome}
-use Rattle.gate_node.specs.declared.asking.Outcome.TheVariants.{Made, Told, Moved, Full}
-use Rattle.gate_node.specs.declared.asking.Outcome.TheVariants as Outcomes
+use Rattle.gate_ask.specs.declared.asking.Outcome.{Outcome}
+use Rattle.gate_ask.specs.declared.asking.Outcome.TheVariants.{Made, Told, Moved, Full}
+use Rattle.gate_ask.specs.declared.asking.Outcome.TheVariants as Outcomes
 use Rattle.gate_node.specs.Asked.{Sight, Changes, ComesOf, IsMadeBy, IsSaidOf, answer_quantity, get_quantity, outcome_quantity, outcome_reply}
 use Rattle.gate_node.specs.Asked.{Gets as AnswersGet}
 use Rattle.gate_node.specs.Gates.{Gates}
 use Rattle.gate_node.specs.GateStep.{Node, GateStep, AtIndex}
-use Rattle.gate_node.specs.Counting.{Count, Counts, CountsReply, CountsAnswer}
+use Rattle.stats_book.specs.Counter.{Count, Counts, CountsReply, CountsAnswer}
 use Rattle.gate_node.specs.Sessions.{reply_most, most_of, CountsUpTo}
-use Rattle.gate_node.proofs.Counting.{raised_none}
+use Rattle.stats_book.proofs.Raising.{raised_none}
 use Rattle.gate_node.proofs.Keeping.{read-keeps}
 
 -- how much of a quantity so many of another are

@@ -1,4 +1,3 @@
-pub mod Counting
 pub mod Growing
 pub mod Keeping
 pub mod Legal

@@ -10,7 +10,7 @@ use Rattle.vnode_protocol.specs.Plans.{View}
 use Rattle.vnode_protocol.specs.Events.{IsMadeNew}
 use Rattle.stats_book.specs.declared.quantity.Quantity.{Quantity}
 use Rattle.gate_node.specs.Asked.{Sight, AnswersAndReaps}
-use Rattle.gate_node.specs.Counting.{Count, CountsAnswer}
+use Rattle.stats_book.specs.Counter.{Count, CountsAnswer}
 use Rattle.gate_node.specs.Gates.{AreMadeNew}
 use Rattle.gate_node.specs.GateStep.{Node, AtIndex}
 

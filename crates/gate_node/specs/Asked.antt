@@ -24,9 +24,9 @@ use Rattle.vnode_protocol.specs.Refusals.{number_of}
 use Rattle.vnode_protocol.specs.Events.{Makes, IsAnswered, Asks, AnsweredBy}
 use Rattle.sibling_register.specs.Refusals.{refusal_text}
 use Rattle.node_session.specs.PlainStep.{response_reply, StepsBy}
-use Rattle.gate_node.specs.declared.asking.Outcome.{Outcome}
-use Rattle.gate_node.specs.declared.asking.Outcome.TheVariants.{Made, Told, Refused, Moved, Full}
-use Rattle.gate_node.specs.Asking.{Comes, IsMade, IsSaid, IsOvertaken}
+use Rattle.gate_ask.specs.declared.asking.Outcome.{Outcome}
+use Rattle.gate_ask.specs.declared.asking.Outcome.TheVariants.{Made, Told, Refused, Moved, Full}
+use Rattle.gate_ask.specs.Asking.{Comes, IsMade, IsSaid, IsOvertaken}
 
 -- what a caller has seen of a vnode's history, and at which positions of it the caller published
 abbrev pub Sight : Type 0

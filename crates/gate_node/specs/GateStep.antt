@@ -10,7 +10,7 @@ use Rattle.stats_book.specs.declared.quantity.Quantity.{Quantity}
 use Rattle.vnode_protocol.specs.Events.{IsMadeNew}
 use Rattle.node_session.specs.PlainNodes.{partition_of}
 use Rattle.gate_node.specs.Gates.{Gates}
-use Rattle.gate_node.specs.Counting.{Count, CountsAnswer}
+use Rattle.stats_book.specs.Counter.{Count, CountsAnswer}
 use Rattle.gate_node.specs.Asked.{Sight, Gets, Changes, AnswersAndReaps}
 
 -- a node: the gates of its run, what its pass of each gate has seen and published, and what it has counted

@@ -1,6 +1,4 @@
-pub mod Asking
 pub mod Asked
-pub mod Counting
 pub mod Gates
 pub mod GateStep
 pub mod Legal

@@ -5,7 +5,7 @@ use Rattle.riak_msgs.specs.declared.Reply.TheVariants as replies
 use Rattle.stats_book.specs.declared.quantity.Quantity.{Quantity}
 use Rattle.stats_book.specs.declared.quantity.Quantity.TheVariants.{Gets, Puts, Deletes, Refusals, Reaps}
 use Rattle.stats_book.specs.Counting.{number_of}
-use Rattle.gate_node.specs.Counting.{Count}
+use Rattle.stats_book.specs.Counter.{Count}
 
 -- how many of a quantity a reply may be counted as: one of its own kind, and as many dead keys as the budget allows
 abbrev pub reply_most : (budget : ℕ) → Quantity → Reply → ℕ

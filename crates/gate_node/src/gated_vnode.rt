@@ -3,10 +3,10 @@ ghost use Rattle.std.specs.Prelude.{◌≡◌};
 ghost use mathlib.Core.List.{IsPrefix};
 ghost use Rattle.gate_node.specs.Asked.{Shows, IsShown, Gets, Changes, ReapsUpTo, AnswersAndReaps};
 
-use crate::asking::{Outcome, ask, ask_under};
 use crate::replies::{get_quantity, outcome_quantity, outcome_reply};
 use crate::shared::Shared;
 use crate::turnstile::Turnstile;
+use gate_ask::{Outcome, ask, ask_under};
 use riak_msgs::{GetAsk, Reply, Text};
 use rw_gate::{Gate, Pass};
 use stats_book::Quantity;

@@ -28,13 +28,11 @@
 //! answered lies between the taking and the giving back of a right, and so a get copies its reply while other readers may
 //! be in. Memory is taken by the vnode alone, and by `Shared::new` and `Passes::new`.
 //!
-//! How it is built: a function that takes a right gives it back itself, as [`ask`] does for any state behind a gate, and what
-//! is done under a right to write is one function (`ask_under`). The reply and its quantity are made from what came of it
+//! How it is built: a function that takes a right gives it back itself, as `gate_ask::ask` does for any state behind a gate,
+//! and what is done under a right to write is one function (`ask_under`). The reply and its quantity are made from what came of it
 //! (`specs/Asked`), so a change that was published is never answered or counted as refused.
 #![tactic(auto)]
 
-mod asking;
-mod counter;
 mod fault;
 mod gated_vnode;
 mod laws;
@@ -43,7 +41,6 @@ mod replies;
 mod shared;
 mod turnstile;
 
-pub use asking::{Outcome, ask};
 pub use fault::PoolFault;
 pub use laws::{positions_are_legal, sessions_count_their_replies, sessions_keep_their_gates};
 pub use node::GateNode;

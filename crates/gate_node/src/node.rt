@@ -4,14 +4,13 @@ ghost use Rattle.node_session.specs.PlainNodes.{partition_of};
 ghost use Rattle.gate_node.specs.Asked.{Gets, Changes};
 ghost use Rattle.gate_node.specs.GateStep.{AtIndex};
 
-use crate::counter::Counter;
 use crate::gated_vnode::{Answered, change_and_reap, get_and_reap};
 use crate::shared::{Passes, Shared};
 use crate::turnstile::Turnstile;
 use node_session::Node;
 use riak_msgs::{GetAsk, Key, Reply, Request};
 use rw_gate::Pass;
-use stats_book::{Book, Share};
+use stats_book::{Book, Counter, Share};
 use std::alloc::Global;
 use std::marker::Model;
 use std::sync::Wait;

@@ -1,2 +1,3 @@
+pub mod Counter
 pub mod Counting
 pub mod Holdings

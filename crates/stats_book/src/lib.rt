@@ -5,6 +5,9 @@
 //! shares, and answers numbers that are the sums of what the shares have counted (`sum_of`), whatever threads added
 //! them, in whatever order. No count is lost and none is made up.
 //!
+//! A [`Counter`] is what one worker counts by: its share, its book, and whether the book had no room for some of it
+//! (`specs/Counter`).
+//!
 //! What it costs: an addition is one lock and one sum with a test for overflow. Only [`Book::new`] takes memory, for the
 //! vector of shares.
 //!
@@ -22,6 +25,7 @@
 mod blanks;
 mod book;
 mod count;
+mod counter;
 mod fault;
 mod holding;
 mod quantity;
@@ -31,6 +35,7 @@ mod totals;
 
 pub use blanks::Blanks;
 pub use book::{Book, Opened, close};
+pub use counter::Counter;
 pub use fault::BookFault;
 pub use quantity::Quantity;
 pub use share::Share;

@@ -1,4 +1,4 @@
--- What a node counts by its share of the book.
+-- What a worker counts by its share of the book.
 use Rattle.std.specs.Prelude.{◌≡◌, ◌⊎◌, ◌<◌, ℕ, Bool, true, Option, Some, None}
 use Rattle.stats_book.specs.declared.totals.Totals.{Totals}
 use Rattle.stats_book.specs.declared.quantity.Quantity.{Quantity}

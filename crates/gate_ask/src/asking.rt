@@ -1,7 +1,8 @@
 //! One ask of a state behind a gate, by a caller who has a pass of it.
 ghost use Rattle.std.specs.Prelude.{◌≡◌};
 ghost use mathlib.Core.List.{IsPrefix};
-ghost use Rattle.gate_node.specs.Asking.{Comes};
+ghost use Rattle.rw_gate.specs.Histories.{IsReplayed};
+ghost use Rattle.gate_ask.specs.Asking.{Comes};
 
 use rw_gate::{Gate, Kept, Pass, Plan, PublishFault, WriteRight};
 use std::alloc::Global;
@@ -43,8 +44,8 @@ pub fn ask<S: Kept, R: Wait>(
     outcome
 }
 
-/// Asks once under a right.
-pub(crate) fn ask_under<S: Kept>(
+/// Asks once under a right to write, which the caller gives back: looks, plans what is asked, and publishes the change.
+pub fn ask_under<S: Kept>(
     right: &mut WriteRight<'_, S>,
     alloc: Global,
     pass: &mut Pass<S>,
@@ -59,6 +60,24 @@ pub(crate) fn ask_under<S: Kept>(
     if right.look(pass).is_err() {
         return Outcome::Moved;
     }
+    ask_shown(right, alloc, pass, ask)
+}
+
+/// Asks once under a right whose whole history the pass has seen.
+fn ask_shown<S: Kept>(
+    right: &mut WriteRight<'_, S>,
+    alloc: Global,
+    pass: &mut Pass<S>,
+    ask: S::Ask,
+) -> Outcome<S::Reply, S::Refusal>
+    requires gate { pass.old.gate ≡ right.old.gate }
+    requires shown { pass.old.prefix ≡ right.old.history }
+    requires replay { IsReplayed S.content S.accepts right.old }
+    ensures gate { pass.new.gate ≡ pass.old.gate }
+    ensures more { IsPrefix pass.old.prefix pass.new.prefix }
+    ensures outcome { Comes S.content S.accepts S.answers S.refuses S.asks S.answered_by
+        ask pass.old pass.new result }
+{
     match right.prepare(alloc, ask) {
         Ok(Plan::Change(change)) => match right.publish(pass, change) {
             Ok(reply) => Outcome::Made(reply),

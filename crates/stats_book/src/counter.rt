@@ -1,15 +1,19 @@
-//! What one node counts, by its share of the book.
+//! What one worker counts, by its share of the book.
 ghost use Rattle.std.specs.Prelude.{◌≡◌, false};
-ghost use Rattle.gate_node.specs.Counting.{Counts, CountsReply, CountsAnswer};
+ghost use Rattle.stats_book.specs.Counter.{Counts, CountsReply, CountsAnswer};
 
-use stats_book::{Book, Quantity, Share};
+use crate::book::Book;
+use crate::quantity::Quantity;
+use crate::share::Share;
 use std::marker::Model;
 use std::sync::Wait;
 use std::sync::ledger::Ledger;
 
-/// What one node counts, by its share of the book, and whether the book had no room for some of it.
+/// What one worker counts, by its share of a book, and whether the book had no room for some of what was to be counted.
+///
+/// A reply never waits for room: where the book is full, the numbers stay and the counter remembers that.
 #[derive(Drop)]
-pub(crate) struct Counter<'a, G: Ledger, P: Ledger, D: Ledger, E: Ledger, R: Ledger> {
+pub struct Counter<'a, G: Ledger, P: Ledger, D: Ledger, E: Ledger, R: Ledger> {
     book: &'a Book<G, P, D, E, R>,
     share: Share<G, P, D, E, R>,
     is_book_full: bool,
@@ -17,7 +21,7 @@ pub(crate) struct Counter<'a, G: Ledger, P: Ledger, D: Ledger, E: Ledger, R: Led
 
 impl<'a, G: Ledger, P: Ledger, D: Ledger, E: Ledger, R: Ledger> Model
     for Counter<'a, G, P, D, E, R> {
-    ghost use Rattle.gate_node.specs.Counting.{Count};
+    ghost use Rattle.stats_book.specs.Counter.{Count};
 
     ghost Value = { Count };
 
@@ -26,7 +30,7 @@ impl<'a, G: Ledger, P: Ledger, D: Ledger, E: Ledger, R: Ledger> Model
 
 impl<'a, G: Ledger, P: Ledger, D: Ledger, E: Ledger, R: Ledger> Counter<'a, G, P, D, E, R> {
     /// A counter by this share of the book, which had room so far.
-    pub(crate) fn new(
+    pub fn new(
         book: &'a Book<G, P, D, E, R>,
         share: Share<G, P, D, E, R>,
     ) -> Counter<'a, G, P, D, E, R>
@@ -40,7 +44,7 @@ impl<'a, G: Ledger, P: Ledger, D: Ledger, E: Ledger, R: Ledger> Counter<'a, G, P
     }
 
     /// The share, and whether the book had no room for some of what was to be counted.
-    pub(crate) fn parts(self) -> (Share<G, P, D, E, R>, bool)
+    pub fn parts(self) -> (Share<G, P, D, E, R>, bool)
         ensures share { result.0 ≡ self.entry.counted }
         ensures full { result.1 ≡ self.entry.book_full }
     {
@@ -52,8 +56,9 @@ impl<'a, G: Ledger, P: Ledger, D: Ledger, E: Ledger, R: Ledger> Counter<'a, G, P
         (share, is_book_full)
     }
 
-    /// Counts so many of a quantity, in the book and in the share. Waits while another has the book.
-    fn count<W: Wait>(&mut self, rt: &W, quantity: Quantity, amount: u64)
+    /// Counts so many of a quantity, in the book and in the share; where the book has no room for them, neither rises and
+    /// that is kept. Waits while another has the book.
+    pub fn count<W: Wait>(&mut self, rt: &W, quantity: Quantity, amount: u64)
         ensures { Counts quantity amount self.old self.new }
     {
         if amount == 0 {
@@ -74,8 +79,9 @@ impl<'a, G: Ledger, P: Ledger, D: Ledger, E: Ledger, R: Ledger> Counter<'a, G, P
         }
     }
 
-    /// Counts what was answered: the reply as its quantity, and each dead key that was forgotten then.
-    pub(crate) fn count_answer<W: Wait>(&mut self, rt: &W, quantity: Option<Quantity>, reaps: u32)
+    /// Counts what was answered: the reply as its quantity, and each dead key that was forgotten then. Waits while another
+    /// has the book.
+    pub fn count_answer<W: Wait>(&mut self, rt: &W, quantity: Option<Quantity>, reaps: u32)
         ensures { CountsAnswer quantity reaps self.old self.new }
     {
         self.count_reply(rt, quantity);
