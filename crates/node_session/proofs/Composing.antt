@@ -1,7 +1,8 @@
 -- A session goes on.
-use Rattle.std.proofs.Common.{◌≡◌, ℕ, ◌+◌, ◌≤◌, List, [], ◌∷◌, ◌++◌, length, Option, Bool, true, Ok, refl, sym, ap, subst, ◌∙◌, append-nil, append_assoc, length-append, arith}
+use Rattle.std.proofs.Common.{◌≡◌, ℕ, ◌+◌, ◌≤◌, List, [], ◌∷◌, ◌++◌, length, Option, Bool, true, false, Ok, refl, sym, ap, subst, ◌∙◌, append-nil, append_assoc, length-append, arith}
 use Rattle.std.specs.List.{flat_map}
 use Rattle.std.specs.Io.KnownBytes.{Appends, Keeps}
+use Rattle.std.proofs.Math.Nat.{add-zero}
 use Rattle.std.proofs.KnownBytes.{Appends-trans, Appends-nil, Appends-kept}
 use Rattle.std.proofs.lemmas.List.Elements.{All-nil, All-append}
 use Rattle.std.proofs.lemmas.List.Concat.{flat_map-append}
@@ -12,7 +13,7 @@ use Rattle.pb_frame.specs.Limits.{max_request_len}
 use Rattle.node_session.specs.Answers.{Run, reply_frame}
 use Rattle.node_session.specs.Answered.{Answered, StandsAt}
 use Rattle.pb_frame.specs.Stream.{Stream}
-use Rattle.node_session.specs.Steps.{AnswersNext, IsNext}
+use Rattle.node_session.specs.Steps.{AnswersNext, IsIdle, IsNext}
 
 -- so many frames are at least so many bytes
 frames_long : (ms : List Message) → length ms ≤ length (flat_map frame ms)
@@ -78,6 +79,28 @@ module _ {S : Type 0} (Step : S → Request → Reply → S → Type 0) where
       subst (λ (t : List ℕ). Answered Step a t h h'' (j + k) Ends) (append-nil x)
       (Answered-then a b x y [] h h' h'' j k Ends p (subst (λ (t : List ℕ). Answered Step b t h' h'' k Ends) (sym (append-nil y)) q))
 
+  -- the same where none of the rest was answered
+  pub Answered-last : (a b : S) (x y : List ℕ) (h h' h'' : Option (List ℕ)) (j : ℕ) (Ends : S → List ℕ → List ℕ → Type 0)
+      → Answered Step a x h h' j (StandsAt b y) → Answered Step b y h' h'' 0 Ends → Answered Step a x h h'' j Ends
+  Answered-last a b x y h h' h'' j Ends p q = subst (λ (t : ℕ). Answered Step a x h h'' t Ends) (add-zero j) (Answered-more a b x y h h' h'' j 0 Ends p q)
+
+  -- nothing was left to answer
+  pub Answered-idle : (a b b' : S) (x : List ℕ) (framer framer' : Stream) (h h' h'' : Option (List ℕ)) (j : ℕ)
+      → Answered Step a x h h' j (StandsAt b framer.rest) → IsIdle Step b b' framer framer' h' h'' → Answered Step a x h h'' j (StandsAt b' framer'.rest)
+  Answered-idle a b b' x framer framer' h h' h'' j p q = record {
+    messages = p.messages;
+    replies = p.replies;
+    mid = p.mid;
+    rest = p.rest;
+    last = p.last;
+    stream = p.stream;
+    each = p.each;
+    run = p.run;
+    counted = p.counted;
+    written = subst (Appends h h'') (append-nil (flat_map reply_frame p.replies ++ p.last)) (Appends-trans h h' h'' _ [] p.written q.written);
+    ends = record { node = q.node ∙ p.ends.node; left = ap (λ (s : Stream). s.rest) q.stream ∙ p.ends.left; nothing = p.ends.nothing };
+  }
+
   -- what was written is kept, and it is said in another way how it ended
   pub Answered-as : (a : S) (x : List ℕ) (h h' h'' : Option (List ℕ)) (j : ℕ) (Ends Ends' : S → List ℕ → List ℕ → Type 0) (p : Answered Step a x h h' j Ends)
       → Keeps h' h'' → Ends' p.mid p.rest p.last → Answered Step a x h h'' j Ends'
@@ -107,6 +130,10 @@ module _ {S : Type 0} (Step : S → Request → Reply → S → Type 0) where
   -- a next message was there
   pub next_at : (a b : S) (framer framer' : Stream) (h h' : Option (List ℕ)) (r : Bool) → r ≡ true → AnswersNext Step a b framer framer' h h' (Ok r) → IsNext Step a b framer framer' h h'
   next_at a b framer framer' h h' r e p = subst (λ (t : Bool). AnswersNext Step a b framer framer' h h' (Ok t)) e p
+
+  -- no next message was there
+  pub idle_at : (a b : S) (framer framer' : Stream) (h h' : Option (List ℕ)) (r : Bool) → r ≡ false → AnswersNext Step a b framer framer' h h' (Ok r) → IsIdle Step a b framer framer' h h'
+  idle_at a b framer framer' h h' r e p = subst (λ (t : Bool). AnswersNext Step a b framer framer' h h' (Ok t)) e p
 
   -- there are no more replies than bytes
   pub Answered-count : (a : S) (x : List ℕ) (h h' : Option (List ℕ)) (j : ℕ) (Ends : S → List ℕ → List ℕ → Type 0) → Answered Step a x h h' j Ends → j ≤ length x

@@ -2,12 +2,14 @@
 use Rattle.std.proofs.Common.{◌≡◌, ℕ, ◌+◌, ◌*◌, ◌<◌, ◌≤◌, List, [], ◌++◌, length, Option, sym, subst, length-append, arith}
 use Rattle.std.specs.Io.KnownBytes.{Consumes, Keeps}
 use Rattle.std.proofs.KnownBytes.{Consumes-trans, Consumes-kept, Consumes-nil, Keeps-refl}
+use Rattle.pb_frame.specs.Limits.{max_request_len}
+use Rattle.pb_frame.specs.Message.{IsPartial}
 use Rattle.riak_msgs.specs.declared.request.Request.{Request}
 use Rattle.riak_msgs.specs.declared.reply.Reply.{Reply}
 use Rattle.node_session.specs.declared.sending.Stop.{Stop}
 use Rattle.node_session.specs.declared.sending.Stop.TheVariants as stops
 use Rattle.node_session.specs.declared.fault.SessionFault.{SessionFault}
-use Rattle.node_session.specs.Answered.{Answered, StandsAt, IsBad, AtLastRead, WriteFailedAt, IsOutOfMemory}
+use Rattle.node_session.specs.Answered.{Answered, AllAnswered, StandsAt, IsBad, AtLastRead, WriteFailedAt, IsOutOfMemory}
 use Rattle.node_session.specs.Session.{Given, MadeReads, Stops, fault_for}
 use Rattle.node_session.proofs.Composing.{Answered-none, Answered-then, Answered-as, Answered-shorter}
 
@@ -33,6 +35,13 @@ module _ {S : Type 0} (Step : S → Request → Reply → S → Type 0) (a : S) 
         bound = omega (arith, before, le);
         serves = Answered-as Step a p.input h h' h'' j Ends Ends' q kept (weaker q.mid q.rest q.last q.ends);
       }
+
+  -- nothing more is read or written, and no whole message is left
+  pub Reached-all : (unread' unread'' h' h'' : Option (List ℕ)) (b : S) (i reads j : ℕ) (y : List ℕ) → i ≤ reads → Keeps unread' unread'' → Keeps h' h'' → IsPartial max_request_len y
+      → Reached unread' h' i j (StandsAt b y) → Reached unread'' h'' reads j (AllAnswered b)
+  Reached-all unread' unread'' h' h'' b i reads j y le left kept partial p =
+      Reached-kept unread' unread'' h' h'' i reads j (StandsAt b y) (AllAnswered b) le left kept
+      (λ mid rest last x. record { node = x.node; partial = subst (IsPartial max_request_len) x.left partial; nothing = x.nothing }) p
 
   -- what was written is flushed, and a piece is read and answered
   pub Reached-then : (unread' unread'' h₀ h' h'' : Option (List ℕ)) (b : S) (i j k : ℕ) (y piece : List ℕ) (Ends : S → List ℕ → List ℕ → Type 0)

@@ -45,3 +45,12 @@ returns-in-Free-clause-merged_in g c =
 
 pub returns-in-Free-clause-rooms : goal.returns-in-Free-clause-rooms
 returns-in-Free-clause-rooms g c given all = rw c.insert.ensures.inserted (rooms-insert c.args.entries.now.items c.in-Free.at c.args.entry given all)
+
+pub deref-requires : goal.deref-requires
+deref-requires g c = omega arith
+
+pub search_actor-requires : goal.search_actor-requires
+search_actor-requires g c = omega arith
+
+pub get_mut-requires : goal.get_mut-requires
+get_mut-requires g c = omega arith

@@ -1,4 +1,5 @@
 use Rattle.std.proofs.Common.{◌≡◌, ◌∙◌, ◌+◌, sym, ap, arith, cond, drop}
+use Rattle.std.proofs.lemmas.List.{at_drop_all}
 use Rattle.std.specs.Prelude.{is_some}
 use Rattle.std.specs.FinMap.Entries.{find}
 use Rattle.actor_epoch.specs.Dots.{actor_cmp}
@@ -20,3 +21,28 @@ loop-other-preserved g c =
       | then-not-has w ↦ let step = next ∙ ap (λ b. cond b 0 1 + rest) w.if-not-has.true in (omega (arith, was.0, w.new-is), omega (arith, was.1, step, w.new-is))
       | else-not-has w ↦ let step = next ∙ ap (λ b. cond b 0 1 + rest) w.if-not-has.false in (omega (arith, was.0, w.new-is), omega (arith, was.1, step, w.new-is))
     ]
+
+pub loop-other-init : goal.loop-other-init
+loop-other-init g c = (omega arith, omega arith)
+
+pub offset_bounds-others-other-index : goal.offset_bounds-others-other-index
+offset_bounds-others-other-index g c = omega (arith, c.loop-other-test.true)
+
+pub bounds-others-other-index : goal.bounds-others-other-index
+bounds-others-other-index g c = c.loop-other-test.true
+
+pub has-requires : goal.has-requires
+has-requires g c = omega arith
+
+pub loop-other-smaller : goal.loop-other-smaller
+loop-other-smaller g c = omega (arith, c.loop-other-test.true)
+
+pub overflow_add-new : goal.overflow_add-new
+overflow_add-new g c = omega (arith, c.loop-other.invariant.0, c.loop-other-test.true)
+
+pub returns : goal.returns
+returns g c =
+    let entries = clock_entries c.args.entries.now in
+    let none : count_new (clock_entries (drop c.loop-other.other-index c.args.others.now)) entries ≡ 0 =
+    at_drop_all (λ others. count_new (clock_entries others) entries) c.args.others.now c.loop-other.other-index (omega (arith, c.loop-other-test.false)) in
+    omega (arith, c.loop-other.invariant.1, none)

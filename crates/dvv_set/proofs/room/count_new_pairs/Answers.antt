@@ -1,5 +1,10 @@
-use Rattle.std.proofs.Common.{◌≡◌, ◌∙◌, ◌+◌, cond, List, sym, ap, arith, length}
+use Rattle.std.proofs.Common.{◌≡◌, ◌∙◌, ◌+◌, ◌&&◌, cond, List, sym, ap, arith, length}
+use Rattle.std.proofs.lemmas.Bool.Decides.{nat_tests}
+use Rattle.std.specs.Prelude.{nat_le}
+use Rattle.std.specs.List.{list_all}
 use Rattle.actor_epoch.specs.declared.Dot.{Dot}
+use Rattle.actor_epoch.specs.Contexts.{is_rising, is_within_limits}
+use Rattle.actor_epoch.proofs.Rising.{and_first, and_second}
 use Rattle.dvv_set.specs.ClockEntries.{count_new, entries_of_pairs}
 use Rattle.dvv_set.specs.Stored.{clock_entries}
 use Rattle.dvv_set.proofs.room.count_new_pairs.Goals as goal
@@ -36,3 +41,13 @@ returns-clause-counted g c =
 
 pub returns-clause-few : goal.returns-clause-few
 returns-clause-few g c = omega (arith, c.loop-actor.invariant.0)
+
+pub has-requires : goal.has-requires
+has-requires g c = omega arith
+
+pub loop-actor-init : goal.loop-actor-init
+loop-actor-init g c =
+    let pairs = c.args.pairs in
+    let count = length pairs in
+    let few = and_second (nat_le 1 count) (nat_le count 64) (and_first (nat_le 1 count && nat_le count 64) (is_rising pairs && list_all is_within_limits pairs) c.requires) in
+    (grind (arith, nat_tests, few, ap length c.into_iter-actor-iterator.ensures.into_iter_gives), omega arith)

@@ -1,11 +1,12 @@
-use Rattle.std.proofs.Common.{◌≡◌, ◌+◌, ◌*◌, ◌<◌, ◌≤◌, List, ℕ, [], ◌++◌, length, take, None, refl, sym, ap, subst, ◌∙◌, arith, length-append}
+use Rattle.std.proofs.Common.{◌≡◌, ◌+◌, ◌*◌, ◌<◌, ◌≤◌, List, ℕ, [], ◌++◌, length, take, None, refl, sym, ap, subst, ◌∙◌, arith, length-append, inr}
+use Rattle.std.proofs.KnownBytes.{Keeps-refl}
 use Rattle.std.proofs.lemmas.List.{length-take-le}
 use Rattle.pb_frame.specs.Limits.{max_request_len}
 use Rattle.pb_frame.specs.Stream.{Stream}
 use Rattle.pb_frame.specs.Message.{IsPartial}
-use Rattle.node_session.specs.Answered.{StandsAt}
+use Rattle.node_session.specs.Answered.{AllAnswered, StandsAt, WriteFailedAt}
 use Rattle.node_session.proofs.Pieces.{none_partial, all_at, stop_at, piece_count}
-use Rattle.node_session.proofs.Reading.{Reached, Reached-none, Reached-kept, Reached-then, Reached-bound, Reached-stops, MadeReads-none, MadeReads-piece, MadeReads-interrupted}
+use Rattle.node_session.proofs.Reading.{Reached, Reached-none, Reached-kept, Reached-all, Reached-then, Reached-bound, Reached-stops, MadeReads-none, MadeReads-piece, MadeReads-interrupted}
 use Rattle.node_session.proofs.session.serve_from.Goals as goal
 use Rattle.node_session.proofs.session.serve_from.Goals.{in-Ok+in_default, in-Err+else-ne}
 
@@ -88,3 +89,27 @@ loop-preserved g c =
             (omega arith) w.in-Err.ensures.bytes c.flush.ensures.kept (λ mid rest last x. x) c.loop.invariant.reached;
       })
     ]
+
+pub returns-then-is_err-clause-stopped : goal.returns-then-is_err-clause-stopped
+returns-then-is_err-clause-stopped g c =
+    let step = g.N.Node.step in
+    let a = c.args.node.now in
+    let b = c.loop.node in
+    let unread = g.R.Read.remaining c.args.reader.now in
+    let unread' = g.R.Read.remaining c.loop.reader in
+    let h = g.W.Write.contents c.args.writer.now in
+    let h' = g.W.Write.contents c.loop.writer in
+    let flushed = g.W.Write.contents c.flush.new.writer in
+    Reached-kept step a unread h unread' unread' flushed flushed c.args.reads c.args.reads c.loop.replies (AllAnswered b) (WriteFailedAt step b) (omega arith) (Keeps-refl unread') (Keeps-refl flushed) (λ mid rest last x. inr x)
+    (Reached-all step a unread h unread' unread' h' flushed b c.loop.counter c.args.reads c.loop.replies c.loop.framer.rest c.loop.auto.counter-end (Keeps-refl unread') c.flush.ensures.kept c.loop.invariant.partial c.loop.invariant.reached)
+
+pub returns-then-ne-clause-stopped : goal.returns-then-ne-clause-stopped
+returns-then-ne-clause-stopped g c =
+    Reached-all g.N.Node.step c.args.node.now (g.R.Read.remaining c.args.reader.now) (g.W.Write.contents c.args.writer.now) (g.R.Read.remaining c.loop.reader) (g.R.Read.remaining c.read.new.self) (g.W.Write.contents c.loop.writer) (g.W.Write.contents c.flush.new.writer)
+    c.loop.node c.loop.counter c.args.reads c.loop.replies c.loop.framer.rest c.loop.auto.counter-end c.in-Err.ensures.bytes c.flush.ensures.kept c.loop.invariant.partial c.loop.invariant.reached
+
+pub returns-clause-stopped : goal.returns-clause-stopped
+returns-clause-stopped g c =
+    let unread' = g.R.Read.remaining c.loop.reader in
+    Reached-all g.N.Node.step c.args.node.now (g.R.Read.remaining c.args.reader.now) (g.W.Write.contents c.args.writer.now) unread' unread' (g.W.Write.contents c.loop.writer) (g.W.Write.contents c.flush-2.new.writer)
+    c.loop.node c.loop.counter c.args.reads c.loop.replies c.loop.framer.rest c.loop.auto.counter-end (Keeps-refl unread') c.flush-2.ensures.kept c.loop.invariant.partial c.loop.invariant.reached

@@ -30,3 +30,12 @@ returns-clause-fits g c = λ e. rw (← c.needed.ensures.actors) (ltb-false 64 c
 
 pub returns-clause-clock : goal.returns-clause-clock
 returns-clause-clock g c = c.needed.ensures.clock
+
+pub deref-requires : goal.deref-requires
+deref-requires g c = omega arith
+
+pub most_actors-requires : goal.most_actors-requires
+most_actors-requires g c = (omega arith, (rw c.deref.ensures c.self.invariant.entries, rw c.deref.ensures c.self.invariant.few))
+
+pub needed-requires : goal.needed-requires
+needed-requires g c = omega arith

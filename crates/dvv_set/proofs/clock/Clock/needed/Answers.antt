@@ -29,3 +29,12 @@ pub returns-clause-clock : goal.returns-clause-clock
 returns-clause-clock g c =
     let few = c.self.invariant.few in
     rw (← c.self.view_is) (IsClock-dot_state_of (clock_entries c.self.inside.entries.items) c.self.invariant.entries (omega (arith, length-clock_entries c.self.inside.entries.items)))
+
+pub deref-requires : goal.deref-requires
+deref-requires g c = omega arith
+
+pub required_room-counter-requires : goal.required_room-counter-requires
+required_room-counter-requires g c = (omega arith, rw c.deref.ensures c.self.invariant.entries)
+
+pub len-requires : goal.len-requires
+len-requires g c = omega arith

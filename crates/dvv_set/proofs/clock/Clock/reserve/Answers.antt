@@ -38,3 +38,15 @@ returns-clause-ready g c =
       actors = omega (arith, long, more, c.in_ok-reserve.ensures.ok, c.in_ok-reserve_values.ensures.capacity);
       values = each-room c.reserve_values.new.entries.items c.args.actor c.in_ok-reserve_values.ensures.rooms;
     }
+
+pub deref-requires : goal.deref-requires
+deref-requires g c = omega arith
+
+pub required_room-more-requires : goal.required_room-more-requires
+required_room-more-requires g c = (omega arith, rw c.deref.ensures c.self.invariant.entries)
+
+pub reserve-requires : goal.reserve-requires
+reserve-requires g c = omega arith
+
+pub reserve_values-requires : goal.reserve_values-requires
+reserve_values-requires g c = (omega arith, omega arith)
