@@ -7,9 +7,10 @@ use Rattle.actor_epoch.specs.Given.{Pairs, context_of}
 use Rattle.dvv_set.specs.Held.{IsWithin, pairs_of as seen_in}
 use Rattle.vnode_machine.specs.Machine.{State, clock_of, stored}
 use Rattle.clock_store.proofs.Founds.{stored_found}
-use Rattle.vnode_core.specs.Vnodes.{fields}
+use Rattle.clock_store.specs.Keys.{Keys}
+use Rattle.vnode_core.specs.Vnodes.{fields, state_of, IsReadyFor}
 use Rattle.vnode_replies.specs.Checks.{found_in}
-use Rattle.vnode_protocol.specs.Plans.{IsReached}
+use Rattle.vnode_protocol.specs.Plans.{View, IsReached}
 use Rattle.vnode_replies.specs.declared.checks.Writer.{Writer}
 use Rattle.vnode_core.proofs.Putting.{within-put}
 use Rattle.vnode_core.proofs.Finishing.{put-ready}
@@ -39,3 +40,28 @@ invariant_of-self g c =
     let given = ap context_of (sym c.as_slice.ensures) ∙ c.in_ok-context.ensures.ok ∙ ap (option_map Pairs) (sym c.as_ref-seen.ensures.value) in
     put-ready v c.self.invariant.reached c.args.self.now c.self.view_is c.args.put.now c.in_ok-ready.ready c.in_ok-ready.ensures.ok (seen_in c.as_ref-seen.result) given
     (g.S.ClockStore.shows c.reserve.new.self) c.reserve.ensures.same c.in-Ok.ensures.ok c.set_ready.new.place c.set_ready.ensures c.some.result (c.some.ensures ∙ ap Some c.requires.is)
+
+pub invariant_of-self-in-Err : goal.invariant_of-self-in-Err
+invariant_of-self-in-Err g c =
+    let v = fields c.self.inside.id c.self.inside.epochs c.self.inside.writes c.self.inside.tombstones c.self.inside.reaps (g.S.ClockStore.shows c.self.inside.store) c.self.inside.ready c.self.inside.prepared in
+    let unprepared = ap (λ (w : View). w.prepared) c.self.view_is ∙ c.requires.ended in
+    record {
+      reached = subst (λ (keys : Keys). IsReached (record (state_of v) { keys = keys })) (sym c.reserve.ensures.same) c.self.invariant.reached;
+      ready = subst (IsReadyFor _ _ _) (sym unprepared) tt;
+    }
+
+pub returns-in-Err-clause-same : goal.returns-in-Err-clause-same
+returns-in-Err-clause-same g c =
+    let v = fields c.self.inside.id c.self.inside.epochs c.self.inside.writes c.self.inside.tombstones c.self.inside.reaps (g.S.ClockStore.shows c.self.inside.store) c.self.inside.ready c.self.inside.prepared in
+    let with : Keys → State Content = λ keys. record (state_of v) { keys = keys } in
+    ap with c.reserve.ensures.same ∙ ap (λ (w : View). w.state) c.self.view_is
+
+pub returns-in-Ok-clause-same : goal.returns-in-Ok-clause-same
+returns-in-Ok-clause-same g c =
+    let v = fields c.self.inside.id c.self.inside.epochs c.self.inside.writes c.self.inside.tombstones c.self.inside.reaps (g.S.ClockStore.shows c.self.inside.store) c.self.inside.ready c.self.inside.prepared in
+    let with : Keys → State Content = λ keys. record (state_of v) { keys = keys } in
+    ap with c.reserve.ensures.same ∙ ap (λ (w : View). w.state) c.self.view_is
+
+pub returns-in-Err-clause-ended : goal.returns-in-Err-clause-ended
+returns-in-Err-clause-ended g c =
+    ap (λ (w : View). w.prepared) c.self.view_is ∙ c.requires.ended
