@@ -1,7 +1,9 @@
-//! Tests of `clock_map`, from outside.
+//! Tests of `place_map` and of `clock_map`, which stands on it, from outside.
 //!
 //! They stand in a crate of their own, since a crate with tests is proved twice.
 #![tactic(auto)]
 
 #[cfg(test)]
-mod tests;
+mod places;
+#[cfg(test)]
+mod storage;

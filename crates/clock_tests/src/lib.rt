@@ -1,7 +1,9 @@
-//! Tests of `dvv_set`, from outside.
+//! Tests of `actor_epoch` and `dvv_set`, from outside: contexts, epochs and clocks.
 //!
 //! They stand in a crate of their own, since a crate with tests is proved twice.
 #![tactic(auto)]
 
 #[cfg(test)]
-mod tests;
+mod clocks;
+#[cfg(test)]
+mod epochs;

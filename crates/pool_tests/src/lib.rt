@@ -1,7 +1,9 @@
-//! Tests of `job_pool`, from outside: services that multiply, that append and that wait for a lock.
+//! Tests of `job_pool` and `stats_book`, from outside.
 //!
 //! They stand in a crate of their own, since a crate with tests is proved twice.
 #![tactic(auto)]
 
 #[cfg(test)]
-mod tests;
+mod book;
+#[cfg(test)]
+mod jobs;

@@ -1,7 +1,12 @@
-//! Tests of `schedule_text`, from outside: schedules as their bytes.
+//! Tests of `node_steps`, `schedule_text` and `schedule_player`, from outside: schedules by their calls and as their
+//! bytes.
 //!
 //! They stand in a crate of their own, since a crate with tests is proved twice.
 #![tactic(auto)]
 
 #[cfg(test)]
-mod tests;
+mod player;
+#[cfg(test)]
+mod steps;
+#[cfg(test)]
+mod text;

@@ -1,7 +1,9 @@
-//! Tests of `vnode_core`, from outside.
+//! Tests of `vnode_core` and `tomb_reaper`, from outside.
 //!
 //! They stand in a crate of their own, since a crate with tests is proved twice.
 #![tactic(auto)]
 
 #[cfg(test)]
-mod tests;
+mod exchanges;
+#[cfg(test)]
+mod reaping;

@@ -1,0 +1,11 @@
+//! Tests of `pb_fields`, `pb_frame` and `riak_msgs`, from outside: fields, frames and messages as their bytes.
+//!
+//! They stand in a crate of their own, since a crate with tests is proved twice.
+#![tactic(auto)]
+
+#[cfg(test)]
+mod fields;
+#[cfg(test)]
+mod frames;
+#[cfg(test)]
+mod messages;

@@ -1,7 +1,0 @@
-//! Tests of `riak_msgs`, from outside: messages as their bytes.
-//!
-//! They stand in a crate of their own, since a crate with tests is proved twice.
-#![tactic(auto)]
-
-#[cfg(test)]
-mod tests;
