@@ -1,4 +1,5 @@
-//! Tests of `pb_fields`, `pb_frame` and `riak_msgs`, from outside: fields, frames and messages as their bytes.
+//! Tests of `wire_varint`, `pb_fields`, `pb_frame` and `riak_msgs`, from outside: varints, fields, frames and messages
+//! as their bytes.
 //!
 //! They stand in a crate of their own, since a crate with tests is proved twice.
 #![tactic(auto)]
@@ -9,3 +10,5 @@ mod fields;
 mod frames;
 #[cfg(test)]
 mod messages;
+#[cfg(test)]
+mod varints;

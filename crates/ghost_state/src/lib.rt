@@ -17,8 +17,6 @@
 #![tactic(auto)]
 
 mod list;
-#[cfg(test)]
-mod tests;
 mod value;
 
 pub use list::{GhostList, Listing};

@@ -23,6 +23,3 @@ mod ring;
 
 pub use ring::{MAX_PARTITIONS, Ring, vnode_id};
 pub use sha1::DIGEST_LEN;
-
-#[cfg(test)]
-mod tests;

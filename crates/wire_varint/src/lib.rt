@@ -22,8 +22,6 @@
 mod fault;
 mod laws;
 mod reading;
-#[cfg(test)]
-mod tests;
 mod writing;
 
 pub use fault::VarintFault;

@@ -1,6 +1,6 @@
 //! Indexes of known digests, and of keys whose digests were computed outside.
-use crate::{Ring, vnode_id};
 use riak_msgs::{BucketType, Bytes, Key};
+use ring_map::{Ring, vnode_id};
 use std::alloc::{AllocError, Global};
 use std::process::Abort;
 

@@ -1,5 +1,5 @@
 //! What no clause says: that ghost state has no bytes.
-use crate::{GhostList, GhostValue};
+use ghost_state::{GhostList, GhostValue};
 use std::mem::size_of;
 use std::process::Abort;
 use std::test::*;

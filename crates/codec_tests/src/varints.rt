@@ -1,7 +1,7 @@
 //! Tests of varints, by the rows of the encoding's documentation and of the formats.
 
-use crate::{VarintFault, len, read, write};
 use std::process::Abort;
+use wire_varint::{VarintFault, len, read, write};
 
 fn reads(rt: &impl Abort, bytes: &[u8], want: Result<(u64, usize), VarintFault>) {
     assert_eq!(rt; read(bytes), want, "at {bytes:?}");
