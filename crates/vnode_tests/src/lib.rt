@@ -1,4 +1,4 @@
-//! Tests of `vnode_core` and `tomb_reaper`, from outside.
+//! Tests of `sibling_register`, `vnode_core` and `tomb_reaper`, from outside: the register, a vnode, and its reaps.
 //!
 //! They stand in a crate of their own, since a crate with tests is proved twice.
 #![tactic(auto)]
@@ -7,3 +7,5 @@
 mod exchanges;
 #[cfg(test)]
 mod reaping;
+#[cfg(test)]
+mod register;

@@ -1,6 +1,8 @@
 //! Deletes with and without a context, and reaps, over two keys.
 
-use crate::tests::asking::{Get, Put, Want, del_gives, get_gives, put_gives, reap_gives, value_is};
+use crate::register::asking::{
+    Get, Put, Want, del_gives, get_gives, put_gives, reap_gives, value_is,
+};
 use sibling_register::PlainRegister;
 use std::alloc::Global;
 use std::process::Abort;

@@ -1,6 +1,6 @@
 //! A key of as many siblings as it may have.
 
-use crate::tests::asking::{Get, Put, Want, del_gives, get_gives, put_gives};
+use crate::register::asking::{Get, Put, Want, del_gives, get_gives, put_gives};
 use sibling_register::{PlainRegister, TOO_MANY_SIBLINGS};
 use std::alloc::Global;
 use std::process::Abort;

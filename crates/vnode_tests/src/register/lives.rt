@@ -1,6 +1,8 @@
 //! A key's life and its next.
 
-use crate::tests::asking::{Get, Put, Want, del_gives, get_gives, put_gives, reap_gives, value_is};
+use crate::register::asking::{
+    Get, Put, Want, del_gives, get_gives, put_gives, reap_gives, value_is,
+};
 use sibling_register::{MATCH_FOUND, PlainRegister};
 use std::alloc::Global;
 use std::process::Abort;

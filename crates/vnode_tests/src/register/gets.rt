@@ -1,6 +1,6 @@
 //! Gets in every option, over two keys.
 
-use crate::tests::asking::{Get, Put, Want, del_gives, get_gives, put_gives};
+use crate::register::asking::{Get, Put, Want, del_gives, get_gives, put_gives};
 use sibling_register::PlainRegister;
 use std::alloc::Global;
 use std::process::Abort;

@@ -1,6 +1,6 @@
 //! Puts in every option, over several keys.
 
-use crate::tests::asking::{Put, Want, put_gives, value_is};
+use crate::register::asking::{Put, Want, put_gives, value_is};
 use sibling_register::{MATCH_FOUND, MODIFIED, NOT_FOUND, PlainRegister};
 use std::alloc::Global;
 use std::process::Abort;

@@ -1,7 +1,0 @@
-//! Tests of `sibling_register`, from outside.
-//!
-//! They are a crate of their own, since a crate with tests is proved twice.
-#![tactic(auto)]
-
-#[cfg(test)]
-mod tests;
