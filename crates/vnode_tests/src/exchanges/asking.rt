@@ -24,7 +24,7 @@ pub(crate) const SIXTY_FIFTH: &[u8] = b"\x01\0\0\0\0\0\x01\0\0\0\0\0\x01\0\0\0\x
 pub(crate) const SECOND_OF_LAST_EPOCH: &[u8] = b"\x01\0\0\0\0\0\x01\0\0\xff\xff\xff\xff\0\0\0\x02";
 
 /// Plans a command, and makes its change where there is one: why it is refused, where it is.
-fn make(vnode: &mut Vnode, alloc: Global, ask: Ask) -> Option<Refusal> {
+pub(crate) fn refusal_of(vnode: &mut Vnode, alloc: Global, ask: Ask) -> Option<Refusal> {
     match vnode.prepare(alloc, ask) {
         Ok(Plan::Change(change)) => {
             drop(vnode.finish(change));
@@ -47,7 +47,7 @@ pub(crate) fn put_once(
     context: &[u8],
 ) -> Option<Refusal> {
     match PutAsk::plain(alloc, b"b", key, context, value) {
-        Ok(ask) => make(vnode, alloc, Ask::Put(ask)),
+        Ok(ask) => refusal_of(vnode, alloc, Ask::Put(ask)),
         Err(_) => Some(Refusal::NoMemory),
     }
 }

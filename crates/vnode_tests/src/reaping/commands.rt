@@ -1,6 +1,8 @@
 //! Reaps as commands: planned, and made.
 
-use crate::reaping::asking::{ID, ask_reap, ask_reap_first, bury, delete, put, reaps};
+use crate::exchanges::asking::{ID, put};
+use crate::exchanges::options_asked::deletes;
+use crate::reaping::asking::{ask_reap, ask_reap_first, bury, reaps};
 use std::alloc::Global;
 use std::process::Abort;
 use vnode_core::{Reaped, Vnode};
@@ -21,7 +23,7 @@ fn may_be_asked_for_of(alloc: Global, vnode: &mut Vnode) -> bool {
 
 fn first_takes_the_least(alloc: Global, vnode: &mut Vnode) -> bool {
     bury(vnode, alloc, b"a")
-        && put(vnode, alloc, b"d", b"v", b"")
+        && put(vnode, alloc, b"d", b"v")
         && ask_reap(vnode, alloc, b"d", Reaped::Kept)
         && bury(vnode, alloc, b"e")
         && ask_reap_first(vnode, alloc, b"c", Reaped::Gone)
@@ -30,7 +32,7 @@ fn first_takes_the_least(alloc: Global, vnode: &mut Vnode) -> bool {
 }
 
 fn one_is_answered_as_it_is(alloc: Global, vnode: &mut Vnode) -> bool {
-    delete(vnode, alloc, b"d")
+    deletes(vnode, alloc, b"d", b"", true)
         && ask_reap(vnode, alloc, b"d", Reaped::Gone)
         && ask_reap(vnode, alloc, b"d", Reaped::Absent)
         && ask_reap(vnode, alloc, b"a", Reaped::Gone)

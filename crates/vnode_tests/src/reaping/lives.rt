@@ -1,8 +1,8 @@
 //! Lives of a key: after a reap a new one begins, and contexts of the old one cover nothing in it.
 
-use crate::reaping::asking::{
-    BOTH_LIVES, FIRST, FIRST_OF_SECOND, ID, bury, delete, put, put_unmodified, reaps, shows,
-};
+use crate::exchanges::asking::{FIRST, FIRST_OF_SECOND, ID, put, put_seen, shows};
+use crate::exchanges::options_asked::deletes;
+use crate::reaping::asking::{BOTH_LIVES, bury, put_unmodified, reaps};
 use std::alloc::Global;
 use std::process::Abort;
 use vnode_core::{Reaped, Refusal, Vnode};
@@ -22,18 +22,18 @@ fn new_epoch_of(alloc: Global, vnode: &mut Vnode) -> bool {
 
 /// A value isn't reaped: the get after it shows the same.
 fn first_life_stays(alloc: Global, vnode: &mut Vnode) -> bool {
-    put(vnode, alloc, b"k", b"b", b"")
+    put(vnode, alloc, b"k", b"b")
         && shows(vnode, alloc, b"k", &[b"b"], FIRST)
         && reaps(vnode, alloc, b"k", Reaped::Kept)
         && shows(vnode, alloc, b"k", &[b"b"], FIRST)
 }
 
 fn second_life_begins(alloc: Global, vnode: &mut Vnode) -> bool {
-    delete(vnode, alloc, b"k")
+    deletes(vnode, alloc, b"k", b"", true)
         && reaps(vnode, alloc, b"k", Reaped::Gone)
         && shows(vnode, alloc, b"k", &[], b"")
         && reaps(vnode, alloc, b"k", Reaped::Absent)
-        && put(vnode, alloc, b"k", b"b", b"")
+        && put(vnode, alloc, b"k", b"b")
         && shows(vnode, alloc, b"k", &[b"b"], FIRST_OF_SECOND)
 }
 
@@ -50,12 +50,12 @@ fn old_context_covers_nothing(rt: HostRuntime) {
 fn live_again(alloc: Global, vnode: &mut Vnode) -> bool {
     bury(vnode, alloc, b"k")
         && reaps(vnode, alloc, b"k", Reaped::Gone)
-        && put(vnode, alloc, b"k", b"b", b"")
+        && put(vnode, alloc, b"k", b"b")
 }
 
 fn covers_nothing_of(alloc: Global, vnode: &mut Vnode) -> bool {
     live_again(alloc, vnode)
-        && put(vnode, alloc, b"k", b"d", FIRST)
+        && put_seen(vnode, alloc, b"k", b"d", FIRST)
         && shows(vnode, alloc, b"k", &[b"d", b"b"], BOTH_LIVES)
 }
 

@@ -1,8 +1,7 @@
 //! Sweeps: which keys are forgotten, and whether more are left.
 
-use crate::reaping::asking::{
-    ID, Wanted, bury, dead_from_is, put, reaps, shows, sweeps_all, sweeps_from,
-};
+use crate::exchanges::asking::{ID, put, shows};
+use crate::reaping::asking::{Wanted, bury, dead_from_is, reaps, sweeps_all, sweeps_from};
 use std::alloc::Global;
 use std::process::Abort;
 use vnode_core::{Reaped, Vnode};
@@ -48,7 +47,7 @@ const LIFE_OF_D: &[u8] = b"\x01\0\0\0\0\0\x01\0\0\0\0\0\x03\0\0\0\x01";
 fn fill(alloc: Global, vnode: &mut Vnode) -> bool {
     bury(vnode, alloc, b"a")
         && bury(vnode, alloc, b"c")
-        && put(vnode, alloc, b"d", b"v", b"")
+        && put(vnode, alloc, b"d", b"v")
         && bury(vnode, alloc, b"e")
 }
 

@@ -1,6 +1,8 @@
 //! Counts: what was accepted, and nothing else.
 
-use crate::reaping::asking::{FIRST, ID, delete, put, put_unmodified, reaps};
+use crate::exchanges::asking::{FIRST, ID, put};
+use crate::exchanges::options_asked::deletes;
+use crate::reaping::asking::{put_unmodified, reaps};
 use std::alloc::Global;
 use std::process::Abort;
 use vnode_core::{Reaped, Refusal, Tally, Vnode};
@@ -25,17 +27,17 @@ fn are_counted_of(alloc: Global, vnode: &mut Vnode) -> bool {
 }
 
 fn puts_are_made(alloc: Global, vnode: &mut Vnode) -> bool {
-    put(vnode, alloc, b"k", b"v", b"") && put(vnode, alloc, b"k", b"w", b"")
+    put(vnode, alloc, b"k", b"v") && put(vnode, alloc, b"k", b"w")
 }
 
 fn nothing_is_made(alloc: Global, vnode: &mut Vnode) -> bool {
     put_unmodified(vnode, alloc, b"k", FIRST) == Some(Refusal::Modified)
-        && delete(vnode, alloc, b"j")
+        && deletes(vnode, alloc, b"j", b"", false)
         && reaps(vnode, alloc, b"k", Reaped::Kept)
 }
 
 fn key_is_forgotten(alloc: Global, vnode: &mut Vnode) -> bool {
-    delete(vnode, alloc, b"k")
+    deletes(vnode, alloc, b"k", b"", true)
         && reaps(vnode, alloc, b"k", Reaped::Gone)
         && reaps(vnode, alloc, b"k", Reaped::Absent)
 }
