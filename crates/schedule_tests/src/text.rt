@@ -3,7 +3,7 @@
 mod bad_steps;
 mod comparing;
 mod outcomes;
-mod reading;
+pub(crate) mod reading;
 
 use std::process::Abort;
 

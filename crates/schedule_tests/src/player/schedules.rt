@@ -1,27 +1,10 @@
 //! Schedules that are played to their end.
 
 use crate::player::playing::is_answered;
+use crate::text::reading::MARKING_WRITER;
 use std::test::Fail;
 
-/// A reader is inside while a writer marks, and a second reader comes in after the put back.
-const MARKING_WRITER: &[u8] = b"ask 1 090a016212016b\n\
-ask 2 0b0a016212016b22030a0176\n\
-ask 3 090a016212016b\n\
-enter 1\n\
-mark 2\n\
-enter 3\n\
-take 2\n\
-look 1\n\
-leave 1\n\
-take 2\n\
-look 2\n\
-publish 2\n\
-enter 3\n\
-put 2\n\
-enter 3\n\
-look 3\n\
-leave 3\n";
-
+/// What is answered to a writer that marks while a reader is inside.
 const MARKING_WRITER_ANSWERS: &[u8] = b"1 ok\n\
 2 ok\n\
 3 ok\n\

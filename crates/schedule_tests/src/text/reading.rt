@@ -129,7 +129,7 @@ fn lines_are_cut_at_line_feeds(rt: HostRuntime) -> Result<(), Fail> {
 }
 
 /// A reader inside while a writer marks, and a second reader that comes in after the put back.
-const MARKING_WRITER: &[u8] = b"ask 1 090a016212016b\n\
+pub(crate) const MARKING_WRITER: &[u8] = b"ask 1 090a016212016b\n\
 ask 2 0b0a016212016b22030a0176\n\
 ask 3 090a016212016b\n\
 enter 1\n\
