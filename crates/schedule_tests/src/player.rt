@@ -1,7 +1,7 @@
 //! Schedules from their first line to the verdict.
 
-mod faults;
 mod limits;
+mod pieces;
 mod playing;
 mod schedules;
 mod streams;

@@ -1,6 +1,4 @@
 //! Schedules, step by step. What is wanted stands in the formats of requests and replies.
 
-mod impossible;
 mod playing;
-mod reaps;
 mod schedules;

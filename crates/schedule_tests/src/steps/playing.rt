@@ -1,18 +1,39 @@
 //! Steps of a world, and what came of them, as yes or no.
 
+use crate::messages::Message;
 use node_steps::{Outcome, Step, StepFault, World};
-use riak_msgs::{Reply, read_request};
+use riak_msgs::{Key, Reply, read_request};
 use std::alloc::Global;
 
-/// A get of the key k in the bucket b.
-pub const GET: &[u8] = b"\x0a\x01b\x12\x01k";
+/// What a worker does.
+pub enum Act {
+    /// It is asked this request, at the vnode of this index.
+    Ask(u16, u16, Message),
+    /// It is asked to forget b/k, at the vnode of this index.
+    Reap(u16, u16),
+    Enter(u16),
+    Leave(u16),
+    Mark(u16),
+    Unmark(u16),
+    Take(u16),
+    Put(u16),
+    Look(u16),
+    Publish(u16),
+}
 
-/// A put of "v" under the key k in the bucket b.
-pub const PUT: &[u8] = b"\x0a\x01b\x12\x01k\x22\x03\x0a\x01v";
-
-/// The body of the reply to a get that shows "v", the first write of the vnode 0 of run 1, and its context.
-pub const SHOWS_V: &[u8] =
-    b"\x0a\x03\x0a\x01v\x12\x11\x01\x00\x00\x00\x00\x00\x01\x00\x00\x00\x00\x00\x01\x00\x00\x00\x01";
+/// What comes of it.
+pub enum Wanted {
+    /// It is possible, and answers nothing.
+    Done,
+    /// It isn't possible.
+    No,
+    /// It answers by this reply.
+    Reply(Message),
+    /// It answers that the key is forgotten.
+    Reaped,
+    /// It answers that the key isn't dead.
+    Kept,
+}
 
 /// A world of run 1, and a second time where memory was refused.
 pub fn world_of(alloc: Global, workers: u16, vnodes: u16) -> Result<World, StepFault> {
@@ -24,97 +45,65 @@ pub fn world_of(alloc: Global, workers: u16, vnodes: u16) -> Result<World, StepF
 
 fn let_go(_outcome: Result<Outcome, StepFault>) {}
 
-fn is_done(outcome: &Result<Outcome, StepFault>) -> bool {
-    matches!(outcome, Ok(Outcome::Done))
-}
-
-fn is_no(outcome: &Result<Outcome, StepFault>) -> bool {
-    matches!(outcome, Ok(Outcome::No))
-}
-
-fn is_no_memory(outcome: &Result<Outcome, StepFault>) -> bool {
-    matches!(outcome, Err(StepFault::NoMemory))
-}
-
-/// The step is possible, and answers nothing.
-pub fn done(world: &mut World, alloc: Global, step: Step) -> bool {
-    let outcome = world.step(alloc, step);
-    let is_so = is_done(&outcome);
-    let_go(outcome);
-    is_so
-}
-
-/// The step isn't possible.
-pub fn no(world: &mut World, alloc: Global, step: Step) -> bool {
-    let outcome = world.step(alloc, step);
-    let is_so = is_no(&outcome);
-    let_go(outcome);
-    is_so
-}
-
-/// What comes of asking a worker by the message of a request.
-fn ask_once(
+fn asks(
     world: &mut World,
     alloc: Global,
     worker: u16,
     vnode: u16,
-    code: u8,
-    body: &[u8],
+    request: &Message,
 ) -> Result<Outcome, StepFault> {
-    match read_request(alloc, code, body) {
+    match read_request(alloc, request.code, request.body) {
         Ok(request) => world.step(alloc, Step::Ask(worker, vnode, request)),
         Err(_) => Err(StepFault::NoMemory),
     }
 }
 
-/// The same, and a second time where memory was refused.
-fn ask_again(
+fn asks_reap(
     world: &mut World,
     alloc: Global,
     worker: u16,
     vnode: u16,
-    code: u8,
-    body: &[u8],
 ) -> Result<Outcome, StepFault> {
-    let outcome = ask_once(world, alloc, worker, vnode, code, body);
-    if !is_no_memory(&outcome) {
+    match Key::of_default_type(alloc, b"b", b"k") {
+        Ok(key) => world.step(alloc, Step::Reap(worker, vnode, key)),
+        Err(_) => Err(StepFault::NoMemory),
+    }
+}
+
+/// Takes a step.
+fn take(world: &mut World, alloc: Global, act: &Act) -> Result<Outcome, StepFault> {
+    let step = match act {
+        Act::Ask(worker, vnode, request) => return asks(world, alloc, *worker, *vnode, request),
+        Act::Reap(worker, vnode) => return asks_reap(world, alloc, *worker, *vnode),
+        Act::Enter(worker) => Step::Enter(*worker),
+        Act::Leave(worker) => Step::Leave(*worker),
+        Act::Mark(worker) => Step::Mark(*worker),
+        Act::Unmark(worker) => Step::Unmark(*worker),
+        Act::Take(worker) => Step::Take(*worker),
+        Act::Put(worker) => Step::Put(*worker),
+        Act::Look(worker) => Step::Look(*worker),
+        Act::Publish(worker) => Step::Publish(*worker),
+    };
+    world.step(alloc, step)
+}
+
+/// Whether memory was refused to a step that asks for some.
+fn lacked_memory(act: &Act, outcome: &Result<Outcome, StepFault>) -> bool {
+    matches!(act, Act::Ask(..) | Act::Reap(..) | Act::Look(_))
+        && matches!(outcome, Err(StepFault::NoMemory))
+}
+
+/// Takes a step, and a second time where memory was refused.
+fn take_again(world: &mut World, alloc: Global, act: &Act) -> Result<Outcome, StepFault> {
+    let outcome = take(world, alloc, act);
+    if !lacked_memory(act, &outcome) {
         return outcome;
     }
-    ask_once(world, alloc, worker, vnode, code, body)
-}
-
-/// A worker gets a call.
-pub fn asked(
-    world: &mut World,
-    alloc: Global,
-    worker: u16,
-    vnode: u16,
-    code: u8,
-    body: &[u8],
-) -> bool {
-    let outcome = ask_again(world, alloc, worker, vnode, code, body);
-    let is_so = is_done(&outcome);
-    let_go(outcome);
-    is_so
-}
-
-/// A worker can't be asked that.
-pub fn not_asked(
-    world: &mut World,
-    alloc: Global,
-    worker: u16,
-    vnode: u16,
-    code: u8,
-    body: &[u8],
-) -> bool {
-    let outcome = ask_again(world, alloc, worker, vnode, code, body);
-    let is_so = is_no(&outcome);
-    let_go(outcome);
-    is_so
+    take(world, alloc, act)
 }
 
 /// The reply has this code and this body.
-fn is_reply(alloc: Global, reply: &Reply, code: u8, body: &[u8]) -> bool {
+fn is_reply(alloc: Global, reply: &Reply, wanted: &Message) -> bool {
     let mut bytes = Vec::new(alloc);
     if reply.append_body(&mut bytes).is_err() {
         bytes.clear();
@@ -122,80 +111,24 @@ fn is_reply(alloc: Global, reply: &Reply, code: u8, body: &[u8]) -> bool {
             return false;
         }
     }
-    reply.code() == code && bytes.as_slice() == body
+    reply.code() == wanted.code && bytes.as_slice() == wanted.body
 }
 
-fn replies(alloc: Global, outcome: &Result<Outcome, StepFault>, code: u8, body: &[u8]) -> bool {
-    match outcome {
-        Ok(Outcome::Reply(reply)) => is_reply(alloc, reply, code, body),
+fn is_wanted(alloc: Global, outcome: &Result<Outcome, StepFault>, wanted: &Wanted) -> bool {
+    match (outcome, wanted) {
+        (Ok(Outcome::Done), Wanted::Done)
+        | (Ok(Outcome::No), Wanted::No)
+        | (Ok(Outcome::Reaped), Wanted::Reaped)
+        | (Ok(Outcome::Kept), Wanted::Kept) => true,
+        (Ok(Outcome::Reply(reply)), Wanted::Reply(message)) => is_reply(alloc, reply, message),
         _ => false,
     }
 }
 
-/// What comes of a look, and a second time where memory was refused.
-fn look_again(world: &mut World, alloc: Global, worker: u16) -> Result<Outcome, StepFault> {
-    let outcome = world.step(alloc, Step::Look(worker));
-    if !is_no_memory(&outcome) {
-        return outcome;
-    }
-    world.step(alloc, Step::Look(worker))
-}
-
-/// A look is answered by this reply.
-pub fn looks(world: &mut World, alloc: Global, worker: u16, code: u8, body: &[u8]) -> bool {
-    let outcome = look_again(world, alloc, worker);
-    let is_so = replies(alloc, &outcome, code, body);
+/// The step comes to this.
+pub fn comes_to(world: &mut World, alloc: Global, act: &Act, wanted: &Wanted) -> bool {
+    let outcome = take_again(world, alloc, act);
+    let is_so = is_wanted(alloc, &outcome, wanted);
     let_go(outcome);
     is_so
-}
-
-/// A look is planned by.
-pub fn plans(world: &mut World, alloc: Global, worker: u16) -> bool {
-    let outcome = look_again(world, alloc, worker);
-    let is_so = is_done(&outcome);
-    let_go(outcome);
-    is_so
-}
-
-/// A look answers that the key isn't dead.
-pub fn keeps(world: &mut World, alloc: Global, worker: u16) -> bool {
-    let outcome = look_again(world, alloc, worker);
-    let is_so = matches!(&outcome, Ok(Outcome::Kept));
-    let_go(outcome);
-    is_so
-}
-
-/// A publish is answered by this reply.
-pub fn publishes(world: &mut World, alloc: Global, worker: u16, code: u8, body: &[u8]) -> bool {
-    let outcome = world.step(alloc, Step::Publish(worker));
-    let is_so = replies(alloc, &outcome, code, body);
-    let_go(outcome);
-    is_so
-}
-
-/// A publish answers that the key is forgotten.
-pub fn reaps(world: &mut World, alloc: Global, worker: u16) -> bool {
-    let outcome = world.step(alloc, Step::Publish(worker));
-    let is_so = matches!(&outcome, Ok(Outcome::Reaped));
-    let_go(outcome);
-    is_so
-}
-
-/// A worker takes the state.
-pub fn takes(world: &mut World, alloc: Global, worker: u16) -> bool {
-    done(world, alloc, Step::Take(worker))
-}
-
-/// A worker puts the state back.
-pub fn puts(world: &mut World, alloc: Global, worker: u16) -> bool {
-    done(world, alloc, Step::Put(worker))
-}
-
-/// A worker puts "v", from its call to its put back.
-pub fn writes(world: &mut World, alloc: Global, worker: u16, vnode: u16) -> bool {
-    asked(world, alloc, worker, vnode, 11, PUT)
-        && takes(world, alloc, worker)
-        && plans(world, alloc, worker)
-        && publishes(world, alloc, worker, 12, b"")
-        && puts(world, alloc, worker)
 }

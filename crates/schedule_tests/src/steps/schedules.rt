@@ -1,107 +1,187 @@
 //! Whole schedules.
 
-use crate::steps::playing::{
-    GET, PUT, SHOWS_V, asked, done, looks, no, plans, publishes, puts, takes, world_of, writes,
-};
+use crate::messages::{ABSENT, DELETE, DELETED, GET, PING, PUT_V, SHOWS_V, STORED};
+use crate::steps::playing::{Act, Wanted, comes_to, world_of};
+use Act::{Ask, Enter, Leave, Look, Mark, Publish, Put, Reap, Take, Unmark};
+use Wanted::{Done, Kept, No, Reaped, Reply};
 use node_steps::{Outcome, Step, StepFault, World};
 use std::alloc::{AllocError, Global};
 use std::process::Abort;
 use std::test::Fail;
 
-/// 1 reads while 2 waits to write and 3 to read: 2 marks the word, so that 3 can't enter, and can't take the state while 1 is
-/// inside. 1 is shown that the key is absent. Once 2 has written "v" and put the state back, 3 is shown it.
+/// Steps of a world, each with what comes of it.
+struct Schedule {
+    shows: &'static str,
+    workers: u16,
+    vnodes: u16,
+    steps: &'static [(Act, Wanted)],
+}
+
+const SCHEDULES: &[Schedule] = &[
+    // 1 reads while 2 waits to write and 3 to read: 2 marks the word, so that 3 can't enter, and can't take the state while 1
+    // is inside. 1 is shown that the key is absent. Once 2 has written "v" and put the state back, 3 is shown it.
+    Schedule {
+        shows: "readers and a writer",
+        workers: 3,
+        vnodes: 1,
+        steps: &[
+            (Ask(1, 0, GET), Done),
+            (Ask(2, 0, PUT_V), Done),
+            (Ask(3, 0, GET), Done),
+            (Enter(1), Done),
+            (Mark(2), Done),
+            (Enter(3), No),
+            (Take(2), No),
+            (Look(1), Reply(ABSENT)),
+            (Leave(1), Done),
+            (Take(2), Done),
+            (Look(2), Done),
+            (Publish(2), Reply(STORED)),
+            (Enter(3), No),
+            (Put(2), Done),
+            (Enter(3), Done),
+            (Look(3), Reply(SHOWS_V)),
+            (Leave(3), Done),
+        ],
+    },
+    // A worker holds one vnode while another writes at the other: no vnode is in the other's way, and a key is that of its
+    // vnode alone.
+    Schedule {
+        shows: "two vnodes apart",
+        workers: 2,
+        vnodes: 2,
+        steps: &[
+            (Ask(1, 1, GET), Done),
+            (Take(1), Done),
+            (Ask(2, 0, PUT_V), Done),
+            (Take(2), Done),
+            (Look(2), Done),
+            (Publish(2), Reply(STORED)),
+            (Put(2), Done),
+            (Look(1), Reply(ABSENT)),
+            (Put(1), Done),
+            (Ask(1, 0, GET), Done),
+            (Enter(1), Done),
+            (Look(1), Reply(SHOWS_V)),
+        ],
+    },
+    // The next holder can't publish it, and its own worker looks again.
+    Schedule {
+        shows: "a plan ends with its put back",
+        workers: 2,
+        vnodes: 1,
+        steps: &[
+            (Ask(1, 0, PUT_V), Done),
+            (Take(1), Done),
+            (Look(1), Done),
+            (Put(1), Done),
+            (Ask(2, 0, GET), Done),
+            (Take(2), Done),
+            (Publish(2), No),
+            (Look(2), Reply(ABSENT)),
+            (Put(2), Done),
+            (Take(1), Done),
+            (Publish(1), No),
+            (Look(1), Done),
+            (Publish(1), Reply(STORED)),
+        ],
+    },
+    // A key that has a value is kept; once it is deleted its tombstone is reaped, and then it is absent.
+    Schedule {
+        shows: "a dead key is reaped",
+        workers: 1,
+        vnodes: 1,
+        steps: &[
+            (Ask(1, 0, PUT_V), Done),
+            (Take(1), Done),
+            (Look(1), Done),
+            (Publish(1), Reply(STORED)),
+            (Put(1), Done),
+            (Reap(1, 0), Done),
+            (Take(1), Done),
+            (Look(1), Kept),
+            (Put(1), Done),
+            (Ask(1, 0, DELETE), Done),
+            (Take(1), Done),
+            (Look(1), Done),
+            (Publish(1), Reply(DELETED)),
+            (Put(1), Done),
+            (Reap(1, 0), Done),
+            (Take(1), Done),
+            (Look(1), Done),
+            (Publish(1), Reaped),
+            (Put(1), Done),
+            (Ask(1, 0, GET), Done),
+            (Take(1), Done),
+            (Look(1), Reply(ABSENT)),
+        ],
+    },
+    // There is no worker 0 and no worker 3 of two, and no vnode 1 of one.
+    Schedule {
+        shows: "nobody is asked a ping; who has a call gets no other",
+        workers: 2,
+        vnodes: 1,
+        steps: &[
+            (Ask(1, 0, PING), No),
+            (Ask(0, 0, GET), No),
+            (Ask(3, 0, GET), No),
+            (Ask(1, 1, GET), No),
+            (Ask(1, 0, GET), Done),
+            (Ask(1, 0, PUT_V), No),
+            (Enter(0), No),
+            (Enter(3), No),
+            (Look(2), No),
+        ],
+    },
+    // A put doesn't enter as a reader; nobody leaves, puts back or looks from outside; a word is marked once; and a state
+    // that is taken can be neither entered, marked nor taken.
+    Schedule {
+        shows: "what a phase and a word refuse",
+        workers: 2,
+        vnodes: 1,
+        steps: &[
+            (Ask(1, 0, PUT_V), Done),
+            (Enter(1), No),
+            (Leave(1), No),
+            (Put(1), No),
+            (Look(1), No),
+            (Publish(1), No),
+            (Unmark(1), No),
+            (Mark(1), Done),
+            (Mark(1), No),
+            (Unmark(1), Done),
+            (Take(1), Done),
+            (Publish(1), No),
+            (Ask(2, 0, GET), Done),
+            (Enter(2), No),
+            (Mark(2), No),
+            (Take(2), No),
+        ],
+    },
+];
+
+fn come_to(world: &mut World, alloc: Global, steps: &[(Act, Wanted)]) -> bool {
+    for (act, wanted) in steps {
+        if !comes_to(world, alloc, act, wanted) {
+            return false;
+        }
+    }
+    true
+}
+
+/// Whether a row holds.
+fn plays(alloc: Global, row: &Schedule) -> bool {
+    match world_of(alloc, row.workers, row.vnodes) {
+        Ok(mut world) => come_to(&mut world, alloc, row.steps),
+        Err(_) => false,
+    }
+}
+
 #[test]
-fn readers_and_a_writer(rt: HostRuntime) -> Result<(), Fail> {
-    let alloc = rt.alloc();
-    let mut world = world_of(alloc, 3, 1)?;
-    let is_so = one_reads(&mut world, alloc)
-        && two_writes(&mut world, alloc)
-        && three_reads(&mut world, alloc);
-    drop(world);
-    assert!(&rt; is_so);
-    Ok(())
-}
-
-fn one_reads(world: &mut World, alloc: Global) -> bool {
-    asked(world, alloc, 1, 0, 9, GET)
-        && asked(world, alloc, 2, 0, 11, PUT)
-        && asked(world, alloc, 3, 0, 9, GET)
-        && done(world, alloc, Step::Enter(1))
-        && done(world, alloc, Step::Mark(2))
-        && no(world, alloc, Step::Enter(3))
-        && no(world, alloc, Step::Take(2))
-        && looks(world, alloc, 1, 10, b"")
-        && done(world, alloc, Step::Leave(1))
-}
-
-fn two_writes(world: &mut World, alloc: Global) -> bool {
-    takes(world, alloc, 2)
-        && plans(world, alloc, 2)
-        && publishes(world, alloc, 2, 12, b"")
-        && no(world, alloc, Step::Enter(3))
-        && puts(world, alloc, 2)
-}
-
-fn three_reads(world: &mut World, alloc: Global) -> bool {
-    done(world, alloc, Step::Enter(3))
-        && looks(world, alloc, 3, 10, SHOWS_V)
-        && done(world, alloc, Step::Leave(3))
-}
-
-/// A worker holds one vnode while another writes at the other: no vnode is in the other's way, and a key is that of its
-/// vnode alone.
-#[test]
-fn two_vnodes_apart(rt: HostRuntime) -> Result<(), Fail> {
-    let alloc = rt.alloc();
-    let mut world = world_of(alloc, 2, 2)?;
-    let is_so = holds_one(&mut world, alloc) && reads_both(&mut world, alloc);
-    drop(world);
-    assert!(&rt; is_so);
-    Ok(())
-}
-
-fn holds_one(world: &mut World, alloc: Global) -> bool {
-    asked(world, alloc, 1, 1, 9, GET)
-        && takes(world, alloc, 1)
-        && writes(world, alloc, 2, 0)
-        && looks(world, alloc, 1, 10, b"")
-        && puts(world, alloc, 1)
-}
-
-fn reads_both(world: &mut World, alloc: Global) -> bool {
-    asked(world, alloc, 1, 0, 9, GET)
-        && done(world, alloc, Step::Enter(1))
-        && looks(world, alloc, 1, 10, SHOWS_V)
-}
-
-/// A plan that is put back is gone: the next holder can't publish it, and its own worker looks again.
-#[test]
-fn a_plan_ends_with_its_put_back(rt: HostRuntime) -> Result<(), Fail> {
-    let alloc = rt.alloc();
-    let mut world = world_of(alloc, 2, 1)?;
-    let is_so = puts_a_plan_back(&mut world, alloc) && plans_again(&mut world, alloc);
-    drop(world);
-    assert!(&rt; is_so);
-    Ok(())
-}
-
-fn puts_a_plan_back(world: &mut World, alloc: Global) -> bool {
-    asked(world, alloc, 1, 0, 11, PUT)
-        && takes(world, alloc, 1)
-        && plans(world, alloc, 1)
-        && puts(world, alloc, 1)
-}
-
-fn plans_again(world: &mut World, alloc: Global) -> bool {
-    asked(world, alloc, 2, 0, 9, GET)
-        && takes(world, alloc, 2)
-        && no(world, alloc, Step::Publish(2))
-        && looks(world, alloc, 2, 10, b"")
-        && puts(world, alloc, 2)
-        && takes(world, alloc, 1)
-        && no(world, alloc, Step::Publish(1))
-        && plans(world, alloc, 1)
-        && publishes(world, alloc, 1, 12, b"")
+fn each_step_comes_to_its_outcome(rt: HostRuntime) {
+    for row in SCHEDULES {
+        assert!(rt; plays(rt.alloc(), row), "{}", row.shows);
+    }
 }
 
 fn let_go(_outcomes: Result<Vec<Outcome>, StepFault>) {}
@@ -125,15 +205,22 @@ fn are_as_taken(outcomes: &Result<Vec<Outcome>, StepFault>) -> bool {
     }
 }
 
+fn runs(world: &mut World, alloc: Global) -> bool {
+    let Ok(steps) = four_steps(alloc) else {
+        return false;
+    };
+    let outcomes = world.run(alloc, steps);
+    let is_so = are_as_taken(&outcomes);
+    let_go(outcomes);
+    is_so
+}
+
 /// The outcomes of a run stand in the order of its steps.
 #[test]
 fn a_run_takes_its_steps_in_order(rt: HostRuntime) -> Result<(), Fail> {
     let alloc = rt.alloc();
     let mut world = world_of(alloc, 2, 1)?;
-    let is_asked = asked(&mut world, alloc, 1, 0, 9, GET);
-    let outcomes = world.run(alloc, four_steps(alloc)?);
-    let is_so = is_asked && are_as_taken(&outcomes);
-    let_go(outcomes);
+    let is_so = comes_to(&mut world, alloc, &Ask(1, 0, GET), &Done) && runs(&mut world, alloc);
     drop(world);
     assert!(&rt; is_so);
     Ok(())

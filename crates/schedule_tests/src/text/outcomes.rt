@@ -1,93 +1,159 @@
 //! The lines that outcomes and verdicts are written as.
 
-use riak_msgs::{MsgFault, Reply, read_reply};
+use crate::messages::{ABSENT, DELETED, Message, SHOWS_V, STORED, reply_again};
+use riak_msgs::{MsgFault, Reply};
 use schedule_text::*;
 use std::alloc::{AllocError, Global};
 use std::process::Abort;
-use std::test::Fail;
 
-/// Writes, and a second time where memory was refused.
-fn write_again(
-    alloc: Global,
-    number: u64,
-    outcome: StepOutcome<'_>,
-) -> Result<Vec<u8>, AllocError> {
-    match write_outcome(alloc, number, outcome) {
-        Err(_) => write_outcome(alloc, number, outcome),
-        written => written,
+/// What a line is written of.
+enum Written {
+    /// A step that was taken, at the line of this number.
+    Done(u64),
+    /// A step that was not possible.
+    No(u64),
+    /// The step that forgot a dead key.
+    Reaped(u64),
+    /// The step that found that its key isn't dead.
+    Kept(u64),
+    /// The reply to a step.
+    Reply(u64, Message),
+    /// The verdict of a run.
+    Verdict(Verdict),
+}
+
+/// A line as it is written.
+struct WrittenLine {
+    shows: &'static str,
+    of: Written,
+    line: &'static str,
+}
+
+const WRITTEN_LINES: &[WrittenLine] = &[
+    WrittenLine {
+        shows: "a step that was taken",
+        of: Written::Done(1),
+        line: "1 ok\n",
+    },
+    WrittenLine {
+        shows: "a step that was not possible",
+        of: Written::No(6),
+        line: "6 no\n",
+    },
+    WrittenLine {
+        shows: "a key that was forgotten",
+        of: Written::Reaped(100_000),
+        line: "100000 reaped\n",
+    },
+    WrittenLine {
+        shows: "a key that isn't dead",
+        of: Written::Kept(10),
+        line: "10 kept\n",
+    },
+    WrittenLine {
+        shows: "the reply to a get of an absent key",
+        of: Written::Reply(8, ABSENT),
+        line: "8 reply 0a\n",
+    },
+    WrittenLine {
+        shows: "the reply to a put",
+        of: Written::Reply(12, STORED),
+        line: "12 reply 0c\n",
+    },
+    WrittenLine {
+        shows: "the reply to a delete",
+        of: Written::Reply(3, DELETED),
+        line: "3 reply 0e\n",
+    },
+    WrittenLine {
+        shows: "a reply is its code and body in hexadecimal",
+        of: Written::Reply(16, SHOWS_V),
+        line: "16 reply 0a0a030a017612110100000000000100000000000100000001\n",
+    },
+    WrittenLine {
+        shows: "the error message of a refusal",
+        of: Written::Reply(
+            2,
+            Message {
+                code: 0,
+                body: b"\x0a\x0bmatch_found\x10\x01",
+            },
+        ),
+        line: "2 reply 000a0b6d617463685f666f756e641001\n",
+    },
+    WrittenLine {
+        shows: "the verdict of a run that equals plain registers",
+        of: Written::Verdict(Verdict::Equal),
+        line: "plain equal\n",
+    },
+    WrittenLine {
+        shows: "the verdict of a run that differs",
+        of: Written::Verdict(Verdict::DiffersAt(17)),
+        line: "plain differs at line 17\n",
+    },
+    WrittenLine {
+        shows: "the verdict of a run that is not compared",
+        of: Written::Verdict(Verdict::NotCompared),
+        line: "plain not compared\n",
+    },
+];
+
+fn is_line(written: &Result<Vec<u8>, AllocError>, line: &str) -> bool {
+    match written {
+        Ok(written) => written.as_slice() == line.as_bytes(),
+        Err(_) => false,
     }
 }
 
-fn writes(
-    rt: &impl Abort,
-    alloc: Global,
-    number: u64,
-    outcome: StepOutcome<'_>,
-    want: &[u8],
-) -> Result<(), AllocError> {
-    let line = write_again(alloc, number, outcome)?;
-    assert_eq!(rt; line.as_slice(), want);
-    Ok(())
-}
-
-#[test]
-fn each_outcome_has_its_word(rt: HostRuntime) -> Result<(), Fail> {
-    let alloc = rt.alloc();
-    writes(&rt, alloc, 1, StepOutcome::Done, b"1 ok\n")?;
-    writes(&rt, alloc, 6, StepOutcome::No, b"6 no\n")?;
-    writes(&rt, alloc, 100_000, StepOutcome::Reaped, b"100000 reaped\n")?;
-    writes(&rt, alloc, 10, StepOutcome::Kept, b"10 kept\n")?;
-    Ok(())
-}
-
-/// Reads a reply, and a second time where memory was refused.
-pub fn reply_again(alloc: Global, code: u8, body: &[u8]) -> Result<Reply, MsgFault> {
-    match read_reply(alloc, code, body) {
-        Err(MsgFault::NoMemory) => read_reply(alloc, code, body),
-        other => other,
+/// Writes an outcome, and a second time where memory was refused.
+fn writes_outcome(alloc: Global, number: u64, outcome: StepOutcome<'_>, line: &str) -> bool {
+    let mut written = write_outcome(alloc, number, outcome);
+    if written.is_err() {
+        written = write_outcome(alloc, number, outcome);
     }
+    is_line(&written, line)
+}
+
+/// Writes a verdict, and a second time where memory was refused.
+fn writes_verdict(alloc: Global, verdict: Verdict, line: &str) -> bool {
+    let mut written = write_verdict(alloc, verdict);
+    if written.is_err() {
+        written = write_verdict(alloc, verdict);
+    }
+    is_line(&written, line)
 }
 
 fn let_go(_reply: Result<Reply, MsgFault>) {}
 
-fn writes_read(
-    rt: &impl Abort,
-    alloc: Global,
-    number: u64,
-    reply: &Result<Reply, MsgFault>,
-    want: &[u8],
-) {
+fn writes_read(alloc: Global, number: u64, reply: &Result<Reply, MsgFault>, line: &str) -> bool {
     match reply {
-        Ok(reply) => assert!(rt;
-            writes(rt, alloc, number, StepOutcome::Reply(reply), want).is_ok()
-        ),
-        Err(_) => assert!(rt; false, "a reply"),
+        Ok(reply) => writes_outcome(alloc, number, StepOutcome::Reply(reply), line),
+        Err(_) => false,
     }
 }
 
-fn writes_reply(rt: &impl Abort, alloc: Global, number: u64, code: u8, body: &[u8], want: &[u8]) {
-    let reply = reply_again(alloc, code, body);
-    writes_read(rt, alloc, number, &reply, want);
+fn writes_reply(alloc: Global, number: u64, message: &Message, line: &str) -> bool {
+    let reply = reply_again(alloc, message);
+    let is_so = writes_read(alloc, number, &reply, line);
     let_go(reply);
+    is_so
+}
+
+/// Whether a row holds.
+fn writes(alloc: Global, row: &WrittenLine) -> bool {
+    match &row.of {
+        Written::Done(number) => writes_outcome(alloc, *number, StepOutcome::Done, row.line),
+        Written::No(number) => writes_outcome(alloc, *number, StepOutcome::No, row.line),
+        Written::Reaped(number) => writes_outcome(alloc, *number, StepOutcome::Reaped, row.line),
+        Written::Kept(number) => writes_outcome(alloc, *number, StepOutcome::Kept, row.line),
+        Written::Reply(number, message) => writes_reply(alloc, *number, message, row.line),
+        Written::Verdict(verdict) => writes_verdict(alloc, *verdict, row.line),
+    }
 }
 
 #[test]
-fn replies_are_code_and_body_in_hexadecimal(rt: HostRuntime) -> Result<(), Fail> {
-    let alloc = rt.alloc();
-    writes_reply(&rt, alloc, 8, 10, b"", b"8 reply 0a\n");
-    writes_reply(&rt, alloc, 12, 12, b"", b"12 reply 0c\n");
-    writes_reply(&rt, alloc, 3, 14, b"", b"3 reply 0e\n");
-    let body = b"\x0a\x03\x0a\x01v\x12\x11\x01\0\0\0\0\0\x01\0\0\0\0\0\x01\0\0\0\x01";
-    let want = b"16 reply 0a0a030a017612110100000000000100000000000100000001\n";
-    writes_reply(&rt, alloc, 16, 10, body, want);
-    let refused = b"\x0a\x0bmatch_found\x10\x01";
-    writes_reply(
-        &rt,
-        alloc,
-        2,
-        0,
-        refused,
-        b"2 reply 000a0b6d617463685f666f756e641001\n",
-    );
-    Ok(())
+fn each_outcome_and_each_verdict_has_its_line(rt: HostRuntime) {
+    for row in WRITTEN_LINES {
+        assert!(rt; writes(rt.alloc(), row), "{}", row.shows);
+    }
 }

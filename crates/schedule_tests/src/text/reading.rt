@@ -1,14 +1,12 @@
-//! Lines that are steps, and the lines of a text.
+//! The lines of a text, those that are steps and those that are none.
 
-use crate::text::check;
 use riak_msgs::{Key, Request};
 use schedule_text::*;
 use std::alloc::Global;
 use std::process::Abort;
-use std::test::Fail;
 
 /// Reads, and a second time where memory was refused: then the answer is the same as it would have been.
-pub fn read_again(alloc: Global, text: &[u8]) -> Result<Line, LineFault> {
+fn read_again(alloc: Global, text: &[u8]) -> Result<Line, LineFault> {
     match read_line(alloc, text, 3) {
         Err(LineFault::NoMemory) => read_line(alloc, text, 3),
         other => other,
@@ -16,120 +14,267 @@ pub fn read_again(alloc: Global, text: &[u8]) -> Result<Line, LineFault> {
 }
 
 /// Lets a line go, in this one function: to let one go costs the prover seconds.
-pub fn let_go(_read: Result<Line, LineFault>) {}
+fn let_go(_read: Result<Line, LineFault>) {}
 
-fn is_gate_step(read: &Result<Line, LineFault>, worker: u16, step: GateStep) -> bool {
-    match read {
-        Ok(line) => match &line.action {
-            Action::Gate(found) => line.worker == worker && *found == step,
-            _ => false,
-        },
-        Err(_) => false,
-    }
+/// What a line asks its worker for.
+enum Asks {
+    /// A step at the gate.
+    Gate(GateStep),
+    /// A get of b/k.
+    Get,
+    /// A put of "v" under b/k.
+    Put,
+    /// To forget b/k.
+    Reap,
 }
 
-/// The text is this step of this worker, of three.
-fn steps(rt: &impl Abort, alloc: Global, text: &[u8], worker: u16, step: GateStep) {
-    let read = read_again(alloc, text);
-    let is = is_gate_step(&read, worker, step);
-    let_go(read);
-    assert!(rt; is);
+use Asks::{Gate, Get, Put, Reap};
+
+/// A line that is a step of one of three workers.
+struct StepLine {
+    shows: &'static str,
+    line: &'static str,
+    worker: u16,
+    asks: Asks,
 }
 
-#[test]
-fn each_word_is_a_step(rt: HostRuntime) -> Result<(), Fail> {
-    let alloc = rt.alloc();
-    steps(&rt, alloc, b"enter 1", 1, GateStep::Enter);
-    steps(&rt, alloc, b"leave 2", 2, GateStep::Leave);
-    steps(&rt, alloc, b"mark 3", 3, GateStep::Mark);
-    steps(&rt, alloc, b"unmark 1", 1, GateStep::Unmark);
-    steps(&rt, alloc, b"take 2", 2, GateStep::Take);
-    steps(&rt, alloc, b"put 3", 3, GateStep::Put);
-    steps(&rt, alloc, b"look 1", 1, GateStep::Look);
-    steps(&rt, alloc, b"publish 2", 2, GateStep::Publish);
-    Ok(())
-}
+const STEP_LINES: &[StepLine] = &[
+    StepLine {
+        shows: "a worker enters",
+        line: "enter 1",
+        worker: 1,
+        asks: Gate(GateStep::Enter),
+    },
+    StepLine {
+        shows: "a worker leaves",
+        line: "leave 2",
+        worker: 2,
+        asks: Gate(GateStep::Leave),
+    },
+    StepLine {
+        shows: "a worker marks",
+        line: "mark 3",
+        worker: 3,
+        asks: Gate(GateStep::Mark),
+    },
+    StepLine {
+        shows: "a worker takes its mark away",
+        line: "unmark 1",
+        worker: 1,
+        asks: Gate(GateStep::Unmark),
+    },
+    StepLine {
+        shows: "a worker takes the state",
+        line: "take 2",
+        worker: 2,
+        asks: Gate(GateStep::Take),
+    },
+    StepLine {
+        shows: "a worker puts the state back",
+        line: "put 3",
+        worker: 3,
+        asks: Gate(GateStep::Put),
+    },
+    StepLine {
+        shows: "a worker looks",
+        line: "look 1",
+        worker: 1,
+        asks: Gate(GateStep::Look),
+    },
+    StepLine {
+        shows: "a worker publishes",
+        line: "publish 2",
+        worker: 2,
+        asks: Gate(GateStep::Publish),
+    },
+    StepLine {
+        shows: "a worker is asked to get",
+        line: "ask 1 090a016212016b",
+        worker: 1,
+        asks: Get,
+    },
+    StepLine {
+        shows: "a worker is asked to put",
+        line: "ask 2 0b0a016212016b22030a0176",
+        worker: 2,
+        asks: Put,
+    },
+    StepLine {
+        shows: "a worker is asked to forget a key",
+        line: "reap 3 090a016212016b",
+        worker: 3,
+        asks: Reap,
+    },
+];
 
 /// The key is k in the bucket b.
 fn is_key(key: &Key) -> bool {
     key.bucket.as_slice() == b"b".as_slice() && key.key.as_slice() == b"k".as_slice()
 }
 
-/// Worker 1 is asked to get b/k.
-fn is_get(read: &Result<Line, LineFault>) -> bool {
+fn is_request(request: &Request, asks: &Asks) -> bool {
+    match (request, asks) {
+        (Request::Get(ask), Get) => is_key(&ask.key),
+        (Request::Put(ask), Put) => {
+            is_key(&ask.key) && ask.content.as_content().value() == b"v".as_slice()
+        }
+        _ => false,
+    }
+}
+
+fn is_action(action: &Action, asks: &Asks) -> bool {
+    match (action, asks) {
+        (Action::Ask(request), _) => is_request(request, asks),
+        (Action::Reap(key), Reap) => is_key(key),
+        (Action::Gate(found), Gate(step)) => *found == *step,
+        _ => false,
+    }
+}
+
+fn is_step(read: &Result<Line, LineFault>, row: &StepLine) -> bool {
     match read {
-        Ok(line) => match &line.action {
-            Action::Ask(Request::Get(ask)) => line.worker == 1 && is_key(&ask.key),
-            _ => false,
-        },
+        Ok(line) => line.worker == row.worker && is_action(&line.action, &row.asks),
         Err(_) => false,
     }
 }
 
-/// Worker 2 is asked to put "v" under b/k.
-fn is_put(read: &Result<Line, LineFault>) -> bool {
-    match read {
-        Ok(line) => match &line.action {
-            Action::Ask(Request::Put(ask)) => {
-                line.worker == 2
-                    && is_key(&ask.key)
-                    && ask.content.as_content().value() == b"v".as_slice()
-            }
-            _ => false,
-        },
-        Err(_) => false,
+/// Whether a row holds.
+fn is_read(alloc: Global, row: &StepLine) -> bool {
+    let read = read_again(alloc, row.line.as_bytes());
+    let is = is_step(&read, row);
+    let_go(read);
+    is
+}
+
+#[test]
+fn each_word_is_a_step(rt: HostRuntime) {
+    for row in STEP_LINES {
+        assert!(rt; is_read(rt.alloc(), row), "{}", row.shows);
     }
 }
 
-/// Worker 3 is asked to forget b/k.
-fn is_reap(read: &Result<Line, LineFault>) -> bool {
+/// Lines that are no steps for one reason, where there are three workers.
+struct BadSteps {
+    shows: &'static str,
+    lines: &'static [&'static str],
+}
+
+const BAD_STEPS: &[BadSteps] = &[
+    BadSteps {
+        shows: "workers are numbered from 1 without leading zeros",
+        lines: &[
+            "enter 01",
+            "enter 0",
+            "enter 4",
+            "enter +1",
+            "enter -1",
+            "enter 65537",
+            "enter one",
+            "ask 01 090a016212016b",
+            "reap 4 090a016212016b",
+        ],
+    },
+    BadSteps {
+        shows: "one space stands between the parts",
+        lines: &[
+            "",
+            "enter",
+            "enter ",
+            "enter  1",
+            "enter 1 ",
+            " enter 1",
+            "enter\t1",
+            "enter 1\r",
+            "ask  1 090a016212016b",
+            "ask 1  090a016212016b",
+            "ask 1 090a016212016b ",
+        ],
+    },
+    BadSteps {
+        shows: "other words are no steps",
+        lines: &[
+            "wait 1",
+            "Enter 1",
+            "enters 1",
+            "ask 1",
+            "ask 1 ",
+            "enter 1 090a016212016b",
+        ],
+    },
+    BadSteps {
+        shows: "messages are lower case and of even length",
+        lines: &[
+            "ask 1 090A016212016B",
+            "ask 1 090a016212016",
+            "ask 1 090a016212016g",
+            "ask 1 0x090a016212016b",
+        ],
+    },
+    BadSteps {
+        shows: "a ping is no step, and neither is an unknown code",
+        lines: &["ask 1 01", "ask 1 07"],
+    },
+    BadSteps {
+        shows: "a get has its key, and its bucket isn't empty",
+        lines: &["ask 1 090a0162", "ask 1 090a0012016b"],
+    },
+    BadSteps {
+        shows: "bytes that are no fields are no request",
+        lines: &["ask 1 09ff"],
+    },
+    BadSteps {
+        shows: "a reap is asked for by a get",
+        lines: &["reap 1 0b0a016212016b22030a0176", "reap 1 01"],
+    },
+];
+
+fn is_bad_step(read: &Result<Line, LineFault>) -> bool {
     match read {
-        Ok(line) => match &line.action {
-            Action::Reap(key) => line.worker == 3 && is_key(key),
-            _ => false,
-        },
-        Err(_) => false,
+        Ok(_) => false,
+        Err(fault) => *fault == LineFault::BadStep,
+    }
+}
+
+fn is_bad(alloc: Global, line: &str) -> bool {
+    let read = read_again(alloc, line.as_bytes());
+    let is = is_bad_step(&read);
+    let_go(read);
+    is
+}
+
+/// The lines of a row are bad steps.
+fn are_bad(rt: &impl Abort, alloc: Global, row: &BadSteps) {
+    for line in row.lines {
+        assert!(rt; is_bad(alloc, line), "{}: {line}", row.shows);
     }
 }
 
 #[test]
-fn ask_and_reap_carry_requests(rt: HostRuntime) -> Result<(), Fail> {
-    let alloc = rt.alloc();
-    let get = read_again(alloc, b"ask 1 090a016212016b");
-    check(&rt, is_get(&get));
-    let_go(get);
-    let put = read_again(alloc, b"ask 2 0b0a016212016b22030a0176");
-    check(&rt, is_put(&put));
-    let_go(put);
-    let reap = read_again(alloc, b"reap 3 090a016212016b");
-    check(&rt, is_reap(&reap));
-    let_go(reap);
-    Ok(())
+fn other_lines_are_bad_steps(rt: HostRuntime) {
+    for row in BAD_STEPS {
+        are_bad(&rt, rt.alloc(), row);
+    }
 }
 
-/// The next line is this one.
-fn is_next(lines: &mut Lines<'_>, want: Option<&[u8]>) -> bool {
-    lines.next() == want
+/// A line that a text is cut into.
+enum Piece {
+    /// It is a step.
+    Step(&'static str),
+    /// It is none.
+    Other(&'static str),
 }
 
-#[test]
-fn lines_are_cut_at_line_feeds(rt: HostRuntime) -> Result<(), Fail> {
-    let mut lines = Lines::new(b"enter 1\n\nleave 1");
-    check(&rt, is_next(&mut lines, Some(b"enter 1")));
-    check(&rt, is_next(&mut lines, Some(b"")));
-    check(&rt, is_next(&mut lines, Some(b"leave 1")));
-    check(&rt, is_next(&mut lines, None));
-    check(&rt, is_next(&mut lines, None));
-    let mut ended = Lines::new(b"mark 2\n");
-    check(&rt, is_next(&mut ended, Some(b"mark 2")));
-    check(&rt, is_next(&mut ended, None));
-    let mut empty = Lines::new(b"");
-    check(&rt, is_next(&mut empty, None));
-    Ok(())
+use Piece::{Other, Step};
+
+/// A text and its lines.
+struct Cut {
+    shows: &'static str,
+    text: &'static str,
+    lines: &'static [Piece],
 }
 
 /// A reader inside while a writer marks, and a second reader that comes in after the put back.
-pub(crate) const MARKING_WRITER: &[u8] = b"ask 1 090a016212016b\n\
+pub(crate) const MARKING_WRITER: &str = "ask 1 090a016212016b\n\
 ask 2 0b0a016212016b22030a0176\n\
 ask 3 090a016212016b\n\
 enter 1\n\
@@ -147,33 +292,89 @@ enter 3\n\
 look 3\n\
 leave 3\n";
 
-fn is_step(alloc: Global, text: &[u8]) -> bool {
-    let read = read_again(alloc, text);
+const CUTS: &[Cut] = &[
+    Cut {
+        shows: "lines are cut at line feeds",
+        text: "enter 1\n\nleave 1",
+        lines: &[Step("enter 1"), Other(""), Step("leave 1")],
+    },
+    Cut {
+        shows: "no line stands behind the last line feed",
+        text: "mark 2\n",
+        lines: &[Step("mark 2")],
+    },
+    Cut {
+        shows: "an empty text has no line",
+        text: "",
+        lines: &[],
+    },
+    Cut {
+        shows: "two of four lines are steps",
+        text: "enter 1\n\nenter 01\nleave 1",
+        lines: &[
+            Step("enter 1"),
+            Other(""),
+            Other("enter 01"),
+            Step("leave 1"),
+        ],
+    },
+    Cut {
+        shows: "the schedule of a marking writer has 17 steps",
+        text: MARKING_WRITER,
+        lines: &[
+            Step("ask 1 090a016212016b"),
+            Step("ask 2 0b0a016212016b22030a0176"),
+            Step("ask 3 090a016212016b"),
+            Step("enter 1"),
+            Step("mark 2"),
+            Step("enter 3"),
+            Step("take 2"),
+            Step("look 1"),
+            Step("leave 1"),
+            Step("take 2"),
+            Step("look 2"),
+            Step("publish 2"),
+            Step("enter 3"),
+            Step("put 2"),
+            Step("enter 3"),
+            Step("look 3"),
+            Step("leave 3"),
+        ],
+    },
+];
+
+/// The line is a step of whatever kind.
+fn is_any_step(alloc: Global, line: &[u8]) -> bool {
+    let read = read_again(alloc, line);
     let is = read.is_ok();
     let_go(read);
     is
 }
 
-/// How many lines of a schedule are steps, and how many aren't.
-fn count_steps(alloc: Global, schedule: &[u8]) -> (u32, u32) {
-    let mut steps: u32 = 0;
-    let mut others: u32 = 0;
-    for text in Lines::new(schedule) {
-        if is_step(alloc, text) {
-            steps = steps.saturating_add(1);
-        } else {
-            others = others.saturating_add(1);
+fn is_piece(alloc: Global, line: Option<&[u8]>, piece: &Piece) -> bool {
+    let Some(line) = line else {
+        return false;
+    };
+    match piece {
+        Step(text) => line == text.as_bytes() && is_any_step(alloc, line),
+        Other(text) => line == text.as_bytes() && !is_any_step(alloc, line),
+    }
+}
+
+/// Whether a row holds. Behind its last line a text has no other, however often it is asked.
+fn is_cut(alloc: Global, row: &Cut) -> bool {
+    let mut lines = Lines::new(row.text.as_bytes());
+    for piece in row.lines {
+        if !is_piece(alloc, lines.next(), piece) {
+            return false;
         }
     }
-    (steps, others)
+    lines.next().is_none() && lines.next().is_none()
 }
 
 #[test]
-fn the_schedule_of_a_marking_writer_has_17_steps(rt: HostRuntime) -> Result<(), Fail> {
-    check(&rt, count_steps(rt.alloc(), MARKING_WRITER) == (17, 0));
-    check(
-        &rt,
-        count_steps(rt.alloc(), b"enter 1\n\nenter 01\nleave 1") == (2, 2),
-    );
-    Ok(())
+fn a_text_is_cut_into_its_lines(rt: HostRuntime) {
+    for row in CUTS {
+        assert!(rt; is_cut(rt.alloc(), row), "{}", row.shows);
+    }
 }

@@ -1,0 +1,71 @@
+//! Requests for the key k in the bucket b, and the replies to them, as their messages.
+
+use riak_msgs::{MsgFault, Reply, Request, read_reply, read_request};
+use std::alloc::Global;
+
+/// A request or a reply.
+pub struct Message {
+    pub code: u8,
+    pub body: &'static [u8],
+}
+
+/// A ping, which no vnode is asked.
+pub const PING: Message = Message { code: 1, body: b"" };
+
+/// A get.
+pub const GET: Message = Message {
+    code: 9,
+    body: b"\x0a\x01b\x12\x01k",
+};
+
+/// A put of "v" without context.
+pub const PUT_V: Message = Message {
+    code: 11,
+    body: b"\x0a\x01b\x12\x01k\x22\x03\x0a\x01v",
+};
+
+/// A delete without context.
+pub const DELETE: Message = Message {
+    code: 13,
+    body: b"\x0a\x01b\x12\x01k",
+};
+
+/// The reply to a get of an absent key.
+pub const ABSENT: Message = Message {
+    code: 10,
+    body: b"",
+};
+
+/// The reply to a get that shows "v", the first write of the vnode 0 of run 1, and its context.
+pub const SHOWS_V: Message = Message {
+    code: 10,
+    body: b"\x0a\x03\x0a\x01v\x12\x11\x01\0\0\0\0\0\x01\0\0\0\0\0\x01\0\0\0\x01",
+};
+
+/// The reply to a put.
+pub const STORED: Message = Message {
+    code: 12,
+    body: b"",
+};
+
+/// The reply to a delete.
+pub const DELETED: Message = Message {
+    code: 14,
+    body: b"",
+};
+
+/// Reads a request, and a second time where memory was refused.
+pub fn request_again(alloc: Global, message: &Message) -> Result<Request, MsgFault> {
+    match read_request(alloc, message.code, message.body) {
+        Err(MsgFault::NoMemory) => read_request(alloc, message.code, message.body),
+        other => other,
+    }
+}
+
+/// Reads a reply, and a second time where memory was refused.
+pub fn reply_again(alloc: Global, message: &Message) -> Result<Reply, MsgFault> {
+    match read_reply(alloc, message.code, message.body) {
+        Err(MsgFault::NoMemory) => read_reply(alloc, message.code, message.body),
+        other => other,
+    }
+}
