@@ -11,4 +11,6 @@ mod frames;
 #[cfg(test)]
 mod messages;
 #[cfg(test)]
+mod scans;
+#[cfg(test)]
 mod varints;

@@ -1,379 +1,381 @@
-//! Replies, as this node writes them and as a client reads them.
+//! Replies, as this node writes them and as a client reads them, and a request that a client makes.
 
-use crate::messages::CONTEXT;
+use crate::messages::contents::{FULL, content};
+use crate::messages::{CONTEXT, reading};
 use riak_msgs::*;
 use std::alloc::{AllocError, Global};
-use std::process::Abort;
-use std::test::Fail;
 
-fn writes(rt: &impl Abort, alloc: Global, reply: &Reply, want: &[u8]) -> Result<(), MsgFault> {
-    let written = write_reply(alloc, reply)?;
-    assert_eq!(rt; written.as_slice(), want);
-    Ok(())
+/// A content of a reply.
+enum Sibling {
+    /// A value without details.
+    Value(&'static [u8]),
+    Tombstone,
+    /// The full content.
+    Whole,
+    /// The full content without its value.
+    Head,
 }
 
-/// A sibling of a value without details.
-fn sibling(alloc: Global, value: &[u8]) -> Result<Shown, AllocError> {
-    Ok(Shown {
-        content: Content::of_value(alloc, value)?,
-        deleted: false,
-    })
+use Sibling::{Head, Tombstone, Value, Whole};
+
+/// What a message is made of.
+enum Made {
+    Ping,
+    Del,
+    Error(Text),
+    /// A reply to a put: its contents and the context.
+    Put(&'static [Sibling], &'static [u8]),
+    /// A reply to a get: its contents, the context, and whether it is unchanged.
+    Get(&'static [Sibling], &'static [u8], bool),
+    /// A request: a delete of b/k by a context, that no message was read for.
+    Delete(&'static [u8]),
 }
+
+use Made::{Del, Delete, Error, Get, Ping, Put};
+
+/// What a message is made of, and its bytes.
+struct Written {
+    shows: &'static str,
+    made: Made,
+    message: &'static [u8],
+}
+
+/// The full content, and it without its value, as a reply to a put. The bytes were computed by hand from the Protocol
+/// Buffers encoding, and once more by a few lines of Python.
+const WHOLE_AND_HEAD: &[u8] = b"\x0c\x0a\xc2\x01\x0a\x01v\
+    \x12\x0atext/plain\x1a\x05utf-8\x22\x002\x09\x0a\x01b\x12\x01k\x1a\x01t\
+    2\x02\x12\x00J\x06\x0a\x01m\x12\x011J\x02\x0a\x00R\x8c\x01\x0a\x05i_bin\x12\x82\x01\
+    zzzzzzzzzzzzzzzzzzzzzzzzzzzzzzzzzzzzzzzzzzzzzzzzzzzzzzzzzzzzzzzzz\
+    zzzzzzzzzzzzzzzzzzzzzzzzzzzzzzzzzzzzzzzzzzzzzzzzzzzzzzzzzzzzzzzzz\
+    \x0a\xc1\x01\x0a\0\
+    \x12\x0atext/plain\x1a\x05utf-8\x22\x002\x09\x0a\x01b\x12\x01k\x1a\x01t\
+    2\x02\x12\x00J\x06\x0a\x01m\x12\x011J\x02\x0a\x00R\x8c\x01\x0a\x05i_bin\x12\x82\x01\
+    zzzzzzzzzzzzzzzzzzzzzzzzzzzzzzzzzzzzzzzzzzzzzzzzzzzzzzzzzzzzzzzzz\
+    zzzzzzzzzzzzzzzzzzzzzzzzzzzzzzzzzzzzzzzzzzzzzzzzzzzzzzzzzzzzzzzzz";
+
+const WRITTEN: &[Written] = &[
+    Written {
+        shows: "the reply to a ping",
+        made: Ping,
+        message: b"\x02",
+    },
+    Written {
+        shows: "the reply to a delete",
+        made: Del,
+        message: b"\x0e",
+    },
+    Written {
+        shows: "a refusal",
+        made: Error(Text::MatchFound),
+        message: b"\0\x0a\x0bmatch_found\x10\x01",
+    },
+    Written {
+        shows: "the reply to a put without contents",
+        made: Put(&[], b""),
+        message: b"\x0c",
+    },
+    Written {
+        shows: "the reply to a get that is unchanged",
+        made: Get(&[], b"", true),
+        message: b"\x0a\x18\x01",
+    },
+    Written {
+        shows: "the reply to a get with a value and a tombstone",
+        made: Get(&[Value(b"v"), Tombstone], CONTEXT, false),
+        message: b"\x0a\x0a\x03\x0a\x01v\x0a\x04\x0a\0\x58\x01\x12\x11\x01\0\0\0\0\0\x01\0\0\0\0\0\x01\0\0\0\x01",
+    },
+    Written {
+        shows: "the reply to a put with the full content, and it without its value",
+        made: Put(&[Whole, Head], b""),
+        message: WHOLE_AND_HEAD,
+    },
+    Written {
+        shows: "a delete by a context",
+        made: Delete(b"c"),
+        message: b"\x0d\x0a\x01b\x12\x01k\x22\x01c",
+    },
+];
 
 /// Lets a reply go. (A function that itself lets one go while it also asserts or uses `?` costs the prover some ten times
 /// as much.)
-fn let_go(_read: Result<Reply, MsgFault>) {}
+pub(crate) fn let_go(_read: Result<Reply, MsgFault>) {}
 
-fn writes_owned(rt: &impl Abort, alloc: Global, reply: Reply, want: &[u8]) -> Result<(), MsgFault> {
-    let written = writes(rt, alloc, &reply, want);
+fn let_content_go(_content: Content) {}
+
+/// A copy of the full content, or of it without its value.
+fn copy_of_full(alloc: Global, is_head: bool) -> Result<Content, AllocError> {
+    let full = content(alloc, &FULL)?;
+    let copy = if is_head {
+        full.clone_head(alloc)
+    } else {
+        full.clone(alloc)
+    };
+    let_content_go(full);
+    copy
+}
+
+fn content_of(alloc: Global, sibling: &Sibling) -> Result<Content, AllocError> {
+    match sibling {
+        Value(value) => Content::of_value(alloc, value),
+        Tombstone => Ok(Content::new(alloc)),
+        Whole => copy_of_full(alloc, false),
+        Head => copy_of_full(alloc, true),
+    }
+}
+
+fn shown(alloc: Global, sibling: &Sibling) -> Result<Shown, AllocError> {
+    match sibling {
+        Tombstone => Ok(Shown::tombstone(alloc)),
+        _ => Ok(Shown {
+            content: content_of(alloc, sibling)?,
+            deleted: false,
+        }),
+    }
+}
+
+fn contents(alloc: Global, siblings: &[Sibling]) -> Result<Sequence<Shown>, AllocError> {
+    let mut contents = Sequence::new(alloc);
+    for sibling in siblings {
+        contents.push(shown(alloc, sibling)?)?;
+    }
+    Ok(contents)
+}
+
+/// A reply to a get that says whether it is unchanged, or a reply to a put.
+fn reply(
+    alloc: Global,
+    siblings: &[Sibling],
+    context: &[u8],
+    unchanged: Option<bool>,
+) -> Result<Reply, AllocError> {
+    let contents = contents(alloc, siblings)?;
+    let context = Bytes::from_slice(alloc, context)?;
+    match unchanged {
+        Some(unchanged) => Ok(Reply::Get(GetReply {
+            contents,
+            context,
+            unchanged,
+        })),
+        None => Ok(Reply::Put(PutReply { contents, context })),
+    }
+}
+
+/// Writes a reply and lets it go.
+fn write_owned(alloc: Global, reply: Reply) -> Result<Vec<u8>, MsgFault> {
+    let written = write_reply(alloc, &reply);
     let_go(Ok(reply));
     written
 }
 
-// Where memory is refused on the way, nothing wrong is written, and the second round goes through.
-#[test]
-fn writes_replies(rt: HostRuntime) -> Result<(), Fail> {
-    if write_replies(&rt, rt.alloc()).is_err() {
-        write_replies(&rt, rt.alloc())?;
+fn delete_of(alloc: Global, context: &[u8]) -> Result<DelAsk, AllocError> {
+    Ok(DelAsk {
+        key: Key::of_default_type(alloc, b"b", b"k")?,
+        context: Bytes::from_slice(alloc, context)?,
+    })
+}
+
+fn write_delete(alloc: Global, context: &[u8]) -> Result<Vec<u8>, MsgFault> {
+    let delete = Request::Del(delete_of(alloc, context)?);
+    let written = write_request(alloc, &delete);
+    reading::let_go(Ok(delete));
+    written
+}
+
+fn write(alloc: Global, made: &Made) -> Result<Vec<u8>, MsgFault> {
+    match made {
+        Ping => write_owned(alloc, Reply::Ping),
+        Del => write_owned(alloc, Reply::Del),
+        Error(text) => write_owned(alloc, Reply::Error(*text)),
+        Put(siblings, context) => write_owned(alloc, reply(alloc, siblings, context, None)?),
+        Get(siblings, context, unchanged) => {
+            write_owned(alloc, reply(alloc, siblings, context, Some(*unchanged))?)
+        }
+        Delete(context) => write_delete(alloc, context),
     }
-    Ok(())
 }
 
-fn write_replies(rt: &impl Abort, alloc: Global) -> Result<(), MsgFault> {
-    writes_owned(rt, alloc, Reply::Ping, b"\x02")?;
-    writes_owned(rt, alloc, Reply::Del, b"\x0e")?;
-    let found = b"\0\x0a\x0bmatch_found\x10\x01";
-    writes_owned(rt, alloc, Reply::Error(Text::MatchFound), found)?;
-    writes_stored(rt, alloc)?;
-    writes_unchanged(rt, alloc)?;
-    writes_siblings(rt, alloc)
-}
-
-fn writes_stored(rt: &impl Abort, alloc: Global) -> Result<(), MsgFault> {
-    let stored = Reply::Put(PutReply {
-        contents: Sequence::new(alloc),
-        context: Bytes::new(alloc),
-    });
-    writes_owned(rt, alloc, stored, b"\x0c")
-}
-
-fn writes_unchanged(rt: &impl Abort, alloc: Global) -> Result<(), MsgFault> {
-    let unchanged = Reply::Get(GetReply {
-        contents: Sequence::new(alloc),
-        context: Bytes::new(alloc),
-        unchanged: true,
-    });
-    writes_owned(rt, alloc, unchanged, b"\x0a\x18\x01")
-}
-
-/// A value, and a tombstone.
-fn siblings(alloc: Global) -> Result<Sequence<Shown>, AllocError> {
-    let mut contents = Sequence::new(alloc);
-    contents.push(sibling(alloc, b"v")?)?;
-    contents.push(Shown::tombstone(alloc))?;
-    Ok(contents)
-}
-
-fn writes_siblings(rt: &impl Abort, alloc: Global) -> Result<(), MsgFault> {
-    let siblings = Reply::Get(GetReply {
-        contents: siblings(alloc)?,
-        context: Bytes::from_slice(alloc, CONTEXT)?,
-        unchanged: false,
-    });
-    let want =
-        b"\x0a\x0a\x03\x0a\x01v\x0a\x04\x0a\0\x58\x01\x12\x11\x01\0\0\0\0\0\x01\0\0\0\0\0\x01\0\0\0\x01";
-    writes_owned(rt, alloc, siblings, want)
-}
-
-fn some(alloc: Global, bytes: &[u8]) -> Result<Option<Bytes>, AllocError> {
-    Ok(Some(Bytes::from_slice(alloc, bytes)?))
-}
-
-fn pair(alloc: Global, key: &[u8], value: Option<Bytes>) -> Result<Pair, AllocError> {
-    Ok(Pair {
-        key: Bytes::from_slice(alloc, key)?,
-        value,
-    })
-}
-
-/// A link with every part.
-fn whole_link(alloc: Global) -> Result<Link, AllocError> {
-    Ok(Link {
-        bucket: some(alloc, b"b")?,
-        key: some(alloc, b"k")?,
-        tag: some(alloc, b"t")?,
-    })
-}
-
-fn links(alloc: Global) -> Result<Sequence<Link>, AllocError> {
-    let mut links = Sequence::new(alloc);
-    links.push(whole_link(alloc)?)?;
-    links.push(Link {
-        bucket: None,
-        key: some(alloc, b"")?,
-        tag: None,
-    })?;
-    Ok(links)
-}
-
-fn usermeta(alloc: Global) -> Result<Sequence<Pair>, AllocError> {
-    let mut pairs = Sequence::new(alloc);
-    pairs.push(pair(alloc, b"m", some(alloc, b"1")?)?)?;
-    pairs.push(pair(alloc, b"", None)?)?;
-    Ok(pairs)
-}
-
-fn indexes(alloc: Global) -> Result<Sequence<Pair>, AllocError> {
-    let mut pairs = Sequence::new(alloc);
-    pairs.push(pair(alloc, b"i_bin", some(alloc, &[b'z'; 130])?)?)?;
-    Ok(pairs)
-}
-
-/// A content with every field, and with fields of no bytes.
-fn full(alloc: Global) -> Result<Content, AllocError> {
-    let value = Vec::from_slice(alloc, b"v")?;
-    Content::with_details(alloc, value, details(alloc)?)
-}
-
-fn details(alloc: Global) -> Result<Details, AllocError> {
-    let (content_type, charset, content_encoding) = labels(alloc)?;
-    let (links, usermeta, indexes) = parts(alloc)?;
-    Ok(Details {
-        content_type,
-        charset,
-        content_encoding,
-        links,
-        usermeta,
-        indexes,
-    })
-}
-
-type Labels = (Option<Bytes>, Option<Bytes>, Option<Bytes>);
-
-fn labels(alloc: Global) -> Result<Labels, AllocError> {
-    Ok((
-        some(alloc, b"text/plain")?,
-        some(alloc, b"utf-8")?,
-        some(alloc, b"")?,
-    ))
-}
-
-type Parts = (Sequence<Link>, Sequence<Pair>, Sequence<Pair>);
-
-fn parts(alloc: Global) -> Result<Parts, AllocError> {
-    Ok((links(alloc)?, usermeta(alloc)?, indexes(alloc)?))
-}
-
-// The bytes were computed by hand from the Protocol Buffers encoding, and once more by a few lines of Python.
-#[test]
-fn writes_a_full_content(rt: HostRuntime) -> Result<(), Fail> {
-    if write_full_content(&rt, rt.alloc()).is_err() {
-        write_full_content(&rt, rt.alloc())?;
-    }
-    Ok(())
-}
-
-/// The full content, and it without its value.
-fn whole_and_head(alloc: Global) -> Result<Sequence<Shown>, AllocError> {
-    let content = full(alloc)?;
-    let both = copies(alloc, &content);
-    let_content_go(content);
-    both
-}
-
-fn let_content_go(_content: Content) {}
-
-fn copies(alloc: Global, content: &Content) -> Result<Sequence<Shown>, AllocError> {
-    let mut contents = Sequence::new(alloc);
-    contents.push(whole(alloc, content)?)?;
-    contents.push(head(alloc, content)?)?;
-    Ok(contents)
-}
-
-fn whole(alloc: Global, content: &Content) -> Result<Shown, AllocError> {
-    Ok(Shown {
-        content: content.clone(alloc)?,
-        deleted: false,
-    })
-}
-
-fn head(alloc: Global, content: &Content) -> Result<Shown, AllocError> {
-    Ok(Shown {
-        content: content.clone_head(alloc)?,
-        deleted: false,
-    })
-}
-
-/// How both are encoded in a reply to a put.
-fn both_encoded(alloc: Global) -> Result<Vec<u8>, AllocError> {
-    let mut want = Vec::new(alloc);
-    want.extend_from_slice(b"\x0c\x0a\xc2\x01\x0a\x01v")?;
-    want.extend_from_slice(BEHIND_VALUE)?;
-    want.extend_from_slice(&[b'z'; 130])?;
-    want.extend_from_slice(b"\x0a\xc1\x01\x0a\0")?;
-    want.extend_from_slice(BEHIND_VALUE)?;
-    want.extend_from_slice(&[b'z'; 130])?;
-    Ok(want)
-}
-
-fn write_full_content(rt: &impl Abort, alloc: Global) -> Result<(), MsgFault> {
-    let want = both_encoded(alloc)?;
-    writes_whole_and_head(rt, alloc, want.as_slice())
-}
-
-fn writes_whole_and_head(rt: &impl Abort, alloc: Global, want: &[u8]) -> Result<(), MsgFault> {
-    let reply = Reply::Put(PutReply {
-        contents: whole_and_head(alloc)?,
-        context: Bytes::new(alloc),
-    });
-    writes_owned(rt, alloc, reply, want)
-}
-
-/// What follows the value of the full content, up to the index's bytes.
-const BEHIND_VALUE: &[u8] =
-    b"\x12\x0atext/plain\x1a\x05utf-8\x22\x002\x09\x0a\x01b\x12\x01k\x1a\x01t2\x02\x12\x00J\x06\x0a\x01m\x12\x011J\x02\x0a\x00R\x8c\x01\x0a\x05i_bin\x12\x82\x01";
-
-fn has_text(rt: &impl Abort, text: Text, want: &[u8]) {
-    assert_eq!(rt; text_of(text), want);
-}
-
-#[test]
-fn texts_are_those_of_the_formats(rt: HostRuntime) {
-    has_text(&rt, Text::UnknownCode, b"unknown message code");
-    has_text(&rt, Text::BadMessage, b"bad message");
-    has_text(&rt, Text::MissingField, b"missing field");
-    has_text(&rt, Text::EmptyName, b"empty name");
-    has_text(&rt, Text::NoKey, b"key required");
-    has_text(&rt, Text::NoMemory, b"no memory");
-    has_text(&rt, Text::Moved, b"moved");
-    has_text(&rt, Text::HistoryFull, b"history full");
-    has_text(&rt, Text::BadFrame, b"bad frame");
-    has_text(&rt, Text::FrameTooLarge, b"frame too large");
-}
-
-#[test]
-fn texts_of_refusals_are_those_of_the_formats(rt: HostRuntime) {
-    has_text(&rt, Text::MatchFound, b"match_found");
-    has_text(&rt, Text::Modified, b"modified");
-    has_text(&rt, Text::NotFound, b"notfound");
-    has_text(&rt, Text::BadContext, b"bad context");
-    has_text(&rt, Text::TooManySiblings, b"too many siblings");
-    has_text(&rt, Text::ClockFull, b"clock full");
-    has_text(&rt, Text::EpochsUsedUp, b"epochs used up");
-    has_text(&rt, Text::CounterUsedUp, b"counter used up");
-}
-
-/// Reads a reply, and a second time where memory was refused: then the answer is the same as it would have been.
-fn read_again(alloc: Global, message: &[u8]) -> Result<Reply, MsgFault> {
-    let Some((code, body)) = message.split_first() else {
-        return Err(MsgFault::UnknownCode);
-    };
-    match read_reply(alloc, *code, body) {
-        Err(MsgFault::NoMemory) => read_reply(alloc, *code, body),
+/// Where memory is refused on the way, nothing wrong is written, and the second round goes through.
+fn write_again(alloc: Global, made: &Made) -> Result<Vec<u8>, MsgFault> {
+    match write(alloc, made) {
+        Err(MsgFault::NoMemory) => write(alloc, made),
         other => other,
     }
 }
 
-/// Reads a reply and writes it again.
-fn again(rt: &impl Abort, alloc: Global, message: &[u8]) -> Result<(), MsgFault> {
-    let reply = read_again(alloc, message)?;
-    writes_owned(rt, alloc, reply, message)
-}
-
-// Where memory is refused on the way, nothing wrong is read, and the second round goes through.
-#[test]
-fn a_client_reads_what_is_written(rt: HostRuntime) -> Result<(), Fail> {
-    if all_again(&rt, rt.alloc()).is_err() {
-        all_again(&rt, rt.alloc())?;
+fn writes(alloc: Global, row: &Written) -> bool {
+    match write_again(alloc, &row.made) {
+        Ok(written) => written.as_slice() == row.message,
+        Err(_) => false,
     }
-    Ok(())
 }
 
-fn all_again(rt: &impl Abort, alloc: Global) -> Result<(), MsgFault> {
-    without_contents_again(rt, alloc)?;
-    with_contents_again(rt, alloc)
+#[test]
+fn writes_what_is_made(rt: HostRuntime) {
+    for row in WRITTEN {
+        assert!(rt; writes(rt.alloc(), row), "{}", row.shows);
+    }
 }
 
-fn without_contents_again(rt: &impl Abort, alloc: Global) -> Result<(), MsgFault> {
-    again(rt, alloc, b"\x02")?;
-    again(rt, alloc, b"\x0e")?;
-    again(rt, alloc, b"\x0c")?;
-    again(rt, alloc, b"\x0a")?;
-    again(rt, alloc, b"\x0a\x18\x01")?;
-    again(rt, alloc, b"\0\x0a\x0bmatch_found\x10\x01")?;
-    again(rt, alloc, b"\0\x0a\x09bad frame\x10\x01")
+/// The texts of the formats: of faults, and of refusals.
+const TEXTS: &[(Text, &str)] = &[
+    (Text::UnknownCode, "unknown message code"),
+    (Text::BadMessage, "bad message"),
+    (Text::MissingField, "missing field"),
+    (Text::EmptyName, "empty name"),
+    (Text::NoKey, "key required"),
+    (Text::NoMemory, "no memory"),
+    (Text::Moved, "moved"),
+    (Text::HistoryFull, "history full"),
+    (Text::BadFrame, "bad frame"),
+    (Text::FrameTooLarge, "frame too large"),
+    (Text::MatchFound, "match_found"),
+    (Text::Modified, "modified"),
+    (Text::NotFound, "notfound"),
+    (Text::BadContext, "bad context"),
+    (Text::TooManySiblings, "too many siblings"),
+    (Text::ClockFull, "clock full"),
+    (Text::EpochsUsedUp, "epochs used up"),
+    (Text::CounterUsedUp, "counter used up"),
+];
+
+#[test]
+fn texts_are_those_of_the_formats(rt: HostRuntime) {
+    for (text, want) in TEXTS {
+        assert!(rt; text_of(*text) == want.as_bytes(), "{want}");
+    }
 }
 
-fn with_contents_again(rt: &impl Abort, alloc: Global) -> Result<(), MsgFault> {
-    let value = b"\x0a\x0a\x03\x0a\x01v\x12\x11\x01\0\0\0\0\0\x01\0\0\0\0\0\x01\0\0\0\x01";
-    again(rt, alloc, value)?;
-    let siblings =
-        b"\x0a\x0a\x04\x0a\0\x58\x01\x0a\x03\x0a\x01w\x12\x11\x01\0\0\0\0\0\x01\0\0\0\0\0\x01\0\0\0\x03";
-    again(rt, alloc, siblings)?;
-    let full =
-        b"\x0c\x0a\x2a\x0a\x01v\x12\x01t\x1a\x01c\x22\x01e\x32\x06\x0a\x01b\x1a\x01t\x32\0\x4a\x03\x0a\x01m\x4a\x05\x0a\x01n\x12\0\x52\x06\x0a\x01i\x12\x01x";
-    again(rt, alloc, full)
+/// The code and the body of a reply, and what a client reads.
+struct Read {
+    shows: &'static str,
+    code: u8,
+    body: &'static [u8],
+    /// The reply to a get without contents and context, and whether it is unchanged; or a fault.
+    unchanged: Result<bool, MsgFault>,
 }
 
-/// The message is a reply to a get, and `unchanged` is this.
-fn is_unchanged(rt: &impl Abort, alloc: Global, message: &[u8], want: bool) {
-    let read = read_again(alloc, message);
-    let unchanged = unchanged_of(&read);
-    let_go(read);
-    assert_eq!(rt; unchanged, Some(want), "at {message:?}");
+/// A bool is true where its number isn't 0, whichever bits it has.
+const READS: &[Read] = &[
+    Read {
+        shows: "a bool of 256",
+        code: 10,
+        body: b"\x18\x80\x02",
+        unchanged: Ok(true),
+    },
+    Read {
+        shows: "a bool of the highest bit alone",
+        code: 10,
+        body: b"\x18\x80\x80\x80\x80\x80\x80\x80\x80\x80\x01",
+        unchanged: Ok(true),
+    },
+    Read {
+        shows: "a bool of 0 in two bytes",
+        code: 10,
+        body: b"\x18\x80\0",
+        unchanged: Ok(false),
+    },
+    Read {
+        shows: "of two bools the last counts",
+        code: 10,
+        body: b"\x18\x01\x18\0",
+        unchanged: Ok(false),
+    },
+    Read {
+        shows: "a bool's number with another wire type is skipped",
+        code: 10,
+        body: b"\x1a\x01\x01",
+        unchanged: Ok(false),
+    },
+    Read {
+        shows: "a request's code",
+        code: 9,
+        body: b"\x0a\x01b",
+        unchanged: Err(MsgFault::UnknownCode),
+    },
+    Read {
+        shows: "the code 255",
+        code: 255,
+        body: b"",
+        unchanged: Err(MsgFault::UnknownCode),
+    },
+    Read {
+        shows: "a content of a get that is cut short",
+        code: 10,
+        body: b"\x0a\x03\x0a\x02v",
+        unchanged: Err(MsgFault::BadMessage),
+    },
+    Read {
+        shows: "a content of a put without its length",
+        code: 12,
+        body: b"\x0a",
+        unchanged: Err(MsgFault::BadMessage),
+    },
+    Read {
+        shows: "another node's text, with its number",
+        code: 0,
+        body: b"\x0a\x08overload\x10\x01",
+        unchanged: Err(MsgFault::BadMessage),
+    },
+    Read {
+        shows: "another node's text without its number",
+        code: 0,
+        body: b"\x0a\x08overload",
+        unchanged: Err(MsgFault::BadMessage),
+    },
+    Read {
+        shows: "a text without its number",
+        code: 0,
+        body: b"\x0a\x09bad frame",
+        unchanged: Err(MsgFault::MissingField),
+    },
+    Read {
+        shows: "a number without a text",
+        code: 0,
+        body: b"\x10\x01",
+        unchanged: Err(MsgFault::MissingField),
+    },
+    Read {
+        shows: "a content without a value",
+        code: 10,
+        body: b"\x0a\x03\x12\x01t",
+        unchanged: Err(MsgFault::MissingField),
+    },
+    Read {
+        shows: "a bad second content comes before the value that the first lacks",
+        code: 10,
+        body: b"\x0a\0\x0a\x01\x0a",
+        unchanged: Err(MsgFault::BadMessage),
+    },
+];
+
+/// Reads a reply, and a second time where memory was refused: then the answer is the same as it would have been.
+fn read_again(alloc: Global, code: u8, body: &[u8]) -> Result<Reply, MsgFault> {
+    match read_reply(alloc, code, body) {
+        Err(MsgFault::NoMemory) => read_reply(alloc, code, body),
+        other => other,
+    }
 }
 
-fn unchanged_of(read: &Result<Reply, MsgFault>) -> Option<bool> {
+fn is_read(read: &Result<Reply, MsgFault>, want: Result<bool, MsgFault>) -> bool {
     match read {
-        Ok(Reply::Get(reply)) => Some(reply.unchanged),
-        _ => None,
+        Ok(Reply::Get(reply)) => {
+            want == Ok(reply.unchanged) && reply.contents.is_empty() && reply.context.is_empty()
+        }
+        Ok(_) => false,
+        Err(fault) => want == Err(*fault),
     }
 }
 
-// A bool is true where its number isn't 0, whichever bits it has; the last occurrence counts.
-#[test]
-fn a_bool_is_read_from_all_its_bits(rt: HostRuntime) {
-    let alloc = rt.alloc();
-    is_unchanged(&rt, alloc, b"\x0a\x18\x80\x02", true);
-    let highest = b"\x0a\x18\x80\x80\x80\x80\x80\x80\x80\x80\x80\x01";
-    is_unchanged(&rt, alloc, highest, true);
-    is_unchanged(&rt, alloc, b"\x0a\x18\x80\0", false);
-    is_unchanged(&rt, alloc, b"\x0a\x18\x01\x18\0", false);
-    is_unchanged(&rt, alloc, b"\x0a\x1a\x01\x01", false);
-}
-
-fn refuses(rt: &impl Abort, alloc: Global, message: &[u8], want: MsgFault) {
-    let read = read_again(alloc, message);
-    let fault = fault_of(&read);
+fn reads(alloc: Global, row: &Read) -> bool {
+    let read = read_again(alloc, row.code, row.body);
+    let is_so = is_read(&read, row.unchanged);
     let_go(read);
-    assert_eq!(rt; fault, Some(want), "at {message:?}");
-}
-
-fn fault_of(read: &Result<Reply, MsgFault>) -> Option<MsgFault> {
-    match read {
-        Ok(_) => None,
-        Err(fault) => Some(*fault),
-    }
+    is_so
 }
 
 #[test]
-fn no_replies(rt: HostRuntime) {
-    let alloc = rt.alloc();
-    refuses(&rt, alloc, b"\x09\x0a\x01b", MsgFault::UnknownCode);
-    refuses(&rt, alloc, b"\xff", MsgFault::UnknownCode);
-    refuses(&rt, alloc, b"\x0a\x0a\x03\x0a\x02v", MsgFault::BadMessage);
-    refuses(&rt, alloc, b"\x0c\x0a", MsgFault::BadMessage);
-    // another node's text, with its number and without
-    refuses(
-        &rt,
-        alloc,
-        b"\0\x0a\x08overload\x10\x01",
-        MsgFault::BadMessage,
-    );
-    refuses(&rt, alloc, b"\0\x0a\x08overload", MsgFault::BadMessage);
-    refuses(&rt, alloc, b"\0\x0a\x09bad frame", MsgFault::MissingField);
-    refuses(&rt, alloc, b"\0\x10\x01", MsgFault::MissingField);
-    refuses(&rt, alloc, b"\x0a\x0a\x03\x12\x01t", MsgFault::MissingField);
-    // A bad second content comes before the value that the first lacks.
-    refuses(&rt, alloc, b"\x0a\x0a\0\x0a\x01\x0a", MsgFault::BadMessage);
+fn a_client_reads_bools_and_faults(rt: HostRuntime) {
+    for row in READS {
+        assert!(rt; reads(rt.alloc(), row), "{}", row.shows);
+    }
 }
