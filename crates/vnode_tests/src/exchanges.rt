@@ -7,5 +7,5 @@ mod forms;
 mod limits;
 mod marks;
 mod options;
-pub(crate) mod options_asked;
 mod plans;
+pub(crate) mod steps;

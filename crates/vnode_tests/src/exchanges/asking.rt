@@ -1,185 +1,336 @@
-//! Calls of tests, each made again where memory was refused, and what they show.
+//! Takes the steps of an exchange, each once more where memory was refused.
 
-use riak_msgs::{GetAsk, GetReply, PutAsk, Shown};
+ghost use Rattle.std.specs.Prelude.{◌≡◌, ◌≤◌, Some};
+
+use crate::exchanges::steps::{
+    AskTimes, Command, Counted, Counts, Done, Exchange, Get, GetOptions, GetWith, HasDead, ID,
+    Idle, LetGo, NONE, PLAIN_GET, PLAIN_PUT, PutOptions, Reap, ReapFirst, Refused, Reply, Shows,
+    Sibling, Step, Sweep, Tombstone, Unchanged, Value,
+};
+use riak_msgs::{Bytes, DelAsk, GetAsk, GetReply, Key, PutAsk, Shown};
 use std::alloc::{AllocError, Global};
+use std::process::Abort;
+use tomb_reaper::sweep;
 use vnode_core::{Answer, Ask, Change, Plan, Refusal, Vnode};
 
-/// The vnode id of every test: 00 00 00 00 00 01 00 00.
-pub(crate) const ID: u64 = 65536;
+fn key_of(alloc: Global, name: &[u8]) -> Result<Key, AllocError> {
+    Key::of_default_type(alloc, b"b", name)
+}
 
-/// A context: the number of the form, then vnode id, epoch and counter of the one entry.
-pub(crate) const FIRST: &[u8] = b"\x01\0\0\0\0\0\x01\0\0\0\0\0\x01\0\0\0\x01";
-
-pub(crate) const SECOND: &[u8] = b"\x01\0\0\0\0\0\x01\0\0\0\0\0\x01\0\0\0\x02";
-
-pub(crate) const THIRD: &[u8] = b"\x01\0\0\0\0\0\x01\0\0\0\0\0\x01\0\0\0\x03";
-
-/// The first dot of the second epoch.
-pub(crate) const FIRST_OF_SECOND: &[u8] = b"\x01\0\0\0\0\0\x01\0\0\0\0\0\x02\0\0\0\x01";
-
-pub(crate) const SIXTY_FOURTH: &[u8] = b"\x01\0\0\0\0\0\x01\0\0\0\0\0\x01\0\0\0\x40";
-
-pub(crate) const SIXTY_FIFTH: &[u8] = b"\x01\0\0\0\0\0\x01\0\0\0\0\0\x01\0\0\0\x41";
-
-pub(crate) const SECOND_OF_LAST_EPOCH: &[u8] = b"\x01\0\0\0\0\0\x01\0\0\xff\xff\xff\xff\0\0\0\x02";
-
-/// Plans a command, and makes its change where there is one: why it is refused, where it is.
-pub(crate) fn refusal_of(vnode: &mut Vnode, alloc: Global, ask: Ask) -> Option<Refusal> {
-    match vnode.prepare(alloc, ask) {
-        Ok(Plan::Change(change)) => {
-            drop(vnode.finish(change));
-            None
-        }
-        Ok(Plan::Nothing(answer)) => {
-            drop(answer);
-            None
-        }
-        Err(refusal) => Some(refusal),
+fn key_from(alloc: Global, name: Option<&[u8]>) -> Result<Option<Key>, AllocError> {
+    match name {
+        None => Ok(None),
+        Some(name) => Ok(Some(key_of(alloc, name)?)),
     }
 }
 
-/// Plans a put in the bucket b by a context, and makes it: why it is refused, where it is.
-pub(crate) fn put_once(
-    vnode: &mut Vnode,
+/// A get of a key with options.
+pub(crate) fn get_of(
     alloc: Global,
-    key: &[u8],
+    name: &[u8],
+    if_modified: &[u8],
+    options: GetOptions,
+) -> Result<GetAsk, AllocError> {
+    let if_modified = Bytes::from_slice(alloc, if_modified)?;
+    Ok(GetAsk {
+        key: key_of(alloc, name)?,
+        if_modified,
+        head: options.head,
+        deletedvclock: options.deletedvclock,
+    })
+}
+
+fn with_options(mut put: PutAsk, options: PutOptions) -> Ask {
+    put.return_body = options.return_body;
+    put.return_head = options.return_head;
+    put.if_not_modified = options.if_not_modified;
+    put.if_none_match = options.if_none_match;
+    Ask::Put(put)
+}
+
+fn put_of(
+    alloc: Global,
+    name: &[u8],
     value: &[u8],
     context: &[u8],
-) -> Option<Refusal> {
-    match PutAsk::plain(alloc, b"b", key, context, value) {
-        Ok(ask) => refusal_of(vnode, alloc, Ask::Put(ask)),
-        Err(_) => Some(Refusal::NoMemory),
-    }
+    options: PutOptions,
+) -> Result<Ask, AllocError> {
+    let put = PutAsk::plain(alloc, b"b", name, context, value)?;
+    Ok(with_options(put, options))
 }
 
-/// The same, and once more where memory was refused.
-pub(crate) fn refusal_of_seen(
-    vnode: &mut Vnode,
-    alloc: Global,
-    key: &[u8],
-    value: &[u8],
-    context: &[u8],
-) -> Option<Refusal> {
-    match put_once(vnode, alloc, key, value, context) {
-        Some(Refusal::NoMemory) => put_once(vnode, alloc, key, value, context),
-        other => other,
-    }
-}
-
-/// Whether such a put is made.
-pub(crate) fn put_seen(
-    vnode: &mut Vnode,
-    alloc: Global,
-    key: &[u8],
-    value: &[u8],
-    context: &[u8],
-) -> bool {
-    refusal_of_seen(vnode, alloc, key, value, context).is_none()
-}
-
-/// The same without context.
-pub(crate) fn put(vnode: &mut Vnode, alloc: Global, key: &[u8], value: &[u8]) -> bool {
-    put_seen(vnode, alloc, key, value, b"")
-}
-
-/// The bytes of a context with so many entries, all of another vnode.
-fn foreign_once(alloc: Global, count: u8) -> Result<Vec<u8>, AllocError> {
+/// The bytes of a context of so many entries, all of another vnode.
+fn context_of_others(alloc: Global, count: u8) -> Result<Vec<u8>, AllocError> {
     let mut bytes = Vec::new(alloc);
     bytes.push(1)?;
     for epoch in 1..=count {
-        bytes.extend_from_slice(b"\0\0\0\0\0\0\0\x01\0\0\0")?;
-        bytes.push(epoch)?;
-        bytes.extend_from_slice(b"\0\0\0\x01")?;
+        bytes.extend_from_slice(&[0, 0, 0, 0, 0, 0, 0, 1, 0, 0, 0, epoch, 0, 0, 0, 1])?;
     }
     Ok(bytes)
 }
 
-pub(crate) fn foreign(alloc: Global, count: u8) -> Result<Vec<u8>, AllocError> {
-    match foreign_once(alloc, count) {
-        Ok(bytes) => Ok(bytes),
-        Err(_) => foreign_once(alloc, count),
-    }
+fn put_after_others(alloc: Global, count: u8) -> Result<Ask, AllocError> {
+    let context = context_of_others(alloc, count)?;
+    put_of(alloc, b"k", b"w", context.as_slice(), PLAIN_PUT)
 }
 
-/// Plans a command, and lets the plan go: why it is refused, where it is.
-fn plan_of(vnode: &mut Vnode, alloc: Global, ask: Ask) -> Option<Refusal> {
-    match vnode.prepare(alloc, ask) {
-        Ok(Plan::Change(change)) => {
-            drop(change);
-            None
+fn del_of(alloc: Global, name: &[u8], context: &[u8]) -> Result<Ask, AllocError> {
+    let context = Bytes::from_slice(alloc, context)?;
+    Ok(Ask::Del(DelAsk {
+        key: key_of(alloc, name)?,
+        context,
+    }))
+}
+
+/// A command as the vnode takes it.
+pub(crate) fn ask_of(alloc: Global, command: Command<'_>) -> Result<Ask, AllocError> {
+    match command {
+        Command::Put(name, value, context) => put_of(alloc, name, value, context, PLAIN_PUT),
+        Command::PutWith(name, value, context, options) => {
+            put_of(alloc, name, value, context, options)
         }
-        Ok(Plan::Nothing(answer)) => {
-            drop(answer);
-            None
-        }
-        Err(refusal) => Some(refusal),
+        Command::PutAfterOthers(count) => put_after_others(alloc, count),
+        Command::Del(name, context) => del_of(alloc, name, context),
+        Command::Reap(name) => Ok(Ask::Reap(key_of(alloc, name)?)),
+        Command::ReapFirst(from) => Ok(Ask::ReapFirst(key_from(alloc, from)?)),
     }
 }
 
-fn plan_once(vnode: &mut Vnode, alloc: Global, key: &[u8]) -> Option<Refusal> {
-    match PutAsk::plain(alloc, b"b", key, b"", b"never written") {
-        Ok(ask) => plan_of(vnode, alloc, Ask::Put(ask)),
-        Err(_) => Some(Refusal::NoMemory),
+fn is_sibling(shown: &Shown, wanted: &Sibling) -> bool {
+    match wanted {
+        Value(value) => !shown.deleted && shown.content.value() == *value,
+        Tombstone => shown.deleted && shown.content.value().is_empty(),
     }
 }
 
-/// Plans a put, and lets it go; once more where memory was refused. Whether there was a plan.
-pub(crate) fn plan(vnode: &mut Vnode, alloc: Global, key: &[u8]) -> bool {
-    match plan_once(vnode, alloc, key) {
-        None => true,
-        Some(_) => plan_once(vnode, alloc, key).is_none(),
-    }
-}
-
-fn get_once(vnode: &Vnode, alloc: Global, key: &[u8]) -> Result<GetReply, Refusal> {
-    let ask = GetAsk::plain(alloc, b"b", key)?;
-    vnode.get(alloc, &ask)
-}
-
-pub(crate) fn get(vnode: &Vnode, alloc: Global, key: &[u8]) -> Result<GetReply, Refusal> {
-    match get_once(vnode, alloc, key) {
-        Err(Refusal::NoMemory) => get_once(vnode, alloc, key),
-        other => other,
-    }
-}
-
-/// Whether a get shows these values, in this order, and this context.
-pub(crate) fn shows(
-    vnode: &Vnode,
-    alloc: Global,
-    key: &[u8],
-    values: &[&[u8]],
-    context: &[u8],
-) -> bool {
-    let read = get(vnode, alloc, key);
-    let is_so = is_shown(&read, values, context);
-    drop(read);
-    is_so
-}
-
-fn is_shown(read: &Result<GetReply, Refusal>, values: &[&[u8]], context: &[u8]) -> bool {
-    match read {
-        Ok(reply) => {
-            are_shown(reply.contents.as_slice(), values)
-                && reply.context.as_slice() == context
-                && !reply.unchanged
-        }
-        Err(_) => false,
-    }
-}
-
-fn are_shown(shown: &[Shown], values: &[&[u8]]) -> bool {
-    if shown.len() != values.len() {
+fn are_siblings(shown: &[Shown], wanted: &[Sibling]) -> bool {
+    if shown.len() != wanted.len() {
         return false;
     }
-    for (one, value) in shown.iter().zip(values) {
-        if !is_value(one, value) {
+    for (one, other) in shown.iter().zip(wanted) {
+        if !is_sibling(one, other) {
             return false;
         }
     }
     true
 }
 
-fn is_value(shown: &Shown, value: &[u8]) -> bool {
-    shown.content.value() == value && !shown.deleted
+/// Whether siblings, with a context and whether they are unchanged, are the reply that is expected.
+fn is_shown(siblings: &[Shown], context: &[u8], unchanged: bool, reply: &Reply) -> bool {
+    match reply {
+        Shows(wanted, bytes) => {
+            !unchanged && context == *bytes && are_siblings(siblings, wanted)
+        }
+        Unchanged => unchanged && context.is_empty() && siblings.is_empty(),
+        Counts(count, len) => siblings.len() == *count && context.len() == *len,
+        Done => !unchanged && context.is_empty() && siblings.is_empty(),
+        _ => false,
+    }
+}
+
+fn is_answer(answer: &Answer, is_change: bool, reply: &Reply) -> bool {
+    match answer {
+        Answer::Put(put) => {
+            is_change
+                && is_shown(
+                    put.contents.as_slice(),
+                    put.context.as_slice(),
+                    false,
+                    reply,
+                )
+        }
+        Answer::Del => match reply {
+            Done => is_change,
+            Idle => !is_change,
+            _ => false,
+        },
+        Answer::Reaped(reaped) => matches!(reply, Reply::Reaped(wanted) if wanted == reaped),
+    }
+}
+
+/// The same of an answer that goes then.
+fn was_answer(answer: Answer, is_change: bool, reply: &Reply) -> bool {
+    let is_so = is_answer(&answer, is_change, reply);
+    drop(answer);
+    is_so
+}
+
+/// Makes a change, or lets it go, as is expected.
+fn finish(vnode: &mut Vnode, change: Change, reply: &Reply) -> bool
+    requires { vnode.old.prepared ≡ Some change }
+{
+    match reply {
+        LetGo => {
+            drop(change);
+            true
+        }
+        _ => was_answer(vnode.finish(change), true, reply),
+    }
+}
+
+/// Whether a refusal is expected; an error where memory was refused.
+fn refuses(refusal: Refusal, reply: &Reply) -> Result<bool, Refusal> {
+    match reply {
+        _ if refusal == Refusal::NoMemory => Err(refusal),
+        Refused(wanted) => Ok(refusal == *wanted),
+        _ => Ok(false),
+    }
+}
+
+/// Plans a command, and makes its change where there is one.
+fn make(vnode: &mut Vnode, alloc: Global, ask: Ask, reply: &Reply) -> Result<bool, Refusal> {
+    match vnode.prepare(alloc, ask) {
+        Ok(Plan::Change(change)) => Ok(finish(vnode, change, reply)),
+        Ok(Plan::Nothing(answer)) => Ok(was_answer(answer, false, reply)),
+        Err(refusal) => refuses(refusal, reply),
+    }
+}
+
+fn is_read(read: &Result<GetReply, Refusal>, reply: &Reply) -> Result<bool, Refusal> {
+    match read {
+        Ok(got) => Ok(is_shown(
+            got.contents.as_slice(),
+            got.context.as_slice(),
+            got.unchanged,
+            reply,
+        )),
+        Err(refusal) => refuses(*refusal, reply),
+    }
+}
+
+/// Makes a get, which goes then.
+fn read(vnode: &Vnode, alloc: Global, get: GetAsk, reply: &Reply) -> Result<bool, Refusal> {
+    let read = vnode.get(alloc, &get);
+    let is_so = is_read(&read, reply);
+    drop(read);
+    drop(get);
+    is_so
+}
+
+/// Makes a get of a key with options.
+fn get(
+    vnode: &Vnode,
+    alloc: Global,
+    name: &[u8],
+    if_modified: &[u8],
+    options: GetOptions,
+    reply: &Reply,
+) -> Result<bool, Refusal> {
+    let get = get_of(alloc, name, if_modified, options)?;
+    read(vnode, alloc, get, reply)
+}
+
+/// Plans a command, and makes its change where there is one.
+fn ask(
+    vnode: &mut Vnode,
+    alloc: Global,
+    command: Command<'_>,
+    reply: &Reply,
+) -> Result<bool, Refusal> {
+    let ask = ask_of(alloc, command)?;
+    make(vnode, alloc, ask, reply)
+}
+
+/// Takes a step that makes no plan, of the keys from one on, or of all.
+fn take_from(vnode: &mut Vnode, from: Option<&Key>, step: &Step) -> bool {
+    match step {
+        Sweep(_, budget, wanted) => sweep(vnode, from, *budget) == *wanted,
+        HasDead(_, wanted) => vnode.has_dead(from) == *wanted,
+        Reap(_, wanted) => match from {
+            Some(key) => vnode.reap(key) == *wanted,
+            None => false,
+        },
+        ReapFirst(wanted) => vnode.reap_first(from) == *wanted,
+        Counted(wanted) => vnode.tally() == *wanted,
+        _ => false,
+    }
+}
+
+/// The key that such a step names.
+fn name_in(step: &Step) -> Option<&'static [u8]> {
+    match step {
+        Sweep(from, _, _) | HasDead(from, _) => *from,
+        Reap(name, _) => Some(*name),
+        _ => None,
+    }
+}
+
+fn take_by_key(vnode: &mut Vnode, alloc: Global, step: &Step) -> Result<bool, Refusal> {
+    let from = key_from(alloc, name_in(step))?;
+    Ok(take_from(vnode, from.as_ref(), step))
+}
+
+/// Takes a step once: whether it came as expected; an error where memory was refused.
+fn take_once(vnode: &mut Vnode, alloc: Global, step: &Step) -> Result<bool, Refusal> {
+    match step {
+        Get(name, reply) => get(vnode, alloc, name, NONE, PLAIN_GET, reply),
+        GetWith(name, if_modified, options, reply) => {
+            get(vnode, alloc, name, if_modified, *options, reply)
+        }
+        Step::Ask(command, reply) | AskTimes(_, command, reply) => {
+            ask(vnode, alloc, *command, reply)
+        }
+        _ => take_by_key(vnode, alloc, step),
+    }
+}
+
+/// Whether the step before one that was refused memory shows the same again, where it was a get.
+fn shows_still(vnode: &mut Vnode, alloc: Global, before: Option<&Step>) -> bool {
+    match before {
+        Some(step) => match step {
+            Get(_, _) | GetWith(_, _, _, _) => take_once(vnode, alloc, step) == Ok(true),
+            _ => true,
+        },
+        None => true,
+    }
+}
+
+/// Takes a step, and once more where memory was refused.
+fn take(vnode: &mut Vnode, alloc: Global, before: Option<&Step>, step: &Step) -> bool {
+    match take_once(vnode, alloc, step) {
+        Ok(is_so) => is_so,
+        Err(_) => { shows_still(vnode, alloc, before) && take_once(vnode, alloc, step) == Ok(true) }
+    }
+}
+
+fn times_of(step: &Step) -> u8 {
+    match step {
+        AskTimes(times, _, _) => *times,
+        _ => 1,
+    }
+}
+
+/// How many steps come as expected, before one that doesn't.
+pub(crate) fn taken(vnode: &mut Vnode, alloc: Global, steps: &[Step]) -> usize {
+    let mut before = None;
+    let mut count = 0usize;
+    for step in steps {
+        for _ in 0..times_of(step) {
+            if !take(vnode, alloc, before, step) {
+                return count;
+            }
+        }
+        before = Some(step);
+        count = count.saturating_add(1);
+    }
+    count
+}
+
+/// The same with a new vnode, whose first life gets this epoch.
+pub(crate) fn taken_from(alloc: Global, first_epoch: u32, steps: &[Step]) -> usize
+    requires { 1 ≤ first_epoch }
+{
+    let mut vnode = Vnode::new(alloc, ID, first_epoch);
+    let taken = taken(&mut vnode, alloc, steps);
+    drop(vnode);
+    taken
+}
+
+/// Each exchange goes as expected, with a vnode whose first epoch is 1.
+pub(crate) fn go_as_expected(rt: &(impl Abort + AllocGlobal), exchanges: &[Exchange]) {
+    for exchange in exchanges {
+        let taken = taken_from(rt.alloc(), 1, exchange.steps);
+        let is_so = taken == exchange.steps.len();
+        assert!(rt; is_so, "{}: not so after {} steps", exchange.shows, taken);
+    }
 }

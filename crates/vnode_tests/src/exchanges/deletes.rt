@@ -1,124 +1,78 @@
 //! Deletes: what they cover, and what is left.
 
-use crate::exchanges::asking::{FIRST, FIRST_OF_SECOND, ID, SECOND, THIRD, put, put_seen, shows};
-use crate::exchanges::options_asked::{
-    GetOptions, PLAIN_GET, Tombstone, Value, deletes, refusal_of_delete, shows_with,
+use crate::exchanges::asking::go_as_expected;
+use crate::exchanges::steps::{
+    Ask, Del, Done, Exchange, FIRST, FIRST_OF_SECOND, FOURTH, Get, GetWith, Idle, NONE, NOTHING,
+    OF_DEAD, Put, Refused, SECOND, Shows, THIRD, Tombstone, V, W,
 };
-use std::alloc::Global;
-use std::process::Abort;
-use vnode_core::{Refusal, Vnode};
+use vnode_core::Refusal;
 
-/// A get that wants the context of a dead key.
-const OF_DEAD: GetOptions<'static> = GetOptions {
-    if_modified: b"",
-    head: false,
-    deletedvclock: true,
-};
+const EXCHANGES: &[Exchange] = &[
+    // v and w without context, x by v's context, then a delete without context. A get shows nothing, and with deletedvclock
+    // the context with the tombstone's dot.
+    Exchange {
+        shows: "a delete without context has seen them all",
+        steps: &[
+            Ask(Put(b"k", b"v", NONE), Done),
+            Ask(Put(b"k", b"w", NONE), Done),
+            Ask(Put(b"k", b"x", FIRST), Done),
+            Ask(Del(b"k", NONE), Done),
+            GetWith(b"k", NONE, OF_DEAD, Shows(&[], FOURTH)),
+            Get(b"k", NOTHING),
+        ],
+    },
+    Exchange {
+        shows: "the tombstone of a delete that has seen v alone stays beside w",
+        steps: &[
+            Ask(Put(b"k", b"v", NONE), Done),
+            Ask(Put(b"k", b"w", NONE), Done),
+            Ask(Del(b"k", FIRST), Done),
+            Get(b"k", Shows(&[Tombstone, W], THIRD)),
+        ],
+    },
+    // The put after it begins the first life.
+    Exchange {
+        shows: "a delete without context of an absent key does nothing, and takes no epoch",
+        steps: &[
+            Ask(Del(b"k", NONE), Idle),
+            GetWith(b"k", NONE, OF_DEAD, NOTHING),
+            Ask(Put(b"k", b"v", NONE), Done),
+            Get(b"k", Shows(&[V], FIRST)),
+        ],
+    },
+    // One by a context that names an epoch which wasn't given is refused, and takes none.
+    Exchange {
+        shows: "a delete of an absent key by another's context is a tombstone at a life of its own",
+        steps: &[
+            Ask(Del(b"k", FIRST), Refused(Refusal::BadContext)),
+            Ask(Put(b"j", b"v", NONE), Done),
+            Get(b"j", Shows(&[V], FIRST)),
+            Ask(Del(b"k", FIRST), Done),
+            GetWith(b"k", NONE, OF_DEAD, Shows(&[], THAT_OF_J_AND_ITS_OWN)),
+        ],
+    },
+    // The second is at its life's next dot; a put then is a sibling beside it.
+    Exchange {
+        shows: "a dead key takes another tombstone",
+        steps: &[
+            Ask(Put(b"k", b"v", NONE), Done),
+            Ask(Del(b"k", NONE), Done),
+            GetWith(b"k", NONE, OF_DEAD, Shows(&[], SECOND)),
+            Ask(Del(b"k", NONE), Done),
+            GetWith(b"k", NONE, OF_DEAD, Shows(&[], THIRD)),
+            Ask(Put(b"k", b"w", NONE), Done),
+            Get(b"k", Shows(&[W, Tombstone], FOURTH)),
+            Ask(Put(b"j", b"v", NONE), Done),
+            Get(b"j", Shows(&[V], FIRST_OF_SECOND)),
+        ],
+    },
+];
 
-const FOURTH: &[u8] = b"\x01\0\0\0\0\0\x01\0\0\0\0\0\x01\0\0\0\x04";
+/// The first dot of the first epoch, and the first of the second.
+const THAT_OF_J_AND_ITS_OWN: &[u8] =
+    b"\x01\0\0\0\0\0\x01\0\0\0\0\0\x01\0\0\0\x01\0\0\0\0\0\x01\0\0\0\0\0\x02\0\0\0\x01";
 
-/// v and w without context, x by v's context, then a delete without context: it has seen them all. A get shows nothing,
-/// and with deletedvclock the context with the tombstone's dot.
 #[test]
-fn delete_without_context_sees_all(rt: HostRuntime) {
-    let mut vnode = Vnode::new(rt.alloc(), ID, 1);
-    let is_so = delete_without_context_sees_all_of(rt.alloc(), &mut vnode);
-    drop(vnode);
-    assert!(&rt; is_so);
-}
-
-fn delete_without_context_sees_all_of(alloc: Global, vnode: &mut Vnode) -> bool {
-    put(vnode, alloc, b"k", b"v")
-        && put(vnode, alloc, b"k", b"w")
-        && put_seen(vnode, alloc, b"k", b"x", FIRST)
-        && deletes(vnode, alloc, b"k", b"", true)
-        && shows_with(vnode, alloc, b"k", OF_DEAD, &[], FOURTH)
-        && shows(vnode, alloc, b"k", &[], b"")
-}
-
-/// v, w, then a delete that has seen v alone: the tombstone stays beside w.
-#[test]
-fn old_delete_leaves_newer_value(rt: HostRuntime) {
-    let mut vnode = Vnode::new(rt.alloc(), ID, 1);
-    let is_so = old_delete_leaves_newer_value_of(rt.alloc(), &mut vnode);
-    drop(vnode);
-    assert!(&rt; is_so);
-}
-
-fn old_delete_leaves_newer_value_of(alloc: Global, vnode: &mut Vnode) -> bool {
-    let left = [Tombstone, Value(b"w")];
-    put(vnode, alloc, b"k", b"v")
-        && put(vnode, alloc, b"k", b"w")
-        && deletes(vnode, alloc, b"k", FIRST, true)
-        && shows_with(vnode, alloc, b"k", PLAIN_GET, &left, THIRD)
-}
-
-/// A delete without context of an absent key does nothing: the put after it begins the first life.
-#[test]
-fn delete_of_absent_key_takes_no_epoch(rt: HostRuntime) {
-    let mut vnode = Vnode::new(rt.alloc(), ID, 1);
-    let is_so = delete_of_absent_key_takes_no_epoch_of(rt.alloc(), &mut vnode);
-    drop(vnode);
-    assert!(&rt; is_so);
-}
-
-fn delete_of_absent_key_takes_no_epoch_of(alloc: Global, vnode: &mut Vnode) -> bool {
-    deletes(vnode, alloc, b"k", b"", false)
-        && shows_with(vnode, alloc, b"k", OF_DEAD, &[], b"")
-        && put(vnode, alloc, b"k", b"v")
-        && shows(vnode, alloc, b"k", &[b"v"], FIRST)
-}
-
-/// A delete by a context that names an epoch which wasn't given is refused, and takes none. Of an absent key one by
-/// another key's context is a tombstone, at a life of its own.
-#[test]
-fn delete_by_context_of_absent_key(rt: HostRuntime) {
-    let mut vnode = Vnode::new(rt.alloc(), ID, 1);
-    let is_so = delete_by_context_of_absent_key_of(rt.alloc(), &mut vnode);
-    drop(vnode);
-    assert!(&rt; is_so);
-}
-
-fn delete_by_context_of_absent_key_of(alloc: Global, vnode: &mut Vnode) -> bool {
-    refusal_of_delete(vnode, alloc, b"k", FIRST) == Some(Refusal::BadContext)
-        && put(vnode, alloc, b"j", b"v")
-        && shows(vnode, alloc, b"j", &[b"v"], FIRST)
-        && deletes(vnode, alloc, b"k", FIRST, true)
-        && shows_with(
-            vnode,
-            alloc,
-            b"k",
-            OF_DEAD,
-            &[],
-            b"\x01\0\0\0\0\0\x01\0\0\0\0\0\x01\0\0\0\x01\0\0\0\0\0\x01\0\0\0\0\0\x02\0\0\0\x01",
-        )
-}
-
-/// A dead key takes another tombstone, at its life's next dot; a put then is a sibling beside it.
-#[test]
-fn dead_key_takes_another_tombstone(rt: HostRuntime) {
-    let mut vnode = Vnode::new(rt.alloc(), ID, 1);
-    let is_so = dead_key_takes_another_tombstone_of(rt.alloc(), &mut vnode);
-    drop(vnode);
-    assert!(&rt; is_so);
-}
-
-fn dead_key_takes_another_tombstone_of(alloc: Global, vnode: &mut Vnode) -> bool {
-    takes_two_tombstones(alloc, vnode) && put_stands_beside_it(alloc, vnode)
-}
-
-fn takes_two_tombstones(alloc: Global, vnode: &mut Vnode) -> bool {
-    put(vnode, alloc, b"k", b"v")
-        && deletes(vnode, alloc, b"k", b"", true)
-        && shows_with(vnode, alloc, b"k", OF_DEAD, &[], SECOND)
-        && deletes(vnode, alloc, b"k", b"", true)
-        && shows_with(vnode, alloc, b"k", OF_DEAD, &[], THIRD)
-}
-
-fn put_stands_beside_it(alloc: Global, vnode: &mut Vnode) -> bool {
-    let left = [Value(b"w"), Tombstone];
-    put(vnode, alloc, b"k", b"w")
-        && shows_with(vnode, alloc, b"k", PLAIN_GET, &left, FOURTH)
-        && put(vnode, alloc, b"j", b"v")
-        && shows(vnode, alloc, b"j", &[b"v"], FIRST_OF_SECOND)
+fn deletes_leave_tombstones(rt: HostRuntime) {
+    go_as_expected(&rt, EXCHANGES);
 }

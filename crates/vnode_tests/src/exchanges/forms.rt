@@ -1,9 +1,12 @@
 //! The same asks to a vnode over each form of storage: the answers are the same, and so are the tallies.
 
-use crate::exchanges::asking::ID;
+use crate::exchanges::asking::{ask_of, get_of};
+use crate::exchanges::steps::{
+    Command, Del, GetOptions, ID, NONE, OF_DEAD, PLAIN_GET, PLAIN_PUT, PutWith, RETURN_BODY,
+};
 use clock_list::ClockList;
 use clock_store::ClockStore;
-use riak_msgs::{Bytes, DelAsk, GetAsk, GetReply, Key, PutAsk, PutReply, Shown};
+use riak_msgs::{GetAsk, GetReply, Shown};
 use std::alloc::{AllocError, Global};
 use std::process::Abort;
 use vnode_core::{Answer, Ask, Plan, Reaped, Refusal, Vnode, VnodeOver};
@@ -29,29 +32,28 @@ impl Draws {
     }
 }
 
-/// What is asked.
+/// What is asked: a get, or a command that may change the vnode.
 #[derive(Clone, Copy)]
-enum Command {
-    Get,
-    Put,
-    Del,
-    Reap,
-    ReapFirst,
+enum Asked<'a> {
+    Get(&'a [u8], GetOptions),
+    Change(Command<'a>),
 }
 
-/// One ask: of a key, by a context, with a value.
-#[derive(Clone, Copy)]
-struct Step<'a> {
-    command: Command,
-    key: &'a [u8],
-    context: &'a [u8],
-    value: &'a [u8],
-    return_body: bool,
+/// What an ask was answered, but for siblings and contexts.
+#[derive(Clone, Copy, PartialEq, Eq)]
+enum Kind {
+    None,
+    Get { unchanged: bool },
+    Put,
+    Del,
+    Reaped(Reaped),
+    Refused(Refusal),
 }
 
 /// What an ask was answered: what was shown, and the context.
 #[derive(Drop)]
 struct Answers {
+    kind: Kind,
     shown: Vec<u8>,
     context: Vec<u8>,
 }
@@ -59,6 +61,7 @@ struct Answers {
 impl Answers {
     fn new(alloc: Global) -> Answers {
         Answers {
+            kind: Kind::None,
             shown: Vec::new(alloc),
             context: Vec::new(alloc),
         }
@@ -66,60 +69,47 @@ impl Answers {
 
     /// Whether it is answered the same.
     fn is_same(&self, other: &Answers) -> bool {
-        self.shown.as_slice() == other.shown.as_slice()
+        self.kind == other.kind
+            && self.shown.as_slice() == other.shown.as_slice()
             && self.context.as_slice() == other.context.as_slice()
     }
 
-    /// Notes a byte.
-    fn mark(&mut self, byte: u8) -> Result<(), AllocError> {
-        self.shown.push(byte)?;
-        Ok(())
-    }
-
-    /// Notes siblings.
-    fn note(&mut self, siblings: &[Shown]) -> Result<(), AllocError> {
+    /// Notes siblings and a context.
+    fn note(&mut self, siblings: &[Shown], context: &[u8]) -> Result<(), AllocError> {
         for one in siblings {
             self.shown.push(u8::from(one.deleted))?;
             self.shown.extend_from_slice(one.content.value())?;
             self.shown.push(0)?;
         }
-        Ok(())
+        self.context.extend_from_slice(context)
     }
 
     fn note_get(&mut self, reply: &GetReply) -> Result<(), AllocError> {
-        self.note(reply.contents.as_slice())?;
-        self.shown.push(u8::from(reply.unchanged))?;
-        self.context.extend_from_slice(reply.context.as_slice())
-    }
-
-    fn note_put(&mut self, reply: &PutReply) -> Result<(), AllocError> {
-        self.note(reply.contents.as_slice())?;
-        self.context.extend_from_slice(reply.context.as_slice())
+        self.kind = Kind::Get {
+            unchanged: reply.unchanged,
+        };
+        self.note(reply.contents.as_slice(), reply.context.as_slice())
     }
 
     fn note_answer(&mut self, answer: &Answer) -> Result<(), AllocError> {
         match answer {
-            Answer::Put(reply) => self.note_put(reply),
-            Answer::Del => self.mark(b'd'),
-            Answer::Reaped(Reaped::Gone) => self.mark(b'g'),
-            Answer::Reaped(Reaped::Kept) => self.mark(b'k'),
-            Answer::Reaped(Reaped::Absent) => self.mark(b'a'),
+            Answer::Put(reply) => {
+                self.kind = Kind::Put;
+                return self.note(reply.contents.as_slice(), reply.context.as_slice());
+            }
+            Answer::Del => self.kind = Kind::Del,
+            Answer::Reaped(reaped) => self.kind = Kind::Reaped(*reaped),
         }
+        Ok(())
     }
-}
 
-/// The mark of a refusal that isn't for want of memory.
-fn mark_of(refusal: Refusal) -> Result<u8, Refusal> {
-    match refusal {
-        Refusal::BadContext => Ok(b'1'),
-        Refusal::MatchFound => Ok(b'2'),
-        Refusal::NotFound => Ok(b'3'),
-        Refusal::Modified => Ok(b'4'),
-        Refusal::TooManySiblings => Ok(b'5'),
-        Refusal::ClockFull => Ok(b'6'),
-        Refusal::EpochsUsedUp => Ok(b'7'),
-        Refusal::CounterUsedUp => Ok(b'8'),
-        Refusal::NoMemory => Err(refusal),
+    /// Notes a refusal that isn't for want of memory.
+    fn note_refusal(&mut self, refusal: Refusal) -> Result<(), Refusal> {
+        if refusal == Refusal::NoMemory {
+            return Err(refusal);
+        }
+        self.kind = Kind::Refused(refusal);
+        Ok(())
     }
 }
 
@@ -128,11 +118,6 @@ fn note_and_drop(answers: &mut Answers, answer: Answer) -> Result<(), Refusal> {
     let noted = answers.note_answer(&answer);
     drop(answer);
     Ok(noted?)
-}
-
-fn note_refusal(answers: &mut Answers, refusal: Refusal) -> Result<(), Refusal> {
-    let mark = mark_of(refusal)?;
-    Ok(answers.mark(mark)?)
 }
 
 /// Plans a command, makes its change where there is one, and notes its answer.
@@ -145,33 +130,7 @@ fn make<S: ClockStore>(
     match vnode.prepare(alloc, ask) {
         Ok(Plan::Change(change)) => note_and_drop(answers, vnode.finish(change)),
         Ok(Plan::Nothing(answer)) => note_and_drop(answers, answer),
-        Err(refusal) => note_refusal(answers, refusal),
-    }
-}
-
-fn put_of(alloc: Global, step: Step<'_>) -> Result<PutAsk, AllocError> {
-    match PutAsk::plain(alloc, b"b", step.key, step.context, step.value) {
-        Ok(mut put) => {
-            put.return_body = step.return_body;
-            Ok(put)
-        }
-        Err(error) => Err(error),
-    }
-}
-
-fn del_of(alloc: Global, step: Step<'_>) -> Result<DelAsk, AllocError> {
-    let key = Key::of_default_type(alloc, b"b", step.key)?;
-    let context = Bytes::from_slice(alloc, step.context)?;
-    Ok(DelAsk { key, context })
-}
-
-fn get_of(alloc: Global, step: Step<'_>) -> Result<GetAsk, AllocError> {
-    match GetAsk::plain(alloc, b"b", step.key) {
-        Ok(mut get) => {
-            get.deletedvclock = step.return_body;
-            Ok(get)
-        }
-        Err(error) => Err(error),
+        Err(refusal) => answers.note_refusal(refusal),
     }
 }
 
@@ -197,71 +156,45 @@ fn read<S: ClockStore>(
     noted
 }
 
-fn get<S: ClockStore>(
-    vnode: &VnodeOver<S>,
-    alloc: Global,
-    step: Step<'_>,
-    answers: &mut Answers,
-) -> Result<(), Refusal> {
-    match get_of(alloc, step) {
-        Ok(get) => read(vnode, alloc, get, answers),
-        Err(_) => Err(Refusal::NoMemory),
-    }
-}
-
-fn reap_of(alloc: Global, step: Step<'_>, is_first: bool) -> Result<Ask, AllocError> {
-    let key = Key::of_default_type(alloc, b"b", step.key)?;
-    if is_first {
-        return Ok(Ask::ReapFirst(Some(key)));
-    }
-    Ok(Ask::Reap(key))
-}
-
-/// The change that a step asks for.
-fn change_of(alloc: Global, step: Step<'_>) -> Result<Ask, AllocError> {
-    match step.command {
-        Command::Put => Ok(Ask::Put(put_of(alloc, step)?)),
-        Command::Del => Ok(Ask::Del(del_of(alloc, step)?)),
-        Command::Reap | Command::Get => reap_of(alloc, step, false),
-        Command::ReapFirst => reap_of(alloc, step, true),
-    }
-}
-
-fn change<S: ClockStore>(
-    vnode: &mut VnodeOver<S>,
-    alloc: Global,
-    step: Step<'_>,
-    answers: &mut Answers,
-) -> Result<(), Refusal> {
-    match change_of(alloc, step) {
-        Ok(ask) => make(vnode, alloc, ask, answers),
-        Err(_) => Err(Refusal::NoMemory),
-    }
-}
-
 /// Asks a vnode, and notes its answer.
 fn ask<S: ClockStore>(
     vnode: &mut VnodeOver<S>,
     alloc: Global,
-    step: Step<'_>,
+    asked: Asked<'_>,
     answers: &mut Answers,
 ) -> Result<(), Refusal> {
-    match step.command {
-        Command::Get => get(vnode, alloc, step, answers),
-        Command::Put | Command::Del | Command::Reap | Command::ReapFirst => {
-            change(vnode, alloc, step, answers)
+    match asked {
+        Asked::Get(name, options) => {
+            let get = get_of(alloc, name, NONE, options)?;
+            read(vnode, alloc, get, answers)
+        }
+        Asked::Change(command) => {
+            let ask = ask_of(alloc, command)?;
+            make(vnode, alloc, ask, answers)
         }
     }
 }
 
-/// Five gets of sixteen, six puts, three deletes, a reap, and one of the first dead key.
-fn command_of(draw: u8) -> Command {
+/// What is asked of a key, by what was drawn: five gets of sixteen, six puts, three deletes, a reap, and one of the first dead
+/// key. A get shows the context of a dead key, and a put the siblings after it, where more is to be shown.
+fn asked_of<'a>(
+    draw: u8,
+    name: &'a [u8],
+    value: &'a [u8],
+    context: &'a [u8],
+    shows_more: bool,
+) -> Asked<'a> {
+    let (get, put) = if shows_more {
+        (OF_DEAD, RETURN_BODY)
+    } else {
+        (PLAIN_GET, PLAIN_PUT)
+    };
     match draw % 16 {
-        0..=4 => Command::Get,
-        5..=10 => Command::Put,
-        11..=13 => Command::Del,
-        14 => Command::Reap,
-        _ => Command::ReapFirst,
+        0..=4 => Asked::Get(name, get),
+        5..=10 => Asked::Change(PutWith(name, value, context, put)),
+        11..=13 => Asked::Change(Del(name, context)),
+        14 => Asked::Change(Command::Reap(name)),
+        _ => Asked::Change(Command::ReapFirst(Some(name))),
     }
 }
 
@@ -296,41 +229,35 @@ fn ask_both(
     let own = draws.next() % 20;
     let name = [b'a'.wrapping_add(own)];
     let value = [draws.next(), draws.next()];
-    let command = command_of(draws.next());
-    let at = context_at(own, draws.next());
-    let step = Step {
-        command,
-        key: &name,
-        context: shown_of(contexts, at),
-        value: &value,
-        return_body: draws.next() % 4 == 0,
-    };
+    let command = draws.next();
+    let context = shown_of(contexts, context_at(own, draws.next()));
+    let asked = asked_of(command, &name, &value, context, draws.next() % 4 == 0);
     let mut answers = Answers::new(alloc);
     let mut also = Answers::new(alloc);
-    let asked = ask_each(alloc, step, vnode, &mut answers, list, &mut also);
+    let noted = ask_each(alloc, asked, vnode, &mut answers, list, &mut also);
     let is_same = answers.is_same(&also);
     drop(also);
     keep(contexts, own, answers);
-    asked?;
+    noted?;
     Ok(is_same)
 }
 
 /// Asks the one vnode, and then the other, and notes the answer of each.
 fn ask_each(
     alloc: Global,
-    step: Step<'_>,
+    asked: Asked<'_>,
     vnode: &mut Vnode,
     answers: &mut Answers,
     list: &mut ListVnode,
     also: &mut Answers,
 ) -> Result<(), Refusal> {
-    ask(vnode, alloc, step, answers)?;
-    ask(list, alloc, step, also)
+    ask(vnode, alloc, asked, answers)?;
+    ask(list, alloc, asked, also)
 }
 
 /// Keeps the context that was answered, where there is one, as the last that was shown of a key.
 fn keep(contexts: &mut Vec<Vec<u8>>, own: u8, answers: Answers) {
-    let Answers { shown: _, context } = answers;
+    let Answers { context, .. } = answers;
     if context.is_empty() {
         return;
     }

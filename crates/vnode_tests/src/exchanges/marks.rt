@@ -1,12 +1,13 @@
 //! Changes made between two marks, for `scripts/count-allocations`: each mark is an allocation of a size that no other here
 //! has, and the script sees that between the two of a test there is none.
 
-use crate::exchanges::asking::{FIRST, ID, put};
-use crate::exchanges::options_asked::deletes;
-use riak_msgs::{Bytes, DelAsk, Key, PutAsk};
+use crate::exchanges::asking::{ask_of, taken};
+use crate::exchanges::steps::{
+    Ask, Command, Del, Done, FIRST, HasDead, ID, NONE, Put, PutWith, RETURN_BODY, Step,
+};
 use std::alloc::Global;
 use std::process::Abort;
-use vnode_core::{Ask, Plan, Vnode};
+use vnode_core::{Plan, Vnode};
 
 /// Takes 4,099 bytes, and lets them go: whether it got them.
 fn mark(alloc: Global) -> bool {
@@ -17,7 +18,7 @@ fn mark(alloc: Global) -> bool {
 }
 
 /// Plans a command, marks, makes its change, and marks again: whether there was a change to make.
-fn finishes(vnode: &mut Vnode, alloc: Global, ask: Ask) -> bool {
+fn finishes(vnode: &mut Vnode, alloc: Global, ask: vnode_core::Ask) -> bool {
     match vnode.prepare(alloc, ask) {
         Ok(Plan::Change(change)) => {
             let is_begun = mark(alloc);
@@ -33,108 +34,101 @@ fn finishes(vnode: &mut Vnode, alloc: Global, ask: Ask) -> bool {
     }
 }
 
-fn showing(mut ask: PutAsk, return_body: bool) -> PutAsk {
-    ask.return_body = return_body;
-    ask
-}
-
-/// The same of a put of the key k, whose reply is empty, or shows what is left.
-fn puts(vnode: &mut Vnode, alloc: Global, context: &[u8], return_body: bool) -> bool {
-    match PutAsk::plain(alloc, b"b", b"k", context, b"w") {
-        Ok(ask) => finishes(vnode, alloc, Ask::Put(showing(ask, return_body))),
+/// The same of a command, where it may be made.
+fn makes(vnode: &mut Vnode, alloc: Global, command: Command<'_>) -> bool {
+    match ask_of(alloc, command) {
+        Ok(ask) => finishes(vnode, alloc, ask),
         Err(_) => false,
     }
 }
 
-fn del_of(alloc: Global, key: Key) -> Ask {
-    let context = Bytes::new(alloc);
-    Ask::Del(DelAsk { key, context })
+/// A command that is made between two marks, and the steps before it and after it.
+struct Marked {
+    before: &'static [Step],
+    command: Command<'static>,
+    after: &'static [Step],
 }
 
-/// The same of a delete of the key k without context.
-fn buries(vnode: &mut Vnode, alloc: Global) -> bool {
-    match Key::of_default_type(alloc, b"b", b"k") {
-        Ok(key) => finishes(vnode, alloc, del_of(alloc, key)),
-        Err(_) => false,
-    }
+/// Whether all of it comes as expected with a new vnode.
+fn is_made(alloc: Global, marked: &Marked) -> bool {
+    let mut vnode = Vnode::new(alloc, ID, 1);
+    let is_so = taken(&mut vnode, alloc, marked.before) == marked.before.len()
+        && makes(&mut vnode, alloc, marked.command)
+        && taken(&mut vnode, alloc, marked.after) == marked.after.len();
+    drop(vnode);
+    is_so
 }
 
-/// The same of a reap of the key k.
-fn forgets(vnode: &mut Vnode, alloc: Global) -> bool {
-    match Key::of_default_type(alloc, b"b", b"k") {
-        Ok(key) => finishes(vnode, alloc, Ask::Reap(key)),
-        Err(_) => false,
-    }
+fn goes_between_marks(rt: &(impl Abort + AllocGlobal), marked: &Marked) {
+    assert!(rt; is_made(rt.alloc(), marked));
 }
+
+const V_IS_PUT: &[Step] = &[Ask(Put(b"k", b"v", NONE), Done)];
+
+const IS_DEAD: &[Step] = &[Ask(Put(b"k", b"v", NONE), Done), Ask(Del(b"k", NONE), Done)];
+
+const A_PUT_OF_A_NEW_KEY: &Marked = &Marked {
+    before: &[],
+    command: Put(b"k", b"w", NONE),
+    after: &[],
+};
 
 #[test]
 fn a_put_of_a_new_key(rt: HostRuntime) {
-    let mut vnode = Vnode::new(rt.alloc(), ID, 1);
-    let is_so = puts(&mut vnode, rt.alloc(), b"", false);
-    drop(vnode);
-    assert!(&rt; is_so);
+    goes_between_marks(&rt, A_PUT_OF_A_NEW_KEY);
 }
+
+const AN_OVERWRITE: &Marked = &Marked {
+    before: V_IS_PUT,
+    command: Put(b"k", b"w", FIRST),
+    after: &[],
+};
 
 #[test]
 fn an_overwrite(rt: HostRuntime) {
-    let mut vnode = Vnode::new(rt.alloc(), ID, 1);
-    let is_so = overwrites(rt.alloc(), &mut vnode);
-    drop(vnode);
-    assert!(&rt; is_so);
+    goes_between_marks(&rt, AN_OVERWRITE);
 }
 
-fn overwrites(alloc: Global, vnode: &mut Vnode) -> bool {
-    put(vnode, alloc, b"k", b"v") && puts(vnode, alloc, FIRST, false)
-}
+const A_PUT_THAT_SHOWS_BOTH: &Marked = &Marked {
+    before: V_IS_PUT,
+    command: PutWith(b"k", b"w", NONE, RETURN_BODY),
+    after: &[],
+};
 
 #[test]
 fn a_put_that_shows_both_siblings(rt: HostRuntime) {
-    let mut vnode = Vnode::new(rt.alloc(), ID, 1);
-    let is_so = shows_both(rt.alloc(), &mut vnode);
-    drop(vnode);
-    assert!(&rt; is_so);
+    goes_between_marks(&rt, A_PUT_THAT_SHOWS_BOTH);
 }
 
-fn shows_both(alloc: Global, vnode: &mut Vnode) -> bool {
-    put(vnode, alloc, b"k", b"v") && puts(vnode, alloc, b"", true)
-}
+const A_DELETE: &Marked = &Marked {
+    before: V_IS_PUT,
+    command: Del(b"k", NONE),
+    after: &[HasDead(None, true)],
+};
 
 #[test]
 fn a_delete_that_leaves_a_key_dead(rt: HostRuntime) {
-    let mut vnode = Vnode::new(rt.alloc(), ID, 1);
-    let is_so = leaves_it_dead(rt.alloc(), &mut vnode);
-    drop(vnode);
-    assert!(&rt; is_so);
+    goes_between_marks(&rt, A_DELETE);
 }
 
-fn leaves_it_dead(alloc: Global, vnode: &mut Vnode) -> bool {
-    put(vnode, alloc, b"k", b"v") && buries(vnode, alloc) && vnode.has_dead(None)
-}
+const A_REAP: &Marked = &Marked {
+    before: IS_DEAD,
+    command: Command::Reap(b"k"),
+    after: &[HasDead(None, false)],
+};
 
 #[test]
 fn a_reap(rt: HostRuntime) {
-    let mut vnode = Vnode::new(rt.alloc(), ID, 1);
-    let is_so = is_forgotten(rt.alloc(), &mut vnode);
-    drop(vnode);
-    assert!(&rt; is_so);
+    goes_between_marks(&rt, A_REAP);
 }
 
-fn is_dead(alloc: Global, vnode: &mut Vnode) -> bool {
-    put(vnode, alloc, b"k", b"v") && deletes(vnode, alloc, b"k", b"", true)
-}
-
-fn is_forgotten(alloc: Global, vnode: &mut Vnode) -> bool {
-    is_dead(alloc, vnode) && forgets(vnode, alloc) && !vnode.has_dead(None)
-}
+const A_REAP_OF_THE_FIRST: &Marked = &Marked {
+    before: IS_DEAD,
+    command: Command::ReapFirst(None),
+    after: &[HasDead(None, false)],
+};
 
 #[test]
 fn a_reap_of_the_first_dead_key(rt: HostRuntime) {
-    let mut vnode = Vnode::new(rt.alloc(), ID, 1);
-    let is_so = first_is_forgotten(rt.alloc(), &mut vnode);
-    drop(vnode);
-    assert!(&rt; is_so);
-}
-
-fn first_is_forgotten(alloc: Global, vnode: &mut Vnode) -> bool {
-    is_dead(alloc, vnode) && finishes(vnode, alloc, Ask::ReapFirst(None)) && !vnode.has_dead(None)
+    goes_between_marks(&rt, A_REAP_OF_THE_FIRST);
 }

@@ -1,234 +1,124 @@
 //! The options of gets and puts.
 
-use crate::exchanges::asking::{FIRST, ID, SECOND, THIRD, put, shows};
-use crate::exchanges::options_asked::{
-    GetOptions, PLAIN_GET, PLAIN_PUT, PutOptions, Tombstone, Value, deletes, is_unchanged,
-    refusal_of_put, replies, shows_with,
+use crate::exchanges::asking::go_as_expected;
+use crate::exchanges::steps::{
+    Ask, BARE, BOTH_CONDITIONS, Del, Done, Exchange, FIRST, Get, GetWith, HEAD, IF_NONE_MATCH,
+    IF_NOT_MODIFIED, NONE, NOTHING, PLAIN_GET, Put, PutWith, RETURN_BODY, RETURN_BOTH, RETURN_HEAD,
+    Refused, Reply, SECOND, Shows, THIRD, Tombstone, Unchanged, V, W, X,
 };
-use std::alloc::Global;
-use std::process::Abort;
-use vnode_core::{Refusal, Vnode};
+use vnode_core::Refusal;
 
-const IF_NONE_MATCH: PutOptions = PutOptions {
-    return_body: false,
-    return_head: false,
-    if_not_modified: false,
-    if_none_match: true,
-};
+const BAD: Reply = Refused(Refusal::BadContext);
 
-const IF_NOT_MODIFIED: PutOptions = PutOptions {
-    return_body: false,
-    return_head: false,
-    if_not_modified: true,
-    if_none_match: false,
-};
+const FOUND: Reply = Refused(Refusal::MatchFound);
 
-const BOTH_CONDITIONS: PutOptions = PutOptions {
-    return_body: false,
-    return_head: false,
-    if_not_modified: true,
-    if_none_match: true,
-};
+const MODIFIED: Reply = Refused(Refusal::Modified);
 
-const RETURN_BODY: PutOptions = PutOptions {
-    return_body: true,
-    return_head: false,
-    if_not_modified: false,
-    if_none_match: false,
-};
+const NOT_FOUND: Reply = Refused(Refusal::NotFound);
 
-const RETURN_HEAD: PutOptions = PutOptions {
-    return_body: false,
-    return_head: true,
-    if_not_modified: false,
-    if_none_match: false,
-};
+const W_AND_V: Reply = Shows(&[W, V], SECOND);
 
-const RETURN_BOTH: PutOptions = PutOptions {
-    return_body: true,
-    return_head: true,
-    if_not_modified: false,
-    if_none_match: false,
-};
+const X_AND_W: Reply = Shows(&[X, W], THIRD);
 
-/// if_none_match refuses a key with a value, and lets a dead one and an absent one be written.
+const CONDITIONS: &[Exchange] = &[
+    // It lets a dead key and an absent one be written.
+    Exchange {
+        shows: "if_none_match refuses a key with a value",
+        steps: &[
+            Ask(PutWith(b"k", b"v", NONE, IF_NONE_MATCH), Done),
+            Ask(PutWith(b"k", b"z", NONE, IF_NONE_MATCH), FOUND),
+            Get(b"k", Shows(&[V], FIRST)),
+            Ask(Del(b"k", NONE), Done),
+            Ask(PutWith(b"k", b"w", SECOND, IF_NONE_MATCH), Done),
+            Get(b"k", Shows(&[W], THIRD)),
+        ],
+    },
+    // An absent key isn't found, nor is a dead one; with an old context, or none, the key is modified; with its own it is
+    // written.
+    Exchange {
+        shows: "if_not_modified wants the key's own context",
+        steps: &[
+            Ask(PutWith(b"k", b"v", NONE, IF_NOT_MODIFIED), NOT_FOUND),
+            Ask(Put(b"k", b"v", NONE), Done),
+            Ask(Put(b"k", b"w", NONE), Done),
+            Ask(PutWith(b"k", b"x", FIRST, IF_NOT_MODIFIED), MODIFIED),
+            Ask(PutWith(b"k", b"x", NONE, IF_NOT_MODIFIED), MODIFIED),
+            Get(b"k", W_AND_V),
+            Ask(PutWith(b"k", b"x", SECOND, IF_NOT_MODIFIED), Done),
+            Get(b"k", Shows(&[X], THIRD)),
+            Ask(Del(b"k", NONE), Done),
+            Ask(PutWith(b"k", b"y", NONE, IF_NOT_MODIFIED), NOT_FOUND),
+        ],
+    },
+    // A context that runs ahead is refused before either.
+    Exchange {
+        shows: "with both conditions if_none_match decides",
+        steps: &[
+            Ask(PutWith(b"k", b"v", FIRST, BOTH_CONDITIONS), BAD),
+            Ask(PutWith(b"k", b"v", NONE, BOTH_CONDITIONS), Done),
+            Ask(PutWith(b"k", b"z", FIRST, BOTH_CONDITIONS), FOUND),
+            Ask(PutWith(b"k", b"z", SECOND, BOTH_CONDITIONS), BAD),
+            Get(b"k", Shows(&[V], FIRST)),
+        ],
+    },
+];
+
 #[test]
-fn if_none_match_wants_no_value(rt: HostRuntime) {
-    let mut vnode = Vnode::new(rt.alloc(), ID, 1);
-    let is_so = if_none_match_wants_no_value_of(rt.alloc(), &mut vnode);
-    drop(vnode);
-    assert!(&rt; is_so);
+fn puts_have_conditions(rt: HostRuntime) {
+    go_as_expected(&rt, CONDITIONS);
 }
 
-fn if_none_match_wants_no_value_of(alloc: Global, vnode: &mut Vnode) -> bool {
-    refusal_of_put(vnode, alloc, b"v", b"", IF_NONE_MATCH).is_none()
-        && refusal_of_put(vnode, alloc, b"z", b"", IF_NONE_MATCH) == Some(Refusal::MatchFound)
-        && shows(vnode, alloc, b"k", &[b"v"], FIRST)
-        && deletes(vnode, alloc, b"k", b"", true)
-        && refusal_of_put(vnode, alloc, b"w", SECOND, IF_NONE_MATCH).is_none()
-        && shows(vnode, alloc, b"k", &[b"w"], THIRD)
-}
+const REPLIES: &[Exchange] = &[
+    // The siblings that stay, the new one first, and the context with its dot.
+    Exchange {
+        shows: "return_body shows what a get then shows",
+        steps: &[
+            Ask(PutWith(b"k", b"v", NONE, RETURN_BODY), Shows(&[V], FIRST)),
+            Ask(PutWith(b"k", b"w", NONE, RETURN_BODY), W_AND_V),
+            Ask(PutWith(b"k", b"x", FIRST, RETURN_BODY), X_AND_W),
+            Get(b"k", X_AND_W),
+        ],
+    },
+    // With both return_body decides; a put that asks for nothing is shown nothing.
+    Exchange {
+        shows: "return_head shows empty values",
+        steps: &[
+            Ask(
+                PutWith(b"k", b"v", NONE, RETURN_HEAD),
+                Shows(&[BARE], FIRST),
+            ),
+            Ask(PutWith(b"k", b"w", NONE, RETURN_BOTH), W_AND_V),
+            Ask(Put(b"k", b"x", SECOND), NOTHING),
+            Get(b"k", Shows(&[X], THIRD)),
+        ],
+    },
+    Exchange {
+        shows: "a tombstone that a put has not seen is among the siblings after it",
+        steps: &[
+            Ask(Put(b"k", b"v", NONE), Done),
+            Ask(Del(b"k", NONE), Done),
+            Ask(
+                PutWith(b"k", b"w", NONE, RETURN_BODY),
+                Shows(&[W, Tombstone], THIRD),
+            ),
+        ],
+    },
+    // An older one, one that isn't of the form, or that of an absent key is as none. head shows empty values.
+    Exchange {
+        shows: "a get by the key's own context as if_modified is answered by unchanged alone",
+        steps: &[
+            GetWith(b"k", FIRST, PLAIN_GET, NOTHING),
+            Ask(Put(b"k", b"v", NONE), Done),
+            GetWith(b"k", FIRST, PLAIN_GET, Unchanged),
+            GetWith(b"k", b"\x01", PLAIN_GET, Shows(&[V], FIRST)),
+            Ask(Put(b"k", b"w", NONE), Done),
+            GetWith(b"k", FIRST, PLAIN_GET, W_AND_V),
+            GetWith(b"k", NONE, HEAD, Shows(&[BARE, BARE], SECOND)),
+        ],
+    },
+];
 
-/// if_not_modified: an absent key isn't found, nor is a dead one; with an old context, or none, the key is modified;
-/// with its own it is written.
 #[test]
-fn if_not_modified_wants_own_context(rt: HostRuntime) {
-    let mut vnode = Vnode::new(rt.alloc(), ID, 1);
-    let is_so = if_not_modified_wants_own_context_of(rt.alloc(), &mut vnode);
-    drop(vnode);
-    assert!(&rt; is_so);
-}
-
-fn if_not_modified_wants_own_context_of(alloc: Global, vnode: &mut Vnode) -> bool {
-    absent_key_is_not_found(alloc, vnode)
-        && other_contexts_are_refused(alloc, vnode)
-        && own_context_is_written(alloc, vnode)
-        && dead_key_is_not_found(alloc, vnode)
-}
-
-fn absent_key_is_not_found(alloc: Global, vnode: &mut Vnode) -> bool {
-    refusal_of_put(vnode, alloc, b"v", b"", IF_NOT_MODIFIED) == Some(Refusal::NotFound)
-}
-
-/// An old context and none, where v and w are siblings.
-fn other_contexts_are_refused(alloc: Global, vnode: &mut Vnode) -> bool {
-    put(vnode, alloc, b"k", b"v")
-        && put(vnode, alloc, b"k", b"w")
-        && refusal_of_put(vnode, alloc, b"x", FIRST, IF_NOT_MODIFIED) == Some(Refusal::Modified)
-        && refusal_of_put(vnode, alloc, b"x", b"", IF_NOT_MODIFIED) == Some(Refusal::Modified)
-        && shows(vnode, alloc, b"k", &[b"w", b"v"], SECOND)
-}
-
-fn own_context_is_written(alloc: Global, vnode: &mut Vnode) -> bool {
-    refusal_of_put(vnode, alloc, b"x", SECOND, IF_NOT_MODIFIED).is_none()
-        && shows(vnode, alloc, b"k", &[b"x"], THIRD)
-}
-
-fn dead_key_is_not_found(alloc: Global, vnode: &mut Vnode) -> bool {
-    deletes(vnode, alloc, b"k", b"", true)
-        && refusal_of_put(vnode, alloc, b"y", b"", IF_NOT_MODIFIED) == Some(Refusal::NotFound)
-}
-
-/// With both conditions if_none_match decides; a context that runs ahead is refused before either.
-#[test]
-fn if_none_match_decides(rt: HostRuntime) {
-    let mut vnode = Vnode::new(rt.alloc(), ID, 1);
-    let is_so = if_none_match_decides_of(rt.alloc(), &mut vnode);
-    drop(vnode);
-    assert!(&rt; is_so);
-}
-
-fn if_none_match_decides_of(alloc: Global, vnode: &mut Vnode) -> bool {
-    refusal_of_put(vnode, alloc, b"v", FIRST, BOTH_CONDITIONS) == Some(Refusal::BadContext)
-        && refusal_of_put(vnode, alloc, b"v", b"", BOTH_CONDITIONS).is_none()
-        && refusal_of_put(vnode, alloc, b"z", FIRST, BOTH_CONDITIONS) == Some(Refusal::MatchFound)
-        && refusal_of_put(vnode, alloc, b"z", SECOND, BOTH_CONDITIONS) == Some(Refusal::BadContext)
-        && shows(vnode, alloc, b"k", &[b"v"], FIRST)
-}
-
-/// return_body shows what a get then shows: the siblings that stay, the new one first, and the context with its dot.
-#[test]
-fn return_body_shows_siblings_after(rt: HostRuntime) {
-    let mut vnode = Vnode::new(rt.alloc(), ID, 1);
-    let is_so = return_body_shows_siblings_after_of(rt.alloc(), &mut vnode);
-    drop(vnode);
-    assert!(&rt; is_so);
-}
-
-fn return_body_shows_siblings_after_of(alloc: Global, vnode: &mut Vnode) -> bool {
-    shows_v(alloc, vnode, RETURN_BODY, b"v")
-        && shows_w_and_v(alloc, vnode, RETURN_BODY)
-        && shows_x_and_w(alloc, vnode)
-        && shows(vnode, alloc, b"k", &[b"x", b"w"], THIRD)
-}
-
-/// The first put, of v, is shown this value.
-fn shows_v(alloc: Global, vnode: &mut Vnode, options: PutOptions, shown: &'static [u8]) -> bool {
-    replies(vnode, alloc, b"v", b"", options, &[Value(shown)], FIRST)
-}
-
-/// The put of w without context is shown both.
-fn shows_w_and_v(alloc: Global, vnode: &mut Vnode, options: PutOptions) -> bool {
-    let both = [Value(b"w"), Value(b"v")];
-    replies(vnode, alloc, b"w", b"", options, &both, SECOND)
-}
-
-/// The put of x, which has seen v alone, is shown x and w.
-fn shows_x_and_w(alloc: Global, vnode: &mut Vnode) -> bool {
-    let both = [Value(b"x"), Value(b"w")];
-    replies(vnode, alloc, b"x", FIRST, RETURN_BODY, &both, THIRD)
-}
-
-/// return_head shows them with empty values; with both return_body decides; a put that asks for nothing is shown nothing.
-#[test]
-fn return_head_shows_empty_values(rt: HostRuntime) {
-    let mut vnode = Vnode::new(rt.alloc(), ID, 1);
-    let is_so = return_head_shows_empty_values_of(rt.alloc(), &mut vnode);
-    drop(vnode);
-    assert!(&rt; is_so);
-}
-
-fn return_head_shows_empty_values_of(alloc: Global, vnode: &mut Vnode) -> bool {
-    shows_v(alloc, vnode, RETURN_HEAD, b"")
-        && shows_w_and_v(alloc, vnode, RETURN_BOTH)
-        && replies(vnode, alloc, b"x", SECOND, PLAIN_PUT, &[], b"")
-        && shows(vnode, alloc, b"k", &[b"x"], THIRD)
-}
-
-/// A tombstone that a put has not seen is among the siblings after it.
-#[test]
-fn return_body_shows_tombstones(rt: HostRuntime) {
-    let mut vnode = Vnode::new(rt.alloc(), ID, 1);
-    let is_so = return_body_shows_tombstones_of(rt.alloc(), &mut vnode);
-    drop(vnode);
-    assert!(&rt; is_so);
-}
-
-fn return_body_shows_tombstones_of(alloc: Global, vnode: &mut Vnode) -> bool {
-    let both = [Value(b"w"), Tombstone];
-    put(vnode, alloc, b"k", b"v")
-        && deletes(vnode, alloc, b"k", b"", true)
-        && replies(vnode, alloc, b"w", b"", RETURN_BODY, &both, THIRD)
-}
-
-/// if_modified: the key's own context is answered by unchanged alone; an older one, one that isn't of the form, or that
-/// of an absent key is as none. head shows empty values.
-#[test]
-fn gets_with_options(rt: HostRuntime) {
-    let mut vnode = Vnode::new(rt.alloc(), ID, 1);
-    let is_so = gets_with_options_of(rt.alloc(), &mut vnode);
-    drop(vnode);
-    assert!(&rt; is_so);
-}
-
-fn gets_with_options_of(alloc: Global, vnode: &mut Vnode) -> bool {
-    of_one_value(alloc, vnode) && of_two_values(alloc, vnode)
-}
-
-fn of_one_value(alloc: Global, vnode: &mut Vnode) -> bool {
-    shows_with(vnode, alloc, b"k", since(FIRST), &[], b"")
-        && put(vnode, alloc, b"k", b"v")
-        && is_unchanged(vnode, alloc, b"k", since(FIRST))
-        && shows_with(vnode, alloc, b"k", since(b"\x01"), &[Value(b"v")], FIRST)
-}
-
-fn of_two_values(alloc: Global, vnode: &mut Vnode) -> bool {
-    let both = [Value(b"w"), Value(b"v")];
-    let empty = [Value(b""), Value(b"")];
-    put(vnode, alloc, b"k", b"w")
-        && shows_with(vnode, alloc, b"k", since(FIRST), &both, SECOND)
-        && shows_with(vnode, alloc, b"k", HEAD, &empty, SECOND)
-}
-
-const HEAD: GetOptions<'static> = GetOptions {
-    if_modified: b"",
-    head: true,
-    deletedvclock: false,
-};
-
-fn since(context: &'static [u8]) -> GetOptions<'static> {
-    GetOptions {
-        if_modified: context,
-        ..PLAIN_GET
-    }
+fn replies_show_what_is_asked(rt: HostRuntime) {
+    go_as_expected(&rt, REPLIES);
 }

@@ -1,78 +1,104 @@
-//! Lives of a key: after a reap a new one begins, and contexts of the old one cover nothing in it.
+//! Lives of a key: after a reap a new one begins, and contexts of the old one cover nothing in it; and what is counted.
 
-use crate::exchanges::asking::{FIRST, FIRST_OF_SECOND, ID, put, put_seen, shows};
-use crate::exchanges::options_asked::deletes;
-use crate::reaping::asking::{BOTH_LIVES, bury, put_unmodified, reaps};
-use std::alloc::Global;
-use std::process::Abort;
-use vnode_core::{Reaped, Refusal, Vnode};
+use crate::exchanges::asking::go_as_expected;
+use crate::exchanges::steps::{
+    Ask, B, Counted, D, Del, Done, Exchange, FIRST, FIRST_OF_SECOND, Get, IF_NOT_MODIFIED, Idle,
+    NONE, NOTHING, Put, PutWith, Reap, Refused, Reply, Shows,
+};
+use vnode_core::Reaped::{Absent, Gone, Kept};
+use vnode_core::{Refusal, Tally};
 
-/// After put, delete and reap the key is absent; the next put has the first dot of a new epoch.
+const MODIFIED: Reply = Refused(Refusal::Modified);
+
+const NOT_FOUND: Reply = Refused(Refusal::NotFound);
+
+/// Two entries: the first dot of the first epoch, and the second of the second.
+const BOTH_LIVES: &[u8] =
+    b"\x01\0\0\0\0\0\x01\0\0\0\0\0\x01\0\0\0\x01\0\0\0\0\0\x01\0\0\0\0\0\x02\0\0\0\x02";
+
+const NONE_YET: Tally = Tally {
+    writes: 0,
+    tombstones: 0,
+    reaps: 0,
+};
+
+const TWO_PUTS: Tally = Tally {
+    writes: 2,
+    tombstones: 0,
+    reaps: 0,
+};
+
+const ALL_THREE: Tally = Tally {
+    writes: 2,
+    tombstones: 1,
+    reaps: 1,
+};
+
+const EXCHANGES: &[Exchange] = &[
+    // A value isn't reaped: the get after it shows the same. After put, delete and reap the key is absent; the next put has
+    // the first dot of a new epoch.
+    Exchange {
+        shows: "a new life has a new epoch",
+        steps: &[
+            Ask(Put(b"k", b"b", NONE), Done),
+            Get(b"k", Shows(&[B], FIRST)),
+            Reap(b"k", Kept),
+            Get(b"k", Shows(&[B], FIRST)),
+            Ask(Del(b"k", NONE), Done),
+            Reap(b"k", Gone),
+            Get(b"k", NOTHING),
+            Reap(b"k", Absent),
+            Ask(Put(b"k", b"b", NONE), Done),
+            Get(b"k", Shows(&[B], FIRST_OF_SECOND)),
+        ],
+    },
+    // Both values stay, and the clock knows both lives.
+    Exchange {
+        shows: "a put by the context of the first life covers nothing",
+        steps: &[
+            Ask(Put(b"k", b"v", NONE), Done),
+            Ask(Del(b"k", NONE), Done),
+            Reap(b"k", Gone),
+            Ask(Put(b"k", b"b", NONE), Done),
+            Ask(Put(b"k", b"d", FIRST), Done),
+            Get(b"k", Shows(&[D, B], BOTH_LIVES)),
+        ],
+    },
+    // Of a key that has changed; of an absent key it is refused too, since there is none.
+    Exchange {
+        shows: "a put of an unmodified key, by the context of the first life, is refused",
+        steps: &[
+            Ask(Put(b"k", b"v", NONE), Done),
+            Ask(Del(b"k", NONE), Done),
+            Reap(b"k", Gone),
+            Ask(Put(b"k", b"b", NONE), Done),
+            Ask(PutWith(b"k", b"e", FIRST, IF_NOT_MODIFIED), MODIFIED),
+            Ask(PutWith(b"q", b"e", FIRST, IF_NOT_MODIFIED), NOT_FOUND),
+            Get(b"k", Shows(&[B], FIRST_OF_SECOND)),
+            Ask(PutWith(b"k", b"e", FIRST_OF_SECOND, IF_NOT_MODIFIED), Done),
+        ],
+    },
+    // Accepted puts, tombstones and forgotten keys; a refused put, a delete of an absent key and a reap that forgets nothing
+    // aren't.
+    Exchange {
+        shows: "accepted events are counted",
+        steps: &[
+            Counted(NONE_YET),
+            Ask(Put(b"k", b"v", NONE), Done),
+            Ask(Put(b"k", b"w", NONE), Done),
+            Ask(PutWith(b"k", b"e", FIRST, IF_NOT_MODIFIED), MODIFIED),
+            Ask(Del(b"j", NONE), Idle),
+            Reap(b"k", Kept),
+            Counted(TWO_PUTS),
+            Ask(Del(b"k", NONE), Done),
+            Reap(b"k", Gone),
+            Reap(b"k", Absent),
+            Counted(ALL_THREE),
+        ],
+    },
+];
+
 #[test]
-fn a_new_life_has_a_new_epoch(rt: HostRuntime) {
-    let mut vnode = Vnode::new(rt.alloc(), ID, 1);
-    let is_so = new_epoch_of(rt.alloc(), &mut vnode);
-    drop(vnode);
-    assert!(&rt; is_so);
-}
-
-fn new_epoch_of(alloc: Global, vnode: &mut Vnode) -> bool {
-    first_life_stays(alloc, vnode) && second_life_begins(alloc, vnode)
-}
-
-/// A value isn't reaped: the get after it shows the same.
-fn first_life_stays(alloc: Global, vnode: &mut Vnode) -> bool {
-    put(vnode, alloc, b"k", b"b")
-        && shows(vnode, alloc, b"k", &[b"b"], FIRST)
-        && reaps(vnode, alloc, b"k", Reaped::Kept)
-        && shows(vnode, alloc, b"k", &[b"b"], FIRST)
-}
-
-fn second_life_begins(alloc: Global, vnode: &mut Vnode) -> bool {
-    deletes(vnode, alloc, b"k", b"", true)
-        && reaps(vnode, alloc, b"k", Reaped::Gone)
-        && shows(vnode, alloc, b"k", &[], b"")
-        && reaps(vnode, alloc, b"k", Reaped::Absent)
-        && put(vnode, alloc, b"k", b"b")
-        && shows(vnode, alloc, b"k", &[b"b"], FIRST_OF_SECOND)
-}
-
-/// A put by the context of the first life covers nothing: both values stay, and the clock knows both lives.
-#[test]
-fn old_context_covers_nothing(rt: HostRuntime) {
-    let mut vnode = Vnode::new(rt.alloc(), ID, 1);
-    let is_so = covers_nothing_of(rt.alloc(), &mut vnode);
-    drop(vnode);
-    assert!(&rt; is_so);
-}
-
-/// A second life of the key k, with the value "b".
-fn live_again(alloc: Global, vnode: &mut Vnode) -> bool {
-    bury(vnode, alloc, b"k")
-        && reaps(vnode, alloc, b"k", Reaped::Gone)
-        && put(vnode, alloc, b"k", b"b")
-}
-
-fn covers_nothing_of(alloc: Global, vnode: &mut Vnode) -> bool {
-    live_again(alloc, vnode)
-        && put_seen(vnode, alloc, b"k", b"d", FIRST)
-        && shows(vnode, alloc, b"k", &[b"d", b"b"], BOTH_LIVES)
-}
-
-/// A put of an unmodified key, by the context of the first life, is refused: the key has changed. Of an absent key it is
-/// refused too, since there is none.
-#[test]
-fn old_context_is_not_the_keys(rt: HostRuntime) {
-    let mut vnode = Vnode::new(rt.alloc(), ID, 1);
-    let is_so = not_the_keys_of(rt.alloc(), &mut vnode);
-    drop(vnode);
-    assert!(&rt; is_so);
-}
-
-fn not_the_keys_of(alloc: Global, vnode: &mut Vnode) -> bool {
-    live_again(alloc, vnode)
-        && put_unmodified(vnode, alloc, b"k", FIRST) == Some(Refusal::Modified)
-        && put_unmodified(vnode, alloc, b"q", FIRST) == Some(Refusal::NotFound)
-        && shows(vnode, alloc, b"k", &[b"b"], FIRST_OF_SECOND)
-        && put_unmodified(vnode, alloc, b"k", FIRST_OF_SECOND).is_none()
+fn lives_end_and_begin(rt: HostRuntime) {
+    go_as_expected(&rt, EXCHANGES);
 }

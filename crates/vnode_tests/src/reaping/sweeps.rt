@@ -1,41 +1,24 @@
-//! Sweeps: which keys are forgotten, and whether more are left.
+//! Sweeps, and reaps as commands: which keys are forgotten, and whether more are left.
 
-use crate::exchanges::asking::{ID, put, shows};
-use crate::reaping::asking::{Wanted, bury, dead_from_is, reaps, sweeps_all, sweeps_from};
-use std::alloc::Global;
-use std::process::Abort;
-use vnode_core::{Reaped, Vnode};
+use crate::exchanges::asking::go_as_expected;
+use crate::exchanges::steps::{
+    Ask, Command, Del, Done, Exchange, Get, HasDead, NONE, Put, Reap, ReapFirst, Reply, Shows,
+    Sweep, V,
+};
+use tomb_reaper::Swept;
+use vnode_core::Reaped::{Absent, Gone, Kept};
 
-/// Of the dead keys a, c and e a sweep from b with budget 1 forgets c, and more are left; one of all with budget 5
-/// forgets the other two, and no more are left. The key d has a value, and stays.
-#[test]
-fn a_sweep_forgets_the_first_dead_keys(rt: HostRuntime) {
-    let mut vnode = Vnode::new(rt.alloc(), ID, 1);
-    let is_so = forgets_the_first_of(rt.alloc(), &mut vnode);
-    drop(vnode);
-    assert!(&rt; is_so);
-}
-
-fn forgets_the_first_of(alloc: Global, vnode: &mut Vnode) -> bool {
-    fill(alloc, vnode)
-        && sweeps_from(vnode, alloc, b"b", 1, LEAVES_MORE)
-        && reaps(vnode, alloc, b"c", Reaped::Absent)
-        && sweeps_all(vnode, 5, THE_LAST_TWO)
-        && reaps(vnode, alloc, b"d", Reaped::Kept)
-        && shows(vnode, alloc, b"d", &[b"v"], LIFE_OF_D)
-}
-
-const LEAVES_MORE: Wanted = Wanted {
+const LEAVES_MORE: Swept = Swept {
     reaped: 1,
     more: true,
 };
 
-const THE_LAST_TWO: Wanted = Wanted {
+const THE_LAST_TWO: Swept = Swept {
     reaped: 2,
     more: false,
 };
 
-const NONE_OF_THEM: Wanted = Wanted {
+const NONE_OF_THEM: Swept = Swept {
     reaped: 0,
     more: true,
 };
@@ -43,36 +26,71 @@ const NONE_OF_THEM: Wanted = Wanted {
 /// The context of the key d: the first dot of the third epoch.
 const LIFE_OF_D: &[u8] = b"\x01\0\0\0\0\0\x01\0\0\0\0\0\x03\0\0\0\x01";
 
-/// Dead keys a, c and e, and d with a value.
-fn fill(alloc: Global, vnode: &mut Vnode) -> bool {
-    bury(vnode, alloc, b"a")
-        && bury(vnode, alloc, b"c")
-        && put(vnode, alloc, b"d", b"v")
-        && bury(vnode, alloc, b"e")
-}
+const EXCHANGES: &[Exchange] = &[
+    // Of the dead keys a, c and e a sweep from b with budget 1 forgets c, and more are left; one of all with budget 5
+    // forgets the other two, and no more are left. The key d has a value, and stays.
+    Exchange {
+        shows: "a sweep forgets the first dead keys",
+        steps: &[
+            Ask(Put(b"a", b"v", NONE), Done),
+            Ask(Del(b"a", NONE), Done),
+            Ask(Put(b"c", b"v", NONE), Done),
+            Ask(Del(b"c", NONE), Done),
+            Ask(Put(b"d", b"v", NONE), Done),
+            Ask(Put(b"e", b"v", NONE), Done),
+            Ask(Del(b"e", NONE), Done),
+            Sweep(Some(b"b"), 1, LEAVES_MORE),
+            Reap(b"c", Absent),
+            Sweep(None, 5, THE_LAST_TWO),
+            Reap(b"d", Kept),
+            Get(b"d", Shows(&[V], LIFE_OF_D)),
+        ],
+    },
+    // The key itself is among them, and those before it aren't, neither in what is forgotten nor in what is left. With no
+    // budget nothing is forgotten.
+    Exchange {
+        shows: "a sweep counts from its key on",
+        steps: &[
+            Ask(Put(b"a", b"v", NONE), Done),
+            Ask(Del(b"a", NONE), Done),
+            Ask(Put(b"c", b"v", NONE), Done),
+            Ask(Del(b"c", NONE), Done),
+            Ask(Put(b"d", b"v", NONE), Done),
+            Ask(Put(b"e", b"v", NONE), Done),
+            Ask(Del(b"e", NONE), Done),
+            Sweep(Some(b"c"), 0, NONE_OF_THEM),
+            Sweep(Some(b"c"), 2, THE_LAST_TWO),
+            HasDead(None, true),
+            HasDead(Some(b"a"), true),
+            HasDead(Some(b"b"), false),
+            Reap(b"a", Gone),
+            HasDead(None, false),
+            ReapFirst(false),
+        ],
+    },
+    // The reap of a key is answered as the key is: it was dead and is gone, has a value, or isn't there. The reap of the
+    // least dead key from c on takes e, and then finds none, though a before it is dead.
+    Exchange {
+        shows: "reaps may be asked for",
+        steps: &[
+            Ask(Put(b"a", b"v", NONE), Done),
+            Ask(Del(b"a", NONE), Done),
+            Ask(Put(b"d", b"v", NONE), Done),
+            Ask(Command::Reap(b"d"), Reply::Reaped(Kept)),
+            Ask(Put(b"e", b"v", NONE), Done),
+            Ask(Del(b"e", NONE), Done),
+            Ask(Command::ReapFirst(Some(b"c")), Reply::Reaped(Gone)),
+            Reap(b"e", Absent),
+            Ask(Command::ReapFirst(Some(b"c")), Reply::Reaped(Absent)),
+            Ask(Del(b"d", NONE), Done),
+            Ask(Command::Reap(b"d"), Reply::Reaped(Gone)),
+            Ask(Command::Reap(b"d"), Reply::Reaped(Absent)),
+            Ask(Command::Reap(b"a"), Reply::Reaped(Gone)),
+        ],
+    },
+];
 
-/// A sweep counts from its key on: the key itself is among them, and those before it aren't, neither in what is
-/// forgotten nor in what is left. With no budget nothing is forgotten.
 #[test]
-fn a_sweep_begins_at_its_key(rt: HostRuntime) {
-    let mut vnode = Vnode::new(rt.alloc(), ID, 1);
-    let is_so = begins_at_its_key_of(rt.alloc(), &mut vnode);
-    drop(vnode);
-    assert!(&rt; is_so);
-}
-
-fn begins_at_its_key_of(alloc: Global, vnode: &mut Vnode) -> bool {
-    fill(alloc, vnode)
-        && sweeps_from(vnode, alloc, b"c", 0, NONE_OF_THEM)
-        && sweeps_from(vnode, alloc, b"c", 2, THE_LAST_TWO)
-        && a_is_the_last(alloc, vnode)
-}
-
-fn a_is_the_last(alloc: Global, vnode: &mut Vnode) -> bool {
-    vnode.has_dead(None)
-        && dead_from_is(vnode, alloc, b"a", true)
-        && dead_from_is(vnode, alloc, b"b", false)
-        && reaps(vnode, alloc, b"a", Reaped::Gone)
-        && !vnode.has_dead(None)
-        && !vnode.reap_first(None)
+fn sweeps_forget_dead_keys(rt: HostRuntime) {
+    go_as_expected(&rt, EXCHANGES);
 }

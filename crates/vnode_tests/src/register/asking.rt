@@ -1,85 +1,17 @@
-//! Commands of tests, each asked again where memory was refused, and their answers.
+//! Takes the steps of an exchange with the register, each once more where memory was refused.
 
 ghost use Rattle.sibling_register.specs.Plain.{IsPosition, GivesPositions};
 
-use riak_msgs::{BucketType, Bytes, Key};
+use crate::exchanges::steps::PLAIN_PUT;
+use crate::register::steps::{
+    Bare, Del, Done, Get, Kept, Len, Put, PutTimes, Reap, Reaped, Refused, Reply, Shows, Step,
+    Unchanged, Value,
+};
+use riak_msgs::Key;
 use sibling_register::{Command, PlainRegister, RegisterFault, Told};
-use std::alloc::{AllocError, Global};
-use std::process::Abort;
+use std::alloc::Global;
 
-/// The key of this name, in the bucket "b".
-fn key(alloc: Global, name: u8) -> Result<Key, AllocError> {
-    Ok(Key {
-        bucket_type: BucketType::default_type(),
-        bucket: Bytes::from_slice(alloc, b"b")?,
-        key: Bytes::from_slice(alloc, &[name])?,
-    })
-}
-
-/// A get of a key, with its options.
-#[derive(Clone, Copy)]
-pub struct Get {
-    pub name: u8,
-    pub if_modified: Option<u64>,
-    pub head: bool,
-    pub deletedvclock: bool,
-}
-
-impl Get {
-    /// A get without options.
-    pub fn plain(name: u8) -> Get {
-        Get {
-            name,
-            if_modified: None,
-            head: false,
-            deletedvclock: false,
-        }
-    }
-}
-
-/// A put of a key, with its options.
-#[derive(Clone, Copy)]
-pub struct Put {
-    pub name: u8,
-    pub value: u8,
-    pub context: Option<u64>,
-    pub return_body: bool,
-    pub return_head: bool,
-    pub if_not_modified: bool,
-    pub if_none_match: bool,
-}
-
-impl Put {
-    /// A put without options.
-    pub fn plain(name: u8, value: u8) -> Put {
-        Put {
-            name,
-            value,
-            context: None,
-            return_body: false,
-            return_head: false,
-            if_not_modified: false,
-            if_none_match: false,
-        }
-    }
-}
-
-/// The answer that is wanted.
-#[derive(Clone, Copy)]
-pub enum Want<'a> {
-    /// These siblings, and the context of this position.
-    Shown(&'a [u64], Option<u64>),
-    /// The same, their contents bare.
-    Bare(&'a [u64], Option<u64>),
-    /// That nothing was modified.
-    Unchanged,
-    Done,
-    Refused(u8),
-    Reaped,
-    Kept,
-}
-
-/// The answer shows this.
+/// Whether the answer shows these siblings, the context of this position, and whether it is unchanged and bare.
 fn is_shown(told: &Told, numbers: &[u64], position: Option<u64>, flags: (bool, bool)) -> bool {
     match told {
         Told::Shown {
@@ -92,34 +24,16 @@ fn is_shown(told: &Told, numbers: &[u64], position: Option<u64>, flags: (bool, b
     }
 }
 
-/// The answer is what it should be.
-fn is_answer(told: &Told, want: Want<'_>) -> bool {
-    match want {
-        Want::Shown(numbers, position) => is_shown(told, numbers, position, (false, false)),
-        Want::Bare(numbers, position) => is_shown(told, numbers, position, (false, true)),
-        Want::Unchanged => is_shown(told, &[], None, (true, false)),
-        Want::Done => matches!(told, Told::Done),
-        Want::Refused(number) => matches!(told, Told::Refused(given) if *given == number),
-        Want::Reaped => matches!(told, Told::Reaped),
-        Want::Kept => matches!(told, Told::Kept),
+fn is_told(told: &Told, reply: &Reply) -> bool {
+    match reply {
+        Shows(numbers, position) => is_shown(told, numbers, *position, (false, false)),
+        Bare(numbers, position) => is_shown(told, numbers, *position, (false, true)),
+        Unchanged => is_shown(told, &[], None, (true, false)),
+        Done => matches!(told, Told::Done),
+        Refused(number) => matches!(told, Told::Refused(given) if given == number),
+        Reaped => matches!(told, Told::Reaped),
+        Kept => matches!(told, Told::Kept),
     }
-}
-
-/// Asks. A call that is refused memory leaves the register as it was.
-fn ask(
-    rt: &impl Abort,
-    register: &mut PlainRegister<u8>,
-    alloc: Global,
-    command: Command<u8>,
-) -> Result<Told, RegisterFault>
-    requires { GivesPositions register.old command }
-{
-    let before = register.len();
-    let told = register.ask(alloc, command);
-    if told.is_err() {
-        assert!(rt; register.len() == before);
-    }
-    told
 }
 
 /// A position, where the register has come so far.
@@ -138,157 +52,118 @@ fn position(register: &PlainRegister<u8>, wanted: Option<u64>) -> Option<u64>
     }
 }
 
-fn get_once(
-    rt: &impl Abort,
-    register: &mut PlainRegister<u8>,
-    alloc: Global,
-    get: Get,
-) -> Result<Told, RegisterFault> {
-    let if_modified = position(register, get.if_modified);
-    let command = Command::Get {
-        key: key(alloc, get.name)?,
-        if_modified,
-        head: get.head,
-        deletedvclock: get.deletedvclock,
-    };
-    ask(rt, register, alloc, command)
-}
-
-fn put_once(
-    rt: &impl Abort,
-    register: &mut PlainRegister<u8>,
-    alloc: Global,
-    put: Put,
-) -> Result<Told, RegisterFault> {
-    let context = position(register, put.context);
-    let command = Command::Put {
-        key: key(alloc, put.name)?,
-        context,
-        value: put.value,
-        return_body: put.return_body,
-        return_head: put.return_head,
-        if_not_modified: put.if_not_modified,
-        if_none_match: put.if_none_match,
-    };
-    ask(rt, register, alloc, command)
-}
-
-fn del_once(
-    rt: &impl Abort,
-    register: &mut PlainRegister<u8>,
-    alloc: Global,
-    name: u8,
-    context: Option<u64>,
-) -> Result<Told, RegisterFault> {
-    let context = position(register, context);
-    let command = Command::Del {
-        key: key(alloc, name)?,
-        context,
-    };
-    ask(rt, register, alloc, command)
-}
-
-fn reap_once(
-    rt: &impl Abort,
-    register: &mut PlainRegister<u8>,
-    alloc: Global,
-    name: u8,
-) -> Result<Told, RegisterFault> {
-    let command = Command::Reap {
-        key: key(alloc, name)?,
-    };
-    ask(rt, register, alloc, command)
-}
-
-/// An answer is what it should be.
-fn agrees(told: Result<Told, RegisterFault>, want: Want<'_>) -> bool {
-    match told {
-        Ok(told) => is_answer(&told, want),
-        Err(_) => false,
+/// The command of a step, by its key.
+fn command_of(register: &PlainRegister<u8>, key: Key, step: &Step) -> Command<u8>
+    ensures { GivesPositions register.now result }
+{
+    match step {
+        Get(_, if_modified, options, _) => Command::Get {
+            key,
+            if_modified: position(register, *if_modified),
+            head: options.head,
+            deletedvclock: options.deletedvclock,
+        },
+        Put(_, value, context, options, _) => Command::Put {
+            key,
+            context: position(register, *context),
+            value: *value,
+            return_body: options.return_body,
+            return_head: options.return_head,
+            if_not_modified: options.if_not_modified,
+            if_none_match: options.if_none_match,
+        },
+        Del(_, context, _) => Command::Del {
+            key,
+            context: position(register, *context),
+        },
+        _ => Command::Reap { key },
     }
 }
 
-/// A get has this answer.
-pub fn get_gives(
-    rt: &impl Abort,
+/// Asks what a step asks of a key.
+fn ask(
     register: &mut PlainRegister<u8>,
     alloc: Global,
-    get: Get,
-    want: Want<'_>,
-) {
-    let told = match get_once(rt, register, alloc, get) {
-        Ok(told) => Ok(told),
-        Err(_) => get_once(rt, register, alloc, get),
-    };
-    let well = agrees(told, want);
-    assert!(rt; well, "a get of {}", get.name);
+    name: &[u8],
+    step: &Step,
+    reply: &Reply,
+) -> Result<bool, RegisterFault> {
+    let key = Key::of_default_type(alloc, b"b", name)?;
+    let command = command_of(register, key, step);
+    match register.ask(alloc, command) {
+        Ok(told) => Ok(is_told(&told, reply)),
+        Err(fault) => Err(fault),
+    }
 }
 
-/// A put has this answer.
-pub fn put_gives(
-    rt: &impl Abort,
-    register: &mut PlainRegister<u8>,
-    alloc: Global,
-    put: Put,
-    want: Want<'_>,
-) {
-    let told = match put_once(rt, register, alloc, put) {
-        Ok(told) => Ok(told),
-        Err(_) => put_once(rt, register, alloc, put),
-    };
-    let well = agrees(told, want);
-    assert!(rt; well, "a put of {} on {}", put.value, put.name);
-}
-
-/// A delete has this answer.
-pub fn del_gives(
-    rt: &impl Abort,
-    register: &mut PlainRegister<u8>,
-    alloc: Global,
-    name: u8,
-    context: Option<u64>,
-    want: Want<'_>,
-) {
-    let told = match del_once(rt, register, alloc, name, context) {
-        Ok(told) => Ok(told),
-        Err(_) => del_once(rt, register, alloc, name, context),
-    };
-    let well = agrees(told, want);
-    assert!(rt; well, "a delete of {name}");
-}
-
-/// A reap has this answer.
-pub fn reap_gives(
-    rt: &impl Abort,
-    register: &mut PlainRegister<u8>,
-    alloc: Global,
-    name: u8,
-    want: Want<'_>,
-) {
-    let told = match reap_once(rt, register, alloc, name) {
-        Ok(told) => Ok(told),
-        Err(_) => reap_once(rt, register, alloc, name),
-    };
-    let well = agrees(told, want);
-    assert!(rt; well, "a reap of {name}");
-}
-
-/// The value of a number under the key.
-pub fn value_is(
-    rt: &impl Abort,
+/// Whether the value of a number under a key is this one.
+fn is_value(
     register: &PlainRegister<u8>,
     alloc: Global,
-    name: u8,
+    name: &[u8],
     number: u64,
-    want: Option<u8>,
-) {
-    let made = match key(alloc, name) {
-        Ok(made) => Ok(made),
-        Err(_) => key(alloc, name),
-    };
-    let found = match made {
-        Ok(key) => register.value(&key, number).copied(),
-        Err(_) => None,
-    };
-    assert!(rt; found == want, "the value of {number} on {name}");
+    wanted: Option<u8>,
+) -> Result<bool, RegisterFault> {
+    let key = Key::of_default_type(alloc, b"b", name)?;
+    Ok(register.value(&key, number).copied() == wanted)
+}
+
+/// Takes a step once: whether it came as expected; an error where memory was refused.
+fn take_once(
+    register: &mut PlainRegister<u8>,
+    alloc: Global,
+    step: &Step,
+) -> Result<bool, RegisterFault> {
+    match step {
+        Get(name, _, _, reply)
+        | Put(name, _, _, _, reply)
+        | Del(name, _, reply)
+        | Reap(name, reply) => ask(register, alloc, name, step, reply),
+        Value(name, number, wanted) => is_value(register, alloc, name, *number, *wanted),
+        Len(wanted) => Ok(register.len() == *wanted),
+        PutTimes(_, _) => Ok(false),
+    }
+}
+
+/// Takes a step, and once more where memory was refused: that leaves the register as it was.
+fn take(register: &mut PlainRegister<u8>, alloc: Global, step: &Step) -> bool {
+    let before = register.len();
+    match take_once(register, alloc, step) {
+        Ok(is_so) => is_so,
+        Err(_) => register.len() == before && take_once(register, alloc, step) == Ok(true),
+    }
+}
+
+fn take_puts(
+    register: &mut PlainRegister<u8>,
+    alloc: Global,
+    count: u8,
+    name: &'static [u8],
+) -> bool {
+    for value in 0..count {
+        if !take(register, alloc, &Put(name, value, None, PLAIN_PUT, Done)) {
+            return false;
+        }
+    }
+    true
+}
+
+fn take_all(register: &mut PlainRegister<u8>, alloc: Global, step: &Step) -> bool {
+    match step {
+        PutTimes(count, name) => take_puts(register, alloc, *count, name),
+        _ => take(register, alloc, step),
+    }
+}
+
+/// How many steps come as expected with a new register, before one that doesn't.
+pub(crate) fn taken(alloc: Global, steps: &[Step]) -> usize {
+    let mut register = PlainRegister::new(alloc);
+    let mut count = 0usize;
+    for step in steps {
+        if !take_all(&mut register, alloc, step) {
+            return count;
+        }
+        count = count.saturating_add(1);
+    }
+    count
 }

@@ -1,45 +1,22 @@
 //! A key of as many siblings as it may have.
 
-use crate::register::asking::{Get, Put, Want, del_gives, get_gives, put_gives};
-use sibling_register::{PlainRegister, TOO_MANY_SIBLINGS};
-use std::alloc::Global;
-use std::process::Abort;
-use std::test::Fail;
+use crate::exchanges::steps::{PLAIN_GET, PLAIN_PUT};
+use crate::register::steps::{Del, Done, Get, Len, Put, PutTimes, Refused, Reply, Shows, Step};
+use sibling_register::TOO_MANY_SIBLINGS;
 
-fn by_context(name: u8, value: u8, context: u64) -> Put {
-    Put {
-        context: Some(context),
-        ..Put::plain(name, value)
-    }
-}
+const FULL: Reply = Refused(TOO_MANY_SIBLINGS);
 
-// 64 puts are accepted. What would make one more is refused, on this key alone.
-fn fill(rt: &impl Abort, register: &mut PlainRegister<u8>, alloc: Global) {
-    for number in 0..64u8 {
-        put_gives(rt, register, alloc, Put::plain(b'k', number), Want::Done);
-    }
-    let full = Want::Refused(TOO_MANY_SIBLINGS);
-    put_gives(rt, register, alloc, Put::plain(b'k', b'x'), full);
-    put_gives(rt, register, alloc, by_context(b'k', b'x', 0), full);
-    del_gives(rt, register, alloc, b'k', Some(0), full);
-    assert!(rt; register.len() == 64);
-    put_gives(rt, register, alloc, Put::plain(b'j', b'a'), Want::Done);
-}
-
-// What has seen one makes room for itself, and a delete that saw 63 of 64 leaves two.
-fn make_room(rt: &impl Abort, register: &mut PlainRegister<u8>, alloc: Global) {
-    put_gives(rt, register, alloc, by_context(b'k', b'y', 1), Want::Done);
-    let full = Want::Refused(TOO_MANY_SIBLINGS);
-    put_gives(rt, register, alloc, Put::plain(b'k', b'x'), full);
-    del_gives(rt, register, alloc, b'k', Some(64), Want::Done);
-    let shown = Want::Shown(&[66, 65], Some(67));
-    get_gives(rt, register, alloc, Get::plain(b'k'), shown);
-}
-
-#[test]
-fn a_key_has_at_most_64_siblings(rt: HostRuntime) -> Result<(), Fail> {
-    let mut register = PlainRegister::new(rt.alloc());
-    fill(&rt, &mut register, rt.alloc());
-    make_room(&rt, &mut register, rt.alloc());
-    Ok(())
-}
+pub(crate) const STEPS: &[Step] = &[
+    // 64 puts are accepted. What would make one more is refused, on this key alone.
+    PutTimes(64, b"k"),
+    Put(b"k", b'x', None, PLAIN_PUT, FULL),
+    Put(b"k", b'x', Some(0), PLAIN_PUT, FULL),
+    Del(b"k", Some(0), FULL),
+    Len(64),
+    Put(b"j", b'a', None, PLAIN_PUT, Done),
+    // What has seen one makes room for itself, and a delete that saw 63 of 64 leaves two.
+    Put(b"k", b'y', Some(1), PLAIN_PUT, Done),
+    Put(b"k", b'x', None, PLAIN_PUT, FULL),
+    Del(b"k", Some(64), Done),
+    Get(b"k", None, PLAIN_GET, Shows(&[66, 65], Some(67))),
+];
