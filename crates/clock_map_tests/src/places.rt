@@ -3,7 +3,6 @@
 use place_map::PlaceMap;
 use riak_msgs::{BucketType, Bytes, Key};
 use std::alloc::{AllocError, Global};
-use std::process::Abort;
 
 /// A name of more than 16 bytes: a copy of it takes memory.
 const LONG: &[u8] = b"a name of more than sixteen bytes";
@@ -11,293 +10,279 @@ const LONG: &[u8] = b"a name of more than sixteen bytes";
 /// Another, whose first bytes are those of [`LONG`].
 const LONGER: &[u8] = b"a name of more than sixteen bytes, and longer";
 
-/// The place of each key that the tests insert.
-#[derive(Clone, Copy, PartialEq, Eq)]
-struct Places {
-    /// default/b/k
-    short: Option<usize>,
-    /// default/b/LONG
-    long_key: Option<usize>,
-    /// default/LONG/k
-    long_bucket: Option<usize>,
-    /// LONG/b/k
-    long_type: Option<usize>,
-    /// LONG/LONGER/LONG
-    all_long: Option<usize>,
-    /// LONG/LONGER/LONGER
-    longer_key: Option<usize>,
+/// The names of a key.
+struct Names {
+    bucket_type: &'static [u8],
+    bucket: &'static [u8],
+    key: &'static [u8],
 }
 
-/// No key has a place.
-const NONE: Places = Places {
-    short: None,
-    long_key: None,
-    long_bucket: None,
-    long_type: None,
-    all_long: None,
-    longer_key: None,
+/// The keys that the tests insert.
+const SHORT: &Names = &Names {
+    bucket_type: b"default",
+    bucket: b"b",
+    key: b"k",
 };
 
-/// The places in [`map_of_six`].
-const SIX: Places = Places {
-    short: Some(1),
-    long_key: Some(2),
-    long_bucket: Some(3),
-    long_type: Some(4),
-    all_long: Some(5),
-    longer_key: Some(6),
+const LONG_KEY: &Names = &Names {
+    bucket_type: b"default",
+    bucket: b"b",
+    key: LONG,
 };
+
+const LONG_BUCKET: &Names = &Names {
+    bucket_type: b"default",
+    bucket: LONG,
+    key: b"k",
+};
+
+const LONG_TYPE: &Names = &Names {
+    bucket_type: LONG,
+    bucket: b"b",
+    key: b"k",
+};
+
+const ALL_LONG: &Names = &Names {
+    bucket_type: LONG,
+    bucket: LONGER,
+    key: LONG,
+};
+
+const LONGER_KEY: &Names = &Names {
+    bucket_type: LONG,
+    bucket: LONGER,
+    key: LONGER,
+};
+
+/// The keys that the tests insert, in the order of [`Places`].
+const KEYS: &[&Names] = &[
+    SHORT,
+    LONG_KEY,
+    LONG_BUCKET,
+    LONG_TYPE,
+    ALL_LONG,
+    LONGER_KEY,
+];
+
+/// The place of each of [`KEYS`].
+type Places = [Option<usize>; 6];
+
+/// Keys that the tests never insert: one of another key, one of another bucket, one of another bucket type, and one whose
+/// bucket and key are exchanged.
+const OTHERS: &[Names] = &[
+    Names {
+        bucket_type: b"default",
+        bucket: b"b",
+        key: LONGER,
+    },
+    Names {
+        bucket_type: b"default",
+        bucket: LONGER,
+        key: b"k",
+    },
+    Names {
+        bucket_type: LONGER,
+        bucket: b"b",
+        key: b"k",
+    },
+    Names {
+        bucket_type: b"default",
+        bucket: b"k",
+        key: b"b",
+    },
+];
+
+/// What is done to a map, and what comes of it.
+enum Step {
+    /// The key gets this place.
+    Insert(&'static Names, usize),
+    /// The key is removed, and had this place.
+    Remove(&'static Names, Option<usize>),
+    /// The key has this place.
+    Get(&'static Names, Option<usize>),
+    /// Each of [`KEYS`] has its place of these, and no other key has one.
+    Holds(Places),
+}
+
+use Step::{Get, Holds, Insert, Remove};
+
+/// Steps of a new map: first those that make it, and then others.
+struct Row {
+    shows: &'static str,
+    first: &'static [Step],
+    then: &'static [Step],
+}
+
+// Two bucket types, of two buckets each.
+const SIX: &[Step] = &[
+    Insert(LONGER_KEY, 6),
+    Insert(LONG_KEY, 2),
+    Insert(LONG_TYPE, 4),
+    Insert(SHORT, 1),
+    Insert(ALL_LONG, 5),
+    Insert(LONG_BUCKET, 3),
+];
+
+const ROWS: &[Row] = &[
+    Row {
+        shows: "in an empty map no key has a place",
+        first: &[],
+        then: &[Holds([None, None, None, None, None, None])],
+    },
+    Row {
+        shows: "each key has its own place",
+        first: SIX,
+        then: &[Holds([Some(1), Some(2), Some(3), Some(4), Some(5), Some(6)])],
+    },
+    Row {
+        shows: "a second insert replaces the place",
+        first: SIX,
+        then: &[
+            Insert(SHORT, 11),
+            Insert(ALL_LONG, 15),
+            Holds([Some(11), Some(2), Some(3), Some(4), Some(15), Some(6)]),
+        ],
+    },
+    Row {
+        shows: "keys are removed to the last and inserted again",
+        first: SIX,
+        then: &[
+            // The last key of a bucket: the other keys of its bucket type stay.
+            Remove(LONG_BUCKET, Some(3)),
+            Remove(LONG_BUCKET, None),
+            Holds([Some(1), Some(2), None, Some(4), Some(5), Some(6)]),
+            // All keys of a bucket type, whose one bucket has two: the other bucket type stays.
+            Remove(SHORT, Some(1)),
+            Get(LONG_KEY, Some(2)),
+            Remove(LONG_KEY, Some(2)),
+            Holds([None, None, None, Some(4), Some(5), Some(6)]),
+            // The last three keys.
+            Remove(ALL_LONG, Some(5)),
+            Remove(LONG_TYPE, Some(4)),
+            Remove(LONGER_KEY, Some(6)),
+            Remove(LONGER_KEY, None),
+            Holds([None, None, None, None, None, None]),
+            Insert(ALL_LONG, 7),
+            Holds([None, None, None, None, Some(7), None]),
+        ],
+    },
+    // A new key in a bucket that is held, one of a new bucket in a bucket type that is held, and one of a new bucket type.
+    // After a refusal in any of the levels, `insert_key` compares the places.
+    Row {
+        shows: "a refused insert leaves each key its place",
+        first: &[Insert(SHORT, 1)],
+        then: &[
+            Insert(LONG_KEY, 2),
+            Holds([Some(1), Some(2), None, None, None, None]),
+            Insert(LONG_BUCKET, 3),
+            Holds([Some(1), Some(2), Some(3), None, None, None]),
+            Insert(ALL_LONG, 5),
+            Holds([Some(1), Some(2), Some(3), None, Some(5), None]),
+        ],
+    },
+];
 
 /// The key of these names. Refused where memory is.
-fn try_key(
-    alloc: Global,
-    bucket_type: &[u8],
-    bucket: &[u8],
-    key: &[u8],
-) -> Result<Key, AllocError> {
+fn try_key(alloc: Global, names: &Names) -> Result<Key, AllocError> {
     Ok(Key {
-        bucket_type: BucketType::from_slice(alloc, bucket_type)?,
-        bucket: Bytes::from_slice(alloc, bucket)?,
-        key: Bytes::from_slice(alloc, key)?,
+        bucket_type: BucketType::from_slice(alloc, names.bucket_type)?,
+        bucket: Bytes::from_slice(alloc, names.bucket)?,
+        key: Bytes::from_slice(alloc, names.key)?,
     })
 }
 
 /// The key of these names, tried twice where memory is refused.
-fn key_of(alloc: Global, bucket_type: &[u8], bucket: &[u8], key: &[u8]) -> Result<Key, AllocError> {
-    if let Ok(named) = try_key(alloc, bucket_type, bucket, key) {
-        return Ok(named);
+fn key_of(alloc: Global, names: &Names) -> Result<Key, AllocError> {
+    match try_key(alloc, names) {
+        Err(_) => try_key(alloc, names),
+        made => made,
     }
-    try_key(alloc, bucket_type, bucket, key)
 }
 
 /// The place of the key of these names.
-fn place_of(
-    rt: &impl Abort,
-    alloc: Global,
-    map: &PlaceMap,
-    bucket_type: &[u8],
-    bucket: &[u8],
-    key: &[u8],
-) -> Option<usize> {
-    match key_of(alloc, bucket_type, bucket, key) {
-        Ok(named) => map.get(&named),
-        Err(_) => panic!(rt; "memory is refused once at most"),
+fn place_of(alloc: Global, map: &PlaceMap, names: &Names) -> Result<Option<usize>, AllocError> {
+    match key_of(alloc, names) {
+        Ok(key) => Ok(map.get(&key)),
+        Err(fault) => Err(fault),
     }
 }
 
-/// The place of each key that the tests insert.
-fn places_of(rt: &impl Abort, alloc: Global, map: &PlaceMap) -> Places {
-    Places {
-        short: place_of(rt, alloc, map, b"default", b"b", b"k"),
-        long_key: place_of(rt, alloc, map, b"default", b"b", LONG),
-        long_bucket: place_of(rt, alloc, map, b"default", LONG, b"k"),
-        long_type: place_of(rt, alloc, map, LONG, b"b", b"k"),
-        all_long: place_of(rt, alloc, map, LONG, LONGER, LONG),
-        longer_key: place_of(rt, alloc, map, LONG, LONGER, LONGER),
+/// The place of each of [`KEYS`].
+fn places_of(alloc: Global, map: &PlaceMap) -> Result<Places, AllocError> {
+    let mut places = [None; 6];
+    for (place, names) in places.iter_mut().zip(KEYS) {
+        *place = place_of(alloc, map, names)?;
     }
+    Ok(places)
 }
 
-/// Whether keys that the tests never insert have no place: one of another key, one of another bucket, one of another
-/// bucket type, and one whose bucket and key are exchanged.
-fn holds_no_other(rt: &impl Abort, alloc: Global, map: &PlaceMap) -> bool {
-    place_of(rt, alloc, map, b"default", b"b", LONGER).is_none()
-        && place_of(rt, alloc, map, b"default", LONGER, b"k").is_none()
-        && place_of(rt, alloc, map, LONGER, b"b", b"k").is_none()
-        && place_of(rt, alloc, map, b"default", b"k", b"b").is_none()
+/// Whether none of [`OTHERS`] has a place.
+fn holds_no_other(alloc: Global, map: &PlaceMap) -> bool {
+    for names in OTHERS {
+        if place_of(alloc, map, names) != Ok(None) {
+            return false;
+        }
+    }
+    true
 }
 
 /// Whether the keys that the tests insert have these places, and no other key has one.
-fn has_places(rt: &impl Abort, alloc: Global, map: &PlaceMap, wanted: Places) -> bool {
-    places_of(rt, alloc, map) == wanted && holds_no_other(rt, alloc, map)
+fn has_places(alloc: Global, map: &PlaceMap, wanted: Places) -> bool {
+    places_of(alloc, map) == Ok(wanted) && holds_no_other(alloc, map)
 }
 
 /// Inserts a key, tried twice where memory is refused: before the second call each key has the place that it had.
-fn insert_key(rt: &impl Abort, alloc: Global, map: &mut PlaceMap, key: &Key, place: usize) {
-    let before = places_of(rt, alloc, map);
-    if map.insert(alloc, key, place).is_ok() {
-        return;
-    }
-    assert!(rt; has_places(rt, alloc, map, before));
-    assert!(rt; map.insert(alloc, key, place).is_ok());
+fn insert_key(alloc: Global, map: &mut PlaceMap, key: &Key, place: usize) -> bool {
+    let Ok(before) = places_of(alloc, map) else {
+        return false;
+    };
+    map.insert(alloc, key, place).is_ok()
+        || (has_places(alloc, map, before) && map.insert(alloc, key, place).is_ok())
 }
 
 /// Inserts the key of these names.
-fn insert(
-    rt: &impl Abort,
-    alloc: Global,
-    map: &mut PlaceMap,
-    bucket_type: &[u8],
-    bucket: &[u8],
-    key: &[u8],
-    place: usize,
-) {
-    match key_of(alloc, bucket_type, bucket, key) {
-        Ok(named) => insert_key(rt, alloc, map, &named, place),
-        Err(_) => panic!(rt; "memory is refused once at most"),
+fn insert(alloc: Global, map: &mut PlaceMap, names: &Names, place: usize) -> bool {
+    match key_of(alloc, names) {
+        Ok(key) => insert_key(alloc, map, &key, place),
+        Err(_) => false,
     }
 }
 
-/// Removes the key of these names; the place that it had.
-fn remove(
-    rt: &impl Abort,
-    alloc: Global,
-    map: &mut PlaceMap,
-    bucket_type: &[u8],
-    bucket: &[u8],
-    key: &[u8],
-) -> Option<usize> {
-    match key_of(alloc, bucket_type, bucket, key) {
-        Ok(named) => map.remove(&named),
-        Err(_) => panic!(rt; "memory is refused once at most"),
+/// Removes the key of these names; whether it had this place.
+fn removes(alloc: Global, map: &mut PlaceMap, names: &Names, place: Option<usize>) -> bool {
+    match key_of(alloc, names) {
+        Ok(key) => map.remove(&key) == place,
+        Err(_) => false,
     }
 }
 
-// Two bucket types, of two buckets each.
-fn map_of_six(rt: &impl Abort, alloc: Global) -> PlaceMap {
+/// Whether a step comes to what it says.
+fn takes(alloc: Global, map: &mut PlaceMap, step: &Step) -> bool {
+    match step {
+        Insert(names, place) => insert(alloc, map, names, *place),
+        Remove(names, place) => removes(alloc, map, names, *place),
+        Get(names, place) => place_of(alloc, map, names) == Ok(*place),
+        Holds(places) => has_places(alloc, map, *places),
+    }
+}
+
+fn takes_all(alloc: Global, map: &mut PlaceMap, steps: &[Step]) -> bool {
+    for step in steps {
+        if !takes(alloc, map, step) {
+            return false;
+        }
+    }
+    true
+}
+
+fn holds(alloc: Global, row: &Row) -> bool {
     let mut map = PlaceMap::new(alloc);
-    insert(rt, alloc, &mut map, LONG, LONGER, LONGER, 6);
-    insert(rt, alloc, &mut map, b"default", b"b", LONG, 2);
-    insert(rt, alloc, &mut map, LONG, b"b", b"k", 4);
-    insert(rt, alloc, &mut map, b"default", b"b", b"k", 1);
-    insert(rt, alloc, &mut map, LONG, LONGER, LONG, 5);
-    insert(rt, alloc, &mut map, b"default", LONG, b"k", 3);
-    map
+    takes_all(alloc, &mut map, row.first) && takes_all(alloc, &mut map, row.then)
 }
 
 #[test]
-fn each_key_has_its_own_place(rt: HostRuntime) {
-    let alloc = rt.alloc();
-    let empty = PlaceMap::new(alloc);
-    let nowhere = has_places(&rt, alloc, &empty, NONE);
-    drop(empty);
-    let map = map_of_six(&rt, alloc);
-    let placed = has_places(&rt, alloc, &map, SIX);
-    drop(map);
-    assert!(&rt; nowhere);
-    assert!(&rt; placed);
-}
-
-#[test]
-fn a_second_insert_replaces_the_place(rt: HostRuntime) {
-    let alloc = rt.alloc();
-    let mut map = map_of_six(&rt, alloc);
-    insert(&rt, alloc, &mut map, b"default", b"b", b"k", 11);
-    insert(&rt, alloc, &mut map, LONG, LONGER, LONG, 15);
-    let wanted = Places {
-        short: Some(11),
-        all_long: Some(15),
-        ..SIX
-    };
-    let replaced = has_places(&rt, alloc, &map, wanted);
-    drop(map);
-    assert!(&rt; replaced);
-}
-
-/// Whether the removal of the last key of a bucket leaves the other keys of its bucket type alone.
-fn removes_bucket(rt: &impl Abort, alloc: Global, map: &mut PlaceMap) -> bool {
-    let wanted = Places {
-        long_bucket: None,
-        ..SIX
-    };
-    remove(rt, alloc, map, b"default", LONG, b"k") == Some(3)
-        && remove(rt, alloc, map, b"default", LONG, b"k").is_none()
-        && has_places(rt, alloc, map, wanted)
-}
-
-/// Whether the removal of all keys of a bucket type, whose one bucket has two, leaves the other bucket type alone.
-fn removes_type(rt: &impl Abort, alloc: Global, map: &mut PlaceMap) -> bool {
-    let wanted = Places {
-        short: None,
-        long_key: None,
-        long_bucket: None,
-        ..SIX
-    };
-    remove(rt, alloc, map, b"default", b"b", b"k") == Some(1)
-        && place_of(rt, alloc, map, b"default", b"b", LONG) == Some(2)
-        && remove(rt, alloc, map, b"default", b"b", LONG) == Some(2)
-        && has_places(rt, alloc, map, wanted)
-}
-
-/// Whether the removal of the last three keys leaves none.
-fn removes_rest(rt: &impl Abort, alloc: Global, map: &mut PlaceMap) -> bool {
-    remove(rt, alloc, map, LONG, LONGER, LONG) == Some(5)
-        && remove(rt, alloc, map, LONG, b"b", b"k") == Some(4)
-        && remove(rt, alloc, map, LONG, LONGER, LONGER) == Some(6)
-        && remove(rt, alloc, map, LONG, LONGER, LONGER).is_none()
-        && has_places(rt, alloc, map, NONE)
-}
-
-/// Whether keys are removed until there is none, one bucket after another.
-fn removes_all(rt: &impl Abort, alloc: Global, map: &mut PlaceMap) -> bool {
-    removes_bucket(rt, alloc, map) && removes_type(rt, alloc, map) && removes_rest(rt, alloc, map)
-}
-
-/// Whether a key that was removed is inserted again, alone.
-fn inserts_again(rt: &impl Abort, alloc: Global, map: &mut PlaceMap) -> bool {
-    insert(rt, alloc, map, LONG, LONGER, LONG, 7);
-    let wanted = Places {
-        all_long: Some(7),
-        ..NONE
-    };
-    has_places(rt, alloc, map, wanted)
-}
-
-#[test]
-fn keys_are_removed_to_the_last_and_inserted_again(rt: HostRuntime) {
-    let alloc = rt.alloc();
-    let mut map = map_of_six(&rt, alloc);
-    let removed = removes_all(&rt, alloc, &mut map);
-    let inserted = inserts_again(&rt, alloc, &mut map);
-    drop(map);
-    assert!(&rt; removed);
-    assert!(&rt; inserted);
-}
-
-/// Whether a new key in a bucket that is held gets its place.
-fn inserts_key(rt: &impl Abort, alloc: Global, map: &mut PlaceMap) -> bool {
-    insert(rt, alloc, map, b"default", b"b", LONG, 2);
-    let wanted = Places {
-        short: Some(1),
-        long_key: Some(2),
-        ..NONE
-    };
-    has_places(rt, alloc, map, wanted)
-}
-
-/// Whether a key of a new bucket in a bucket type that is held gets its place.
-fn inserts_bucket(rt: &impl Abort, alloc: Global, map: &mut PlaceMap) -> bool {
-    insert(rt, alloc, map, b"default", LONG, b"k", 3);
-    let wanted = Places {
-        short: Some(1),
-        long_key: Some(2),
-        long_bucket: Some(3),
-        ..NONE
-    };
-    has_places(rt, alloc, map, wanted)
-}
-
-/// Whether a key of a new bucket type gets its place.
-fn inserts_type(rt: &impl Abort, alloc: Global, map: &mut PlaceMap) -> bool {
-    insert(rt, alloc, map, LONG, LONGER, LONG, 5);
-    let wanted = Places {
-        long_type: None,
-        longer_key: None,
-        ..SIX
-    };
-    has_places(rt, alloc, map, wanted)
-}
-
-// After a refusal in any of the levels, `insert_key` compares the places.
-#[test]
-fn a_refused_insert_leaves_each_key_its_place(rt: HostRuntime) {
-    let alloc = rt.alloc();
-    let mut map = PlaceMap::new(alloc);
-    insert(&rt, alloc, &mut map, b"default", b"b", b"k", 1);
-    let key = inserts_key(&rt, alloc, &mut map);
-    let bucket = inserts_bucket(&rt, alloc, &mut map);
-    let bucket_type = inserts_type(&rt, alloc, &mut map);
-    drop(map);
-    assert!(&rt; key);
-    assert!(&rt; bucket);
-    assert!(&rt; bucket_type);
+fn each_key_has_the_place_that_it_got_last(rt: HostRuntime) {
+    for row in ROWS {
+        assert!(rt; holds(rt.alloc(), row), "{}", row.shows);
+    }
 }

@@ -12,13 +12,90 @@ use clock_store::{ClockStore, Reaped, StoredClock, WriteKind, place_in};
 use dvv_set::{Clock, Needed};
 use riak_msgs::{BoxedContent, Content, Key};
 use std::alloc::{AllocError, Global};
-use std::process::Abort;
 
 /// The actor of each key's life.
 const A: Actor = Actor {
     vnode: 65_536,
     epoch: 1,
 };
+
+/// What is done to a store, and what comes of it.
+enum Step {
+    /// Something is done to the key of this name.
+    To(&'static [u8], Act),
+    /// What room there is is dropped.
+    DropRoom,
+    /// The least dead key is forgotten: there is one.
+    Sweep,
+    /// Whether there is a dead key.
+    HasDead(bool),
+}
+
+/// What is done to a key.
+enum Act {
+    /// An empty content is written beside what is there.
+    Value,
+    /// A tombstone is written over all that is there.
+    Tombstone,
+    /// Room is made for a tombstone, and left.
+    Reserve,
+    /// It is reaped, and this comes of it.
+    Reap(Reaped),
+    /// It has so many contents; None: it is absent. A dead key has none.
+    Holds(Option<u32>),
+}
+
+use Act::{Holds, Reap, Reserve, Tombstone, Value};
+use Step::{DropRoom, HasDead, Sweep, To};
+
+/// Steps of a store of four keys.
+struct Row {
+    shows: &'static str,
+    steps: &'static [Step],
+}
+
+// a and c are written, b and d are dead; room for e is never used.
+const FOUR: &[Step] = &[
+    To(b"c", Value),
+    To(b"d", Tombstone),
+    To(b"a", Value),
+    To(b"b", Value),
+    To(b"b", Tombstone),
+    To(b"e", Reserve),
+];
+
+const ROWS: &[Row] = &[
+    Row {
+        shows: "dead keys go in their order",
+        steps: &[
+            // A sweep takes b, and leaves d.
+            To(b"b", Holds(Some(0))),
+            Sweep,
+            To(b"b", Holds(None)),
+            To(b"d", Holds(Some(0))),
+            // A reap keeps a, which has a value, and takes d, the last dead key.
+            To(b"a", Reap(Reaped::Kept)),
+            To(b"d", Reap(Reaped::Gone)),
+            HasDead(false),
+            To(b"c", Holds(Some(1))),
+        ],
+    },
+    Row {
+        shows: "room that no write used is no key",
+        steps: &[
+            To(b"e", Holds(None)),
+            // Room for a tombstone of a, then a value of it beside the one that is there.
+            To(b"a", Reserve),
+            To(b"a", Value),
+            To(b"a", Holds(Some(2))),
+            // A value of b, which was dead, after the room is dropped.
+            DropRoom,
+            To(b"b", Value),
+            To(b"e", Reap(Reaped::Absent)),
+            To(b"b", Holds(Some(1))),
+        ],
+    },
+];
 
 /// Whether what a write needs is within the limits.
 fn allows(needed: Needed) -> bool
@@ -64,10 +141,10 @@ fn reserve(
 
 /// An empty content, tried twice where memory is refused.
 fn content(alloc: Global) -> Result<BoxedContent, AllocError> {
-    if let Ok(content) = BoxedContent::new(alloc, Content::new(alloc)) {
-        return Ok(content);
+    match BoxedContent::new(alloc, Content::new(alloc)) {
+        Err(_) => BoxedContent::new(alloc, Content::new(alloc)),
+        made => made,
     }
-    BoxedContent::new(alloc, Content::new(alloc))
 }
 
 /// Writes an empty content beside what is there.
@@ -84,38 +161,11 @@ fn write_tombstone(store: &mut ClockMap, alloc: Global, key: Key) -> Result<(), 
     Ok(())
 }
 
-/// Writes a value, or a tombstone over all that is there.
-fn write(store: &mut ClockMap, alloc: Global, key: Key, is_value: bool) -> Result<(), AllocError> {
-    if is_value {
-        return write_value(store, alloc, key);
-    }
-    write_tombstone(store, alloc, key)
-}
-
 /// The key of this name, tried twice where memory is refused.
 fn key_of(alloc: Global, name: &[u8]) -> Result<Key, AllocError> {
-    if let Ok(key) = Key::of_default_type(alloc, b"b", name) {
-        return Ok(key);
-    }
-    Key::of_default_type(alloc, b"b", name)
-}
-
-/// Writes a value of the key of this name, or a tombstone.
-fn put(rt: &impl Abort, store: &mut ClockMap, alloc: Global, name: &[u8], is_value: bool) {
-    match key_of(alloc, name) {
-        Ok(key) => assert!(rt; write(store, alloc, key, is_value).is_ok()),
-        Err(_) => panic!(rt; "memory is refused once at most"),
-    }
-}
-
-/// Makes room for a tombstone of the key of this name, and leaves it.
-fn leave_room(rt: &impl Abort, store: &mut ClockMap, alloc: Global, name: &[u8]) {
-    match key_of(alloc, name) {
-        Ok(key) => {
-            let made = reserve(store, alloc, &key, A, WriteKind::Tombstone);
-            assert!(rt; made.is_ok());
-        }
-        Err(_) => panic!(rt; "memory is refused once at most"),
+    match Key::of_default_type(alloc, b"b", name) {
+        Err(_) => Key::of_default_type(alloc, b"b", name),
+        made => made,
     }
 }
 
@@ -128,7 +178,7 @@ fn count_contents(stored: &StoredClock) -> u32 {
     values
 }
 
-/// How many values the key has; None where it is absent.
+/// How many contents the key has; None where it is absent.
 fn count_of(store: &ClockMap, key: &Key) -> Option<u32> {
     match store.get(key) {
         None => None,
@@ -136,96 +186,49 @@ fn count_of(store: &ClockMap, key: &Key) -> Option<u32> {
     }
 }
 
-/// How many values the key of this name has; None where it is absent.
-fn count(rt: &impl Abort, store: &ClockMap, alloc: Global, name: &[u8]) -> Option<u32> {
-    match key_of(alloc, name) {
-        Ok(key) => count_of(store, &key),
-        Err(_) => panic!(rt; "memory is refused once at most"),
+/// Whether what is done to a key succeeds, and comes to what it says.
+fn acts(store: &mut ClockMap, alloc: Global, key: Key, act: &Act) -> bool {
+    match act {
+        Value => write_value(store, alloc, key).is_ok(),
+        Tombstone => write_tombstone(store, alloc, key).is_ok(),
+        Reserve => reserve(store, alloc, &key, A, WriteKind::Tombstone).is_ok(),
+        Reap(reaped) => store.forget_dead(&key) == *reaped,
+        Holds(contents) => count_of(store, &key) == *contents,
     }
 }
 
-/// Whether the key of this name is dead: it is held, and has no value.
-fn is_dead(rt: &impl Abort, store: &ClockMap, alloc: Global, name: &[u8]) -> bool {
-    count(rt, store, alloc, name) == Some(0)
-}
-
-/// Whether the key of this name isn't held.
-fn is_absent(rt: &impl Abort, store: &ClockMap, alloc: Global, name: &[u8]) -> bool {
-    count(rt, store, alloc, name).is_none()
-}
-
-/// What comes of the reap of the key of this name.
-fn reap(rt: &impl Abort, store: &mut ClockMap, alloc: Global, name: &[u8]) -> Reaped {
-    match key_of(alloc, name) {
-        Ok(key) => store.forget_dead(&key),
-        Err(_) => panic!(rt; "memory is refused once at most"),
+fn takes(store: &mut ClockMap, alloc: Global, step: &Step) -> bool {
+    match step {
+        To(name, act) => match key_of(alloc, name) {
+            Ok(key) => acts(store, alloc, key, act),
+            Err(_) => false,
+        },
+        DropRoom => {
+            store.drop_room();
+            true
+        }
+        Sweep => store.forget_first_dead(None),
+        HasDead(is_any) => store.has_dead(None) == *is_any,
     }
 }
 
-// a and c are written, b and d are dead; room for e is never used.
-fn store_of_four(rt: &impl Abort, alloc: Global) -> ClockMap {
+fn takes_all(store: &mut ClockMap, alloc: Global, steps: &[Step]) -> bool {
+    for step in steps {
+        if !takes(store, alloc, step) {
+            return false;
+        }
+    }
+    true
+}
+
+fn holds(alloc: Global, row: &Row) -> bool {
     let mut store = ClockMap::new(alloc);
-    put(rt, &mut store, alloc, b"c", true);
-    put(rt, &mut store, alloc, b"d", false);
-    put(rt, &mut store, alloc, b"a", true);
-    put(rt, &mut store, alloc, b"b", true);
-    put(rt, &mut store, alloc, b"b", false);
-    leave_room(rt, &mut store, alloc, b"e");
-    store
-}
-
-/// Whether a sweep takes b and leaves d, of a store whose dead keys are b and d.
-fn sweep_takes_least(rt: &impl Abort, store: &mut ClockMap, alloc: Global) -> bool {
-    is_dead(rt, store, alloc, b"b")
-        && store.forget_first_dead(None)
-        && is_absent(rt, store, alloc, b"b")
-        && is_dead(rt, store, alloc, b"d")
-}
-
-/// Whether a reap keeps a, which has a value, and takes d, the last dead key.
-fn reap_takes_dead(rt: &impl Abort, store: &mut ClockMap, alloc: Global) -> bool {
-    reap(rt, store, alloc, b"a") == Reaped::Kept
-        && reap(rt, store, alloc, b"d") == Reaped::Gone
-        && !store.has_dead(None)
-        && count(rt, store, alloc, b"c") == Some(1)
+    takes_all(&mut store, alloc, FOUR) && takes_all(&mut store, alloc, row.steps)
 }
 
 #[test]
-fn dead_keys_go_in_their_order(rt: HostRuntime) {
-    let alloc = rt.alloc();
-    let mut store = store_of_four(&rt, alloc);
-    let swept = sweep_takes_least(&rt, &mut store, alloc);
-    let reaped = reap_takes_dead(&rt, &mut store, alloc);
-    drop(store);
-    assert!(&rt; swept);
-    assert!(&rt; reaped);
-}
-
-/// Room for a tombstone of a, then a value of it beside the one that is there.
-fn write_after_room(rt: &impl Abort, store: &mut ClockMap, alloc: Global) {
-    leave_room(rt, store, alloc, b"a");
-    put(rt, store, alloc, b"a", true);
-}
-
-/// A value of b, which was dead, after the room is dropped.
-fn write_after_drop(rt: &impl Abort, store: &mut ClockMap, alloc: Global) {
-    store.drop_room();
-    put(rt, store, alloc, b"b", true);
-}
-
-#[test]
-fn room_that_no_write_used_is_no_key(rt: HostRuntime) {
-    let alloc = rt.alloc();
-    let mut store = store_of_four(&rt, alloc);
-    let hidden = is_absent(&rt, &store, alloc, b"e");
-    write_after_room(&rt, &mut store, alloc);
-    let siblings = count(&rt, &store, alloc, b"a");
-    write_after_drop(&rt, &mut store, alloc);
-    let gone = reap(&rt, &mut store, alloc, b"e");
-    let revived = count(&rt, &store, alloc, b"b");
-    drop(store);
-    assert!(&rt; hidden);
-    assert!(&rt; siblings == Some(2));
-    assert!(&rt; gone == Reaped::Absent);
-    assert!(&rt; revived == Some(1));
+fn keys_live_by_their_writes_and_go_when_dead(rt: HostRuntime) {
+    for row in ROWS {
+        assert!(rt; holds(rt.alloc(), row), "{}", row.shows);
+    }
 }

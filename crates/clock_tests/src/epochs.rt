@@ -2,8 +2,6 @@
 
 use actor_epoch::{Actor, Context, Counter, Dot, EpochSource, MAX_EPOCH, MalformedContext};
 use std::alloc::{AllocError, Global};
-use std::process::Abort;
-use std::test::Fail;
 
 const FIRST: Actor = Actor {
     vnode: 65_536,
@@ -15,104 +13,173 @@ const SECOND: Actor = Actor {
     epoch: 2,
 };
 
-/// The context of the pair (FIRST, 1).
-const SEEN_1: &[u8] = b"\x01\0\0\0\0\0\x01\0\0\0\0\0\x01\0\0\0\x01";
+const OTHER: Actor = Actor { vnode: 0, epoch: 1 };
 
-fn is_refused(rt: &impl Abort, bytes: &[u8]) {
-    assert!(rt; Context::read(bytes).is_none(), "{bytes:?}");
+/// What a context has seen of an actor.
+enum Seen {
+    /// Whether it covers the dot of this counter.
+    Covers(Counter, bool),
+    /// The actor's counter in it.
+    Last(Counter),
 }
 
-#[test]
-fn malformed_bytes_are_refused(rt: HostRuntime) {
-    is_refused(&rt, b"");
-    is_refused(&rt, b"\x01");
-    // another version
-    is_refused(&rt, b"\x02\0\0\0\0\0\x01\0\0\0\0\0\x01\0\0\0\x01");
-    // epoch 0, and counter 0
-    is_refused(&rt, b"\x01\0\0\0\0\0\x01\0\0\0\0\0\0\0\0\0\x01");
-    is_refused(&rt, b"\x01\0\0\0\0\0\x01\0\0\0\0\0\x01\0\0\0\0");
-    // the same actor twice
-    is_refused(
-        &rt,
-        b"\x01\0\0\0\0\0\x01\0\0\0\0\0\x01\0\0\0\x01\0\0\0\0\0\x01\0\0\0\0\0\x01\0\0\0\x01",
-    );
-    // a byte too few
-    is_refused(&rt, b"\x01\0\0\0\0\0\x01\0\0\0\0\0\x01\0\0\0");
+use Seen::{Covers, Last};
+
+/// Bytes, and the context that they are: its pairs (none: they are no context), and what it has seen of actors.
+struct Case {
+    shows: &'static str,
+    bytes: &'static [u8],
+    pairs: &'static [(Actor, Counter)],
+    seen: &'static [(Actor, Seen)],
 }
 
-// No bytes are no context, and neither malformed.
-#[test]
-fn a_context_is_given_or_not(rt: HostRuntime) -> Result<(), Fail> {
-    let none = Context::given(b"")?;
-    assert!(rt; none.is_none());
-    let some = Context::given(SEEN_1)?;
-    assert!(rt; some.is_some());
-    match Context::given(b"\x01") {
-        Ok(_) => return Err("it is malformed")?,
-        Err(fault) => assert_eq!(rt; fault, MalformedContext),
-    }
-    Ok(())
-}
-
-/// The bytes of so many entries: epochs 1, 2 and so on of one vnode, each with counter 1.
-fn entries(alloc: Global, count: u8) -> Result<Vec<u8>, AllocError> {
-    let mut bytes = Vec::new(alloc);
-    bytes.push(1)?;
-    for epoch in 0..count {
-        bytes.extend_from_slice(&[0, 0, 0, 0, 0, 1, 0, 0, 0, 0, 0])?;
-        bytes.push(epoch.saturating_add(1))?;
-        bytes.extend_from_slice(&[0, 0, 0, 1])?;
-    }
-    Ok(bytes)
-}
-
-#[test]
-fn a_context_has_64_entries_at_most(rt: HostRuntime) -> Result<(), Fail> {
-    let most = entries(rt.alloc(), 64)?;
-    assert!(rt; Context::read(most.as_slice()).is_some());
-    let more = entries(rt.alloc(), 65)?;
-    assert!(rt; Context::read(more.as_slice()).is_none());
-    Ok(())
-}
-
-fn covers(context: &Context<'_>, actor: Actor, counter: Counter) -> bool {
-    context.covers(&Dot { actor, counter })
-}
-
+/// Two pairs, and the bytes of their context.
 const PAIRS: &[(Actor, Counter)] = &[(FIRST, 1), (SECOND, 258)];
 
-fn has_pairs(context: &Context<'_>) -> bool {
-    let mut found = 0usize;
-    for pair in context.pairs() {
-        if PAIRS.get(found) != Some(&pair) {
+const ENCODED: &[u8] =
+    b"\x01\0\0\0\0\0\x01\0\0\0\0\0\x01\0\0\0\x01\0\0\0\0\0\x01\0\0\0\0\0\x02\0\0\x01\x02";
+
+const CASES: &[Case] = &[
+    Case {
+        shows: "no bytes are no context",
+        bytes: b"",
+        pairs: &[],
+        seen: &[],
+    },
+    Case {
+        shows: "the version alone is malformed",
+        bytes: b"\x01",
+        pairs: &[],
+        seen: &[],
+    },
+    Case {
+        shows: "another version is malformed",
+        bytes: b"\x02\0\0\0\0\0\x01\0\0\0\0\0\x01\0\0\0\x01",
+        pairs: &[],
+        seen: &[],
+    },
+    Case {
+        shows: "epoch 0 is malformed",
+        bytes: b"\x01\0\0\0\0\0\x01\0\0\0\0\0\0\0\0\0\x01",
+        pairs: &[],
+        seen: &[],
+    },
+    Case {
+        shows: "counter 0 is malformed",
+        bytes: b"\x01\0\0\0\0\0\x01\0\0\0\0\0\x01\0\0\0\0",
+        pairs: &[],
+        seen: &[],
+    },
+    Case {
+        shows: "the same actor twice is malformed",
+        bytes: b"\x01\0\0\0\0\0\x01\0\0\0\0\0\x01\0\0\0\x01\0\0\0\0\0\x01\0\0\0\0\0\x01\0\0\0\x01",
+        pairs: &[],
+        seen: &[],
+    },
+    Case {
+        shows: "a byte too few is malformed",
+        bytes: b"\x01\0\0\0\0\0\x01\0\0\0\0\0\x01\0\0\0",
+        pairs: &[],
+        seen: &[],
+    },
+    Case {
+        shows: "a context of one pair",
+        bytes: b"\x01\0\0\0\0\0\x01\0\0\0\0\0\x01\0\0\0\x01",
+        pairs: &[(FIRST, 1)],
+        seen: &[],
+    },
+    // The dots on both sides of where each pair ends.
+    Case {
+        shows: "a context of two pairs covers their dots",
+        bytes: ENCODED,
+        pairs: PAIRS,
+        seen: &[
+            (FIRST, Covers(1, true)),
+            (FIRST, Covers(2, false)),
+            (SECOND, Covers(258, true)),
+            (SECOND, Covers(259, false)),
+            (SECOND, Covers(0, false)),
+            (SECOND, Last(258)),
+            (OTHER, Last(0)),
+        ],
+    },
+];
+
+fn has_seen(context: &Context<'_>, actor: Actor, seen: &Seen) -> bool {
+    match seen {
+        Covers(counter, is_covered) => {
+            let counter = *counter;
+            context.covers(&Dot { actor, counter }) == *is_covered
+        }
+        Last(counter) => context.counter_of(actor) == *counter,
+    }
+}
+
+/// Whether a context has just the pairs of a row, and has seen what it says.
+fn is_context(context: &Context<'_>, row: &Case) -> bool {
+    for (actor, seen) in row.seen {
+        if !has_seen(context, *actor, seen) {
             return false;
         }
-        found = found.saturating_add(1);
     }
-    found == 2 && context.pairs().len() == 2
+    context.pairs().len() == row.pairs.len() && context.pairs().eq(row.pairs.iter().copied())
 }
 
-/// The dots on both sides of where each pair ends.
-fn covers_its_dots(context: &Context<'_>) -> bool {
-    covers(context, FIRST, 1)
-        && !covers(context, FIRST, 2)
-        && covers(context, SECOND, 258)
-        && !covers(context, SECOND, 259)
-        && !covers(context, SECOND, 0)
+/// Whether bytes are read as the context of a row, or are none.
+fn is_read(row: &Case) -> bool {
+    match Context::read(row.bytes) {
+        Some(context) => is_context(&context, row),
+        None => row.pairs.is_empty(),
+    }
 }
 
-fn has_its_counters(context: &Context<'_>) -> bool {
-    let other = Actor { vnode: 0, epoch: 1 };
-    context.counter_of(SECOND) == 258 && context.counter_of(other) == 0
+/// Whether bytes are read and given as a row says: as a context, or as none where there are no bytes, or refused.
+fn is_case(row: &Case) -> bool {
+    let is_given = match Context::given(row.bytes) {
+        Ok(Some(_)) => !row.pairs.is_empty(),
+        Ok(None) => row.bytes.is_empty(),
+        Err(MalformedContext) => !row.bytes.is_empty() && row.pairs.is_empty(),
+    };
+    is_given && is_read(row)
 }
 
-fn is_read(bytes: &[u8]) -> bool {
-    match Context::read(bytes) {
-        Some(context) => {
-            has_pairs(&context) && covers_its_dots(&context) && has_its_counters(&context)
+#[test]
+fn bytes_are_a_context_or_none_or_malformed(rt: HostRuntime) {
+    for row in CASES {
+        assert!(rt; is_case(row), "{}", row.shows);
+    }
+}
+
+/// The bytes of 65 entries: rising epochs of one vnode.
+const ENTRIES: &[u8] = b"\x01\
+    a vnode e001n001a vnode e002n001a vnode e003n001a vnode e004n001a vnode e005n001a vnode e006n001\
+    a vnode e007n001a vnode e008n001a vnode e009n001a vnode e010n001a vnode e011n001a vnode e012n001\
+    a vnode e013n001a vnode e014n001a vnode e015n001a vnode e016n001a vnode e017n001a vnode e018n001\
+    a vnode e019n001a vnode e020n001a vnode e021n001a vnode e022n001a vnode e023n001a vnode e024n001\
+    a vnode e025n001a vnode e026n001a vnode e027n001a vnode e028n001a vnode e029n001a vnode e030n001\
+    a vnode e031n001a vnode e032n001a vnode e033n001a vnode e034n001a vnode e035n001a vnode e036n001\
+    a vnode e037n001a vnode e038n001a vnode e039n001a vnode e040n001a vnode e041n001a vnode e042n001\
+    a vnode e043n001a vnode e044n001a vnode e045n001a vnode e046n001a vnode e047n001a vnode e048n001\
+    a vnode e049n001a vnode e050n001a vnode e051n001a vnode e052n001a vnode e053n001a vnode e054n001\
+    a vnode e055n001a vnode e056n001a vnode e057n001a vnode e058n001a vnode e059n001a vnode e060n001\
+    a vnode e061n001a vnode e062n001a vnode e063n001a vnode e064n001a vnode e065n001";
+
+/// The length of the bytes up to the 64th entry.
+const MOST: usize = 1025;
+
+/// Whether 64 entries are a context, and 65 are none.
+fn has_limit() -> bool {
+    match ENTRIES.split_at_checked(MOST) {
+        Some((most, last)) => {
+            last.len() == 16 && Context::read(most).is_some() && Context::read(ENTRIES).is_none()
         }
         None => false,
     }
+}
+
+#[test]
+fn a_context_has_64_entries_at_most(rt: HostRuntime) {
+    assert!(rt; has_limit());
 }
 
 /// The bytes of the pairs, made once more where memory was refused.
@@ -123,36 +190,74 @@ fn write_again(alloc: Global) -> Result<Vec<u8>, AllocError> {
     }
 }
 
-// The pairs (FIRST, 1) and (SECOND, 258): bytes, pairs, and the dots that they cover.
-#[test]
-fn a_context_is_written_and_read(rt: HostRuntime) -> Result<(), Fail> {
-    let encoded =
-        b"\x01\0\0\0\0\0\x01\0\0\0\0\0\x01\0\0\0\x01\0\0\0\0\0\x01\0\0\0\0\0\x02\0\0\x01\x02";
-    let bytes = write_again(rt.alloc())?;
-    let is_same = bytes.as_slice() == encoded.as_slice() && is_read(bytes.as_slice());
-    assert!(rt; is_same);
-    Ok(())
+fn is_written(alloc: Global) -> bool {
+    match write_again(alloc) {
+        Ok(bytes) => bytes.as_slice() == ENCODED,
+        Err(_) => false,
+    }
 }
 
-/// Whether the next epoch is this one, and is given.
-fn gives(epochs: &mut EpochSource, epoch: Option<u32>) -> bool {
-    epochs.peek() == epoch && epochs.next() == epoch
+// The bytes are those that a row above reads.
+#[test]
+fn a_context_is_written_and_read(rt: HostRuntime) {
+    assert!(rt; is_written(rt.alloc()));
+}
+
+/// The epochs that a source of this first epoch gives, and so does one that goes on after the epoch before.
+struct Epochs {
+    shows: &'static str,
+    first: u32,
+    before: u32,
+    given: &'static [Option<u32>],
+    last: u32,
+}
+
+const EPOCHS: &[Epochs] = &[
+    Epochs {
+        shows: "epochs rise by one",
+        first: 1,
+        before: 0,
+        given: &[Some(1), Some(2)],
+        last: 2,
+    },
+    Epochs {
+        shows: "a source goes on after the epoch 2",
+        first: 3,
+        before: 2,
+        given: &[Some(3)],
+        last: 3,
+    },
+    Epochs {
+        shows: "the last epoch is given once",
+        first: MAX_EPOCH,
+        before: 4_294_967_294,
+        given: &[Some(4_294_967_295), None],
+        last: 4_294_967_295,
+    },
+];
+
+/// Whether a source gives the epochs of a row, each as it is foretold.
+fn gives(epochs: &mut EpochSource, row: &Epochs) -> bool {
+    if epochs.last() != row.before {
+        return false;
+    }
+    for epoch in row.given {
+        if epochs.peek() != *epoch || epochs.next() != *epoch {
+            return false;
+        }
+    }
+    epochs.last() == row.last
+}
+
+fn give(row: &Epochs) -> bool {
+    1 <= row.first
+        && gives(&mut EpochSource::new(row.first), row)
+        && gives(&mut EpochSource::after(row.before), row)
 }
 
 #[test]
-fn the_last_epoch_is_given_once(rt: HostRuntime) {
-    let mut epochs = EpochSource::new(MAX_EPOCH);
-    let is_given = gives(&mut epochs, Some(4_294_967_295));
-    let is_last = gives(&mut epochs, None) && epochs.last() == 4_294_967_295;
-    assert!(rt; is_given && is_last);
-}
-
-#[test]
-fn epochs_rise_by_one(rt: HostRuntime) {
-    let mut epochs = EpochSource::new(1);
-    let is_first = epochs.last() == 0 && gives(&mut epochs, Some(1));
-    let is_second = gives(&mut epochs, Some(2));
-    let mut behind = EpochSource::after(epochs.last());
-    let is_behind = gives(&mut behind, Some(3));
-    assert!(rt; is_first && is_second && is_behind);
+fn each_epoch_is_given_once(rt: HostRuntime) {
+    for row in EPOCHS {
+        assert!(rt; give(row), "{}", row.shows);
+    }
 }

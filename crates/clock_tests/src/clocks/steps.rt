@@ -1,0 +1,120 @@
+//! What is done to a clock, each step tried again where memory is refused.
+
+use actor_epoch::{Actor, Context, Counter};
+use dvv_set::{Clock, ClockFault};
+
+/// What is done to a clock.
+#[derive(Drop)]
+pub enum Step {
+    /// An event at an actor, with its value.
+    Event(Actor, u8),
+    /// What a context saw is forgotten.
+    Discard(&'static [u8]),
+    /// Room is made for a value at an actor behind a context (no bytes: none), and the value takes the place of what the
+    /// context saw. None: the room is left.
+    Put(&'static [u8], Actor, Option<u8>),
+    /// Room is made, and a value at an actor takes the place of all.
+    Overwrite(Actor, u8),
+}
+
+use Step::{Discard, Event, Overwrite, Put};
+
+/// What comes of a step. None as the fault: its context is malformed, or the value that is refused doesn't come back.
+type Taken = Result<(), Option<ClockFault>>;
+
+pub fn event(clock: &mut Clock<u8>, actor: Actor, value: u8) -> Taken {
+    match clock.event(actor, value) {
+        Ok(()) => Ok(()),
+        Err(refused) if refused.value == value => Err(Some(refused.fault)),
+        Err(_) => Err(None),
+    }
+}
+
+fn discard(clock: &mut Clock<u8>, bytes: &[u8]) -> Taken {
+    match Context::read(bytes) {
+        Some(context) => match clock.discard(&context) {
+            Ok(()) => Ok(()),
+            Err(fault) => Err(Some(fault)),
+        },
+        None => Err(None),
+    }
+}
+
+fn put(clock: &mut Clock<u8>, bytes: &[u8], actor: Actor, value: Option<u8>) -> Taken {
+    let Ok(context) = Context::given(bytes) else {
+        return Err(None);
+    };
+    if let Err(fault) = clock.ready(context.as_ref(), actor) {
+        return Err(Some(fault));
+    }
+    if let Some(value) = value {
+        clock.put_ready(context.as_ref(), actor, value);
+    }
+    Ok(())
+}
+
+fn overwrite(clock: &mut Clock<u8>, actor: Actor, value: u8) -> Taken {
+    match clock.ready(None, actor) {
+        Ok(()) => {
+            clock.overwrite_ready(actor, value);
+            Ok(())
+        }
+        Err(fault) => Err(Some(fault)),
+    }
+}
+
+fn try_step(clock: &mut Clock<u8>, step: &Step) -> Taken {
+    match step {
+        Event(actor, value) => event(clock, *actor, *value),
+        Discard(bytes) => discard(clock, bytes),
+        Put(bytes, actor, value) => put(clock, bytes, *actor, *value),
+        Overwrite(actor, value) => overwrite(clock, *actor, *value),
+    }
+}
+
+/// How many values a clock has.
+pub fn count(clock: &Clock<u8>) -> u32 {
+    let mut values = 0u32;
+    for _ in clock.values() {
+        values = values.saturating_add(1);
+    }
+    values
+}
+
+/// Whether a step is taken. Where memory is refused, the clock has as many values as before; then once more.
+fn takes(clock: &mut Clock<u8>, step: &Step) -> bool {
+    let before = count(clock);
+    match try_step(clock, step) {
+        Ok(()) => true,
+        Err(fault) => {
+            fault == Some(ClockFault::NoMemory)
+                && count(clock) == before
+                && try_step(clock, step).is_ok()
+        }
+    }
+}
+
+/// Whether all steps are taken.
+pub fn takes_all(clock: &mut Clock<u8>, steps: &[Step]) -> bool {
+    for step in steps {
+        if !takes(clock, step) {
+            return false;
+        }
+    }
+    true
+}
+
+/// Whether so many actors of one vnode each take a value.
+pub fn takes_crowd(clock: &mut Clock<u8>, actors: u32) -> bool {
+    for epoch in 1..=actors {
+        if !takes(clock, &Event(Actor { vnode: 9, epoch }, b'v')) {
+            return false;
+        }
+    }
+    true
+}
+
+/// Whether a clock knows just these pairs, and has just these values.
+pub fn holds(clock: &Clock<u8>, pairs: &[(Actor, Counter)], values: &[u8]) -> bool {
+    clock.join().eq(pairs.iter().copied()) && clock.values().eq(values)
+}
