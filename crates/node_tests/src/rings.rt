@@ -1,8 +1,8 @@
 //! Indexes of known digests, and of keys whose digests were computed outside.
+
 use riak_msgs::{BucketType, Bytes, Key};
 use ring_map::{Ring, vnode_id};
 use std::alloc::{AllocError, Global};
-use std::process::Abort;
 
 /// The SHA-1 digest of the text `abc`, as the standard gives it.
 const DIGEST: [u8; 20] = [
@@ -10,64 +10,151 @@ const DIGEST: [u8; 20] = [
     0x9c, 0xd0, 0xd8, 0x9d,
 ];
 
-/// The index of a digest on a ring of so many partitions.
+/// The digest's index on a ring of so many partitions, or none where no ring has this size.
+struct Size {
+    shows: &'static str,
+    size: u16,
+    index: Option<u16>,
+}
+
+const SIZES: &[Size] = &[
+    Size {
+        shows: "one partition has all keys",
+        size: 1,
+        index: Some(0),
+    },
+    Size {
+        shows: "the top four bits number one of 16 partitions",
+        size: 16,
+        index: Some(10),
+    },
+    Size {
+        shows: "the top ten bits number one of 1,024 partitions",
+        size: 1024,
+        index: Some(678),
+    },
+    Size {
+        shows: "a ring of no partitions is refused",
+        size: 0,
+        index: None,
+    },
+    Size {
+        shows: "three partitions are refused",
+        size: 3,
+        index: None,
+    },
+    Size {
+        shows: "2,048 partitions are refused",
+        size: 2048,
+        index: None,
+    },
+];
+
+/// The index of the digest on a ring of so many partitions.
 fn index_of_digest(size: u16) -> Option<u16> {
     Some(Ring::new(size)?.index_of(&DIGEST))
 }
 
 #[test]
 fn top_bits_number_the_partition(rt: HostRuntime) {
-    assert_eq!(rt; index_of_digest(1), Some(0));
-    assert_eq!(rt; index_of_digest(16), Some(10));
-    assert_eq!(rt; index_of_digest(1024), Some(678));
-}
-
-#[test]
-fn other_sizes_are_refused(rt: HostRuntime) {
-    assert!(rt; Ring::new(0).is_none());
-    assert!(rt; Ring::new(3).is_none());
-    assert!(rt; Ring::new(2048).is_none());
-}
-
-/// The index of a key on the ring of 1,024 partitions.
-fn index_of_key(made: Result<Key, AllocError>) -> Option<u16> {
-    let key = made.ok()?;
-    Some(Ring::new(1024)?.index(&key))
-}
-
-/// The key `alice` in the bucket `users` of the type `maps`.
-fn typed_key(alloc: Global) -> Result<Key, AllocError> {
-    Ok(Key {
-        bucket_type: BucketType::from_slice(alloc, b"maps")?,
-        bucket: Bytes::from_slice(alloc, b"users")?,
-        key: Bytes::from_slice(alloc, b"alice")?,
-    })
-}
-
-/// A key of a thousand bytes `k`, in the bucket `b` of the default type.
-fn long_key(alloc: Global) -> Result<Key, AllocError> {
-    let mut name = Vec::new(alloc);
-    for _ in 0..1000 {
-        name.push(b'k')?;
+    for row in SIZES {
+        let well = index_of_digest(row.size) == row.index;
+        assert!(rt; well, "{}", row.shows);
     }
-    Key::of_default_type(alloc, b"b", name.as_slice())
+}
+
+/// A key's index on the ring of 1,024 partitions.
+struct Place {
+    shows: &'static str,
+    /// None is the default type.
+    bucket_type: Option<&'static [u8]>,
+    bucket: &'static [u8],
+    key: &'static [u8],
+    index: u16,
 }
 
 /// By Python's `hashlib` the digests begin with 56 73, with b0 a3, and with ec 5e.
-#[test]
-fn keys_have_the_index_of_their_digest(rt: HostRuntime) {
-    let alloc = rt.alloc();
-    assert_eq!(rt;
-        index_of_key(Key::of_default_type(alloc, b"b", b"k")),
-        Some(345)
-    );
-    assert_eq!(rt; index_of_key(typed_key(alloc)), Some(706));
-    assert_eq!(rt; index_of_key(long_key(alloc)), Some(945));
+const PLACES: &[Place] = &[
+    Place {
+        shows: "a key of the default type",
+        bucket_type: None,
+        bucket: b"b",
+        key: b"k",
+        index: 345,
+    },
+    Place {
+        shows: "a key of another type",
+        bucket_type: Some(b"maps"),
+        bucket: b"users",
+        key: b"alice",
+        index: 706,
+    },
+    Place {
+        shows: "a key of a thousand bytes",
+        bucket_type: None,
+        bucket: b"b",
+        key: &[b'k'; 1000],
+        index: 945,
+    },
+];
+
+fn key_of(alloc: Global, row: &Place) -> Result<Key, AllocError> {
+    match row.bucket_type {
+        Some(name) => Ok(Key {
+            bucket_type: BucketType::from_slice(alloc, name)?,
+            bucket: Bytes::from_slice(alloc, row.bucket)?,
+            key: Bytes::from_slice(alloc, row.key)?,
+        }),
+        None => Key::of_default_type(alloc, row.bucket, row.key),
+    }
+}
+
+fn index_of_key(alloc: Global, row: &Place) -> Option<u16> {
+    let key = key_of(alloc, row).ok()?;
+    Some(Ring::new(1024)?.index(&key))
 }
 
 #[test]
+fn keys_have_the_index_of_their_digest(rt: HostRuntime) {
+    for row in PLACES {
+        let well = index_of_key(rt.alloc(), row) == Some(row.index);
+        assert!(rt; well, "{}", row.shows);
+    }
+}
+
+/// A vnode's id by its run and its index.
+struct Id {
+    shows: &'static str,
+    run: u32,
+    index: u16,
+    id: u64,
+}
+
+const IDS: &[Id] = &[
+    Id {
+        shows: "the first vnode of the first run",
+        run: 1,
+        index: 0,
+        id: 65_536,
+    },
+    Id {
+        shows: "the last vnode of a ring of 1,024",
+        run: 2,
+        index: 1023,
+        id: 132_095,
+    },
+    Id {
+        shows: "the greatest run and index",
+        run: 4_294_967_295,
+        index: 65_535,
+        id: 281_474_976_710_655,
+    },
+];
+
+#[test]
 fn a_vnode_id_is_the_run_above_the_index(rt: HostRuntime) {
-    assert_eq!(rt; vnode_id(1, 0), 65_536);
-    assert_eq!(rt; vnode_id(2, 1023), 132_095);
-    assert_eq!(rt; vnode_id(4_294_967_295, 65_535), 281_474_976_710_655);
+    for row in IDS {
+        let well = vnode_id(row.run, row.index) == row.id;
+        assert!(rt; well, "{}", row.shows);
+    }
 }

@@ -2,9 +2,9 @@
 
 mod connections;
 mod contexts;
-mod encodings;
 mod exchange;
 mod faults;
+mod frames;
 mod interruptions;
 mod long;
 mod memory;
@@ -13,4 +13,3 @@ mod options;
 mod reports;
 mod sessions;
 mod streams;
-mod sweeps;

@@ -5,6 +5,8 @@
 #![tactic(auto)]
 
 #[cfg(test)]
+mod exchanges;
+#[cfg(test)]
 mod gates;
 #[cfg(test)]
 mod serving;

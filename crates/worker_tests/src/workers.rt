@@ -1,6 +1,5 @@
 //! Runs of a pool, from bytes to bytes.
-mod exchange;
 mod readers;
+mod runs;
 mod script;
 mod streams;
-mod three_jobs;

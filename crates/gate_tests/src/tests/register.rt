@@ -2,31 +2,35 @@
 ghost use Rattle.std.specs.Prelude.{◌≡◌, IsTrue, IfNone, false};
 ghost use Rattle.sibling_register.specs.Plain.{IsPosition, GivesPositions};
 
+use crate::tests::steps::Act::Ask;
+use crate::tests::steps::Step::{LookAnew, Seen, Write};
+use crate::tests::steps::Who::Ann;
+use crate::tests::steps::{Outcome, Request, Step, Turn, View, plays};
 use ghost_state::GhostValue;
 use riak_msgs::Key;
-use rw_gate::{Gate, Kept, Pass, Plan, WriteRight};
+use rw_gate::{Kept, Plan};
 use sibling_register::{Command, PlainRegister, RegisterFault, Told};
-use std::alloc::{AllocError, Global};
+use std::alloc::Global;
 use std::process::Abort;
 use std::test::*;
 
 /// A register. It answers a command where it is prepared, and is then ahead by its event until that is applied.
 #[derive(Drop)]
-struct Register {
+pub(crate) struct Register {
     register: PlainRegister<u8>,
     is_ahead: bool,
 }
 
 /// An answer that made an event, of which clauses know the command: the change, which is its own event.
 #[derive(Drop)]
-struct Answered {
+pub(crate) struct Answered {
     told: Told,
     command: GhostValue<Command<u8>>,
 }
 
 /// Why a command was refused. Nothing changed.
 #[derive(Clone, Copy, Drop)]
-enum Refused {
+pub(crate) enum Refused {
     /// A growth was refused.
     NoMemory,
     /// The command gives a position past the end.
@@ -139,195 +143,127 @@ impl Kept for Register {
     ghost sound = { λ r c is. (r.register, is.1) };
 }
 
-/// A command on the key "k" of the bucket "b", a put with its value and the position that its context names.
-#[derive(Clone, Copy)]
-enum Line {
-    Get,
+/// A command on the key "k" of the bucket "b", and its answer.
+pub(crate) enum Line {
+    /// A get, which shows these siblings and the context of this position.
+    Get(&'static [u64], u64),
+    /// A put of a value, and the position that its context names. It is done.
     Put(u8, Option<u64>),
+    /// A put by the context of a position that there is not yet. It is refused.
+    PutAhead(u8, u64),
+    /// A delete without context. It is done.
     Del,
-    Reap,
+    /// A reap, and whether it forgets the key.
+    Reap(bool),
 }
 
-fn command(alloc: Global, line: Line) -> Result<Command<u8>, AllocError> {
-    let key = Key::of_default_type(alloc, b"b", b"k")?;
-    Ok(match line {
-        Line::Get => Command::Get {
+use Line::{Del, Get, Put, PutAhead, Reap};
+
+fn put(key: Key, value: u8, context: Option<u64>) -> Command<u8> {
+    Command::Put {
+        key,
+        context,
+        value,
+        return_body: false,
+        return_head: false,
+        if_not_modified: false,
+        if_none_match: false,
+    }
+}
+
+fn command(key: Key, line: &Line) -> Command<u8> {
+    match line {
+        Get(..) => Command::Get {
             key,
             if_modified: None,
             head: false,
             deletedvclock: false,
         },
-        Line::Put(value, context) => Command::Put {
-            key,
-            context,
-            value,
-            return_body: false,
-            return_head: false,
-            if_not_modified: false,
-            if_none_match: false,
-        },
-        Line::Del => Command::Del { key, context: None },
-        Line::Reap => Command::Reap { key },
-    })
-}
-
-// The answer to a command under a right. `None` where it was refused.
-fn answer(
-    right: &mut WriteRight<'_, Register>,
-    pass: &mut Pass<Register>,
-    alloc: Global,
-    command: Command<u8>,
-) -> Option<Told>
-    requires { pass.old.gate ≡ right.old.gate }
-    ensures { pass.new.gate ≡ pass.old.gate }
-{
-    match right.prepare(alloc, command) {
-        Ok(Plan::Change(change)) => right.publish(pass, change).ok(),
-        Ok(Plan::Nothing(told)) => Some(told),
-        Err(_) => None,
+        Put(value, context) => put(key, *value, *context),
+        PutAhead(value, position) => put(key, *value, Some(*position)),
+        Del => Command::Del { key, context: None },
+        Reap(_) => Command::Reap { key },
     }
 }
 
-// The same under a right of its own. `None` also where memory was refused for the command.
-fn ask_once(
-    gate: &Gate<Register>,
-    pass: &mut Pass<Register>,
-    alloc: Global,
-    line: Line,
-) -> Option<Told>
-    requires { pass.old.gate ≡ gate.now }
-    ensures { pass.new.gate ≡ pass.old.gate }
-{
-    let command = command(alloc, line).ok()?;
-    match gate.try_write() {
-        Some(right) => {
-            let mut right = right;
-            let told = answer(&mut right, pass, alloc, command);
-            right.release();
-            told
-        }
-        None => {
-            drop(command);
-            None
-        }
-    }
-}
-
-// Once more where memory was refused.
-fn ask(gate: &Gate<Register>, pass: &mut Pass<Register>, alloc: Global, line: Line) -> Option<Told>
-    requires { pass.old.gate ≡ gate.now }
-    ensures { pass.new.gate ≡ pass.old.gate }
-{
-    match ask_once(gate, pass, alloc, line) {
-        Some(told) => Some(told),
-        None => ask_once(gate, pass, alloc, line),
-    }
-}
-
-// Whether a command is done, and the pass has then seen so many events.
-fn is_done(
-    gate: &Gate<Register>,
-    pass: &mut Pass<Register>,
-    alloc: Global,
-    line: Line,
-    seen: u64,
-) -> bool
-    requires { pass.old.gate ≡ gate.now }
-    ensures { pass.new.gate ≡ pass.old.gate }
-{
-    let is_done = matches!(ask(gate, pass, alloc, line), Some(Told::Done));
-    is_done && pass.seen() == seen
-}
-
-// Whether a get shows these siblings and the context of this position.
-fn shows(
-    gate: &Gate<Register>,
-    pass: &mut Pass<Register>,
-    alloc: Global,
-    numbers: &[u64],
-    position: u64,
-) -> bool
-    requires { pass.old.gate ≡ gate.now }
-    ensures { pass.new.gate ≡ pass.old.gate }
-{
-    match &ask(gate, pass, alloc, Line::Get) {
-        Some(
+fn is_told(line: &Line, told: &Told) -> bool {
+    match (line, told) {
+        (
+            Get(numbers, position),
             Told::Shown {
                 siblings,
                 place,
                 ..
             },
-        ) => siblings.as_slice() == numbers && *place == Some(position),
+        ) => siblings.as_slice() == *numbers && *place == Some(*position),
+        (Put(..) | Del, Told::Done) => true,
+        (Reap(is_forgotten), Told::Reaped) => *is_forgotten,
+        (Reap(is_forgotten), Told::Kept) => !*is_forgotten,
         _ => false,
     }
 }
 
-// Whether a reap forgets the key.
-fn reaps(gate: &Gate<Register>, pass: &mut Pass<Register>, alloc: Global) -> Option<bool>
-    requires { pass.old.gate ≡ gate.now }
-    ensures { pass.new.gate ≡ pass.old.gate }
-{
-    match &ask(gate, pass, alloc, Line::Reap) {
-        Some(Told::Reaped) => Some(true),
-        Some(Told::Kept) => Some(false),
-        _ => None,
+impl Request<Register, Command<u8>, Told, Refused> for Line {
+    fn ask(&self, alloc: Global, _turn: Turn) -> Option<Command<u8>> {
+        match Key::of_default_type(alloc, b"b", b"k") {
+            Ok(key) => Some(command(key, self)),
+            Err(_) => None,
+        }
+    }
+
+    fn is_reply(&self, told: Told, _is_event: bool) -> bool {
+        is_told(self, &told)
+    }
+
+    fn refused(&self, refusal: Refused) -> Outcome {
+        match (self, refusal) {
+            (PutAhead(..), Refused::PastEnd) => Outcome::Done,
+            (_, Refused::NoMemory) => Outcome::NoMemory,
+            _ => Outcome::Wrong,
+        }
     }
 }
 
-// Two blind puts make siblings, and a put by the first one's context covers that alone. Gets and a reap of a live key are no events.
-fn lives(gate: &Gate<Register>, pass: &mut Pass<Register>, alloc: Global) -> bool
-    requires { pass.old.gate ≡ gate.now }
-    ensures { pass.new.gate ≡ pass.old.gate }
-{
-    is_done(gate, pass, alloc, Line::Put(b'v', None), 1)
-        && shows(gate, pass, alloc, &[1], 1)
-        && is_done(gate, pass, alloc, Line::Put(b'w', None), 2)
-        && is_done(gate, pass, alloc, Line::Put(b'x', Some(1)), 3)
-        && shows(gate, pass, alloc, &[3, 2], 3)
-        && reaps(gate, pass, alloc) == Some(false)
-        && pass.seen() == 3
-}
+/// How many events a register has.
+pub(crate) struct Events(u64);
 
-// A delete covers all, a reap forgets the key, and a context of its first life covers nothing in its second.
-fn dies(gate: &Gate<Register>, pass: &mut Pass<Register>, alloc: Global) -> bool
-    requires { pass.old.gate ≡ gate.now }
-    ensures { pass.new.gate ≡ pass.old.gate }
-{
-    is_done(gate, pass, alloc, Line::Del, 4)
-        && reaps(gate, pass, alloc) == Some(true)
-        && is_done(gate, pass, alloc, Line::Put(b'y', Some(1)), 6)
-        && shows(gate, pass, alloc, &[6], 6)
-}
-
-// A put by the context of a position that there is not yet is refused, and is no event.
-fn refuses(gate: &Gate<Register>, pass: &mut Pass<Register>, alloc: Global) -> bool
-    requires { pass.old.gate ≡ gate.now }
-    ensures { pass.new.gate ≡ pass.old.gate }
-{
-    ask(gate, pass, alloc, Line::Put(b'z', Some(99))).is_none() && pass.seen() == 6
-}
-
-fn lives_and_dies(gate: &Gate<Register>, alloc: Global) -> bool {
-    let mut pass = gate.pass();
-    lives(gate, &mut pass, alloc) && dies(gate, &mut pass, alloc) && refuses(gate, &mut pass, alloc)
-}
-
-fn register_gate(alloc: Global) -> Result<Gate<Register>, Fail> {
-    let register = Register {
-        register: PlainRegister::new(alloc),
-        is_ahead: false,
-    };
-    match Gate::new(alloc, register) {
-        Ok(gate) => Ok(gate),
-        Err(_) => Err("a gate")?,
+impl View<Register> for Events {
+    fn is_of(&self, state: &Register, _alloc: Global, _turn: Turn) -> bool {
+        state.register.len() == self.0
     }
 }
+
+const LIFE: &[Step<Line, Events>] = &[
+    // two blind puts make siblings, and a put by the first one's context covers that alone
+    Write(Ann, &[Ask(Put(b'v', None))]),
+    Seen(Ann, 1),
+    Write(Ann, &[Ask(Get(&[1], 1))]),
+    Write(Ann, &[Ask(Put(b'w', None))]),
+    Seen(Ann, 2),
+    Write(Ann, &[Ask(Put(b'x', Some(1)))]),
+    Seen(Ann, 3),
+    // gets and a reap of a live key are no events
+    Write(Ann, &[Ask(Get(&[3, 2], 3))]),
+    Write(Ann, &[Ask(Reap(false))]),
+    Seen(Ann, 3),
+    // a delete covers all, a reap forgets the key, and a context of its first life covers nothing in its second
+    Write(Ann, &[Ask(Del)]),
+    Seen(Ann, 4),
+    Write(Ann, &[Ask(Reap(true))]),
+    Write(Ann, &[Ask(Put(b'y', Some(1)))]),
+    Seen(Ann, 6),
+    Write(Ann, &[Ask(Get(&[6], 6))]),
+    // a put by the context of a position that there is not yet is refused, and is no event
+    Write(Ann, &[Ask(PutAhead(b'z', 99))]),
+    Seen(Ann, 6),
+    LookAnew(Events(6), 6),
+];
 
 #[test]
-fn a_register_behind_a_gate(rt: HostRuntime) -> Result<(), Fail> {
-    let gate = register_gate(rt.alloc())?;
-    let is_so = lives_and_dies(&gate, rt.alloc());
-    drop(gate);
-    assert!(rt; is_so);
-    Ok(())
+fn a_register_behind_a_gate(rt: HostRuntime) {
+    let register = Register {
+        register: PlainRegister::new(rt.alloc()),
+        is_ahead: false,
+    };
+    assert!(rt; plays(rt.alloc(), register, LIFE));
 }

@@ -1,108 +1,81 @@
-//! A vnode behind a gate: what was written is read back, by one thread and by four.
-ghost use Rattle.std.specs.Prelude.{◌≡◌};
-
-use riak_msgs::{GetAsk, GetReply, PutAsk};
-use rw_gate::{Gate, Pass, Plan, ReadRight, WriteRight};
-use std::alloc::{AllocError, Global};
+//! A vnode behind a gate: what was written is read back, and keys die, by one thread and by four.
+use crate::tests::steps::Act::{Ask as Asks, Look};
+use crate::tests::steps::Step::{LookAnew, Seen, Write};
+use crate::tests::steps::Who::Ann;
+use crate::tests::steps::{Outcome, Request, Step, Turn, View, plays};
+use crate::tests::threads::{Work, is_end, makes_rounds, name_of};
+use riak_msgs::{Bytes, DelAsk, GetAsk, GetReply, Key, PutAsk};
+use rw_gate::Gate;
+use std::alloc::Global;
 use std::process::Abort;
 use std::sync::Wait;
 use std::test::*;
 use std::thread::{Threads, map_indices};
-use vnode_core::{Ask, Vnode};
+use vnode_core::{Answer, Ask, Reaped, Refusal, Tally, Vnode};
 
-// A gate round a new vnode, whose id is 65,536 and first epoch 1.
-pub(crate) fn vnode_gate(alloc: Global) -> Option<Gate<Vnode>> {
-    Gate::new(alloc, Vnode::new(alloc, 65_536, 1)).ok()
+/// A key of the bucket "b".
+#[derive(Clone, Copy)]
+pub(crate) enum Name {
+    /// The key "k".
+    K,
+    /// The thread's own key of this round.
+    Own,
 }
 
-// Whether a command under a right is accepted, and changes something.
-pub(crate) fn is_accepted(
-    right: &mut WriteRight<'_, Vnode>,
-    pass: &mut Pass<Vnode>,
-    alloc: Global,
-    ask: Ask,
-) -> bool
-    requires { pass.old.gate ≡ right.old.gate }
-    ensures pass { pass.new.gate ≡ pass.old.gate }
-    ensures right { right.new.gate ≡ right.old.gate }
-{
-    match right.prepare(alloc, ask) {
-        Ok(Plan::Change(change)) => right.publish(pass, change).is_ok(),
-        Ok(Plan::Nothing(_)) => false,
-        Err(_) => false,
-    }
+/// A command and its answer.
+pub(crate) enum Line {
+    /// A put of a value without context. It is accepted.
+    Put(Name, &'static [u8]),
+    /// A delete without context. It leaves a tombstone.
+    Del(Name),
+    /// A reap of the first dead key, and what it comes to.
+    ReapFirst(Reaped),
 }
 
-// The same of a value under a key of the bucket "b", without context. `false` also where memory was refused.
-pub(crate) fn puts_under(
-    right: &mut WriteRight<'_, Vnode>,
-    pass: &mut Pass<Vnode>,
-    alloc: Global,
-    key: &[u8],
-    value: &[u8],
-) -> bool
-    requires { pass.old.gate ≡ right.old.gate }
-    ensures pass { pass.new.gate ≡ pass.old.gate }
-    ensures right { right.new.gate ≡ right.old.gate }
-{
+use Line::{Del, Put, ReapFirst};
+
+/// What a look shows.
+pub(crate) enum Shown {
+    /// The values of the key "k", the newest first, and its context.
+    Values(&'static [&'static [u8]], &'static [u8]),
+    /// How many siblings the key "k" has.
+    Siblings(usize),
+    /// At least as many siblings of the key "k" as the thread has made rounds.
+    Rounds,
+    /// The tally, and whether a dead key is held.
+    Counts(Tally, bool),
+}
+
+use Shown::{Counts, Rounds, Siblings, Values};
+
+fn put(alloc: Global, key: &[u8], value: &[u8]) -> Option<Ask> {
     match PutAsk::plain(alloc, b"b", key, b"", value) {
-        Ok(ask) => is_accepted(right, pass, alloc, Ask::Put(ask)),
-        Err(_) => false,
-    }
-}
-
-// The same of the key "k" under a right of its own.
-fn puts_once(gate: &Gate<Vnode>, pass: &mut Pass<Vnode>, alloc: Global, value: &[u8]) -> bool
-    requires { pass.old.gate ≡ gate.now }
-    ensures { pass.new.gate ≡ pass.old.gate }
-{
-    let Some(right) = gate.try_write() else {
-        return false;
-    };
-    let mut right = right;
-    let is_put = puts_under(&mut right, pass, alloc, b"k", value);
-    right.release();
-    is_put
-}
-
-// Once more where memory was refused.
-pub(crate) fn puts(gate: &Gate<Vnode>, pass: &mut Pass<Vnode>, alloc: Global, value: &[u8]) -> bool
-    requires { pass.old.gate ≡ gate.now }
-    ensures { pass.new.gate ≡ pass.old.gate }
-{
-    puts_once(gate, pass, alloc, value) || puts_once(gate, pass, alloc, value)
-}
-
-// What a get of the key shows.
-fn get(vnode: &Vnode, alloc: Global) -> Option<GetReply> {
-    let ask = GetAsk::plain(alloc, b"b", b"k").ok()?;
-    vnode.get(alloc, &ask).ok()
-}
-
-// What a reader is shown who looks.
-fn get_under(
-    right: &ReadRight<'_, Vnode>,
-    pass: &mut Pass<Vnode>,
-    alloc: Global,
-) -> Option<GetReply>
-    requires { pass.old.gate ≡ right.now.gate }
-    ensures { pass.new.gate ≡ pass.old.gate }
-{
-    match right.look(pass) {
-        Ok(vnode) => get(vnode, alloc),
+        Ok(ask) => Some(Ask::Put(ask)),
         Err(_) => None,
     }
 }
 
-// The same under a right of its own.
-fn get_once(gate: &Gate<Vnode>, pass: &mut Pass<Vnode>, alloc: Global) -> Option<GetReply>
-    requires { pass.old.gate ≡ gate.now }
-    ensures { pass.new.gate ≡ pass.old.gate }
-{
-    let right = gate.try_read()?;
-    let reply = get_under(&right, pass, alloc);
-    right.release();
-    reply
+fn del(alloc: Global, key: &[u8]) -> Option<Ask> {
+    match Key::of_default_type(alloc, b"b", key) {
+        Ok(key) => {
+            let context = Bytes::new(alloc);
+            Some(Ask::Del(DelAsk { key, context }))
+        }
+        Err(_) => None,
+    }
+}
+
+fn get_once(vnode: &Vnode, alloc: Global) -> Option<GetReply> {
+    let ask = GetAsk::plain(alloc, b"b", b"k").ok()?;
+    vnode.get(alloc, &ask).ok()
+}
+
+/// What a get of the key "k" shows, asked once more where memory was refused.
+fn get(vnode: &Vnode, alloc: Global) -> Option<GetReply> {
+    match get_once(vnode, alloc) {
+        Some(reply) => Some(reply),
+        None => get_once(vnode, alloc),
+    }
 }
 
 fn has(reply: &GetReply, values: &[&[u8]], context: &[u8]) -> bool {
@@ -114,116 +87,192 @@ fn has(reply: &GetReply, values: &[&[u8]], context: &[u8]) -> bool {
     are_same && reply.context.as_slice() == context
 }
 
-fn is_shown(reply: &Option<GetReply>, values: &[&[u8]], context: &[u8]) -> bool {
-    match reply {
-        Some(reply) => has(reply, values, context),
-        None => false,
+fn is_got(reply: &GetReply, shown: &Shown, turn: Turn) -> bool {
+    match shown {
+        Values(values, context) => has(reply, values, context),
+        Siblings(count) => reply.contents.len() == *count,
+        Rounds => usize::from(turn.round) <= reply.contents.len(),
+        Counts(..) => false,
     }
 }
 
-// Whether a get shows these values, the newest first, and this context.
-pub(crate) fn shows(
-    gate: &Gate<Vnode>,
-    pass: &mut Pass<Vnode>,
-    alloc: Global,
-    values: &[&[u8]],
-    context: &[u8],
-) -> bool
-    requires { pass.old.gate ≡ gate.now }
-    ensures { pass.new.gate ≡ pass.old.gate }
-{
-    let first = get_once(gate, pass, alloc);
-    is_shown(&first, values, context) || is_shown(&get_once(gate, pass, alloc), values, context)
+fn is_answer(line: &Line, answer: &Answer, is_event: bool) -> bool {
+    match (line, answer) {
+        (Put(..), Answer::Put(_)) | (Del(_), Answer::Del) => is_event,
+        (ReapFirst(expected), Answer::Reaped(reaped)) => reaped == expected,
+        _ => false,
+    }
 }
 
-// Whether a new key shows nothing, and two blind puts are siblings, each seen by the pass as its event.
-fn writes_and_reads(gate: &Gate<Vnode>, alloc: Global) -> bool {
-    let mut pass = gate.pass();
-    let first = b"\x01\0\0\0\0\0\x01\0\0\0\0\0\x01\0\0\0\x01";
-    let second = b"\x01\0\0\0\0\0\x01\0\0\0\0\0\x01\0\0\0\x02";
-    shows(gate, &mut pass, alloc, &[], b"")
-        && puts(gate, &mut pass, alloc, b"v")
-        && shows(gate, &mut pass, alloc, &[b"v"], first)
-        && puts(gate, &mut pass, alloc, b"w")
-        && pass.seen() == 2
-        && shows(gate, &mut pass, alloc, &[b"w", b"v"], second)
+impl Request<Vnode, Ask, Answer, Refusal> for Line {
+    fn ask(&self, alloc: Global, turn: Turn) -> Option<Ask> {
+        let own = [turn.thread, turn.round];
+        match self {
+            Put(Name::K, value) => put(alloc, b"k", value),
+            Put(Name::Own, value) => put(alloc, &own, value),
+            Del(Name::K) => del(alloc, b"k"),
+            Del(Name::Own) => del(alloc, &own),
+            ReapFirst(_) => Some(Ask::ReapFirst(None)),
+        }
+    }
+
+    fn is_reply(&self, answer: Answer, is_event: bool) -> bool {
+        is_answer(self, &answer, is_event)
+    }
+
+    fn refused(&self, refusal: Refusal) -> Outcome {
+        match refusal {
+            Refusal::NoMemory => Outcome::NoMemory,
+            _ => Outcome::Wrong,
+        }
+    }
 }
 
-// Whether a pass that has seen nothing is shown both.
-fn is_shared(gate: &Gate<Vnode>, alloc: Global) -> bool {
-    let mut pass = gate.pass();
-    let second = b"\x01\0\0\0\0\0\x01\0\0\0\0\0\x01\0\0\0\x02";
-    shows(gate, &mut pass, alloc, &[b"w", b"v"], second) && pass.seen() == 2
+impl View<Vnode> for Shown {
+    fn is_of(&self, vnode: &Vnode, alloc: Global, turn: Turn) -> bool {
+        if let Counts(tally, has_dead) = self {
+            return vnode.tally() == *tally && vnode.has_dead(None) == *has_dead;
+        }
+        match &get(vnode, alloc) {
+            Some(reply) => is_got(reply, self, turn),
+            None => false,
+        }
+    }
+}
+
+/// Steps at a new vnode.
+struct Row {
+    shows: &'static str,
+    steps: &'static [Step<Line, Shown>],
+}
+
+/// The contexts of the first two dots of the key's first life, and of the first of its second.
+const FIRST: &[u8] = b"\x01\0\0\0\0\0\x01\0\0\0\0\0\x01\0\0\0\x01";
+
+const SECOND: &[u8] = b"\x01\0\0\0\0\0\x01\0\0\0\0\0\x01\0\0\0\x02";
+
+const SECOND_LIFE: &[u8] = b"\x01\0\0\0\0\0\x01\0\0\0\0\0\x02\0\0\0\x01";
+
+const ONE_DIED: Tally = Tally {
+    writes: 2,
+    tombstones: 1,
+    reaps: 1,
+};
+
+const ROWS: &[Row] = &[
+    Row {
+        shows: "a new key shows nothing, and two blind puts are siblings, shown to a new pass too",
+        steps: &[
+            Step::Look(Values(&[], b"")),
+            Write(Ann, &[Asks(Put(Name::K, b"v"))]),
+            Step::Look(Values(&[b"v"], FIRST)),
+            Write(Ann, &[Asks(Put(Name::K, b"w"))]),
+            Seen(Ann, 2),
+            Step::Look(Values(&[b"w", b"v"], SECOND)),
+            LookAnew(Values(&[b"w", b"v"], SECOND), 2),
+        ],
+    },
+    // nothing is shown then, and the next put begins the vnode's second life
+    Row {
+        shows: "a key that was deleted and reaped is forgotten",
+        steps: &[
+            Write(Ann, &[Asks(Put(Name::K, b"v"))]),
+            Write(
+                Ann,
+                &[
+                    Asks(Del(Name::K)),
+                    Asks(ReapFirst(Reaped::Gone)),
+                    Asks(ReapFirst(Reaped::Absent)),
+                ],
+            ),
+            Seen(Ann, 3),
+            Step::Look(Values(&[], b"")),
+            Write(Ann, &[Asks(Put(Name::K, b"w"))]),
+            Step::Look(Values(&[b"w"], SECOND_LIFE)),
+            LookAnew(Counts(ONE_DIED, false), 4),
+        ],
+    },
+];
+
+/// A vnode whose id is 65,536 and first epoch 1.
+fn new_vnode(alloc: Global) -> Vnode {
+    Vnode::new(alloc, 65_536, 1)
 }
 
 #[test]
-fn a_write_is_read_back(rt: HostRuntime) -> Result<(), Fail> {
-    let gate = vnode_gate(rt.alloc()).ok_or("a gate")?;
-    let is_so = writes_and_reads(&gate, rt.alloc()) && is_shared(&gate, rt.alloc());
-    drop(gate);
-    assert!(rt; is_so);
-    Ok(())
-}
-
-// How many siblings a look under a right to write shows.
-fn count_under(right: &WriteRight<'_, Vnode>, pass: &mut Pass<Vnode>, alloc: Global) -> usize
-    requires { pass.old.gate ≡ right.now.gate }
-    ensures { pass.new.gate ≡ pass.old.gate }
-{
-    match right.look(pass) {
-        Ok(vnode) => count_of(&get(vnode, alloc)),
-        Err(_) => 0,
+fn a_vnode_behind_a_gate(rt: HostRuntime) {
+    for row in ROWS {
+        assert!(rt;
+            plays(rt.alloc(), new_vnode(rt.alloc()), row.steps),
+            "{}",
+            row.shows
+        );
     }
-}
-
-fn count_of(reply: &Option<GetReply>) -> usize {
-    match reply {
-        Some(reply) => reply.contents.len(),
-        None => 0,
-    }
-}
-
-// Fifteen puts. Whether each was accepted, and each look showed at least those that were made here.
-fn put_fifteen<R: Wait>(rt: &R, alloc: Global, gate: &Gate<Vnode>) -> bool {
-    let mut pass = gate.pass();
-    let mut is_well = true;
-    for made in 0..15usize {
-        let mut right = gate.write(rt);
-        let shows_own = made <= count_under(&right, &mut pass, alloc);
-        let is_put = puts_under(&mut right, &mut pass, alloc, b"k", b"v");
-        right.release();
-        is_well = is_well && shows_own && is_put;
-    }
-    is_well
-}
-
-// How many siblings a reader is then shown, and how many events it has seen.
-fn counted<R: Wait>(rt: &R, gate: &Gate<Vnode>, alloc: Global) -> (usize, u64) {
-    let mut pass = gate.pass();
-    let right = gate.read(rt);
-    let count = count_of(&get_under(&right, &mut pass, alloc));
-    right.release();
-    (count, pass.seen())
-}
-
-// Four threads of fifteen puts each. Whether each was well, and what is shown then.
-fn put_by_four<R: Threads + Wait + Sync>(
-    rt: &R,
-    alloc: Global,
-    gate: &Gate<Vnode>,
-) -> Result<Option<(usize, u64)>, AllocError> {
-    let all = map_indices(rt, alloc, 4, &|_| put_fifteen(rt, alloc, gate))?;
-    let are_well = all.as_slice() == [true, true, true, true].as_slice();
-    let last = counted(rt, gate, alloc);
-    Ok(if are_well { Some(last) } else { None })
 }
 
 // None of the sixty saw another, so all are siblings.
+const SIXTY_SIBLINGS: &Work<Line, Shown> = &Work {
+    rounds: 15,
+    writes: &[&[Look(Rounds), Asks(Put(Name::K, b"v"))]],
+    end: Siblings(60),
+    events: 60,
+};
+
+const TWENTY_DIED: Tally = Tally {
+    writes: 20,
+    tombstones: 20,
+    reaps: 20,
+};
+
+// The first dead key may be another thread's. There always is one, since a thread reaps once for each key that it left dead.
+const TWENTY_KEYS: &Work<Line, Shown> = &Work {
+    rounds: 5,
+    writes: &[
+        &[Asks(Put(Name::Own, b"v"))],
+        &[Asks(Del(Name::Own))],
+        &[Asks(ReapFirst(Reaped::Gone))],
+    ],
+    end: Counts(TWENTY_DIED, false),
+    events: 60,
+};
+
+fn work(buries: bool) -> &'static Work<Line, Shown> {
+    if buries { TWENTY_KEYS } else { SIXTY_SIBLINGS }
+}
+
+/// Whether four threads did one of the two works.
+fn four_work<R: Threads + Wait + Sync>(
+    rt: &R,
+    alloc: Global,
+    gate: &Gate<Vnode>,
+    buries: bool,
+) -> bool {
+    match map_indices(
+        rt,
+        alloc,
+        4,
+        &|at| { makes_rounds(rt, alloc, gate, work(buries), name_of(at)) },
+    ) {
+        Ok(all) => all.as_slice() == [true, true, true, true].as_slice(),
+        Err(_) => false,
+    }
+}
+
+fn is_worked<R: Threads + Wait + Sync>(rt: &R, alloc: Global, buries: bool) -> bool {
+    match Gate::new(alloc, new_vnode(alloc)) {
+        Ok(gate) => {
+            four_work(rt, alloc, &gate, buries) && is_end(rt, alloc, &gate, work(buries))
+        }
+        Err(_) => false,
+    }
+}
+
 #[test]
-fn four_threads_write_sixty_siblings(rt: HostRuntime) -> Result<(), Fail> {
-    let gate = vnode_gate(rt.alloc()).ok_or("a gate")?;
-    let last = put_by_four(&rt, rt.alloc(), &gate);
-    drop(gate);
-    assert!(rt; last? == Some((60, 60)));
-    Ok(())
+fn four_threads_write_and_bury(rt: HostRuntime) {
+    for (buries, shows) in [
+        (false, "they write sixty siblings"),
+        (true, "they bury twenty keys"),
+    ] {
+        assert!(rt; is_worked(&rt, rt.alloc(), buries), "{shows}");
+    }
 }

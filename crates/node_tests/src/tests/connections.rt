@@ -1,137 +1,265 @@
-//! Sessions of one ping, put and get, however they are cut.
+//! Sessions that meet the end of their input, however they are cut.
 
-ghost use Rattle.std.specs.Prelude.{◌<◌, ◌≤◌, ◌^◌};
-
-use crate::tests::sessions::{REPLIES, REQUESTS, due, ended, serve_new};
-use crate::tests::streams::{Flushing, Patient, Sink, Source};
-use node_session::SessionFault;
+use crate::tests::frames::{
+    ABSENT, BAD_FRAME, GET, PING, PONG, PUT_AND_GET, REPLIES, REQUESTS, STORED_AND_SHOWN, UNKNOWN,
+    UNKNOWN_CODE,
+};
+use crate::tests::sessions::{Count, Outcome, Part, Session, comes_to_new, ended, goes};
+use crate::tests::streams::{Call, Channel, PLAIN, Trouble};
+use node_session::{Ended, SessionFault};
 use std::alloc::Global;
-use std::cell::Cell;
-use std::test::Fail;
+use std::process::Abort;
 
-/// All three requests are answered, read in pieces of this length and written at most so many bytes at a time.
-fn are_answered(alloc: Global, piece: usize, most: usize) -> bool
-    requires { 0 < piece }
-{
-    let mut source = Source::new(&REQUESTS, piece);
-    let mut sink = Sink::new(alloc, most);
-    let outcome = serve_new(alloc, &mut source, &mut sink, 100);
-    let is_written = sink.bytes.as_slice() == REPLIES.as_slice();
-    outcome == ended(3, 0) && is_written && sink.flushes == source.reads
+/// Requests that are cut in many ways, each answered.
+struct Cuts {
+    shows: &'static str,
+    input: &'static [u8],
+    output: &'static [u8],
+    replies: u64,
+    /// Lengths of the first piece.
+    firsts: &'static [usize],
+    /// Lengths of the later pieces. 0 is the first one's.
+    laters: &'static [usize],
+    /// How many bytes a write takes at most.
+    mosts: &'static [usize],
+    troubles: &'static [Trouble],
 }
 
-#[test]
-fn pieces_do_not_matter(rt: HostRuntime) -> Result<(), Fail> {
-    for piece in [1, 2, 3, 4, 5, 6, 7, 9, 16, 31, 32, 100] {
-        for most in [1, 2, 3, 4, 5, 64] {
-            let well = are_answered(rt.alloc(), piece, most);
-            assert!(rt; well, "in pieces of {piece}, writes of {most}");
+/// All cuts of the three requests.
+const ANYWHERE: &[usize] = &[
+    1, 2, 3, 4, 5, 6, 7, 8, 9, 10, 11, 12, 13, 14, 15, 16, 17, 18, 19, 20, 21, 22, 23, 24, 25, 26,
+    27, 28, 29, 30, 31, 32,
+];
+
+const CUTS: &[Cuts] = &[
+    Cuts {
+        shows: "pieces do not matter",
+        input: &REQUESTS,
+        output: &REPLIES,
+        replies: 3,
+        firsts: &[1, 2, 3, 4, 5, 6, 7, 9, 16, 31, 32, 100],
+        laters: &[0],
+        mosts: &[1, 2, 3, 4, 5, 64],
+        troubles: &[],
+    },
+    Cuts {
+        shows: "a put and a get may be cut anywhere",
+        input: PUT_AND_GET,
+        output: STORED_AND_SHOWN,
+        replies: 2,
+        firsts: ANYWHERE,
+        laters: &[1, 27],
+        mosts: &[64],
+        troubles: &[],
+    },
+    Cuts {
+        shows: "frames are answered and flushed before the next read",
+        input: &REQUESTS,
+        output: &REPLIES,
+        replies: 3,
+        firsts: ANYWHERE,
+        laters: &[1, 2, 5, 27, 32],
+        mosts: &[64],
+        troubles: &[Trouble::Awaits],
+    },
+];
+
+/// All is answered where the requests are cut so, and each read has its flush.
+fn are_answered(alloc: Global, row: &Cuts, first: usize, later: usize, most: usize) -> bool {
+    let later = if later == 0 { first } else { later };
+    let channel = Channel {
+        pieces: (first, later),
+        most,
+        reads: 100,
+        troubles: row.troubles,
+    };
+    let outcome = Outcome {
+        end: ended(row.replies, 0),
+        output: row.output,
+        counts: &[Count::FlushesOverReads(0)],
+    };
+    comes_to_new(alloc, row.input, &channel, &outcome)
+}
+
+/// Cuts the requests behind their first piece in each way.
+fn cut_behind(rt: &impl Abort, alloc: Global, row: &Cuts, first: usize) {
+    for later in row.laters {
+        for most in row.mosts {
+            let well = are_answered(alloc, row, first, *later, *most);
+            assert!(rt;
+                well,
+                "{}: {first}, then {later}, writes of {most}",
+                row.shows
+            );
         }
     }
-    Ok(())
-}
-
-/// The put and the get alone are answered, where the first piece has a length of its own.
-fn put_and_get(alloc: Global, first: usize, later: usize) -> bool
-    requires first { 0 < first }
-    requires then { 0 < later }
-{
-    let mut source = Source::cut(&REQUESTS[5..], first, later);
-    let mut sink = Sink::new(alloc, 64);
-    let outcome = serve_new(alloc, &mut source, &mut sink, 100);
-    outcome == ended(2, 0) && Some(sink.bytes.as_slice()) == REPLIES.get(5..)
 }
 
 #[test]
-fn a_cut_may_be_anywhere(rt: HostRuntime) -> Result<(), Fail> {
-    assert!(rt; put_and_get(rt.alloc(), 1, 1));
-    assert!(rt; put_and_get(rt.alloc(), 27, 27));
-    for cut in 1..27usize {
-        let well = put_and_get(rt.alloc(), cut, 27);
-        assert!(rt; well, "cut at {cut}");
-    }
-    Ok(())
-}
-
-/// Each request is answered and flushed before the next read.
-fn are_answered_in_time(alloc: Global, first: usize, later: usize) -> bool
-    requires first { 0 < first }
-    requires then { 0 < later }
-{
-    let flushed = Cell::new(0);
-    let mut patient = Patient {
-        source: Source::cut(&REQUESTS, first, later),
-        given: 0,
-        flushed: &flushed,
-    };
-    let mut sink = Flushing {
-        sink: Sink::new(alloc, 64),
-        flushed: &flushed,
-    };
-    let outcome = serve_new(alloc, &mut patient, &mut sink, 100);
-    outcome == ended(3, 0) && flushed.get() == 39
-}
-
-#[test]
-fn frames_are_answered_before_the_next_read(rt: HostRuntime) -> Result<(), Fail> {
-    for first in 1..33usize {
-        for later in [1, 2, 5, 27, 32] {
-            let well = are_answered_in_time(rt.alloc(), first, later);
-            assert!(rt; well, "after {first} bytes, {later} at a time");
+fn requests_are_answered_however_they_are_cut(rt: HostRuntime) {
+    for row in CUTS {
+        for first in row.firsts {
+            cut_behind(&rt, rt.alloc(), row, *first);
         }
     }
-    Ok(())
 }
 
-/// A session that may read so many times a byte makes all of its reads, and answers what came.
-fn stops_after(alloc: Global, reads: u64) -> bool
-    requires { reads ≤ 2 ^ 32 }
-{
-    let mut source = Source::new(&REQUESTS, 1);
-    let mut sink = Sink::new(alloc, 64);
-    let outcome = serve_new(alloc, &mut source, &mut sink, reads);
-    let (replies, written) = due(reads);
-    let is_written = Some(sink.bytes.as_slice()) == REPLIES.get(..written);
-    let are_made = source.reads == reads && sink.flushes == reads.saturating_add(1);
-    outcome == Err(SessionFault::TooManyReads(replies)) && is_written && are_made
-}
+/// Pieces of four bytes, whose third read fails.
+const THIRD_READ_FAILS: Channel<'static> = Channel {
+    pieces: (4, 4),
+    troubles: &[Trouble::Fails(Call::Read, 2)],
+    ..PLAIN
+};
 
-// A read for each byte, and one that would meet the end.
+const ENDS: &[Session] = &[
+    Session {
+        shows: "an empty input has no rest",
+        input: &[],
+        channel: PLAIN,
+        end: Ok(Ended {
+            replies: 0,
+            rest: 0,
+        }),
+        output: &[],
+        counts: &[],
+    },
+    Session {
+        shows: "three bytes are a rest",
+        input: &[Part::Bytes(b"\0\0\x01")],
+        channel: PLAIN,
+        end: Ok(Ended {
+            replies: 0,
+            rest: 3,
+        }),
+        output: &[],
+        counts: &[],
+    },
+    Session {
+        shows: "a long frame that isn't whole is a rest",
+        input: &[Part::Bytes(b"\0\0\x01\0\0\0\x01\0")],
+        channel: PLAIN,
+        end: Ok(Ended {
+            replies: 0,
+            rest: 8,
+        }),
+        output: &[],
+        counts: &[],
+    },
+    Session {
+        shows: "a frame before the rest is answered",
+        input: &[Part::Bytes(b"\0\0\0\x02\x07\x01\0\0")],
+        channel: PLAIN,
+        end: Ok(Ended {
+            replies: 1,
+            rest: 2,
+        }),
+        output: &[Part::Bytes(UNKNOWN_CODE)],
+        counts: &[],
+    },
+    // Several frames in the first read, the end in the third.
+    Session {
+        shows: "the last read may meet the end",
+        input: &[Part::Bytes(&REQUESTS)],
+        channel: Channel {
+            pieces: (21, 11),
+            reads: 3,
+            ..PLAIN
+        },
+        end: Ok(Ended {
+            replies: 3,
+            rest: 0,
+        }),
+        output: &[Part::Bytes(&REPLIES)],
+        counts: &[Count::Status(0)],
+    },
+    Session {
+        shows: "a session goes on behind an error",
+        input: &[Part::Bytes(UNKNOWN), Part::Bytes(PING)],
+        channel: Channel {
+            pieces: (7, 7),
+            reads: 10,
+            ..PLAIN
+        },
+        end: Ok(Ended {
+            replies: 2,
+            rest: 0,
+        }),
+        output: &[Part::Bytes(UNKNOWN_CODE), Part::Bytes(PONG)],
+        counts: &[],
+    },
+    // A put without key, one without content, an empty bucket, an unknown code, and a get. Each is answered by its error,
+    // and the session goes on.
+    Session {
+        shows: "what is missing is answered",
+        input: &[
+            Part::Bytes(b"\0\0\0\x09\x0b\x0a\x01b\x22\x03\x0a\x01v"),
+            Part::Bytes(b"\0\0\0\x09\x0b\x0a\x01b\x12\x01k\x22\0"),
+            Part::Bytes(b"\0\0\0\x06\x09\x0a\0\x12\x01k"),
+            Part::Bytes(UNKNOWN),
+            Part::Bytes(GET),
+        ],
+        channel: Channel {
+            pieces: (16, 16),
+            reads: 10,
+            ..PLAIN
+        },
+        end: Ok(Ended {
+            replies: 5,
+            rest: 0,
+        }),
+        output: &[
+            Part::Bytes(b"\0\0\0\x11\0\x0a\x0ckey required\x10\x01"),
+            Part::Bytes(b"\0\0\0\x12\0\x0a\x0dmissing field\x10\x01"),
+            Part::Bytes(b"\0\0\0\x0f\0\x0a\x0aempty name\x10\x01"),
+            Part::Bytes(UNKNOWN_CODE),
+            Part::Bytes(ABSENT),
+        ],
+        counts: &[],
+    },
+    // A rest behind the last frame is no fault; a bad length is one, and so is a read that fails.
+    Session {
+        shows: "the status of an empty input is 0",
+        input: &[],
+        channel: THIRD_READ_FAILS,
+        end: Ok(Ended {
+            replies: 0,
+            rest: 0,
+        }),
+        output: &[],
+        counts: &[Count::Status(0)],
+    },
+    Session {
+        shows: "the status of a rest is 0",
+        input: &[Part::Bytes(b"\0\0\x01")],
+        channel: THIRD_READ_FAILS,
+        end: Ok(Ended {
+            replies: 0,
+            rest: 3,
+        }),
+        output: &[],
+        counts: &[Count::Status(0)],
+    },
+    Session {
+        shows: "the status of a bad length is 1",
+        input: &[Part::Bytes(b"\0\0\0\0")],
+        channel: THIRD_READ_FAILS,
+        end: Err(SessionFault::BadFrame(0)),
+        output: &[Part::Bytes(BAD_FRAME)],
+        counts: &[Count::Status(1)],
+    },
+    Session {
+        shows: "the status of a read that fails is 1",
+        input: &[Part::Bytes(PING), Part::Bytes(b"\0\0\0")],
+        channel: THIRD_READ_FAILS,
+        end: Err(SessionFault::ReadFailed(1)),
+        output: &[Part::Bytes(PONG)],
+        counts: &[Count::Status(1)],
+    },
+];
+
 #[test]
-fn reads_are_bounded(rt: HostRuntime) -> Result<(), Fail> {
-    for reads in 0..33u64 {
-        let well = stops_after(rt.alloc(), reads);
-        assert!(rt; well, "at {reads} reads");
+fn sessions_end_as_their_input_does(rt: HostRuntime) {
+    for row in ENDS {
+        assert!(rt; goes(rt.alloc(), row), "{}", row.shows);
     }
-    Ok(())
-}
-
-// Several frames in the first read, the end in the third.
-#[test]
-fn the_last_read_may_meet_the_end(rt: HostRuntime) -> Result<(), Fail> {
-    let mut source = Source::cut(&REQUESTS, 21, 11);
-    let mut sink = Sink::new(rt.alloc(), 64);
-    let outcome = serve_new(rt.alloc(), &mut source, &mut sink, 3);
-    assert!(rt; outcome == ended(3, 0));
-    Ok(())
-}
-
-/// An input ends after so many whole frames and so many bytes behind them, and this is written.
-fn leaves(alloc: Global, input: &[u8], replies: u64, rest: usize, output: &[u8]) -> bool {
-    let mut source = Source::new(input, 8);
-    let mut sink = Sink::new(alloc, 64);
-    let outcome = serve_new(alloc, &mut source, &mut sink, 100);
-    outcome == ended(replies, rest) && sink.bytes.as_slice() == output
-}
-
-#[test]
-fn an_unread_rest_is_counted(rt: HostRuntime) -> Result<(), Fail> {
-    let alloc = rt.alloc();
-    assert!(rt; leaves(alloc, &[], 0, 0, &[]));
-    assert!(rt; leaves(alloc, &[0, 0, 1], 0, 3, &[]));
-    assert!(rt; leaves(alloc, &[0, 0, 1, 0, 0, 0, 1, 0], 0, 8, &[]));
-    // A frame before it is answered.
-    let unknown = b"\0\0\0\x19\0\x0a\x14unknown message code\x10\x01";
-    assert!(rt; leaves(alloc, &[0, 0, 0, 2, 7, 1, 0, 0], 1, 2, unknown));
-    Ok(())
 }

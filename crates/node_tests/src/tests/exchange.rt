@@ -1,110 +1,203 @@
-//! One key from its first get to its delete, on a node of one vnode and on rings.
+//! Requests to one node, each in a session of its own, and keys over their lives.
 
-ghost use Rattle.std.specs.Prelude.{◌≤◌};
-
-use crate::tests::sessions::{ABSENT, GET, PUT_V, PUT_W, STORED, asked, new_node};
+use crate::tests::frames::{
+    ABSENT, DELETE, DELETED, GET, MATCH_FOUND, MODIFIED, NOT_FOUND, PUT_E_IF_V, PUT_Q_IF_V, PUT_V,
+    PUT_W, PUT_X_OVER_V, SHOWN_V, SHOWN_W_V, SHOWN_X_W, STORED,
+};
+use crate::tests::sessions::{Outcome, comes_to, ended};
+use crate::tests::streams::Channel;
 use node_session::PlainNode;
 use ring_map::Ring;
 use std::alloc::Global;
 use std::process::Abort;
-use std::test::Fail;
 
-/// A put of "x" that has seen the first dot of the first life in this run's first vnode.
-const PUT_X_OVER_V: &[u8] =
-    b"\0\0\0\x1f\x0b\x0a\x01b\x12\x01k\x1a\x11\x01\0\0\0\0\0\x01\0\0\0\0\0\x01\0\0\0\x01\x22\x03\x0a\x01x";
-
-/// "v" with its context.
-pub const SHOWN_V: &[u8] =
-    b"\0\0\0\x19\x0a\x0a\x03\x0a\x01v\x12\x11\x01\0\0\0\0\0\x01\0\0\0\0\0\x01\0\0\0\x01";
-
-/// "w" and "v" with their context.
-const SHOWN_W_V: &[u8] =
-    b"\0\0\0\x1e\x0a\x0a\x03\x0a\x01w\x0a\x03\x0a\x01v\x12\x11\x01\0\0\0\0\0\x01\0\0\0\0\0\x01\0\0\0\x02";
-
-/// "x" and "w" with their context.
-const SHOWN_X_W: &[u8] =
-    b"\0\0\0\x1e\x0a\x0a\x03\x0a\x01x\x0a\x03\x0a\x01w\x12\x11\x01\0\0\0\0\0\x01\0\0\0\0\0\x01\0\0\0\x03";
-
-/// A delete of b/k without context.
-pub const DELETE: &[u8] = b"\0\0\0\x07\x0d\x0a\x01b\x12\x01k";
-
-/// Its reply.
-pub const DELETED: &[u8] = b"\0\0\0\x01\x0e";
-
-/// The key is absent; "v" is put, "w" beside it, and "x" over "v" alone.
-fn puts(rt: &impl Abort, alloc: Global, node: &mut PlainNode) {
-    asked(rt, alloc, node, &GET, &ABSENT);
-    asked(rt, alloc, node, PUT_V, STORED);
-    asked(rt, alloc, node, &GET, SHOWN_V);
-    asked(rt, alloc, node, PUT_W, STORED);
-    asked(rt, alloc, node, &GET, SHOWN_W_V);
-    asked(rt, alloc, node, PUT_X_OVER_V, STORED);
-    asked(rt, alloc, node, &GET, SHOWN_X_W);
+/// The node that is asked.
+pub enum Home {
+    /// Of run 1, and one vnode.
+    Plain,
+    /// The same, whose sweeps forget so many keys.
+    Sweeping(u32),
+    /// On a ring of so many partitions, and of this run.
+    OnRing(u16, u32),
 }
 
-/// A put that wants no value is refused; then the key is deleted, and its context is shown to who asks for it.
-fn delete(rt: &impl Abort, alloc: Global, node: &mut PlainNode) {
-    let put_if_none = b"\0\0\0\x0e\x0b\x0a\x01b\x12\x01k\x22\x03\x0a\x01zP\x01";
-    asked(
-        rt,
-        alloc,
-        node,
-        put_if_none,
-        b"\0\0\0\x10\0\x0a\x0bmatch_found\x10\x01",
-    );
-    asked(rt, alloc, node, DELETE, DELETED);
-    let get_deleted = b"\0\0\0\x09\x09\x0a\x01b\x12\x01kH\x01";
-    let context = b"\0\0\0\x14\x0a\x12\x11\x01\0\0\0\0\0\x01\0\0\0\0\0\x01\0\0\0\x04";
-    asked(rt, alloc, node, get_deleted, context);
-    asked(rt, alloc, node, &GET, &ABSENT);
+/// A request and its reply.
+pub enum Turn {
+    Asks(&'static [u8], &'static [u8]),
+    /// The same request gets the same reply so many times.
+    Repeats(u8, &'static [u8], &'static [u8]),
+}
+
+pub use Home::{OnRing, Plain, Sweeping};
+pub use Turn::{Asks, Repeats};
+
+/// What a node is asked, and how it answers.
+pub struct Exchange {
+    pub shows: &'static str,
+    pub home: Home,
+    pub turns: &'static [Turn],
+}
+
+/// A put of "b" on b/k.
+const PUT_B: &[u8] = b"\0\0\0\x0c\x0b\x0a\x01b\x12\x01k\x22\x03\x0a\x01b";
+
+/// The key is absent; "v" is put, "w" beside it, and "x" over "v" alone. A put that wants no value is refused; then the
+/// key is deleted, and its context is shown to who asks for it.
+const LIFE: &[Turn] = &[
+    Asks(GET, ABSENT),
+    Asks(PUT_V, STORED),
+    Asks(GET, SHOWN_V),
+    Asks(PUT_W, STORED),
+    Asks(GET, SHOWN_W_V),
+    Asks(PUT_X_OVER_V, STORED),
+    Asks(GET, SHOWN_X_W),
+    Asks(
+        b"\0\0\0\x0e\x0b\x0a\x01b\x12\x01k\x22\x03\x0a\x01zP\x01",
+        MATCH_FOUND,
+    ),
+    Asks(DELETE, DELETED),
+    Asks(
+        b"\0\0\0\x09\x09\x0a\x01b\x12\x01kH\x01",
+        b"\0\0\0\x14\x0a\x12\x11\x01\0\0\0\0\0\x01\0\0\0\0\0\x01\0\0\0\x04",
+    ),
+    Asks(GET, ABSENT),
+];
+
+/// "b" with the context of the first dot of the first life.
+const SHOWN_FIRST: &[u8] =
+    b"\0\0\0\x19\x0a\x0a\x03\x0a\x01b\x12\x11\x01\0\0\0\0\0\x01\0\0\0\0\0\x01\0\0\0\x01";
+
+/// The same of the second life.
+const SHOWN_SECOND: &[u8] =
+    b"\0\0\0\x19\x0a\x0a\x03\x0a\x01b\x12\x11\x01\0\0\0\0\0\x01\0\0\0\0\0\x02\0\0\0\x01";
+
+const LIVES: &[Exchange] = &[
+    Exchange {
+        shows: "one key over its life",
+        home: Plain,
+        turns: LIFE,
+    },
+    Exchange {
+        shows: "a ring of one partition is one vnode",
+        home: OnRing(1, 1),
+        turns: LIFE,
+    },
+    // By Python's `hashlib` the digest of b/k begins with 56 and that of b/j with a6, so of 16 partitions they lie in 5
+    // and in 10. The vnode ids of run 2 are 131072 and on, and the first life in each has epoch 1.
+    Exchange {
+        shows: "a key lies in the vnode of its partition",
+        home: OnRing(16, 2),
+        turns: &[
+            Asks(PUT_V, STORED),
+            Asks(b"\0\0\0\x0c\x0b\x0a\x01b\x12\x01j\x22\x03\x0a\x01w", STORED),
+            Asks(
+                GET,
+                b"\0\0\0\x19\x0a\x0a\x03\x0a\x01v\x12\x11\x01\0\0\0\0\0\x02\0\x05\0\0\0\x01\0\0\0\x01",
+            ),
+            Asks(
+                b"\0\0\0\x07\x09\x0a\x01b\x12\x01j",
+                b"\0\0\0\x19\x0a\x0a\x03\x0a\x01w\x12\x11\x01\0\0\0\0\0\x02\0\x0a\0\0\0\x01\0\0\0\x01",
+            ),
+        ],
+    },
+    // The key is forgotten once its delete is answered, and a second life begins, with the next epoch. The first life's
+    // context covers nothing: both values stand.
+    Exchange {
+        shows: "a new life has a new actor",
+        home: Sweeping(1),
+        turns: &[
+            Asks(PUT_B, STORED),
+            Asks(GET, SHOWN_FIRST),
+            Asks(DELETE, DELETED),
+            Asks(PUT_B, STORED),
+            Asks(GET, SHOWN_SECOND),
+            Asks(
+                b"\0\0\0\x1f\x0b\x0a\x01b\x12\x01k\x1a\x11\x01\0\0\0\0\0\x01\0\0\0\0\0\x01\0\0\0\x01\x22\x03\x0a\x01d",
+                STORED,
+            ),
+            Asks(
+                GET,
+                b"\0\0\0\x2e\x0a\x0a\x03\x0a\x01d\x0a\x03\x0a\x01b\x12\x21\x01\0\0\0\0\0\x01\0\0\0\0\0\x01\0\0\0\x01\0\0\0\0\0\x01\0\0\0\0\0\x02\0\0\0\x02",
+            ),
+        ],
+    },
+    // A put that wants the key as the first life's context shows it is refused, and so is one of an absent key.
+    Exchange {
+        shows: "a context of an earlier life is modified",
+        home: Sweeping(1),
+        turns: &[
+            Asks(PUT_B, STORED),
+            Asks(GET, SHOWN_FIRST),
+            Asks(DELETE, DELETED),
+            Asks(PUT_B, STORED),
+            Asks(GET, SHOWN_SECOND),
+            Asks(PUT_E_IF_V, MODIFIED),
+            Asks(PUT_Q_IF_V, NOT_FOUND),
+        ],
+    },
+];
+
+/// A new node.
+fn node_of(alloc: Global, home: &Home) -> Option<PlainNode> {
+    match *home {
+        Plain => PlainNode::new(alloc, 1).ok(),
+        Sweeping(budget) => Some(PlainNode::new(alloc, 1).ok()?.with_budget(budget)),
+        OnRing(size, run) => PlainNode::on_ring(alloc, Ring::new(size)?, run.max(1)).ok(),
+    }
+}
+
+/// One request gets this reply.
+pub fn answers(alloc: Global, node: &mut PlainNode, request: &[u8], reply: &[u8]) -> bool {
+    let channel = Channel {
+        pieces: (4096, 4096),
+        most: 5000,
+        reads: 1000,
+        troubles: &[],
+    };
+    let outcome = Outcome {
+        end: ended(1, 0),
+        output: reply,
+        counts: &[],
+    };
+    comes_to(alloc, node, request, &channel, &outcome)
+}
+
+fn takes(alloc: Global, node: &mut PlainNode, turn: &Turn) -> bool {
+    match turn {
+        Asks(request, reply) => answers(alloc, node, request, reply),
+        Repeats(times, request, reply) => {
+            for _ in 0..*times {
+                if !answers(alloc, node, request, reply) {
+                    return false;
+                }
+            }
+            true
+        }
+    }
+}
+
+/// The number of the first turn that goes otherwise.
+fn fails_at(alloc: Global, node: &mut PlainNode, turns: &[Turn]) -> Option<usize> {
+    for (number, turn) in turns.iter().enumerate() {
+        if !takes(alloc, node, turn) {
+            return Some(number);
+        }
+    }
+    None
+}
+
+/// Asks a new node, and compares each reply.
+pub fn run_exchange(rt: &impl Abort, alloc: Global, row: &Exchange) {
+    let failed = match node_of(alloc, &row.home) {
+        Some(mut node) => fails_at(alloc, &mut node, row.turns),
+        None => Some(usize::MAX),
+    };
+    assert_eq!(rt; failed, None, "{}", row.shows);
 }
 
 #[test]
-fn one_key_over_its_life(rt: HostRuntime) -> Result<(), Fail> {
-    let mut node = new_node(rt.alloc())?;
-    puts(&rt, rt.alloc(), &mut node);
-    delete(&rt, rt.alloc(), &mut node);
-    Ok(())
-}
-
-/// A node of a run on a ring of so many partitions.
-fn node_on_ring(alloc: Global, size: u16, run: u32) -> Result<PlainNode, Fail>
-    requires { 1 ≤ run }
-{
-    let ring = Ring::new(size).ok_or("a ring has this size")?;
-    Ok(
-        PlainNode::on_ring(alloc, ring, run)
-            .ok()
-            .ok_or("there is memory")?,
-    )
-}
-
-#[test]
-fn a_ring_of_one_partition_is_one_vnode(rt: HostRuntime) -> Result<(), Fail> {
-    let mut node = node_on_ring(rt.alloc(), 1, 1)?;
-    puts(&rt, rt.alloc(), &mut node);
-    delete(&rt, rt.alloc(), &mut node);
-    Ok(())
-}
-
-/// By Python's `hashlib` the digest of b/k begins with 56 and that of b/j with a6, so of 16 partitions they lie in 5 and
-/// in 10. The vnode ids of run 2 are 131072 and on, and the first life in each has epoch 1.
-fn two_partitions(rt: &impl Abort, alloc: Global, node: &mut PlainNode) {
-    asked(rt, alloc, node, PUT_V, STORED);
-    let put_j = b"\0\0\0\x0c\x0b\x0a\x01b\x12\x01j\x22\x03\x0a\x01w";
-    asked(rt, alloc, node, put_j, STORED);
-    let shown_k =
-        b"\0\0\0\x19\x0a\x0a\x03\x0a\x01v\x12\x11\x01\0\0\0\0\0\x02\0\x05\0\0\0\x01\0\0\0\x01";
-    asked(rt, alloc, node, &GET, shown_k);
-    let get_j = b"\0\0\0\x07\x09\x0a\x01b\x12\x01j";
-    let shown_j =
-        b"\0\0\0\x19\x0a\x0a\x03\x0a\x01w\x12\x11\x01\0\0\0\0\0\x02\0\x0a\0\0\0\x01\0\0\0\x01";
-    asked(rt, alloc, node, get_j, shown_j);
-}
-
-#[test]
-fn a_key_lies_in_the_vnode_of_its_partition(rt: HostRuntime) -> Result<(), Fail> {
-    let mut node = node_on_ring(rt.alloc(), 16, 2)?;
-    two_partitions(&rt, rt.alloc(), &mut node);
-    Ok(())
+fn keys_live_as_they_are_asked(rt: HostRuntime) {
+    for row in LIVES {
+        run_exchange(&rt, rt.alloc(), row);
+    }
 }

@@ -1,58 +1,105 @@
 //! Reads, writes and flushes that are interrupted.
 
-ghost use Rattle.std.specs.Prelude.{◌≤◌, ◌^◌};
-
-use crate::tests::sessions::{REPLIES, REQUESTS, ended, serve_new};
-use crate::tests::streams::{NO_TROUBLE, Sink, Source, Trouble};
+use crate::tests::frames::{REPLIES, REQUESTS};
+use crate::tests::sessions::{Count, Part, Session, goes};
+use crate::tests::streams::{Call, Channel, PLAIN, Trouble};
 use node_session::{Ended, SessionFault};
-use std::alloc::Global;
-use std::test::Fail;
 
-/// All is answered, and these are the outcome and the reads that were made.
-fn are_answered(
-    alloc: Global,
-    trouble: Trouble,
-    write_trouble: Trouble,
-    reads: u64,
-    want: Result<Ended, SessionFault>,
-) -> bool
-    requires { reads ≤ 2 ^ 32 }
-{
-    let mut source = Source::new(&REQUESTS, 8);
-    source.trouble = trouble;
-    let mut sink = Sink::new(alloc, 3);
-    sink.trouble = write_trouble;
-    sink.flush_trouble = write_trouble;
-    let outcome = serve_new(alloc, &mut source, &mut sink, reads);
-    let is_written = sink.bytes.as_slice() == REPLIES.as_slice();
-    outcome == want && is_written && source.reads == reads
-}
+/// Every second read is interrupted. Five of ten reads are, and each is one of the reads.
+const SECOND_READS: Trouble = Trouble::Interrupts(Call::Read, 2);
 
-// Five reads are interrupted, and each is one of the reads.
+const SECOND_WRITES: Trouble = Trouble::Interrupts(Call::Write, 2);
+
+const SECOND_FLUSHES: Trouble = Trouble::Interrupts(Call::Flush, 2);
+
+/// The first thousand reads are interrupted. Then four reads give the requests, and a fifth meets the end.
+const THOUSAND_READS: Trouble = Trouble::Begins(Call::Read, 1000);
+
+const THOUSAND_WRITES: Trouble = Trouble::Begins(Call::Write, 1000);
+
+const THOUSAND_FLUSHES: Trouble = Trouble::Begins(Call::Flush, 1000);
+
+/// What is interrupted is tried again: all is answered.
+const INTERRUPTIONS: &[Session] = &[
+    Session {
+        shows: "every second read, write and flush is tried again",
+        input: &[Part::Bytes(&REQUESTS)],
+        channel: Channel {
+            most: 3,
+            reads: 10,
+            troubles: &[SECOND_READS, SECOND_WRITES, SECOND_FLUSHES],
+            ..PLAIN
+        },
+        end: Ok(Ended {
+            replies: 3,
+            rest: 0,
+        }),
+        output: &[Part::Bytes(&REPLIES)],
+        counts: &[Count::Reads(10)],
+    },
+    Session {
+        shows: "an interrupted read is one of the reads",
+        input: &[Part::Bytes(&REQUESTS)],
+        channel: Channel {
+            most: 3,
+            reads: 9,
+            troubles: &[SECOND_READS],
+            ..PLAIN
+        },
+        end: Err(SessionFault::TooManyReads(3)),
+        output: &[Part::Bytes(&REPLIES)],
+        counts: &[Count::Reads(9)],
+    },
+    Session {
+        shows: "a thousand writes and flushes in a row are tried again",
+        input: &[Part::Bytes(&REQUESTS)],
+        channel: Channel {
+            most: 3,
+            reads: 5,
+            troubles: &[THOUSAND_WRITES, THOUSAND_FLUSHES],
+            ..PLAIN
+        },
+        end: Ok(Ended {
+            replies: 3,
+            rest: 0,
+        }),
+        output: &[Part::Bytes(&REPLIES)],
+        counts: &[Count::Reads(5)],
+    },
+    Session {
+        shows: "a thousand reads in a row are tried again",
+        input: &[Part::Bytes(&REQUESTS)],
+        channel: Channel {
+            most: 3,
+            reads: 1005,
+            troubles: &[THOUSAND_READS],
+            ..PLAIN
+        },
+        end: Ok(Ended {
+            replies: 3,
+            rest: 0,
+        }),
+        output: &[Part::Bytes(&REPLIES)],
+        counts: &[Count::Reads(1005)],
+    },
+    Session {
+        shows: "a thousand interrupted reads are among the reads",
+        input: &[Part::Bytes(&REQUESTS)],
+        channel: Channel {
+            most: 3,
+            reads: 1004,
+            troubles: &[THOUSAND_READS],
+            ..PLAIN
+        },
+        end: Err(SessionFault::TooManyReads(3)),
+        output: &[Part::Bytes(&REPLIES)],
+        counts: &[Count::Reads(1004)],
+    },
+];
+
 #[test]
-fn what_is_interrupted_is_tried_again(rt: HostRuntime) -> Result<(), Fail> {
-    let trouble = Trouble {
-        fails_at: u64::MAX,
-        interrupts: 2,
-        begins_at: 0,
-    };
-    assert!(rt; are_answered(rt.alloc(), trouble, trouble, 10, ended(3, 0)));
-    let too_many = Err(SessionFault::TooManyReads(3));
-    assert!(rt; are_answered(rt.alloc(), trouble, NO_TROUBLE, 9, too_many));
-    Ok(())
-}
-
-// Four reads give the requests, and a fifth meets the end.
-#[test]
-fn a_thousand_interruptions_in_a_row(rt: HostRuntime) -> Result<(), Fail> {
-    let trouble = Trouble {
-        fails_at: u64::MAX,
-        interrupts: 0,
-        begins_at: 1000,
-    };
-    assert!(rt; are_answered(rt.alloc(), NO_TROUBLE, trouble, 5, ended(3, 0)));
-    assert!(rt; are_answered(rt.alloc(), trouble, trouble, 1005, ended(3, 0)));
-    let too_many = Err(SessionFault::TooManyReads(3));
-    assert!(rt; are_answered(rt.alloc(), trouble, NO_TROUBLE, 1004, too_many));
-    Ok(())
+fn what_is_interrupted_is_tried_again(rt: HostRuntime) {
+    for row in INTERRUPTIONS {
+        assert!(rt; goes(rt.alloc(), row), "{}", row.shows);
+    }
 }

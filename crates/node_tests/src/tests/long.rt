@@ -1,84 +1,81 @@
-//! Sessions of thousands of reads and writes.
+//! Sessions of thousands of reads and writes, and of the longest frame.
 
-ghost use Rattle.std.specs.Prelude.{◌≤◌, ◌^◌};
+use crate::tests::frames::{GET, PING, PONG, STORED};
+use crate::tests::sessions::{Count, Part, Session, goes};
+use crate::tests::streams::{Call, Channel, PLAIN, Trouble};
+use node_session::{Ended, SessionFault};
 
-use crate::tests::sessions::{ended, serve_new};
-use crate::tests::streams::{Sink, Source, Trouble};
-use node_session::SessionFault;
-use std::alloc::{AllocError, Global};
-use std::test::Fail;
-
-/// So many frames of five bytes, each of the same code without a body.
-fn frames(alloc: Global, code: u8, count: u16) -> Result<Vec<u8>, AllocError> {
-    let mut bytes = Vec::new(alloc);
-    for _ in 0..count {
-        bytes.extend_from_slice(&[0, 0, 0, 1, code])?;
-    }
-    Ok(bytes)
-}
-
-/// Of pings that come by a byte at a time, a session answers those that come by its reads, and makes each of them.
-fn answers_by_reads(alloc: Global, pings: &[u8], replies: &[u8], reads: u64) -> bool
-    requires { reads ≤ 2 ^ 32 }
-{
-    let mut source = Source::new(pings, 1);
-    let mut sink = Sink::new(alloc, 64);
-    let outcome = serve_new(alloc, &mut source, &mut sink, reads);
-    let are_made = source.reads == reads
-        && source.left.len() == pings.len().saturating_sub(reads as usize);
-    let too_many = SessionFault::TooManyReads(reads / 5);
-    outcome == Err(too_many) && sink.bytes.as_slice() == replies && are_made
-}
-
-// 2,000 pings are 10,000 bytes. By 6,001 reads of one byte 1,200 of them come whole.
-#[test]
-fn thousands_of_reads_are_made(rt: HostRuntime) -> Result<(), Fail> {
-    let pings = frames(rt.alloc(), 1, 2000)?;
-    let replies = frames(rt.alloc(), 2, 1200)?;
-    assert!(rt; answers_by_reads(rt.alloc(), &pings, &replies, 6001));
-    Ok(())
-}
-
-/// A put of 6,000 bytes on b/k, and a get of it.
-fn put_and_get(alloc: Global) -> Result<Vec<u8>, AllocError> {
-    let mut bytes = Vec::new(alloc);
-    bytes.extend_from_slice(b"\0\0\x17\x7d\x0b\x0a\x01b\x12\x01k\x22\xf3\x2e\x0a\xf0\x2e")?;
-    for _ in 0..6000u16 {
-        bytes.push(7)?;
-    }
-    bytes.extend_from_slice(b"\0\0\0\x07\x09\x0a\x01b\x12\x01k")?;
-    Ok(bytes)
-}
-
-/// Their replies.
-fn stored_and_shown(alloc: Global) -> Result<Vec<u8>, AllocError> {
-    let mut bytes = Vec::new(alloc);
-    bytes.extend_from_slice(b"\0\0\0\x01\x0c\0\0\x17\x8a\x0a\x0a\xf3\x2e\x0a\xf0\x2e")?;
-    for _ in 0..6000u16 {
-        bytes.push(7)?;
-    }
-    bytes.extend_from_slice(b"\x12\x11\x01\0\0\0\0\0\x01\0\0\0\0\0\x01\0\0\0\x01")?;
-    Ok(bytes)
-}
-
-/// The replies go out by writes of one byte, each of which is interrupted once.
-fn go_out_byte_by_byte(alloc: Global, requests: &[u8], replies: &[u8]) -> bool {
-    let mut source = Source::new(requests, 4096);
-    let mut sink = Sink::new(alloc, 1);
-    sink.trouble = Trouble {
-        fails_at: u64::MAX,
-        interrupts: 2,
-        begins_at: 0,
-    };
-    let outcome = serve_new(alloc, &mut source, &mut sink, 100);
-    let writes = (replies.len() as u64).saturating_mul(2);
-    outcome == ended(2, 0) && sink.bytes.as_slice() == replies && sink.writes == writes
-}
+const LONG: &[Session] = &[
+    // 2,000 pings are 10,000 bytes. By 6,001 reads of one byte 1,200 of them come whole.
+    Session {
+        shows: "thousands of reads are made",
+        input: &[Part::Times(2000, PING)],
+        channel: Channel {
+            pieces: (1, 1),
+            reads: 6001,
+            ..PLAIN
+        },
+        end: Err(SessionFault::TooManyReads(1200)),
+        output: &[Part::Times(1200, PONG)],
+        counts: &[Count::Reads(6001), Count::Unread(3999)],
+    },
+    // A put of 6,000 bytes on b/k, and a get of it. The 6,035 bytes of the replies go out by writes of one byte, each of
+    // which is interrupted once.
+    Session {
+        shows: "a long reply goes out byte by byte",
+        input: &[
+            Part::Bytes(b"\0\0\x17\x7d\x0b\x0a\x01b\x12\x01k\x22\xf3\x2e\x0a\xf0\x2e"),
+            Part::Times(6000, b"\x07"),
+            Part::Bytes(GET),
+        ],
+        channel: Channel {
+            pieces: (4096, 4096),
+            most: 1,
+            troubles: &[Trouble::Interrupts(Call::Write, 2)],
+            ..PLAIN
+        },
+        end: Ok(Ended {
+            replies: 2,
+            rest: 0,
+        }),
+        output: &[
+            Part::Bytes(b"\0\0\0\x01\x0c\0\0\x17\x8a\x0a\x0a\xf3\x2e\x0a\xf0\x2e"),
+            Part::Times(6000, b"\x07"),
+            Part::Bytes(b"\x12\x11\x01\0\0\0\0\0\x01\0\0\0\0\0\x01\0\0\0\x01"),
+        ],
+        counts: &[Count::Writes(12_070)],
+    },
+    // A put of the longest frame that a request may have. The reply to a get of it is a frame of 13 bytes more.
+    Session {
+        shows: "the longest request is stored and shown",
+        input: &[
+            Part::Bytes(b"\0\x10\0\0\x0b\x0a\x01b\x12\x01k\x22\xf5\xff\x3f\x0a\xf1\xff\x3f"),
+            Part::Times(1_048_561, b"\x07"),
+            Part::Bytes(GET),
+        ],
+        channel: Channel {
+            pieces: (4096, 4096),
+            most: 5000,
+            reads: 1000,
+            ..PLAIN
+        },
+        end: Ok(Ended {
+            replies: 2,
+            rest: 0,
+        }),
+        output: &[
+            Part::Bytes(STORED),
+            Part::Bytes(b"\0\x10\0\x0d\x0a\x0a\xf5\xff\x3f\x0a\xf1\xff\x3f"),
+            Part::Times(1_048_561, b"\x07"),
+            Part::Bytes(b"\x12\x11\x01\0\0\0\0\0\x01\0\0\0\0\0\x01\0\0\0\x01"),
+        ],
+        counts: &[],
+    },
+];
 
 #[test]
-fn a_long_reply_goes_out_byte_by_byte(rt: HostRuntime) -> Result<(), Fail> {
-    let requests = put_and_get(rt.alloc())?;
-    let replies = stored_and_shown(rt.alloc())?;
-    assert!(rt; go_out_byte_by_byte(rt.alloc(), &requests, &replies));
-    Ok(())
+fn thousands_of_bytes_come_and_go(rt: HostRuntime) {
+    for row in LONG {
+        assert!(rt; goes(rt.alloc(), row), "{}", row.shows);
+    }
 }

@@ -2,141 +2,150 @@
 //!
 //! These tests are run with each allocation refused in turn: `rt try --test --fail-alloc N`, for N from 1 up.
 
-use crate::tests::exchange::DELETED;
-use crate::tests::sessions::{ABSENT, GET, REPLIES, REQUESTS, STORED, answers};
-use crate::tests::streams::{Sink, Source};
+use crate::tests::exchange::answers;
+use crate::tests::frames::{ABSENT, DELETED, GET, NO_MEMORY, PONG, REQUESTS, SHOWN_V, STORED};
+use crate::tests::streams::{Channel, PLAIN, Sink, Source};
 use node_session::{Ended, PlainNode, SessionFault, serve, write_fault};
 use std::alloc::Global;
+use std::cell::Cell;
 use std::test::Fail;
 
-const NO_MEMORY: &[u8] = b"\0\0\0\x0e\0\x0a\x09no memory\x10\x01";
+/// Requests whose session may meet a refusal of memory, which is answered or ends it.
+struct Refusal {
+    shows: &'static str,
+    budget: u32,
+    input: &'static [u8],
+    /// Of each request the replies that may be written.
+    replies: &'static [&'static [&'static [u8]]],
+    /// What a get shows after a session that wrote these of the first two replies. After fewer it may show anything.
+    shown: &'static [([usize; 2], &'static [u8])],
+}
 
-/// Takes one of the replies off the front, and returns which.
-fn taken<'a>(left: &mut &'a [u8], replies: &[&[u8]]) -> Option<usize> {
+const REFUSALS: &[Refusal] = &[
+    Refusal {
+        shows: "a put that was answered is stored, and one that was refused is not",
+        budget: 0,
+        input: &REQUESTS,
+        replies: &[&[PONG], &[STORED, NO_MEMORY], &[SHOWN_V, ABSENT, NO_MEMORY]],
+        shown: &[([0, 0], SHOWN_V), ([0, 1], ABSENT)],
+    },
+    // A put of "v" on b/k, and a delete of b/k without context.
+    Refusal {
+        shows: "a delete that was refused leaves the value, and one that was answered leaves none",
+        budget: 1,
+        input: b"\0\0\0\x0c\x0b\x0a\x01b\x12\x01k\x22\x03\x0a\x01v\0\0\0\x07\x0d\x0a\x01b\x12\x01k",
+        replies: &[&[STORED, NO_MEMORY], &[DELETED, NO_MEMORY]],
+        shown: &[
+            ([0, 0], ABSENT),
+            ([0, 1], SHOWN_V),
+            ([1, 0], ABSENT),
+            ([1, 1], ABSENT),
+        ],
+    },
+];
+
+/// Pieces of a hundred bytes, and writes of as many as there are.
+const WHOLE: Channel<'static> = Channel {
+    pieces: (100, 100),
+    most: 200,
+    ..PLAIN
+};
+
+/// Which of the replies the bytes begin with, and what stands behind it.
+fn first_of<'a>(bytes: &'a [u8], replies: &[&[u8]]) -> Option<(usize, &'a [u8])> {
     for (i, reply) in replies.iter().enumerate() {
-        if left.starts_with(reply) {
-            let (_, rest) = left.split_at(reply.len());
-            *left = rest;
-            return Some(i);
+        if bytes.starts_with(reply) {
+            let (_, rest) = bytes.split_at(reply.len());
+            return Some((i, rest));
         }
     }
     None
 }
 
-/// Which replies were written, of those that may be, and how many bytes stand behind them.
-fn replies_in(output: &[u8]) -> ([Option<usize>; 3], usize) {
+/// How many replies were written, and which the first two are; none where the output is another.
+fn replies_in(output: &[u8], replies: &[&[&[u8]]]) -> Option<(u64, [usize; 2])> {
     let mut left = output;
-    let ping = taken(&mut left, &[&REPLIES[..5]]);
-    let put = taken(&mut left, &[&REPLIES[5..10], NO_MEMORY]);
-    let get = taken(&mut left, &[&REPLIES[10..], &ABSENT, NO_MEMORY]);
-    ([ping, put, get], left.len())
+    let mut count = 0u64;
+    let mut which = [usize::MAX; 2];
+    for choices in replies {
+        if left.is_empty() {
+            break;
+        }
+        let (choice, rest) = first_of(left, choices)?;
+        if count == 0 {
+            which[0] = choice;
+        }
+        if count == 1 {
+            which[1] = choice;
+        }
+        left = rest;
+        count = count.saturating_add(1);
+    }
+    if left.is_empty() {
+        Some((count, which))
+    } else {
+        None
+    }
 }
 
 /// The outcome counts the replies, of which all that are due were written where the session ended.
-fn counts(outcome: Result<Ended, SessionFault>, replies: &[Option<usize>], due: u64) -> bool {
-    let whole = replies.iter().filter(|reply| reply.is_some()).count() as u64;
+fn counts(outcome: Result<Ended, SessionFault>, written: u64, due: usize) -> bool {
     match outcome {
-        Ok(Ended { replies, rest: 0 }) => replies == due && whole == due,
-        Err(SessionFault::NoMemory(replies)) => replies == whole,
+        Ok(Ended { replies, rest: 0 }) => replies == due as u64 && written == due as u64,
+        Err(SessionFault::NoMemory(replies)) => replies == written,
         _ => false,
     }
 }
 
-/// Serves the three requests. The put's reply, 0 where it was stored, or no reply where the session is not as it should be.
-fn put_reply(alloc: Global, node: &mut PlainNode, room: Vec<u8>) -> Option<Option<usize>> {
-    let mut source = Source::new(&REQUESTS, 32);
-    let mut sink = Sink::new(alloc, 64);
-    sink.bytes = room;
-    let outcome = serve(alloc, &mut source, &mut sink, node, 100);
-    let (replies, rest) = replies_in(sink.bytes.as_slice());
-    if rest == 0 && counts(outcome, &replies, 3) {
-        Some(replies[1])
-    } else {
-        None
-    }
-}
-
-/// A get has this reply, asked once more where memory was refused.
-fn shows(alloc: Global, node: &mut PlainNode, reply: &[u8]) -> bool {
-    answers(alloc, node, &GET, reply) || answers(alloc, node, &GET, reply)
-}
-
-/// A put that was answered is stored, and one that was refused is not.
-fn stands(alloc: Global, node: &mut PlainNode, reply: Option<usize>) -> bool {
-    match reply {
-        Some(0) => shows(alloc, node, &REPLIES[10..]),
-        Some(_) => shows(alloc, node, &ABSENT),
-        None => true,
-    }
-}
-
-#[test]
-fn a_refusal_of_memory_is_answered_or_ends(rt: HostRuntime) -> Result<(), Fail> {
-    let alloc = rt.alloc();
-    let (Ok(room), Ok(mut node)) = (Vec::with_capacity(alloc, 256), PlainNode::new(alloc, 1)) else {
-        return Ok(());
-    };
-    let reply = put_reply(alloc, &mut node, room);
-    let well = match reply {
-        Some(reply) => stands(alloc, &mut node, reply),
-        None => false,
-    };
-    assert!(rt; well);
-    Ok(())
-}
-
-/// A put of "v" on b/k, and a delete of b/k without context.
-const PUT_AND_DELETE: &[u8] =
-    b"\0\0\0\x0c\x0b\x0a\x01b\x12\x01k\x22\x03\x0a\x01v\0\0\0\x07\x0d\x0a\x01b\x12\x01k";
-
-/// Serves both. The put's reply and the delete's, 0 where it was made, or none where the session is not as it should be.
-fn delete_replies(
+/// Serves the requests. The first two replies, or none where the session is not as it should be.
+fn served(
     alloc: Global,
     node: &mut PlainNode,
     room: Vec<u8>,
-) -> Option<[Option<usize>; 2]> {
-    let mut source = Source::new(PUT_AND_DELETE, 100);
-    let mut sink = Sink::new(alloc, 64);
+    input: &[u8],
+    replies: &[&[&[u8]]],
+) -> Option<[usize; 2]> {
+    let flushed = Cell::new(0);
+    let mut source = Source::new(input, &WHOLE, &flushed);
+    let mut sink = Sink::new(alloc, &WHOLE, &flushed);
     sink.bytes = room;
     let outcome = serve(alloc, &mut source, &mut sink, node, 100);
-    let mut left = sink.bytes.as_slice();
-    let put = taken(&mut left, &[STORED, NO_MEMORY]);
-    let delete = taken(&mut left, &[DELETED, NO_MEMORY]);
-    let replies = [put, delete];
-    if left.is_empty() && counts(outcome, &replies, 2) {
-        Some(replies)
+    let (written, which) = replies_in(sink.bytes.as_slice(), replies)?;
+    if counts(outcome, written, replies.len()) {
+        Some(which)
     } else {
         None
     }
 }
 
-/// A delete that was refused leaves the value, and one that was answered leaves none.
-fn is_deleted_as_answered(
-    alloc: Global,
-    node: &mut PlainNode,
-    replies: [Option<usize>; 2],
-) -> bool {
-    match replies {
-        [Some(0), Some(1)] => shows(alloc, node, &REPLIES[10..]),
-        [Some(_), Some(_)] => shows(alloc, node, &ABSENT),
-        _ => true,
+/// A get has the reply that it must have behind these, asked once more where memory was refused.
+fn stands(alloc: Global, node: &mut PlainNode, row: &Refusal, which: [usize; 2]) -> bool {
+    for (replies, shown) in row.shown {
+        if *replies == which {
+            return answers(alloc, node, GET, shown) || answers(alloc, node, GET, shown);
+        }
+    }
+    which[1] == usize::MAX
+}
+
+/// Serves the requests, and then a get.
+fn is_answered_or_ends(alloc: Global, node: &mut PlainNode, room: Vec<u8>, row: &Refusal) -> bool {
+    match served(alloc, node, room, row.input, row.replies) {
+        Some(which) => stands(alloc, node, row, which),
+        None => false,
     }
 }
 
 #[test]
-fn a_refused_delete_leaves_the_value(rt: HostRuntime) -> Result<(), Fail> {
+fn a_refusal_of_memory_is_answered_or_ends(rt: HostRuntime) {
     let alloc = rt.alloc();
-    let (Ok(room), Ok(node)) = (Vec::with_capacity(alloc, 256), PlainNode::new(alloc, 1)) else {
-        return Ok(());
-    };
-    let mut node = node.with_budget(1);
-    let replies = delete_replies(alloc, &mut node, room);
-    let well = match replies {
-        Some(replies) => is_deleted_as_answered(alloc, &mut node, replies),
-        None => false,
-    };
-    assert!(rt; well);
-    Ok(())
+    for row in REFUSALS {
+        if let (Ok(room), Ok(node)) = (Vec::with_capacity(alloc, 256), PlainNode::new(alloc, 1)) {
+            let mut node = node.with_budget(row.budget);
+            let well = is_answered_or_ends(alloc, &mut node, room, row);
+            assert!(rt; well, "{}", row.shows);
+        }
+    }
 }
 
 /// A message of no code, a get of an empty bucket, a get that ends within its key, and a length of 0.
@@ -147,21 +156,26 @@ const BAD_REQUESTS: &[u8] =
 const ERRORS: &[u8] =
     b"\0\0\0\x19\0\x0a\x14unknown message code\x10\x01\0\0\0\x0f\0\x0a\x0aempty name\x10\x01\0\0\0\x10\0\x0a\x0bbad message\x10\x01\0\0\0\x0e\0\x0a\x09bad frame\x10\x01";
 
-/// Memory is refused for what was read, or not at all. The fault's line takes none either.
-fn take_no_memory(alloc: Global, node: &mut PlainNode, room: Vec<u8>) -> bool {
-    let mut source = Source::new(BAD_REQUESTS, 100);
-    let mut sink = Sink::new(alloc, 200);
-    sink.bytes = room;
-    let outcome = serve(alloc, &mut source, &mut sink, node, 100);
-    let line = match outcome {
-        Err(fault) => write_fault(&mut sink, fault).is_ok(),
-        Ok(_) => false,
-    };
+/// Memory was refused for what was read, or not at all. The fault's line takes none either.
+fn is_reported(sink: &mut Sink, fault: SessionFault) -> bool {
+    let is_written = write_fault(sink, fault).is_ok();
     let output = sink.bytes.as_slice();
-    match outcome {
-        Err(SessionFault::BadFrame(3)) => line && output.starts_with(ERRORS),
-        Err(SessionFault::NoMemory(0)) => line && output.starts_with(b"riak_node: no memory"),
+    match fault {
+        SessionFault::BadFrame(3) => is_written && output.starts_with(ERRORS),
+        SessionFault::NoMemory(0) => is_written && output.starts_with(b"riak_node: no memory"),
         _ => false,
+    }
+}
+
+/// Serves the requests, and writes the line of the fault that ends them.
+fn take_no_memory(alloc: Global, node: &mut PlainNode, room: Vec<u8>) -> bool {
+    let flushed = Cell::new(0);
+    let mut source = Source::new(BAD_REQUESTS, &WHOLE, &flushed);
+    let mut sink = Sink::new(alloc, &WHOLE, &flushed);
+    sink.bytes = room;
+    match serve(alloc, &mut source, &mut sink, node, 100) {
+        Err(fault) => is_reported(&mut sink, fault),
+        Ok(_) => false,
     }
 }
 

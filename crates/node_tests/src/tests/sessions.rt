@@ -1,51 +1,52 @@
-//! What tests serve: requests, their replies, and a node for them.
+//! What a session is given, and what comes of it.
 
-ghost use Rattle.std.specs.Prelude.{◌≤◌, ◌^◌};
+use crate::tests::streams::{Channel, Sink, Source};
+use node_session::{Ended, PlainNode, SessionFault, exit_status, serve};
+use std::alloc::{AllocError, Global};
+use std::cell::Cell;
 
-use crate::tests::streams::{Sink, Source};
-use node_session::{Ended, PlainNode, SessionFault, serve};
-use std::alloc::Global;
-use std::io::{Read, Write};
-use std::process::Abort;
-use std::test::Fail;
-
-/// A ping, a put of "v" on b/k, and a get of b/k.
-pub const REQUESTS: [u8; 32] = [
-    0, 0, 0, 1, 1, 0, 0, 0, 12, 11, 10, 1, 98, 18, 1, 107, 34, 3, 10, 1, 118, 0, 0, 0, 7, 9, 10, 1,
-    98, 18, 1, 107,
-];
-
-/// Their replies: a ping, an empty put reply, and "v" with its context.
-pub const REPLIES: [u8; 39] = [
-    0, 0, 0, 1, 2, 0, 0, 0, 1, 12, 0, 0, 0, 25, 10, 10, 3, 10, 1, 118, 18, 17, 1, 0, 0, 0, 0, 0, 1,
-    0, 0, 0, 0, 0, 1, 0, 0, 0, 1,
-];
-
-/// A get of b/k alone.
-pub const GET: [u8; 11] = [0, 0, 0, 7, 9, 10, 1, 98, 18, 1, 107];
-
-/// Its reply where the key is absent.
-pub const ABSENT: [u8; 5] = [0, 0, 0, 1, 10];
-
-pub const PUT_V: &[u8] = b"\0\0\0\x0c\x0b\x0a\x01b\x12\x01k\x22\x03\x0a\x01v";
-
-pub const PUT_W: &[u8] = b"\0\0\0\x0c\x0b\x0a\x01b\x12\x01k\x22\x03\x0a\x01w";
-
-pub const STORED: &[u8] = b"\0\0\0\x01\x0c";
-
-/// A new node of run 1.
-pub fn new_node(alloc: Global) -> Result<PlainNode, Fail> {
-    Ok(PlainNode::new(alloc, 1).ok().ok_or("there is memory")?)
+/// Bytes in a row.
+pub enum Part {
+    Bytes(&'static [u8]),
+    /// The same bytes so many times.
+    Times(u32, &'static [u8]),
 }
 
-/// How many of the replies are due for so many bytes of the requests, and how many bytes they are.
-pub fn due(given: u64) -> (u64, usize) {
-    match given {
-        0..=4 => (0, 0),
-        5..=20 => (1, 5),
-        21..=31 => (2, 10),
-        _ => (3, 39),
+/// The bytes of all parts.
+pub fn joined(alloc: Global, parts: &[Part]) -> Result<Vec<u8>, AllocError> {
+    let mut bytes = Vec::new(alloc);
+    for part in parts {
+        match part {
+            Part::Bytes(some) => bytes.extend_from_slice(some)?,
+            Part::Times(times, some) => {
+                for _ in 0..*times {
+                    bytes.extend_from_slice(some)?;
+                }
+            }
+        }
     }
+    Ok(bytes)
+}
+
+/// A count that a session is judged by besides its output.
+#[derive(Drop)]
+pub enum Count {
+    Reads(u64),
+    Writes(u64),
+    /// How many more flushes were made than reads.
+    FlushesOverReads(u64),
+    /// How many bytes are not read any more.
+    Unread(usize),
+    /// The program's status for the session's end.
+    Status(u8),
+}
+
+/// What comes of a session.
+#[derive(Drop)]
+pub struct Outcome<'o, 'c> {
+    pub end: Result<Ended, SessionFault>,
+    pub output: &'o [u8],
+    pub counts: &'c [Count],
 }
 
 /// A session that met the end of its input.
@@ -53,31 +54,73 @@ pub fn ended(replies: u64, rest: usize) -> Result<Ended, SessionFault> {
     Ok(Ended { replies, rest })
 }
 
-/// Serves a new node of run 1.
-pub fn serve_new<R: Read, W: Write>(
+/// A session on a new node.
+pub struct Session {
+    pub shows: &'static str,
+    pub input: &'static [Part],
+    pub channel: Channel<'static>,
+    pub end: Result<Ended, SessionFault>,
+    pub output: &'static [Part],
+    pub counts: &'static [Count],
+}
+
+/// Whether each count is as it should be.
+fn are_counted(
+    counts: &[Count],
+    source: &Source,
+    sink: &Sink,
+    end: Result<Ended, SessionFault>,
+) -> bool {
+    for count in counts {
+        let is_right = match *count {
+            Count::Reads(reads) => source.reads == reads,
+            Count::Writes(writes) => sink.writes == writes,
+            Count::FlushesOverReads(more) => sink.flushes == source.reads.saturating_add(more),
+            Count::Unread(bytes) => source.left.len() == bytes,
+            Count::Status(status) => exit_status(end) == status,
+        };
+        if !is_right {
+            return false;
+        }
+    }
+    true
+}
+
+/// Serves an input that comes and goes by a channel, and compares all that comes of it.
+pub fn comes_to(
     alloc: Global,
-    reader: &mut R,
-    writer: &mut W,
-    reads: u64,
-) -> Result<Ended, SessionFault>
-    requires { reads ≤ 2 ^ 32 }
-{
+    node: &mut PlainNode,
+    input: &[u8],
+    channel: &Channel,
+    outcome: &Outcome,
+) -> bool {
+    let flushed = Cell::new(0);
+    let mut source = Source::new(input, channel, &flushed);
+    let mut sink = Sink::new(alloc, channel, &flushed);
+    let reads = u64::from(channel.reads);
+    let end = serve(alloc, &mut source, &mut sink, node, reads);
+    end == outcome.end
+        && sink.bytes.as_slice() == outcome.output
+        && are_counted(outcome.counts, &source, &sink, end)
+}
+
+/// Serves a new node.
+pub fn comes_to_new(alloc: Global, input: &[u8], channel: &Channel, outcome: &Outcome) -> bool {
     match PlainNode::new(alloc, 1) {
-        Ok(mut node) => serve(alloc, reader, writer, &mut node, reads),
-        Err(_) => Err(SessionFault::NoMemory(u64::MAX)),
+        Ok(mut node) => comes_to(alloc, &mut node, input, channel, outcome),
+        Err(_) => false,
     }
 }
 
-/// One request gets this reply.
-pub fn answers(alloc: Global, node: &mut PlainNode, request: &[u8], reply: &[u8]) -> bool {
-    let mut source = Source::new(request, 4096);
-    let mut sink = Sink::new(alloc, 5000);
-    let outcome = serve(alloc, &mut source, &mut sink, node, 1000);
-    outcome == ended(1, 0) && sink.bytes.as_slice() == reply
-}
-
-/// Asks, and compares the one reply.
-pub fn asked(rt: &impl Abort, alloc: Global, node: &mut PlainNode, request: &[u8], reply: &[u8]) {
-    let well = answers(alloc, node, request, reply);
-    assert!(rt; well, "asked {request:?}");
+/// Whether a session on a new node goes as its row says.
+pub fn goes(alloc: Global, row: &Session) -> bool {
+    let (Ok(input), Ok(output)) = (joined(alloc, row.input), joined(alloc, row.output)) else {
+        return false;
+    };
+    let outcome = Outcome {
+        end: row.end,
+        output: &output,
+        counts: row.counts,
+    };
+    comes_to_new(alloc, &input, &row.channel, &outcome)
 }

@@ -1,5 +1,9 @@
 //! Two gets of one key are inside at once.
-use crate::workers::script::{Script, new_shared, play, reads};
+use crate::exchanges::{GET, NOTHING};
+use crate::workers::runs::{Run, play_anew};
+use crate::workers::script::Line;
+use node_session::Ended;
+use stats_book::Totals;
 use std::alloc::Global;
 use std::process::Abort;
 use std::sync::Wait;
@@ -7,7 +11,7 @@ use std::sync::atomic::{AtomicU64, Ordering};
 use std::test::*;
 use std::thread;
 use std::thread::Threads;
-use worker_pool::{Shared, Turnstile};
+use worker_pool::Turnstile;
 
 /// How many turns the first call waits at most.
 const TURNS: u32 = 10_000_000;
@@ -34,33 +38,45 @@ impl Turnstile for Holding<'_> {
     }
 }
 
-// A get of b/k.
-const GET: &[u8] = b"\0\0\0\x07\x09\x0a\x01b\x12\x01k";
+/// A get of b/k, where it is absent.
+const GET_ABSENT: Line = Line {
+    input: GET,
+    fails: false,
+    result: Ok(Ended {
+        replies: 1,
+        rest: 0,
+    }),
+    written: NOTHING,
+};
+
+const TWO_GETS: Run = Run {
+    shows: "two gets of one key are inside at once",
+    partitions: 1,
+    budget: 0,
+    lines: &[GET_ABSENT, GET_ABSENT],
+    fails: false,
+    totals: Ok(Totals {
+        gets: 2,
+        puts: 0,
+        deletes: 0,
+        refusals: 0,
+        reaps: 0,
+    }),
+};
 
 /// Whether the second get was answered while the first was inside.
-fn meet<X: Threads + Wait + Sync>(rt: &X, alloc: Global, shared: &Shared) -> bool {
+fn meet<X: Threads + Wait + Sync>(rt: &X, alloc: Global) -> bool {
     let writes = AtomicU64::new(0);
     let met = AtomicU64::new(0);
-    let script = Script {
-        alloc,
-        shared,
-        writes: &writes,
-        lines: &[reads(GET), reads(GET)],
-        fails: false,
-    };
     let turnstile = Holding {
         writes: &writes,
         met: &met,
     };
-    let is_well = play(rt, script, &turnstile).is_ok();
+    let is_well = play_anew(rt, alloc, &writes, &turnstile, &TWO_GETS);
     is_well && met.load(Ordering::SeqCst) == 1
 }
 
 #[test]
-fn two_readers_inside(rt: HostRuntime) -> Result<(), Fail> {
-    let shared = new_shared(rt.alloc(), 1, 0).ok_or("there is memory")?;
-    let is_well = meet(&rt, rt.alloc(), &shared);
-    drop(shared);
-    assert!(rt; is_well);
-    Ok(())
+fn two_readers_inside(rt: HostRuntime) {
+    assert!(rt; meet(&rt, rt.alloc()));
 }

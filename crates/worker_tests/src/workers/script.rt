@@ -2,26 +2,19 @@
 ghost use Rattle.std.specs.Prelude.{◌≡◌, ◌≤◌};
 
 use crate::workers::streams::{Input, Output};
-use ring_map::Ring;
+use node_session::{Ended, SessionFault};
 use std::alloc::Global;
 use std::sync::Wait;
 use std::sync::atomic::AtomicU64;
 use std::thread::Threads;
 use worker_pool::{Closed, Job, JobFault, Jobs, Passes, Pool, PoolFault, Shared, Turnstile};
 
-/// What a job reads, and whether its writer fails.
-#[derive(Clone, Copy)]
+/// What a job reads, whether its writer fails, and how it ends.
 pub struct Line {
     pub input: &'static [u8],
     pub fails: bool,
-}
-
-/// A job that reads this, and whose writer takes all.
-pub fn reads(input: &'static [u8]) -> Line {
-    Line {
-        input,
-        fails: false,
-    }
+    pub result: Result<Ended, SessionFault>,
+    pub written: &'static [u8],
 }
 
 /// Gives a job for each line, by new passes, and then none, or a fault.
@@ -66,11 +59,6 @@ impl<'a> Jobs for Script<'a> {
             passes,
         }))
     }
-}
-
-/// The gates of run 1 on a ring of so many partitions, of which each answer forgets so many dead keys.
-pub fn new_shared(alloc: Global, partitions: u16, budget: u32) -> Option<Shared> {
-    Shared::new(alloc, Ring::new(partitions)?, 1, budget, 100).ok()
 }
 
 /// A run of these jobs on two workers.

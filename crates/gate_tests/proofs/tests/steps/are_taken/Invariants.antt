@@ -1,0 +1,6 @@
+use Rattle.std.proofs.Common.{◌≡◌}
+use Rattle.gate_tests.proofs.tests.steps.are_taken.Given as goal
+
+-- the passes stay the gate's
+abbrev pub invariant-loop-step : goal.invariant-loop-step
+invariant-loop-step g l = (l.ann.gate ≡ l.gate) × (l.bob.gate ≡ l.gate)

@@ -1,0 +1,102 @@
+//! What the clients of a run do, step by step.
+use std::alloc::Global;
+use std::io::{Read, Write};
+use std::net::{Net, Shutdown, TcpStream};
+
+/// A step of the clients.
+pub enum Step {
+    /// A further client connects.
+    Connects,
+    /// One of those that are connected, counted from 0 on, does something.
+    Acts(usize, Action),
+    /// The client that connected last goes.
+    Leaves,
+}
+
+/// What a client does, or is to see.
+pub enum Action {
+    /// It sends these bytes.
+    Sends(&'static [u8]),
+    /// It gets these bytes next, and then so many others, up to 64 of each.
+    Gets(&'static [u8], usize),
+    /// It says that it sends no more.
+    Shuts,
+    /// It gets nothing more.
+    IsEnded,
+}
+
+/// Whether a client connects to a port of this machine.
+fn connects<N: Net<Stream = TcpStream>>(net: &N, port: u16, streams: &mut Vec<TcpStream>) -> bool {
+    match TcpStream::connect(net, ("127.0.0.1", port)) {
+        Ok(stream) => {
+            let is_set = stream.set_nodelay(true).is_ok();
+            streams.push(stream).is_ok() && is_set
+        }
+        Err(_) => false,
+    }
+}
+
+/// Whether so many bytes come next, up to 64. They are put into a buffer.
+fn fills(stream: &mut TcpStream, buffer: &mut [u8; 64], count: usize) -> bool {
+    match buffer.get_mut(..count) {
+        Some(place) => stream.read_exact(place).is_ok(),
+        None => false,
+    }
+}
+
+/// Whether these bytes come next, and then so many others.
+fn brings(stream: &mut TcpStream, beginning: &[u8], rest: usize) -> bool {
+    let mut first = [0u8; 64];
+    let mut second = [0u8; 64];
+    fills(stream, &mut first, beginning.len())
+        && first.get(..beginning.len()) == Some(beginning)
+        && fills(stream, &mut second, rest)
+}
+
+/// Whether nothing more comes.
+fn is_at_end(stream: &mut TcpStream) -> bool {
+    let mut buffer = [0u8; 1];
+    matches!(stream.read(&mut buffer), Ok(0))
+}
+
+/// Whether an action of a client goes as it should.
+fn act(stream: &mut TcpStream, action: &Action) -> bool {
+    match action {
+        Action::Sends(bytes) => stream.write_all(bytes).is_ok(),
+        Action::Gets(bytes, rest) => brings(stream, bytes, *rest),
+        Action::Shuts => stream.shutdown(Shutdown::Write).is_ok(),
+        Action::IsEnded => is_at_end(stream),
+    }
+}
+
+/// Whether a step goes as it should.
+fn take<N: Net<Stream = TcpStream>>(
+    net: &N,
+    port: u16,
+    streams: &mut Vec<TcpStream>,
+    step: &Step,
+) -> bool {
+    match step {
+        Step::Connects => connects(net, port, streams),
+        Step::Acts(client, action) => match streams.get_mut(*client) {
+            Some(stream) => act(stream, action),
+            None => false,
+        },
+        Step::Leaves => streams.pop().is_some(),
+    }
+}
+
+/// Whether all steps go as they should. Where one doesn't, those behind it are taken nevertheless, so that all clients come.
+pub fn take_all<N: Net<Stream = TcpStream>>(
+    net: &N,
+    alloc: Global,
+    port: u16,
+    steps: &[Step],
+) -> bool {
+    let mut streams = Vec::new(alloc);
+    let mut is_well = true;
+    for step in steps {
+        is_well = take(net, port, &mut streams, step) && is_well;
+    }
+    is_well
+}

@@ -1,0 +1,68 @@
+//! A listener on a system that has no descriptor or no memory for a further connection.
+use std::io;
+use std::net::{Net, OpenListener, SocketAddr, TcpListener, TcpStream};
+use std::sync::atomic::{AtomicU32, Ordering};
+
+/// Linux's ENOMEM.
+pub const NO_MEMORY: i32 = 12;
+
+/// Linux's ENFILE.
+pub const NO_SYSTEM_DESCRIPTOR: i32 = 23;
+
+/// Linux's EMFILE.
+pub const NO_PROCESS_DESCRIPTOR: i32 = 24;
+
+/// Linux's ENOBUFS.
+pub const NO_BUFFER: i32 = 105;
+
+/// Linux's ECONNABORTED.
+pub const ABORTED: i32 = 103;
+
+/// How many of the first accepts fail, and by which error of the system.
+#[derive(Clone, Copy)]
+pub struct Failures {
+    pub count: u32,
+    pub code: i32,
+}
+
+/// No accept fails.
+pub const NO_FAILURES: Failures = Failures { count: 0, code: 0 };
+
+/// A listener whose first accepts fail. It counts all of them.
+#[derive(Drop)]
+pub struct Failing<'a> {
+    pub listener: TcpListener,
+    pub failures: Failures,
+    pub accepts: &'a AtomicU32,
+}
+
+impl<'a> OpenListener for Failing<'a> {
+    type Stream = TcpStream;
+
+    fn accept(&self) -> io::Result<(TcpStream, SocketAddr)> {
+        let before = self.accepts.fetch_add(1, Ordering::SeqCst);
+        if before < self.failures.count {
+            return Err(io::Error::from_raw_os_error(self.failures.code));
+        }
+        self.listener.accept()
+    }
+
+    fn local_addr(&self) -> io::Result<SocketAddr> {
+        self.listener.local_addr()
+    }
+}
+
+/// A listener of this machine, if there is one.
+pub fn new_listener<N: Net<Listener = TcpListener, Stream = TcpStream>>(
+    net: &N,
+) -> Option<TcpListener> {
+    TcpListener::bind(net, "127.0.0.1:0").ok()
+}
+
+/// The port that a listener listens on.
+pub fn port_of(listener: &TcpListener) -> Option<u16> {
+    match listener.local_addr() {
+        Ok(address) => Some(address.port()),
+        Err(_) => None,
+    }
+}

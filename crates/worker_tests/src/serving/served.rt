@@ -1,0 +1,299 @@
+//! Runs that serve all their connections, and their clients beside them.
+use crate::serving::clients::{Action, Step, take_all};
+use crate::serving::listener::{
+    Failing, Failures, NO_BUFFER, NO_FAILURES, NO_MEMORY, NO_PROCESS_DESCRIPTOR,
+    NO_SYSTEM_DESCRIPTOR, new_listener, port_of,
+};
+use crate::serving::{Outcome, is_text, serve};
+use log::sink::Console;
+use log::{LevelFilter, Log, Logged};
+use node_commands::{ReplyHalf, RequestHalf, Served};
+use node_session::{Ended, SessionFault};
+use std::alloc::Global;
+use std::net::{Net, TcpListener, TcpStream};
+use std::process::Abort;
+use std::rt::Clock;
+use std::sync::Wait;
+use std::sync::atomic::AtomicU32;
+use std::test::*;
+use std::thread;
+use std::thread::Threads;
+use vnode_core::Tally;
+use worker_pool::End;
+
+/// A run, what its clients do, and what it comes to.
+struct Run {
+    shows: &'static str,
+    failures: Failures,
+    connections: u16,
+    workers: u16,
+    steps: &'static [Step],
+    /// How each connection ends, in the order in which they came; none where a client doesn't wait for its replies.
+    ends: &'static [Option<Result<Ended, SessionFault>>],
+    /// What the one vnode accepted.
+    tally: Tally,
+    /// The line of the totals; none where a client doesn't wait for its replies.
+    totals: Option<&'static str>,
+}
+
+/// A put of "v" on b/k, and a get of it.
+const PUT_V_GET: &[u8] =
+    b"\0\0\0\x0c\x0b\x0a\x01b\x12\x01k\x22\x03\x0a\x01v\0\0\0\x07\x09\x0a\x01b\x12\x01k";
+
+/// A put of "w" on b/j, and a get of it.
+const PUT_W_GET: &[u8] =
+    b"\0\0\0\x0c\x0b\x0a\x01b\x12\x01j\x22\x03\x0a\x01w\0\0\0\x07\x09\x0a\x01b\x12\x01j";
+
+/// Stored; "v" with the context of one dot of the vnode 65,536, but for its epoch and counter, which are eight bytes.
+const STORED_V: &[u8] =
+    b"\0\0\0\x01\x0c\0\0\0\x19\x0a\x0a\x03\x0a\x01v\x12\x11\x01\0\0\0\0\0\x01\0\0";
+
+/// The same of "w".
+const STORED_W: &[u8] =
+    b"\0\0\0\x01\x0c\0\0\0\x19\x0a\x0a\x03\x0a\x01w\x12\x11\x01\0\0\0\0\0\x01\0\0";
+
+/// Two clients that are connected at once: each puts a value of its own and gets it.
+const TWO_CLIENTS: &[Step] = &[
+    Step::Connects,
+    Step::Connects,
+    Step::Acts(1, Action::Sends(PUT_W_GET)),
+    Step::Acts(0, Action::Sends(PUT_V_GET)),
+    Step::Acts(0, Action::Gets(STORED_V, 8)),
+    Step::Acts(1, Action::Gets(STORED_W, 8)),
+    Step::Acts(0, Action::Shuts),
+    Step::Acts(0, Action::IsEnded),
+    Step::Acts(1, Action::Shuts),
+    Step::Acts(1, Action::IsEnded),
+];
+
+/// A client that sends half a length and ends.
+const HALF_A_LENGTH: &[Step] = &[
+    Step::Connects,
+    Step::Acts(0, Action::Sends(b"\0\0\x01")),
+    Step::Acts(0, Action::Shuts),
+    Step::Acts(0, Action::IsEnded),
+];
+
+/// A client whose second length is bad: it gets the reply to its first request, and an error. Then one that asks and goes
+/// without waiting for the reply, and one that waits for its own.
+const THREE_CLIENTS: &[Step] = &[
+    Step::Connects,
+    Step::Acts(0, Action::Sends(b"\0\0\0\x01\x01\0\0\0\0")),
+    Step::Acts(
+        0,
+        Action::Gets(b"\0\0\0\x01\x02\0\0\0\x0e\0\x0a\x09bad frame\x10\x01", 0),
+    ),
+    Step::Acts(0, Action::IsEnded),
+    Step::Leaves,
+    Step::Connects,
+    Step::Acts(0, Action::Sends(PUT_W_GET)),
+    Step::Leaves,
+    Step::Connects,
+    Step::Acts(0, Action::Sends(PUT_V_GET)),
+    Step::Acts(0, Action::Gets(STORED_V, 8)),
+    Step::Acts(0, Action::Shuts),
+    Step::Acts(0, Action::IsEnded),
+];
+
+/// How the connection of a client ends that put and got.
+const PUT_AND_GOT: Option<Result<Ended, SessionFault>> = Some(Ok(Ended {
+    replies: 2,
+    rest: 0,
+}));
+
+const TWO_PUT_AND_GOT: &[Option<Result<Ended, SessionFault>>] = &[PUT_AND_GOT, PUT_AND_GOT];
+
+/// What the vnode accepts of two puts.
+const TWO_PUTS: Tally = Tally {
+    writes: 2,
+    tombstones: 0,
+    reaps: 0,
+};
+
+/// The line of the totals of two puts and two gets.
+const TWO_GETS_AND_PUTS: Option<&str> = Some("gets 2 puts 2 deletes 0 refusals 0 reaps 0\n");
+
+const RUNS: &[Run] = &[
+    Run {
+        shows: "two clients are served at once",
+        failures: NO_FAILURES,
+        connections: 2,
+        workers: 2,
+        steps: TWO_CLIENTS,
+        ends: TWO_PUT_AND_GOT,
+        tally: TWO_PUTS,
+        totals: TWO_GETS_AND_PUTS,
+    },
+    Run {
+        shows: "half a frame is a rest",
+        failures: NO_FAILURES,
+        connections: 1,
+        workers: 1,
+        steps: HALF_A_LENGTH,
+        ends: &[Some(Ok(Ended {
+            replies: 0,
+            rest: 3,
+        }))],
+        tally: Tally {
+            writes: 0,
+            tombstones: 0,
+            reaps: 0,
+        },
+        totals: Some("gets 0 puts 0 deletes 0 refusals 0 reaps 0\n"),
+    },
+    Run {
+        shows: "each fault ends its connection alone",
+        failures: NO_FAILURES,
+        connections: 3,
+        workers: 1,
+        steps: THREE_CLIENTS,
+        ends: &[Some(Err(SessionFault::BadFrame(1))), None, PUT_AND_GOT],
+        tally: TWO_PUTS,
+        totals: None,
+    },
+    Run {
+        shows: "want of memory is waited out",
+        failures: Failures {
+            count: 1,
+            code: NO_MEMORY,
+        },
+        connections: 2,
+        workers: 2,
+        steps: TWO_CLIENTS,
+        ends: TWO_PUT_AND_GOT,
+        tally: TWO_PUTS,
+        totals: TWO_GETS_AND_PUTS,
+    },
+    Run {
+        shows: "want of a descriptor of the system is waited out",
+        failures: Failures {
+            count: 2,
+            code: NO_SYSTEM_DESCRIPTOR,
+        },
+        connections: 2,
+        workers: 2,
+        steps: TWO_CLIENTS,
+        ends: TWO_PUT_AND_GOT,
+        tally: TWO_PUTS,
+        totals: TWO_GETS_AND_PUTS,
+    },
+    Run {
+        shows: "want of a descriptor of the process is waited out",
+        failures: Failures {
+            count: 3,
+            code: NO_PROCESS_DESCRIPTOR,
+        },
+        connections: 2,
+        workers: 2,
+        steps: TWO_CLIENTS,
+        ends: TWO_PUT_AND_GOT,
+        tally: TWO_PUTS,
+        totals: TWO_GETS_AND_PUTS,
+    },
+    Run {
+        shows: "want of a buffer is waited out",
+        failures: Failures {
+            count: 4,
+            code: NO_BUFFER,
+        },
+        connections: 2,
+        workers: 2,
+        steps: TWO_CLIENTS,
+        ends: TWO_PUT_AND_GOT,
+        tally: TWO_PUTS,
+        totals: TWO_GETS_AND_PUTS,
+    },
+];
+
+/// Whether the connections ended so.
+fn are_ends(
+    ends: &[End<RequestHalf, ReplyHalf>],
+    wanted: &[Option<Result<Ended, SessionFault>>],
+) -> bool {
+    let mut count = 0usize;
+    for end in ends {
+        if let Some(Some(result)) = wanted.get(count) {
+            if end.result != *result {
+                return false;
+            }
+        }
+        count = count.saturating_add(1);
+    }
+    count == wanted.len()
+}
+
+/// Whether what was served is as a run says.
+fn is_as_said(served: &Served, run: &Run) -> bool {
+    served.tallies.as_slice() == [run.tally].as_slice()
+        && are_ends(served.ends.as_slice(), run.ends)
+}
+
+/// Whether serving left and wrote what a run says.
+fn is_served(alloc: Global, outcome: &Outcome, port: u16, run: &Run) -> bool {
+    let is_written = match run.totals {
+        Some(totals) => is_text(alloc, outcome.written.as_slice(), port, totals),
+        None => true,
+    };
+    match &outcome.served {
+        Ok(served) => is_written && is_as_said(served, run),
+        Err(_) => false,
+    }
+}
+
+/// Whether the connections of a listener are served as a run says.
+fn serves<R: Log + Clock + Threads + Wait + Sync>(
+    rt: &R,
+    alloc: Global,
+    listener: Failing<'_>,
+    port: u16,
+    run: &Run,
+) -> bool {
+    match serve(rt, alloc, listener, run.connections, run.workers) {
+        Some(outcome) => is_served(alloc, &outcome, port, run),
+        None => false,
+    }
+}
+
+/// Whether a run by this listener, and its clients beside it, go as it says.
+fn goes<R: Log + Clock + Net<Stream = TcpStream> + Threads + Wait + Sync>(
+    rt: &R,
+    alloc: Global,
+    listener: TcpListener,
+    port: u16,
+    run: &Run,
+) -> bool {
+    let accepts = AtomicU32::new(0);
+    let failing = Failing {
+        listener,
+        failures: run.failures,
+        accepts: &accepts,
+    };
+    let (is_served, are_steps_taken) = thread::join(
+        rt,
+        || serves(rt, alloc, failing, port, run),
+        || take_all(rt, alloc, port, run.steps),
+    );
+    is_served && are_steps_taken
+}
+
+/// The same by a new listener.
+fn goes_anew<R>(rt: &R, alloc: Global, run: &Run) -> bool
+where
+    R: Log + Clock + Net<Listener = TcpListener, Stream = TcpStream> + Threads + Wait + Sync,
+{
+    match new_listener(rt) {
+        Some(listener) => match port_of(&listener) {
+            Some(port) => goes(rt, alloc, listener, port, run),
+            None => false,
+        },
+        None => false,
+    }
+}
+
+#[test]
+fn connections_are_served(rt: HostRuntime) {
+    let quiet = Logged::new(rt, LevelFilter::Off, Console(rt));
+    for run in RUNS {
+        assert!(rt; goes_anew(&quiet, rt.alloc(), run), "{}", run.shows);
+    }
+}

@@ -1,0 +1,208 @@
+//! Runs of two workers: a key's two lives; three jobs, of which one is cut and one has a writer that fails; and a source that
+//! fails behind them.
+use crate::exchanges::{LIVED_TWICE, TWO_LIVES, new_shared};
+use crate::workers::script::{Line, Script, play};
+use crate::workers::streams::{Input, Output};
+use node_session::{Ended, SessionFault};
+use stats_book::Totals;
+use std::alloc::Global;
+use std::process::Abort;
+use std::sync::Wait;
+use std::sync::atomic::AtomicU64;
+use std::test::*;
+use std::thread::Threads;
+use vnode_core::Tally;
+use worker_pool::{Closed, End, Open, PoolFault, Shared, Turnstile};
+
+/// Jobs over new gates, and what they come to.
+pub struct Run {
+    pub shows: &'static str,
+    pub partitions: u16,
+    /// How many dead keys a vnode forgets after an answer.
+    pub budget: u32,
+    pub lines: &'static [Line],
+    /// Whether the source fails behind its jobs.
+    pub fails: bool,
+    /// What is counted, or why the run fails. All vnodes together accept what is counted.
+    pub totals: Result<Totals, PoolFault>,
+}
+
+/// One that is whole, one that is cut, and one whose writer fails.
+const THREE_JOBS: &[Line] = &[
+    // A put of "v" on b/k, a delete without context, and a get: stored, deleted, and nothing.
+    Line {
+        input: b"\0\0\0\x0c\x0b\x0a\x01b\x12\x01k\x22\x03\x0a\x01v\0\0\0\x07\x0d\x0a\x01b\x12\x01k\0\0\0\x07\x09\x0a\x01b\x12\x01k",
+        fails: false,
+        result: Ok(Ended {
+            replies: 3,
+            rest: 0,
+        }),
+        written: b"\0\0\0\x01\x0c\0\0\0\x01\x0e\0\0\0\x01\x0a",
+    },
+    // A put of "u" on b/j, and the first six bytes of a get: stored.
+    Line {
+        input: b"\0\0\0\x0c\x0b\x0a\x01b\x12\x01j\x22\x03\x0a\x01u\0\0\0\x07\x09\x0a",
+        fails: false,
+        result: Ok(Ended {
+            replies: 1,
+            rest: 6,
+        }),
+        written: b"\0\0\0\x01\x0c",
+    },
+    // A put of "w" on b/m.
+    Line {
+        input: b"\0\0\0\x0c\x0b\x0a\x01b\x12\x01m\x22\x03\x0a\x01w",
+        fails: true,
+        result: Err(SessionFault::WriteFailed(0)),
+        written: b"",
+    },
+];
+
+const RUNS: &[Run] = &[
+    Run {
+        shows: "a key lives twice",
+        partitions: 1,
+        budget: 1,
+        lines: &[Line {
+            input: TWO_LIVES,
+            fails: false,
+            result: Ok(Ended {
+                replies: 5,
+                rest: 0,
+            }),
+            written: LIVED_TWICE,
+        }],
+        fails: false,
+        totals: Ok(Totals {
+            gets: 2,
+            puts: 2,
+            deletes: 1,
+            refusals: 0,
+            reaps: 1,
+        }),
+    },
+    Run {
+        shows: "three jobs end in their order, one cut and one without a writer",
+        partitions: 2,
+        budget: 1,
+        lines: THREE_JOBS,
+        fails: false,
+        totals: Ok(Totals {
+            gets: 1,
+            puts: 3,
+            deletes: 1,
+            refusals: 0,
+            reaps: 1,
+        }),
+    },
+    Run {
+        shows: "a source that fails behind its jobs fails the run",
+        partitions: 2,
+        budget: 1,
+        lines: THREE_JOBS,
+        fails: true,
+        totals: Err(PoolFault::JobsFailed),
+    },
+];
+
+/// Whether a session ended as its line says, and its reader and writer were ended once.
+fn is_end(end: &End<Input, Output<'_>>, line: &Line) -> bool {
+    end.result == line.result
+        && end.writer.held.as_slice() == line.written
+        && end.reader.ended == 1
+        && end.writer.ended == 1
+}
+
+/// Whether these are the ends of the lines' jobs, in their order.
+fn are_ends(ends: &[End<Input, Output<'_>>], lines: &[Line]) -> bool {
+    let mut count = 0usize;
+    for end in ends {
+        match lines.get(count) {
+            Some(line) if is_end(end, line) => count = count.saturating_add(1),
+            _ => return false,
+        }
+    }
+    count == lines.len()
+}
+
+/// The events of all vnodes together.
+fn sum_of(tallies: &[Tally]) -> Tally {
+    let mut sum = Tally {
+        writes: 0,
+        tombstones: 0,
+        reaps: 0,
+    };
+    for tally in tallies {
+        sum = Tally {
+            writes: sum.writes.saturating_add(tally.writes),
+            tombstones: sum.tombstones.saturating_add(tally.tombstones),
+            reaps: sum.reaps.saturating_add(tally.reaps),
+        };
+    }
+    sum
+}
+
+/// Whether the vnodes, so many, accepted what was counted.
+fn are_tallies(tallies: &[Tally], partitions: u16, totals: Totals) -> bool {
+    let sum = Tally {
+        writes: totals.puts,
+        tombstones: totals.deletes,
+        reaps: totals.reaps,
+    };
+    tallies.len() == usize::from(partitions) && sum_of(tallies) == sum
+}
+
+/// Whether what a run left is as it says.
+fn is_closed(closed: &Closed<Input, Output<'_>>, run: &Run) -> bool {
+    run.totals == Ok(closed.totals)
+        && are_ends(closed.ends.as_slice(), run.lines)
+        && are_tallies(closed.tallies.as_slice(), run.partitions, closed.totals)
+}
+
+/// Whether a run over these gates, through a turnstile, comes to what it says. The replies are counted as they are written.
+fn play_over<X: Threads + Wait + Sync, T: Turnstile + Sync>(
+    rt: &X,
+    alloc: Global,
+    shared: &Shared,
+    writes: &AtomicU64,
+    turnstile: &T,
+    run: &Run,
+) -> bool {
+    let script = Script {
+        alloc,
+        shared,
+        writes,
+        lines: run.lines,
+        fails: run.fails,
+    };
+    match play(rt, script, turnstile) {
+        Ok(closed) => is_closed(&closed, run),
+        Err(fault) => run.totals == Err(fault),
+    }
+}
+
+/// The same over new gates.
+pub fn play_anew<X: Threads + Wait + Sync, T: Turnstile + Sync>(
+    rt: &X,
+    alloc: Global,
+    writes: &AtomicU64,
+    turnstile: &T,
+    run: &Run,
+) -> bool {
+    match new_shared(alloc, run.partitions, run.budget) {
+        Some(shared) => play_over(rt, alloc, &shared, writes, turnstile, run),
+        None => false,
+    }
+}
+
+#[test]
+fn jobs_are_served_by_two_workers(rt: HostRuntime) {
+    for run in RUNS {
+        let writes = AtomicU64::new(0);
+        assert!(rt;
+            play_anew(&rt, rt.alloc(), &writes, &Open, run),
+            "{}",
+            run.shows
+        );
+    }
+}
