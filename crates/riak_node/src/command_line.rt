@@ -78,8 +78,8 @@ fn pipe<'a>(alloc: Global) -> Result<clap::Command<'a>, AllocError> {
         .arg(options::sweep(alloc))
 }
 
-/// The command that serves connections.
-fn serve<'a>(alloc: Global) -> Result<clap::Command<'a>, AllocError> {
+/// The command that serves connections, without its options.
+fn bare_serve<'a>(alloc: Global) -> clap::Command<'a> {
     clap::Command::new(alloc, "serve")
         .about(
             "Serves connections to a port of 127.0.0.1, by a new node whose keys are lost with it, and ends with the last of them",
@@ -93,6 +93,11 @@ fn serve<'a>(alloc: Global) -> Result<clap::Command<'a>, AllocError> {
              these.\n\n\
              Example: riak_node serve --connections 1000 --workers 8",
         )
+}
+
+/// The command that serves connections.
+fn serve<'a>(alloc: Global) -> Result<clap::Command<'a>, AllocError> {
+    bare_serve(alloc)
         .arg(options::connections(alloc))?
         .arg(options::port(alloc))?
         .arg(options::workers(alloc))?
@@ -120,8 +125,8 @@ fn steps<'a>(alloc: Global) -> Result<clap::Command<'a>, AllocError> {
         .arg(options::run(alloc))
 }
 
-/// The program.
-fn program<'a>(alloc: Global) -> Result<clap::Command<'a>, AllocError> {
+/// The program without its commands.
+fn bare_program<'a>(alloc: Global) -> clap::Command<'a> {
     clap::Command::new(alloc, "riak_node")
         .version("0.1.0")
         .about("A key-value node that keeps siblings and speaks Riak's Protocol Buffers client API")
@@ -131,9 +136,24 @@ fn program<'a>(alloc: Global) -> Result<clap::Command<'a>, AllocError> {
              Example: riak_node serve --connections 1000",
         )
         .subcommand_required(true)
-        .subcommand(serve(alloc)?)?
-        .subcommand(pipe(alloc)?)?
-        .subcommand(steps(alloc)?)
+}
+
+/// A program with one command more, where that could be made.
+fn with_command<'a>(
+    program: clap::Command<'a>,
+    command: Result<clap::Command<'a>, AllocError>,
+) -> Result<clap::Command<'a>, AllocError> {
+    match command {
+        Ok(command) => program.subcommand(command),
+        Err(refused) => Err(refused),
+    }
+}
+
+/// The program.
+fn program<'a>(alloc: Global) -> Result<clap::Command<'a>, AllocError> {
+    let program = with_command(bare_program(alloc), serve(alloc))?;
+    let program = with_command(program, pipe(alloc))?;
+    with_command(program, steps(alloc))
 }
 
 /// The options of `pipe`. Each has a value, since `clap` puts in the defaults, and a run of 0 was refused.

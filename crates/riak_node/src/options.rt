@@ -1,7 +1,25 @@
 //! The options of the commands.
 
+use clap::builder::ValueParser;
 use clap::{Arg, value_parser};
 use std::alloc::Global;
+
+/// An option whose value is a number, with the one that it has where it isn't given.
+fn number<'a>(
+    alloc: Global,
+    name: &'a str,
+    value_name: &'a str,
+    parser: ValueParser<'a>,
+    default: &'a str,
+    help: &'a str,
+) -> Arg<'a> {
+    Arg::new(alloc, name)
+        .long(name)
+        .value_name(value_name)
+        .value_parser(parser)
+        .default_value(default)
+        .help(help)
+}
 
 /// How many connections are served.
 pub(crate) fn connections<'a>(alloc: Global) -> Arg<'a> {
@@ -15,70 +33,72 @@ pub(crate) fn connections<'a>(alloc: Global) -> Arg<'a> {
 
 /// The port.
 pub(crate) fn port<'a>(alloc: Global) -> Arg<'a> {
-    Arg::new(alloc, "port")
-        .long("port")
-        .value_name("P")
-        .value_parser(value_parser!(u16))
-        .default_value("8087")
-        .help(
-            "The port of 127.0.0.1 that is listened on. With 0 the system picks a free one, which the first line names",
-        )
+    number(
+        alloc,
+        "port",
+        "P",
+        value_parser!(u16),
+        "8087",
+        "The port of 127.0.0.1 that is listened on. With 0 the system picks a free one, which the first line names",
+    )
 }
 
 /// How many threads serve.
 pub(crate) fn workers<'a>(alloc: Global) -> Arg<'a> {
-    Arg::new(alloc, "workers")
-        .long("workers")
-        .value_name("W")
-        .value_parser(value_parser!(u16).range(1..=64))
-        .default_value("4")
-        .help(
-            "How many threads serve, from 1 to 64, each one connection at a time. Where more connections come they wait, so take as many workers as clients are connected at once",
-        )
+    number(
+        alloc,
+        "workers",
+        "W",
+        value_parser!(u16).range(1..=64),
+        "4",
+        "How many threads serve, from 1 to 64, each one connection at a time. Where more connections come they wait, so take as many workers as clients are connected at once",
+    )
 }
 
 /// How many workers a schedule has.
 pub(crate) fn step_workers<'a>(alloc: Global) -> Arg<'a> {
-    Arg::new(alloc, "workers")
-        .long("workers")
-        .value_name("W")
-        .value_parser(value_parser!(u16).range(1..=64))
-        .default_value("2")
-        .help("How many workers take steps, from 1 to 64. A line that names another is a bad step")
+    number(
+        alloc,
+        "workers",
+        "W",
+        value_parser!(u16).range(1..=64),
+        "2",
+        "How many workers take steps, from 1 to 64. A line that names another is a bad step",
+    )
 }
 
 /// The number of partitions.
 pub(crate) fn ring<'a>(alloc: Global, default: &'a str) -> Arg<'a> {
-    Arg::new(alloc, "ring")
-        .long("ring")
-        .value_name("Q")
-        .value_parser(value_parser!(u16))
-        .default_value(default)
-        .help(
-            "How many partitions share the keys, each with a vnode of its own: a power of two from 1 to 1024. More of them let more threads write at once",
-        )
+    number(
+        alloc,
+        "ring",
+        "Q",
+        value_parser!(u16),
+        default,
+        "How many partitions share the keys, each with a vnode of its own: a power of two from 1 to 1024. More of them let more threads write at once",
+    )
 }
 
 /// The run's number.
 pub(crate) fn run<'a>(alloc: Global) -> Arg<'a> {
-    Arg::new(alloc, "run")
-        .long("run")
-        .value_name("N")
-        .value_parser(value_parser!(u32).range(1..=4_294_967_295))
-        .default_value("1")
-        .help(
-            "The number of this run, from 1 to 4294967295. Contexts that clients keep from an earlier run are safe to use where each run has a number of its own",
-        )
+    number(
+        alloc,
+        "run",
+        "N",
+        value_parser!(u32).range(1..=4_294_967_295),
+        "1",
+        "The number of this run, from 1 to 4294967295. Contexts that clients keep from an earlier run are safe to use where each run has a number of its own",
+    )
 }
 
 /// How many dead keys are forgotten.
 pub(crate) fn sweep<'a>(alloc: Global) -> Arg<'a> {
-    Arg::new(alloc, "sweep")
-        .long("sweep")
-        .value_name("B")
-        .value_parser(value_parser!(u32))
-        .default_value("0")
-        .help(
-            "How many deleted keys are forgotten, with their clocks, after each answer to a get, a put or a delete, at most. With 0 none is, and each deleted key takes memory for good",
-        )
+    number(
+        alloc,
+        "sweep",
+        "B",
+        value_parser!(u32),
+        "0",
+        "How many deleted keys are forgotten, with their clocks, after each answer to a get, a put or a delete, at most. With 0 none is, and each deleted key takes memory for good",
+    )
 }
