@@ -1,4 +1,4 @@
--- The outcomes that a put's and a delete's plan are.
+-- The outcomes that the plans of a get, a put and a delete are.
 use Rattle.std.proofs.Common.{◌≡◌, ℕ, suc, ◌+◌, Bool, true, false, not, ◌&&◌, cond, List, [], ◌∷◌, length, refl, sym, ◌∙◌, ap, add-one, arith}
 use Rattle.std.specs.Prelude.{Option, Some, None, nat_lt, nat_le, nat_eq, unwrap_or, count_by, is_none, ◌==◌, ◌||◌, map}
 use Rattle.std.specs.Option.{option_eq}
@@ -13,10 +13,10 @@ use Rattle.sibling_register.specs.declared.operation.Operation.TheVariants.{Writ
 use Rattle.sibling_register.specs.History.{Event, events_of, count_of, numbers_to}
 use Rattle.sibling_register.specs.Siblings.{siblings, is_present}
 use Rattle.sibling_register.specs.Refusals.{max_siblings}
-use Rattle.sibling_register.specs.Answers.{Told, Refused, Shown, Done, PutCommand, DelCommand, AskDel, Answers, Accepts, is_name, has_too_many, put_refusal, does_nothing}
+use Rattle.sibling_register.specs.Answers.{Told, Refused, Shown, Done, GetCommand, PutCommand, DelCommand, AskDel, Answers, Accepts, is_name, get_told, has_too_many, put_refusal, does_nothing}
 use Rattle.sibling_register.specs.Entries.{event_of, history_of, follow_of}
 use Rattle.sibling_register.specs.Counting.{by_count}
-use Rattle.sibling_register.specs.Plans.{saw_by, first_check_of, plain_outcome, put_outcome_by, del_saw}
+use Rattle.sibling_register.specs.Plans.{saw_by, first_check_of, get_told_of, plain_outcome, put_outcome_by, del_saw}
 use Rattle.sibling_register.proofs.Following.{siblings-own, unseen_by-positive, left_by-numbers_to}
 use Rattle.sibling_register.proofs.Scanning.{follows}
 
@@ -30,6 +30,13 @@ bytes_eq-refl (b ∷ bytes) = rw (nat_eq-refl b) (bytes_eq-refl bytes)
 not_not : (b : Bool) → b ≡ not (not b)
 not_not true = refl
 not_not false = refl
+
+-- an absent key, or else one with no write
+absent_or_dead : (empty present : Bool) (absent dead other : Told ℕ)
+    → cond empty absent (cond (not present) dead other) ≡ cond (not (not empty)) absent (cond (not empty && not present) dead other)
+absent_or_dead true present absent dead other = refl
+absent_or_dead false true absent dead other = refl
+absent_or_dead false false absent dead other = refl
 
 -- each key is itself
 pub key_eq-refl : (key : Key) → key_eq key key ≡ true
@@ -50,6 +57,19 @@ module _ {V : Type 0} where
 
   pub length-history_of : (entries : List (Entry V)) → length (history_of entries) ≡ length entries
   length-history_of entries = length-reverse (map event_of entries) ∙ length-map entries event_of
+
+  -- what was read of the key is what its get shows
+  pub get_told-by : (history : List (Event V ℕ)) (get : GetCommand ℕ) (numbers : List ℕ) (present is_end : Bool) (position : ℕ)
+      → numbers ≡ siblings history get.key → present ≡ is_present history get.key
+      → is_end ≡ is_name by_count history get.key get.if_modified → position ≡ length history
+      → get_told_of numbers present is_end position get.head get.deletedvclock ≡ get_told by_count history get
+  get_told-by history get numbers present is_end position s p i l =
+      let told : List ℕ → Bool → Bool → ℕ → Told ℕ = λ numbers present is_end position. get_told_of numbers present is_end position get.head get.deletedvclock in
+      ap (λ xs. told xs present is_end position) s
+      ∙ ap (λ b. told (siblings history get.key) b is_end position) p
+      ∙ ap (λ b. told (siblings history get.key) (is_present history get.key) b position) i
+      ∙ ap (told (siblings history get.key) (is_present history get.key) (is_name by_count history get.key get.if_modified)) l
+      ∙ absent_or_dead (length (siblings history get.key) == 0) (is_present history get.key) _ _ _
 
   -- the siblings once the entry is kept
   pub siblings-kept : (history : List (Event V ℕ)) (entry : Entry V)

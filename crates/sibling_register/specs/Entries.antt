@@ -1,5 +1,5 @@
 -- The plain register's list of accepted commands, oldest first, and the history that it encodes.
-use Rattle.std.specs.Prelude.{◌≡◌, Bool, not, ◌&&◌, ◌==◌, List, ◌∷◌, ℕ, length, map, reverse, filter, count_by, nat_le, nat_lt, if◌then◌else◌, Option, Some, None}
+use Rattle.std.specs.Prelude.{◌≡◌, Bool, false, not, ◌||◌, ◌&&◌, ◌==◌, List, ◌∷◌, ℕ, length, map, reverse, filter, count_by, nat_le, nat_lt, if◌then◌else◌, Option, Some, None, unwrap_or}
 use Rattle.riak_msgs.specs.declared.key.Key.{Key}
 use Rattle.sibling_register.specs.declared.entry.Entry.{Entry}
 use Rattle.sibling_register.specs.declared.operation.Operation.{Operation as EntryOperation}
@@ -8,7 +8,7 @@ use Rattle.sibling_register.specs.declared.planned.Planned.{Planned}
 use Rattle.sibling_register.specs.declared.put.Put.{Put}
 use Rattle.sibling_register.specs.declared.key_state.KeyState.{KeyState}
 use Rattle.sibling_register.specs.History.{Operation, Write, Tombstone, Reap, Event, numbers_to, is_update}
-use Rattle.sibling_register.specs.Answers.{Told, Ask, GetCommand, PutCommand, DelCommand, Outcome, Answers, Accepts}
+use Rattle.sibling_register.specs.Answers.{Told, Shown, Done, Ask, GetCommand, PutCommand, DelCommand, Outcome, Answers, Accepts}
 use Rattle.sibling_register.specs.Counting.{context_at}
 use Rattle.sibling_register.specs.Plain.{answer_of}
 use Rattle.sibling_register.specs.Plans.{plain_outcome}
@@ -49,6 +49,14 @@ module _ {V : Type 0} where
   -- the outcome that was planned
   abbrev pub outcome_of : Planned V → Outcome V ℕ
   outcome_of planned = outcome_by (answer_of planned.told) planned.entry
+
+  -- the outcome of a put that nothing refuses, whose entry has this sequence number and is at this position, where the
+  -- key had these siblings before
+  abbrev pub accepted_put : Put V → Option ℕ → List ℕ → ℕ → ℕ → Outcome V ℕ
+  accepted_put put named before number position =
+      let entry : Entry V = record { key = put.key; operation = EntryWrite put.value; context = named; saw = unwrap_or named 0 } in
+      Accepts (event_of entry) (if put.return_body || put.return_head
+      then Shown (follow_of entry number before) (Some position) false (not put.return_body) else Done)
 
   -- what was planned is the outcome of the ask at the plain register
   abbrev pub IsOutcomeOf : List (Entry V) → Ask V ℕ → Planned V → Type 0

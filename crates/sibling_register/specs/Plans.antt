@@ -1,8 +1,8 @@
 -- What the plain register does with an ask: the definition, with what it leaves free decided.
-use Rattle.std.specs.Prelude.{Bool, not, ◌&&◌, List, ◌∷◌, ℕ, Option, Some, None, unwrap_or, if◌then◌else◌}
+use Rattle.std.specs.Prelude.{Bool, true, false, not, ◌&&◌, ◌==◌, List, [], ◌∷◌, ℕ, length, Option, Some, None, unwrap_or, if◌then◌else◌}
 use Rattle.sibling_register.specs.History.{Event, Write, Tombstone, count_of, numbers_to}
 use Rattle.sibling_register.specs.Refusals.{match_found, modified, not_found, too_many_siblings}
-use Rattle.sibling_register.specs.Answers.{Ask, AskGet, AskPut, AskDel, AskReap, Refused, Done, PutCommand, DelCommand, Outcome, Answers, Accepts, get_told, put_refusal, put_told, del_refusal, does_nothing, reap_outcome}
+use Rattle.sibling_register.specs.Answers.{Ask, AskGet, AskPut, AskDel, AskReap, Told, Refused, Shown, Done, nothing_shown, PutCommand, DelCommand, Outcome, Answers, Accepts, get_told, put_refusal, put_told, del_refusal, does_nothing, reap_outcome}
 use Rattle.sibling_register.specs.Counting.{by_count}
 
 -- what the plain register saw by a context
@@ -42,3 +42,12 @@ first_check_of present is_name too_many if_not_modified if_none_match =
     else if (if_not_modified && not if_none_match) && not is_name then Some modified
     else if too_many then Some too_many_siblings
     else None
+
+-- what a get shows of a key that has these siblings at this position
+abbrev pub get_told_of : List ℕ → Bool → Bool → ℕ → Bool → Bool → Told ℕ
+get_told_of numbers present is_name position head deletedvclock =
+    if length numbers == 0 then nothing_shown
+    else if not present
+    then (if deletedvclock then Shown [] (Some position) false false else nothing_shown)
+    else if is_name then Shown [] None true false
+    else Shown numbers (Some position) false head

@@ -3,13 +3,14 @@
 ghost use Rattle.std.specs.Prelude.{◌≡◌, IfOk, [], false};
 ghost use Rattle.sibling_register.specs.Answers.{AskGet, Shown};
 ghost use Rattle.sibling_register.specs.Plain.{IsPosition, answer_of};
+ghost use Rattle.sibling_register.specs.Plans.{get_told_of};
 ghost use Rattle.sibling_register.specs.Entries.{history_of, get_of, IsOutcomeOf};
 
 use crate::entry::Entry;
 use crate::key_state::KeyState;
 use crate::numbers::Numbers;
 use crate::planned::Planned;
-use crate::scans::count_at;
+use crate::scans::{count_at, names_end};
 use crate::told::Told;
 use riak_msgs::Key;
 use std::alloc::{AllocError, Global};
@@ -23,6 +24,39 @@ fn without_siblings(alloc: Global, place: Option<u64>, unchanged: bool) -> Told
         place,
         unchanged,
         bare: false,
+    }
+}
+
+/// What a get shows of a key in this state.
+#[inline(always)]
+fn get_answer(
+    alloc: Global,
+    key_state: KeyState,
+    is_name: bool,
+    position: u64,
+    head: bool,
+    deletedvclock: bool,
+) -> Told
+    ensures value { answer_of result ≡ get_told_of key_state.siblings.items key_state.is_present
+        is_name position head deletedvclock }
+{
+    if key_state.siblings.is_empty() {
+        without_siblings(alloc, None, false)
+    } else if !key_state.is_present {
+        without_siblings(
+            alloc,
+            if deletedvclock { Some(position) } else { None },
+            false,
+        )
+    } else if is_name {
+        without_siblings(alloc, None, true)
+    } else {
+        Told::Shown {
+            siblings: Numbers::new(key_state.siblings),
+            place: Some(position),
+            unchanged: false,
+            bare: head,
+        }
     }
 }
 
@@ -40,21 +74,9 @@ pub(crate) fn plan_get<V>(
         (AskGet (get_of (history_of entries.now) key.now if_modified head deletedvclock))) }
 {
     let key_state = KeyState::of(alloc, entries, key)?;
-    let is_name = count_at(entries, key, if_modified) == Some(key_state.count);
-    let position = Some(entries.len() as u64);
-    let told = if key_state.siblings.is_empty() {
-        without_siblings(alloc, None, false)
-    } else if !key_state.is_present {
-        without_siblings(alloc, if deletedvclock { position } else { None }, false)
-    } else if is_name {
-        without_siblings(alloc, None, true)
-    } else {
-        Told::Shown {
-            siblings: Numbers::new(key_state.siblings),
-            place: position,
-            unchanged: false,
-            bare: head,
-        }
-    };
-    Ok(Planned { told, entry: None })
+    let named = count_at(entries, key, if_modified);
+    let is_name = names_end(named, key_state.count);
+    let position = entries.len() as u64;
+    let told = get_answer(alloc, key_state, is_name, position, head, deletedvclock);
+    Ok(Planned::answer(told))
 }

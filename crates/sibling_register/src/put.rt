@@ -5,7 +5,7 @@ ghost use Rattle.std.specs.Option.{option_eq};
 ghost use Rattle.sibling_register.specs.Answers.{AskPut, Shown, Done};
 ghost use Rattle.sibling_register.specs.Plain.{IsPosition, answer_of};
 ghost use Rattle.sibling_register.specs.Plans.{first_check_of};
-ghost use Rattle.sibling_register.specs.Entries.{history_of, put_of, has_too_many_by, IsOutcomeOf};
+ghost use Rattle.sibling_register.specs.Entries.{history_of, put_of, has_too_many_by, outcome_of, accepted_put, IsOutcomeOf};
 
 use crate::entry::Entry;
 use crate::key_state::KeyState;
@@ -13,7 +13,7 @@ use crate::numbers::Numbers;
 use crate::operation::Operation;
 use crate::planned::Planned;
 use crate::refusals::{MATCH_FOUND, MODIFIED, NOT_FOUND, TOO_MANY_SIBLINGS};
-use crate::scans::{count_at, follow};
+use crate::scans::{count_at, follow, names_end};
 use crate::told::Told;
 use riak_msgs::Key;
 use std::alloc::{AllocError, Global};
@@ -37,6 +37,30 @@ fn seen_by_put(named: Option<u64>) -> u64
     named.unwrap_or(0)
 }
 
+/// The first check that holds, by what each of them asks.
+fn first_holding(
+    is_present: bool,
+    is_name: bool,
+    too_many: bool,
+    if_not_modified: bool,
+    if_none_match: bool,
+) -> Option<u8>
+    ensures value { result
+        ≡ first_check_of is_present is_name too_many if_not_modified if_none_match }
+{
+    if if_none_match && is_present {
+        Some(MATCH_FOUND)
+    } else if if_not_modified && !if_none_match && !is_present {
+        Some(NOT_FOUND)
+    } else if if_not_modified && !if_none_match && !is_name {
+        Some(MODIFIED)
+    } else if too_many {
+        Some(TOO_MANY_SIBLINGS)
+    } else {
+        None
+    }
+}
+
 /// The first check that holds, of a put whose context names the position with this count.
 fn first_check(
     key_state: &KeyState,
@@ -48,19 +72,15 @@ fn first_check(
         (option_eq nat_eq named (Some key_state.now.count))
         (has_too_many_by key_state.now (unwrap_or named 0)) if_not_modified if_none_match }
 {
-    let is_name = named == Some(key_state.count);
+    let is_name = names_end(named, key_state.count);
     let too_many = key_state.has_too_many(seen_by_put(named));
-    if if_none_match && key_state.is_present {
-        Some(MATCH_FOUND)
-    } else if if_not_modified && !if_none_match && !key_state.is_present {
-        Some(NOT_FOUND)
-    } else if if_not_modified && !if_none_match && !is_name {
-        Some(MODIFIED)
-    } else if too_many {
-        Some(TOO_MANY_SIBLINGS)
-    } else {
-        None
-    }
+    first_holding(
+        key_state.is_present,
+        is_name,
+        too_many,
+        if_not_modified,
+        if_none_match,
+    )
 }
 
 /// The answer to an accepted put, after which the key has these siblings.
@@ -80,6 +100,33 @@ fn put_answer(siblings: Vec<u64>, position: u64, return_body: bool, return_head:
     }
 }
 
+/// The outcome of a put that no check refuses, where its context names the position with this count. The key has these
+/// siblings, and the put's entry gets this number and this position.
+#[inline(always)]
+fn accept_put<V: Drop>(
+    mut siblings: Vec<u64>,
+    number: u64,
+    position: u64,
+    named: Option<u64>,
+    put: Put<V>,
+) -> Result<Planned<V>, AllocError>
+    ensures value { IfOk result (λ planned.
+        outcome_of planned ≡ accepted_put put named siblings.items number position) }
+{
+    let entry = Entry {
+        key: put.key,
+        operation: Operation::Write(put.value),
+        context: named,
+        saw: seen_by_put(named),
+    };
+    follow(&mut siblings, &entry, number)?;
+    let told = put_answer(siblings, position, put.return_body, put.return_head);
+    Ok(Planned {
+        told,
+        entry: Some(entry),
+    })
+}
+
 /// The outcome of a put.
 pub(crate) fn plan_put<V: Drop>(
     alloc: Global,
@@ -95,19 +142,7 @@ pub(crate) fn plan_put<V: Drop>(
     if let Some(number) = first_check(&key_state, named, put.if_not_modified, put.if_none_match) {
         return Ok(Planned::answer(Told::Refused(number)));
     }
-    let entry = Entry {
-        key: put.key,
-        operation: Operation::Write(put.value),
-        context: named,
-        saw: seen_by_put(named),
-    };
     let number = key_state.count + 1;
     let position = entries.len() as u64 + 1;
-    let mut siblings = key_state.siblings;
-    follow(&mut siblings, &entry, number)?;
-    let told = put_answer(siblings, position, put.return_body, put.return_head);
-    Ok(Planned {
-        told,
-        entry: Some(entry),
-    })
+    accept_put(key_state.siblings, number, position, named, put)
 }

@@ -1,7 +1,8 @@
 //! Scans of the history for one key.
 
-ghost use Rattle.std.specs.Prelude.{◌≡◌, ◌≤◌, IfOk, OnOk, length, filter, nat_lt, option_copied, is_some};
+ghost use Rattle.std.specs.Prelude.{◌≡◌, ◌≤◌, IfOk, OnOk, length, filter, nat_lt, nat_eq, Some, option_copied, is_some};
 ghost use Rattle.std.specs.List.{list_any};
+ghost use Rattle.std.specs.Option.{option_eq};
 ghost use Rattle.sibling_register.specs.History.{count_of, content_of};
 ghost use Rattle.sibling_register.specs.Siblings.{siblings};
 ghost use Rattle.sibling_register.specs.Counting.{context_at};
@@ -35,6 +36,13 @@ pub(crate) fn count_at<V>(entries: &[Entry<V>], key: &Key, position: Option<u64>
         None => None,
         Some(position) => Some(count_in(&entries[..position as usize], key)),
     }
+}
+
+/// Whether the position with this count has the context of the end, where the key has so many events.
+pub(crate) fn names_end(named: Option<u64>, count: u64) -> bool
+    ensures value { result ≡ option_eq nat_eq named (Some count) }
+{
+    named == Some(count)
 }
 
 /// Takes the numbers away that an entry saw.

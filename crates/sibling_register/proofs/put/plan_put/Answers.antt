@@ -1,13 +1,14 @@
-use Rattle.std.proofs.Common.{◌∙◌, ap, sym, ℕ, List, ◌+◌}
+use Rattle.std.proofs.Common.{◌∙◌, ap, sym, refl, ℕ, List, length, ◌+◌}
+use Rattle.std.proofs.lemmas.Result.{IfOk-weaker}
 use Rattle.std.specs.Prelude.{Option, unwrap_or}
 use Rattle.sibling_register.specs.declared.operation.Operation.TheVariants.{Write}
 use Rattle.sibling_register.specs.declared.entry.Entry.{Entry}
 use Rattle.sibling_register.specs.History.{Event, count_of}
-use Rattle.sibling_register.specs.Answers.{PutCommand, Accepts, put_refusal}
+use Rattle.sibling_register.specs.Siblings.{siblings}
+use Rattle.sibling_register.specs.Answers.{PutCommand, put_refusal}
 use Rattle.sibling_register.specs.Counting.{by_count}
 use Rattle.sibling_register.specs.Plans.{saw_by, put_outcome_by}
-use Rattle.sibling_register.specs.Plain.{answer_of}
-use Rattle.sibling_register.specs.Entries.{event_of, history_of, follow_of}
+use Rattle.sibling_register.specs.Entries.{history_of, follow_of, accepted_put}
 use Rattle.sibling_register.proofs.Plans.{put_refusal-by, put-kept, length-history_of}
 use Rattle.sibling_register.proofs.put.plan_put.Goals as goal
 
@@ -31,16 +32,16 @@ returns g c =
     let put : Option ℕ → PutCommand g.row.V.Denot ℕ = λ context. record { key = given.key; context = context; value = given.value; return_body = given.return_body; return_head = given.return_head; if_not_modified = given.if_not_modified; if_none_match = given.if_none_match } in
     let read = c.in_ok-key_state.ensures in
     let check = c.first_check.ensures.value ∙ put_refusal-by history (put c.count_at-named.result) _ _ _ read.siblings read.count read.present in
-    let entry : ℕ → Entry g.row.V.Denot = λ saw. record { key = given.key; operation = Write given.value; context = c.count_at-named.result; saw = saw } in
-    let saw = c.seen_by_put.ensures.value in
-    let numbers = c.in_ok-follow.ensures.value
-    ∙ ap (λ m. follow_of (entry m) (c.in_ok-key_state.key_state.count + 1) c.in_ok-key_state.key_state.siblings.items) saw
-    ∙ ap (λ n. follow_of (entry (unwrap_or c.count_at-named.result 0)) (n + 1) c.in_ok-key_state.key_state.siblings.items) read.count
-    ∙ ap (follow_of (entry (unwrap_or c.count_at-named.result 0)) (count_of history given.key + 1)) read.siblings in
+    let named = c.count_at-named in
+    let key_state = c.in_ok-key_state.key_state in
+    let position = length c.args.entries.now + 1 in
+    let entry : Entry g.row.V.Denot = record { key = given.key; operation = Write given.value; context = named.result; saw = unwrap_or named.result 0 } in
     record {
-      value = ap (λ m. Accepts (event_of (entry m)) (answer_of c.put_answer-told.result)) saw
-          ∙ put-kept history (put c.count_at-named.result) c.follow.new.numbers.items _ (answer_of c.put_answer-told.result)
-          numbers (ap (λ n. n + 1) (sym (length-history_of c.args.entries.now))) c.put_answer-told.ensures.value
-          ∙ ap (put_outcome_by history (put c.count_at-named.result)) (sym c.in_default.is ∙ check)
-          ∙ ap (λ context. put_outcome_by history (put context) (put_refusal by_count history (put context) (saw_by context))) c.count_at-named.ensures.value;
+      value = IfOk-weaker c.accept_put.result _ _ (λ planned h. h
+          ∙ ap (λ n. accepted_put given named.result key_state.siblings.items (n + 1) position) read.count
+          ∙ ap (λ numbers. accepted_put given named.result numbers (count_of history given.key + 1) position) read.siblings
+          ∙ put-kept history (put named.result) (follow_of entry (count_of history given.key + 1) (siblings history given.key)) position _
+          refl (ap (λ n. n + 1) (sym (length-history_of c.args.entries.now))) refl
+          ∙ ap (put_outcome_by history (put named.result)) (sym c.in_default.is ∙ check)
+          ∙ ap (λ context. put_outcome_by history (put context) (put_refusal by_count history (put context) (saw_by context))) named.ensures.value) c.accept_put.ensures.value;
     }

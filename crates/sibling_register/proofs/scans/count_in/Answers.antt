@@ -1,4 +1,7 @@
 use Rattle.std.proofs.Common.{arith, ◌∙◌, ap, sym, ◌+◌}
+use Rattle.std.proofs.lemmas.List.{take_all}
+use Rattle.sibling_register.specs.History.{count_of}
+use Rattle.sibling_register.specs.Entries.{history_of}
 use Rattle.sibling_register.proofs.Scanning.{count-own, count-other}
 use Rattle.sibling_register.proofs.scans.count_in.Goals as goal
 use Rattle.sibling_register.proofs.scans.count_in.Goals.{then-is_same, else-is_same}
@@ -18,3 +21,8 @@ loop-entry-preserved g c =
         bound = omega arith;
       }
     ]
+
+pub returns-clause-count : goal.returns-clause-count
+returns-clause-count g c =
+    c.loop-entry.invariant.count ∙ ap (λ entries. count_of (history_of entries) c.args.key.now)
+    (take_all c.loop-entry.entry-index c.args.entries.now c.loop-entry-test.false)

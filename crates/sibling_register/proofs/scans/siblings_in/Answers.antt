@@ -1,6 +1,8 @@
 use Rattle.std.proofs.Common.{arith, ◌≡◌, ◌∙◌, ap, sym, true, false, ◌+◌}
+use Rattle.std.proofs.lemmas.List.{take_all}
 use Rattle.riak_msgs.specs.KeyOrder.{key_eq}
-use Rattle.sibling_register.specs.Entries.{follow_of}
+use Rattle.sibling_register.specs.Siblings.{siblings}
+use Rattle.sibling_register.specs.Entries.{history_of, follow_of}
 use Rattle.sibling_register.proofs.Scanning.{count-own, count-other, siblings-scan_own, siblings-scan_other}
 use Rattle.sibling_register.proofs.scans.siblings_in.Goals as goal
 use Rattle.sibling_register.proofs.scans.siblings_in.Goals.{then-is_same+in_ok-follow, else-is_same}
@@ -27,3 +29,9 @@ loop-entry-preserved g c =
             numbers = ap (λ v. v.items) w.numbers-is ∙ c.loop-entry.invariant.numbers ∙ sym (siblings-scan_other _ _ _ _ within c.entry-item.is other);
           }
     ]
+
+pub returns : goal.returns
+returns g c = record {
+  value = c.loop-entry.invariant.numbers ∙ ap (λ entries. siblings (history_of entries) c.args.key.now)
+      (take_all c.loop-entry.entry-index c.args.entries.now c.loop-entry-test.false);
+}
