@@ -1,8 +1,9 @@
 -- Entries that have room for one value more.
-use Rattle.std.proofs.Common.{◌≡◌, ℕ, zero, suc, ◌+◌, ◌<◌, ◌≤◌, Bool, true, false, not, ◌&&◌, cond, IsTrue, List, [], ◌∷◌, length, take, get_or, refl, ap, arith}
-use Rattle.std.specs.Prelude.{nat_lt}
+use Rattle.std.proofs.Common.{◌≡◌, ℕ, zero, suc, ◌+◌, ◌<◌, ◌≤◌, ◌↔◌, Bool, true, false, not, ◌&&◌, cond, IsTrue, List, [], ◌∷◌, length, take, get_or, refl, ap, arith}
+use Rattle.std.specs.Prelude.{nat_lt, ◌==◌}
 use Rattle.std.specs.List.{list_all, insert}
 use Rattle.std.proofs.Math.ListN.{set}
+use Rattle.std.proofs.lemmas.Bool.{eqb-true}
 use Rattle.std.proofs.lemmas.Bool.Decides.{nat_tests}
 use Rattle.std.proofs.lemmas.List.Filters.{length-filter_both}
 use Rattle.actor_epoch.specs.declared.Actor.{Actor}
@@ -26,6 +27,36 @@ below_room n c r = grind (arith, nat_tests)
 pub no_items : {A : Type 0} (xs : List A) → length xs ≡ 0 → xs ≡ []
 no_items [] h = refl
 no_items (x ∷ xs) h = absurd (omega arith)
+
+-- what a test for items says
+pub some_items : {A : Type 0} (xs : List A) → (length xs == 0) ≡ false → 0 < length xs
+some_items xs h = grind (arith, nat_tests)
+
+pub none_items : {A : Type 0} (xs : List A) → (length xs == 0) ≡ true → xs ≡ []
+none_items xs h = no_items xs (eqb-true (length xs) 0 h)
+
+pub fewer_items : {A : Type 0} (all : List A) (x : A) (xs : List A) → all ≡ x ∷ xs → length xs < length all
+fewer_items all x xs h = omega (arith, ap length h)
+
+-- a room that the list grew into, and more
+pub in_more_room : (n k c d : ℕ) → n ≡ k → k ≤ c → c ≤ d → n ≤ d
+in_more_room n k c d h r more = omega arith
+
+-- the actors that are there and those that are new
+pub few_more : (more new k n : ℕ) → more ≡ new → new ≤ k → k ≡ n → n ≤ 64 → more ≤ 65
+few_more more new k n m h e few = omega arith
+
+pub few_pairs : (more new : ℕ) → more ≡ new → new ≤ 64 → more ≤ 65
+few_pairs more new m few = omega arith
+
+pub within_same : (n k m : ℕ) → n ≡ k → k ≤ m → n ≤ m
+within_same n k m h within = omega arith
+
+pub full_same : (P : Type 0) (m n k : ℕ) → n ≡ k → (P ↔ (m < k)) → (P ↔ (m < n))
+full_same P m n k h full = (λ p. rw h (full.0 p), λ below. full.1 (rw h at below))
+
+pub more_room : (c d e : ℕ) → c ≤ d → d ≤ e → c ≤ e
+more_room c d e h more = omega arith
 
 module _ {V : Type 0} where
   pub rooms-get : (entries : List (Entry V)) (i : ℕ) (d : Entry V) → i < length entries → IsTrue (list_all has_room entries) → IsTrue (has_room (get_or entries i d))

@@ -122,7 +122,7 @@ impl<V: MadeWith<Global> + Drop> Clock<V> {
         ensures clock { IsClock self.now.meaning }
     {
         KnownPairs {
-            entries: self.entries.as_slice(),
+            entries: &self.entries,
         }
     }
 
@@ -132,7 +132,7 @@ impl<V: MadeWith<Global> + Drop> Clock<V> {
     {
         Values {
             first: &[],
-            entries: self.entries.as_slice(),
+            entries: &self.entries,
         }
     }
 
@@ -208,9 +208,7 @@ impl<V: MadeWith<Global> + Drop> Clock<V> {
         ensures unchanged { self.new.meaning ≡ self.old.meaning }
     {
         let (_, more) = room::required_room(&self.entries, context, actor);
-        self.entries.reserve(more)?;
-        entry::reserve_values(&mut self.entries)?;
-        Ok(())
+        entry::reserve_room(&mut self.entries, more)
     }
 
     /// Makes room to put a value for an actor without what a context saw (None: nothing); no value changes. Refused by

@@ -312,21 +312,23 @@ pub(crate) fn drop_values<V: MadeWith<Global> + Drop>(entries: &mut InlineList<E
 {
     for at in 0..entries.len() {
         match entries.get_mut(at) {
-            Some(entry) => entry.values.clear(),
+            Some(entry) => entry.values.truncate(0),
             None => unreachable!(),
         }
     }
 }
 
-/// Makes room for one value more in each entry. Refused where there is no memory; no value changes, and an entry may keep
-/// the room that it got.
-pub(crate) fn reserve_values<V: MadeWith<Global> + Drop>(
+/// Makes room for more entries, and for one value more in each that is there. Refused where there is no memory; no value
+/// changes, and the room that was got may stay.
+pub(crate) fn reserve_room<V: MadeWith<Global> + Drop>(
     entries: &mut InlineList<Entry<V>>,
+    more: usize,
 ) -> Result<(), AllocError>
     ensures same { clock_entries entries.new.items ≡ clock_entries entries.old.items }
-    ensures capacity { entries.new.capacity ≡ entries.old.capacity }
-    ensures rooms { OnOk result (IsTrue (list_all has_room entries.new.items)) }
+    ensures room { OnOk result ((length entries.old.items + more ≤ entries.new.capacity)
+        × IsTrue (list_all has_room entries.new.items)) }
 {
+    entries.reserve(more)?;
     for at in 0..entries.len() {
         match entries.get_mut(at) {
             Some(entry) => entry.values.reserve(1)?,

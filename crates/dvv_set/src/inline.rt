@@ -49,13 +49,6 @@ impl<T> InlineList<T> {
         *self.content.allocator()
     }
 
-    /// The items.
-    pub(crate) fn as_slice(&self) -> &[T]
-        ensures { result.now ≡ self.now.items }
-    {
-        self.content.as_slice()
-    }
-
     /// Whether there is no item.
     pub(crate) fn is_empty(&self) -> bool
         ensures { result ≡ (length self.now.items == 0) }
@@ -136,14 +129,6 @@ impl<T: MadeWith<Global> + Drop> InlineList<T> {
         ensures capacity { self.new.capacity ≡ self.old.capacity }
     {
         self.content.truncate(len);
-    }
-
-    /// Drops all items.
-    pub(crate) fn clear(&mut self)
-        ensures items { self.new.items ≡ [] }
-        ensures capacity { self.new.capacity ≡ self.old.capacity }
-    {
-        self.content.clear();
     }
 
     /// Takes the first item out.

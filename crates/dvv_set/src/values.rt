@@ -52,13 +52,14 @@ impl<'a, V: InMemory> Iterator for Values<'a, V> {
     ghost remaining = { λ v. at_most (length v) };
 
     fn next(&mut self) -> Option<&'a V> {
-        while self.first.is_empty() {
+        loop {
+            if let Some((value, rest)) = self.first.split_first() {
+                self.first = rest;
+                return Some(value);
+            }
             let (entry, rest) = self.entries.split_first()?;
-            self.first = entry.values.as_slice();
+            self.first = &entry.values;
             self.entries = rest;
         }
-        let (value, rest) = self.first.split_first()?;
-        self.first = rest;
-        Some(value)
     }
 }

@@ -13,8 +13,8 @@ unreachable-requires g c =
     let some = c.in-None.ensures.variant.1 (omega (arith, c.loop-at-test.true, c.len-at-end.ensures, c.loop-at.invariant.length)) in
     cc
 
-pub clear-requires : goal.clear-requires
-clear-requires g c = let fits = c.well_formed in omega arith
+pub truncate-requires : goal.truncate-requires
+truncate-requires g c = let fits = c.well_formed in omega arith
 
 pub loop-at-preserved : goal.loop-at-preserved
 loop-at-preserved g c =
@@ -22,12 +22,12 @@ loop-at-preserved g c =
     let within : c.loop-at.at < length c.loop-at.entries.items = omega (arith, c.loop-at-test.true, c.len-at-end.ensures, c.loop-at.invariant.length) in
     record {
       entries = set-emptied_next c.loop-at.entries.items c.loop-at.at (clock_entries c.args.entries.now.items) here _ within c.loop-at.invariant.entries
-          ((λ i. (actor_of here.pair, (here.pair.counter, c.clear.ensures.items i))) ∙ ap (λ entry. emptied (clock_entry entry)) c.in-Some.ensures.value);
+          ((λ i. (actor_of here.pair, (here.pair.counter, c.truncate.ensures.items i))) ∙ ap (λ entry. emptied (clock_entry entry)) c.in-Some.ensures.value);
       length = length-set c.loop-at.entries.items c.loop-at.at _ ∙ c.loop-at.invariant.length;
       capacity = c.loop-at.invariant.capacity;
       rooms = λ all.
           let was = ap has_room c.in-Some.ensures.value ∙ rooms-get c.loop-at.entries.items c.loop-at.at here within (c.loop-at.invariant.rooms all) in
-          rooms-set c.loop-at.entries.items c.loop-at.at _ ((λ i. nat_lt (length (c.clear.ensures.items i)) (c.clear.ensures.capacity i)) ∙ room_fewer (length here.values.items) 0 here.values.capacity (omega arith) was) (c.loop-at.invariant.rooms all);
+          rooms-set c.loop-at.entries.items c.loop-at.at _ ((λ i. nat_lt (length (c.truncate.ensures.items i)) (c.truncate.ensures.capacity i)) ∙ room_fewer (length here.values.items) 0 here.values.capacity (omega arith) was) (c.loop-at.invariant.rooms all);
     }
 
 pub returns-clause-emptied : goal.returns-clause-emptied

@@ -1,9 +1,8 @@
-use Rattle.std.proofs.Common.{◌≡◌, ◌<◌, [], ◌∙◌, refl, sym, ap, arith, length}
-use Rattle.std.proofs.lemmas.Bool.Decides.{nat_tests}
+use Rattle.std.proofs.Common.{◌∙◌, refl, sym, ap, arith, length}
 use Rattle.dvv_set.specs.ClockEntries.{merge_all}
 use Rattle.dvv_set.specs.Stored.{clock_entries}
 use Rattle.dvv_set.proofs.Counts.{AreEntries-rest, AreEntries-next, is_entry-first, merge_entry-fits, merge_all-next}
-use Rattle.dvv_set.proofs.Rooms.{no_items}
+use Rattle.dvv_set.proofs.Rooms.{some_items, none_items, fewer_items, in_more_room, more_room}
 use Rattle.dvv_set.proofs.entry.merge_all.Goals as goal
 
 pub loop-others-init : goal.loop-others-init
@@ -11,12 +10,12 @@ loop-others-init g c = record { entries = c.requires.own_entries; others = c.req
 
 pub remove_first-entry-requires : goal.remove_first-entry-requires
 remove_first-entry-requires g c =
-    let some : 0 < length c.loop-others.others.items = grind (arith, nat_tests, c.loop-others-test.true, c.is_empty.ensures) in
+    let some = some_items c.loop-others.others.items (sym c.is_empty.ensures ∙ c.loop-others-test.true) in
     let fits = c.well_formed in
     (omega arith, some)
 
 pub loop-others-smaller : goal.loop-others-smaller
-loop-others-smaller g c = omega (arith, ap length c.remove_first-entry.ensures)
+loop-others-smaller g c = fewer_items _ _ _ c.remove_first-entry.ensures
 
 pub merge_entry-requires : goal.merge_entry-requires
 merge_entry-requires g c =
@@ -32,7 +31,7 @@ merge_entry-requires g c =
             c.loop-others.invariant.entries.each,
             (
               is_entry-first _ _ _ e c.loop-others.invariant.others,
-              merge_entry-fits _ _ _ _ _ e c.loop-others.invariant.others c.loop-others.invariant.entries (omega (arith, same, c.requires.room, c.loop-others.invariant.room)),
+              merge_entry-fits _ _ _ _ _ e c.loop-others.invariant.others c.loop-others.invariant.entries (in_more_room _ _ _ _ same c.requires.room c.loop-others.invariant.room),
             ),
           ),
         ),
@@ -45,13 +44,13 @@ loop-others-preserved g c =
     record {
       entries = AreEntries-next _ _ _ _ _ e c.merge_entry.ensures.merged_in c.loop-others.invariant.others c.loop-others.invariant.entries;
       others = AreEntries-rest _ _ _ e c.loop-others.invariant.others;
-      room = omega (arith, c.loop-others.invariant.room, c.merge_entry.ensures.capacity);
+      room = more_room _ _ _ c.loop-others.invariant.room c.merge_entry.ensures.capacity;
       same = merge_all-next _ _ _ _ _ e c.merge_entry.ensures.merged_in ∙ c.loop-others.invariant.same;
     }
 
 pub returns-clause-merged_in : goal.returns-clause-merged_in
 returns-clause-merged_in g c =
-    let none : c.loop-others.others.items ≡ [] = no_items c.loop-others.others.items (grind (arith, nat_tests, c.loop-others-test.false, c.is_empty.ensures)) in
+    let none = none_items c.loop-others.others.items (sym c.is_empty.ensures ∙ c.loop-others-test.false) in
     ap (λ items. merge_all (clock_entries items) (clock_entries c.loop-others.entries.items)) (sym none) ∙ c.loop-others.invariant.same
 
 pub returns-clause-capacity : goal.returns-clause-capacity

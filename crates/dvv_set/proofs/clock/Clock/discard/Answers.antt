@@ -1,4 +1,4 @@
-use Rattle.std.proofs.Common.{◌∙◌, sym, ap, arith, length}
+use Rattle.std.proofs.Common.{◌+◌, ◌∙◌, sym, ap, arith, length}
 use Rattle.actor_epoch.specs.Contexts.{is_well_formed}
 use Rattle.dvv_set.specs.Clocks.{discard}
 use Rattle.dvv_set.specs.ClockEntries.{dot_state_of, merge_all, count_new, entries_of_pairs}
@@ -7,6 +7,7 @@ use Rattle.dvv_set.proofs.Stored.{length-clock_entries}
 use Rattle.dvv_set.proofs.Merges.{AreEntries-merge_all}
 use Rattle.dvv_set.proofs.Events.{AreEntries-pairs}
 use Rattle.dvv_set.proofs.Counts.{length-discard, count_new-pairs-within, dot_state_of-discard, length-merge_all}
+use Rattle.dvv_set.proofs.Rooms.{few_pairs, within_same, full_same}
 use Rattle.dvv_set.proofs.clock.Clock.discard.Goals as goal
 
 pub reserve_actors-requires : goal.reserve_actors-requires
@@ -15,7 +16,7 @@ reserve_actors-requires g c =
     let pairs = c.args.context.now in
     let counted = c.count_new_pairs-new.ensures.counted ∙ (λ i. count_new (entries_of_pairs {V = g.row.V.Denot} (c.pairs.ensures.pairs i)) (clock_entries (c.deref.ensures i))) in
     let fits = c.well_formed in
-    (omega arith, (omega arith, (c.self.invariant.few, omega (arith, counted, count_new-pairs-within g.row.V.Denot pairs (clock_entries own) c.pairs.ensures.of_form))))
+    (omega arith, (omega arith, (c.self.invariant.few, few_pairs _ _ counted (count_new-pairs-within g.row.V.Denot pairs (clock_entries own) c.pairs.ensures.of_form))))
 
 pub returns-in-Err-clause-full : goal.returns-in-Err-clause-full
 returns-in-Err-clause-full g c =
@@ -24,9 +25,9 @@ returns-in-Err-clause-full g c =
     let counted = c.count_new_pairs-new.ensures.counted ∙ (λ i. count_new (entries_of_pairs {V = g.row.V.Denot} (c.pairs.ensures.pairs i)) (clock_entries (c.deref.ensures i))) in
     let total =
     (λ i. length (discard pairs (sym c.self.view_is i).meaning).known)
-    ∙ length-discard (clock_entries own) pairs c.self.invariant.entries c.pairs.ensures.of_form in
-    let count = length-clock_entries own in
-    (λ e. omega (arith, counted, total, count, c.in-Err.ensures.full.0 e), λ h. c.in-Err.ensures.full.1 (omega (arith, counted, total, count, h)))
+    ∙ length-discard (clock_entries own) pairs c.self.invariant.entries c.pairs.ensures.of_form
+    ∙ (λ i. length-clock_entries own i + sym counted i) in
+    full_same _ _ _ _ total c.in-Err.ensures.full
 
 pub merge_pairs-requires : goal.merge_pairs-requires
 merge_pairs-requires g c =
@@ -36,9 +37,10 @@ merge_pairs-requires g c =
     let form = AreEntries-pairs g.row.V.Denot pairs c.pairs.ensures.of_form in
     let long =
     (λ i. length (merge_all (entries_of_pairs (c.pairs-2.ensures.pairs i)) (clock_entries (c.in_default.ensures.unchanged i))))
-    ∙ length-merge_all (entries_of_pairs pairs) (clock_entries own) form c.self.invariant.entries in
+    ∙ length-merge_all (entries_of_pairs pairs) (clock_entries own) form c.self.invariant.entries
+    ∙ (λ i. length-clock_entries own i + sym counted i) in
     let fits = c.well_formed in
-    (omega arith, (omega arith, (rw c.in_default.ensures.unchanged c.self.invariant.entries, (ap is_well_formed c.pairs-2.ensures.pairs ∙ c.pairs-2.ensures.of_form, omega (arith, counted, long, length-clock_entries own, c.in_default.ensures.ok.1)))))
+    (omega arith, (omega arith, (rw c.in_default.ensures.unchanged c.self.invariant.entries, (ap is_well_formed c.pairs-2.ensures.pairs ∙ c.pairs-2.ensures.of_form, within_same _ _ _ long c.in_default.ensures.ok.1))))
 
 pub invariant_of-self-2 : goal.invariant_of-self-2
 invariant_of-self-2 g c =
@@ -49,10 +51,13 @@ invariant_of-self-2 g c =
     c.merge_pairs.ensures.merged_in
     ∙ (λ i. merge_all (entries_of_pairs (c.pairs-2.ensures.pairs i)) (clock_entries (c.in_default.ensures.unchanged i))) in
     let form = AreEntries-pairs g.row.V.Denot pairs c.pairs.ensures.of_form in
-    let long = ap length merged_in ∙ length-merge_all (entries_of_pairs pairs) (clock_entries own) form c.self.invariant.entries in
+    let long =
+    sym (length-clock_entries c.merge_pairs.new.entries.items) ∙ ap length merged_in
+    ∙ length-merge_all (entries_of_pairs pairs) (clock_entries own) form c.self.invariant.entries
+    ∙ (λ i. length-clock_entries own i + sym counted i) in
     record {
       entries = rw merged_in (AreEntries-merge_all (entries_of_pairs pairs) (clock_entries own) form c.self.invariant.entries);
-      few = omega (arith, counted, long, length-clock_entries own, length-clock_entries c.merge_pairs.new.entries.items, c.in_default.ensures.ok.0);
+      few = within_same _ _ _ long c.in_default.ensures.ok.0;
     }
 
 pub returns-clause-discarded : goal.returns-clause-discarded
@@ -73,14 +78,14 @@ returns-clause-within g c =
     let counted = c.count_new_pairs-new.ensures.counted ∙ (λ i. count_new (entries_of_pairs {V = g.row.V.Denot} (c.pairs.ensures.pairs i)) (clock_entries (c.deref.ensures i))) in
     let total =
     (λ i. length (discard pairs (sym c.self.view_is i).meaning).known)
-    ∙ length-discard (clock_entries own) pairs c.self.invariant.entries c.pairs.ensures.of_form in
-    let count = length-clock_entries own in
-    omega (arith, counted, total, count, c.in_default.ensures.ok.0)
+    ∙ length-discard (clock_entries own) pairs c.self.invariant.entries c.pairs.ensures.of_form
+    ∙ (λ i. length-clock_entries own i + sym counted i) in
+    within_same _ _ _ total c.in_default.ensures.ok.0
 
 pub invariant_of-self : goal.invariant_of-self
 invariant_of-self g c = record {
   entries = rw c.in-Err.ensures.unchanged c.self.invariant.entries;
-  few = omega (arith, ap length c.in-Err.ensures.unchanged, c.self.invariant.few);
+  few = within_same _ _ _ (ap length c.in-Err.ensures.unchanged) c.self.invariant.few;
 }
 
 pub returns-in-Err-clause-never : goal.returns-in-Err-clause-never

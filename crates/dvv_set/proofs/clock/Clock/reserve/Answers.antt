@@ -1,43 +1,35 @@
-use Rattle.std.proofs.Common.{◌∙◌, ap, arith, length}
+use Rattle.std.proofs.Common.{ap, arith, length}
+use Rattle.std.proofs.lemmas.Result.{on_ok_weaker}
 use Rattle.dvv_set.specs.Held.{pairs_of, actors_after, counter_before}
 use Rattle.dvv_set.specs.ClockEntries.{known_of}
-use Rattle.dvv_set.specs.Stored.{clock_entries}
 use Rattle.dvv_set.proofs.Stored.{length-clock_entries}
 use Rattle.dvv_set.proofs.Rooms.{each-room}
 use Rattle.dvv_set.proofs.clock.Clock.reserve.Goals as goal
 
-pub invariant_of-self-in_err-reserve_values : goal.invariant_of-self-in_err-reserve_values
-invariant_of-self-in_err-reserve_values g c =
-    let same = c.reserve_values.ensures.same ∙ ap clock_entries c.in_ok-reserve.ensures.items in
+pub invariant_of-self : goal.invariant_of-self
+invariant_of-self g c =
+    let same = c.reserve_room.ensures.same in
     record {
       entries = rw same c.self.invariant.entries;
-      few = omega (arith, ap length same, length-clock_entries c.reserve_values.new.entries.items, length-clock_entries c.self.inside.entries.items, c.self.invariant.few);
-    }
-
-pub invariant_of-self-2 : goal.invariant_of-self-2
-invariant_of-self-2 g c =
-    let same = c.reserve_values.ensures.same ∙ ap clock_entries c.in_ok-reserve.ensures.items in
-    record {
-      entries = rw same c.self.invariant.entries;
-      few = omega (arith, ap length same, length-clock_entries c.reserve_values.new.entries.items, length-clock_entries c.self.inside.entries.items, c.self.invariant.few);
+      few = omega (arith, ap length same, length-clock_entries c.reserve_room.new.entries.items, length-clock_entries c.self.inside.entries.items, c.self.invariant.few);
     }
 
 pub returns-clause-ready : goal.returns-clause-ready
 returns-clause-ready g c =
     let pairs = pairs_of c.args.context in
-    let same = c.in_ok-reserve_values.ensures.same ∙ ap clock_entries c.in_ok-reserve.ensures.items in
+    let same = c.reserve_room.ensures.same in
     let long = ap (λ entries. actors_after (known_of entries) pairs c.args.actor) same in
     let last = ap (λ entries. counter_before (known_of entries) pairs c.args.actor) same in
     let few = ap (λ held. actors_after held.meaning.known pairs c.args.actor) c.self.view_is in
     let counter = ap (λ held. counter_before held.meaning.known pairs c.args.actor) c.self.view_is in
     let more = rw c.deref.ensures at c.required_room-more.ensures.more in
-    record {
+    on_ok_weaker c.reserve_room.result (λ room. record {
       of_form = c.required_room-more.ensures.of_form;
       few = omega (arith, long, few, c.requires.few);
       counter = omega (arith, last, counter, c.requires.counter);
-      actors = omega (arith, long, more, c.in_ok-reserve.ensures.ok, c.in_ok-reserve_values.ensures.capacity);
-      values = each-room c.reserve_values.new.entries.items c.args.actor c.in_ok-reserve_values.ensures.rooms;
-    }
+      actors = omega (arith, long, more, room.0);
+      values = each-room c.reserve_room.new.entries.items c.args.actor room.1;
+    }) c.reserve_room.ensures.room
 
 pub deref-requires : goal.deref-requires
 deref-requires g c = omega arith
@@ -45,8 +37,5 @@ deref-requires g c = omega arith
 pub required_room-more-requires : goal.required_room-more-requires
 required_room-more-requires g c = (omega arith, rw c.deref.ensures c.self.invariant.entries)
 
-pub reserve-requires : goal.reserve-requires
-reserve-requires g c = omega arith
-
-pub reserve_values-requires : goal.reserve_values-requires
-reserve_values-requires g c = (omega arith, omega arith)
+pub reserve_room-requires : goal.reserve_room-requires
+reserve_room-requires g c = (omega arith, omega arith)

@@ -1,7 +1,7 @@
 use Rattle.std.proofs.Common.{◌≡◌, length, take, IsTrue}
 use Rattle.std.specs.List.{list_all}
 use Rattle.dvv_set.specs.Stored.{clock_entries, has_room}
-use Rattle.dvv_set.proofs.entry.reserve_values.Given as goal
+use Rattle.dvv_set.proofs.entry.reserve_room.Given as goal
 
 abbrev pub invariant-loop-at : goal.invariant-loop-at
 invariant-loop-at g l = record {
