@@ -16,10 +16,19 @@ use std::marker::Model;
 use vnode_core::{Ask, Change, Plan, Refusal, Vnode};
 
 /// A vnode, and the change that was planned at a look. Contracts see its state and the plan.
-#[derive(Drop)]
 pub(crate) struct Hand {
     vnode: Vnode,
     change: Option<Change>,
+}
+
+/// One call at each place where one is let go.
+impl Drop for Hand {
+    fn drop(self) {
+        let Hand {
+            vnode: _vnode,
+            change: _change,
+        } = self;
+    }
 }
 
 impl Model for Hand {

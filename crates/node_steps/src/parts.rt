@@ -44,6 +44,20 @@ fn turn(alloc: Global, act: Act, site: &mut Site, phase: Phase) -> Result<(Phase
     }
 }
 
+/// Puts a phase in the place of the one before, which is let go.
+fn set_phase(place: &mut Phase, phase: Phase)
+    ensures { place.new ≡ phase }
+{
+    *place = phase;
+}
+
+/// The outcome for a call that no worker gets, which is let go.
+fn refuse(_call: Call) -> Outcome
+    ensures { result ≡ Outcome.No }
+{
+    Outcome::No
+}
+
 impl Parts {
     /// The place of a worker, and the index of the vnode that it is about; none where it can do nothing.
     fn find(&self, worker: u16) -> Option<(usize, usize)>
@@ -74,11 +88,11 @@ impl Parts {
         let phase = mem::replace(&mut self.workers[place], Phase::Idle);
         match turn(alloc, act, &mut self.sites[index], phase) {
             Ok((next, outcome)) => {
-                self.workers[place] = next;
+                set_phase(&mut self.workers[place], next);
                 Ok(outcome)
             }
             Err(phase) => {
-                self.workers[place] = phase;
+                set_phase(&mut self.workers[place], phase);
                 Err(StepFault::NoMemory)
             }
         }
@@ -113,12 +127,12 @@ impl Parts {
             (world_in self.new) }
     {
         let Some(place) = self.find_idle(worker) else {
-            return Outcome::No;
+            return refuse(call);
         };
         if usize::from(index) >= self.sites.len() {
-            return Outcome::No;
+            return refuse(call);
         }
-        self.workers[place] = Phase::Asked(index, call);
+        set_phase(&mut self.workers[place], Phase::Asked(index, call));
         Outcome::Done
     }
 
