@@ -23,8 +23,7 @@ impl Message for DelAsk {
     ghost encoding = { del_body };
 
     fn encode<O: Output>(&self, out: &mut O) -> Result<(), AllocError> {
-        out.encode_bytes(1, self.key.bucket.as_slice())?;
-        out.encode_bytes(2, self.key.key.as_slice())?;
+        self.key.encode_names(out)?;
         encode_context(out, 4, &self.context)?;
         encode_type(out, 13, &self.key.bucket_type)
     }

@@ -1,6 +1,6 @@
-//! Fields that may be absent.
+//! Fields that may be absent, and a message behind its code.
 
-ghost use Rattle.std.specs.Prelude.{◌≡◌, OnOk};
+ghost use Rattle.std.specs.Prelude.{◌≡◌, ◌∷◌, IfOk, IsOkUnless, OnOk};
 ghost use Rattle.pb_fields.specs.Encoding.{optional_field};
 ghost use Rattle.pb_fields.specs.Field.{IsNumber};
 ghost use Rattle.riak_msgs.specs.Encoding.{context_field};
@@ -8,8 +8,9 @@ ghost use Rattle.riak_msgs.specs.Requests.{type_field};
 
 use crate::bucket_type::{BucketType, DEFAULT_TYPE};
 use crate::bytes::Bytes;
-use pb_fields::Output;
-use std::alloc::AllocError;
+use crate::fault::MsgFault;
+use pb_fields::{Message, Output, encoded_len};
+use std::alloc::{AllocError, Global};
 
 /// Encodes bytes as the field of this number, where they are there.
 #[inline(always)]
@@ -59,4 +60,21 @@ pub(crate) fn encode_type<O: Output>(
     } else {
         out.encode_bytes(number, bucket_type.as_slice())
     }
+}
+
+/// A message's code, and its encoding behind it, in one buffer of the right size. Refused by `NoMemory` alone.
+#[inline(always)]
+pub(crate) fn write_message<M: Message>(
+    alloc: Global,
+    code: u8,
+    message: &M,
+) -> Result<Vec<u8>, MsgFault>
+    ensures encoded { IfOk result (λ v. v.items ≡ code ∷ M.encoding message.now) }
+    ensures memory { IsOkUnless result MsgFault.NoMemory }
+{
+    let body = encoded_len(message)?;
+    let mut out = Vec::with_capacity(alloc, body.saturating_add(1))?;
+    out.extend_from_slice(&[code])?;
+    message.encode(&mut out)?;
+    Ok(out)
 }

@@ -44,8 +44,7 @@ impl Message for GetAsk {
     ghost encoding = { get_body };
 
     fn encode<O: Output>(&self, out: &mut O) -> Result<(), AllocError> {
-        out.encode_bytes(1, self.key.bucket.as_slice())?;
-        out.encode_bytes(2, self.key.key.as_slice())?;
+        self.key.encode_names(out)?;
         encode_context(out, 7, &self.if_modified)?;
         out.encode_bool(8, self.head)?;
         out.encode_bool(9, self.deletedvclock)?;

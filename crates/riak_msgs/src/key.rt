@@ -1,11 +1,13 @@
 //! What names a value in the store.
 
-ghost use Rattle.std.specs.Prelude.{◌≡◌, ◌↔◌, IsTrue, IfOk};
+ghost use Rattle.std.specs.Prelude.{◌≡◌, ◌↔◌, ◌++◌, IsTrue, IfOk, OnOk};
+ghost use Rattle.pb_fields.specs.Encoding.{bytes_field};
 ghost use Rattle.riak_msgs.specs.KeyOrder.{key_eq};
 ghost use Rattle.riak_msgs.specs.Requests.{default_key};
 
 use crate::bucket_type::BucketType;
 use crate::bytes::Bytes;
+use pb_fields::Output;
 use std::alloc::{AllocError, Global};
 
 /// What names a value in the store, ordered by bucket type, then bucket, then key, each by its bytes.
@@ -56,5 +58,15 @@ impl Key {
         ensures same { IsTrue result ↔ (self.now ≡ other.now) }
     {
         self == other
+    }
+
+    /// Encodes the bucket and the key, with which each request that names a key begins.
+    #[inline(always)]
+    pub(crate) fn encode_names<O: Output>(&self, out: &mut O) -> Result<(), AllocError>
+        ensures { OnOk result (O.appends out.old
+            (bytes_field 1 self.now.bucket ++ bytes_field 2 self.now.key) out.new) }
+    {
+        out.encode_bytes(1, self.bucket.as_slice())?;
+        out.encode_bytes(2, self.key.as_slice())
     }
 }

@@ -70,8 +70,7 @@ impl Message for PutAsk {
     ghost encoding = { put_body };
 
     fn encode<O: Output>(&self, out: &mut O) -> Result<(), AllocError> {
-        out.encode_bytes(1, self.key.bucket.as_slice())?;
-        out.encode_bytes(2, self.key.key.as_slice())?;
+        self.key.encode_names(out)?;
         encode_context(out, 3, &self.context)?;
         encode_message(out, 4, self.content.as_content())?;
         self.encode_options(out)?;

@@ -3,6 +3,7 @@
 ghost use Rattle.std.specs.Prelude.{◌≡◌, ◌∷◌, ◌++◌, length, IfOk, OnOk, IsOkUnless};
 ghost use Rattle.riak_msgs.specs.Replies.{reply_body, reply_code};
 
+use crate::encode::write_message;
 use crate::fault::MsgFault;
 use crate::get::GetReply;
 use crate::put::PutReply;
@@ -86,9 +87,5 @@ pub fn write_reply(alloc: Global, reply: &Reply) -> Result<Vec<u8>, MsgFault>
     ensures encoded { IfOk result (λ v. v.items ≡ reply_code reply.now ∷ reply_body reply.now) }
     ensures memory { IsOkUnless result MsgFault.NoMemory }
 {
-    let body = reply.body_len()?;
-    let mut out = Vec::with_capacity(alloc, body.saturating_add(1))?;
-    out.extend_from_slice(&[reply.code()])?;
-    reply.append_body(&mut out)?;
-    Ok(out)
+    write_message(alloc, reply.code(), reply)
 }

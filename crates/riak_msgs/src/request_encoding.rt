@@ -3,9 +3,10 @@
 ghost use Rattle.std.specs.Prelude.{◌≡◌, ◌∷◌, IfOk, IsOkUnless};
 ghost use Rattle.riak_msgs.specs.Requests.{request_body, request_code};
 
+use crate::encode::write_message;
 use crate::fault::MsgFault;
 use crate::request::Request;
-use pb_fields::{Message, Output, encoded_len};
+use pb_fields::{Message, Output};
 use std::alloc::{AllocError, Global};
 
 impl Request {
@@ -46,9 +47,5 @@ pub fn write_request(alloc: Global, request: &Request) -> Result<Vec<u8>, MsgFau
         ≡ request_code request.now ∷ request_body request.now) }
     ensures memory { IsOkUnless result MsgFault.NoMemory }
 {
-    let body = encoded_len(request)?;
-    let mut out = Vec::with_capacity(alloc, body.saturating_add(1))?;
-    out.extend_from_slice(&[request.code()])?;
-    request.encode(&mut out)?;
-    Ok(out)
+    write_message(alloc, request.code(), request)
 }
