@@ -1,15 +1,17 @@
 -- The encoding of a content stands for its fields, and these are the content.
-use Rattle.std.proofs.Common.{◌≡◌, ℕ, ◌+◌, ◌^◌, ◌<◌, false, List, [], ◌∷◌, ◌++◌, length, map, Option, Some, option_and_then, option_map, refl, ap, sym, subst, ◌∙◌, arith, length-append}
+use Rattle.std.proofs.Common.{◌≡◌, ℕ, ◌+◌, ◌^◌, ◌<◌, false, List, [], ◌∷◌, ◌++◌, length, map, Option, Some, option_and_then, option_map, refl, ap, sym, subst, ◌∙◌, arith, append_assoc, length-append}
 use Rattle.std.specs.List.{AllZip}
 use Rattle.std.proofs.lemmas.List.{append-nil}
 use Rattle.pb_fields.specs.Field.{WireField}
 use Rattle.pb_fields.specs.Message.{Encodes}
 use Rattle.riak_msgs.specs.declared.link.Link.{Link}
 use Rattle.riak_msgs.specs.declared.pair.Pair.{Pair}
+use Rattle.riak_msgs.specs.declared.details.Details.{Details}
+use Rattle.riak_msgs.specs.Content.{content_with}
 use Rattle.riak_msgs.specs.Contents.{Content}
 use Rattle.riak_msgs.specs.declared.shown.Shown.{Shown}
 use Rattle.pb_fields.specs.Encoding.{bytes_field, optional_field, repeated_field}
-use Rattle.riak_msgs.specs.Encoding.{link_message, pair_message, content_message, shown_message}
+use Rattle.riak_msgs.specs.Encoding.{link_message, pair_message, details_message, content_message, shown_message}
 use Rattle.riak_msgs.specs.Picking.{last_bytes, flag_of}
 use Rattle.riak_msgs.specs.Embedded.{all_of, link_of, pair_of, ContentFields, StandForContent, content_of, shown_of}
 use Rattle.riak_msgs.proofs.EncodedParts.{Part, string, optional, each, flag, encoded, encoded_behind-is, fields_of, parts_short, stands, bytes_field-shorter}
@@ -37,6 +39,24 @@ all_of-back of read back [] = refl
 all_of-back of read back (x ∷ xs) =
     ap (λ o. option_and_then (λ first. option_map (λ rest. first ∷ rest) (all_of (map of (map read xs)))) o) (back x)
     ∙ ap (λ o. option_map (λ rest. x ∷ rest) o) (all_of-back of read back xs)
+
+-- bytes in front of six others
+in_front : (a b c d e f g : List ℕ) → a ++ b ++ c ++ d ++ e ++ f ++ g ≡ a ++ (b ++ c ++ d ++ e ++ f ++ g)
+in_front a b c d e f g =
+    ap (λ x. x ++ d ++ e ++ f ++ g) (append_assoc a b c)
+    ∙ ap (λ x. x ++ e ++ f ++ g) (append_assoc a (b ++ c) d)
+    ∙ ap (λ x. x ++ f ++ g) (append_assoc a (b ++ c ++ d) e)
+    ∙ ap (λ x. x ++ g) (append_assoc a (b ++ c ++ d ++ e) f)
+    ∙ append_assoc a (b ++ c ++ d ++ e ++ f) g
+
+-- a value, and its details behind it
+pub content_message-with : (c : Content) (value : List ℕ) (details : Details) → c ≡ content_with value details →
+    content_message c ≡ bytes_field 1 value ++ details_message details
+content_message-with c value details is =
+    ap content_message is
+    ∙ in_front (bytes_field 1 value) (optional_field 2 details.content_type) (optional_field 3 details.charset)
+    (optional_field 4 details.content_encoding) (repeated_field link_message 6 details.links)
+    (repeated_field pair_message 9 details.usermeta) (repeated_field pair_message 10 details.indexes)
 
 link_parts : Link → List Part
 link_parts l = optional 1 l.bucket ∷ optional 2 l.key ∷ optional 3 l.tag ∷ []

@@ -11,7 +11,7 @@ ghost use Rattle.riak_msgs.specs.Seen.{no_fields, merged, scalars_of, with_parts
 use crate::content::Content;
 use crate::details::Details;
 use crate::fault::MsgFault;
-use crate::pairs_and_links::{PairView, copied, copy_link, copy_pair};
+use crate::pairs_and_links::{PairView, copied_three, copy_link, copy_pair};
 use crate::sequence::Sequence;
 use pb_fields::{Field, FieldFault, Merge, Value, scan};
 use std::alloc::{AllocError, Global};
@@ -133,10 +133,16 @@ impl<'a> ContentView<'a> {
           content_encoding = option_copied self.now.content_encoding;
         }) }
     {
+        let (content_type, charset, content_encoding) = copied_three(
+            alloc,
+            self.content_type,
+            self.charset,
+            self.content_encoding,
+        )?;
         Ok(Details {
-            content_type: copied(alloc, self.content_type)?,
-            charset: copied(alloc, self.charset)?,
-            content_encoding: copied(alloc, self.content_encoding)?,
+            content_type,
+            charset,
+            content_encoding,
             links: Sequence::new(alloc),
             usermeta: Sequence::new(alloc),
             indexes: Sequence::new(alloc),

@@ -9,7 +9,7 @@ use crate::encode::encode_optional;
 use crate::link::Link;
 use crate::pair::Pair;
 use crate::sequence::Sequence;
-use crate::try_clone::try_clone_option;
+use crate::try_clone::try_clone_three;
 use pb_fields::{Message, Output, encode_repeated};
 use std::alloc::{AllocError, Global};
 
@@ -39,9 +39,6 @@ impl Drop for Details {
     }
 }
 
-/// A content type, a charset and an encoding.
-type Labels = (Option<Bytes>, Option<Bytes>, Option<Bytes>);
-
 /// Links, metadata and indexes.
 type Parts = (Sequence<Link>, Sequence<Pair>, Sequence<Pair>);
 
@@ -64,7 +61,12 @@ impl Details {
     pub fn clone(&self, alloc: Global) -> Result<Details, AllocError>
         ensures { IfOk result (λ copy. copy ≡ self.now) }
     {
-        let (content_type, charset, content_encoding) = self.clone_labels(alloc)?;
+        let (content_type, charset, content_encoding) = try_clone_three(
+            &self.content_type,
+            &self.charset,
+            &self.content_encoding,
+            alloc,
+        )?;
         let (links, usermeta, indexes) = self.clone_parts(alloc)?;
         Ok(Details {
             content_type,
@@ -76,20 +78,8 @@ impl Details {
         })
     }
 
-    /// Copies of the content type, the charset and the encoding. (Apart from the others, since each value that is held at a
-    /// `?` costs the prover time.)
-    fn clone_labels(&self, alloc: Global) -> Result<Labels, AllocError>
-        ensures { IfOk result (λ r. (r.0 ≡ self.now.content_type) × (r.1 ≡ self.now.charset)
-            × (r.2 ≡ self.now.content_encoding)) }
-    {
-        Ok((
-            try_clone_option(&self.content_type, alloc)?,
-            try_clone_option(&self.charset, alloc)?,
-            try_clone_option(&self.content_encoding, alloc)?,
-        ))
-    }
-
-    /// Copies of the links, the metadata and the indexes.
+    /// Copies of the links, the metadata and the indexes. (Apart from the others, since each value that is held at a `?` costs
+    /// the prover time.)
     fn clone_parts(&self, alloc: Global) -> Result<Parts, AllocError>
         ensures { IfOk result (λ r. (r.0 ≡ self.now.links) × (r.1 ≡ self.now.usermeta)
             × (r.2 ≡ self.now.indexes)) }

@@ -5,7 +5,7 @@ ghost use Rattle.std.specs.Prelude.{◌≡◌, IfOk};
 
 use crate::bytes::Bytes;
 use crate::encode::encode_optional;
-use crate::try_clone::{TryClone, try_clone_option};
+use crate::try_clone::{TryClone, try_clone_three};
 use pb_fields::{Message, Output};
 use std::alloc::{AllocError, Global};
 
@@ -32,11 +32,8 @@ impl Link {
     pub fn clone(&self, alloc: Global) -> Result<Link, AllocError>
         ensures { IfOk result (λ copy. copy ≡ self.now) }
     {
-        Ok(Link {
-            bucket: try_clone_option(&self.bucket, alloc)?,
-            key: try_clone_option(&self.key, alloc)?,
-            tag: try_clone_option(&self.tag, alloc)?,
-        })
+        let (bucket, key, tag) = try_clone_three(&self.bucket, &self.key, &self.tag, alloc)?;
+        Ok(Link { bucket, key, tag })
     }
 }
 

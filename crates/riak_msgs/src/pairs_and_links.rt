@@ -12,6 +12,7 @@ use crate::fault::MsgFault;
 use crate::link::Link;
 use crate::pair::Pair;
 use crate::sequence::Sequence;
+use crate::try_clone::ThreeBytes;
 use pb_fields::{Field, FieldFault, Merge, Value, scan};
 use std::alloc::{AllocError, Global};
 
@@ -64,11 +65,8 @@ impl<'a> PairView<'a> {
         ensures { (fields : List WireField) → IsPartOf self.now fields
             → IfOk result (λ link. link ≡ link_of fields) }
     {
-        Ok(Link {
-            bucket: copied(alloc, self.first)?,
-            key: copied(alloc, self.second)?,
-            tag: copied(alloc, self.third)?,
-        })
+        let (bucket, key, tag) = copied_three(alloc, self.first, self.second, self.third)?;
+        Ok(Link { bucket, key, tag })
     }
 
     /// A copy of it as a pair, where its key is there.
@@ -133,4 +131,21 @@ pub(crate) fn copied(alloc: Global, bytes: Option<&[u8]>) -> Result<Option<Bytes
         Some(bytes) => Ok(Some(Bytes::from_slice(alloc, bytes)?)),
         None => Ok(None),
     }
+}
+
+/// Copies of three byte strings that may be absent, in their order.
+pub(crate) fn copied_three(
+    alloc: Global,
+    first: Option<&[u8]>,
+    second: Option<&[u8]>,
+    third: Option<&[u8]>,
+) -> Result<ThreeBytes, AllocError>
+    ensures { IfOk result (λ copy. (copy.0 ≡ option_copied first.entry)
+        × (copy.1 ≡ option_copied second.entry) × (copy.2 ≡ option_copied third.entry)) }
+{
+    Ok((
+        copied(alloc, first)?,
+        copied(alloc, second)?,
+        copied(alloc, third)?,
+    ))
 }

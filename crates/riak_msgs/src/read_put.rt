@@ -150,30 +150,20 @@ impl<'a> PutView<'a> {
         })
     }
 
-    /// A copy of the content, behind a pointer. (Apart from the others, since each value that is held at a `?` costs the prover
-    /// time.)
+    /// A copy of the content, behind a pointer. Where links or pairs were seen in it the body is scanned once more, to copy them.
+    /// (Apart from the others, since each value that is held at a `?` costs the prover time.)
     fn boxed_content(&self, alloc: Global, body: &[u8]) -> Result<BoxedContent, MsgFault>
         ensures ok { (put : PutFields) → IsSeenPutOf self.now put → EncodesPut body.now put
             → IfOk result (λ content. content ≡ with_parts (scalars_of put.content) put.content) }
         ensures err { (put : PutFields) → IsSeenPutOf self.now put → EncodesPut body.now put
             → IfErr result (λ fault. fault ≡ MsgFault.NoMemory) }
     {
-        let content = self.content(alloc, body)?;
-        Ok(BoxedContent::new(alloc, content)?)
-    }
-
-    /// A copy of the content. Where links or pairs were seen in it the body is scanned once more, to copy them.
-    fn content(&self, alloc: Global, body: &[u8]) -> Result<Content, MsgFault>
-        ensures ok { (put : PutFields) → IsSeenPutOf self.now put → EncodesPut body.now put
-            → IfOk result (λ content. content ≡ with_parts (scalars_of put.content) put.content) }
-        ensures err { (put : PutFields) → IsSeenPutOf self.now put → EncodesPut body.now put
-            → IfErr result (λ fault. fault ≡ MsgFault.NoMemory) }
-    {
-        if self.content.has_parts {
-            copy_contents(body, self.content.parts_copy(alloc)?)
+        let content = if self.content.has_parts {
+            copy_contents(body, self.content.parts_copy(alloc)?)?
         } else {
-            Ok(self.content.scalars(alloc)?)
-        }
+            self.content.scalars(alloc)?
+        };
+        Ok(BoxedContent::new(alloc, content)?)
     }
 }
 

@@ -145,7 +145,7 @@ impl<'a> ReplyView<'a> {
     }
 }
 
-// Copies the content that was seen in these bytes behind the others.
+// Copies the content that was seen in these bytes behind the others. They are scanned once more only for links and pairs.
 fn push_content(
     alloc: Global,
     bytes: &[u8],
@@ -155,7 +155,11 @@ fn push_content(
     ensures { (c : ContentFields) → IsSeenOf view.entry c → StandForContent (bytes.now ∷ []) c
         → OnOk result (contents.new ≡ contents.old ++ whole_of c ∷ []) }
 {
-    let content = copied_content(alloc, bytes, view)?;
+    let content = if view.has_parts {
+        content_with_parts(alloc, bytes, view)?
+    } else {
+        view.scalars(alloc)?
+    };
     contents.push(Shown {
         content,
         deleted: view.deleted,
@@ -163,18 +167,7 @@ fn push_content(
     Ok(())
 }
 
-// A copy of the content that was seen in these bytes. They are scanned once more only for links and pairs.
-fn copied_content(alloc: Global, bytes: &[u8], view: ContentView<'_>) -> Result<Content, MsgFault>
-    ensures { (c : ContentFields) → IsSeenOf view.entry c → StandForContent (bytes.now ∷ []) c
-        → IfOk result (λ content. content ≡ with_parts (scalars_of c) c) }
-{
-    if !view.has_parts {
-        return Ok(view.scalars(alloc)?);
-    }
-    content_with_parts(alloc, bytes, view)
-}
-
-// The same where links or pairs were seen, by a scan for these.
+// A copy of the content that was seen in these bytes, with its links and pairs, for which they are scanned once more.
 fn content_with_parts(
     alloc: Global,
     bytes: &[u8],
