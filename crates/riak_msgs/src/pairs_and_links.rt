@@ -59,29 +59,6 @@ impl<'a> PairView<'a> {
         scan(bytes, &mut part)?;
         Ok(part)
     }
-
-    /// A copy of it as a link.
-    pub(crate) fn link(&self, alloc: Global) -> Result<Link, AllocError>
-        ensures { (fields : List WireField) → IsPartOf self.now fields
-            → IfOk result (λ link. link ≡ link_of fields) }
-    {
-        let (bucket, key, tag) = copied_three(alloc, self.first, self.second, self.third)?;
-        Ok(Link { bucket, key, tag })
-    }
-
-    /// A copy of it as a pair, where its key is there.
-    pub(crate) fn pair(&self, alloc: Global) -> Result<Option<Pair>, AllocError>
-        ensures { (fields : List WireField) → IsPartOf self.now fields
-            → IfOk result (λ pair. pair ≡ pair_of fields) }
-    {
-        let Some(key) = self.first else {
-            return Ok(None);
-        };
-        Ok(Some(Pair {
-            key: Bytes::from_slice(alloc, key)?,
-            value: copied(alloc, self.second)?,
-        }))
-    }
 }
 
 /// Copies the link that these bytes are behind the others. Where they stand for a list of fields, only memory can be refused.
@@ -98,7 +75,8 @@ pub(crate) fn copy_link(
     let Ok(part) = PairView::read(bytes) else {
         return Err(MsgFault::BadMessage);
     };
-    links.push(part.link(alloc)?)?;
+    let (bucket, key, tag) = copied_three(alloc, part.first, part.second, part.third)?;
+    links.push(Link { bucket, key, tag })?;
     Ok(())
 }
 
@@ -117,9 +95,12 @@ pub(crate) fn copy_pair(
     let Ok(part) = PairView::read(bytes) else {
         return Err(MsgFault::BadMessage);
     };
-    if let Some(pair) = part.pair(alloc)? {
-        pairs.push(pair)?;
-    }
+    let Some(key) = part.first else {
+        return Ok(());
+    };
+    let key = Bytes::from_slice(alloc, key)?;
+    let value = copied(alloc, part.second)?;
+    pairs.push(Pair { key, value })?;
     Ok(())
 }
 
