@@ -1,4 +1,4 @@
-//! Tests of `actor_epoch` and `dvv_set`, from outside: contexts, epochs and clocks.
+//! Tests of `actor_epoch`, `dvv_set`, `place_map` and `clock_map`, from outside: contexts, epochs, clocks, and what keeps the clocks of keys.
 //!
 //! They stand in a crate of their own, since a crate with tests is proved twice.
 #![tactic(auto)]
@@ -7,3 +7,7 @@
 mod clocks;
 #[cfg(test)]
 mod epochs;
+#[cfg(test)]
+mod places;
+#[cfg(test)]
+mod storage;

@@ -1,4 +1,4 @@
-use Rattle.pool_tests.proofs.book.play.Given as goal
+use Rattle.worker_tests.proofs.book.play.Given as goal
 
 abbrev pub ghosts-play_by-G-Ledger : goal.ghosts-play_by-G-Ledger
 ghosts-play_by-G-Ledger g a = record { name = a.blanks.gets.name; parts = a.blanks.gets.parts }
