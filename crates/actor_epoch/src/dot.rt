@@ -4,7 +4,7 @@ use crate::actor::Actor;
 use crate::limits::Counter;
 
 /// The dot of one write or tombstone. As an entry of a context it covers the dots 1 to `counter` of its actor.
-#[derive(Clone, Copy, Debug, PartialEq, Eq, PartialOrd, Ord)]
+#[derive(Clone, Copy, Debug, PartialEq, Eq)]
 pub struct Dot {
     /// The life in which it was written.
     pub actor: Actor,

@@ -50,14 +50,6 @@ impl BoxedContent {
         &self.place
     }
 
-    /// The content, taken out of its place.
-    pub fn into_content(self) -> Content
-        ensures { result ≡ self }
-    {
-        let BoxedContent { place } = self;
-        Box::into_inner(place)
-    }
-
     /// A copy, in a place of its own.
     pub fn clone(&self, alloc: Global) -> Result<BoxedContent, AllocError>
         ensures { IfOk result (λ copy. copy ≡ self.now) }
