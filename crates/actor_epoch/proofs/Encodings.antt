@@ -1,12 +1,12 @@
 -- What stands in the bytes of a context.
-use Rattle.std.proofs.Common.{◌≡◌, ℕ, ◌+◌, ◌*◌, ◌/◌, ◌<◌, ◌&&◌, IsTrue, List, [], ◌∷◌, ◌++◌, length, take, get_or, refl, sym, ◌∙◌, ap, arith}
-use Rattle.std.specs.Prelude.{flat_map, Option, Some, None}
+use Rattle.std.proofs.Common.{◌≡◌, ℕ, ◌+◌, ◌*◌, ◌/◌, ◌<◌, ◌&&◌, IsTrue, List, [], ◌∷◌, ◌++◌, length, take, get_or, ◌∙◌, ap, arith}
+use Rattle.std.specs.Prelude.{flat_map}
 use Rattle.std.specs.List.{list_all}
 use Rattle.std.proofs.lemmas.List.{take_more, map-append}
 use Rattle.std.proofs.lemmas.Grind.{flat_map-append}
 use Rattle.actor_epoch.specs.declared.actor.Actor.{Actor}
 use Rattle.actor_epoch.specs.declared.dot.Dot.{Dot}
-use Rattle.actor_epoch.specs.Contexts.{encoding, is_well_formed, is_rising, is_within_limits, entry_bytes, DecodesContext}
+use Rattle.actor_epoch.specs.Contexts.{encoding, is_well_formed, is_rising, is_within_limits, entry_bytes}
 use Rattle.actor_epoch.specs.Entries.{entries_in, entries_of, entry_of}
 use Rattle.actor_epoch.proofs.Rising.{and_second}
 use Rattle.actor_epoch.proofs.Entries.{entries_in-flat_map, length-flat_map}
@@ -34,9 +34,3 @@ encoding-take pairs i d h =
     ap (λ ps. encoding (entries_of ps)) (take_more pairs i d h)
     ∙ ap encoding (map-append entry_of (take i pairs) (get_or pairs i d ∷ []))
     ∙ ap (λ bs. 1 ∷ bs) (flat_map-append entry_bytes (entries_of (take i pairs)) (entry_of (get_or pairs i d) ∷ []))
-
--- what was written is read again, and as nothing else
-pub reads_back : (pairs : List Dot) (found : Option (List Dot)) → IsTrue (is_well_formed pairs) → DecodesContext (encoding pairs) found → found ≡ Some pairs
-reads_back pairs None h none = absurd (none pairs h refl)
-reads_back pairs (Some others) h (form, encoded) =
-    ap Some (sym (entries-are 1 (flat_map entry_bytes pairs) others form encoded) ∙ entries-are 1 (flat_map entry_bytes pairs) pairs h refl)

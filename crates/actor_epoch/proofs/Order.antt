@@ -3,7 +3,7 @@ use Rattle.std.proofs.Common.{◌≡◌, ℕ, Bool, true, false, ◌&&◌, ◌||
 use Rattle.std.specs.Prelude.{nat_le, nat_eq, max}
 use Rattle.std.specs.declared.cmp.Ordering.{Ordering}
 use Rattle.std.specs.declared.cmp.Ordering.TheVariants.{Less, Equal, Greater}
-use Rattle.std.specs.Ordering.{is_lt, nat_cmp}
+use Rattle.std.specs.Ordering.{is_lt}
 use Rattle.std.specs.Cmp.{IsTotalOrder, tied_itself}
 use Rattle.std.specs.Cmp.{on_total}
 use Rattle.std.proofs.lemmas.Cmp.{then_total, nat_cmp_total}
@@ -48,9 +48,6 @@ rising-below pair (next ∷ pairs) h =
 pub rising-tail : (pair : Dot) (pairs : List Dot) → IsTrue (is_rising (pair ∷ pairs)) → IsTrue (is_rising pairs)
 rising-tail pair [] h = refl
 rising-tail pair (next ∷ pairs) h = and_second (is_lt (actor_cmp pair.actor next.actor)) _ h
-
-nat_cmp_eq : (a b : ℕ) → nat_eq a b ≡ true → nat_cmp a b ≡ Equal
-nat_cmp_eq a b h = let e : a ≡ b = grind (arith, nat_tests) in ap (nat_cmp a) (sym e) ∙ tied_itself nat_cmp_total a
 
 nat_eq_itself : (a : ℕ) → nat_eq a a ≡ true
 nat_eq_itself a = grind (arith, nat_tests)

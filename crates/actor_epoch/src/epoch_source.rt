@@ -16,7 +16,7 @@ pub struct EpochSource {
 }
 
 impl Model for EpochSource {
-    ghost use Rattle.std.specs.Prelude.{ℕ, ◌<◌, ◌^◌};
+    ghost use Rattle.std.specs.Prelude.{ℕ, ◌<◌};
 
     ghost Value = { ℕ };
 

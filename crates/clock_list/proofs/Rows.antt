@@ -30,7 +30,7 @@ use Rattle.clock_store.specs.declared.store.WriteKind.TheVariants.{Value, Tombst
 use Rattle.clock_store.specs.Contents.{Reservation, HasPlaceIfDead, HasRoom}
 use Rattle.clock_store.specs.Keys.{Keys, stored_of, empty, clock_at, written, overwritten}
 use Rattle.std.specs.Ordering.{eq_by_cmp}
-use Rattle.clock_list.specs.Rows.{entry_of, place_entry, first_place, FitsAt, ReadyAt, IsNewRow, reservation_of, contents_in, IsRoom, IsList}
+use Rattle.clock_list.specs.Rows.{entry_of, place_entry, first_place, FitsAt, ReadyAt, reservation_of, contents_in, IsRoom, IsList}
 use Rattle.clock_list.proofs.Finding.{at_place, new_place}
 
 -- a key stands at its place
@@ -194,34 +194,8 @@ has-place : (kind : WriteKind) → HasPlaceIfDead kind true
 has-place Value = tt
 has-place Tombstone = refl
 
--- a row that knows nothing is a new key's
-pub new-row : (row : Row) (key : Key) (seen : Option (List Dot)) (actor : Actor) → row.key ≡ key → row.stored.clock.meaning ≡ empty → IsReady row.stored.clock seen actor → IsNewRow row key seen actor
-new-row row key seen actor same none ready = record { same = same; none = none; ready = ready }
-
 module _ (items : List Row) (key : Key) (seen : Option (List Dot)) (actor : Actor) (kind : WriteKind) where
-  -- room that was made in a list
-  pub room-at : (i : ℕ) (own : Key) → own ≡ key → ReadyAt items i seen actor → HasRoom (contents_in items (Some (rooms.At i own))) key seen actor kind
-  room-at i own same at = record {
-    reserved = reservation_of own at.row;
-    is = ap (option_map (reservation_of own)) at.get;
-    same = same;
-    ready = at.ready;
-    dies = has-place kind;
-  }
-
-  pub room-new : (i : ℕ) (row : Row) → IsNewRow row key seen actor → HasRoom (contents_in items (Some (rooms.New i row))) key seen actor kind
-  room-new i row new = record { reserved = reservation_of row.key row; is = refl; same = new.same; ready = new.ready; dies = has-place kind }
-
-  -- is what a write finds
-  pub found-at : (i : ℕ) (own : Key) → HasRoom (contents_in items (Some (rooms.At i own))) key seen actor kind → ReadyAt items i seen actor × (own ≡ key)
-  found-at i own room = by (slice_get items i) refl room.is
-    where
-      by : (o : Option Row) → slice_get items i ≡ o → option_map (reservation_of own) o ≡ Some room.reserved → ReadyAt items i seen actor × (own ≡ key)
-      by None get is = cc
-      by (Some row) get is =
-          let e : room.reserved ≡ reservation_of own row = cc in
-          (record { row = row; get = get; ready = subst (λ (r : Reservation). IsReady r.clock seen actor) e room.ready }, ap (λ (r : Reservation). r.key) (sym e) ∙ room.same)
-
+  -- room that was made in a list is what a write finds
   pub found-new : (i : ℕ) (row : Row) → HasRoom (contents_in items (Some (rooms.New i row))) key seen actor kind → IsReady row.stored.clock seen actor × (row.key ≡ key)
   found-new i row room =
       let e : room.reserved ≡ reservation_of row.key row = cc in

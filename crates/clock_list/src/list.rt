@@ -1,6 +1,6 @@
 //! The list of keys with room for one write.
 
-ghost use Rattle.std.specs.Prelude.{◌≡◌, map, IsTrue, IfOk, OnOk, Some};
+ghost use Rattle.std.specs.Prelude.{◌≡◌, map, IsTrue, IfOk, Some};
 ghost use Rattle.std.specs.FinMap.Entries.{is_sorted};
 ghost use Rattle.riak_msgs.specs.KeyOrder.{key_cmp};
 ghost use Rattle.dvv_set.specs.Held.{IsWithin, pairs_of as seen_in};

@@ -4,7 +4,7 @@ ghost use Rattle.std.specs.Prelude.{◌≡◌, map, IsTrue, OnOk, IfOk, None};
 ghost use Rattle.std.specs.FinMap.Entries.{is_sorted};
 ghost use Rattle.riak_msgs.specs.KeyOrder.{key_cmp};
 ghost use Rattle.dvv_set.specs.Held.{IsWithin, IsReady, pairs_of as seen_in};
-ghost use Rattle.clock_store.specs.Keys.{empty, clock_at, written, overwritten};
+ghost use Rattle.clock_store.specs.Keys.{empty, written, overwritten};
 ghost use Rattle.clock_list.specs.declared.place.Place.TheVariants as places;
 ghost use Rattle.clock_list.specs.Places.{place_in};
 ghost use Rattle.clock_list.specs.Rows.{entry_of, FitsAt, ReadyAt, FitsIn, IsNewRow};

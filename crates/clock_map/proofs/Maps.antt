@@ -2,8 +2,7 @@
 use Rattle.std.proofs.Common.{◌≡◌, ◌∙◌, inl, inr, refl, sym, ap, subst, List, [], ℕ, Bool, true, false, not, cond}
 use Rattle.std.specs.Prelude.{◌==◌, ◌&&◌, ◌||◌, Option, Some, None, IsSome, is_some, option_and_then}
 use Rattle.std.specs.Prelude.{Result, Ok, Err, OnErr}
-use Rattle.std.specs.Borrow.{Bor}
-use Rattle.std.specs.Option.{option_map, option_map_or, option_copied}
+use Rattle.std.specs.Option.{option_map, option_map_or}
 use Rattle.std.specs.List.{list_any}
 use Rattle.std.specs.BTreeMap as tree
 use Rattle.std.specs.BTreeMap.{is_at}
@@ -207,19 +206,6 @@ module _ (old new : Places) (were are : Clocks) (dead : Index) (holds : IsMap ol
   pub unchanged_keys : keys_in (shown_at are None) new.entries ≡ keys_in (shown_at were None) old.entries
   unchanged_keys = keys_same (shown_at were None) (shown_at are None) old new holds.tied.ordered same.ordered unchanged_shown
 
-  pub unchanged_map : IsMap new are dead None
-  unchanged_map = record {
-    tied = record {
-      ordered = same.ordered;
-      held = λ q p is. ap is_some (same.clocks p) ∙ holds.tied.held q p (sym (same.places q) ∙ is);
-      one = λ a b p x y. holds.tied.one a b p (sym (same.places a) ∙ x) (sym (same.places b) ∙ y);
-      used = λ p is. (let k = holds.tied.used p (sym (ap is_some (same.clocks p)) ∙ is) in (k.0, same.places k.0 ∙ k.1));
-    };
-    marks = λ q. holds.marks q ∙ ap is_dead (sym (unchanged_shown q));
-    spare = λ q h. (let may = holds.spare q h in let e = may.1 in cc);
-    room = tt;
-  }
-
 -- the clock of a key, where there is no room
 module _ (places : Places) (clocks : Clocks) (dead : Index) (key : Key) (holds : IsMap places clocks dead None) where
   pub find_none : find key_cmp key (keys_in (shown_at clocks None) places.entries) ≡ shown_of places clocks None key
@@ -333,10 +319,6 @@ dying_map places clocks dead new room key reserved holds at marked spare there =
 pub on_err : {X E P : Type 0} (r : Result X E) → P → OnErr r P
 on_err (Ok x) p = tt
 on_err (Err e) p = p
-
-pub copied_map : {X Y : Type 0} (f : X → Y) (o : Option (Bor X)) → option_map (λ (x : Bor X). f x.now) o ≡ option_map f (option_copied o)
-copied_map f None = refl
-copied_map f (Some x) = refl
 
 -- what is gone was dead
 pub gone_dead : (keys : Keys) (key : Key) → reap_result (holding keys) key ≡ Gone

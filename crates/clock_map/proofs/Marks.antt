@@ -1,6 +1,6 @@
 -- The index of dead keys after a change, and the least of them.
-use Rattle.std.proofs.Common.{◌≡◌, ◌∙◌, ◌⊎◌, inl, inr, refl, sym, ap, subst, List, [], ◌∷◌, Bool, true, false, not, cond, map}
-use Rattle.std.specs.Prelude.{◌&&◌, ◌||◌, Option, Some, None, IsSome, is_some, slice_get, filter}
+use Rattle.std.proofs.Common.{◌≡◌, ◌∙◌, ◌⊎◌, inl, inr, refl, sym, ap, subst, List, [], ◌∷◌, Bool, true, false, cond, map}
+use Rattle.std.specs.Prelude.{◌&&◌, ◌||◌, Option, Some, None, is_some, slice_get, filter}
 use Rattle.std.specs.List.{list_any}
 use Rattle.std.specs.List.Sorted.{IsStrictlySortedBy}
 use Rattle.std.specs.Map.{lookup, keys_of}
@@ -29,7 +29,6 @@ use Rattle.clock_store.specs.Forgetting.{holding}
 use Rattle.clock_map.specs.declared.index.DeadMark.{DeadMark}
 use Rattle.clock_map.specs.declared.index.DeadMark.TheVariants.{Spare, Dead}
 use Rattle.clock_map.specs.Index.{Index, is_marked, is_dead_mark, mark_of, without_spare, SpareIsNew, first_marked}
-use Rattle.clock_map.specs.Places.{lives}
 use Rattle.clock_map.specs.Maps.{is_dead}
 use Rattle.clock_map.proofs.Entries.{same_key}
 use Rattle.clock_map.proofs.Ties.{at_same, clash}
@@ -66,11 +65,6 @@ pub no_spare : (o : Option DeadMark) → without_spare o ≡ Some Spare → ⊥
 no_spare None h = cc
 no_spare (Some Spare) h = cc
 no_spare (Some Dead) h = cc
-
--- what is dead has no content
-pub dead_lives : (o : Option (Stored Content)) → IsSome o → not (lives o) ≡ is_dead o
-dead_lives None h = cc
-dead_lives (Some s) h = refl
 
 -- a test that a value passes wherever it is put
 pub any_put : {K V : Type 0} (R : K → K → Ordering) (p : K × V → Bool) (k : K) (v : V) (es : List (K × V)) → ((k : K) → p (k, v) ≡ true) → list_any p (put R k v es) ≡ true

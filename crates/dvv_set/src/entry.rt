@@ -1,6 +1,6 @@
 //! The entry of one actor, and lists of entries that strictly rise by actor.
 
-ghost use Rattle.std.specs.Prelude.{◌≡◌, ◌≤◌, ◌<◌, ◌∷◌, ◌+◌, ℕ, List, T, IsTrue, length, map, is_some, [], Some, IfOk, OnOk};
+ghost use Rattle.std.specs.Prelude.{◌≡◌, ◌≤◌, ◌<◌, ◌∷◌, ◌+◌, List, T, IsTrue, length, map, is_some, [], Some, IfOk, OnOk};
 ghost use Rattle.std.specs.FinMap.Entries.{find, put, is_sorted};
 ghost use Rattle.std.specs.List.{list_all, insert};
 ghost use Rattle.actor_epoch.specs.Dots.{actor_cmp};

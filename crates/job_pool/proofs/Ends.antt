@@ -52,9 +52,6 @@ module _ {W J E : Type 0} where
     chain_more first [] mid job last end is serves = (is, serves, refl)
     chain_more first (turn ∷ turns) mid job last end h serves = (h.0, h.1, chain_more turn.after turns mid job last end h.2 serves)
 
-    pub none_served : (first : W) → HasServed Serves [] [] first first
-    none_served first = record { turns = []; chained = refl; each = tt; count = omega arith }
-
     -- more was taken
     pub more_taken : (taken more : List (NumberedJob J)) (ends : List (NumberedEnd E)) (first last : W) → HasServed Serves taken ends first last → HasServed Serves (taken ++ more) ends first last
     more_taken taken more ends first last h =

@@ -1,7 +1,7 @@
 -- Lists: what each element has, and what stands at an index.
-use Rattle.std.proofs.Common.{◌≡◌, ◌<◌, ℕ, zero, suc, List, [], ◌∷◌, ◌++◌, length, arith, refl, subst}
+use Rattle.std.proofs.Common.{◌≡◌, ℕ, zero, suc, List, [], ◌∷◌, ◌++◌, length, arith, refl, subst}
 use Rattle.job_pool.specs.Lists.{Every, Pairwise}
-use Rattle.std.specs.Prelude.{Some, None, slice_get, slice_set, slice_index_or}
+use Rattle.std.specs.Prelude.{Some, None, slice_get, slice_set}
 
 none_some : {A : Type 0} (x : A) → None ≡ Some x → ⊥
 none_some x h = cc
@@ -57,7 +57,3 @@ module _ {A B : Type 0} (P : A → B → Type 0) where
   pairs_snoc [] (v ∷ ys) x y h p = absurd h
   pairs_snoc (u ∷ xs) [] x y h p = absurd h
   pairs_snoc (u ∷ xs) (v ∷ ys) x y h p = (h.0, pairs_snoc xs ys x y h.1 p)
-
-pub all_one : {A : Type 0} (P : A → Type 0) (x : A) → P x → (k : ℕ) (d : A) → k < length (x ∷ []) → P (slice_index_or (x ∷ []) k d)
-all_one P x p zero d below = p
-all_one P x p (suc k) d below = absurd (omega (arith, below))

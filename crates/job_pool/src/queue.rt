@@ -1,5 +1,4 @@
 //! The queue of jobs and its rule: who takes a job learns that it was given, and under which number.
-ghost use Rattle.std.specs.Prelude.{List};
 
 use crossbeam_queue::protocol::{Join, Lesson, Outcome, Protocol, Split};
 use crossbeam_queue::{Pass, RuledArrayQueue};

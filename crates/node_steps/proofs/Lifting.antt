@@ -61,9 +61,6 @@ worker_next : (w : World) (number index : ℕ) (worker : Worker) (turn : Turn) �
 worker_next w zero index worker turn h = cc
 worker_next w (suc place) index worker turn h = set-here w.workers place worker (record { phase = turn.phase; seen = slice_set worker.seen index turn.seen }) h
 
-same_reply : (a b : Result Response ℕ) → Replied a ≡ Replied b → a ≡ b
-same_reply a b h = cc
-
 same_call : (a b : Call) → Some a ≡ Some b → a ≡ b
 same_call a b h = cc
 

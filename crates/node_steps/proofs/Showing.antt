@@ -12,27 +12,19 @@ use Rattle.vnode_machine.specs.Replay.{History, HasReplay}
 use Rattle.vnode_machine.specs.Step.{Response}
 use Rattle.vnode_machine.specs.Registers.{key_of, context_in_ask}
 use Rattle.vnode_machine.proofs.Keys.{key_eq-refl}
-use Rattle.node_steps.specs.World.{Phase, Idle, Asked, Reading, Holding, Done, Vnode, Worker, World, Call, fresh_worker, opening_world, opening_vnodes, id_at, history_at, call_of, call_at}
+use Rattle.node_steps.specs.World.{Vnode, Worker, World, Call, fresh_worker, opening_world, opening_vnodes, id_at, history_at, call_of, call_at}
 use Rattle.node_steps.specs.Steps.{Asks, Step, Outcome, NotPossible, Happened, Replied, turned, happens, outcome}
 use Rattle.node_steps.specs.Schedules.{Start, IsStart, world_after, IsPrefix}
 use Rattle.node_steps.specs.Contexts.{context_bytes, given_by, WasShown, GivesShown}
 use Rattle.node_steps.specs.Claims.{ValuesLeaveOnlySeen}
 use Rattle.node_steps.proofs.Lists.{set-here, set-there, same_or_other, get-replicate}
 use Rattle.node_steps.proofs.Prefixes.{prefix-whole}
-use Rattle.node_steps.proofs.Inside.{same_test, IsAbout}
+use Rattle.node_steps.proofs.Inside.{same_test}
 use Rattle.node_steps.proofs.Shown.{IsName, name-later, held_is_name, saw_position}
 use Rattle.node_steps.proofs.Turns.{CallIs, EventIs, Comes}
 use Rattle.node_steps.proofs.Kept.{IsOrderly, IsPossible, possible, opened, orderly}
 use Rattle.node_steps.proofs.Lifting.{replays_at, here, turn, reply_is, id_before, id_next, before_is, after_is, elsewhere_is}
 use Rattle.node_steps.proofs.Leaving.{seen}
-
--- a call is of the vnode that its phase is about
-call_about : (index : ℕ) (phase : Phase) → IsAbout index phase → MatchOption (call_of phase) (Unit {0}) (λ call. call.index ≡ index)
-call_about index Idle h = tt
-call_about index (Asked other ask) h = h
-call_about index (Reading other get) h = h
-call_about index (Holding other ask hand plan) h = h
-call_about index (Done other hand) h = tt
 
 call_same : (a b : Call) → Some a ≡ Some b → a ≡ b
 call_same a b h = cc

@@ -1,7 +1,5 @@
 //! Why a step isn't taken.
 
-ghost use Rattle.std.specs.Prelude.{◌≡◌};
-
 use std::alloc::AllocError;
 use thiserror::Error;
 

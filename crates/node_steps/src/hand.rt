@@ -1,7 +1,6 @@
 //! A vnode as a worker holds it.
 
-ghost use Rattle.std.specs.Prelude.{◌≡◌, ◌≤◌, ◌-◌, None, IfOk, IfErr, is_some};
-ghost use Rattle.vnode_machine.specs.Machine.{opening};
+ghost use Rattle.std.specs.Prelude.{◌≡◌, ◌-◌, None, IfOk, IfErr, is_some};
 ghost use Rattle.vnode_machine.specs.Step.{outcome};
 ghost use Rattle.vnode_protocol.specs.Plans.{ask_outcome};
 ghost use Rattle.node_steps.specs.Hands.{ShowsBy, PlansBy, PublishesPlan};

@@ -1,6 +1,6 @@
 //! The outcome of a step.
 
-ghost use Rattle.std.specs.Prelude.{◌≡◌, Ok};
+ghost use Rattle.std.specs.Prelude.{◌≡◌};
 ghost use Rattle.vnode_protocol.specs.Plans.{response_of};
 ghost use Rattle.node_steps.specs.Returned.{returned_response};
 

@@ -4,7 +4,7 @@ use Rattle.std.proofs.lemmas.List.{append_assoc, append-nil}
 use Rattle.pb_fields.specs.Field.{WireField, BeginsWithField, seen}
 use Rattle.pb_fields.specs.Message.{BeginsWithFields, Encodes}
 use Rattle.pb_fields.specs.Next.{Yields}
-use Rattle.pb_fields.specs.Merging.{MergesAll, RefusesOne, RefusesNone, Tracks}
+use Rattle.pb_fields.specs.Merging.{MergesAll, RefusesOne, Tracks}
 use Rattle.pb_fields.specs.declared.field.Field.{Field}
 use Rattle.pb_fields.specs.declared.fault.FieldFault.{FieldFault}
 use Rattle.pb_fields.proofs.Parts.{field_once, field_some}
@@ -35,10 +35,6 @@ pub MergesAll-tracks : {A : Type 0} (has : A → List WireField → Type 0) (a b
     has a [] → MergesAll (Tracks has) a fields b → has b fields
 MergesAll-tracks has a b fields none all =
     MergesAll-keeps (Tracks has) (λ fs x. has x fs) a b [] fields (λ fs f x y holds step. step fs holds) none all
-
--- where no field is refused, none of some is
-pub RefusesOne-none : {F : Type 0} (fields : List WireField) (fault : F) → RefusesOne RefusesNone fields fault → ⊥
-RefusesOne-none fields fault (before, field, behind, is, none) = none
 
 nothing : (rest : List ℕ) (field : WireField) → BeginsWithField [] field rest → ⊥
 nothing rest field begins = let some = field_some [] rest field begins in omega arith

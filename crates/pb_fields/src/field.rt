@@ -1,6 +1,6 @@
 //! A field, and the one at the front of some bytes.
 
-ghost use Rattle.std.specs.Prelude.{◌≡◌, ◌/◌, ℕ, IfOk, IfErr, IfSome, IfNone};
+ghost use Rattle.std.specs.Prelude.{◌≡◌, ◌/◌, IfOk, IfErr, IfSome, IfNone};
 ghost use Rattle.pb_fields.specs.Field.{BeginsWithField, IsNumber, seen};
 ghost use Rattle.pb_fields.specs.Faults.{FirstFault, HasNoNumber};
 

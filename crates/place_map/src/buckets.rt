@@ -1,6 +1,6 @@
 //! The keys of one bucket type, with their places.
 
-ghost use Rattle.std.specs.Prelude.{◌≡◌, [], ◌∷◌, IfOk, OnOk, OnErr, Some, None, IsTrue, ◌↔◌, if◌then◌else◌, ℕ, List};
+ghost use Rattle.std.specs.Prelude.{◌≡◌, [], ◌∷◌, IfOk, OnOk, OnErr, Some, None, IsTrue, ◌↔◌, if◌then◌else◌};
 ghost use Rattle.std.specs.BTreeMap.{is_at};
 ghost use Rattle.place_map.specs.AssocList.{get, IsOrdered};
 ghost use Rattle.place_map.specs.Nested.{BucketKey, bucket_key_cmp};

@@ -76,14 +76,6 @@ StandForContent-split xs ys c all =
       record { parts = each.1; each = each.4; own = refl; links = links.4; usermeta = usermeta.4; indexes = indexes.4 },
     )
 
--- each occurrence stands for a content by itself
-pub StandForContent-part : (before : List (List ℕ)) (b : List ℕ) (behind : List (List ℕ)) (c : ContentFields) →
-    StandForContent (before ++ b ∷ behind) c → (part : ContentFields) × StandForContent (b ∷ []) part
-StandForContent-part before b behind c all =
-    let late = StandForContent-split before (b ∷ behind) c all in
-    let one = StandForContent-split (b ∷ []) behind late.1 late.4 in
-    (one.0, one.3)
-
 lists_once : (bss : List (List ℕ)) (us vs : List (List WireField)) → AllZip Encodes bss us → AllZip Encodes bss vs → us ≡ vs
 lists_once [] [] [] a b = refl
 lists_once [] [] (v ∷ vs) a b = absurd b

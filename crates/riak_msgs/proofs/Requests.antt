@@ -1,5 +1,5 @@
 -- What a walk over a request's fields sees.
-use Rattle.std.proofs.Common.{◌≡◌, ℕ, List, [], ◌∷◌, ◌++◌, Option, Some, None, Result, Ok, Err, IfErr, IsErrAnd, Bor, option_copied, unwrap_or, refl, ap, sym, subst, ◌∙◌, inl, inr}
+use Rattle.std.proofs.Common.{◌≡◌, ℕ, List, [], ◌∷◌, ◌++◌, Option, Some, None, Result, Ok, Err, IsErrAnd, Bor, option_copied, unwrap_or, refl, ap, sym, subst, ◌∙◌, inl, inr}
 use Rattle.std.specs.List.{last_or, cons_option}
 use Rattle.std.proofs.lemmas.List.{append-nil}
 use Rattle.pb_fields.specs.Field.{WireField}
@@ -19,16 +19,6 @@ use Rattle.riak_msgs.proofs.Contents.{StandForContent-more}
 pub unwrap_or-copied : (name : Option (Bor (List ℕ))) (other : Bor (List ℕ)) → (unwrap_or name other).now ≡ unwrap_or (option_copied name) other.now
 unwrap_or-copied None other = refl
 unwrap_or-copied (Some bytes) other = refl
-
--- what holds anyway holds of an error
-pub IfErr-anyway : {A E P : Type 0} (r : Result A E) → P → IfErr r (λ _. P)
-IfErr-anyway (Ok a) p = tt
-IfErr-anyway (Err e) p = p
-
--- an error of which something holds
-pub IfErr-from_IsErrAnd : {A E : Type 0} (r : Result A E) (P : E → Type 0) → IsErrAnd r P → IfErr r P
-IfErr-from_IsErrAnd (Ok a) P is = absurd is
-IfErr-from_IsErrAnd (Err e) P is = is
 
 -- an error that is another's
 pub IsErrAnd-same : {A E : Type 0} (r : Result A E) (x y : E) → IsErrAnd r (λ e. e ≡ x) → x ≡ y → IsErrAnd r (λ e. e ≡ y)

@@ -1,6 +1,5 @@
 //! The request of a delete.
 
-ghost use Rattle.std.specs.Prelude.{◌≡◌};
 ghost use Rattle.riak_msgs.specs.Requests.{del_body};
 
 use crate::bytes::Bytes;

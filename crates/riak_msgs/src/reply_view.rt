@@ -1,6 +1,6 @@
 //! Reading a reply, for a client: one scan over the fields, in which each content is copied.
 
-ghost use Rattle.std.specs.Prelude.{◌≡◌, ◌++◌, ◌∷◌, [], List, IfOk, OnOk, OnErr};
+ghost use Rattle.std.specs.Prelude.{◌≡◌, ◌++◌, ◌∷◌, [], IfOk, OnOk, OnErr};
 ghost use Rattle.pb_fields.specs.Merging.{RefusesNone, Tracks};
 ghost use Rattle.riak_msgs.specs.Embedded.{ContentFields, StandForContent};
 ghost use Rattle.riak_msgs.specs.Seen.{IsSeenOf, scalars_of, with_parts};

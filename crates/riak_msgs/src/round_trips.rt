@@ -1,6 +1,6 @@
 //! What is written is read again.
 
-ghost use Rattle.std.specs.Prelude.{◌≡◌, ℕ, ◌^◌, ◌<◌, length, Ok};
+ghost use Rattle.std.specs.Prelude.{◌^◌, ◌<◌, length, Ok};
 ghost use Rattle.riak_msgs.specs.Reading.{Decodes};
 ghost use Rattle.riak_msgs.specs.ReadingReplies.{DecodesReply};
 ghost use Rattle.riak_msgs.specs.Replies.{reply_body, reply_code};

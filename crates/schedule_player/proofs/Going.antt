@@ -1,7 +1,7 @@
 -- What a piece of the input, and its end, make of where a run stands.
 use Rattle.std.proofs.Common.{◌≡◌, ◌+◌, ◌<◌, ℕ, List, [], ◌∷◌, ◌++◌, length, Option, Result, Ok, Err, refl, sym, ap, subst, ◌∙◌, append_assoc, append-nil, inl}
 use Rattle.std.specs.Io.KnownBytes.{Keeps, Consumes}
-use Rattle.std.proofs.KnownBytes.{Consumes-nil, Consumes-trans, Consumes-kept, Keeps-refl}
+use Rattle.std.proofs.KnownBytes.{Consumes-trans, Consumes-kept, Keeps-refl}
 use Rattle.schedule_text.specs.Cuts.{Lacks, IsCut, lines_of}
 use Rattle.node_steps.specs.Schedules.{Start}
 use Rattle.schedule_player.specs.declared.fault.StepsFault.{StepsFault}
@@ -18,13 +18,6 @@ pub record HasGone (old : Player) (partial piece : List ℕ) (held : Option (Lis
   pub done : List ℕ
   pub split : piece ≡ done ++ rest
   pub goes : PlaysPiece old partial done held player left held' (Ok tt)
-
-pub none_gone : (old : Player) (partial piece : List ℕ) (held : Option (List ℕ)) → HasGone old partial piece held old piece partial held
-none_gone old partial piece held = record {
-  done = [];
-  split = refl;
-  goes = λ start ring input first s. subst (λ x. HasPlayed start ring old x first held partial) (sym (append-nil input)) s;
-}
 
 module _ (old player : Player) (partial piece rest left : List ℕ) (held held' : Option (List ℕ)) where
   -- one line more
@@ -88,9 +81,6 @@ pub record HasRead (old : Player) (unread unread' held : Option (List ℕ)) (pla
   pub input : List ℕ
   pub read : Consumes unread unread' input
   pub goes : (start : Start) (ring : ℕ) → HasPlayed start ring old [] held held [] → HasPlayed start ring player input held held' left
-
-pub none_read : (old : Player) (unread held : Option (List ℕ)) → HasRead old unread unread held old [] held
-none_read old unread held = record { input = []; read = Consumes-nil unread; goes = λ start ring s. s }
 
 module _ (old player : Player) (unread unread' held held' held'' : Option (List ℕ)) (left : List ℕ) where
   -- a piece more

@@ -108,18 +108,6 @@ reap_asks workers worker text (Reap key) word has = (
 )
 reap_asks workers worker text (Gate step) word has = absurd (gate_word-not_reap step word)
 
-pub ask_read : (workers worker : ℕ) (text : List ℕ) (request : Request) → Asks workers text worker request
-    → ReadsOperands (codes "ask") workers text (Ok (record { worker = worker; action = Ask request }))
-ask_read workers worker text request asks = (
-  refl,
-  record {
-    carried = Some asks.message;
-    whole = asks.whole;
-    worker = asks.is_worker;
-    carries = record { message = asks.message; is = refl; bytes = asks.bytes; asks = asks.asks };
-  },
-)
-
 pub ask_refused : (workers : ℕ) (text : List ℕ) (fault : LineFault) → ReadsAsked workers text (Err fault)
     → ReadsOperands (codes "ask") workers text (Err fault)
 ask_refused workers text BadStep reads = λ line word has.

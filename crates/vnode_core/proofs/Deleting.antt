@@ -1,11 +1,10 @@
 -- A delete: what the machine makes of it by what was found, and what it writes.
-use Rattle.std.proofs.Common.{◌≡◌, ℕ, Bool, true, false, not, ◌&&◌, cond, List, [], ◌∷◌, refl, sym, ◌∙◌, ap, subst}
-use Rattle.std.specs.Prelude.{◌≤◌, ◌<◌, nat_le, nat_lt, ◌^◌, Result, Ok, Err, Option, Some, None, is_none, length, option_map, IsTrue}
+use Rattle.std.proofs.Common.{◌≡◌, Bool, true, false, ◌&&◌, List, [], ◌∷◌, refl, sym, ◌∙◌, ap, subst}
+use Rattle.std.specs.Prelude.{◌≤◌, ◌<◌, nat_le, nat_lt, ◌^◌, Option, Some, None, length, option_map, IsTrue}
 use Rattle.std.specs.List.{list_all}
 use Rattle.riak_msgs.specs.declared.Key.{Key}
 use Rattle.riak_msgs.specs.Contents.{Content}
 use Rattle.riak_msgs.specs.declared.DelAsk.{DelAsk}
-use Rattle.sibling_register.specs.History.{Tombstone}
 use Rattle.sibling_register.specs.Answers.{AskDel}
 use Rattle.actor_epoch.specs.declared.Actor.{Actor}
 use Rattle.actor_epoch.specs.declared.Dot.{Dot}
@@ -13,73 +12,26 @@ use Rattle.actor_epoch.specs.Limits.{max_epoch, max_counter, max_actors}
 use Rattle.actor_epoch.specs.Dots.{counter_in}
 use Rattle.actor_epoch.specs.Contexts.{is_within_limits}
 use Rattle.actor_epoch.specs.Given.{Context, Malformed, Pairs, context_of, pairs_read}
-use Rattle.dvv_set.specs.Clocks.{DotState, discard, event, join}
+use Rattle.dvv_set.specs.Clocks.{DotState, discard, event}
 use Rattle.dvv_set.specs.Held.{IsWithin, known_after}
 use Rattle.dvv_set.proofs.Discards.{union-itself}
 use Rattle.vnode_machine.specs.Asks.{del_command}
-use Rattle.vnode_machine.specs.Machine.{State, Stored, is_held, clock_of, actor_for, del_pairs, update_check, updated, apply_operation}
-use Rattle.vnode_machine.specs.Step.{StepOutcome, Refused, Answered, Accepted, DelDone, del_step, unless_refused}
+use Rattle.vnode_machine.specs.Machine.{State, Stored, clock_of, actor_for, del_pairs, updated}
+use Rattle.vnode_machine.specs.Step.{StepOutcome, Refused, del_step}
 use Rattle.vnode_machine.proofs.Forms.{IsForm, IsFormed}
 use Rattle.vnode_machine.proofs.Seen.{form-within}
 use Rattle.vnode_machine.proofs.Tests.{and_left, and_right, and_both}
 use Rattle.vnode_protocol.specs.declared.ask.Ask.TheVariants.{Del}
 use Rattle.vnode_protocol.specs.declared.ask.Answer.{Answer}
-use Rattle.vnode_protocol.specs.declared.ask.Answer.TheVariants as answers
-use Rattle.vnode_replies.specs.declared.checks.Writer.{Writer}
-use Rattle.vnode_protocol.specs.declared.refusal.Refusal.{Refusal}
-use Rattle.vnode_protocol.specs.declared.refusal.Refusal.TheVariants.{NoMemory}
-use Rattle.vnode_protocol.specs.Plans.{Steps, Refuses, ask_outcome, IsReached}
-use Rattle.vnode_protocol.specs.Refusals.{RefusedBy}
+use Rattle.vnode_protocol.specs.Plans.{Steps, IsReached}
 use Rattle.clock_store.specs.Keys.{deleted}
-use Rattle.vnode_core.specs.Vnodes.{DelGives, DelOfAllGives, state_after}
-use Rattle.vnode_replies.specs.Checks.{writer_of}
+use Rattle.vnode_core.specs.Vnodes.{state_after}
 use Rattle.vnode_core.proofs.Putting.{find-next}
 use Rattle.vnode_protocol.proofs.Reached.{formed, known-at, reached-next}
 
 -- a delete of a key by what was given as its context
 abbrev step_by : State Content → Key → Option Context → StepOutcome
 step_by state key given = del_step state (record { key = key; context = given })
-
--- one that does something is checked
-does : (state : State Content) (key : Key) (given : Option Context) → (is_none given && not (is_held state key)) ≡ false
-    → step_by state key given
-    ≡ unless_refused (update_check state key given (del_pairs state key given)) (Accepted Tombstone DelDone (apply_operation state key given Tombstone))
-does state key given h = ap (λ b. cond b (Answered DelDone)
-    (unless_refused (update_check state key given (del_pairs state key given)) (Accepted Tombstone DelDone (apply_operation state key given Tombstone)))) h
-
-module _ (state : State Content) (del : DelAsk) (given : Option Context) (reads : context_of del.context ≡ given)
-    (something : (is_none given && not (is_held state del.key)) ≡ false) where
-  abbrev check : Option ℕ
-  check = update_check state del.key given (del_pairs state del.key given)
-
-  there : ask_outcome state (Del del) ≡ unless_refused check (Accepted Tombstone DelDone (apply_operation state del.key given Tombstone))
-  there = ap (step_by state del.key) reads ∙ does state del.key given something
-
-  pub del-steps : check ≡ None → Steps state (Del del) answers.Del (state_after state (Del del))
-  del-steps free =
-      there ∙ ap (λ c. unless_refused c (Accepted Tombstone DelDone (apply_operation state del.key given Tombstone))) free
-      ∙ ap (λ g. Accepted Tombstone DelDone (apply_operation state del.key g Tombstone)) (sym reads)
-
-  pub del-refuses : (refusal : Refusal) → RefusedBy refusal check → Refuses state (Del del) refusal
-  del-refuses NoMemory h = absurd h
-  del-refuses refusal h = there ∙ ap (λ c. unless_refused c (Accepted Tombstone DelDone (apply_operation state del.key given Tombstone))) h
-
--- a delete without context
-pub del-of-all : (state : State Content) (del : DelAsk) → context_of del.context ≡ None → (r : Result (Option Writer) Refusal) → DelOfAllGives state del.key r → DelGives state del r
-del-of-all state del reads (Ok None) absent =
-    ap (step_by state del.key) reads
-    ∙ ap (λ b. cond (not b) (Answered DelDone) (unless_refused (update_check state del.key None (join (clock_of state del.key))) (Accepted Tombstone DelDone (apply_operation state del.key None Tombstone)))) absent
-del-of-all state del reads (Ok (Some writer)) h = (del-steps state del None reads (ap not h.held) h.free, h.is)
-del-of-all state del reads (Err refusal) h = del-refuses state del None reads (ap not h.0) refusal h.1
-
--- and by a context
-pub del-by-writer : (state : State Content) (del : DelAsk) (pairs : List Dot) → context_of del.context ≡ Some (Pairs pairs) → (writer : Writer)
-    → update_check state del.key (Some (Pairs pairs)) pairs ≡ None → writer ≡ writer_of state del.key → DelGives state del (Ok (Some writer))
-del-by-writer state del pairs reads writer free is = (del-steps state del (Some (Pairs pairs)) reads refl free, is)
-
-pub del-by-refused : (state : State Content) (del : DelAsk) (pairs : List Dot) → context_of del.context ≡ Some (Pairs pairs) → (refusal : Refusal)
-    → RefusedBy refusal (update_check state del.key (Some (Pairs pairs)) pairs) → DelGives state del (Err refusal)
-del-by-refused state del pairs reads refusal h = del-refuses state del (Some (Pairs pairs)) reads refl refusal h
 
 -- the context of a delete that the machine accepts is not malformed
 pub not-malformed : (state : State Content) (del : DelAsk) (answer : Answer) (next : State Content) → Steps state (Del del) answer next → context_of del.context ≡ Some Malformed → ⊥

@@ -2,15 +2,14 @@
 use Rattle.std.proofs.Common.{◌≡◌, ℕ, Bool, true, false, refl, sym, ◌∙◌, ap, subst, drop}
 use Rattle.std.specs.Prelude.{Option, Some, None, is_some, if◌then◌else◌}
 use Rattle.std.specs.Option.{option_map_or}
-use Rattle.std.specs.FinMap.Entries.{find, is_sorted}
+use Rattle.std.specs.FinMap.Entries.{is_sorted}
 use Rattle.riak_msgs.specs.declared.Key.{Key}
 use Rattle.riak_msgs.specs.Contents.{Content}
 use Rattle.riak_msgs.specs.KeyOrder.{key_cmp}
 use Rattle.sibling_register.specs.History.{Reap}
 use Rattle.sibling_register.specs.Answers.{AskReap}
 use Rattle.vnode_machine.specs.Dead.{dead_keys, first_dead, has_dead, is_from, reaped}
-use Rattle.std.specs.List.{list_any}
-use Rattle.vnode_machine.specs.Machine.{State, Stored, counted, holds_dead, has_value}
+use Rattle.vnode_machine.specs.Machine.{State, counted, holds_dead, has_value}
 use Rattle.vnode_machine.specs.Runs.{state_after_step}
 use Rattle.vnode_machine.specs.Step.{ReapDone, ReapKept, StepOutcome, Answered, Accepted, outcome}
 use Rattle.vnode_machine.proofs.DeadKeys.{keys_sorted, dead_left, first_is_dead}
@@ -124,22 +123,8 @@ gone-not Gone h e = cc
 gone-not Kept h e = cc
 gone-not Absent h e = cc
 
--- what is found of a key says what its reap comes to
-pub result-none : (keys : Keys) (key : Key) → None ≡ find key_cmp key keys → Absent ≡ reap_result (holding keys) key
-result-none keys key h = rw (sym h) refl
-
-pub result-some : (keys : Keys) (key : Key) (s : Stored Content) (value : Bool) → Some s ≡ find key_cmp key keys → value ≡ list_any (λ entry. is_some entry.1) s.clock.live
-    → (if value then Kept else Gone) ≡ reap_result (holding keys) key
-result-some keys key s true h v = rw (sym h, sym v) refl
-result-some keys key s false h v = rw (sym h, sym v) refl
-
 -- a reap that is planned, by its result
 module _ (state : State Content) (key : Key) where
-  pub not-accepted : (result : Reaped) → result ≡ reap_result state key → (result ≡ Gone → ⊥) → outcome state (AskReap key) ≡ Answered (reap_response result)
-  not-accepted Gone e not_gone = absurd (not_gone refl)
-  not-accepted Kept e not_gone = outcome-is state key Kept (after_reap state key) e refl
-  not-accepted Absent e not_gone = outcome-is state key Absent (after_reap state key) e refl
-
   pub is-accepted : Gone ≡ reap_result state key → IsAccepted (outcome state (AskReap key))
   is-accepted e = subst IsAccepted (sym (outcome-is state key Gone (after_reap state key) e refl)) tt
 
@@ -152,13 +137,6 @@ module _ (state : State Content) (key : Key) where
 
 -- a reap of the first dead key that is planned
 module _ (state : State Content) (is : IsReached state) (from : Option Key) where
-  pub none-first : has_dead state from ≡ false → ask_outcome state (ReapFirst from) ≡ Answered ReapKept
-  none-first h = by (first_dead state from) h
-    where
-      by : (o : Option Key) → is_some o ≡ false → option_map_or (λ key. outcome state (AskReap key)) o (Answered ReapKept) ≡ Answered ReapKept
-      by None h = refl
-      by (Some key) h = cc
-
   pub some-first : has_dead state from ≡ true → ask_outcome state (ReapFirst from) ≡ Accepted Reap ReapDone (after_first_reap state from)
   some-first h = by (first_dead state from) refl h
     where

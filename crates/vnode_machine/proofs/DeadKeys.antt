@@ -1,23 +1,22 @@
 -- The keys of a state stand in their order, and which dead keys are left when the first of them is reaped.
-use Rattle.std.proofs.Common.{◌≡◌, ℕ, Bool, true, false, not, ◌&&◌, cond, List, [], ◌∷◌, refl, sym, ◌∙◌, ap, map, drop, subst}
+use Rattle.std.proofs.Common.{◌≡◌, ℕ, Bool, true, false, not, ◌&&◌, cond, List, [], ◌∷◌, refl, sym, ◌∙◌, ap, map, drop}
 use lib.Dec.{T}
-use Rattle.std.specs.Prelude.{Option, Some, None, slice_get, filter, is_some, IsTrue}
+use Rattle.std.specs.Prelude.{Option, Some, None, slice_get, filter, is_some}
 use Rattle.std.specs.Option.{option_map_or}
 use Rattle.std.specs.List.{list_any}
-use Rattle.std.specs.declared.cmp.Ordering.{Ordering}
-use Rattle.std.specs.declared.cmp.Ordering.TheVariants.{Less, Equal, Greater}
-use Rattle.std.specs.Ordering.{is_lt, is_eq, eq_by_cmp, ordering_reverse}
+use Rattle.std.specs.declared.cmp.Ordering.TheVariants.{Less}
+use Rattle.std.specs.Ordering.{is_eq, eq_by_cmp, ordering_reverse}
 use Rattle.std.proofs.lemmas.Float.{T_from_true}
 use Rattle.std.specs.FinMap.Entries.{find, where_key, is_sorted, below_all, is_sorted-put, is_sorted-where_key}
 use Rattle.riak_msgs.specs.declared.Key.{Key}
 use Rattle.riak_msgs.specs.Contents.{Content}
 use Rattle.riak_msgs.specs.KeyOrder.{key_cmp, key_eq}
-use Rattle.sibling_register.specs.History.{Event, Operation, Write, Tombstone, Reap}
+use Rattle.sibling_register.specs.History.{Operation, Write, Tombstone, Reap}
 use Rattle.actor_epoch.specs.Given.{Context}
-use Rattle.vnode_machine.specs.Machine.{State, Stored, stored, is_held, has_value, holds_dead, apply_operation}
+use Rattle.vnode_machine.specs.Machine.{State, Stored, stored, holds_dead, apply_operation}
 use Rattle.vnode_machine.specs.Replay.{History, replay}
 use Rattle.vnode_machine.specs.Dead.{is_from, dead_keys, first_dead, reaped}
-use Rattle.vnode_machine.proofs.Keys.{key_cmp_total, key_eq-same, eq_by_key_cmp, key_eq-refl, find_reaped}
+use Rattle.vnode_machine.proofs.Keys.{key_cmp_total, eq_by_key_cmp, key_eq-refl, find_reaped}
 use Rattle.vnode_machine.proofs.Seen.{less}
 use Rattle.vnode_machine.proofs.Tests.{and_left, and_right}
 

@@ -1,6 +1,6 @@
 -- The first dead key at or after a key is the least.
 use Rattle.std.proofs.Common.{◌≡◌, ℕ, Bool, true, false, not, ◌&&◌, cond, List, [], ◌∷◌, refl, sym, ◌∙◌, ap, map}
-use Rattle.std.specs.Prelude.{Option, Some, None, slice_get, filter, is_some}
+use Rattle.std.specs.Prelude.{Some, slice_get, filter, is_some}
 use Rattle.std.specs.declared.cmp.Ordering.{Ordering}
 use Rattle.std.specs.declared.cmp.Ordering.TheVariants.{Less, Equal, Greater}
 use Rattle.std.specs.Ordering.{is_lt, is_le, is_eq, eq_by_cmp}
@@ -10,7 +10,7 @@ use Rattle.riak_msgs.specs.Contents.{Content}
 use Rattle.riak_msgs.specs.KeyOrder.{key_cmp}
 use Rattle.vnode_machine.specs.Machine.{State, stored, has_value, holds_dead}
 use Rattle.vnode_machine.specs.Replay.{History, replay}
-use Rattle.vnode_machine.specs.Dead.{is_from, first_dead, FirstDeadIsDead, FirstDeadIsLeast}
+use Rattle.vnode_machine.specs.Dead.{is_from, FirstDeadIsDead, FirstDeadIsLeast}
 use Rattle.vnode_machine.proofs.DeadKeys.{keys_sorted, first_is_dead, eq-itself}
 use Rattle.vnode_machine.proofs.Keys.{key_eq-same, eq_by_key_cmp}
 use Rattle.vnode_machine.proofs.Tests.{and_left, and_right, and_both}

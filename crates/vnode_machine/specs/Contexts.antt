@@ -1,6 +1,6 @@
 -- Contexts that were shown: the premise that each one that was given for a key had been shown for it by this vnode's run,
 -- and what follows: what an event saw is what was there at a position of its key.
-use Rattle.std.specs.Prelude.{◌≡◌, ◌≢◌, ◌⊎◌, ◌++◌, List, [], ◌∷◌, ℕ, Option, Some, None, IsTrue}
+use Rattle.std.specs.Prelude.{◌≡◌, ◌≢◌, ◌⊎◌, ◌++◌, [], ◌∷◌, ℕ, Some, None, IsTrue}
 use Rattle.riak_msgs.specs.declared.Key.{Key}
 use Rattle.riak_msgs.specs.Contents.{Content}
 use Rattle.sibling_register.specs.History.{Event, count_of, content_of, numbers_to}

@@ -1,6 +1,6 @@
 //! What the history of a vnode behind a gate consists of, and the law that it is a history of the register.
 
-ghost use Rattle.std.specs.Prelude.{◌≡◌, List, ℕ};
+ghost use Rattle.std.specs.Prelude.{List, ℕ};
 ghost use Rattle.riak_msgs.specs.Contents.{Content};
 ghost use Rattle.vnode_machine.specs.Machine.{State};
 ghost use Rattle.rw_gate.specs.Views.{GateId};

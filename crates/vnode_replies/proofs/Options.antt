@@ -12,7 +12,7 @@ use Rattle.actor_epoch.specs.declared.Dot.{Dot}
 use Rattle.actor_epoch.specs.Dots.{actor_eq, counter_in}
 use Rattle.actor_epoch.specs.Given.{Context, Pairs, context_of}
 use Rattle.vnode_machine.specs.Asks.{put_command}
-use Rattle.vnode_machine.specs.Machine.{State, Stored, stored, is_bad_context, has_value, matches_clock, own_of, clock_of, put_check, update_check, pairs_of, room_checks}
+use Rattle.vnode_machine.specs.Machine.{State, Stored, stored, is_bad_context, has_value, matches_clock, own_of, clock_of, put_check, pairs_of, room_checks}
 use Rattle.vnode_protocol.specs.declared.refusal.Refusal.{Refusal}
 use Rattle.vnode_protocol.specs.declared.refusal.Refusal.TheVariants.{NoMemory}
 use Rattle.vnode_replies.specs.Checks.{pairs_in, AreRead, is_ahead, last_dot, has_value_in, is_current_in, options_check, IsRising}
@@ -79,14 +79,6 @@ module _ (state : State Content) (key : Key) (given : Option Context) (seen : Op
           let runs = sym (ahead-same state.vnode state.last_epoch (own_of state key) (clock_of state key).known pairs)
           ∙ ap (λ l. list_any (is_ahead state.vnode state.last_epoch l) pairs) (sym last-is) in
           λ i. not (read i) || runs i
-
-  -- a write or tombstone by a context that runs ahead, or doesn't
-  pub update-bad : list_any (is_ahead state.vnode state.last_epoch last) (pairs_in seen) ≡ true → (pairs : List Dot) → update_check state key given pairs ≡ Some bad_context
-  update-bad ahead pairs = ap (λ b. first_of ((b, bad_context) ∷ room_checks state key pairs)) (bad-is ∙ ahead)
-
-  pub update-follows : list_any (is_ahead state.vnode state.last_epoch last) (pairs_in seen) ≡ false → (pairs : List Dot)
-      → update_check state key given pairs ≡ first_of (room_checks state key pairs)
-  update-follows behind pairs = ap (λ b. first_of ((b, bad_context) ∷ room_checks state key pairs)) (bad-is ∙ behind)
 
 -- a key that was found, and a context that was read and doesn't run ahead
 module _ (state : State Content) (put : PutAsk) (seen : Option (List Dot)) (given : context_of put.context ≡ option_map Pairs seen) (read : AreRead seen)

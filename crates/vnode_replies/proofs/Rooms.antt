@@ -16,7 +16,7 @@ use Rattle.dvv_set.specs.Laws.{IsClock}
 use Rattle.dvv_set.proofs.Discards.{discard-all}
 use Rattle.vnode_machine.specs.Machine.{State, stored, room_checks}
 use Rattle.vnode_machine.proofs.Seen.{actors_after-pairs, length-raise_new}
-use Rattle.vnode_replies.specs.Checks.{writer_of, pairs_in, is_ahead, IsFound}
+use Rattle.vnode_replies.specs.Checks.{pairs_in, is_ahead, IsFound}
 
 -- of a stored key, by what was computed
 module _ (state : State Content) (key : Key) (own : Actor) (clock : DotState (Option Content)) (seen : Option (List Dot)) (rising : is_rising clock.known ≡ true)
@@ -62,16 +62,7 @@ module _ (own : Actor) (clock : DotState (Option Content)) (is : IsClock clock) 
   pub actors-over : (a : ℕ) → a ≡ actors_after clock.known None own → a ≡ actors_after clock.known (Some clock.known) own
   actors-over a h = h ∙ ap (λ (m : DotState (Option Content)). length (known_after own m.known)) (sym (discard-all clock is))
 
--- who writes a key that was found
-pub writer-stored : (state : State Content) (key : Key) (own : Actor) (clock : DotState (Option Content)) (last_epoch : ℕ) → stored state key ≡ Some (record { own = Some own; clock = clock })
-    → state.last_epoch ≡ last_epoch → record { actor = own; last_epoch = last_epoch } ≡ writer_of state key
-writer-stored state key own clock last_epoch h e = rw (h, e) refl
-
-pub writer-new : (state : State Content) (key : Key) (id last_epoch : ℕ) → stored state key ≡ None → state.vnode ≡ id → state.last_epoch ≡ last_epoch
-    → record { actor = record { vnode = id; epoch = last_epoch + 1 }; last_epoch = last_epoch + 1 } ≡ writer_of state key
-writer-new state key id last_epoch h v e = rw (h, v, e) refl
-
--- and of an absent one
+-- of an absent key
 module _ (state : State Content) (key : Key) (id last_epoch : ℕ) (pairs : List Dot) (is : IsFound state key id last_epoch None pairs) (n : ℕ) (ns : n ≡ length pairs) where
   abbrev new_check : (actors last_epoch : ℕ) → Option ℕ
   new_check actors last_epoch = first_of ((nat_lt MAX_ACTORS actors, clock_full) ∷ (last_epoch == MAX_EPOCH, epochs_used_up) ∷ [])

@@ -1,6 +1,6 @@
 //! Reading a varint.
 
-ghost use Rattle.std.specs.Prelude.{◌≡◌, ◌≤◌, ◌↔◌, IfOk, IsErrOf, length, take};
+ghost use Rattle.std.specs.Prelude.{◌≤◌, ◌↔◌, IfOk, IsErrOf, length, take};
 ghost use Rattle.wire_varint.specs.Varint.{IsTruncated, IsVarint, IsOverlong};
 
 use crate::{MAX_VARINT_LEN, VarintFault};

@@ -1,6 +1,6 @@
 //! Writing a varint.
 
-ghost use Rattle.std.specs.Prelude.{◌≡◌, ℕ, ◌<◌, ◌≤◌, ◌++◌, List, length, drop};
+ghost use Rattle.std.specs.Prelude.{◌≡◌, ℕ, ◌≤◌, ◌++◌, List, length, drop};
 ghost use Rattle.wire_varint.specs.Varint.{HasGroups, IsVarint, encoding};
 
 use crate::MAX_VARINT_LEN;

@@ -2,25 +2,16 @@
 use Rattle.std.proofs.Common.{ℕ, List, inr}
 use Rattle.std.specs.Prelude.{Option, Result}
 use Rattle.job_pool.specs.Giving.{AllServed}
-use Rattle.job_pool.specs.Giving as pools
 use Rattle.job_pool.specs.declared.jobs.JobFault.{JobFault}
-use Rattle.job_pool.specs.declared.fault.RunFault.{RunFault}
-use Rattle.job_pool.specs.declared.fault.RunFault.TheVariants as runs
 use Rattle.gate_node.specs.Gates.{Gates}
 use Rattle.gate_node.specs.declared.fault.PoolFault.{PoolFault}
 use Rattle.gate_node.specs.declared.fault.PoolFault.TheVariants.{NoMemory, NoThread, JobsFailed, BookFull}
 use Rattle.worker_pool.specs.declared.job.Job.{Job}
 use Rattle.worker_pool.specs.declared.server.Served.{Served}
 use Rattle.worker_pool.specs.Serving.{Serves}
-use Rattle.worker_pool.specs.Leaving.{IsFaultAfter, Leaves, pool_fault}
+use Rattle.worker_pool.specs.Leaving.{IsFaultAfter, Leaves}
 
 module _ {J I O : Type 0} (Gives : J → Result (Option (Job I O)) JobFault → J → Type 0) (remaining : I → Option (List ℕ)) (contents : O → Option (List ℕ)) (shared : Gates) (first last : J) where
-  -- of the workers' run
-  pub leaves_as : (fault : RunFault) → pools.Leaves Gives fault first last → Leaves Gives remaining contents shared (pool_fault fault) first last
-  leaves_as runs.NoMemory h = h
-  leaves_as runs.NoThread h = h
-  leaves_as runs.JobsFailed h = h
-
   -- behind it
   pub leaves_after : (served : List (Served I O)) → AllServed Gives (Serves remaining contents shared) first served last → (fault : PoolFault) → IsFaultAfter served fault → Leaves Gives remaining contents shared fault first last
   leaves_after served all NoMemory h = (all.0, inr all.1)

@@ -1,6 +1,5 @@
 //! What the vnodes of a run have accepted.
 ghost use Rattle.std.specs.Prelude.{◌≡◌, IfOk, IfSome, IfErr};
-ghost use Rattle.gate_node.specs.Asked.{Sight};
 ghost use Rattle.job_pool.specs.Lists.{Pairwise};
 ghost use Rattle.worker_pool.specs.Tallies.{IsTally};
 ghost use Rattle.gate_node.specs.declared.fault.PoolFault.TheVariants.{NoMemory};

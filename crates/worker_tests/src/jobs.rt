@@ -1,5 +1,5 @@
 //! What the services and the sources of the tests are, and one run with them.
-ghost use Rattle.std.specs.Prelude.{◌≡◌, ◌<◌, length, IfOk};
+ghost use Rattle.std.specs.Prelude.{◌≡◌, ◌<◌};
 
 use job_pool::{Finished, JobFault, Jobs, RunFault, Service, run};
 use std::alloc::{AllocError, Global};
@@ -54,7 +54,7 @@ struct Numbers {
 impl Jobs for Numbers {
     type Job = u32;
 
-    ghost use Rattle.std.specs.Prelude.{◌≡◌, ◌+◌, true, false, MatchResult, MatchOption};
+    ghost use Rattle.std.specs.Prelude.{◌≡◌, ◌+◌, true, MatchResult, MatchOption};
 
     ghost gives = { λ first given last. MatchResult given
         (λ job. MatchOption job ((last ≡ first) × (first.left ≡ 0))

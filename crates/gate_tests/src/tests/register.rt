@@ -90,7 +90,7 @@ impl Kept for Register {
 
     type Event = Answered;
 
-    ghost use Rattle.std.specs.Prelude.{◌≡◌, ℕ, true, List, Some, refl};
+    ghost use Rattle.std.specs.Prelude.{◌≡◌, ℕ, true, List, Some};
     ghost use Rattle.sibling_register.specs.History.{Event};
     ghost use Rattle.sibling_register.specs.Plain.{Gives, answer_of};
     ghost use Rattle.gate_tests.specs.Registers.{applied, Makes};

@@ -1,5 +1,5 @@
 //! A source of jobs by a list, and a run of it.
-ghost use Rattle.std.specs.Prelude.{◌≡◌, ◌≤◌};
+ghost use Rattle.std.specs.Prelude.{◌≡◌};
 
 use crate::workers::streams::{Input, Output};
 use node_session::{Ended, SessionFault};
