@@ -12,7 +12,7 @@ use Rattle.worker_pool.specs.Serving.{Serves}
 use Rattle.worker_pool.specs.Leaving.{IsFaultAfter, Leaves}
 
 module _ {J I O : Type 0} (Gives : J → Result (Option (Job I O)) JobFault → J → Type 0) (remaining : I → Option (List ℕ)) (contents : O → Option (List ℕ)) (shared : Gates) (first last : J) where
-  -- behind it
+  -- behind the workers' run
   pub leaves_after : (served : List (Served I O)) → AllServed Gives (Serves remaining contents shared) first served last → (fault : PoolFault) → IsFaultAfter served fault → Leaves Gives remaining contents shared fault first last
   leaves_after served all NoMemory h = (all.0, inr all.1)
   leaves_after served all NoThread h = absurd h
