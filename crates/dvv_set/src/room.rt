@@ -1,15 +1,16 @@
 //! What a change of a clock needs: how many actors are new, and room for them.
 
-ghost use Rattle.std.specs.Prelude.{◌≡◌, ◌≤◌, ◌<◌, ◌+◌, ◌-◌, List, [], IsTrue, length, min, unwrap_or, ◌↔◌, OnOk, IfErr, Some};
+ghost use Rattle.std.specs.Prelude.{◌≡◌, ◌≤◌, ◌<◌, ◌+◌, ◌-◌, List, [], IsTrue, length, min, unwrap_or, ◌↔◌, OnOk, IfErr, Some, T};
+ghost use Rattle.std.specs.FinMap.Entries.{is_sorted};
 ghost use Rattle.actor_epoch.specs.declared.Actor.{Actor};
 ghost use Rattle.actor_epoch.specs.declared.Dot.{Dot};
 ghost use Rattle.actor_epoch.specs.Contexts.{is_well_formed};
-ghost use Rattle.actor_epoch.specs.Dots.{counter_in};
+ghost use Rattle.actor_epoch.specs.Dots.{counter_in, actor_cmp};
 ghost use Rattle.dvv_set.specs.Held.{pairs_of, actors_after, counter_before};
 ghost use Rattle.dvv_set.specs.ClockEntries.{AreEntries, known_of, entries_of_pairs, count_new, count_uncovered, newer};
 ghost use Rattle.dvv_set.specs.Stored.{actor_of, clock_entry, clock_entries};
 
-use crate::entry::{Entry, has, last_counter};
+use crate::entry::{Entry, Place, has, last_counter, search_actor};
 use crate::fault::ClockFault;
 use crate::inline::InlineList;
 use actor_epoch::{Actor, Context, ContextPairs, Counter, MAX_ACTORS, MAX_COUNTER};
@@ -31,15 +32,26 @@ pub(crate) fn count_new<V>(entries: &[Entry<V>], others: &[Entry<V>]) -> usize
 
 /// How many of the pairs have actors that are new.
 pub(crate) fn count_new_pairs<V>(entries: &[Entry<V>], pairs: ContextPairs<'_>) -> usize
-    requires { IsTrue (is_well_formed pairs) }
+    requires sorted { T (is_sorted actor_cmp (clock_entries entries.now)) }
+    requires of_form { IsTrue (is_well_formed pairs) }
     ensures counted { result
         ≡ count_new (entries_of_pairs pairs.entry) (clock_entries entries.now) }
     ensures few { result ≤ 64 }
 {
     let mut new = 0usize;
+    // Both rise, so that each search goes on where the last one ended.
+    let mut rest = entries;
     for (actor, _) in pairs {
-        if !has(entries, actor) {
-            new += 1;
+        match search_actor(rest, actor) {
+            Place::Taken(at) => {
+                let (_, after) = rest.split_at(at);
+                rest = after;
+            }
+            Place::Free(at) => {
+                let (_, after) = rest.split_at(at);
+                rest = after;
+                new += 1;
+            }
         }
     }
     new
@@ -51,6 +63,7 @@ fn context_counts<V>(
     context: Option<&Context<'_>>,
     actor: Actor,
 ) -> (Counter, usize)
+    requires { T (is_sorted actor_cmp (clock_entries entries.now)) }
     ensures counter { result.0 ≡ counter_in (unwrap_or (pairs_of context.entry) []) actor }
     ensures new { result.1 ≡ count_new
         (entries_of_pairs (unwrap_or (pairs_of context.entry) [])) (clock_entries entries.now) }
@@ -128,6 +141,9 @@ fn newer<V>(entry: &Entry<V>, context: Option<&Context<'_>>) -> usize
         (clock_entry entry.now).1 }
     ensures few { result ≤ MAX_COUNTER }
 {
+    if entry.values.is_empty() {
+        return 0;
+    }
     let seen = match context {
         None => 0,
         Some(context) => context.counter_of(entry.pair.actor()),

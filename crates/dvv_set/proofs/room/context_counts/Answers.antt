@@ -8,7 +8,7 @@ use Rattle.dvv_set.specs.Stored.{clock_entries}
 use Rattle.dvv_set.proofs.room.context_counts.Goals as goal
 
 pub count_new_pairs-requires : goal.count_new_pairs-requires
-count_new_pairs-requires g c = let fits = c.well_formed in (omega arith, ap is_well_formed c.pairs.ensures.pairs ∙ c.pairs.ensures.of_form)
+count_new_pairs-requires g c = let fits = c.well_formed in (omega arith, (c.requires, ap is_well_formed c.pairs.ensures.pairs ∙ c.pairs.ensures.of_form))
 
 pub returns-in-None-clause-counter : goal.returns-in-None-clause-counter
 returns-in-None-clause-counter g c = ap (λ context. counter_in (unwrap_or (pairs_of context) []) c.args.actor) (sym c.in-None.is)

@@ -92,7 +92,7 @@ pub returns-in-Err-clause-never : goal.returns-in-Err-clause-never
 returns-in-Err-clause-never g c = c.in-Err.ensures.never
 
 pub count_new_pairs-new-requires : goal.count_new_pairs-new-requires
-count_new_pairs-new-requires g c = let fits = c.well_formed in (omega arith, ap is_well_formed c.pairs.ensures.pairs ∙ c.pairs.ensures.of_form)
+count_new_pairs-new-requires g c = let fits = c.well_formed in (omega arith, (rw c.deref.ensures c.self.invariant.entries.sorted, ap is_well_formed c.pairs.ensures.pairs ∙ c.pairs.ensures.of_form))
 
 pub returns-in-Err-clause-refused : goal.returns-in-Err-clause-refused
 returns-in-Err-clause-refused g c = ap (λ items. dot_state_of (clock_entries items)) c.in-Err.ensures.unchanged ∙ ap (λ held. held.meaning) c.self.view_is
