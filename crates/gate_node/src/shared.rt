@@ -177,4 +177,11 @@ impl Passes {
         let passes = new_passes(alloc, &shared.gates)?;
         Ok(Passes { passes })
     }
+
+    /// The passes, in the partitions' order.
+    pub fn passes(&self) -> &[Pass<Vnode>]
+        ensures { result.now ≡ self.now }
+    {
+        self.passes.as_slice()
+    }
 }

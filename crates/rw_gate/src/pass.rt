@@ -1,6 +1,6 @@
 //! What a caller has seen, and the two steps that show it more.
 ghost use Rattle.std.specs.Prelude.{◌≡◌, ◌≢◌, ◌+◌, ◌<◌, ◌^◌, [], ◌∷◌, ◌++◌, length};
-ghost use Rattle.std.specs.Prelude.{OnOk, OnErr, IfOk, IfErr};
+ghost use Rattle.std.specs.Prelude.{OnOk, OnErr, IfOk, IfErr, MatchBool};
 ghost use mathlib.Core.List.{IsPrefix};
 ghost use Rattle.rw_gate.specs.declared.log.LogEntry.TheVariants.{Made};
 ghost use Rattle.rw_gate.specs.Logs.{events, IsRun, LeadsTo};
@@ -72,6 +72,21 @@ impl<S: Kept> Pass<S> {
         ensures legal { IsHistory S.content S.accepts self.now.gate self.now.prefix }
     {
         self.count
+    }
+
+    /// Whether this pass has seen no more events than another of its gate. Both have seen beginnings of one history, so what the one that
+    /// is behind has seen begins what the other has.
+    pub fn is_behind(&self, other: &Pass<S>) -> bool
+        requires { other.now.gate ≡ self.now.gate }
+        ensures { MatchBool result (IsPrefix self.now.prefix other.now.prefix)
+            (IsPrefix other.now.prefix self.now.prefix) }
+    {
+        let mut both = self.seen.again();
+        both.learn(&other.seen);
+        if self.count <= other.count {
+            return true;
+        }
+        false
     }
 
     /// A pass that has seen no event of a gate.
