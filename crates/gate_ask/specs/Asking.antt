@@ -46,3 +46,15 @@ module _ {S E State Ask Reply Refusal : Type 0} (content : S → State) (accepts
   Comes ask old new (Refused refusal) = IsSaid (λ s. refuses s ask refusal) old new
   Comes ask old new Moved = IsOvertaken old new
   Comes ask old new Full = IsFull old new
+
+  -- the event of the ask stands right behind all that the pass had seen
+  pub record IsNext (ask : Ask) (old new : PassView S E) : Type 0 where
+    pub event : E
+    pub asked : asks event ask
+    pub seen : new.prefix ≡ old.prefix ++ event ∷ []
+    pub own : new.own ≡ old.own ++ length old.prefix ∷ []
+
+  -- where one was made
+  abbrev pub Follows : Ask → PassView S E → PassView S E → Outcome Reply Refusal → Type 0
+  Follows ask old new (Made reply) = IsNext ask old new
+  Follows ask old new other = Unit {0}

@@ -2,7 +2,7 @@
 ghost use Rattle.std.specs.Prelude.{◌≡◌};
 ghost use mathlib.Core.List.{IsPrefix};
 ghost use Rattle.rw_gate.specs.Histories.{IsReplayed};
-ghost use Rattle.gate_ask.specs.Asking.{Comes};
+ghost use Rattle.gate_ask.specs.Asking.{Comes, Follows};
 
 use rw_gate::{Gate, Kept, Pass, Plan, PublishFault, WriteRight};
 use std::alloc::Global;
@@ -63,8 +63,8 @@ pub fn ask_under<S: Kept>(
     ask_shown(right, alloc, pass, ask)
 }
 
-/// Asks once under a right whose whole history the pass has seen.
-fn ask_shown<S: Kept>(
+/// Asks once under a right whose whole history the pass has seen, as a look has just shown it.
+pub fn ask_shown<S: Kept>(
     right: &mut WriteRight<'_, S>,
     alloc: Global,
     pass: &mut Pass<S>,
@@ -76,6 +76,8 @@ fn ask_shown<S: Kept>(
     ensures gate { pass.new.gate ≡ pass.old.gate }
     ensures more { IsPrefix pass.old.prefix pass.new.prefix }
     ensures outcome { Comes S.content S.accepts S.answers S.refuses S.asks S.answered_by
+        ask pass.old pass.new result }
+    ensures follows { Follows S.content S.accepts S.answers S.refuses S.asks S.answered_by
         ask pass.old pass.new result }
 {
     match right.prepare(alloc, ask) {

@@ -17,4 +17,4 @@
 
 mod asking;
 
-pub use asking::{Outcome, ask, ask_under};
+pub use asking::{Outcome, ask, ask_shown, ask_under};
