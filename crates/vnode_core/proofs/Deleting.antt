@@ -18,16 +18,17 @@ use Rattle.dvv_set.proofs.Discards.{union-itself}
 use Rattle.vnode_machine.specs.Asks.{del_command}
 use Rattle.vnode_machine.specs.Machine.{State, Stored, clock_of, actor_for, del_pairs, updated}
 use Rattle.vnode_machine.specs.Step.{StepOutcome, Refused, del_step}
-use Rattle.vnode_machine.proofs.Forms.{IsForm, IsFormed}
+use Rattle.vnode_machine.proofs.Formed.{sound-next}
 use Rattle.vnode_machine.proofs.Seen.{form-within}
 use Rattle.vnode_machine.proofs.Tests.{and_left, and_right, and_both}
 use Rattle.vnode_protocol.specs.declared.ask.Ask.TheVariants.{Del}
 use Rattle.vnode_protocol.specs.declared.ask.Answer.{Answer}
-use Rattle.vnode_protocol.specs.Plans.{Steps, IsReached}
+use Rattle.vnode_machine.specs.Sound.{IsForm, IsFormed, IsSound}
+use Rattle.vnode_protocol.specs.Plans.{Steps}
 use Rattle.clock_store.specs.Keys.{deleted}
 use Rattle.vnode_core.specs.Vnodes.{state_after}
 use Rattle.vnode_core.proofs.Putting.{find-next}
-use Rattle.vnode_protocol.proofs.Reached.{formed, known-at, reached-next}
+use Rattle.vnode_protocol.proofs.Sound.{known-at}
 
 -- a delete of a key by what was given as its context
 abbrev step_by : State Content → Key → Option Context → StepOutcome
@@ -62,7 +63,7 @@ positive (pair ∷ pairs) h =
     first false b c d h = cc
 
 -- a delete that the machine accepts
-module _ (state : State Content) (is : IsReached state) (del : DelAsk) (answer : Answer) (step : Steps state (Del del) answer (state_after state (Del del))) where
+module _ (state : State Content) (is : IsSound state) (del : DelAsk) (answer : Answer) (step : Steps state (Del del) answer (state_after state (Del del))) where
   abbrev own : Actor
   own = actor_for state del.key
 
@@ -76,7 +77,7 @@ module _ (state : State Content) (is : IsReached state) (del : DelAsk) (answer :
   form-del : IsForm (next_by (context_of del.context))
   form-del =
       subst IsFormed (find-next del.key (next_by (context_of del.context)) state.keys)
-      (formed (state_after state (Del del)) (reached-next state is (AskDel (del_command del)) _ _ (state_after state (Del del)) step) del.key)
+      ((sound-next state is (AskDel (del_command del)) _ _ (state_after state (Del del)) step).keys del.key)
 
   of-all : IsForm (next_by None) → IsWithin clock.known None own
   of-all form =

@@ -13,7 +13,8 @@ use Rattle.vnode_protocol.specs.declared.ask.Ask.{Ask}
 use Rattle.vnode_protocol.specs.declared.ask.Ask.TheVariants.{Put, Del, Reap, ReapFirst}
 use Rattle.vnode_protocol.specs.declared.ask.Answer.{Answer}
 use Rattle.vnode_core.specs.declared.ready.Ready.{Ready}
-use Rattle.vnode_protocol.specs.Plans.{View, AcceptsPrepared, IsAccepted, IsWrite, ask_outcome, RegistersAsk, Steps, operation_of, response_of, IsReached}
+use Rattle.vnode_machine.specs.Sound.{IsSound}
+use Rattle.vnode_protocol.specs.Plans.{View, AcceptsPrepared, IsAccepted, IsWrite, ask_outcome, RegistersAsk, Steps, operation_of, response_of}
 use Rattle.vnode_machine.specs.Asks.{put_command}
 use Rattle.vnode_machine.specs.Replies.{put_reply}
 use Rattle.clock_store.specs.declared.store.WriteKind.TheVariants.{Value}
@@ -23,17 +24,17 @@ use Rattle.vnode_replies.specs.declared.checks.Writer.{Writer}
 use Rattle.clock_store.specs.Keys.{Keys}
 use Rattle.vnode_core.specs.Vnodes.{IsReady, IsReadyFor, IsVnode, state_of, view_of, key_in, written_by, state_after, writes_after, tombstones_after, Fields, fields, PutGives}
 use Rattle.vnode_replies.specs.Checks.{writer_of}
-use Rattle.vnode_protocol.proofs.Reached.{registers-ask, reached-after}
+use Rattle.vnode_protocol.proofs.Sound.{registers-ask, sound-after}
 use Rattle.vnode_core.proofs.Putting.{written-put, steps-put}
 use Rattle.vnode_core.proofs.Deleting.{written-del, not-malformed}
 
 pub record IsFinished (state : State Content) (ask : Ask) (answer : Answer) (after : State Content) : Type 0 where
   pub step : Steps state ask answer after
   pub register : RegistersAsk state ask (Accepted (operation_of ask) (response_of answer) after)
-  pub reached : IsReached after
+  pub sound : IsSound after
 
 -- a vnode in which a command is ready
-module _ (v : Fields) (is : IsReached (state_of v)) (ask : Ask) (write : IsWrite ask) (r : IsReady (state_of v) v.store v.ready ask write) (ready : Ready) (found : v.ready ≡ Some ready) where
+module _ (v : Fields) (is : IsSound (state_of v)) (ask : Ask) (write : IsWrite ask) (r : IsReady (state_of v) v.store v.ready ask write) (ready : Ready) (found : v.ready ≡ Some ready) where
   ready-is : ready ≡ record { writer = writer_of (state_of v) (key_in ask write); answer = r.answer }
   ready-is = let e : Some ready ≡ Some (record { writer = writer_of (state_of v) (key_in ask write); answer = r.answer }) = sym found ∙ r.made in cc
 
@@ -57,7 +58,7 @@ module _ (v : Fields) (is : IsReached (state_of v)) (ask : Ask) (write : IsWrite
   finished-here after leads =
       let step : Steps (state_of v) ask ready.answer after =
       subst (λ next. Steps (state_of v) ask ready.answer next) (sym leads) (subst (λ answer. Steps (state_of v) ask answer (state_after (state_of v) ask)) (sym (ap (λ (r : Ready). r.answer) ready-is)) r.step) in
-      record { step = step; register = registers-ask (state_of v) is ask _ step; reached = reached-after (state_of v) is ask ready.answer after step }
+      record { step = step; register = registers-ask (state_of v) is ask _ step; sound = sound-after (state_of v) is ask ready.answer after step }
 
 ready-write : (state : State Content) (store : Contents) (ready : Option Ready) (ask : Ask) (write : IsWrite ask) → IsReadyFor state store ready (Some ask) → IsReady state store ready ask write
 ready-write state store ready (Put put) write r = r
@@ -74,7 +75,7 @@ finished v is seen sees ask write prepared ready found epochs writes tombstones 
     let was : v.prepared ≡ Some ask = ap (λ w. w.prepared) sees ∙ prepared in
     let r : IsReady (state_of v) v.store v.ready ask write = ready-write (state_of v) v.store v.ready ask write (subst (IsReadyFor (state_of v) v.store v.ready) was is.ready) in
     let next : State Content = record (state_of v) { last_epoch = epochs; writes = writes; tombstones = tombstones; keys = keys } in
-    let here = finished-here v is.reached ask write r ready found next (state-is v is.reached ask write r ready found epochs writes tombstones keys e n m k) in
+    let here = finished-here v is.sound ask write r ready found next (state-is v is.sound ask write r ready found epochs writes tombstones keys e n m k) in
     subst (λ (w : View). IsFinished w.state ask ready.answer next) sees here
 
 accepted-step : (outcome : StepOutcome) (operation : Operation Content) (response : Response) (next : State Content) → outcome ≡ Accepted operation response next → IsAccepted outcome
@@ -95,7 +96,7 @@ read-pairs None = refl
 read-pairs (Some pairs) = refl
 
 -- a vnode in which a put that it accepts has room, and its answer is made, is one in which it is ready
-pub put-ready : (v : Fields) → IsReached (state_of v) → (seen : View) → view_of v ≡ seen → (put : PutAsk) (made : Ready) → PutGives seen.state put made
+pub put-ready : (v : Fields) → IsSound (state_of v) → (seen : View) → view_of v ≡ seen → (put : PutAsk) (made : Ready) → PutGives seen.state put made
     → (pairs : Option (List Dot)) → context_of put.context ≡ option_map Pairs pairs
     → (store : Contents) → store.keys ≡ v.store.keys → HasRoom store put.key pairs made.writer.actor Value
     → (ready : Option Ready) → ready ≡ Some made → (prepared : Option Ask) → prepared ≡ Some (Put put)
@@ -114,7 +115,7 @@ put-ready v is seen sees put made gives pairs given store same room ready r prep
       made = λ i. Some (record { writer = here.writer i; answer = here.answer i });
     } in
     record {
-      reached = subst IsReached stays is;
+      sound = subst IsSound stays is;
       ready =
           subst (IsReadyFor next store ready) (sym p)
           (subst (λ o. IsReadyFor next store o (Some (Put put))) (sym r) (subst (λ (s : State Content). IsReady s store (Some made) (Put put) tt) stays now));

@@ -18,13 +18,14 @@ use Rattle.vnode_machine.specs.Asks.{put_command}
 use Rattle.vnode_machine.specs.Machine.{State, Stored, stored, clock_of, actor_for, pairs_of, put_check, apply_operation, updated}
 use Rattle.vnode_machine.specs.Step.{Accepted, PutDone, outcome, unless_refused}
 use Rattle.vnode_machine.specs.Replies.{put_reply}
-use Rattle.vnode_machine.proofs.Forms.{IsForm, IsFormed, form-whole}
+use Rattle.vnode_machine.proofs.Forms.{form-whole}
+use Rattle.vnode_machine.proofs.Formed.{sound-next}
 use Rattle.vnode_machine.proofs.Invariants.{clock_in}
 use Rattle.vnode_machine.proofs.Keys.{find_stored, key_eq-refl}
 use Rattle.vnode_machine.proofs.Seen.{form-within, without-pairs}
 use Rattle.clock_store.specs.Keys.{Keys, written}
-use Rattle.vnode_protocol.specs.Plans.{IsReached}
-use Rattle.vnode_protocol.proofs.Reached.{formed, known-at, reached-next}
+use Rattle.vnode_machine.specs.Sound.{IsForm, IsFormed, IsSound}
+use Rattle.vnode_protocol.proofs.Sound.{known-at}
 use Rattle.vnode_replies.specs.Checks.{pairs_in}
 use Rattle.vnode_replies.specs.Replies.{reply_after}
 use Rattle.vnode_replies.proofs.Options.{pairs-given}
@@ -40,7 +41,7 @@ pairs-read (Some Malformed) = refl
 pairs-read (Some (Pairs pairs)) = refl
 
 -- a put is written as the machine has it
-pub written-put : (state : State Content) → IsReached state → (put : PutAsk)
+pub written-put : (state : State Content) → IsSound state → (put : PutAsk)
     → written state.keys put.key (pairs_read (context_of put.context)) (actor_for state put.key) (Some put.content) ≡ updated state put.key (pairs_of (context_of put.context)) (Some put.content)
 written-put state is put =
     let own : Actor = actor_for state put.key in
@@ -49,7 +50,7 @@ written-put state is put =
     (without-pairs (pairs_read (context_of put.context)) clock (known-at state is put.key).rising ∙ ap (λ ps. discard ps clock) (sym (pairs-read (context_of put.context))))
 
 -- a put that the machine accepts
-module _ (state : State Content) (is : IsReached state) (put : PutAsk) (accepted : put_check state (put_command put) ≡ None) where
+module _ (state : State Content) (is : IsSound state) (put : PutAsk) (accepted : put_check state (put_command put) ≡ None) where
   abbrev next : State Content
   next = apply_operation state put.key (context_of put.context) (Write put.content)
 
@@ -71,7 +72,7 @@ module _ (state : State Content) (is : IsReached state) (put : PutAsk) (accepted
 
   -- in the form
   form-put : IsForm next_stored
-  form-put = subst IsFormed stored-next (formed next (reached-next state is (AskPut (put_command put)) (Write put.content) (PutDone (put_reply next (put_command put))) next steps-put) put.key)
+  form-put = subst IsFormed stored-next ((sound-next state is (AskPut (put_command put)) (Write put.content) (PutDone (put_reply next (put_command put))) next steps-put).keys put.key)
 
   -- so it is within the limits of its clock
   pub within-put : (seen : Option (List Dot)) → context_of put.context ≡ option_map Pairs seen → IsWithin clock.known seen own

@@ -12,23 +12,21 @@ use Rattle.vnode_machine.specs.Dead.{dead_keys, first_dead, has_dead, is_from, r
 use Rattle.vnode_machine.specs.Machine.{State, counted, holds_dead, has_value}
 use Rattle.vnode_machine.specs.Runs.{state_after_step}
 use Rattle.vnode_machine.specs.Step.{ReapDone, ReapKept, StepOutcome, Answered, Accepted, outcome}
-use Rattle.vnode_machine.proofs.DeadKeys.{keys_sorted, dead_left, first_is_dead}
+use Rattle.vnode_machine.proofs.DeadKeys.{dead_left, first_is_dead}
 use Rattle.vnode_machine.proofs.Tests.{and_right}
 use denote.Enum.Bare.{sameb}
 use Rattle.clock_store.specs.contracts.store.Reaped.{the_type}
 use Rattle.clock_store.specs.declared.store.Reaped.{Reaped}
 use Rattle.clock_store.specs.declared.store.Reaped.TheVariants.{Gone, Kept, Absent}
 use Rattle.vnode_protocol.specs.declared.ask.Ask.TheVariants.{ReapFirst}
-use Rattle.vnode_protocol.specs.Plans.{IsAccepted, Registers, ask_outcome, reap_response, IsReached}
+use Rattle.vnode_machine.specs.Sound.{IsSound}
+use Rattle.vnode_machine.proofs.Formed.{sound-next}
+use Rattle.vnode_protocol.specs.Plans.{IsAccepted, Registers, ask_outcome, reap_response}
 use Rattle.clock_store.specs.Forgetting.{holding, reap_result, after_reap, after_first_reap}
 use Rattle.vnode_protocol.specs.Reaping.{reap_outcome}
 use Rattle.clock_store.specs.Keys.{Keys}
 use Rattle.vnode_core.specs.Vnodes.{state_of, Fields}
-use Rattle.vnode_protocol.proofs.Reached.{registers-view, reached-next}
-
--- the keys of a vnode stand in their order
-pub sorted-now : (state : State Content) → IsReached state → is_sorted key_cmp state.keys ≡ true
-sorted-now state is = ap (λ (s : State Content). is_sorted key_cmp s.keys) is.after.is ∙ keys_sorted is.id is.opened is.history
+use Rattle.vnode_protocol.proofs.Sound.{registers-view}
 
 -- a reap, by its result and the state after it
 module _ (state : State Content) (key : Key) (result : Reaped) (after : State Content) (exact : result ≡ reap_result state key) (leads : after ≡ after_reap state key) where
@@ -42,14 +40,14 @@ module _ (state : State Content) (key : Key) (result : Reaped) (after : State Co
       by false true next = refl
       by false false next = refl
 
-  pub register-reap : IsReached state → (seen : State Content) → state ≡ seen → Registers seen (AskReap key) (reap_outcome result after)
+  pub register-reap : IsSound state → (seen : State Content) → state ≡ seen → Registers seen (AskReap key) (reap_outcome result after)
   register-reap is seen same = registers-view state seen same is (AskReap key) (reap_outcome result after) outcome-is
 
-  pub reached-reap : IsReached state → IsReached after
-  reached-reap is = subst IsReached (sym leads) (by (holds_dead state key) refl)
+  pub sound-reap : IsSound state → IsSound after
+  sound-reap is = subst IsSound (sym leads) (by (holds_dead state key) refl)
     where
-      by : (dead : Bool) → holds_dead state key ≡ dead → IsReached (state_after_step state (if dead then Accepted Reap ReapDone (reaped state key) else Answered ReapKept))
-      by true h = reached-next state is (AskReap key) Reap ReapDone (reaped state key) (ap (λ b. if b then Accepted Reap ReapDone (reaped state key) else Answered ReapKept) h)
+      by : (dead : Bool) → holds_dead state key ≡ dead → IsSound (state_after_step state (if dead then Accepted Reap ReapDone (reaped state key) else Answered ReapKept))
+      by true h = sound-next state is (AskReap key) Reap ReapDone (reaped state key) (ap (λ b. if b then Accepted Reap ReapDone (reaped state key) else Answered ReapKept) h)
       by false h = is
 
 -- the fields of a vnode that has forgotten a key
@@ -76,18 +74,18 @@ kept-is v key keys result not_gone exact k = by (holds_dead (state_of v) key) (h
     by false value e k = λ i. record (state_of v) { keys = k i }
 
 -- a reap of the least dead key
-module _ (state : State Content) (is : IsReached state) (from : Option Key) (key : Key) (first : first_dead state from ≡ Some key) where
+module _ (state : State Content) (is : IsSound state) (from : Option Key) (key : Key) (first : first_dead state from ≡ Some key) where
   dead-now : holds_dead state key ≡ true
   dead-now = and_right (is_from from key) (holds_dead state key) (first_is_dead state from key first)
 
   pub accepts-first : outcome state (AskReap key) ≡ Accepted Reap ReapDone (reaped state key)
   accepts-first = ap (λ b. if b then Accepted Reap ReapDone (reaped state key) else Answered ReapKept) dead-now
 
-  pub reached-first : IsReached (reaped state key)
-  reached-first = reached-next state is (AskReap key) Reap ReapDone (reaped state key) accepts-first
+  pub sound-first : IsSound (reaped state key)
+  sound-first = sound-next state is (AskReap key) Reap ReapDone (reaped state key) accepts-first
 
   pub left-first : dead_keys (reaped state key) from ≡ drop 1 (dead_keys state from)
-  left-first = dead_left state key from (sorted-now state is) first
+  left-first = dead_left state key from is.sorted first
 
   pub register-first : (after : State Content) → after ≡ reaped state key → (seen : State Content) → state ≡ seen
       → (other : Key) → first_dead seen from ≡ Some other → Registers seen (AskReap other) (Accepted Reap ReapDone after)
@@ -136,7 +134,7 @@ module _ (state : State Content) (key : Key) where
   steps-reap Absent after accepted e leads = absurd (subst IsAccepted (outcome-is state key Absent after e leads) accepted)
 
 -- a reap of the first dead key that is planned
-module _ (state : State Content) (is : IsReached state) (from : Option Key) where
+module _ (state : State Content) (is : IsSound state) (from : Option Key) where
   pub some-first : has_dead state from ≡ true → ask_outcome state (ReapFirst from) ≡ Accepted Reap ReapDone (after_first_reap state from)
   some-first h = by (first_dead state from) refl h
     where

@@ -21,7 +21,8 @@ use Rattle.vnode_protocol.specs.declared.ask.Answer.TheVariants as answers
 use Rattle.vnode_protocol.specs.declared.refusal.Refusal.{Refusal}
 use Rattle.vnode_core.specs.declared.ready.Ready.{Ready}
 use Rattle.vnode_replies.specs.declared.checks.Writer.{Writer}
-use Rattle.vnode_protocol.specs.Plans.{View, IsAccepted, IsReached, IsWrite, Steps, Refuses, ask_outcome}
+use Rattle.vnode_machine.specs.Sound.{IsSound}
+use Rattle.vnode_protocol.specs.Plans.{View, IsAccepted, IsWrite, Steps, Refuses, ask_outcome}
 use Rattle.clock_store.specs.declared.store.WriteKind.TheVariants.{Value, Tombstone as Dead}
 use Rattle.clock_store.specs.Contents.{Contents, HasRoom}
 use Rattle.clock_store.specs.Forgetting.{after_first_reap}
@@ -156,5 +157,5 @@ IsReadyFor state store ready (Some (Reap key)) = IsAccepted (ask_outcome state (
 IsReadyFor state store ready (Some (ReapFirst from)) = IsAccepted (ask_outcome state (ReapFirst from))
 
 pub record IsVnode (v : Fields) : Type 0 where
-  pub reached : IsReached (state_of v)
+  pub sound : IsSound (state_of v)
   pub ready : IsReadyFor (state_of v) v.store v.ready v.prepared

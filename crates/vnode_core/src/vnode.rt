@@ -11,7 +11,8 @@ ghost use Rattle.vnode_machine.specs.Replay.{IsAfter};
 ghost use Rattle.vnode_machine.specs.Step.{outcome, Answered, Accepted, GetDone};
 ghost use Rattle.vnode_replies.specs.Checks.{found_in, writer_of};
 ghost use Rattle.vnode_protocol.specs.declared.ask.Ask.TheVariants.{Put, Del};
-ghost use Rattle.vnode_protocol.specs.Plans.{IsPrepared, Plans, Refuses, Registers, RegistersAsk, RegistersStep, Steps, planned, operation_of, response_of, AcceptsPrepared, IsWrite, IsReached};
+ghost use Rattle.vnode_machine.specs.Sound.{IsSound};
+ghost use Rattle.vnode_protocol.specs.Plans.{IsPrepared, Plans, Refuses, Registers, RegistersAsk, RegistersStep, Steps, planned, operation_of, response_of, AcceptsPrepared, IsWrite};
 ghost use Rattle.vnode_core.specs.Readiness.{plan_in};
 ghost use Rattle.vnode_protocol.specs.Refusals.{GivenBy};
 ghost use Rattle.vnode_core.specs.Vnodes.{written_by, HasRoomFor, PutGives};
@@ -190,7 +191,7 @@ impl<S: ClockStore> VnodeOver<S> {
     ) -> Result<Writer, Refusal>
         requires given { context_of put.now.context ≡ option_map Pairs (seen_in context) }
         requires found { found_in found ≡ stored self.now.state put.now.key }
-        ensures reached { IsReached self.now.state }
+        ensures sound { IsSound self.now.state }
         ensures given { GivenBy result (put_check self.now.state (put_command put.now)) }
         ensures writer { IfOk result (λ writer. writer ≡ writer_of self.now.state put.now.key) }
     {
@@ -206,7 +207,7 @@ impl<S: ClockStore> VnodeOver<S> {
     fn drop_prepared(&mut self)
         ensures same { self.new.state ≡ self.old.state }
         ensures ended { self.new.prepared ≡ None }
-        ensures reached { IsReached self.old.state }
+        ensures sound { IsSound self.old.state }
         ensures accepted { AcceptsPrepared self.old }
     {
         self.prepared = GhostValue::none(); // the earlier one is given up

@@ -13,7 +13,8 @@ use Rattle.actor_epoch.proofs.Pairs.{counter_in-union}
 use Rattle.actor_epoch.specs.Given.{Context}
 use Rattle.vnode_machine.specs.Machine.{Stored}
 use Rattle.vnode_machine.specs.Lives.{next_of, lives_begun, ends_in_update, is_alive, latest_dot}
-use Rattle.vnode_machine.proofs.Invariants.{actor_of, H, clock_in, AreLiveOf, IsKept, IsEarlier}
+use Rattle.vnode_machine.specs.Sound.{actor_of}
+use Rattle.vnode_machine.proofs.Invariants.{H, clock_in, AreLiveOf, IsKept, IsEarlier}
 use Rattle.vnode_machine.proofs.Counters.{is_low, are_low, are_low-more, all-union, counter_in-low}
 
 -- a key without siblings is in no life
@@ -49,6 +50,14 @@ last-owned last s h = ap (λ o. cond (is_some o) last (last + 1)) h
 abbrev pub IsBehind : List Dot → Option (Stored Content) → Type 0
 IsBehind pairs None = Unit {0}
 IsBehind pairs (Some s) = counter_in pairs (actor_of s) ≤ counter_in s.clock.known (actor_of s)
+
+pub behind_none : (o : Option (Stored Content)) → IsBehind [] o
+behind_none None = tt
+behind_none (Some s) = omega arith
+
+pub behind_own : (o : Option (Stored Content)) → IsBehind (clock_in o).known o
+behind_own None = tt
+behind_own (Some s) = omega arith
 
 module _ (v l : ℕ) where
   pub record IsBase (last last' : ℕ) (event : Event Content Context) (history : H) (key : Key) (o : Option (Stored Content)) (own : Actor) (known : List Dot) : Type 0 where

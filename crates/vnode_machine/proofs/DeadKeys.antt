@@ -1,37 +1,22 @@
 -- The keys of a state stand in their order, and which dead keys are left when the first of them is reaped.
 use Rattle.std.proofs.Common.{◌≡◌, ℕ, Bool, true, false, not, ◌&&◌, cond, List, [], ◌∷◌, refl, sym, ◌∙◌, ap, map, drop}
-use lib.Dec.{T}
 use Rattle.std.specs.Prelude.{Option, Some, None, slice_get, filter, is_some}
 use Rattle.std.specs.Option.{option_map_or}
 use Rattle.std.specs.List.{list_any}
 use Rattle.std.specs.declared.cmp.Ordering.TheVariants.{Less}
 use Rattle.std.specs.Ordering.{is_eq, eq_by_cmp, ordering_reverse}
-use Rattle.std.proofs.lemmas.Float.{T_from_true}
-use Rattle.std.specs.FinMap.Entries.{find, where_key, is_sorted, below_all, is_sorted-put, is_sorted-where_key}
+use Rattle.std.specs.FinMap.Entries.{find, where_key, is_sorted, below_all}
 use Rattle.riak_msgs.specs.declared.Key.{Key}
 use Rattle.riak_msgs.specs.Contents.{Content}
 use Rattle.riak_msgs.specs.KeyOrder.{key_cmp, key_eq}
-use Rattle.sibling_register.specs.History.{Operation, Write, Tombstone, Reap}
-use Rattle.actor_epoch.specs.Given.{Context}
-use Rattle.vnode_machine.specs.Machine.{State, Stored, stored, holds_dead, apply_operation}
+use Rattle.vnode_machine.specs.Machine.{State, Stored, stored, holds_dead}
 use Rattle.vnode_machine.specs.Replay.{History, replay}
 use Rattle.vnode_machine.specs.Dead.{is_from, dead_keys, first_dead, reaped}
-use Rattle.vnode_machine.proofs.Keys.{key_cmp_total, eq_by_key_cmp, key_eq-refl, find_reaped}
+use Rattle.vnode_machine.proofs.Keys.{key_cmp_total, eq_by_key_cmp, key_eq-refl, find_reaped, sorted-step}
 use Rattle.vnode_machine.proofs.Seen.{less}
 use Rattle.vnode_machine.proofs.Tests.{and_left, and_right}
 
-true_from : (b : Bool) → T b → b ≡ true
-true_from true t = refl
-true_from false t = absurd t
-
--- an event leaves the keys in order
-sorted-step : (state : State Content) (key : Key) (given : Option Context) (operation : Operation Content) → is_sorted key_cmp state.keys ≡ true
-    → is_sorted key_cmp (apply_operation state key given operation).keys ≡ true
-sorted-step state key given (Write content) h = true_from _ (is_sorted-put key_cmp key_cmp_total key _ state.keys (T_from_true _ h))
-sorted-step state key given Tombstone h = true_from _ (is_sorted-put key_cmp key_cmp_total key _ state.keys (T_from_true _ h))
-sorted-step state key given Reap h = true_from _ (is_sorted-where_key key_cmp (λ other. not (eq_by_cmp key_cmp key other)) state.keys (T_from_true _ h))
-
--- so they are after each list of events
+-- the keys are in order after each list of events
 pub keys_sorted : (vnode last_epoch : ℕ) (history : History) → is_sorted key_cmp (replay vnode last_epoch history).keys ≡ true
 keys_sorted vnode last_epoch [] = refl
 keys_sorted vnode last_epoch (event ∷ before) =

@@ -1,28 +1,32 @@
--- In every replay what is known of each key is of the form of a context.
-use Rattle.std.proofs.Common.{◌≡◌, ℕ, ◌<◌, ◌≤◌, Bool, true, false, not, cond, List, [], ◌∷◌, refl, sym, ◌∙◌, subst}
-use Rattle.std.specs.Prelude.{◌^◌, Option, Some, None, IsTrue, is_some}
+-- Each step keeps a state sound, so every replay is: what is known of each key is of the form of a context.
+use Rattle.std.proofs.Common.{◌≡◌, ℕ, ◌≤◌, Bool, true, false, not, ◌&&◌, cond, List, [], ◌∷◌, refl, sym, ◌∙◌, subst}
+use Rattle.std.specs.Prelude.{Option, Some, None, IsTrue, is_some, is_none, if◌then◌else◌}
 use Rattle.std.specs.List.{list_any}
 use Rattle.riak_msgs.specs.declared.Key.{Key}
 use Rattle.riak_msgs.specs.Contents.{Content}
 use Rattle.riak_msgs.specs.KeyOrder.{key_eq}
-use Rattle.sibling_register.specs.History.{Event, Operation, Write, Tombstone, Reap}
+use Rattle.sibling_register.specs.History.{Operation, Write, Tombstone, Reap}
+use Rattle.sibling_register.specs.Answers.{PutCommand, DelCommand, Ask, AskGet, AskPut, AskDel, AskReap}
+use Rattle.sibling_register.specs.Refusals.{first_of}
 use Rattle.sibling_register.specs.Siblings.{is_defined}
 use Rattle.actor_epoch.specs.declared.Dot.{Dot}
 use Rattle.actor_epoch.specs.Limits.{max_epoch}
 use Rattle.actor_epoch.specs.Contexts.{is_well_formed}
 use Rattle.actor_epoch.specs.Given.{Context, Malformed, Pairs}
 use Rattle.actor_epoch.proofs.Given.{context_of-encoding}
-use Rattle.vnode_machine.specs.Machine.{Stored, State, stored, clock_of, next_actor, is_bad_context, names_unissued_dot, has_too_many_siblings, has_too_many_actors, is_out_of_epochs, is_out_of_counters, update_check, pairs_of, del_pairs, apply_operation}
+use Rattle.vnode_machine.specs.Machine.{Stored, State, opening, stored, clock_of, is_held, holds_dead, next_actor, is_bad_context, names_unissued_dot, has_too_many_siblings, has_too_many_actors, is_out_of_epochs, is_out_of_counters, room_checks, update_check, put_check, del_check, pairs_of, del_pairs, apply_operation}
 use Rattle.vnode_machine.specs.Replay.{replay, Accepts, HasReplay, IsWithinLimits}
+use Rattle.vnode_machine.specs.Sound.{ArePairs, IsForm, IsFormed, IsSound}
+use Rattle.vnode_machine.specs.Step.{Response, DelDone, ReapDone, ReapKept, StepOutcome, Answered, Accepted, unless_refused, outcome}
 use Rattle.vnode_machine.specs.Laws.{ShownContextIsName}
-use Rattle.vnode_machine.proofs.Keys.{find_stored, find_reaped}
+use Rattle.vnode_machine.proofs.Keys.{find_stored, find_reaped, sorted-step}
 use Rattle.vnode_machine.proofs.Invariants.{H, clock_in}
-use Rattle.vnode_machine.proofs.Bases.{own_in, last_in}
+use Rattle.vnode_machine.proofs.Bases.{own_in, last_in, IsOwned, behind_none, behind_own}
 use Rattle.vnode_machine.proofs.Updates.{next_in}
-use Rattle.vnode_machine.proofs.Sights.{low-ahead, owned-kept, behind-of}
-use Rattle.vnode_machine.proofs.Steps.{IsKnown, last_of, known, behind_none, behind_own, low_own}
+use Rattle.vnode_machine.proofs.Sights.{low-ahead, behind-of}
+use Rattle.vnode_machine.proofs.Steps.{known}
 use Rattle.vnode_machine.proofs.Mirrors.{held-same}
-use Rattle.vnode_machine.proofs.Forms.{ArePairs, IsForm, IsFormed, form-whole, form-parts, AreFit, room_left}
+use Rattle.vnode_machine.proofs.Forms.{form-whole, form-parts, IsLow, AreFit, room_left}
 use Rattle.vnode_machine.proofs.Counters.{are_low}
 use Rattle.vnode_machine.proofs.Tests.{or_left, or_right}
 
@@ -36,46 +40,59 @@ rooms false false false true counters h = cc
 rooms false false false false true h = cc
 rooms false false false false false h = (refl, refl, refl, refl)
 
-module _ (v l : ℕ) where
-  pub record AllFormed (history : H) : Type 0 where
-    pub last : last_of v l history ≤ max_epoch
-    pub keys : (key : Key) → IsFormed (stored (replay v l history) key)
+-- what is known of a stored key, or of an absent one, rises within its limits
+pub known-pairs : (o : Option (Stored Content)) → IsFormed o → ArePairs (clock_in o).known
+known-pairs None h = record { rising = refl; within = refl }
+known-pairs (Some s) h = h.pairs
 
-  module _ (small : v < 2 ^ 64) (history : H) (known : IsKnown v l history) (formed : AllFormed history) (at : Key) where
-    abbrev state : State Content
-    state = replay v l history
+-- a put that no check refuses is an accepted write
+without_options : (bad a b c : Bool) (m i j k : ℕ) (rest : List (Bool × ℕ)) → first_of ((bad, m) ∷ (a, i) ∷ (b, j) ∷ (c, k) ∷ rest) ≡ None → first_of ((bad, m) ∷ rest) ≡ None
+without_options true a b c m i j k rest h = cc
+without_options false true b c m i j k rest h = cc
+without_options false false true c m i j k rest h = cc
+without_options false false false true m i j k rest h = cc
+without_options false false false false m i j k rest h = h
 
+-- each opening within limits is sound
+pub sound-opening : (vnode last_epoch : ℕ) → IsWithinLimits vnode last_epoch → IsSound (opening vnode last_epoch)
+sound-opening vnode last_epoch within = record { limits = within; keys = λ key. tt; sorted = refl }
+
+module _ (state : State Content) (sound : IsSound state) where
+  -- so is what an accepted event leads to
+  module _ (at : Key) where
     abbrev before : Option (Stored Content)
     before = stored state at
 
-    within : IsWithinLimits state.vnode state.last_epoch
-    within = (subst (λ (n : ℕ). n < 2 ^ 64) (sym known.vnode) small, formed.last)
+    owned : (o : Option (Stored Content)) → IsFormed o → IsOwned o
+    owned None h = tt
+    owned (Some s) h = h.owned
 
     shown_true : (b : Bool) → not b ≡ false → b ≡ true
     shown_true true h = refl
     shown_true false h = cc
 
+    low : (o : Option (Stored Content)) (pairs : List Dot) → IsTrue (are_low state.vnode state.last_epoch pairs) → IsLow state.vnode state.last_epoch o pairs
+    low None pairs h = h
+    low (Some s) pairs h = tt
+
     fit_put : (given : Option Context) → is_bad_context state at given ≡ false → AreFit state.vnode state.last_epoch before (pairs_of given)
-    fit_put None h = record { low = refl; behind = behind_none v l history known at before; are = record { rising = refl; within = refl } }
+    fit_put None h = record { low = low before [] refl; behind = behind_none before; are = record { rising = refl; within = refl } }
     fit_put (Some Malformed) h = cc
     fit_put (Some (Pairs pairs)) h =
         let behind = or_right (not (is_well_formed pairs)) (list_any (names_unissued_dot state at) pairs) h in
         record {
-          low = low-ahead state.vnode state at pairs refl behind;
-          behind = behind-of state at pairs (owned-kept v l state.last_epoch history at before (known.keys at)) behind;
+          low = low before pairs (low-ahead state.vnode state at pairs refl behind);
+          behind = behind-of state at pairs (owned before (sound.keys at)) behind;
           are = form-parts pairs (shown_true (is_well_formed pairs) (or_left (not (is_well_formed pairs)) (list_any (names_unissued_dot state at) pairs) h));
         }
 
-    own_pairs : (o : Option (Stored Content)) → IsFormed o → ArePairs (clock_in o).known
-    own_pairs None h = record { rising = refl; within = refl }
-    own_pairs (Some s) h = h.pairs
+    -- what is stored names no later epoch of a key that isn't
+    low_own : (o : Option (Stored Content)) → IsLow state.vnode state.last_epoch o (clock_in o).known
+    low_own None = refl
+    low_own (Some s) = tt
 
     fit_del : (given : Option Context) → is_bad_context state at given ≡ false → AreFit state.vnode state.last_epoch before (del_pairs state at given)
-    fit_del None h = record {
-      low = subst (λ n. IsTrue (are_low n state.last_epoch (clock_in before).known)) (sym known.vnode) (low_own v l history known at before (known.keys at));
-      behind = behind_own v l history known at before;
-      are = own_pairs before (formed.keys at);
-    }
+    fit_del None h = record { low = low_own before; behind = behind_own before; are = known-pairs before (sound.keys at) }
     fit_del (Some Malformed) h = cc
     fit_del (Some (Pairs pairs)) h = fit_put (Some (Pairs pairs)) h
 
@@ -86,7 +103,7 @@ module _ (v l : ℕ) where
         → update_check state at given pairs ≡ None → IsForm (next pairs value) × (last_in state.last_epoch before ≤ max_epoch)
     next_fits given pairs value fit h =
         let r = rooms (is_bad_context state at given) (has_too_many_siblings state at pairs) (has_too_many_actors state at pairs) (is_out_of_epochs state at) (is_out_of_counters state at) h in
-        room_left state.vnode state.last_epoch within pairs value before (formed.keys at) (fit r.0) r.1 r.2 r.3
+        room_left state.vnode state.last_epoch sound.limits pairs value before (sound.keys at) (fit r.0) r.1 r.2 r.3
 
     chosen : (b : Bool) (s : Stored Content) (o : Option (Stored Content)) → IsForm s → IsFormed o → IsFormed (cond b (Some s) o)
     chosen true s o h k = h
@@ -94,39 +111,96 @@ module _ (v l : ℕ) where
 
     updated : (pairs : List Dot) (value : Option Content) (look : Key → Option (Stored Content)) → ((key : Key) → look key ≡ cond (key_eq at key) (Some (next pairs value)) (stored state key))
         → IsForm (next pairs value) → (key : Key) → IsFormed (look key)
-    updated pairs value look found h key = subst IsFormed (sym (found key)) (chosen (key_eq at key) (next pairs value) (stored state key) h (formed.keys key))
+    updated pairs value look found h key = subst IsFormed (sym (found key)) (chosen (key_eq at key) (next pairs value) (stored state key) h (sound.keys key))
 
     left : (b : Bool) (o : Option (Stored Content)) → IsFormed o → IsFormed (cond b None o)
     left true o h = tt
     left false o h = h
 
-    formed_step : (operation : Operation Content) (given : Option Context) (saw : List ℕ) → Accepts state at given operation
-        → AllFormed ((let event : Event Content Context = record { key = at; operation = operation; context = given; saw = saw } in event) ∷ history)
-    formed_step (Write content) given saw h =
+    pub sound-step : (given : Option Context) (operation : Operation Content) → Accepts state at given operation → IsSound (apply_operation state at given operation)
+    sound-step given (Write content) h =
         let fits = next_fits given (pairs_of given) (Some content) (fit_put given) h in
-        record { last = fits.1; keys = updated (pairs_of given) (Some content) (stored (apply_operation state at given (Write content))) (λ key. find_stored key at _ state.keys) fits.0 }
-    formed_step Tombstone None saw h =
+        record {
+          limits = (sound.limits.0, fits.1);
+          keys = updated (pairs_of given) (Some content) (stored (apply_operation state at given (Write content))) (λ key. find_stored key at _ state.keys) fits.0;
+          sorted = sorted-step state at given (Write content) sound.sorted;
+        }
+    sound-step None Tombstone h =
         let fits = next_fits None (del_pairs state at None) None (fit_del None) h.1 in
-        record { last = fits.1; keys = updated (del_pairs state at None) None (stored (apply_operation state at None Tombstone)) (λ key. find_stored key at _ state.keys) fits.0 }
-    formed_step Tombstone (Some context) saw h =
+        record {
+          limits = (sound.limits.0, fits.1);
+          keys = updated (del_pairs state at None) None (stored (apply_operation state at None Tombstone)) (λ key. find_stored key at _ state.keys) fits.0;
+          sorted = sorted-step state at None Tombstone sound.sorted;
+        }
+    sound-step (Some context) Tombstone h =
         let fits = next_fits (Some context) (pairs_of (Some context)) None (fit_del (Some context)) h in
-        record { last = fits.1; keys = updated (pairs_of (Some context)) None (stored (apply_operation state at (Some context) Tombstone)) (λ key. find_stored key at _ state.keys) fits.0 }
-    formed_step Reap None saw h = record {
-      last = formed.last;
-      keys = λ key. subst IsFormed (sym (find_reaped at key state.keys)) (left (key_eq at key) (stored state key) (formed.keys key));
+        record {
+          limits = (sound.limits.0, fits.1);
+          keys = updated (pairs_of (Some context)) None (stored (apply_operation state at (Some context) Tombstone)) (λ key. find_stored key at _ state.keys) fits.0;
+          sorted = sorted-step state at (Some context) Tombstone sound.sorted;
+        }
+    sound-step None Reap h = record {
+      limits = sound.limits;
+      keys = λ key. subst IsFormed (sym (find_reaped at key state.keys)) (left (key_eq at key) (stored state key) (sound.keys key));
+      sorted = sorted-step state at None Reap sound.sorted;
     }
-    formed_step Reap (Some context) saw h = absurd h
+    sound-step (Some context) Reap h = absurd h
 
-  pub all_formed : IsWithinLimits v l → (history : H) → HasReplay v l history → AllFormed history
-  all_formed within [] replays = record { last = within.1; keys = λ key. tt }
-  all_formed within (event ∷ before) replays =
-      formed_step within.0 before (known v l before replays.0) (all_formed within before replays.0) event.key event.operation event.context event.saw replays.1
+  -- and so each command that is accepted
+  pub sound-put : (put : PutCommand Content Context) → put_check state put ≡ None → IsSound (apply_operation state put.key put.context (Write put.value))
+  sound-put put h = sound-step put.key put.context (Write put.value) (without_options (is_bad_context state put.key put.context) _ _ _ 4 1 3 2 (room_checks state put.key (pairs_of put.context)) h)
 
+  pub sound-del : (del : DelCommand Context) → (is_none del.context && not (is_held state del.key)) ≡ false → del_check state del ≡ None
+      → IsSound (apply_operation state del.key del.context Tombstone)
+  sound-del del does h = sound-step del.key del.context Tombstone (accepts del.context does h)
+    where
+      held : (b : Bool) → (true && not b) ≡ false → b ≡ true
+      held true h = refl
+      held false h = cc
+
+      accepts : (given : Option Context) → (is_none given && not (is_held state del.key)) ≡ false → update_check state del.key given (del_pairs state del.key given) ≡ None
+          → Accepts state del.key given Tombstone
+      accepts None does h = (held (is_held state del.key) does, h)
+      accepts (Some context) does h = h
+
+  pub sound-reap : (key : Key) → holds_dead state key ≡ true → IsSound (apply_operation state key None Reap)
+  sound-reap key dead = sound-step key None Reap dead
+
+  pub sound-next : (command : Ask Content Context) (operation : Operation Content) (response : Response) (after : State Content)
+      → outcome state command ≡ Accepted operation response after → IsSound after
+  sound-next (AskGet get) operation response after h = cc
+  sound-next (AskPut put) operation response after h = by (put_check state put) _ _ (sound-put put) h
+    where
+      by : (o : Option ℕ) (reply : Response) (made : State Content) → (o ≡ None → IsSound made)
+          → unless_refused o (Accepted (Write put.value) reply made) ≡ Accepted operation response after → IsSound after
+      by None reply made sound h = let same : made ≡ after = cc in subst IsSound same (sound refl)
+      by (Some number) reply made sound h = cc
+  sound-next (AskDel del) operation response after h = by (is_none del.context && not (is_held state del.key)) (del_check state del) _ (sound-del del) h
+    where
+      by : (idle : Bool) (o : Option ℕ) (made : State Content) → (idle ≡ false → o ≡ None → IsSound made)
+          → (let r : StepOutcome = if idle then Answered DelDone else unless_refused o (Accepted Tombstone DelDone made) in r) ≡ Accepted operation response after → IsSound after
+      by true o made sound h = cc
+      by false None made sound h = let same : made ≡ after = cc in subst IsSound same (sound refl refl)
+      by false (Some number) made sound h = cc
+  sound-next (AskReap key) operation response after h = by (holds_dead state key) _ (sound-reap key) h
+    where
+      by : (dead : Bool) (made : State Content) → (dead ≡ true → IsSound made)
+          → (let r : StepOutcome = if dead then Accepted Reap ReapDone made else Answered ReapKept in r) ≡ Accepted operation response after → IsSound after
+      by true made sound h = let same : made ≡ after = cc in subst IsSound same (sound refl)
+      by false made sound h = cc
+
+-- each state that comes after some history is sound
+pub sound_after : (v l : ℕ) → IsWithinLimits v l → (history : H) → HasReplay v l history → IsSound (replay v l history)
+sound_after v l within [] replays = sound-opening v l within
+sound_after v l within (event ∷ before) replays =
+    sound-step (replay v l before) (sound_after v l within before replays.0) event.key event.context event.operation replays.1
+
+module _ (v l : ℕ) where
   -- where a key is defined, what is known of it is of the form
   pub known-of-form : IsWithinLimits v l → (history : H) → HasReplay v l history → (key : Key) → is_defined history key ≡ true
       → is_well_formed (clock_of (replay v l history) key).known ≡ true
   known-of-form within history replays key defined =
-      by (stored (replay v l history) key) (held-same v l history (known v l history replays) key ∙ defined) ((all_formed within history replays).keys key)
+      by (stored (replay v l history) key) (held-same v l history (known v l history replays) key ∙ defined) ((sound_after v l within history replays).keys key)
     where
       by : (o : Option (Stored Content)) → is_some o ≡ true → IsFormed o → is_well_formed (clock_in o).known ≡ true
       by None h f = cc

@@ -14,36 +14,15 @@ use Rattle.actor_epoch.proofs.Pairs.{counter_in-union}
 use Rattle.dvv_set.specs.Held.{actors_after}
 use Rattle.vnode_machine.specs.Machine.{Stored}
 use Rattle.vnode_machine.specs.Replay.{IsWithinLimits}
+use Rattle.vnode_machine.specs.Sound.{actor_of, ArePairs, IsActor, IsForm, IsFormed}
 use Rattle.vnode_machine.proofs.Rising.{rising-insert_max, rising-union, length-raised}
-use Rattle.vnode_machine.proofs.Invariants.{actor_of, clock_in}
+use Rattle.vnode_machine.proofs.Invariants.{clock_in}
 use Rattle.vnode_machine.proofs.Bases.{own-owned, last-owned, own_in, last_in, IsBehind}
 use Rattle.vnode_machine.proofs.Updates.{next_in}
 use Rattle.vnode_machine.proofs.Counters.{all-insert_max, all-union, are_low, counter_in-low}
 use Rattle.vnode_machine.proofs.Tests.{and_both, and_left, and_right}
 
--- pairs that rise and are within their limits
-pub record ArePairs (pairs : List Dot) : Type 0 where
-  pub rising : is_rising pairs ≡ true
-  pub within : IsTrue (list_all is_within_limits pairs)
-
--- an actor of a vnode that there can be, with an epoch that it can give
-pub record IsActor (actor : Actor) : Type 0 where
-  pub vnode : actor.vnode < 2 ^ 64
-  pub first : 1 ≤ actor.epoch
-  pub epoch : actor.epoch ≤ max_epoch
-
-pub record IsForm (s : Stored Content) : Type 0 where
-  pub owned : s.own ≡ Some (actor_of s)
-  pub own : IsActor (actor_of s)
-  pub pairs : ArePairs s.clock.known
-  pub some : 1 ≤ length s.clock.known
-  pub most : length s.clock.known ≤ max_actors
-
-abbrev pub IsFormed : Option (Stored Content) → Type 0
-IsFormed None = Unit {0}
-IsFormed (Some s) = IsForm s
-
--- so they are of the form
+-- what is stored is of the form of a context
 pub form-whole : (s : Stored Content) → IsForm s → is_well_formed s.clock.known ≡ true
 form-whole s h =
     and_both (nat_le 1 (length s.clock.known) && nat_le (length s.clock.known) max_actors) (is_rising s.clock.known && list_all is_within_limits s.clock.known)
@@ -94,9 +73,14 @@ counter-most (pair ∷ pairs) actor h =
     by true n m g h k = grind (arith, nat_tests)
     by false n m g h k = k
 
+-- where nothing is stored, the pairs name no later epoch
+abbrev pub IsLow : (v last : ℕ) → Option (Stored Content) → List Dot → Type 0
+IsLow v last None pairs = IsTrue (are_low v last pairs)
+IsLow v last (Some s) pairs = Unit {0}
+
 -- pairs that an accepted write or tombstone discards
 pub record AreFit (v last : ℕ) (o : Option (Stored Content)) (pairs : List Dot) : Type 0 where
-  pub low : IsTrue (are_low v last pairs)
+  pub low : IsLow v last o pairs
   pub behind : IsBehind pairs o
   pub are : ArePairs pairs
 

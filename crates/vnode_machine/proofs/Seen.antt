@@ -16,7 +16,8 @@ use Rattle.actor_epoch.proofs.Pairs.{actor_cmp-same, counter_in-insert_max}
 use Rattle.actor_epoch.proofs.Rising.{and_first}
 use Rattle.dvv_set.specs.Clocks.{DotState, discard, event}
 use Rattle.dvv_set.specs.Held.{IsWithin, actors_after, known_after, known_with, without}
-use Rattle.vnode_machine.proofs.Forms.{IsForm, counter-most}
+use Rattle.vnode_machine.specs.Sound.{IsForm}
+use Rattle.vnode_machine.proofs.Forms.{counter-most}
 use Rattle.vnode_machine.proofs.Tests.{or_left, or_right}
 
 pub less : (o : Ordering) → IsTrue (is_lt o) → o ≡ Less

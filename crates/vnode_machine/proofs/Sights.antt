@@ -19,7 +19,8 @@ use Rattle.vnode_machine.specs.Lives.{dot_of}
 use Rattle.vnode_machine.specs.Replay.{replay, naming, seen_by_context}
 use Rattle.vnode_machine.proofs.Pairwise.{Pairwise, Pairwise-map, Pairwise-both}
 use Rattle.vnode_machine.proofs.Numbers.{is_among-filter}
-use Rattle.vnode_machine.proofs.Invariants.{actor_of, H, Entry, clock_in, IsLiveOf, IsKept, IsSplit, IsEarlier}
+use Rattle.vnode_machine.specs.Sound.{actor_of}
+use Rattle.vnode_machine.proofs.Invariants.{H, Entry, clock_in, IsLiveOf, IsKept, IsSplit, IsEarlier}
 use Rattle.vnode_machine.proofs.Bases.{IsBehind, IsOwned}
 use Rattle.vnode_machine.proofs.Updates.{IsSeen}
 use Rattle.vnode_machine.proofs.Counters.{actor_eq-same, covers-counter, is_low, are_low}

@@ -11,18 +11,18 @@ use Rattle.actor_epoch.specs.declared.Actor.{Actor}
 use Rattle.actor_epoch.specs.declared.Dot.{Dot}
 use Rattle.actor_epoch.specs.Contexts.{is_well_formed}
 use Rattle.actor_epoch.specs.Given.{Context, Malformed, Pairs}
-use Rattle.vnode_machine.specs.Machine.{Stored, State, stored, next_actor, is_held, has_value, holds_dead, is_bad_context, names_unissued_dot, apply_operation}
+use Rattle.vnode_machine.specs.Machine.{Stored, State, stored, next_actor, holds_dead, is_bad_context, names_unissued_dot, apply_operation}
 use Rattle.vnode_machine.specs.Lives.{lives_begun, is_alive}
 use Rattle.vnode_machine.specs.Replay.{replay, seen_by, Accepts, HasReplay}
 use Rattle.vnode_machine.proofs.Keys.{find_stored, find_reaped, key_eq-same, key_eq-refl}
 use Rattle.vnode_machine.proofs.Pairwise.{Pairwise}
 use Rattle.vnode_machine.proofs.Invariants.{H, clock_in, IsKept, IsEarlier, earlier-self}
-use Rattle.vnode_machine.proofs.Bases.{own_in, last_in, IsBehind, last-owned, base, not-alive}
+use Rattle.vnode_machine.proofs.Bases.{own_in, last_in, IsBehind, behind_none, behind_own, last-owned, base, not-alive}
 use Rattle.vnode_machine.proofs.Updates.{IsSeen, next_in, updated-stored, updated-earlier}
 use Rattle.vnode_machine.proofs.Others.{stored-other, earlier-other, reaped-siblings, reaped-earlier}
 use Rattle.vnode_machine.proofs.Sights.{low-ahead, owned-kept, behind-of, Each, Each-map, known_at, live-each, seen-context, seen-all}
 use Rattle.vnode_machine.proofs.Counters.{are_low}
-use Rattle.vnode_machine.proofs.Tests.{and_left, or_right}
+use Rattle.vnode_machine.proofs.Tests.{or_right}
 
 pub not_first : (b : Bool) (n : ℕ) (rest : Option ℕ) → cond b (Some n) rest ≡ None → b ≡ false
 not_first true n rest h = cc
@@ -111,6 +111,12 @@ module _ (v l : ℕ) where
         grow b h = omega (arith, h)
     epochs_by (Some s) h = last-owned state.last_epoch s h.owned ∙ rw (alive (Some s) h) known.epochs
 
+    begun : (alive update : Bool) → update ≡ true
+        → cond alive (lives_begun history) (lives_begun history + 1) ≡ cond (update && not alive) (lives_begun history + 1) (lives_begun history)
+    begun true true h = refl
+    begun false true h = refl
+    begun alive false h = cc
+
     abbrev own : Actor
     own = own_in (next_actor state) before
 
@@ -129,7 +135,7 @@ module _ (v l : ℕ) where
           vnode = vnode;
           last_is = last;
           le = b.le;
-          epochs = epochs_by before (known.keys at);
+          epochs = epochs_by before (known.keys at) ∙ ap (λ n. l + n) (begun (is_alive history at) (is_update operation) update);
           found = found;
           own = updated-stored v l state.last_epoch (last_in state.last_epoch before) event history at (key_eq-refl at) update before own pairs b seen;
           earlier = updated-earlier v l state.last_epoch (last_in state.last_epoch before) event history at (key_eq-refl at) update before own pairs b seen;
@@ -153,23 +159,12 @@ module _ (v l : ℕ) where
         known-step event history (last_in state.last_epoch before) (Some (next_in own pairs None before)) known
         (update_step Tombstone given saw pairs refl refl refl found low behind seen)
 
-    pub behind_none : (o : Option (Stored Content)) → IsBehind [] o
-    behind_none None = tt
-    behind_none (Some s) = omega arith
-
-    pub behind_own : (o : Option (Stored Content)) → IsBehind (clock_in o).known o
-    behind_own None = tt
-    behind_own (Some s) = omega arith
-
-    pub low_own : (o : Option (Stored Content)) → IsKept v l state.last_epoch history at o → IsTrue (are_low v state.last_epoch (clock_in o).known)
+    low_own : (o : Option (Stored Content)) → IsKept v l state.last_epoch history at o → IsTrue (are_low v state.last_epoch (clock_in o).known)
     low_own None h = refl
     low_own (Some s) h = h.low
 
     good : (pairs : List Dot) (rest : Option ℕ) → cond (is_bad_context state at (Some (Pairs pairs))) (Some 4) rest ≡ None → list_any (names_unissued_dot state at) pairs ≡ false
     good pairs rest h = or_right (not (is_well_formed pairs)) (list_any (names_unissued_dot state at) pairs) (not_first (is_bad_context state at (Some (Pairs pairs))) 4 rest h)
-
-    held : (b : Bool) → (is_held state at && b) ≡ true → is_held state at ≡ true
-    held b h = and_left (is_held state at) b h
 
     reap_step : (saw : List ℕ) → IsTrue (holds_dead state at) → saw ≡ numbers_to (count_of history at)
         → IsStep (record { key = at; operation = Reap; context = None; saw = saw }) history state.last_epoch None
@@ -179,7 +174,7 @@ module _ (v l : ℕ) where
           vnode = refl;
           last_is = refl;
           le = omega arith;
-          epochs = known.epochs ∙ ap (λ b. l + cond b (lives_begun history) (lives_begun history + 1)) (sym (alive before (known.keys at) ∙ held (not (has_value state at)) dead));
+          epochs = known.epochs;
           found = λ key. find_reaped at key state.keys;
           own = reaped-siblings v l state.last_epoch event history at (key_eq-refl at) refl all before (known.keys at);
           earlier = λ old count h. reaped-earlier v l state.last_epoch event history at (key_eq-refl at) refl all before old count (known.keys at) h;

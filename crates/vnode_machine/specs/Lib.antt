@@ -10,3 +10,4 @@ pub mod Registers
 pub mod Runs
 pub mod Laws
 pub mod Leaving
+pub mod Sound

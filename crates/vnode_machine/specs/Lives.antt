@@ -19,10 +19,11 @@ module _ {V C : Type 0} where
   abbrev pub is_alive : List (Event V C) → Key → Bool
   is_alive history key = ends_in_update (events_of history key)
 
-  -- how many lives began, of whatever keys
+  -- how many lives began, of whatever keys: each with a write or tombstone
   abbrev pub lives_begun : List (Event V C) → ℕ
   lives_begun [] = 0
-  lives_begun (event ∷ before) = if is_alive before event.key then lives_begun before else lives_begun before + 1
+  lives_begun (event ∷ before) =
+      if is_update event.operation && not (is_alive before event.key) then lives_begun before + 1 else lives_begun before
 
   -- the dot of the key's latest write or tombstone, at the vnode of this id that had given this last epoch: the writes
   -- and tombstones of a life are numbered 1, 2 and so on

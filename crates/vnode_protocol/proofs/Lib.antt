@@ -1,3 +1,3 @@
 pub mod Events
-pub mod Reached
+pub mod Sound
 pub mod Registers

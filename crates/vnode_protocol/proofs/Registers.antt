@@ -12,15 +12,16 @@ use Rattle.sibling_register.specs.Refusals.{no_memory}
 use Rattle.vnode_machine.specs.Asks.{put_command, del_command}
 use Rattle.vnode_machine.specs.Machine.{State}
 use Rattle.vnode_machine.specs.Replay.{History, naming}
+use Rattle.vnode_machine.specs.Sound.{IsSound}
 use Rattle.vnode_machine.specs.Registers.{IsRegisters, next_event}
 use Rattle.vnode_machine.specs.Step.{StepOutcome, Refused, Answered, Accepted, outcome}
 use Rattle.vnode_protocol.specs.declared.ask.Ask.{Ask}
 use Rattle.vnode_protocol.specs.declared.ask.Ask.TheVariants.{Put, Del, Reap, ReapFirst}
 use Rattle.vnode_protocol.specs.declared.refusal.Refusal.{Refusal}
 use Rattle.vnode_protocol.specs.declared.refusal.Refusal.TheVariants.{NoMemory}
-use Rattle.vnode_protocol.specs.Plans.{IsAccepted, Refuses, RegistersAsk, IsReached}
+use Rattle.vnode_protocol.specs.Plans.{IsAccepted, Refuses, RegistersAsk}
 use Rattle.vnode_protocol.specs.Refusals.{number_of}
-use Rattle.vnode_protocol.proofs.Reached.{registers, registers-ask}
+use Rattle.vnode_protocol.proofs.Sound.{registers, registers-ask}
 
 -- where it accepts a put, the register may refuse memory
 no-memory : (vnode last_epoch : ℕ) (history : History) (put : PutAsk) (result : StepOutcome) → IsAccepted result → IsRegisters vnode last_epoch history (AskPut (put_command put)) result
@@ -45,7 +46,7 @@ no-memory-del vnode last_epoch history del (Accepted operation response next) h 
     by true event told h = cc
     by false event told g = (g.0, g.1, inr (rw g.2.0 refl))
 
-pub registers-refused : (state : State Content) → IsReached state → (ask : Ask) (refusal : Refusal) → Refuses state ask refusal → RegistersAsk state ask (Refused (number_of refusal))
+pub registers-refused : (state : State Content) → IsSound state → (ask : Ask) (refusal : Refusal) → Refuses state ask refusal → RegistersAsk state ask (Refused (number_of refusal))
 registers-refused state is (Put put) NoMemory h = λ vnode last_epoch history after.
     no-memory vnode last_epoch history put (outcome state (AskPut (put_command put))) h (registers state is (AskPut (put_command put)) _ refl vnode last_epoch history after)
 registers-refused state is (Del del) NoMemory h = λ vnode last_epoch history after.

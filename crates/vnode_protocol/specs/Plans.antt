@@ -1,15 +1,15 @@
 -- What callers see of a vnode, and what its calls say by the machine's step.
-use Rattle.std.specs.Prelude.{◌≡◌, ℕ, List, Option, Some, None, Result, Ok, Err}
+use Rattle.std.specs.Prelude.{◌≡◌, ℕ, Option, Some, None, Result, Ok, Err}
 use Rattle.std.specs.Option.{option_map_or}
 use Rattle.riak_msgs.specs.declared.Key.{Key}
 use Rattle.riak_msgs.specs.Contents.{Content}
-use Rattle.sibling_register.specs.History.{Event, Operation, Write, Tombstone, Reap as Forget}
+use Rattle.sibling_register.specs.History.{Operation, Write, Tombstone, Reap as Forget}
 use Rattle.sibling_register.specs.Answers.{Ask as Command, AskPut, AskDel, AskReap}
 use Rattle.actor_epoch.specs.Given.{Context}
 use Rattle.vnode_machine.specs.Asks.{put_command, del_command}
 use Rattle.vnode_machine.specs.Dead.{first_dead}
 use Rattle.vnode_machine.specs.Machine.{State}
-use Rattle.vnode_machine.specs.Replay.{AtEachHistory, IsWithinLimits, IsAfter}
+use Rattle.vnode_machine.specs.Replay.{AtEachHistory}
 use Rattle.vnode_machine.specs.Step.{Response, PutDone, DelDone, ReapDone, ReapKept, StepOutcome, Refused, Answered, Accepted, outcome}
 use Rattle.vnode_machine.specs.Registers.{IsRegisters}
 use Rattle.vnode_protocol.specs.declared.ask.Ask.{Ask}
@@ -104,14 +104,6 @@ Refuses state ask refusal = ask_outcome state ask ≡ Refused (number_of refusal
 -- finishing a change makes the machine's step
 abbrev pub Steps : State Content → Ask → Answer → State Content → Type 0
 Steps old change answer new = ask_outcome old change ≡ Accepted (operation_of change) (response_of answer) new
-
--- the state comes after some history of a vnode of this id, which had given this epoch last, within limits
-pub record IsReached (state : State Content) : Type 0 where
-  pub id : ℕ
-  pub opened : ℕ
-  pub history : List (Event Content Context)
-  pub limits : IsWithinLimits id opened
-  pub after : IsAfter id opened history state
 
 -- the register may do so with its command, at each history that the vnode may have had
 abbrev pub Registers : State Content → Command Content Context → StepOutcome → Type 0

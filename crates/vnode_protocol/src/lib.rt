@@ -1,8 +1,8 @@
 //! What a vnode is asked to change and what it may answer: its commands, answers, refusals and events, and the law of its histories.
 //!
 //! What a command comes to is the machine's outcome of it (`ask_outcome` in `specs/Plans`). A call that plans a command meets
-//! `Plans`, or refuses it as `Refuses` says; one that makes it meets `Steps`; and in each state that comes after some history
-//! (`IsReached`) these are outcomes of the sibling register (`RegistersAsk`). Each [`Refusal`] has its number (`specs/Refusals`)
+//! `Plans`, or refuses it as `Refuses` says; one that makes it meets `Steps`; and in each sound state (`IsSound` of
+//! `vnode_machine`) these are outcomes of the sibling register (`RegistersAsk`). Each [`Refusal`] has its number (`specs/Refusals`)
 //! and its error text.
 //!
 //! An [`Event`] is a command that was accepted, with its answer: an entry of the history of a vnode behind a gate (`rw_gate`).

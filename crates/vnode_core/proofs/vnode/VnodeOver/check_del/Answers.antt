@@ -7,4 +7,4 @@ use Rattle.vnode_core.proofs.vnode.VnodeOver.check_del.Goals as goal
 pub check_room-requires : goal.check_room-requires
 check_room-requires g c =
     let v = fields c.self.inside.id c.self.inside.epochs c.self.inside.writes c.self.inside.tombstones c.self.inside.reaps (g.S.ClockStore.shows c.self.inside.store) c.self.inside.ready c.self.inside.prepared in
-    rising-found (state_of v) c.self.invariant.reached c.args.key.now _ (c.requires ∙ ap (λ w. stored w.state c.args.key.now) (sym c.self.view_is))
+    rising-found (state_of v) c.self.invariant.sound c.args.key.now _ (c.requires ∙ ap (λ w. stored w.state c.args.key.now) (sym c.self.view_is))

@@ -8,7 +8,7 @@ use Rattle.dvv_set.specs.Held.{pairs_of as seen_in}
 use Rattle.vnode_replies.specs.Checks.{is_ahead, pairs_in}
 use Rattle.vnode_protocol.specs.Refusals.{RefusedBy, GivenBy}
 use Rattle.clock_store.specs.Keys.{stored_of}
-use Rattle.vnode_protocol.specs.Plans.{IsReached}
+use Rattle.vnode_machine.specs.Sound.{IsSound}
 use Rattle.vnode_core.specs.Vnodes.{fields, state_of}
 use Rattle.vnode_replies.proofs.Options.{options-refuse, rooms-follow, rising-found}
 use Rattle.vnode_core.proofs.vnode.VnodeOver.check_put.Goals as goal
@@ -30,7 +30,7 @@ pub check_room-requires : goal.check_room-requires
 check_room-requires g c =
     let v = fields c.self.inside.id c.self.inside.epochs c.self.inside.writes c.self.inside.tombstones c.self.inside.reaps (g.S.ClockStore.shows c.self.inside.store) c.self.inside.ready c.self.inside.prepared in
     let here = c.requires.found ∙ ap (λ w. stored w.state c.args.put.now.key) (sym c.self.view_is) in
-    rising-found (state_of v) c.self.invariant.reached c.args.put.now.key _ here
+    rising-found (state_of v) c.self.invariant.sound c.args.put.now.key _ here
 
 pub returns-clause-given : goal.returns-clause-given
 returns-clause-given g c =
@@ -45,11 +45,11 @@ returns-clause-given g c =
     (c.check_room.ensures.given (state_of v) c.args.put.now.key
     (record { stored = sym here; vnode = refl; epoch = sym c.last-last_epoch.ensures; behind = sym (ap (λ last. list_any (is_ahead v.id c.last-last_epoch.result last) (pairs_in (seen_in c.args.context))) c.last_of.ensures) ∙ sym c.names_unissued_dot.ensures.ahead ∙ c.if-names_unissued_dot.false })))
 
-pub returns-then-names_unissued_dot-clause-reached : goal.returns-then-names_unissued_dot-clause-reached
-returns-then-names_unissued_dot-clause-reached g c = subst (λ w. IsReached w.state) c.self.view_is c.self.invariant.reached
+pub returns-then-names_unissued_dot-clause-sound : goal.returns-then-names_unissued_dot-clause-sound
+returns-then-names_unissued_dot-clause-sound g c = subst (λ w. IsSound w.state) c.self.view_is c.self.invariant.sound
 
-pub returns-in_err-check_options-clause-reached : goal.returns-in_err-check_options-clause-reached
-returns-in_err-check_options-clause-reached g c = subst (λ w. IsReached w.state) c.self.view_is c.self.invariant.reached
+pub returns-in_err-check_options-clause-sound : goal.returns-in_err-check_options-clause-sound
+returns-in_err-check_options-clause-sound g c = subst (λ w. IsSound w.state) c.self.view_is c.self.invariant.sound
 
-pub returns-clause-reached : goal.returns-clause-reached
-returns-clause-reached g c = subst (λ w. IsReached w.state) c.self.view_is c.self.invariant.reached
+pub returns-clause-sound : goal.returns-clause-sound
+returns-clause-sound g c = subst (λ w. IsSound w.state) c.self.view_is c.self.invariant.sound

@@ -1,7 +1,8 @@
 use Rattle.std.proofs.Common.{◌∙◌, sym, ap, subst}
 use Rattle.riak_msgs.specs.Contents.{Content}
 use Rattle.vnode_machine.specs.Machine.{State}
-use Rattle.vnode_protocol.specs.Plans.{View, AcceptsPrepared, IsReached}
+use Rattle.vnode_machine.specs.Sound.{IsSound}
+use Rattle.vnode_protocol.specs.Plans.{View, AcceptsPrepared}
 use Rattle.clock_store.specs.Keys.{Keys}
 use Rattle.vnode_core.specs.Vnodes.{fields, state_of, IsReadyFor}
 use Rattle.vnode_core.proofs.Finishing.{accepts-prepared}
@@ -11,7 +12,7 @@ pub invariant_of-self : goal.invariant_of-self
 invariant_of-self g c =
     let v = fields c.self.inside.id c.self.inside.epochs c.self.inside.writes c.self.inside.tombstones c.self.inside.reaps (g.S.ClockStore.shows c.self.inside.store) c.self.inside.ready c.self.inside.prepared in
     record {
-      reached = subst (λ (keys : Keys). IsReached (record (state_of v) { keys = keys })) (sym c.drop_room.ensures.same) c.self.invariant.reached;
+      sound = subst (λ (keys : Keys). IsSound (record (state_of v) { keys = keys })) (sym c.drop_room.ensures.same) c.self.invariant.sound;
       ready = subst (IsReadyFor _ _ _) (sym c.none.ensures) tt;
     }
 
@@ -24,8 +25,8 @@ returns-clause-same g c =
 pub returns-clause-ended : goal.returns-clause-ended
 returns-clause-ended g c = c.none.ensures
 
-pub returns-clause-reached : goal.returns-clause-reached
-returns-clause-reached g c = subst (λ w. IsReached w.state) c.self.view_is c.self.invariant.reached
+pub returns-clause-sound : goal.returns-clause-sound
+returns-clause-sound g c = subst (λ w. IsSound w.state) c.self.view_is c.self.invariant.sound
 
 pub returns-clause-accepted : goal.returns-clause-accepted
 returns-clause-accepted g c =

@@ -10,7 +10,7 @@ use Rattle.vnode_core.proofs.vnode.VnodeOver.finish_first_reap.Goals as goal
 pub unreachable-requires : goal.unreachable-requires
 unreachable-requires g c =
     let dropped = c.drop_prepared.ensures in
-    let found = found-first c.args.self.now.state dropped.reached c.args.from (dropped.accepted (ReapFirst c.args.from) c.requires) in
+    let found = found-first c.args.self.now.state dropped.sound c.args.from (dropped.accepted (ReapFirst c.args.from) c.requires) in
     let no : false ≡ true =
     sym c.if-reap_first.false ∙ c.reap_first.ensures.found ∙ ap (λ state. has_dead state (key_given c.as_ref.result)) dropped.same
     ∙ ap (λ from. has_dead c.args.self.now.state from) c.as_ref.ensures.value ∙ found in
@@ -20,7 +20,7 @@ pub returns-then-reap_first-clause-step : goal.returns-then-reap_first-clause-st
 returns-then-reap_first-clause-step g c =
     let dropped = c.drop_prepared.ensures in
     let state = c.args.self.now.state in
-    let found = found-first state dropped.reached c.args.from (dropped.accepted (ReapFirst c.args.from) c.requires) in
-    some-first state dropped.reached c.args.from found
+    let found = found-first state dropped.sound c.args.from (dropped.accepted (ReapFirst c.args.from) c.requires) in
+    some-first state dropped.sound c.args.from found
     ∙ ap (λ next. Accepted Reap ReapDone next)
     (sym (c.reap_first.ensures.state ∙ ap (λ state. after_first_reap state (key_given c.as_ref.result)) dropped.same ∙ ap (λ from. after_first_reap state from) c.as_ref.ensures.value))

@@ -9,10 +9,10 @@ pub invariant_of-self : goal.invariant_of-self
 invariant_of-self g c =
     let v = fields c.self.inside.id c.self.inside.epochs c.self.inside.writes c.self.inside.tombstones c.self.inside.reaps (g.S.ClockStore.shows c.self.inside.store) c.self.inside.ready c.self.inside.prepared in
     record {
-      reached = c.self.invariant.reached;
+      sound = c.self.invariant.sound;
       ready =
           subst (IsReadyFor (state_of v) v.store v.ready) (sym (c.some.ensures ∙ ap Some c.requires.is))
-          (accepts-some (state_of v) c.self.invariant.reached (key_given c.args.from) (sym c.if-has_dead.true ∙ c.has_dead.ensures));
+          (accepts-some (state_of v) c.self.invariant.sound (key_given c.args.from) (sym c.if-has_dead.true ∙ c.has_dead.ensures));
     }
 
 pub returns-then-has_dead-clause-plans : goal.returns-then-has_dead-clause-plans
@@ -21,5 +21,5 @@ returns-then-has_dead-clause-plans g c =
     record {
       is = refl;
       prepared = c.some.ensures ∙ ap Some c.requires.is;
-      accepted = accepts-some (state_of v) c.self.invariant.reached (key_given c.args.from) (sym c.if-has_dead.true ∙ c.has_dead.ensures);
+      accepted = accepts-some (state_of v) c.self.invariant.sound (key_given c.args.from) (sym c.if-has_dead.true ∙ c.has_dead.ensures);
     }

@@ -10,7 +10,8 @@ use Rattle.clock_store.proofs.Founds.{stored_found}
 use Rattle.clock_store.specs.Keys.{Keys}
 use Rattle.vnode_core.specs.Vnodes.{fields, state_of, IsReadyFor}
 use Rattle.vnode_replies.specs.Checks.{found_in}
-use Rattle.vnode_protocol.specs.Plans.{View, IsReached}
+use Rattle.vnode_machine.specs.Sound.{IsSound}
+use Rattle.vnode_protocol.specs.Plans.{View}
 use Rattle.vnode_replies.specs.declared.checks.Writer.{Writer}
 use Rattle.vnode_core.proofs.Putting.{within-put}
 use Rattle.vnode_core.proofs.Finishing.{put-ready}
@@ -28,7 +29,7 @@ reserve-requires-clause-fits g c =
     let state : State Content = c.args.self.now.state in
     let put = c.args.put.now in
     let seen = seen_in c.as_ref-seen.result in
-    let is : IsReached state = subst (λ w. IsReached w.state) c.self.view_is c.self.invariant.reached in
+    let is : IsSound state = subst (λ w. IsSound w.state) c.self.view_is c.self.invariant.sound in
     let given = ap context_of (sym c.as_slice.ensures) ∙ c.in_ok-context.ensures.ok ∙ ap (option_map Pairs) (sym c.as_ref-seen.ensures.value) in
     let within = within-put state is put c.in_ok-ready.ensures.ok.free seen given in
     subst (λ w. IsWithin (clock_of w.state put.key).known seen c.in_ok-ready.ready.writer.actor) (sym c.self.view_is)
@@ -38,7 +39,7 @@ pub invariant_of-self : goal.invariant_of-self
 invariant_of-self g c =
     let v = fields c.self.inside.id c.self.inside.epochs c.self.inside.writes c.self.inside.tombstones c.self.inside.reaps (g.S.ClockStore.shows c.self.inside.store) c.self.inside.ready c.self.inside.prepared in
     let given = ap context_of (sym c.as_slice.ensures) ∙ c.in_ok-context.ensures.ok ∙ ap (option_map Pairs) (sym c.as_ref-seen.ensures.value) in
-    put-ready v c.self.invariant.reached c.args.self.now c.self.view_is c.args.put.now c.in_ok-ready.ready c.in_ok-ready.ensures.ok (seen_in c.as_ref-seen.result) given
+    put-ready v c.self.invariant.sound c.args.self.now c.self.view_is c.args.put.now c.in_ok-ready.ready c.in_ok-ready.ensures.ok (seen_in c.as_ref-seen.result) given
     (g.S.ClockStore.shows c.reserve.new.self) c.reserve.ensures.same c.in-Ok.ensures.ok c.set_ready.new.place c.set_ready.ensures c.some.result (c.some.ensures ∙ ap Some c.requires.is)
 
 pub invariant_of-self-in-Err : goal.invariant_of-self-in-Err
@@ -46,7 +47,7 @@ invariant_of-self-in-Err g c =
     let v = fields c.self.inside.id c.self.inside.epochs c.self.inside.writes c.self.inside.tombstones c.self.inside.reaps (g.S.ClockStore.shows c.self.inside.store) c.self.inside.ready c.self.inside.prepared in
     let unprepared = ap (λ (w : View). w.prepared) c.self.view_is ∙ c.requires.ended in
     record {
-      reached = subst (λ (keys : Keys). IsReached (record (state_of v) { keys = keys })) (sym c.reserve.ensures.same) c.self.invariant.reached;
+      sound = subst (λ (keys : Keys). IsSound (record (state_of v) { keys = keys })) (sym c.reserve.ensures.same) c.self.invariant.sound;
       ready = subst (IsReadyFor _ _ _) (sym unprepared) tt;
     }
 

@@ -11,7 +11,7 @@ invariant_of-self g c =
     let v = fields c.self.inside.id c.self.inside.epochs c.self.inside.writes c.self.inside.tombstones c.self.inside.reaps (g.S.ClockStore.shows c.self.inside.store) c.self.inside.ready c.self.inside.prepared in
     let gone : Gone ≡ reap_result (state_of v) c.args.key.now = sym c.in-Gone.is ∙ c.reap_result.ensures (state_of v) c.args.key.now c.get.ensures in
     record {
-      reached = c.self.invariant.reached;
+      sound = c.self.invariant.sound;
       ready = subst (IsReadyFor (state_of v) v.store v.ready) (sym (c.some.ensures ∙ ap Some c.requires.is)) (is-accepted (state_of v) c.args.key.now gone);
     }
 

@@ -1,17 +1,15 @@
-use Rattle.std.proofs.Common.{sym, subst, arith, []}
+use Rattle.std.proofs.Common.{sym, subst, arith}
 use Rattle.std.specs.Prelude.{None}
+use Rattle.clock_store.specs.Keys.{Keys}
 use Rattle.vnode_machine.specs.Machine.{opening}
+use Rattle.vnode_machine.specs.Sound.{IsSound}
+use Rattle.vnode_machine.proofs.Formed.{sound-opening}
 use Rattle.vnode_core.specs.Vnodes.{IsReadyFor}
 use Rattle.vnode_core.proofs.vnode.VnodeOver.new.Goals as goal
 
 pub invariant_of-result : goal.invariant_of-result
 invariant_of-result g c = record {
-  reached = record {
-    id = c.args.id;
-    opened = c.new.result;
-    history = [];
-    limits = (omega (arith, c.ranges.id.fits), omega (arith, c.new.ensures, c.ranges.first_epoch.fits));
-    after = record { replays = tt; is = λ i. record (opening c.args.id c.new.result) { keys = c.new-2.ensures.keys i } };
-  };
+  sound = subst (λ (keys : Keys). IsSound (record (opening c.args.id c.new.result) { keys = keys })) (sym c.new-2.ensures.keys)
+      (sound-opening c.args.id c.new.result (omega (arith, c.ranges.id.fits), omega (arith, c.new.ensures, c.ranges.first_epoch.fits)));
   ready = subst (IsReadyFor _ _ None) (sym c.none.ensures) tt;
 }

@@ -17,7 +17,7 @@ put_reply-requires g c =
     let put = c.args.put.now in
     let state : State Content = c.args.self.now.state in
     let seen = seen_in c.args.context in
-    let is = c.in_ok-writer.ensures.reached in
+    let is = c.in_ok-writer.ensures.sound in
     let found = c.requires.found in
     let own = ap (λ (w : Writer). w.actor) c.in_ok-writer.ensures.writer in
     record {
@@ -35,7 +35,7 @@ returns-clause-ok g c =
     let put = c.args.put.now in
     let state : State Content = c.args.self.now.state in
     let seen = seen_in c.args.context in
-    let is = c.in_ok-writer.ensures.reached in
+    let is = c.in_ok-writer.ensures.sound in
     let found = c.requires.found in
     let own = ap (λ (w : Writer). w.actor) c.in_ok-writer.ensures.writer in
     let reply = c.in_ok-reply.ensures

@@ -4,8 +4,8 @@ use Rattle.vnode_machine.specs.Dead.{dead_keys}
 use Rattle.vnode_machine.specs.Machine.{State}
 use Rattle.vnode_protocol.specs.Reaping.{key_given}
 use Rattle.vnode_core.specs.Vnodes.{fields, IsReadyFor, state_of}
-use Rattle.vnode_protocol.specs.Plans.{IsReached}
-use Rattle.vnode_core.proofs.Reaping.{first-gone, reached-first, left-first, register-first}
+use Rattle.vnode_machine.specs.Sound.{IsSound}
+use Rattle.vnode_core.proofs.Reaping.{first-gone, sound-first, left-first, register-first}
 use Rattle.vnode_core.proofs.vnode.VnodeOver.reap_first.Goals as goal
 
 pub invariant_of-self : goal.invariant_of-self
@@ -15,7 +15,7 @@ invariant_of-self g c =
     let gone = first-gone v (key_given c.args.from) c.saturating_add-self-inside.result (g.S.ClockStore.shows forgot.new.self).keys c.saturating_add-self-inside.ensures
     (sym c.if-found.true ∙ forgot.ensures.found) forgot.ensures.keys in
     record {
-      reached = subst IsReached (sym gone.is) (reached-first (state_of v) c.self.invariant.reached (key_given c.args.from) gone.key gone.first);
+      sound = subst IsSound (sym gone.is) (sound-first (state_of v) c.self.invariant.sound (key_given c.args.from) gone.key gone.first);
       ready = subst (IsReadyFor _ _ _) (sym (ap (λ w. w.prepared) c.self.view_is ∙ c.drop_prepared.ensures.ended)) tt;
     }
 
@@ -26,7 +26,7 @@ returns-then-found-clause-left g c =
     let from = key_given c.args.from in
     let gone = first-gone v from c.saturating_add-self-inside.result (g.S.ClockStore.shows forgot.new.self).keys c.saturating_add-self-inside.ensures (sym c.if-found.true ∙ forgot.ensures.found) forgot.ensures.keys in
     ap (λ (state : State Content). dead_keys state from) gone.is
-    ∙ left-first (state_of v) c.self.invariant.reached from gone.key gone.first
+    ∙ left-first (state_of v) c.self.invariant.sound from gone.key gone.first
     ∙ ap (λ state. drop 1 (dead_keys state from)) (ap (λ w. w.state) c.self.view_is ∙ c.drop_prepared.ensures.same)
 
 pub returns-then-found-clause-register : goal.returns-then-found-clause-register
@@ -35,5 +35,5 @@ returns-then-found-clause-register g c =
     let forgot = c.forget_first_dead-found in
     let from = key_given c.args.from in
     let gone = first-gone v from c.saturating_add-self-inside.result (g.S.ClockStore.shows forgot.new.self).keys c.saturating_add-self-inside.ensures (sym c.if-found.true ∙ forgot.ensures.found) forgot.ensures.keys in
-    register-first (state_of v) c.self.invariant.reached from gone.key gone.first _ gone.is c.args.self.now.state
+    register-first (state_of v) c.self.invariant.sound from gone.key gone.first _ gone.is c.args.self.now.state
     (ap (λ w. w.state) c.self.view_is ∙ c.drop_prepared.ensures.same)
