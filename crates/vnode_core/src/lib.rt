@@ -16,10 +16,10 @@
 //!
 //! Its storage is any [`ClockStore`](clock_store::ClockStore): a [`VnodeOver`] is proved from that trait's contract
 //! alone, so each form of storage gives the same vnode, and [`Vnode`] is the one over the ordered map. What a key costs
-//! to find is the form's; a put looks its key up once for its checks and its answer, which are `vnode_replies`, and once for
-//! room. A put or a delete takes memory in `prepare` alone: room in the store for its key, in the key's clock for the actors
-//! that are new to it, and for its siblings with one more. `finish` takes none, so what is accepted is never half made.
-//! Making a put moves the key's siblings once.
+//! to find is the form's; a put looks its key up once, for its checks, its answer (both are `vnode_replies`) and its room,
+//! and a new key is put where a second search leads. A put or a delete takes memory in `prepare` alone: room in the store
+//! for its key, in the key's clock for the actors that are new to it, and for its siblings with one more. `finish` takes
+//! none, so what is accepted is never half made. Making a put moves the key's siblings once.
 //!
 //! ```text
 //! Vnode::new(alloc, 65536, 1)               no key; the first life's epoch is 1
