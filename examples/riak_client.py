@@ -32,6 +32,8 @@ class Node:
         words = [program, "serve", "--connections", "1", "--port", "0"]
         process = subprocess.Popen(words, stdout=subprocess.PIPE, stderr=subprocess.DEVNULL)
         address = process.stdout.readline().decode()
+        if not address:
+            raise SystemExit(f"{program} did not serve, and ended with status {process.wait()}")
         return cls(process, Client.of_port(int(address.rsplit(":", 1)[1])))
 
     @classmethod
@@ -43,7 +45,10 @@ class Node:
     @classmethod
     def running(cls, port):
         """A node that serves a port of this machine already."""
-        return cls(None, Client.of_port(port))
+        try:
+            return cls(None, Client.of_port(port))
+        except ConnectionRefusedError:
+            raise SystemExit(f"no node listens on 127.0.0.1:{port}") from None
 
     @classmethod
     def of_words(cls, words):
