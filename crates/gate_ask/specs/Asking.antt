@@ -2,7 +2,7 @@
 use Rattle.std.specs.Prelude.{◌≡◌, ◌<◌, ◌-◌, ◌^◌, List, [], ◌∷◌, ◌++◌, length}
 use mathlib.Core.List.{IsPrefix}
 use Rattle.rw_gate.specs.Views.{PassView}
-use Rattle.rw_gate.specs.Histories.{RunFrom}
+use Rattle.rw_gate.specs.Histories.{RunFrom, IsLonger}
 use Rattle.gate_ask.specs.declared.asking.Outcome.{Outcome}
 use Rattle.gate_ask.specs.declared.asking.Outcome.TheVariants.{Made, Told, Refused, Moved, Full}
 
@@ -46,6 +46,13 @@ module _ {S E State Ask Reply Refusal : Type 0} (content : S → State) (accepts
   Comes ask old new (Refused refusal) = IsSaid (λ s. refuses s ask refusal) old new
   Comes ask old new Moved = IsOvertaken old new
   Comes ask old new Full = IsFull old new
+
+  -- what was seen then, beside the history of the state under the right: more, where it had gone on; else just that, unless an
+  -- event was made
+  abbrev pub SeesUnder : List E → PassView S E → Outcome Reply Refusal → Type 0
+  SeesUnder history new (Made reply) = Unit {0}
+  SeesUnder history new Moved = IsLonger history new.prefix (length new.prefix)
+  SeesUnder history new other = new.prefix ≡ history
 
   -- the event of the ask stands right behind all that the pass had seen
   pub record IsNext (ask : Ask) (old new : PassView S E) : Type 0 where

@@ -2,7 +2,7 @@
 ghost use Rattle.std.specs.Prelude.{◌≡◌};
 ghost use mathlib.Core.List.{IsPrefix};
 ghost use Rattle.rw_gate.specs.Histories.{IsReplayed};
-ghost use Rattle.gate_ask.specs.Asking.{Comes, Follows};
+ghost use Rattle.gate_ask.specs.Asking.{Comes, Follows, SeesUnder};
 
 use rw_gate::{Gate, Kept, Pass, Plan, PublishFault, WriteRight};
 use std::alloc::Global;
@@ -56,6 +56,8 @@ pub fn ask_under<S: Kept>(
     ensures more { IsPrefix pass.old.prefix pass.new.prefix }
     ensures outcome { Comes S.content S.accepts S.answers S.refuses S.asks S.answered_by
         ask pass.old pass.new result }
+    ensures under { SeesUnder S.content S.accepts S.answers S.refuses S.asks S.answered_by
+        right.old.history pass.new result }
 {
     if right.look(pass).is_err() {
         return Outcome::Moved;
@@ -79,6 +81,8 @@ pub fn ask_shown<S: Kept>(
         ask pass.old pass.new result }
     ensures follows { Follows S.content S.accepts S.answers S.refuses S.asks S.answered_by
         ask pass.old pass.new result }
+    ensures under { SeesUnder S.content S.accepts S.answers S.refuses S.asks S.answered_by
+        right.old.history pass.new result }
 {
     match right.prepare(alloc, ask) {
         Ok(Plan::Change(change)) => match right.publish(pass, change) {
