@@ -3,7 +3,7 @@ use Rattle.std.specs.Prelude.{◌≡◌, ◌⊎◌, ◌<◌, ℕ, Bool, true, Op
 use Rattle.stats_book.specs.declared.totals.Totals.{Totals}
 use Rattle.stats_book.specs.declared.quantity.Quantity.{Quantity}
 use Rattle.stats_book.specs.declared.quantity.Quantity.TheVariants.{Reaps}
-use Rattle.stats_book.specs.Counting.{raised}
+use Rattle.stats_book.specs.Counting.{IsFull, raised}
 
 -- what was counted, and whether the book had no room for some of what was to be counted
 pub record Count : Type 0 where
@@ -15,6 +15,11 @@ abbrev pub Counts : Quantity → ℕ → Count → Count → Type 0
 Counts quantity n old new =
     (new ≡ record old { counted = raised quantity n old.counted })
     ⊎ ((0 < n) × (new ≡ record old { book_full = true }))
+
+-- they are counted, unless they would pass the last number
+abbrev pub HasRoom : Quantity → ℕ → Count → Count → Type 0
+HasRoom quantity n old new =
+    (new ≡ record old { counted = raised quantity n old.counted }) ⊎ IsFull quantity old.counted n
 
 -- a reply is counted as one of its quantity, where it has one
 abbrev pub CountsReply : Option Quantity → Count → Count → Type 0

@@ -59,7 +59,12 @@ impl<L: Ledger> Count<L> {
         ensures part { MatchResult result
             (λ _. part.new ≡ part.old + amount)
             (λ _. part.new ≡ part.old) }
+
+        // The number is what all parts added: as much as this one at least, and just as much where it is the only one.
+        ensures most { part.old ≤ self.old }
+        ensures sole { L.parts ≡ 1 → part.old ≡ self.old }
     {
+        self.ledger.audit(&mut part.share);
         let Some(total) = self.total.checked_add(amount) else {
             return Err(BookFault::BookFull);
         };

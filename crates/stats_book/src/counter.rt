@@ -1,6 +1,7 @@
 //! What one worker counts, by its share of the book.
 ghost use Rattle.std.specs.Prelude.{◌≡◌, false};
-ghost use Rattle.stats_book.specs.Counter.{Counts, CountsReply, CountsAnswer};
+ghost use Rattle.stats_book.specs.Counter.{Counts, CountsReply, CountsAnswer, HasRoom};
+ghost use Rattle.stats_book.specs.Holdings.{AllAre};
 
 use crate::book::Book;
 use crate::quantity::Quantity;
@@ -59,7 +60,11 @@ impl<'a, G: Ledger, P: Ledger, D: Ledger, E: Ledger, R: Ledger> Counter<'a, G, P
     /// Counts so many of a quantity, in the book and in the share; where the book has no room for them, neither rises and
     /// that is kept. Waits while another has the book.
     pub fn count<W: Wait>(&mut self, rt: &W, quantity: Quantity, amount: u64)
-        ensures { Counts quantity amount self.old self.new }
+        ensures counts { Counts quantity amount self.old self.new }
+
+        // Where the book has no other share, it has room for all that this one may count.
+        ensures sole { AllAre 1 G.parts P.parts D.parts E.parts R.parts
+            → HasRoom quantity amount self.old self.new }
     {
         if amount == 0 {
             return;

@@ -1,6 +1,7 @@
 //! A worker's share of a book.
-ghost use Rattle.std.specs.Prelude.{◌≡◌, IsOkUnless, MatchResult};
-ghost use Rattle.stats_book.specs.Counting.{raised};
+ghost use Rattle.std.specs.Prelude.{◌≡◌, IsErrOf, IsOkUnless, MatchResult};
+ghost use Rattle.stats_book.specs.Counting.{IsFull, raised};
+ghost use Rattle.stats_book.specs.Holdings.{AllAre};
 
 use crate::book::Book;
 use crate::count::Part;
@@ -33,7 +34,8 @@ impl<G: Ledger, P: Ledger, D: Ledger, E: Ledger, R: Ledger> Model for Share<G, P
 }
 
 impl<G: Ledger, P: Ledger, D: Ledger, E: Ledger, R: Ledger> Share<G, P, D, E, R> {
-    /// Locks the book, and raises a quantity there and here. Where the book is full, both stay as they are.
+    /// Locks the book, and raises a quantity there and here. Where the number there would pass 18,446,744,073,709,551,615
+    /// the book is full, and both stay as they are.
     ///
     /// It waits while another has the lock.
     pub fn add<W: Wait>(
@@ -47,6 +49,11 @@ impl<G: Ledger, P: Ledger, D: Ledger, E: Ledger, R: Ledger> Share<G, P, D, E, R>
         ensures share { MatchResult result
             (λ _. self.new ≡ raised quantity amount self.old)
             (λ _. self.new ≡ self.old) }
+
+        // The book is full where this share alone would pass the last number, and, where it has no other share, just there.
+        ensures full { IsFull quantity self.old amount → IsErrOf result BookFault.BookFull }
+        ensures sole { AllAre 1 G.parts P.parts D.parts E.parts R.parts
+            → IsErrOf result BookFault.BookFull → IsFull quantity self.old amount }
     {
         book.sums.lock(rt).add(self, quantity, amount)
     }

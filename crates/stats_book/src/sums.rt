@@ -1,6 +1,6 @@
 //! The numbers of a book, as they lie under its lock.
-ghost use Rattle.std.specs.Prelude.{◌≡◌, ◌↔◌, IsErrOf, IsOkUnless, MatchResult, vec_len};
-ghost use Rattle.stats_book.specs.Counting.{IsFull, raised, sum_of, zeros};
+ghost use Rattle.std.specs.Prelude.{◌≡◌, ◌≤◌, ◌↔◌, IsErrOf, IsOkUnless, MatchResult, vec_len};
+ghost use Rattle.stats_book.specs.Counting.{IsFull, number_of, raised, sum_of, zeros};
 ghost use Rattle.stats_book.specs.Holdings.{AllAre};
 
 use crate::blanks::Blanks;
@@ -54,6 +54,11 @@ impl<G: Ledger, P: Ledger, D: Ledger, E: Ledger, R: Ledger> Sums<G, P, D, E, R> 
         ensures share { MatchResult result
             (λ _. share.new ≡ raised quantity amount share.old)
             (λ _. share.new ≡ share.old) }
+
+        // The number here is at least the share's, and just that where the book has no other share.
+        ensures most { number_of quantity share.old ≤ number_of quantity self.old }
+        ensures sole { AllAre 1 G.parts P.parts D.parts E.parts R.parts
+            → number_of quantity share.old ≡ number_of quantity self.old }
     {
         match quantity {
             Quantity::Gets => self.gets.add(&mut share.gets, amount),
