@@ -18,3 +18,4 @@ pub mod Sound
 pub mod Discards
 pub mod Emptied
 pub mod Walks
+pub mod Ahead

@@ -24,11 +24,11 @@ abbrev pub further : ℕ → Place → Place
 further n (Taken at) = Taken (n + at)
 further n (Free at) = Free (n + at)
 
-one_on-taken : (p : Place) (i : ℕ) → one_on p ≡ Taken i → (j : ℕ) × (p ≡ Taken j) × (i ≡ suc j)
+pub one_on-taken : (p : Place) (i : ℕ) → one_on p ≡ Taken i → (j : ℕ) × (p ≡ Taken j) × (i ≡ suc j)
 one_on-taken (Taken at) i h = (at, refl, (let e : at + 1 ≡ i = cc in omega arith))
 one_on-taken (Free at) i h = cc
 
-one_on-free : (p : Place) (i : ℕ) → one_on p ≡ Free i → (j : ℕ) × (p ≡ Free j) × (i ≡ suc j)
+pub one_on-free : (p : Place) (i : ℕ) → one_on p ≡ Free i → (j : ℕ) × (p ≡ Free j) × (i ≡ suc j)
 one_on-free (Free at) i h = (at, refl, (let e : at + 1 ≡ i = cc in omega arith))
 one_on-free (Taken at) i h = cc
 
@@ -115,7 +115,7 @@ abbrev pub place_at : Place → ℕ
 place_at (Taken at) = at
 place_at (Free at) = at
 
-place_at-one_on : (p : Place) → place_at (one_on p) ≡ suc (place_at p)
+pub place_at-one_on : (p : Place) → place_at (one_on p) ≡ suc (place_at p)
 place_at-one_on (Taken at) = omega arith
 place_at-one_on (Free at) = omega arith
 

@@ -1,6 +1,7 @@
 -- The entries of the code as the contracts see them: (actor, (counter, values)), without how they lie in memory.
 use Rattle.std.specs.Prelude.{Bool, List, [], ◌∷◌, ℕ, ◌+◌, length, map, flat_map, nat_lt, cond}
 use Rattle.std.specs.List.{list_all}
+use Rattle.std.specs.Ordering.{is_lt}
 use Rattle.std.specs.FinMap.Entries.{by_order}
 use Rattle.actor_epoch.specs.declared.Actor.{Actor}
 use Rattle.actor_epoch.specs.Dots.{actor_cmp}
@@ -30,6 +31,10 @@ module _ {V : Type 0} where
   abbrev pub search_actor : Actor → ClockEntries V → Place
   search_actor actor [] = Free 0
   search_actor actor (entry ∷ entries) = by_order (actor_cmp entry.0 actor) (one_on (search_actor actor entries)) (Taken 0) (Free 0)
+
+  -- each of the entries is below an actor
+  abbrev pub are_below : Actor → ClockEntries V → Bool
+  are_below actor entries = list_all (λ entry. is_lt (actor_cmp entry.0 actor)) entries
 
   -- the values of entries, in the order in which they are shown
   abbrev pub values_in : List (Entry V) → List V

@@ -1,15 +1,17 @@
 //! The entry of one actor, and lists of entries that strictly rise by actor.
 
-ghost use Rattle.std.specs.Prelude.{◌≡◌, ◌≤◌, ◌<◌, ◌∷◌, ◌+◌, List, T, IsTrue, length, map, is_some, [], Some, IfOk, OnOk};
+ghost use Rattle.std.specs.Prelude.{◌≡◌, ◌≤◌, ◌<◌, ◌∷◌, ◌+◌, List, T, IsTrue, length, map, take, is_some, [], Some, IfOk, OnOk};
+ghost use Rattle.std.specs.declared.cmp.Ordering.TheVariants.{Less};
 ghost use Rattle.std.specs.FinMap.Entries.{find, put, is_sorted};
 ghost use Rattle.std.specs.List.{list_all, insert};
 ghost use Rattle.actor_epoch.specs.Dots.{actor_cmp};
 ghost use Rattle.dvv_set.specs.ClockEntries.{is_entry, entry_for, merged, merge_entry, merge_all, entries_of_pairs, with_value, AreEntries, entries_without, emptied};
 ghost use Rattle.actor_epoch.specs.Contexts.{is_well_formed};
+ghost use Rattle.actor_epoch.specs.declared.Actor.{Actor};
 ghost use Rattle.actor_epoch.specs.declared.Dot.{Dot};
 ghost use Rattle.dvv_set.specs.Held.{pairs_of};
 ghost use Rattle.dvv_set.specs.References.{referred, with_entry};
-ghost use Rattle.dvv_set.specs.Stored.{actor_of, clock_entry, clock_entries, has_room, search_actor};
+ghost use Rattle.dvv_set.specs.Stored.{actor_of, are_below, clock_entry, clock_entries, has_room, search_actor};
 
 use crate::inline::InlineList;
 use actor_epoch::{Actor, Context, ContextPairs, Counter, MAX_COUNTER};
@@ -106,6 +108,19 @@ pub(crate) fn search_actor<V>(entries: &[Entry<V>], actor: Actor) -> Place
     Place::Free(entries.len())
 }
 
+/// Searches the entry of an actor behind the first entries, which are below it.
+fn search_behind<V>(entries: &[Entry<V>], first: usize, actor: Actor) -> Place
+    requires within { first ≤ length entries.now }
+    requires below { IsTrue (are_below actor (clock_entries (take first entries.now))) }
+    ensures { result ≡ search_actor actor (clock_entries entries.now) }
+{
+    let (_, rest) = entries.split_at(first);
+    match search_actor(rest, actor) {
+        Place::Taken(at) => Place::Taken(first + at),
+        Place::Free(at) => Place::Free(first + at),
+    }
+}
+
 /// Merges another entry of the same actor into one: of the two, the one that has seen more stays, without the values
 /// that the other has seen and dropped.
 pub(crate) fn merge<V: MadeWith<Global> + Drop>(own: &mut Entry<V>, other: Entry<V>)
@@ -138,28 +153,42 @@ pub(crate) fn has<V>(entries: &[Entry<V>], actor: Actor) -> bool
     false
 }
 
-/// Merges an entry into entries: with that of its actor, or in the place of a new one, for which there is room.
+/// Merges an entry into entries: with that of its actor, or in the place of a new one, for which there is room. It is
+/// searched behind the first entries, which are below it. Gives how many entries are below it.
 pub(crate) fn merge_entry<V: MadeWith<Global> + Drop>(
     entries: &mut InlineList<Entry<V>>,
+    first: usize,
     entry: Entry<V>,
-)
+) -> usize
     requires sorted { T (is_sorted actor_cmp (clock_entries entries.old.items)) }
     requires entries { IsTrue (list_all is_entry (clock_entries entries.old.items)) }
     requires entry { IsTrue (is_entry (clock_entry entry)) }
+    requires within { first ≤ length entries.old.items }
+    requires below { IsTrue (are_below (actor_of entry.pair)
+        (clock_entries (take first entries.old.items))) }
     requires room { length (merge_entry (clock_entry entry) (clock_entries entries.old.items))
         ≤ entries.old.capacity }
+    ensures within { result ≤ length entries.new.items }
+    ensures below { (actor : Actor) → actor_cmp (actor_of entry.pair) actor ≡ Less
+        → IsTrue (are_below actor (clock_entries (take result entries.new.items))) }
     ensures merged_in { clock_entries entries.new.items
         ≡ merge_entry (clock_entry entry) (clock_entries entries.old.items) }
     ensures rooms { IsTrue (has_room entry) → IsTrue (list_all has_room entries.old.items)
         → IsTrue (list_all has_room entries.new.items) }
     ensures capacity { entries.old.capacity ≤ entries.new.capacity }
 {
-    match search_actor(entries, entry.pair.actor()) {
+    match search_behind(entries, first, entry.pair.actor()) {
         Place::Taken(at) => match entries.get_mut(at) {
-            Some(own) => merge(own, entry),
+            Some(own) => {
+                merge(own, entry);
+                at
+            }
             None => unreachable!(),
         },
-        Place::Free(at) => entries.insert(at, entry),
+        Place::Free(at) => {
+            entries.insert(at, entry);
+            at
+        }
     }
 }
 
@@ -177,9 +206,11 @@ pub(crate) fn merge_all<V: MadeWith<Global> + Drop>(
     ensures capacity { entries.old.capacity ≤ entries.new.capacity }
 {
     let mut others = others;
+    // Both rise, so that each search goes on where the last one ended.
+    let mut first = 0usize;
     while !others.is_empty() {
         let entry = others.remove_first();
-        merge_entry(entries, entry);
+        first = merge_entry(entries, first, entry);
     }
 }
 
@@ -199,10 +230,13 @@ pub(crate) fn merge_pairs<V: MadeWith<Global> + Drop>(
         → IsTrue (list_all has_room entries.new.items) }
     ensures capacity { entries.old.capacity ≤ entries.new.capacity }
 {
+    // Both rise, so that each search goes on where the last one ended.
+    let mut first = 0usize;
     for (actor, counter) in pairs {
         let values = InlineList::new(alloc);
-        merge_entry(
+        first = merge_entry(
             entries,
+            first,
             Entry {
                 pair: KnownPair {
                     vnode: actor.vnode,

@@ -1,12 +1,13 @@
 use Rattle.std.proofs.Common.{◌∙◌, refl, sym, ap, arith, length}
 use Rattle.dvv_set.specs.ClockEntries.{merge_all}
 use Rattle.dvv_set.specs.Stored.{clock_entries}
+use Rattle.dvv_set.proofs.Ahead.{none-ahead, ahead-first, ahead-next, below-first}
 use Rattle.dvv_set.proofs.Counts.{AreEntries-rest, AreEntries-next, is_entry-first, merge_entry-fits, merge_all-next}
 use Rattle.dvv_set.proofs.Rooms.{some_items, none_items, fewer_items, in_more_room, more_room}
 use Rattle.dvv_set.proofs.entry.merge_all.Goals as goal
 
 pub loop-others-init : goal.loop-others-init
-loop-others-init g c = record { entries = c.requires.own_entries; others = c.requires.other_entries; room = omega arith; same = refl }
+loop-others-init g c = record { entries = c.requires.own_entries; others = c.requires.other_entries; within = omega arith; ahead = none-ahead (clock_entries c.args.others.items); room = omega arith; same = refl }
 
 pub remove_first-entry-requires : goal.remove_first-entry-requires
 remove_first-entry-requires g c =
@@ -17,8 +18,8 @@ remove_first-entry-requires g c =
 pub loop-others-smaller : goal.loop-others-smaller
 loop-others-smaller g c = fewer_items _ _ _ c.remove_first-entry.ensures
 
-pub merge_entry-requires : goal.merge_entry-requires
-merge_entry-requires g c =
+pub merge_entry-first-requires : goal.merge_entry-first-requires
+merge_entry-first-requires g c =
     let e = ap clock_entries c.remove_first-entry.ensures in
     let same = ap length c.loop-others.invariant.same in
     let fits = c.well_formed in (
@@ -31,7 +32,13 @@ merge_entry-requires g c =
             c.loop-others.invariant.entries.each,
             (
               is_entry-first _ _ _ e c.loop-others.invariant.others,
-              merge_entry-fits _ _ _ _ _ e c.loop-others.invariant.others c.loop-others.invariant.entries (in_more_room _ _ _ _ same c.requires.room c.loop-others.invariant.room),
+              (
+                c.loop-others.invariant.within,
+                (
+                  ahead-first _ _ _ _ e c.loop-others.invariant.ahead,
+                  merge_entry-fits _ _ _ _ _ e c.loop-others.invariant.others c.loop-others.invariant.entries (in_more_room _ _ _ _ same c.requires.room c.loop-others.invariant.room),
+                ),
+              ),
             ),
           ),
         ),
@@ -42,10 +49,12 @@ pub loop-others-preserved : goal.loop-others-preserved
 loop-others-preserved g c =
     let e = ap clock_entries c.remove_first-entry.ensures in
     record {
-      entries = AreEntries-next _ _ _ _ _ e c.merge_entry.ensures.merged_in c.loop-others.invariant.others c.loop-others.invariant.entries;
+      entries = AreEntries-next _ _ _ _ _ e c.merge_entry-first.ensures.merged_in c.loop-others.invariant.others c.loop-others.invariant.entries;
       others = AreEntries-rest _ _ _ e c.loop-others.invariant.others;
-      room = more_room _ _ _ c.loop-others.invariant.room c.merge_entry.ensures.capacity;
-      same = merge_all-next _ _ _ _ _ e c.merge_entry.ensures.merged_in ∙ c.loop-others.invariant.same;
+      within = c.merge_entry-first.ensures.within;
+      ahead = ahead-next _ _ _ (below-first _ _ _ e c.loop-others.invariant.others) c.merge_entry-first.ensures.below;
+      room = more_room _ _ _ c.loop-others.invariant.room c.merge_entry-first.ensures.capacity;
+      same = merge_all-next _ _ _ _ _ e c.merge_entry-first.ensures.merged_in ∙ c.loop-others.invariant.same;
     }
 
 pub returns-clause-merged_in : goal.returns-clause-merged_in

@@ -1,7 +1,9 @@
-use Rattle.std.proofs.Common.{◌∙◌, sym, ap, arith}
+use Rattle.std.proofs.Common.{◌∙◌, take, sym, ap, arith}
+use Rattle.std.proofs.lemmas.List.{length-set}
 use Rattle.dvv_set.specs.ClockEntries.{merged, entry_for}
-use Rattle.dvv_set.specs.Stored.{actor_of, clock_entry, clock_entries, has_room, search_actor}
+use Rattle.dvv_set.specs.Stored.{actor_of, are_below, clock_entry, clock_entries, has_room, search_actor}
 use Rattle.dvv_set.proofs.Stored.{taken-within, taken-entry, taken-put, free-within, free-length, free-merge_entry}
+use Rattle.dvv_set.proofs.Ahead.{below-taken, below-free, insert-longer}
 use Rattle.dvv_set.proofs.Rooms.{rooms-get, rooms-set, rooms-insert}
 use Rattle.dvv_set.proofs.entry.merge_entry.Goals as goal
 
@@ -49,8 +51,36 @@ returns-in-Free-clause-rooms g c given all = rw c.insert.ensures.inserted (rooms
 pub deref-requires : goal.deref-requires
 deref-requires g c = omega arith
 
-pub search_actor-requires : goal.search_actor-requires
-search_actor-requires g c = omega arith
+pub search_behind-requires : goal.search_behind-requires
+search_behind-requires g c =
+    let below = (λ i. are_below (c.actor.ensures i) (clock_entries (take c.args.first (c.deref.ensures i)))) ∙ c.requires.below in
+    (omega arith, (rw c.deref.ensures c.requires.within, below))
 
 pub get_mut-requires : goal.get_mut-requires
 get_mut-requires g c = omega arith
+
+pub returns-in-Some-clause-within : goal.returns-in-Some-clause-within
+returns-in-Some-clause-within g c =
+    let at = (λ i. search_actor (sym c.actor.ensures i) (clock_entries (sym c.deref.ensures i))) ∙ sym c.in-Taken.ensures in
+    let within = taken-within c.args.entries.now.items (actor_of c.args.entry.pair) c.in-Taken.at at in
+    omega (arith, within, length-set c.args.entries.now.items c.in-Taken.at c.merge.new.own)
+
+pub returns-in-Some-clause-below : goal.returns-in-Some-clause-below
+returns-in-Some-clause-below g c actor less =
+    let items = c.args.entries.now.items in
+    let a = actor_of c.args.entry.pair in
+    let at = (λ i. search_actor (sym c.actor.ensures i) (clock_entries (sym c.deref.ensures i))) ∙ sym c.in-Taken.ensures in
+    below-taken a actor items c.in-Taken.at c.merge.new.own at less
+
+pub returns-in-Free-clause-within : goal.returns-in-Free-clause-within
+returns-in-Free-clause-within g c =
+    let items = c.args.entries.now.items in
+    let at = (λ i. search_actor (sym c.actor.ensures i) (clock_entries (sym c.deref.ensures i))) ∙ sym c.in-Free.ensures in
+    let within = free-within items (actor_of c.args.entry.pair) c.in-Free.at c.requires.sorted at in
+    rw c.insert.ensures.inserted (omega (arith, within, insert-longer items c.in-Free.at c.args.entry within))
+
+pub returns-in-Free-clause-below : goal.returns-in-Free-clause-below
+returns-in-Free-clause-below g c actor less =
+    let items = c.args.entries.now.items in
+    let at = (λ i. search_actor (sym c.actor.ensures i) (clock_entries (sym c.deref.ensures i))) ∙ sym c.in-Free.ensures in
+    rw c.insert.ensures.inserted (below-free (actor_of c.args.entry.pair) actor items c.in-Free.at c.args.entry at less)

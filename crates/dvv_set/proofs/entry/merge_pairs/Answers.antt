@@ -2,6 +2,7 @@ use Rattle.std.proofs.Common.{◌∷◌, ◌∙◌, sym, ap, arith, length, refl
 use Rattle.std.specs.Prelude.{nat_lt}
 use Rattle.dvv_set.specs.ClockEntries.{merge_all, entries_of_pairs}
 use Rattle.dvv_set.specs.Stored.{clock_entries}
+use Rattle.dvv_set.proofs.Ahead.{none-ahead, ahead-first, ahead-next, below-first}
 use Rattle.dvv_set.proofs.Counts.{AreEntries-rest, AreEntries-next, is_entry-first, merge_entry-fits, merge_all-next}
 use Rattle.dvv_set.proofs.Events.{AreEntries-pairs}
 use Rattle.dvv_set.proofs.entry.merge_pairs.Goals as goal
@@ -10,13 +11,15 @@ pub loop-actor-init : goal.loop-actor-init
 loop-actor-init g c = record {
   entries = c.requires.own_entries;
   others = rw c.into_iter-actor-iterator.ensures.into_iter_gives (AreEntries-pairs g.row.V.Denot c.args.pairs c.requires.of_form);
+  within = omega arith;
+  ahead = none-ahead (entries_of_pairs {V = g.row.V.Denot} c.into_iter-actor-iterator.result);
   room = omega arith;
   rooms = λ all. all;
   same = refl;
 }
 
-pub merge_entry-requires : goal.merge_entry-requires
-merge_entry-requires g c =
+pub merge_entry-first-requires : goal.merge_entry-first-requires
+merge_entry-first-requires g c =
     let e = ap (entries_of_pairs {V = g.row.V.Denot}) c.in-Some.ensures.steps ∙ (λ i. (c.in-Some.actor, (c.in-Some.counter, sym c.new-values.ensures.items i)) ∷ entries_of_pairs c.next.new.self) in
     let all = ap (λ pairs. length (merge_all (entries_of_pairs {V = g.row.V.Denot} pairs) (clock_entries c.args.entries.now.items))) c.into_iter-actor-iterator.ensures.into_iter_gives in
     let same = ap length c.loop-actor.invariant.same in
@@ -30,7 +33,13 @@ merge_entry-requires g c =
             c.loop-actor.invariant.entries.each,
             (
               is_entry-first _ _ _ e c.loop-actor.invariant.others,
-              merge_entry-fits _ _ _ _ _ e c.loop-actor.invariant.others c.loop-actor.invariant.entries (omega (arith, same, all, c.requires.room, c.loop-actor.invariant.room)),
+              (
+                c.loop-actor.invariant.within,
+                (
+                  ahead-first _ _ _ _ e c.loop-actor.invariant.ahead,
+                  merge_entry-fits _ _ _ _ _ e c.loop-actor.invariant.others c.loop-actor.invariant.entries (omega (arith, same, all, c.requires.room, c.loop-actor.invariant.room)),
+                ),
+              ),
             ),
           ),
         ),
@@ -41,9 +50,11 @@ pub loop-actor-preserved : goal.loop-actor-preserved
 loop-actor-preserved g c =
     let e = ap (entries_of_pairs {V = g.row.V.Denot}) c.in-Some.ensures.steps ∙ (λ i. (c.in-Some.actor, (c.in-Some.counter, sym c.new-values.ensures.items i)) ∷ entries_of_pairs c.next.new.self) in
     record {
-      entries = AreEntries-next _ _ _ _ _ e c.merge_entry.ensures.merged_in c.loop-actor.invariant.others c.loop-actor.invariant.entries;
+      entries = AreEntries-next _ _ _ _ _ e c.merge_entry-first.ensures.merged_in c.loop-actor.invariant.others c.loop-actor.invariant.entries;
       others = AreEntries-rest _ _ _ e c.loop-actor.invariant.others;
-      room = omega (arith, c.loop-actor.invariant.room, c.merge_entry.ensures.capacity);
-      rooms = λ all. c.merge_entry.ensures.rooms (λ i. nat_lt (length (c.new-values.ensures.items i)) (c.new-values.ensures.capacity i)) (c.loop-actor.invariant.rooms all);
-      same = merge_all-next _ _ _ _ _ e c.merge_entry.ensures.merged_in ∙ c.loop-actor.invariant.same;
+      within = c.merge_entry-first.ensures.within;
+      ahead = ahead-next _ _ _ (below-first _ _ _ e c.loop-actor.invariant.others) c.merge_entry-first.ensures.below;
+      room = omega (arith, c.loop-actor.invariant.room, c.merge_entry-first.ensures.capacity);
+      rooms = λ all. c.merge_entry-first.ensures.rooms (λ i. nat_lt (length (c.new-values.ensures.items i)) (c.new-values.ensures.capacity i)) (c.loop-actor.invariant.rooms all);
+      same = merge_all-next _ _ _ _ _ e c.merge_entry-first.ensures.merged_in ∙ c.loop-actor.invariant.same;
     }
