@@ -3,7 +3,7 @@
 //! A history lists what was accepted, newest first (`specs/History`). A key's siblings are its writes and tombstones
 //! that no later accepted command of it saw (`specs/Siblings`). A context names a position of a key, and a command saw
 //! the key's events up to there (`specs/Naming`). So each answer follows from the history alone, with no counters,
-//! epochs, locks or forgetting (`specs/Answers`), and a history is legal where each event may follow those before it
+//! epochs or locks (`specs/Answers`); it keeps every event, reaps too, and is legal where each may follow those before it
 //! (`specs/Legal`). The naming of contexts is a parameter: a store that shows contexts of its own defines what they name,
 //! and is held to the same definitions.
 //!
