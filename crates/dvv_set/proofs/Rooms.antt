@@ -52,6 +52,10 @@ few_pairs more new m few = omega arith
 pub within_same : (n k m : ℕ) → n ≡ k → k ≤ m → n ≤ m
 within_same n k m h within = omega arith
 
+-- what is known fits into the room that is there
+pub fits_same : (n k r m : ℕ) → n ≡ k → r ≡ m → k ≤ m → n ≤ r
+fits_same n k r m h e within = omega arith
+
 pub full_same : (P : Type 0) (m n k : ℕ) → n ≡ k → (P ↔ (m < k)) → (P ↔ (m < n))
 full_same P m n k h full = (λ p. rw h (full.0 p), λ below. full.1 (rw h at below))
 

@@ -7,7 +7,7 @@ use Rattle.actor_epoch.specs.declared.Dot.{Dot}
 use Rattle.actor_epoch.specs.Limits.{max_actors, max_counter}
 use Rattle.actor_epoch.specs.Dots.{actor_eq, covers, counter_in, next_dot, insert_max, union}
 use Rattle.actor_epoch.specs.Contexts.{is_well_formed}
-use Rattle.dvv_set.specs.Clocks.{DotState, discard}
+use Rattle.dvv_set.specs.Clocks.{DotState, sync, discard}
 
 -- the pairs of a context that a call is given or not
 abbrev pub pairs_of : Option (Bor (List Dot)) → Option (List Dot)
@@ -69,3 +69,8 @@ pub record IsReady {V : Type 0} (held : Held V) (pairs : Option (List Dot)) (act
   pub counter : counter_before held.meaning.known pairs actor < max_counter
   pub actors : actors_after held.meaning.known pairs actor ≤ held.actors_room
   pub values : length (values_of actor held.meaning.live) + 1 ≤ held.values_room
+
+-- another clock can be synced with: within the limit of actors, and in room that is there
+pub record IsSyncReady {V : Type 0} (held : Held V) (other : DotState V) : Type 0 where
+  pub few : length (sync held.meaning other).known ≤ max_actors
+  pub actors : length (sync held.meaning other).known ≤ held.actors_room

@@ -2,6 +2,7 @@
 
 ghost use Rattle.std.specs.Prelude.{◌≡◌, ◌<◌, ◌≤◌, ◌↔◌, [], true, false, length, map, OnOk, OnErr, IfOk, IfErr, None, Some, unwrap_or};
 
+use crate::clone_value::CloneValue;
 use crate::entry::{self, Entry};
 use crate::fault::{ClockFault, Rejected};
 use crate::inline::InlineList;
@@ -57,7 +58,7 @@ impl<V: MadeWith<Global> + Drop> Model for Clock<V> {
 impl<V: MadeWith<Global> + Drop> Clock<V> {
     ghost use Rattle.actor_epoch.specs.Dots.{covers, counter_in};
     ghost use Rattle.dvv_set.specs.Clocks.{sync, discard, event};
-    ghost use Rattle.dvv_set.specs.Held.{IsReady, IsWithin, IsActorsFull, IsCounterFull, without, pairs_of, actors_after, counter_before, uncovered};
+    ghost use Rattle.dvv_set.specs.Held.{IsReady, IsSyncReady, IsWithin, IsActorsFull, IsCounterFull, without, pairs_of, actors_after, counter_before, uncovered};
     ghost use Rattle.dvv_set.specs.Laws.{IsClock};
     ghost use Rattle.dvv_set.specs.References.{referred, with_values};
 
@@ -84,16 +85,40 @@ impl<V: MadeWith<Global> + Drop> Clock<V> {
         ensures within { OnOk result (length (sync self.old.meaning other.meaning).known
             ≤ MAX_ACTORS) }
     {
-        let new = room::count_new(&self.entries, &other.entries);
-        if let Err(fault) = room::reserve_actors(&mut self.entries, new) {
+        if let Err(fault) = self.reserve_sync(&other) {
             return Err(Rejected {
                 fault,
                 value: other,
             });
         }
+        self.sync_ready(other);
+        Ok(())
+    }
+
+    /// Makes room for a sync with another clock; no value changes. Refused by ActorsFull exactly where both know more than
+    /// 64 actors, else by NoMemory; never by CounterFull.
+    pub fn reserve_sync(&mut self, other: &Clock<V>) -> Result<(), ClockFault>
+        ensures ready { OnOk result (IsSyncReady self.new other.now.meaning) }
+        ensures unchanged { self.new.meaning ≡ self.old.meaning }
+        ensures full { IfErr result (λ fault. (fault ≡ ClockFault.ActorsFull)
+            ↔ (MAX_ACTORS < length (sync self.old.meaning other.now.meaning).known)) }
+        ensures never { IfErr result (λ fault. fault ≡ ClockFault.CounterFull → ⊥) }
+    {
+        let new = room::count_new(&self.entries, &other.entries);
+        if let Err(fault) = room::reserve_actors(&mut self.entries, new) {
+            return Err(fault);
+        }
+        Ok(())
+    }
+
+    /// Takes in what another clock has seen, as `sync` does, in the room that `reserve_sync` made: it takes no memory and
+    /// succeeds.
+    pub fn sync_ready(&mut self, other: Clock<V>)
+        requires { IsSyncReady self.old other.meaning }
+        ensures { self.new.meaning ≡ sync self.old.meaning other.meaning }
+    {
         let Clock { entries } = other;
         entry::merge_all(&mut self.entries, entries);
-        Ok(())
     }
 
     /// Knows what a context saw, and has none of it live: the sync with the context's pairs, none live. Refused by
@@ -144,6 +169,17 @@ impl<V: MadeWith<Global> + Drop> Clock<V> {
         let mut entries = InlineList::new(alloc);
         for entry in self.entries.iter() {
             entries.push(entry.references(alloc)?)?;
+        }
+        Ok(Clock { entries })
+    }
+
+    /// A clock that means the same, with a copy of each value. Refused where there is no memory.
+    pub fn try_clone<C: CloneValue<V>>(&self, alloc: Global) -> Result<Clock<V>, AllocError>
+        ensures { IfOk result (λ copy. copy.meaning ≡ self.now.meaning) }
+    {
+        let mut entries = InlineList::new(alloc);
+        for entry in self.entries.iter() {
+            entries.push(entry.try_clone::<C>(alloc)?)?;
         }
         Ok(Clock { entries })
     }

@@ -13,6 +13,7 @@ ghost use Rattle.dvv_set.specs.Held.{pairs_of};
 ghost use Rattle.dvv_set.specs.References.{referred, with_entry};
 ghost use Rattle.dvv_set.specs.Stored.{actor_of, are_below, clock_entry, clock_entries, has_room, search_actor};
 
+use crate::clone_value::CloneValue;
 use crate::inline::InlineList;
 use actor_epoch::{Actor, Context, ContextPairs, Counter, MAX_COUNTER};
 use std::alloc::{AllocError, Global};
@@ -84,6 +85,20 @@ impl<V> Entry<V> {
         ensures { result ≡ self.now.pair.counter }
     {
         self.pair.counter
+    }
+}
+
+impl<V: MadeWith<Global> + Drop> Entry<V> {
+    /// An entry that has seen the same, with a copy of each value.
+    pub(crate) fn try_clone<C: CloneValue<V>>(&self, alloc: Global) -> Result<Entry<V>, AllocError>
+        ensures { IfOk result (λ copy. clock_entry copy ≡ clock_entry self.now) }
+    {
+        let mut values = InlineList::new(alloc);
+        for value in self.values.iter() {
+            values.push(C::clone_value(value, alloc)?)?;
+        }
+        let pair = self.pair;
+        Ok(Entry { pair, values })
     }
 }
 

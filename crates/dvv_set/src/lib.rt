@@ -11,7 +11,8 @@
 //! (`InlineList`). It takes memory for more, and, to make room for a value, for one more in each entry that is full.
 //!
 //! Where a change is accepted before it is made, `uncovered`, `is_actors_full` and `needed` say how its limits stand,
-//! `reserve` makes its room and is refused by memory alone, and `put_ready` or `overwrite_ready` makes it in that room.
+//! `reserve` makes its room and is refused by memory alone, and `put_ready` or `overwrite_ready` makes it in that room; a sync
+//! is so made by `reserve_sync` and `sync_ready`.
 //!
 //! ```text
 //! let mut clock = Clock::new(alloc);                  values: none; join: none
@@ -23,6 +24,7 @@
 #![tactic(auto)]
 
 mod clock;
+mod clone_value;
 mod entry;
 mod fault;
 mod inline;
@@ -33,6 +35,7 @@ mod room;
 mod values;
 
 pub use clock::Clock;
+pub use clone_value::CloneValue;
 pub use fault::{ClockFault, Rejected};
 pub use known_pairs::KnownPairs;
 pub use laws::{calls_are_set_operations, discard_of_all_leaves_no_value, sync_joins};
