@@ -4,21 +4,26 @@ ghost use Rattle.std.specs.Prelude.{◌≡◌, IsTrue, IfOk, IfErr, Some, ◌&&�
 ghost use Rattle.std.specs.Option.{option_map};
 ghost use Rattle.std.specs.List.{list_all};
 ghost use Rattle.actor_epoch.specs.Dots.{covers, counter_in};
+ghost use Rattle.actor_epoch.specs.declared.version.Version.{Two};
 ghost use Rattle.actor_epoch.specs.Entries.{entry_of, entries_of};
 ghost use Rattle.actor_epoch.specs.Contexts.{may_follow, DecodesContext, encoding, is_well_formed, is_rising, is_within_limits, entry_bytes};
 ghost use Rattle.actor_epoch.specs.Given.{context_of, pairs_read, Malformed, Pairs};
 
 use crate::actor::Actor;
-use crate::context_pairs::{ContextPairs, ENTRY_LEN};
+use crate::context_pairs::ContextPairs;
 use crate::dot::Dot;
 use crate::limits::{Counter, MAX_ACTORS};
+use crate::version::Version;
 use byteorder::{BigEndian, ByteOrder};
 use std::alloc::{AllocError, Global};
 use std::marker::Model;
 use thiserror::Error;
 
-/// The first byte of a context's bytes, the version of their format.
-const VERSION: u8 = 1;
+/// The first byte of the contexts that are written: of the two versions that are read, the second.
+const WRITTEN_VERSION: u8 = 2;
+
+/// The length of a pair in the contexts that are written.
+const ENTRY_LEN: usize = 20;
 
 /// Bytes that are given as a context and aren't one.
 #[derive(Clone, Copy, Debug, Drop, Error, PartialEq, Eq)]
@@ -28,12 +33,14 @@ pub struct MalformedContext;
 /// What a client has seen of a key, as the node gave it: pairs (actor, n), 1 to 64, strictly rising by actor, borrowed
 /// from the bytes that encode them. It covers the dots 1 to n of each pair's actor. Contracts see the list of pairs.
 ///
-/// The bytes are this project's own: the byte 1, then 16 bytes a pair, which are vnode id (8), epoch (4) and counter
-/// (4), big-endian, epoch and counter from 1 on. So a key that was written twice in the first life at vnode 65,536 has
-/// the context `01 0000000000010000 00000001 00000002`: the pair of that life's actor and 2, which covers its dots 1
-/// and 2, and not the dot 3 that a later write gets.
+/// The bytes are this project's own: the byte 2, then 20 bytes a pair, which are vnode id (8), epoch (4) and counter
+/// (8), big-endian, epoch and counter from 1 on. So a key that was written twice in the first life at vnode 65,536 has
+/// the context `02 0000000000010000 00000001 0000000000000002`: the pair of that life's actor and 2, which covers its
+/// dots 1 and 2, and not the dot 3 that a later write gets. Contexts of the first version are read too: the byte 1,
+/// then 16 bytes a pair, whose counters have 4 bytes. Two contexts say the same where their pairs are the same.
 #[derive(Drop)]
 pub struct Context<'a> {
+    version: Version,
     count: usize,
     entries: &'a [u8],
 }
@@ -41,33 +48,43 @@ pub struct Context<'a> {
 impl<'a> Model for Context<'a> {
     ghost use Rattle.std.specs.Prelude.{◌≡◌, List, ◌*◌, length, IsTrue};
     ghost use Rattle.actor_epoch.specs.declared.dot.Dot.{Dot};
+    ghost use Rattle.actor_epoch.specs.Versions.{entry_len};
     ghost use Rattle.actor_epoch.specs.Entries.{entries_in};
     ghost use Rattle.actor_epoch.specs.Contexts.{is_well_formed};
 
     ghost Value = { List Dot };
 
-    ghost view = { λ c. entries_in c.count c.entries.now };
+    ghost view = { λ c. entries_in c.version c.count c.entries.now };
 
-    ghost invariant = { λ c. (length c.entries.now ≡ 16 * c.count)
-        × IsTrue (is_well_formed (entries_in c.count c.entries.now)) };
+    ghost invariant = { λ c. (length c.entries.now ≡ entry_len c.version * c.count)
+        × IsTrue (is_well_formed (entries_in c.version c.count c.entries.now)) };
 }
 
 impl<'a> Context<'a> {
     /// Reads the bytes of a context; None exactly where they encode no 1 to 64 pairs that strictly rise by actor, with
-    /// epochs and counters from 1 on. Takes no memory.
+    /// epochs and counters from 1 on, in neither version. Takes no memory.
     pub fn read(bytes: &'a [u8]) -> Option<Context<'a>>
         ensures read { result ≡ pairs_read (context_of bytes.now) }
         ensures decodes { DecodesContext bytes.now result }
     {
-        let (version, entries) = bytes.split_first()?;
-        let count = entries.len() / ENTRY_LEN;
-        if *version != VERSION
-            || entries.len() % ENTRY_LEN != 0
-            || !are_of_form(ContextPairs { count, entries })
+        let (first, entries) = bytes.split_first()?;
+        let version = Version::from_byte(*first)?;
+        let size = version.entry_len();
+        let count = entries.len() / size;
+        if entries.len() % size != 0
+            || !are_of_form(ContextPairs {
+                version,
+                count,
+                entries,
+            })
         {
             return None;
         }
-        Some(Context { count, entries })
+        Some(Context {
+            version,
+            count,
+            entries,
+        })
     }
 
     /// What was given as a context: none where there are no bytes, else the context that they are. Refused exactly where
@@ -91,6 +108,7 @@ impl<'a> Context<'a> {
         ensures of_form { IsTrue (is_well_formed self.now) }
     {
         ContextPairs {
+            version: self.version,
             count: self.count,
             entries: self.entries,
         }
@@ -128,7 +146,7 @@ impl<'a> Context<'a> {
         ensures { IfOk result (λ bytes. bytes.items ≡ encoding (entries_of pairs.now)) }
     {
         let mut bytes = Vec::with_capacity(alloc, 1 + ENTRY_LEN * pairs.len())?;
-        bytes.push(VERSION)?;
+        bytes.push(WRITTEN_VERSION)?;
         for pair in pairs {
             bytes.extend_from_slice(&bytes_of(pair.0, pair.1))?;
         }
@@ -169,13 +187,13 @@ fn is_next(last: Option<Actor>, actor: Actor, counter: Counter) -> bool
     is_above && 1 <= actor.epoch && 1 <= counter
 }
 
-/// The 16 bytes of a pair.
-fn bytes_of(actor: Actor, counter: Counter) -> [u8; 16]
-    ensures { result ≡ entry_bytes (entry_of (actor, counter)) }
+/// The 20 bytes of a pair, as it is written.
+fn bytes_of(actor: Actor, counter: Counter) -> [u8; 20]
+    ensures { result ≡ entry_bytes Two (entry_of (actor, counter)) }
 {
     let mut bytes = [0; ENTRY_LEN];
     BigEndian::write_u64(&mut bytes, actor.vnode);
     BigEndian::write_u32(&mut bytes[8..], actor.epoch);
-    BigEndian::write_u32(&mut bytes[12..], counter);
+    BigEndian::write_u64(&mut bytes[12..], counter);
     bytes
 }

@@ -1,20 +1,20 @@
 //! The pairs of a context, one after another.
 
 ghost use Rattle.std.specs.Prelude.{◌≡◌, ◌≤◌, length};
+ghost use Rattle.actor_epoch.specs.Versions.{entry_len};
 ghost use Rattle.actor_epoch.specs.Entries.{entry_in};
 
 use crate::actor::Actor;
 use crate::dot::Dot;
 use crate::limits::Counter;
+use crate::version::Version;
 use byteorder::{BigEndian, ByteOrder};
 use std::marker::Model;
-
-/// The length of a pair in bytes: vnode id in 8, epoch in 4, counter in 4.
-pub(crate) const ENTRY_LEN: usize = 16;
 
 /// The pairs of a context that are still to come, in their order. Contracts see the list of them.
 #[derive(Drop)]
 pub struct ContextPairs<'a> {
+    pub(crate) version: Version,
     pub(crate) count: usize,
     pub(crate) entries: &'a [u8],
 }
@@ -22,13 +22,14 @@ pub struct ContextPairs<'a> {
 impl<'a> Model for ContextPairs<'a> {
     ghost use Rattle.std.specs.Prelude.{◌≡◌, List, ◌*◌, length};
     ghost use Rattle.actor_epoch.specs.declared.dot.Dot.{Dot};
+    ghost use Rattle.actor_epoch.specs.Versions.{entry_len};
     ghost use Rattle.actor_epoch.specs.Entries.{entries_in};
 
     ghost Value = { List Dot };
 
-    ghost view = { λ p. entries_in p.count p.entries.now };
+    ghost view = { λ p. entries_in p.version p.count p.entries.now };
 
-    ghost invariant = { λ p. length p.entries.now ≡ 16 * p.count };
+    ghost invariant = { λ p. length p.entries.now ≡ entry_len p.version * p.count };
 }
 
 impl ContextPairs<'_> {
@@ -55,22 +56,22 @@ impl<'a> Iterator for ContextPairs<'a> {
         if self.count == 0 {
             return None;
         }
-        let entry = entry_at(self.entries);
-        let (_, rest) = self.entries.split_at(ENTRY_LEN);
+        let entry = entry_at(self.version, self.entries);
+        let (_, rest) = self.entries.split_at(self.version.entry_len());
         self.entries = rest;
         self.count -= 1;
         Some((entry.actor, entry.counter))
     }
 }
 
-/// The pair in the first 16 bytes.
-fn entry_at(entries: &[u8]) -> Dot
-    requires { 16 ≤ length entries.now }
-    ensures { result ≡ entry_in entries.now }
+/// The pair in the first bytes.
+fn entry_at(version: Version, entries: &[u8]) -> Dot
+    requires { entry_len version ≤ length entries.now }
+    ensures { result ≡ entry_in version entries.now }
 {
     let vnode = BigEndian::read_u64(entries);
     let epoch = BigEndian::read_u32(&entries[8..]);
-    let counter = BigEndian::read_u32(&entries[12..]);
+    let counter = version.counter_at(&entries[12..]);
     Dot {
         actor: Actor { vnode, epoch },
         counter,

@@ -24,7 +24,8 @@ pub fn pairs_cover_up_to_their_counters()
         → HasItsCounter before pair after }
 {}
 
-/// The limits of the code are those of the definitions: 4,294,967,295 epochs and counters, and 64 actors.
+/// The limits of the code are those of the definitions: 4,294,967,295 epochs, 18,446,744,073,709,551,615 counters and
+/// 64 actors.
 pub fn limits_are_those_of_the_definitions()
     ensures epoch { MAX_EPOCH ≡ max_epoch }
     ensures counter { MAX_COUNTER ≡ max_counter }

@@ -3,8 +3,9 @@
 //! An actor is one life of a key at one vnode (`specs/Dots`: `actor_cmp`), a dot one write or tombstone of it. A context
 //! is a list of pairs (actor, n), strictly rising by actor, that covers the dots 1 to n of each (`covers`). Bytes that are
 //! given decode to none, to a malformed context or to pairs (`specs/Given`: `context_of`); how pairs are encoded is a
-//! definition of its own (`specs/Contexts`: `encoding`), and a law says that the two agree. An `EpochSource` gives each
-//! epoch of a vnode once (`specs/Epochs`: `next_epoch`).
+//! definition of its own (`specs/Contexts`: `encoding_as`), and a law says that the two agree. The bytes have two versions
+//! (`specs/Versions`), which differ in the width of a counter alone: both are read, and the second is written. An
+//! `EpochSource` gives each epoch of a vnode once (`specs/Epochs`: `next_epoch`).
 //!
 //! Reading a context takes no memory and one pass over its bytes; asking whether it covers a dot takes one more. Writing
 //! takes one allocation. A `Context` is a slice of the bytes that it was read from; nothing is kept beside it.
@@ -12,7 +13,7 @@
 //! ```text
 //! EpochSource::new(1).next()                          Some(1), the epoch of the first life at a vnode
 //! let a = Actor { vnode: 65_536, epoch: 1 };
-//! let bytes = Context::write(alloc, &[(a, 2)])?;      01 0000000000010000 00000001 00000002
+//! let bytes = Context::write(alloc, &[(a, 2)])?;      02 0000000000010000 00000001 0000000000000002
 //! let context = Context::read(&bytes)?;               Some: the pair (a, 2)
 //! context.covers(&Dot { actor: a, counter: 2 })       true, and false at the counter 3
 //! ```
@@ -25,6 +26,7 @@ mod dot;
 mod epoch_source;
 mod laws;
 mod limits;
+mod version;
 
 pub use actor::Actor;
 pub use context::{Context, MalformedContext};

@@ -4,10 +4,10 @@
 pub const MAX_EPOCH: u32 = 4_294_967_295;
 
 /// A counter: the number of a write or tombstone in the life of an actor.
-pub type Counter = u32;
+pub type Counter = u64;
 
 /// The greatest counter of an actor.
-pub const MAX_COUNTER: Counter = 4_294_967_295;
+pub const MAX_COUNTER: Counter = 18_446_744_073_709_551_615;
 
 /// The most actors of a clock, and the most entries of a context.
 pub const MAX_ACTORS: usize = 64;
