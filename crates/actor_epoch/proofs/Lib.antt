@@ -5,3 +5,4 @@ pub mod Rising
 pub mod Order
 pub mod Encodings
 pub mod Given
+pub mod Sizes

@@ -14,6 +14,10 @@ pub and_second : (a b : Bool) → (a && b) ≡ true → b ≡ true
 and_second true b h = h
 and_second false b h = cc
 
+pub and_both : (a b : Bool) → a ≡ true → b ≡ true → (a && b) ≡ true
+and_both true b h k = k
+and_both false b h k = cc
+
 -- each pair is within its limits, and its actor may follow the one before
 abbrev pub all_go_on : Option Actor → List Dot → Bool
 all_go_on last [] = true

@@ -7,7 +7,7 @@ max_epoch = 4294967295
 
 -- the greatest counter of an actor
 abbrev pub max_counter : ℕ
-max_counter = 4294967295
+max_counter = 18446744073709551615
 
 -- the most actors of a clock, and the most pairs of a context
 abbrev pub max_actors : ℕ

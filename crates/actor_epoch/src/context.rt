@@ -4,7 +4,7 @@ ghost use Rattle.std.specs.Prelude.{◌≡◌, IsTrue, IfOk, IfErr, Some, ◌&&�
 ghost use Rattle.std.specs.Option.{option_map};
 ghost use Rattle.std.specs.List.{list_all};
 ghost use Rattle.actor_epoch.specs.Dots.{covers, counter_in};
-ghost use Rattle.actor_epoch.specs.declared.version.Version.{Two};
+ghost use Rattle.actor_epoch.specs.declared.version.Version.TheVariants.{Two};
 ghost use Rattle.actor_epoch.specs.Entries.{entry_of, entries_of};
 ghost use Rattle.actor_epoch.specs.Contexts.{may_follow, DecodesContext, encoding, is_well_formed, is_rising, is_within_limits, entry_bytes};
 ghost use Rattle.actor_epoch.specs.Given.{context_of, pairs_read, Malformed, Pairs};

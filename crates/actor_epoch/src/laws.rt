@@ -2,16 +2,18 @@
 
 ghost use Rattle.std.specs.Prelude.{◌≡◌, ◌↔◌, List, [], ℕ, None};
 ghost use Rattle.actor_epoch.specs.declared.dot.Dot.{Dot};
+ghost use Rattle.actor_epoch.specs.declared.version.Version.{Version};
 ghost use Rattle.actor_epoch.specs.Given.{context_of};
 ghost use Rattle.actor_epoch.specs.Limits.{max_epoch, max_counter, max_actors};
-ghost use Rattle.actor_epoch.specs.Laws.{ReadsBack, ReadsNoOthers, CoversUpTo, HasItsCounter};
+ghost use Rattle.actor_epoch.specs.Laws.{ReadsBack, ReadsWritten, ReadsNoOthers, CoversUpTo, HasItsCounter};
 
 use crate::limits::{MAX_ACTORS, MAX_COUNTER, MAX_EPOCH};
 
-/// The bytes that `Context::write` makes of pairs are read as these pairs, and no other bytes are; no bytes alone are no
-/// context.
+/// The bytes that `Context::write` makes of pairs are read as these pairs. Those of the first version are too, and no
+/// other bytes are; no bytes alone are no context.
 pub fn what_is_written_is_read()
-    ensures back { (pairs : List Dot) → ReadsBack pairs }
+    ensures back { (pairs : List Dot) → ReadsWritten pairs }
+    ensures versions { (version : Version) (pairs : List Dot) → ReadsBack version pairs }
     ensures no_others { (bytes : List ℕ) (pairs : List Dot) → ReadsNoOthers bytes pairs }
     ensures none { (bytes : List ℕ) → (context_of bytes ≡ None) ↔ (bytes ≡ []) }
 {}
