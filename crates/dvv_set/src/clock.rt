@@ -200,7 +200,7 @@ impl<V: MadeWith<Global> + Drop> Clock<V> {
     }
 
     /// How many of its values a context doesn't cover (None: all).
-    pub fn uncovered(&self, context: Option<&Context<'_>>) -> usize
+    pub fn uncovered(&self, context: Option<&Context<'_>>) -> u128
         ensures { result ≡ uncovered (unwrap_or (pairs_of context.entry) []) self.now.meaning }
     {
         room::uncovered(&self.entries, context)

@@ -21,8 +21,7 @@ use std::cmp::Ordering;
 use std::default::MadeWith;
 
 /// A pair (actor, n): the dots 1 to `counter` of an actor are known.
-// Its numbers are flat, since an `Actor` ends in four bytes of padding, where the counter lies here: 16 bytes for 24, and a
-// key pays for two entries. It has no type parameter, so that a call on it owes no proof that an entry fits in memory.
+// It has no type parameter, so that a call on it owes no proof that an entry fits in memory.
 #[derive(Clone, Copy)]
 pub(crate) struct KnownPair {
     pub(crate) vnode: u64,

@@ -121,15 +121,16 @@ pub(crate) fn required_room<V>(
     (seen, new)
 }
 
-/// How many values entries have that a context doesn't cover.
-pub(crate) fn uncovered<V>(entries: &[Entry<V>], context: Option<&Context<'_>>) -> usize
+/// How many values entries have that a context doesn't cover. Each of 64 entries may have as many as there are counters.
+pub(crate) fn uncovered<V>(entries: &[Entry<V>], context: Option<&Context<'_>>) -> u128
     requires { length entries.now ≤ 64 }
     ensures { result ≡ count_uncovered
         (unwrap_or (pairs_of context.entry) []) (clock_entries entries.now) }
 {
-    let mut count = 0usize;
+    let mut count = 0u128;
     for entry in entries {
-        count += newer(entry, context);
+        let more = newer(entry, context);
+        count += more as u128;
     }
     count
 }

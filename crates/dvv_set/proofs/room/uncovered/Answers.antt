@@ -22,8 +22,8 @@ loop-entry-preserved g c =
     let step =
     count_uncovered-next pairs entries c.loop-entry.entry-index c.entry-item.result c.loop-entry-test.true
     ∙ ap (λ entry. newer (counter_in pairs (actor_of entry.pair)) (clock_entry entry).1 + rest) (sym c.entry-item.is)
-    ∙ ap (λ n. n + rest) (sym c.newer-count.ensures.newer) in
-    (omega (arith, c.loop-entry.invariant.0, c.newer-count.ensures.few), omega (arith, c.loop-entry.invariant.1, step))
+    ∙ ap (λ n. n + rest) (sym c.newer-more.ensures.newer) in
+    (omega (arith, c.loop-entry.invariant.0, c.newer-more.ensures.few), omega (arith, c.loop-entry.invariant.1, step))
 
 pub returns : goal.returns
 returns g c =

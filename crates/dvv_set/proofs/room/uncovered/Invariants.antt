@@ -7,5 +7,5 @@ use Rattle.dvv_set.proofs.room.uncovered.Given as goal
 
 abbrev pub invariant-loop-entry : goal.invariant-loop-entry
 invariant-loop-entry g l =
-    (l.count ≤ 4294967295 * l.entry-index)
+    (l.count ≤ 18446744073709551615 * l.entry-index)
     × (count_uncovered (unwrap_or (pairs_of l.context) []) (clock_entries l.entries) ≡ l.count + count_uncovered (unwrap_or (pairs_of l.context) []) (clock_entries (drop l.entry-index l.entries)))
