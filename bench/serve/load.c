@@ -19,7 +19,7 @@
 #include <time.h>
 #include <unistd.h>
 
-enum { VALUE = 100, MAX_CONTEXT = 1025, BUFFER = 1 << 20 };
+enum { VALUE = 100, MAX_CONTEXT = 1281, BUFFER = 1 << 20 }; // a context: its version, and 64 entries of 20 bytes at most
 enum operation { GET, PUT, UPDATE };
 
 struct context {
