@@ -9,6 +9,8 @@ mod fields;
 #[cfg(test)]
 mod frames;
 #[cfg(test)]
+mod idle;
+#[cfg(test)]
 mod messages;
 #[cfg(test)]
 mod scans;

@@ -1,12 +1,25 @@
 //! A stream of frames that is fed in any pieces.
 
-ghost use Rattle.std.specs.Prelude.{◌≡◌, ◌++◌, [], length, None, IfSome, IsErrOf, IsOkUnless, OnOk, OnErr};
+ghost use Rattle.std.specs.Prelude.{◌≡◌, ◌≤◌, ◌++◌, [], length, None, IfSome, IsErrOf, IsOkUnless, OnOk, OnErr, vec_capacity};
 
 use crate::decode::{Header, decode_header};
 use crate::fault::FrameFault;
 use crate::frame::Frame;
 use std::alloc::Global;
 use std::marker::Model;
+
+/// The most memory that a framer keeps for bytes to come where nothing is left in it, in bytes.
+const MAX_IDLE_CAPACITY: usize = 65_536;
+
+/// Gives the memory of an empty buffer back where that is more than [`MAX_IDLE_CAPACITY`]. Takes none.
+fn shrink_empty(bytes: &mut Vec<u8>)
+    ensures items { bytes.new.items ≡ bytes.old.items }
+    ensures capacity { bytes.old.items ≡ [] → vec_capacity bytes.new ≤ 65536 }
+{
+    if bytes.is_empty() && bytes.capacity() > MAX_IDLE_CAPACITY {
+        bytes.shrink_to_fit();
+    }
+}
 
 /// The bytes of a stream that were fed and not yet taken in frames.
 ///
@@ -111,14 +124,26 @@ impl Framer {
         }
     }
 
+    /// Where nothing is left, lets go what was taken, and the memory that a large frame took.
+    fn release(&mut self)
+        ensures { self.new ≡ self.old }
+    {
+        if self.start == self.bytes.len() {
+            self.bytes.clear();
+            self.start = 0;
+            shrink_empty(&mut self.bytes);
+        }
+    }
+
     /// The next whole frame. `None` where no whole frame is left and no bad length follows: feed
     /// more. An `Err` is `Empty` (a length of 0) or `TooLarge` (a length above the limit), once all
     /// frames before it were taken and its four bytes are there. It is final, since nothing marks
     /// where a next frame would begin: from then on this call and [`Framer::feed`] answer it, and
-    /// nothing changes. Takes no memory.
+    /// nothing changes. Takes no memory; where nothing is left, memory above 64 KiB is given back.
     pub fn take(&mut self) -> Result<Option<Frame<'_>>, FrameFault>
         ensures* { sem 𝓛 (TakesOnce self.entry result) }
     {
+        self.release();
         if let Some(fault) = self.fault {
             return Err(fault);
         }
