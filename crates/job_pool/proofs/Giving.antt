@@ -1,9 +1,9 @@
 -- A source that has given some jobs gives one more.
 use Rattle.std.proofs.Common.{◌≡◌, List, [], ◌∷◌, ◌++◌, refl, sym, subst, inl, inr}
-use Rattle.std.specs.Prelude.{Option, Some, Result, Ok}
+use Rattle.std.specs.Prelude.{Option, Some, Result, Ok, Err, IfOk, IfErr}
 use Rattle.job_pool.specs.declared.fault.RunFault.{RunFault}
 use Rattle.job_pool.specs.declared.fault.RunFault.TheVariants.{NoMemory, NoThread, JobsFailed}
-use Rattle.job_pool.specs.Giving.{Gave, GaveAll, Leaves}
+use Rattle.job_pool.specs.Giving.{Gave, GaveAll, Leaves, ServedThenFailed, StoppedAfter}
 use Rattle.job_pool.specs.Workers.{IsOfStart}
 
 module _ {G J F : Type 0} (Gives : G → Result (Option J) F → G → Type 0) where
@@ -13,10 +13,17 @@ module _ {G J F : Type 0} (Gives : G → Result (Option J) F → G → Type 0) w
 
   -- before a job was taken the source is as it was
   pub none_taken : (fault : RunFault) (first : G) → IsOfStart fault → Leaves Gives fault first first
-  none_taken NoMemory first h = ([], inl refl)
+  none_taken NoMemory first h = ([], inl (inl refl))
   none_taken NoThread first h = refl
   none_taken JobsFailed first h = absurd h
 
-  -- after the last job the ends were refused memory
-  pub all_taken : (fault : RunFault) (first : G) (jobs : List J) (last : G) → fault ≡ NoMemory → GaveAll Gives first jobs last → Leaves Gives fault first last
-  all_taken fault first jobs last is h = subst (λ f. Leaves Gives f first last) (sym is) (jobs, inr h)
+  -- and no source has failed
+  pub none_failed : {W E : Type 0} (Serves : W → J → W → E → Type 0) (firsts : List W) (fault : RunFault) (first last : G) → IsOfStart fault → fault ≡ JobsFailed → ServedThenFailed Gives Serves first firsts last
+  none_failed Serves firsts fault first last h is = absurd (subst IsOfStart is h)
+
+  -- behind the last job, or behind a fault, the ends were refused memory
+  pub refused : (first : G) (jobs : List J) (last : G) (given : Result (Unit {0}) RunFault) → IfOk given (λ _. GaveAll Gives first jobs last) → IfErr given (λ fault. StoppedAfter Gives fault first jobs last) → Leaves Gives NoMemory first last
+  refused first jobs last (Ok u) all h = (jobs, inr all)
+  refused first jobs last (Err NoMemory) all h = h
+  refused first jobs last (Err NoThread) all h = absurd h
+  refused first jobs last (Err JobsFailed) all h = (jobs, inl (inr h))

@@ -4,7 +4,7 @@ use Rattle.std.specs.Prelude.{Option, None, Result, Ok, Err}
 use Rattle.job_pool.specs.declared.fault.RunFault.{RunFault}
 use Rattle.job_pool.specs.declared.fault.RunFault.TheVariants.{NoMemory, NoThread, JobsFailed}
 use Rattle.job_pool.specs.declared.lent.Lent.{Lent}
-use Rattle.job_pool.specs.Giving.{Gave, GaveAll, GivesOnly, Leaves}
+use Rattle.job_pool.specs.Giving.{Gave, GaveAll, GaveFailed, GivesOnly, Leaves, ServedThenFailed}
 
 module _ {G J F : Type 0} (Gives : G → Result (Option J) F → G → Type 0) where
   abbrev pub LentGives : Lent G → Result (Option J) F → Lent G → Type 0
@@ -25,9 +25,18 @@ module _ {G J F : Type 0} (Gives : G → Result (Option J) F → G → Type 0) w
   pub all_back : (first : Lent G) (jobs : List J) (last : Lent G) (back : G) → (last.jobs.ghost_name ≡ first.jobs.ghost_name → last.jobs.now ≡ back) → GaveAll LentGives first jobs last → GaveAll Gives first.jobs.now jobs back
   all_back first jobs last back tie h = (h.0.jobs.now, gave_inside first jobs h.0 h.1, subst (λ x. Gives h.0.jobs.now (Ok None) x) (tie (h.2.0 ∙ gave_same first jobs h.0 h.1)) h.2.1)
 
+  -- the end of a run by the source's fault
+  failed_back : (first : Lent G) (jobs : List J) (last : Lent G) (back : G) → (last.jobs.ghost_name ≡ first.jobs.ghost_name → last.jobs.now ≡ back) → GaveFailed LentGives first jobs last → GaveFailed Gives first.jobs.now jobs back
+  failed_back first jobs last back tie h = (h.0.jobs.now, h.1, gave_inside first jobs h.0 h.2, subst (λ x. Gives h.0.jobs.now (Err h.1) x) (tie (h.3.0 ∙ gave_same first jobs h.0 h.2)) h.3.1)
+
+  pub served_back : {W E : Type 0} (Serves : W → J → W → E → Type 0) (firsts : List W) (first last : Lent G) (back : G) → (last.jobs.ghost_name ≡ first.jobs.ghost_name → last.jobs.now ≡ back)
+      → ServedThenFailed LentGives Serves first firsts last → ServedThenFailed Gives Serves first.jobs.now firsts back
+  served_back Serves firsts first last back tie h = (h.0, failed_back first h.0 last back tie h.1, h.2, h.3, h.4)
+
   -- the end of a run by a fault
   pub leaves_back : (fault : RunFault) (first last : Lent G) (back : G) → (last.jobs.ghost_name ≡ first.jobs.ghost_name → last.jobs.now ≡ back) → Leaves LentGives fault first last → Leaves Gives fault first.jobs.now back
   leaves_back NoThread first last back tie h = sym (tie (ap (λ l. l.jobs.ghost_name) h)) ∙ ap (λ l. l.jobs.now) h
-  leaves_back JobsFailed first last back tie h = (h.0, h.1.jobs.now, h.2, gave_inside first h.0 h.1 h.3, subst (λ x. Gives h.1.jobs.now (Err h.2) x) (tie (h.4.0 ∙ gave_same first h.0 h.1 h.3)) h.4.1)
-  leaves_back NoMemory first last back tie (jobs, inl h) = (jobs, inl (subst (λ x. Gave Gives first.jobs.now jobs x) (tie (gave_same first jobs last h)) (gave_inside first jobs last h)))
+  leaves_back JobsFailed first last back tie (jobs, h) = (jobs, failed_back first jobs last back tie h)
+  leaves_back NoMemory first last back tie (jobs, inl (inl h)) = (jobs, inl (inl (subst (λ x. Gave Gives first.jobs.now jobs x) (tie (gave_same first jobs last h)) (gave_inside first jobs last h))))
+  leaves_back NoMemory first last back tie (jobs, inl (inr h)) = (jobs, inl (inr (failed_back first jobs last back tie h)))
   leaves_back NoMemory first last back tie (jobs, inr h) = (jobs, inr (all_back first jobs last back tie h))

@@ -15,6 +15,10 @@ module _ {G J F : Type 0} (Gives : G → Result (Option J) F → G → Type 0) w
   abbrev pub GaveAll : G → List J → G → Type 0
   GaveAll first jobs last = (next : G) × Gave first jobs next × Gives next (Ok None) last
 
+  -- these jobs, and then a fault
+  abbrev pub GaveFailed : G → List J → G → Type 0
+  GaveFailed first jobs last = (next : G) × (fault : F) × Gave first jobs next × Gives next (Err fault) last
+
   -- all jobs until there was none, with one end for each, in their order
   abbrev pub AllServed : {E : Type 0} → (J → E → Type 0) → G → List E → G → Type 0
   AllServed Serves first ends last = (jobs : List J) × GaveAll first jobs last × Pairwise Serves jobs ends
@@ -23,13 +27,18 @@ module _ {G J F : Type 0} (Gives : G → Result (Option J) F → G → Type 0) w
   abbrev pub AllServedOnce : {W E : Type 0} → (W → J → W → E → Type 0) → G → List W → List E → List W → G → Type 0
   AllServedOnce Serves first firsts ends lasts last = (jobs : List J) × GaveAll first jobs last × ServedOnce Serves jobs firsts ends lasts
 
-  -- some jobs, or all until there was none
+  -- some jobs, or some and then a fault, or all until there was none
   abbrev pub GaveSome : G → G → Type 0
-  GaveSome first last = (jobs : List J) × (Gave first jobs last ⊎ GaveAll first jobs last)
+  GaveSome first last = (jobs : List J) × ((Gave first jobs last ⊎ GaveFailed first jobs last) ⊎ GaveAll first jobs last)
 
   -- some jobs, and then a fault
   abbrev pub GaveThenFailed : G → G → Type 0
-  GaveThenFailed first last = (jobs : List J) × (next : G) × (fault : F) × Gave first jobs next × Gives next (Err fault) last
+  GaveThenFailed first last = (jobs : List J) × GaveFailed first jobs last
+
+  -- some jobs, each served in one turn of a worker, and then a fault
+  abbrev pub ServedThenFailed : {W E : Type 0} → (W → J → W → E → Type 0) → G → List W → G → Type 0
+  ServedThenFailed {W} {E} Serves first firsts last =
+      (jobs : List J) × GaveFailed first jobs last × (ends : List E) × (lasts : List W) × ServedOnce Serves jobs firsts ends lasts
 
   -- whatever it gave, the next job that it may give is such
   abbrev pub GivesOnly : (J → Type 0) → G → Type 0
@@ -40,3 +49,9 @@ module _ {G J F : Type 0} (Gives : G → Result (Option J) F → G → Type 0) w
   Leaves NoThread first last = last ≡ first
   Leaves JobsFailed first last = GaveThenFailed first last
   Leaves NoMemory first last = GaveSome first last
+
+  -- what a run that has put these jobs into its queue leaves of the source, where it ends by this fault
+  abbrev pub StoppedAfter : RunFault → G → List J → G → Type 0
+  StoppedAfter NoThread first jobs last = ⊥
+  StoppedAfter JobsFailed first jobs last = GaveFailed first jobs last
+  StoppedAfter NoMemory first jobs last = GaveSome first last

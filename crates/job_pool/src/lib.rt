@@ -8,8 +8,8 @@
 //! said of which worker serves which job, nor when.
 //!
 //! What it costs: a job goes through one queue of [`MAX_WAITING`] places, is moved and not copied, and takes no lock. After each push all
-//! workers are woken; where the queue is full the leading thread yields and tries again. A run takes memory for the queue, a thread and a
-//! parker for each worker, and a place for each end, twice.
+//! workers are woken; where the queue is full the leading thread sleeps, and a worker that took a task wakes it. A run takes memory for the
+//! queue, a thread and a parker for each worker, a parker for the leading thread, and a place for each end, twice.
 //!
 //! How it is built: the queue is under a rule (`specs/Queue`: `AllGiven`): what lies in it, and what each worker took, is a job that was
 //! given, under its number, and each job that was given waits in it or was taken once. A worker promises that its ends are those of its

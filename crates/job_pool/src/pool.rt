@@ -1,10 +1,11 @@
 //! A run of the pool.
 ghost use Rattle.std.specs.Prelude.{◌≡◌, ◌<◌, length, map, IfOk, IfErr};
 ghost use Rattle.crossbeam_queue.specs.Passes.{view, IsPassOf};
-ghost use Rattle.job_pool.specs.Giving.{AllServedOnce, GivesOnly, Leaves};
+ghost use Rattle.job_pool.specs.Giving.{AllServedOnce, GivesOnly, Leaves, ServedThenFailed};
 ghost use Rattle.job_pool.specs.Lists.{Every};
 ghost use Rattle.job_pool.specs.Queue.{leader};
 ghost use Rattle.job_pool.specs.Workers.{IsOn, state_before};
+ghost use Rattle.job_pool.specs.declared.fault.RunFault.TheVariants.{JobsFailed};
 
 use crate::collect::{Child, Finished, collect_all, join_all};
 use crate::fault::RunFault;
@@ -25,7 +26,8 @@ use std::thread::Threads;
 /// How many jobs wait in the queue at most.
 pub const MAX_WAITING: usize = 1024;
 
-/// Gives the jobs to the workers that were started, and a stop mark to each; then joins them and puts their ends in order.
+/// Gives the jobs to the workers that were started, and a stop mark to each; then joins them and puts their ends in order. Where the
+/// source failed, they are put in order too: that each job that was given has an end shows that it was served.
 fn dispatch<H, S, G, T>(
     rt: &T,
     alloc: Global,
@@ -48,15 +50,18 @@ where
         AllServedOnce G.gives (S.serves service.value) jobs.old
         (map state_before children.items) done.ends.items done.workers.items jobs.new) }
     ensures fault { IfErr result (λ fault. Leaves G.gives fault jobs.old jobs.new) }
+    ensures failed { IfErr result (λ fault. fault ≡ JobsFailed
+        → ServedThenFailed G.gives (S.serves service.value) jobs.old
+        (map state_before children.items) jobs.new) }
 {
-    let given = submit_all(rt, queue, pass, sleepers, jobs);
+    let (count, given) = submit_all(rt, queue, pass, sleepers, jobs);
     submit_stops(rt, queue, pass, sleepers, children.len());
-    match given {
-        Ok(count) => collect_all(rt, alloc, service, queue, pass, children, count),
-        Err(fault) => {
-            join_all(rt, children);
-            Err(fault)
-        }
+    match collect_all(rt, alloc, service, queue, pass, children, count) {
+        Ok(done) => match given {
+            Ok(()) => Ok(done),
+            Err(fault) => Err(fault),
+        },
+        Err(_) => Err(RunFault::NoMemory),
     }
 }
 
@@ -81,6 +86,7 @@ fn run_on<'a, H, S, G, T>(
     service: &'a S,
     queue: &'a JobQueue<H, S::Job>,
     pass: QueuePass<S::Job>,
+    sleepers: Sleepers,
     jobs: G,
     workers: Vec<S::Worker>,
 ) -> (G, Result<Finished<S::End, S::Worker>, RunFault>)
@@ -96,6 +102,8 @@ where
         AllServedOnce G.gives (S.serves service.now) jobs
         workers.items done.ends.items done.workers.items result.0) }
     ensures fault { IfErr result.1 (λ fault. Leaves G.gives fault jobs result.0) }
+    ensures failed { IfErr result.1 (λ fault. fault ≡ JobsFailed
+        → ServedThenFailed G.gives (S.serves service.now) jobs workers.items result.0) }
 {
     thread::scope(
         thread::scope_env(),
@@ -108,10 +116,13 @@ where
                 AllServedOnce G.gives (S.serves service.entry.now) jobs
                 workers.items done.ends.items done.workers.items result.0) }
             ensures fault { IfErr result.1 (λ fault. Leaves G.gives fault jobs result.0) }
+            ensures failed { IfErr result.1 (λ fault. fault ≡ JobsFailed
+                → ServedThenFailed G.gives (S.serves service.entry.now) jobs
+                workers.items result.0) }
         {
             let mut mine = pass;
             let mut source = jobs;
-            let mut sleepers = Sleepers::new(alloc);
+            let mut sleepers = sleepers;
             let mut children = Vec::new(alloc);
             let started = start_all(
                 scope,
@@ -163,11 +174,16 @@ where
         AllServedOnce G.gives (S.serves service.now) jobs
         workers.items done.ends.items done.workers.items result.0) }
     ensures fault { IfErr result.1 (λ fault. Leaves G.gives fault jobs result.0) }
+    ensures failed { IfErr result.1 (λ fault. fault ≡ JobsFailed
+        → ServedThenFailed G.gives (S.serves service.now) jobs workers.items result.0) }
 {
+    let Ok(sleepers) = Sleepers::new(alloc) else {
+        return (jobs, Err(RunFault::NoMemory));
+    };
     let Ok((queue, pass)) = JobQueue::<H, S::Job>::ruled(alloc, MAX_WAITING) else {
         return (jobs, Err(RunFault::NoMemory));
     };
-    run_on(rt, alloc, service, &queue, pass, jobs, workers)
+    run_on(rt, alloc, service, &queue, pass, sleepers, jobs, workers)
 }
 
 /// Serves all jobs of a source, each once, by as many workers as there are states.
@@ -179,9 +195,9 @@ where
 /// Where the run ends by a fault, the workers that were started have been joined, and their states and the ends are let go:
 ///
 /// - `NoThread`: the system refused a thread. No job was taken from the source.
-/// - `JobsFailed`: the source gave some jobs and then a fault. The jobs that it gave were served.
+/// - `JobsFailed`: the source gave some jobs and then a fault. Each of the jobs that it gave was served once.
 /// - `NoMemory`: memory was refused, to the run or to a worker for the end of a job, which was then not served. The source gave some
-///   jobs, or all of them.
+///   jobs, or all of them, or some and then a fault.
 ///
 /// It waits for the workers, and they for jobs. It returns if each call of `next` and of `serve` does.
 pub fn run<S, G, T>(
@@ -201,6 +217,10 @@ where
         AllServedOnce G.gives (S.serves service.now) jobs.old
         workers.items done.ends.items done.workers.items jobs.new) }
     ensures fault { IfErr result (λ fault. Leaves G.gives fault jobs.old jobs.new) }
+
+    // Where the source failed, each job that it gave was served once.
+    ensures failed { IfErr result (λ fault. fault ≡ JobsFailed
+        → ServedThenFailed G.gives (S.serves service.now) jobs.old workers.items jobs.new) }
 {
     let lent = Lent { jobs };
     let (Lent { jobs }, done) = run_owned::<Brand, S, Lent<G>, T>(

@@ -10,9 +10,8 @@ use crate::collect::Child;
 use crate::fault::RunFault;
 use crate::queue::{Accepts, Fork, JobQueue, QueuePass};
 use crate::service::Service;
-use crate::sleepers::Sleepers;
+use crate::sleepers::{Sleeper, Sleepers};
 use crate::worker::{WorkerOutput, WorkerPromise, work};
-use crossbeam_utils::sync::Parker;
 use std::alloc::Global;
 use std::snapshot::Snapshot;
 use std::sync::Wait;
@@ -26,7 +25,7 @@ fn start_one<'s, X, H, S, T>(
     service: &'s S,
     queue: &'s JobQueue<H, S::Job>,
     pass: &mut QueuePass<S::Job>,
-    parker: Parker,
+    sleeper: Sleeper,
     worker: S::Worker,
 ) -> Result<Child<S>, RunFault>
 where
@@ -54,7 +53,7 @@ where
             ensures queue { IsPassOf queue.entry.now result.pass }
             ensures served { HasServed (S.serves service.entry.now) (view result.pass).taken
                 result.ends.items worker result.worker }
-        { work::<H, S, T>(rt, alloc, service, queue, worker, theirs, parker) },
+        { work::<H, S, T>(rt, alloc, service, queue, worker, theirs, sleeper) },
     ) else {
         return Err(RunFault::NoThread);
     };
@@ -89,10 +88,10 @@ where
         if children.reserve(1).is_err() {
             return Err(RunFault::NoMemory);
         }
-        let Ok(parker) = sleepers.add(alloc) else {
+        let Ok(sleeper) = sleepers.add(alloc) else {
             return Err(RunFault::NoMemory);
         };
-        match start_one(scope, rt, alloc, service, queue, pass, parker, worker) {
+        match start_one(scope, rt, alloc, service, queue, pass, sleeper, worker) {
             Ok(child) => children.push_reserved(child),
             Err(fault) => return Err(fault),
         }

@@ -1,7 +1,7 @@
 //! How the jobs come into the queue.
 ghost use Rattle.std.specs.Prelude.{◌≡◌, true, length, IfOk, IfErr};
 ghost use Rattle.crossbeam_queue.specs.Passes.{view, IsPassOf};
-ghost use Rattle.job_pool.specs.Giving.{GaveAll, GivesOnly, Leaves};
+ghost use Rattle.job_pool.specs.Giving.{GaveAll, GivesOnly, StoppedAfter};
 ghost use Rattle.job_pool.specs.Queue.{leader, after_push, IsAccepted, IsNext};
 
 use crate::fault::RunFault;
@@ -9,9 +9,8 @@ use crate::jobs::Jobs;
 use crate::queue::{Accepts, JobQueue, NumberedJob, Push, QueuePass, Task};
 use crate::sleepers::Sleepers;
 use std::sync::Wait;
-use std::thread;
 
-/// Puts a task into the queue, and wakes the workers. Where the queue is full it tries again.
+/// Puts a task into the queue, and wakes the workers. Where the queue is full it sleeps until a worker has taken a task.
 pub(crate) fn submit<H: Accepts<J>, J, T: Wait>(
     rt: &T,
     queue: &JobQueue<H, J>,
@@ -34,21 +33,21 @@ pub(crate) fn submit<H: Accepts<J>, J, T: Wait>(
             }
             Err(back) => {
                 held = back;
-                thread::yield_now();
+                sleepers.sleep(rt);
             }
         }
     }
     unreachable!()
 }
 
-/// Takes all jobs and puts each into the queue under its number. Returns how many there were.
+/// Takes all jobs and puts each into the queue under its number. Returns how many it put there, also behind a fault.
 pub(crate) fn submit_all<H, G, T>(
     rt: &T,
     queue: &JobQueue<H, G::Job>,
     pass: &mut QueuePass<G::Job>,
     sleepers: &Sleepers,
     jobs: &mut G,
-) -> Result<usize, RunFault>
+) -> (usize, Result<(), RunFault>)
 where
     H: Accepts<G::Job>,
     G: Jobs,
@@ -57,23 +56,24 @@ where
     requires queue { IsPassOf queue.now pass.old × (view pass.old ≡ leader) }
     requires accepts { GivesOnly G.gives H.accepts jobs.old }
     ensures queue { IsPassOf queue.now pass.new × ((view pass.new).leads ≡ true) }
-    ensures count { IfOk result (λ n. n ≡ length (view pass.new).given) }
-    ensures given { IfOk result (λ _. GaveAll G.gives jobs.old (view pass.new).given jobs.new) }
-    ensures fault { IfErr result (λ fault. Leaves G.gives fault jobs.old jobs.new) }
+    ensures count { result.0 ≡ length (view pass.new).given }
+    ensures given { IfOk result.1 (λ _. GaveAll G.gives jobs.old (view pass.new).given jobs.new) }
+    ensures fault { IfErr result.1 (λ fault.
+        StoppedAfter G.gives fault jobs.old (view pass.new).given jobs.new) }
 {
     let mut count: usize = 0;
     for _ in rt.forever() {
         match jobs.next() {
             Ok(Some(job)) => {
                 let Some(more) = count.checked_add(1) else {
-                    return Err(RunFault::NoMemory);
+                    return (count, Err(RunFault::NoMemory));
                 };
                 let task = Task::Serve(NumberedJob { number: count, job });
                 submit(rt, queue, pass, sleepers, task);
                 count = more;
             }
-            Ok(None) => return Ok(count),
-            Err(_) => return Err(RunFault::JobsFailed),
+            Ok(None) => return (count, Ok(())),
+            Err(_) => return (count, Err(RunFault::JobsFailed)),
         }
     }
     unreachable!()

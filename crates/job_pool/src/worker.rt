@@ -6,7 +6,7 @@ ghost use Rattle.job_pool.specs.Ends.{HasServed};
 
 use crate::queue::{Accepts, JobQueue, Pop, QueuePass, Task};
 use crate::service::Service;
-use crossbeam_utils::sync::Parker;
+use crate::sleepers::Sleeper;
 use std::alloc::Global;
 use std::snapshot::Snapshot;
 use std::sync::Wait;
@@ -48,8 +48,8 @@ impl<S: Service> Promise<WorkerOutput<S::Worker, S::Job, S::End>>
         p.worker.value work.worker };
 }
 
-/// Serves jobs until it takes a stop mark. It sleeps where the queue is empty. A job for whose end there is no memory is let go and
-/// not served.
+/// Serves jobs until it takes a stop mark. It sleeps where the queue is empty, and wakes the leading thread, which may sleep for room,
+/// whenever it took a task. A job for whose end there is no memory is let go and not served.
 pub(crate) fn work<H: Accepts<S::Job>, S: Service, T: Wait>(
     rt: &T,
     alloc: Global,
@@ -57,7 +57,7 @@ pub(crate) fn work<H: Accepts<S::Job>, S: Service, T: Wait>(
     queue: &JobQueue<H, S::Job>,
     worker: S::Worker,
     pass: QueuePass<S::Job>,
-    parker: Parker,
+    sleeper: Sleeper,
 ) -> WorkerOutput<S::Worker, S::Job, S::End>
     requires queue { IsPassOf queue.now pass × (view pass ≡ newcomer) }
     requires accepts { (job : S.Job) → H.accepts job → S.accepts service.now job }
@@ -72,6 +72,7 @@ pub(crate) fn work<H: Accepts<S::Job>, S: Service, T: Wait>(
         let has_room = ends.reserve(1).is_ok();
         match queue.pop_as::<Pop<H>, T>(rt, &mut mine) {
             Some(Task::Serve(next)) => {
+                sleeper.wake_leader();
                 if has_room {
                     let number = next.number;
                     let (next_state, end) = service.serve(alloc, state, next.job);
@@ -79,8 +80,11 @@ pub(crate) fn work<H: Accepts<S::Job>, S: Service, T: Wait>(
                     ends.push_reserved(NumberedEnd { number, end });
                 }
             }
-            Some(Task::Stop) => break,
-            None => parker.park(rt),
+            Some(Task::Stop) => {
+                sleeper.wake_leader();
+                break;
+            }
+            None => sleeper.sleep(rt),
         }
     }
     WorkerOutput {

@@ -1,7 +1,5 @@
-use Rattle.job_pool.proofs.Giving.{all_taken}
-use Rattle.job_pool.proofs.Results.{if_err}
+use Rattle.job_pool.proofs.Giving.{refused}
 use Rattle.job_pool.proofs.pool.dispatch.Goals as goal
 
-pub returns-in-Ok-clause-fault : goal.returns-in-Ok-clause-fault
-returns-in-Ok-clause-fault g c =
-    if_err _ _ c.collect_all.result (λ fault is. all_taken g.G.Jobs.gives fault _ _ _ is c.in-Ok.ensures.given) c.collect_all.ensures.fault
+pub returns-in-Err-clause-fault : goal.returns-in-Err-clause-fault
+returns-in-Err-clause-fault g c = refused g.G.Jobs.gives _ _ _ c.submit_all-count.result.1 c.submit_all-count.ensures.given c.submit_all-count.ensures.fault

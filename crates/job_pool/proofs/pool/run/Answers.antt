@@ -1,5 +1,5 @@
 use Rattle.std.proofs.Common.{◌∙◌, sym}
-use Rattle.job_pool.proofs.Lending.{only_inside, all_back, leaves_back}
+use Rattle.job_pool.proofs.Lending.{only_inside, all_back, leaves_back, served_back}
 use Rattle.job_pool.proofs.Results.{if_ok, if_err}
 use Rattle.job_pool.proofs.pool.run.Goals as goal
 
@@ -15,3 +15,8 @@ pub returns-clause-fault : goal.returns-clause-fault
 returns-clause-fault g c =
     let tie = c.jobs-1.given.1 in
     if_err _ _ c.run_owned-jobs.result.1 (λ fault h. leaves_back g.G.Jobs.gives fault _ c.run_owned-jobs.result.0 c.jobs-1.given.0 (λ name. sym (tie (sym name) ∙ c.take_back.ensures)) h) c.run_owned-jobs.ensures.fault
+
+pub returns-clause-failed : goal.returns-clause-failed
+returns-clause-failed g c =
+    let tie = c.jobs-1.given.1 in
+    if_err _ _ c.run_owned-jobs.result.1 (λ fault h is. served_back g.G.Jobs.gives _ _ _ c.run_owned-jobs.result.0 c.jobs-1.given.0 (λ name. sym (tie (sym name) ∙ c.take_back.ensures)) (h is)) c.run_owned-jobs.ensures.failed

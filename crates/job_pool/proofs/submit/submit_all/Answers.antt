@@ -24,7 +24,7 @@ returns-in_default-clause-fault g c =
     let was = c.loop.invariant in
     let jobs = (view c.loop.pass).given in
     let more = subst (λ o. g.G.Jobs.gives c.loop.jobs o c.next-in-loop.new.self) (c.in-Ok-Some.is ∙ ap Ok c.in-Ok-Some.field-0-is) c.next-in-loop.ensures in
-    (jobs ++ c.in-Ok-Some.job ∷ [], inl (gave_more g.G.Jobs.gives c.args.jobs.now jobs c.loop.jobs c.in-Ok-Some.job c.next-in-loop.new.self was.5 more))
+    (jobs ++ c.in-Ok-Some.job ∷ [], inl (inl (gave_more g.G.Jobs.gives c.args.jobs.now jobs c.loop.jobs c.in-Ok-Some.job c.next-in-loop.new.self was.5 more)))
 
 pub loop-init : goal.loop-init
 loop-init g c =
@@ -53,4 +53,4 @@ returns-in-Err-clause-queue g c = (c.loop.invariant.2, c.loop.invariant.3)
 pub returns-in-Err-clause-fault : goal.returns-in-Err-clause-fault
 returns-in-Err-clause-fault g c =
     let more = subst (λ o. g.G.Jobs.gives c.loop.jobs o c.next-in-loop.new.self) c.in-Err.is c.next-in-loop.ensures in
-    ((view c.loop.pass).given, c.loop.jobs, _, c.loop.invariant.5, more)
+    (c.loop.jobs, _, c.loop.invariant.5, more)
