@@ -43,11 +43,11 @@ life =
     ∷ AskDel (record { key = k; context = None }) ∷ AskGet (get k None false true) ∷ AskGet (get k None false false) ∷ []
 
 life_is_answered : replies life
-    ≡ shows [] [] ∷ written ∷ shows (live 118 ∷ []) (1 ∷ bytes 1 1)
-    ∷ written ∷ shows (live 119 ∷ live 118 ∷ []) (1 ∷ bytes 1 2)
-    ∷ written ∷ shows (live 120 ∷ live 119 ∷ []) (1 ∷ bytes 1 3)
+    ≡ shows [] [] ∷ written ∷ shows (live 118 ∷ []) (2 ∷ bytes 1 1)
+    ∷ written ∷ shows (live 119 ∷ live 118 ∷ []) (2 ∷ bytes 1 2)
+    ∷ written ∷ shows (live 120 ∷ live 119 ∷ []) (2 ∷ bytes 1 3)
     ∷ Err 1
-    ∷ Ok DelDone ∷ shows [] (1 ∷ bytes 1 4) ∷ shows [] [] ∷ []
+    ∷ Ok DelDone ∷ shows [] (2 ∷ bytes 1 4) ∷ shows [] [] ∷ []
 life_is_answered = refl
 
 -- a present key is kept, a dead one is forgotten, and then it is absent; its next life has the next epoch
@@ -59,7 +59,7 @@ lives =
 
 lives_are_answered : replies lives
     ≡ written ∷ Ok ReapKept ∷ Ok DelDone ∷ Ok ReapDone ∷ Ok ReapKept
-    ∷ written ∷ shows (live 98 ∷ []) (1 ∷ bytes 2 1)
+    ∷ written ∷ shows (live 98 ∷ []) (2 ∷ bytes 2 1)
     ∷ Err 2 ∷ Err 3 ∷ []
 lives_are_answered = refl
 
@@ -71,7 +71,7 @@ idle =
     ∷ AskDel (record { key = k; context = Some Malformed }) ∷ AskPut (record (put k 118 None) { return_body = true }) ∷ []
 
 idle_is_answered : replies idle
-    ≡ Ok DelDone ∷ Err 4 ∷ Err 4 ∷ Ok (PutDone (record { contents = live 118 ∷ []; context = 1 ∷ bytes 1 1 })) ∷ []
+    ≡ Ok DelDone ∷ Err 4 ∷ Err 4 ∷ Ok (PutDone (record { contents = live 118 ∷ []; context = 2 ∷ bytes 1 1 })) ∷ []
 idle_is_answered = refl
 
 -- a delete by an old context beside a newer value; reads by a context and without values
@@ -82,15 +82,15 @@ beside =
 
 beside_is_answered : replies beside
     ≡ written ∷ Ok (GetDone (record { contents = []; context = []; unchanged = true }))
-    ∷ shows (record { content = no_content; deleted = false } ∷ []) (1 ∷ bytes 1 1)
-    ∷ written ∷ Ok DelDone ∷ shows (tombstone ∷ live 119 ∷ []) (1 ∷ bytes 1 3) ∷ []
+    ∷ shows (record { content = no_content; deleted = false } ∷ []) (2 ∷ bytes 1 1)
+    ∷ written ∷ Ok DelDone ∷ shows (tombstone ∷ live 119 ∷ []) (2 ∷ bytes 1 3) ∷ []
 beside_is_answered = refl
 
 -- a delete gives back the bytes that the first get showed
 abbrev del_ask : List ℕ → DelAsk
 del_ask context = record { key = k; context = context }
 
-shown_bytes_decode : del_command (del_ask (1 ∷ bytes 1 1)) ≡ record { key = k; context = Some (Pairs (at 1 1 ∷ [])) }
+shown_bytes_decode : del_command (del_ask (2 ∷ bytes 1 1)) ≡ record { key = k; context = Some (Pairs (at 1 1 ∷ [])) }
 unfolding context_of entry_in
 shown_bytes_decode = refl
 
@@ -99,10 +99,20 @@ no_bytes : del_command (del_ask []) ≡ record { key = k; context = None }
 unfolding context_of
 no_bytes = refl
 
-version_alone : del_command (del_ask (1 ∷ [])) ≡ record { key = k; context = Some Malformed }
+version_alone : del_command (del_ask (2 ∷ [])) ≡ record { key = k; context = Some Malformed }
 unfolding context_of
 version_alone = refl
 
-other_version : del_command (del_ask (2 ∷ bytes 1 1)) ≡ record { key = k; context = Some Malformed }
+-- bytes of the first version, whose counters have four bytes, give the same pairs
+first_version : del_command (del_ask (1 ∷ 0 ∷ 0 ∷ 0 ∷ 0 ∷ 0 ∷ 1 ∷ 0 ∷ 0 ∷ 0 ∷ 0 ∷ 0 ∷ 1 ∷ 0 ∷ 0 ∷ 0 ∷ 1 ∷ [])) ≡ record { key = k; context = Some (Pairs (at 1 1 ∷ [])) }
+unfolding context_of entry_in
+first_version = refl
+
+-- each version has its own width
+other_width : del_command (del_ask (1 ∷ bytes 1 1)) ≡ record { key = k; context = Some Malformed }
+unfolding context_of entry_in
+other_width = refl
+
+other_version : del_command (del_ask (3 ∷ bytes 1 1)) ≡ record { key = k; context = Some Malformed }
 unfolding context_of entry_in
 other_version = refl
