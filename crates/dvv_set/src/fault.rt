@@ -8,7 +8,7 @@ pub enum ClockFault {
     /// The clock would know more than 64 actors.
     #[error("too many actors")]
     ActorsFull,
-    /// The actor's counter is 4,294,967,295.
+    /// The actor's counter is 18,446,744,073,709,551,615.
     #[error("counter used up")]
     CounterFull,
     /// A growth was refused, and neither of the others holds.

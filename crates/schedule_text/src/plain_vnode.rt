@@ -44,10 +44,18 @@ pub(crate) struct PlainVnode {
     shown: Vec<ShownContext>,
 }
 
+/// Whether bytes that were shown are a context with these pairs, in whatever versions the two were given.
+fn shows_pairs(shown: &[u8], context: &Context<'_>) -> bool {
+    match Context::read(shown) {
+        Some(shown) => shown.has_same_pairs(context),
+        None => false,
+    }
+}
+
 /// The position of a context that was shown for a key.
-fn position_of(shown: &[ShownContext], key: &Key, context: &[u8]) -> Option<u64> {
+fn position_of(shown: &[ShownContext], key: &Key, context: &Context<'_>) -> Option<u64> {
     for entry in shown {
-        if entry.key.is_same(key) && entry.context.as_slice() == context {
+        if entry.key.is_same(key) && shows_pairs(entry.context.as_slice(), context) {
             return Some(entry.position);
         }
     }
@@ -65,10 +73,10 @@ impl PlainVnode {
 
     /// What a context that is given for a key names.
     fn given(&self, key: &Key, context: &[u8]) -> Given {
-        if Context::read(context).is_none() {
+        let Some(context) = Context::read(context) else {
             return Given::Nothing;
-        }
-        match position_of(self.shown.as_slice(), key, context) {
+        };
+        match position_of(self.shown.as_slice(), key, &context) {
             Some(position) => Given::At(position),
             None => Given::Unknown,
         }
@@ -122,9 +130,10 @@ impl PlainVnode {
         let Some(context) = context_shown(reply) else {
             return Ok(());
         };
-        if context.is_empty()
-            || position_of(self.shown.as_slice(), key, context.as_slice()).is_some()
-        {
+        let Some(pairs) = Context::read(context.as_slice()) else {
+            return Ok(());
+        };
+        if position_of(self.shown.as_slice(), key, &pairs).is_some() {
             return Ok(());
         }
         let position = self.register.len();

@@ -298,7 +298,8 @@ impl<S: ClockStore> VnodeOver<S> {
     /// asks for an unchanged key and not for no value, and there is no value, or the context hasn't the entries of the
     /// key's clock; `TooManySiblings`, where more than 63 siblings aren't covered by the context; `ClockFull`, where the
     /// actors of the key's clock, of the context and the key's own are more than 64; `EpochsUsedUp`, where the key is
-    /// absent and the epoch 4,294,967,295 was given; `CounterUsedUp`, where the key's actor has the dot 4,294,967,295.
+    /// absent and the epoch 4,294,967,295 was given; `CounterUsedUp`, where the key's actor has the dot
+    /// 18,446,744,073,709,551,615.
     /// `NoMemory`, where none of these holds and a growth was refused. Each leaves the state as it was. The options are
     /// a put's alone. Without a context a put covers nothing, and a delete all that is stored: `BadContext` and
     /// `TooManySiblings` never refuse such a delete.
