@@ -44,11 +44,11 @@ nothing = Replied (Ok (GetDone (record { contents = []; context = []; unchanged 
 abbrev stored : Outcome
 stored = Replied (Ok (PutDone (record { contents = []; context = [] })))
 
--- "v" by the context with version 1 and the entry of vnode 65536, epoch 1, counter 1
+-- "v" by the context with version 2 and the entry of vnode 65536, epoch 1, counter 1
 abbrev shows : Outcome
 shows = Replied (Ok (GetDone (record {
   contents = record { content = v; deleted = false } ∷ [];
-  context = 1 ∷ 0 ∷ 0 ∷ 0 ∷ 0 ∷ 0 ∷ 1 ∷ 0 ∷ 0 ∷ 0 ∷ 0 ∷ 0 ∷ 1 ∷ 0 ∷ 0 ∷ 0 ∷ 1 ∷ [];
+  context = 2 ∷ 0 ∷ 0 ∷ 0 ∷ 0 ∷ 0 ∷ 1 ∷ 0 ∷ 0 ∷ 0 ∷ 0 ∷ 0 ∷ 1 ∷ 0 ∷ 0 ∷ 0 ∷ 0 ∷ 0 ∷ 0 ∷ 0 ∷ 1 ∷ [];
   unchanged = false;
 })))
 

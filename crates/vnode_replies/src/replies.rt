@@ -59,7 +59,7 @@ fn show_content(alloc: Global, content: &Content, is_bare: bool) -> Result<Shown
 fn show_all(alloc: Global, key: &StoredClock, is_bare: bool) -> Result<Sequence<Shown>, AllocError>
     ensures { IfOk result (λ all. all ≡ all_shown is_bare key.now.clock.meaning) }
 {
-    let mut all = Sequence::with_capacity(alloc, key.clock.uncovered(None))?;
+    let mut all = Sequence::with_capacity(alloc, key.clock.uncovered(None) as usize)?;
     for sibling in key.clock.values() {
         all.push(show(alloc, sibling, is_bare)?)?;
     }
@@ -227,7 +227,7 @@ fn show_after(
     ensures { IfOk result (λ all. all ≡
         map (λ entry. shown is_bare (filled content.now entry.1)) after.now.meaning.live) }
 {
-    let mut all = Sequence::with_capacity(alloc, after.uncovered(None))?;
+    let mut all = Sequence::with_capacity(alloc, after.uncovered(None) as usize)?;
     for sibling in after.values() {
         all.push(show_filled(alloc, *sibling, content, is_bare)?)?;
     }
