@@ -17,7 +17,7 @@
 ghost use Rattle.std.specs.Prelude.{◌≡◌, length};
 ghost use Rattle.vnode_machine.specs.Dead.{has_dead, swept, swept_keys};
 ghost use Rattle.vnode_protocol.specs.Reaping.{key_given};
-ghost use Rattle.tomb_reaper.specs.Sweeps.{prepared_after};
+ghost use Rattle.tomb_reaper.specs.Sweeps.{RegistersReaps, prepared_after};
 
 use riak_msgs::Key;
 use vnode_core::Vnode;
@@ -39,6 +39,8 @@ pub fn sweep(vnode: &mut Vnode, from: Option<&Key>, budget: u32) -> Swept
         ≡ length (swept_keys vnode.old.state (key_given from.entry) budget) }
     ensures more { result.more ≡ has_dead vnode.new.state (key_given from.entry) }
     ensures prepared { vnode.new.prepared ≡ prepared_after budget vnode.old.prepared }
+    ensures register { RegistersReaps vnode.old.state
+        (swept_keys vnode.old.state (key_given from.entry) budget) vnode.new.state }
 {
     let mut reaped = 0;
     while reaped < budget && vnode.reap_first(from) {
