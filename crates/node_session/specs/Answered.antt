@@ -8,6 +8,7 @@ use Rattle.pb_frame.specs.Message.{Message, frame, IsWithin, IsPartial, IsFaulty
 use Rattle.riak_msgs.specs.declared.request.Request.{Request}
 use Rattle.riak_msgs.specs.declared.reply.Reply.{Reply}
 use Rattle.riak_msgs.specs.declared.reply.Reply.TheVariants.{Error}
+use Rattle.node_session.specs.Limits.{max_read_len}
 use Rattle.node_session.specs.Answers.{Answers, Run, reply_frame, frame_fault_text, IsNoError}
 
 -- The input begins with the frames of messages, each of them was answered in its turn, and so many whole replies were
@@ -73,16 +74,16 @@ pub record ReplyNotWritten {S : Type 0} (Step : S → Request → Reply → S �
   pub due : NextReply Step mid rest next node'
   pub no_error : IsNoError due.reply
 
--- without its last 1 to 4,096 bytes, nothing is wrong with what is left and no whole frame stands there
+-- without its last bytes, as many as a read takes at most, nothing is wrong with what is left and no whole frame stands there
 pub record CameInLastRead (rest : List ℕ) : Type 0 where
   pub before : List ℕ
   pub piece : List ℕ
   pub splits : rest ≡ before ++ piece
   pub some : 0 < length piece
-  pub bound : length piece ≤ 4096
+  pub bound : length piece ≤ max_read_len
   pub partial : IsPartial max_request_len before
 
--- what ended it came with the last 4,096 bytes at most, which is what a read takes
+-- what ended it came with the bytes of the last read
 abbrev pub AtLastRead : {S : Type 0} → (S → List ℕ → List ℕ → Type 0) → S → List ℕ → List ℕ → Type 0
 AtLastRead Ends mid rest last = CameInLastRead rest × Ends mid rest last
 

@@ -3,17 +3,18 @@ use Rattle.std.specs.Prelude.{◌≡◌, ℕ, ◌+◌, ◌≤◌, ◌*◌, List,
 use Rattle.std.specs.Io.KnownBytes.{Consumes}
 use Rattle.riak_msgs.specs.declared.request.Request.{Request}
 use Rattle.riak_msgs.specs.declared.reply.Reply.{Reply}
+use Rattle.node_session.specs.Limits.{max_read_len}
 use Rattle.node_session.specs.declared.sending.Stop.{Stop}
 use Rattle.node_session.specs.declared.sending.Stop.TheVariants as stops
 use Rattle.node_session.specs.declared.fault.SessionFault.{SessionFault}
 use Rattle.node_session.specs.declared.fault.SessionFault.TheVariants.{ReadFailed, WriteFailed, BadFrame, TooManyReads, NoMemory}
 use Rattle.node_session.specs.Answered.{Answered, AllAnswered, IsBad, WriteFailedAt, IsOutOfMemory, AtLastRead}
 
--- a reader gave an input, by so many reads at most
+-- a reader gave an input, by so many reads at most, each of which takes at most so much
 pub record Given (unread unread' : Option (List ℕ)) (reads : ℕ) (Serves : List ℕ → Type 0) : Type 0 where
   pub input : List ℕ
   pub read : Consumes unread unread' input
-  pub bound : length input ≤ 4096 * reads
+  pub bound : length input ≤ max_read_len * reads
   pub serves : Serves input
 
 -- so many reads were made, and each of them gave a byte at least or was interrupted

@@ -40,12 +40,12 @@ fn frame_fault_text(fault: FrameFault) -> Text
     }
 }
 
-/// The frame of a reply.
-fn encode_reply(alloc: Global, reply: &Reply) -> Result<Vec<u8>, Stop>
-    ensures ok { IfOk result (λ v. v.items ≡ reply_frame reply.now) }
+/// The frame of a reply. The reply is let go, so that only its frame is held while the frame is sent.
+fn encode_reply(alloc: Global, reply: Reply) -> Result<Vec<u8>, Stop>
+    ensures ok { IfOk result (λ v. v.items ≡ reply_frame reply) }
     ensures err { IfErr result (λ e. e ≡ NoMemory) }
 {
-    try_encode_reply(alloc, reply).ok_or(Stop::NoMemory)
+    try_encode_reply(alloc, &reply).ok_or(Stop::NoMemory)
 }
 
 /// The frame of a reply, in one buffer that is made at its full size: the header, and the body behind it.
@@ -61,11 +61,11 @@ fn try_encode_reply(alloc: Global, reply: &Reply) -> Option<Vec<u8>>
 }
 
 /// Sends a reply. An error takes no memory.
-fn send_reply<W: Write>(alloc: Global, writer: &mut W, reply: &Reply) -> Result<(), Stop>
-    ensures { SendsReply (W.contents writer.old) (W.contents writer.new) reply.now result }
+fn send_reply<W: Write>(alloc: Global, writer: &mut W, reply: Reply) -> Result<(), Stop>
+    ensures { SendsReply (W.contents writer.old) (W.contents writer.new) reply result }
 {
     match reply {
-        Reply::Error(text) => send(writer, error_frame(*text)),
+        Reply::Error(text) => send(writer, error_frame(text)),
         other => {
             let frame = encode_reply(alloc, other)?;
             send(writer, &frame)
@@ -87,7 +87,7 @@ fn answer<W: Write, N: Node>(
     match read_request(alloc, code, body) {
         Ok(request) => {
             let reply = node.answer(alloc, request);
-            send_reply(alloc, writer, &reply)
+            send_reply(alloc, writer, reply)
         }
         Err(fault) => send(writer, error_frame(message_fault_text(fault))),
     }

@@ -1,7 +1,10 @@
-//! The law of sessions, as a function that has nothing to run: its contract is a theorem.
+//! The laws of sessions, as functions that have nothing to run: their contracts are theorems.
 
-ghost use Rattle.std.specs.Prelude.{ℕ};
+ghost use Rattle.std.specs.Prelude.{ℕ, ◌≡◌};
+ghost use Rattle.node_session.specs.Limits.{max_read_len};
 ghost use Rattle.node_session.specs.SessionLaws.{IsRun, RunsAreRegisters, EndsAreRegisters, StopsAreRegisters};
+
+use crate::session::MAX_READ_LEN;
 
 /// A plain node is the sibling register, message by message and byte by byte.
 ///
@@ -23,4 +26,9 @@ pub fn plain_node_is_register()
         → EndsAreRegisters run index_bits budget }
     ensures stopped { (run index_bits budget : ℕ) → IsRun run
         → StopsAreRegisters run index_bits budget }
+{}
+
+/// What a session reads at a time, at most, is the limit of the definitions.
+pub fn read_limit()
+    ensures { MAX_READ_LEN ≡ max_read_len }
 {}

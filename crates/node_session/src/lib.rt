@@ -39,9 +39,9 @@ mod vnode_reply;
 
 pub use ended::Ended;
 pub use fault::SessionFault;
-pub use laws::plain_node_is_register;
+pub use laws::{plain_node_is_register, read_limit};
 pub use node::Node;
 pub use plain_node::{NodeFault, PlainNode};
 pub use report::{exit_status, write_fault};
-pub use session::serve;
+pub use session::{MAX_READ_LEN, serve};
 pub use vnode_reply::answer_reply;

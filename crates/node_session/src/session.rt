@@ -15,8 +15,8 @@ use pb_frame::{Framer, MAX_REQUEST_LEN};
 use std::alloc::Global;
 use std::io::{ErrorKind, Read, Write};
 
-/// How much is read at a time.
-const PIECE: usize = 4096;
+/// How many bytes are read at a time, at most.
+pub const MAX_READ_LEN: usize = 4096;
 
 /// The fault for a stop. What was written before a bad length or a refusal of memory is flushed, where that can be done.
 fn fault_of<W: Write>(writer: &mut W, stop: Stop, replies: u64) -> SessionFault
@@ -39,7 +39,7 @@ fn fault_of<W: Write>(writer: &mut W, stop: Stop, replies: u64) -> SessionFault
 /// Serves one connection: reads requests from `reader` to the end of the input, at most `reads` times, answers each of
 /// them in order by `node`, and writes the replies to `writer`.
 ///
-/// A read takes up to 4,096 bytes, and each whole request that has come is answered before the next read. A request's
+/// A read takes up to [`MAX_READ_LEN`] bytes, and each whole request that has come is answered before the next read. A request's
 /// frame has a length of at most [`MAX_REQUEST_LEN`]. A message that is no request is answered by its error, and the
 /// session goes on. A read, write or flush that is interrupted is tried again; such a read counts as one. The writer is
 /// flushed before each read, so that at the end all is flushed, and, as far as that can be done, after a fault.
@@ -96,7 +96,7 @@ fn serve_from<R: Read, W: Write, N: Node>(
     ensures too_many { IfErr result (λ fault. IsTooManyReads fault
         → MadeReads (R.remaining reader.old) (R.remaining reader.new) reads) }
 {
-    let mut piece = [0u8; PIECE];
+    let mut piece = [0u8; MAX_READ_LEN];
     let mut replies = 0;
     for _ in 0..reads {
         if flush(writer).is_err() {
