@@ -1,8 +1,8 @@
 //! Sessions that meet the end of their input, however they are cut.
 
 use crate::tests::frames::{
-    ABSENT, BAD_FRAME, GET, PING, PONG, PUT_AND_GET, REPLIES, REQUESTS, STORED_AND_SHOWN, UNKNOWN,
-    UNKNOWN_CODE,
+    ABSENT, BAD_FRAME, EMPTY_NAME, GET, MISSING_FIELD, PING, PONG, PUT_AND_GET, REPLIES, REQUESTS,
+    STORED_AND_SHOWN, UNKNOWN, UNKNOWN_CODE,
 };
 use crate::tests::sessions::{Count, Outcome, Part, Session, comes_to_new, ended, goes};
 use crate::tests::streams::{Call, Channel, PLAIN, Trouble};
@@ -209,8 +209,8 @@ const ENDS: &[Session] = &[
         }),
         output: &[
             Part::Bytes(b"\0\0\0\x11\0\x0a\x0ckey required\x10\x01"),
-            Part::Bytes(b"\0\0\0\x12\0\x0a\x0dmissing field\x10\x01"),
-            Part::Bytes(b"\0\0\0\x0f\0\x0a\x0aempty name\x10\x01"),
+            Part::Bytes(MISSING_FIELD),
+            Part::Bytes(EMPTY_NAME),
             Part::Bytes(UNKNOWN_CODE),
             Part::Bytes(ABSENT),
         ],

@@ -2,9 +2,12 @@
 
 use crate::tests::exchange::{Asks, Exchange, Plain, Repeats, run_exchange};
 use crate::tests::frames::{
-    ABSENT, BAD_CONTEXT, GET, PUT_V, PUT_W, PUT_X_OVER_V, SHOWN_V, SHOWN_W_V, SHOWN_X_W, STORED,
-    TOO_MANY_SIBLINGS,
+    ABSENT, BAD_CONTEXT, CLOCK_FULL, GET, PUT_V, PUT_W, PUT_X_OVER_V, SHOWN_V, SHOWN_W_V,
+    SHOWN_X_W, STORED, TOO_MANY_SIBLINGS,
 };
+use crate::tests::sessions::{Part, Session, goes};
+use crate::tests::streams::{Channel, PLAIN};
+use node_session::Ended;
 
 /// A put of "x" by a context of the second epoch's first dot.
 const PUT_X_BY_SECOND_EPOCH: &[u8] =
@@ -96,6 +99,95 @@ const CONTEXTS: &[Exchange] = &[
         ],
     },
 ];
+
+/// The counter of each entry in a context of many.
+const ONE: &[u8] = b"\0\0\0\x01";
+
+const LONG_PIECES: Channel<'static> = Channel {
+    pieces: (500, 500),
+    most: 500,
+    ..PLAIN
+};
+
+/// A put of "v" on b/k behind contexts of another vnode's actors; and gets.
+const CROWDS: &[Session] = &[
+    // The put after it has the first epoch.
+    Session {
+        shows: "with 64 actors of its context and its own a clock is full, and takes no epoch",
+        input: &[
+            Part::Bytes(b"\0\0\x04\x10\x0b\x0a\x01b\x12\x01k\x1a\x81\x08\x01"),
+            Part::Entries(64, ONE),
+            Part::Bytes(b"\x22\x03\x0a\x01v"),
+            Part::Bytes(GET),
+            Part::Bytes(PUT_V),
+            Part::Bytes(GET),
+        ],
+        channel: LONG_PIECES,
+        end: Ok(Ended {
+            replies: 4,
+            rest: 0,
+        }),
+        output: &[
+            Part::Bytes(CLOCK_FULL),
+            Part::Bytes(ABSENT),
+            Part::Bytes(STORED),
+            Part::Bytes(SHOWN_V),
+        ],
+        counts: &[],
+    },
+    Session {
+        shows: "63 actors of a context and its own are a clock, whose first epoch is 1",
+        input: &[
+            Part::Bytes(b"\0\0\x04\0\x0b\x0a\x01b\x12\x01k\x1a\xf1\x07\x01"),
+            Part::Entries(63, ONE),
+            Part::Bytes(b"\x22\x03\x0a\x01v"),
+            Part::Bytes(GET),
+        ],
+        channel: LONG_PIECES,
+        end: Ok(Ended {
+            replies: 2,
+            rest: 0,
+        }),
+        output: &[
+            Part::Bytes(STORED),
+            Part::Bytes(
+                b"\0\0\x04\x0a\x0a\x0a\x03\x0a\x01v\x12\x81\x08\x01\0\0\0\0\0\x01\0\0\0\0\0\x01\0\0\0\x01",
+            ),
+            Part::Entries(63, ONE),
+        ],
+        counts: &[],
+    },
+    Session {
+        shows: "65 entries are no context",
+        input: &[
+            Part::Bytes(b"\0\0\x04\x20\x0b\x0a\x01b\x12\x01k\x1a\x91\x08\x01"),
+            Part::Entries(65, ONE),
+            Part::Bytes(b"\x22\x03\x0a\x01v"),
+            Part::Bytes(GET),
+            Part::Bytes(PUT_V),
+            Part::Bytes(GET),
+        ],
+        channel: LONG_PIECES,
+        end: Ok(Ended {
+            replies: 4,
+            rest: 0,
+        }),
+        output: &[
+            Part::Bytes(BAD_CONTEXT),
+            Part::Bytes(ABSENT),
+            Part::Bytes(STORED),
+            Part::Bytes(SHOWN_V),
+        ],
+        counts: &[],
+    },
+];
+
+#[test]
+fn a_clock_has_64_actors_at_most(rt: HostRuntime) {
+    for row in CROWDS {
+        assert!(rt; goes(rt.alloc(), row), "{}", row.shows);
+    }
+}
 
 #[test]
 fn contexts_cover_what_they_have_seen(rt: HostRuntime) {

@@ -1,8 +1,8 @@
 //! Requests to one node, each in a session of its own, and keys over their lives.
 
 use crate::tests::frames::{
-    ABSENT, DELETE, DELETED, GET, MATCH_FOUND, MODIFIED, NOT_FOUND, PUT_E_IF_V, PUT_Q_IF_V, PUT_V,
-    PUT_W, PUT_X_OVER_V, SHOWN_V, SHOWN_W_V, SHOWN_X_W, STORED,
+    ABSENT, DELETE, DELETED, GET, GET_DEAD, MATCH_FOUND, MODIFIED, NOT_FOUND, PUT_E_IF_V,
+    PUT_Q_IF_V, PUT_V, PUT_W, PUT_X_OVER_V, PUT_Z_IF_NONE, SHOWN_V, SHOWN_W_V, SHOWN_X_W, STORED,
 };
 use crate::tests::sessions::{Outcome, comes_to, ended};
 use crate::tests::streams::Channel;
@@ -39,7 +39,7 @@ pub struct Exchange {
 }
 
 /// A put of "b" on b/k.
-const PUT_B: &[u8] = b"\0\0\0\x0c\x0b\x0a\x01b\x12\x01k\x22\x03\x0a\x01b";
+pub const PUT_B: &[u8] = b"\0\0\0\x0c\x0b\x0a\x01b\x12\x01k\x22\x03\x0a\x01b";
 
 /// The key is absent; "v" is put, "w" beside it, and "x" over "v" alone. A put that wants no value is refused; then the
 /// key is deleted, and its context is shown to who asks for it.
@@ -51,13 +51,10 @@ const LIFE: &[Turn] = &[
     Asks(GET, SHOWN_W_V),
     Asks(PUT_X_OVER_V, STORED),
     Asks(GET, SHOWN_X_W),
-    Asks(
-        b"\0\0\0\x0e\x0b\x0a\x01b\x12\x01k\x22\x03\x0a\x01zP\x01",
-        MATCH_FOUND,
-    ),
+    Asks(PUT_Z_IF_NONE, MATCH_FOUND),
     Asks(DELETE, DELETED),
     Asks(
-        b"\0\0\0\x09\x09\x0a\x01b\x12\x01kH\x01",
+        GET_DEAD,
         b"\0\0\0\x14\x0a\x12\x11\x01\0\0\0\0\0\x01\0\0\0\0\0\x01\0\0\0\x04",
     ),
     Asks(GET, ABSENT),

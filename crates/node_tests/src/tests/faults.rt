@@ -2,79 +2,160 @@
 
 use crate::tests::exchange::answers;
 use crate::tests::frames::{
-    ABSENT, BAD_FRAME, FRAME_TOO_LARGE, GET, PING, PONG, REPLIES, REQUESTS, SHOWN_V, due,
+    BAD_FRAME, FRAME_TOO_LARGE, GET, PING, PONG, PUT_V, REQUESTS, SHOWN_V, STORED,
 };
-use crate::tests::sessions::{Count, Outcome, Part, Session, comes_to, goes};
+use crate::tests::scripts::{Line, PING_PUT_GET, THREE_PUTS, replies_of, requests_of, shown_after};
+use crate::tests::sessions::{Count, Outcome, Part, Session, comes_to, ended, goes, goes_on};
 use crate::tests::streams::{Call, Channel, PLAIN, Trouble};
 use node_session::{PlainNode, SessionFault};
 use std::alloc::Global;
+use std::process::Abort;
 
-/// Sessions of the three requests, each of which stops at a call of another number.
+/// Sessions of a script, each of which stops at a call of another number.
 struct Stops {
     shows: &'static str,
-    /// The call that fails, and each after it.
+    script: &'static [Line],
+    /// The call that fails: alone, and in another session with each after it.
     call: Call,
     /// Whether just the reads before it may be made, so that it isn't made.
     is_bounded: bool,
-    /// The numbers are those below this.
-    numbers: u32,
-    piece: usize,
-    most: usize,
+    sizes: &'static [Size],
 }
+
+/// How many bytes a read gives at most, how many a write takes at most, and how many such calls a session makes that meets no
+/// trouble.
+struct Size(usize, usize, u32);
+
+/// All requests of a script in one piece.
+const WHOLE: usize = 1000;
 
 const STOPS: &[Stops] = &[
     // A read for each byte, and one that would meet the end.
     Stops {
         shows: "reads are bounded",
+        script: PING_PUT_GET,
         call: Call::Read,
         is_bounded: true,
-        numbers: 33,
-        piece: 1,
-        most: 64,
+        sizes: &[Size(1, 64, 33)],
+    },
+    Stops {
+        shows: "reads of three puts are bounded",
+        script: THREE_PUTS,
+        call: Call::Read,
+        is_bounded: true,
+        sizes: &[Size(1, 64, 101), Size(7, 64, 16), Size(WHOLE, 64, 2)],
     },
     Stops {
         shows: "each read fails in turn",
+        script: PING_PUT_GET,
         call: Call::Read,
         is_bounded: false,
-        numbers: 33,
-        piece: 1,
-        most: 64,
+        sizes: &[Size(1, 64, 33)],
+    },
+    Stops {
+        shows: "each read of three puts fails in turn",
+        script: THREE_PUTS,
+        call: Call::Read,
+        is_bounded: false,
+        sizes: &[Size(1, 64, 101), Size(7, 64, 16), Size(WHOLE, 64, 2)],
     },
     // A write for each byte of the replies.
     Stops {
         shows: "each write fails in turn",
+        script: PING_PUT_GET,
         call: Call::Write,
         is_bounded: false,
-        numbers: 39,
-        piece: 32,
-        most: 1,
+        sizes: &[Size(WHOLE, 1, 39)],
     },
-    // Nine reads, and a flush before each.
+    // The replies are of 5, 29, 5, 34, 5 and 34 bytes.
+    Stops {
+        shows: "each write of three puts fails in turn",
+        script: THREE_PUTS,
+        call: Call::Write,
+        is_bounded: false,
+        sizes: &[
+            Size(WHOLE, 1, 112),
+            Size(WHOLE, 2, 58),
+            Size(WHOLE, 3, 40),
+            Size(WHOLE, 4, 32),
+            Size(WHOLE, 5, 23),
+        ],
+    },
+    // A flush before each read.
     Stops {
         shows: "each flush fails in turn",
+        script: PING_PUT_GET,
         call: Call::Flush,
         is_bounded: false,
-        numbers: 9,
-        piece: 4,
-        most: 64,
+        sizes: &[Size(4, 64, 9)],
+    },
+    Stops {
+        shows: "each flush of three puts fails in turn",
+        script: THREE_PUTS,
+        call: Call::Flush,
+        is_bounded: false,
+        sizes: &[Size(4, 64, 26), Size(1, 64, 101)],
     },
 ];
 
-/// How many of the first so many bytes' replies are whole.
-fn whole(bytes: u64) -> u64 {
-    match bytes {
-        0..=4 => 0,
-        5..=9 => 1,
-        10..=38 => 2,
-        _ => 3,
+/// How far a session comes: whole replies, the bytes that go out, and the requests that are answered by the node.
+#[derive(Drop)]
+struct Progress {
+    replies: u64,
+    written: usize,
+    asked: u64,
+}
+
+/// How far it comes where so many bytes of the requests were read.
+fn after_bytes(script: &[Line], bytes: u64) -> Progress {
+    let mut left = bytes;
+    let mut replies = 0u64;
+    let mut written = 0usize;
+    for line in script {
+        let len = line.request.len() as u64;
+        if left < len {
+            break;
+        }
+        left -= len;
+        replies = replies.saturating_add(1);
+        written = written.saturating_add(line.reply.len());
+    }
+    Progress {
+        replies,
+        written,
+        asked: replies,
     }
 }
 
-/// How many replies are due at a stop, and how many bytes of the replies.
-fn due_at(row: &Stops, number: u64) -> (u64, usize) {
+/// How far it comes by so many writes of at most `most` bytes, where a write more fails: the next request was answered too.
+fn after_writes(script: &[Line], most: usize, writes: u64) -> Progress {
+    let most = most.max(1);
+    let mut left = writes;
+    let mut replies = 0u64;
+    let mut written = 0usize;
+    for line in script {
+        let needed = line.reply.len().div_ceil(most) as u64;
+        if left < needed {
+            written = written.saturating_add((left as usize).saturating_mul(most));
+            break;
+        }
+        left -= needed;
+        replies = replies.saturating_add(1);
+        written = written.saturating_add(line.reply.len());
+    }
+    Progress {
+        replies,
+        written,
+        asked: replies.saturating_add(1),
+    }
+}
+
+fn progress_at(row: &Stops, size: &Size, number: u64) -> Progress {
     match row.call {
-        Call::Read | Call::Flush => due(number.saturating_mul(row.piece as u64)),
-        Call::Write => (whole(number), number as usize),
+        Call::Read | Call::Flush => {
+            after_bytes(row.script, number.saturating_mul(size.0 as u64))
+        }
+        Call::Write => after_writes(row.script, size.1, number),
     }
 }
 
@@ -93,54 +174,217 @@ fn stop_of(row: &Stops, number: u64, replies: u64) -> (SessionFault, u64) {
     }
 }
 
-/// A session that stops at this number has answered what came before.
-fn stops_at(alloc: Global, node: &mut PlainNode, row: &Stops, number: u32) -> bool {
-    let call = u64::from(number);
-    let channel = Channel {
-        pieces: (row.piece, row.piece),
-        most: row.most,
-        reads: if row.is_bounded { number } else { 100 },
-        troubles: &[Trouble::Fails(row.call, call)],
+/// A call that fails.
+#[derive(Drop)]
+struct Failure {
+    number: u32,
+    /// Whether each call after it fails too.
+    lasts: bool,
+}
+
+/// The channel of a session in which a call fails, or isn't made.
+fn channel_of<'t>(row: &Stops, size: &Size, number: u32, troubles: &'t [Trouble]) -> Channel<'t> {
+    Channel {
+        pieces: (size.0, size.0),
+        most: size.1,
+        reads: if row.is_bounded { number } else { 200 },
+        troubles,
+    }
+}
+
+fn trouble_of(call: Call, failure: &Failure) -> Trouble {
+    let number = u64::from(failure.number);
+    if failure.lasts {
+        Trouble::Fails(call, number)
+    } else {
+        Trouble::FailsOnce(call, number)
+    }
+}
+
+/// A session that stops at this call has answered what came before.
+fn stops_at(
+    alloc: Global,
+    node: &mut PlainNode,
+    row: &Stops,
+    size: &Size,
+    failure: &Failure,
+) -> bool {
+    let (Ok(input), Ok(replies)) = (
+        requests_of(alloc, row.script),
+        replies_of(alloc, row.script),
+    ) else {
+        return false;
     };
-    let (replies, written) = due_at(row, call);
-    let (fault, reads) = stop_of(row, call, replies);
+    let number = u64::from(failure.number);
+    let progress = progress_at(row, size, number);
+    let (fault, reads) = stop_of(row, number, progress.replies);
     let counts = [Count::Reads(reads), Count::FlushesOverReads(1)];
     let counted = if row.is_bounded { 2 } else { 1 };
     let outcome = Outcome {
         end: Err(fault),
-        output: REPLIES.get(..written).unwrap_or(&[]),
+        output: replies.get(..progress.written).unwrap_or(&[]),
         counts: &counts[..counted],
     };
-    comes_to(alloc, node, &REQUESTS, &channel, &outcome)
+    let troubles = [trouble_of(row.call, failure)];
+    let channel = channel_of(row, size, failure.number, &troubles);
+    comes_to(alloc, node, &input, &channel, &outcome)
 }
 
-/// The put is made once its last byte was read.
-fn is_put_at(alloc: Global, node: &mut PlainNode, row: &Stops, number: u32) -> bool {
-    let (replies, _) = due_at(row, u64::from(number));
-    let shown = if replies < 2 { ABSENT } else { SHOWN_V };
-    row.call == Call::Write || answers(alloc, node, GET, shown)
+/// The session meets no trouble where the call of the number behind its last fails.
+fn ends_before(alloc: Global, node: &mut PlainNode, row: &Stops, size: &Size) -> bool {
+    let (Ok(input), Ok(replies)) = (
+        requests_of(alloc, row.script),
+        replies_of(alloc, row.script),
+    ) else {
+        return false;
+    };
+    let failure = Failure {
+        number: size.2,
+        lasts: true,
+    };
+    let outcome = Outcome {
+        end: ended(row.script.len() as u64, 0),
+        output: &replies,
+        counts: &[],
+    };
+    let troubles = [trouble_of(row.call, &failure)];
+    let channel = channel_of(row, size, size.2, &troubles);
+    comes_to(alloc, node, &input, &channel, &outcome)
+}
+
+/// What a get shows in another session says which requests were answered.
+fn stands(
+    alloc: Global,
+    node: &mut PlainNode,
+    row: &Stops,
+    size: &Size,
+    failure: &Failure,
+) -> bool {
+    let progress = progress_at(row, size, u64::from(failure.number));
+    answers(alloc, node, GET, shown_after(row.script, progress.asked))
 }
 
 /// Serves a new node up to a stop, and asks it.
-fn serves_up_to(alloc: Global, row: &Stops, number: u32) -> bool {
+fn serves_up_to(alloc: Global, row: &Stops, size: &Size, failure: &Failure) -> bool {
     match PlainNode::new(alloc, 1) {
         Ok(mut node) => {
-            stops_at(alloc, &mut node, row, number) && is_put_at(alloc, &mut node, row, number)
+            stops_at(alloc, &mut node, row, size, failure)
+                && stands(alloc, &mut node, row, size, failure)
+        }
+        Err(_) => false,
+    }
+}
+
+/// Serves a new node to its end.
+fn serves_all(alloc: Global, row: &Stops, size: &Size) -> bool {
+    match PlainNode::new(alloc, 1) {
+        Ok(mut node) => ends_before(alloc, &mut node, row, size),
+        Err(_) => false,
+    }
+}
+
+/// Each call fails in turn, alone and with those after it.
+fn stop_at_each(rt: &impl Abort, alloc: Global, row: &Stops, size: &Size) {
+    for lasts in [true, false] {
+        for number in 0..size.2 {
+            let failure = Failure { number, lasts };
+            assert!(rt;
+                serves_up_to(alloc, row, size, &failure),
+                "{}, at {number}, and those after it: {lasts}; pieces of {}, writes of {}",
+                row.shows,
+                size.0,
+                size.1
+            );
+        }
+    }
+    assert!(rt;
+        serves_all(alloc, row, size),
+        "{}, of {} calls; pieces of {}, writes of {}",
+        row.shows,
+        size.2,
+        size.0,
+        size.1
+    );
+}
+
+#[test]
+fn what_came_before_a_stop_is_answered(rt: HostRuntime) {
+    for row in STOPS {
+        for size in row.sizes {
+            stop_at_each(&rt, rt.alloc(), row, size);
+        }
+    }
+}
+
+/// A session that stops, and what a get shows after it.
+struct Stopped {
+    session: Session,
+    shown: &'static [u8],
+}
+
+const STOPPED: &[Stopped] = &[
+    Stopped {
+        session: Session {
+            shows: "a put in one read, and a read that fails",
+            input: &[Part::Bytes(PUT_V)],
+            channel: Channel {
+                pieces: (WHOLE, WHOLE),
+                troubles: &[Trouble::Fails(Call::Read, 1)],
+                ..PLAIN
+            },
+            end: Err(SessionFault::ReadFailed(1)),
+            output: &[Part::Bytes(STORED)],
+            counts: &[],
+        },
+        shown: SHOWN_V,
+    },
+    Stopped {
+        session: Session {
+            shows: "a put in the one read that may be made",
+            input: &[Part::Bytes(PUT_V)],
+            channel: Channel {
+                pieces: (WHOLE, WHOLE),
+                reads: 1,
+                ..PLAIN
+            },
+            end: Err(SessionFault::TooManyReads(1)),
+            output: &[Part::Bytes(STORED)],
+            counts: &[],
+        },
+        shown: SHOWN_V,
+    },
+    Stopped {
+        session: Session {
+            shows: "a writer takes three bytes of a put's reply, and then fails",
+            input: &[Part::Bytes(PUT_V)],
+            channel: Channel {
+                pieces: (WHOLE, WHOLE),
+                most: 3,
+                troubles: &[Trouble::Fails(Call::Write, 1)],
+                ..PLAIN
+            },
+            end: Err(SessionFault::WriteFailed(0)),
+            output: &[Part::Bytes(b"\0\0\0")],
+            counts: &[],
+        },
+        shown: SHOWN_V,
+    },
+];
+
+/// Serves a new node, and then a get by another session.
+fn stops_and_stands(alloc: Global, row: &Stopped) -> bool {
+    match PlainNode::new(alloc, 1) {
+        Ok(mut node) => {
+            goes_on(alloc, &mut node, &row.session) && answers(alloc, &mut node, GET, row.shown)
         }
         Err(_) => false,
     }
 }
 
 #[test]
-fn what_came_before_a_stop_is_answered(rt: HostRuntime) {
-    for row in STOPS {
-        for number in 0..row.numbers {
-            assert!(rt;
-                serves_up_to(rt.alloc(), row, number),
-                "{}, at {number}",
-                row.shows
-            );
-        }
+fn a_node_stands_where_its_session_stopped(rt: HostRuntime) {
+    for row in STOPPED {
+        assert!(rt; stops_and_stands(rt.alloc(), row), "{}", row.session.shows);
     }
 }
 

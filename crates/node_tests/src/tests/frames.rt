@@ -43,9 +43,15 @@ pub const GET: &[u8] = b"\0\0\0\x07\x09\x0a\x01b\x12\x01k";
 /// Its reply where the key is absent.
 pub const ABSENT: &[u8] = b"\0\0\0\x01\x0a";
 
+/// A get of b/k that wants the context of a dead key.
+pub const GET_DEAD: &[u8] = b"\0\0\0\x09\x09\x0a\x01b\x12\x01kH\x01";
+
 pub const PUT_V: &[u8] = b"\0\0\0\x0c\x0b\x0a\x01b\x12\x01k\x22\x03\x0a\x01v";
 
 pub const PUT_W: &[u8] = b"\0\0\0\x0c\x0b\x0a\x01b\x12\x01k\x22\x03\x0a\x01w";
+
+/// A put of "z" where no value is.
+pub const PUT_Z_IF_NONE: &[u8] = b"\0\0\0\x0e\x0b\x0a\x01b\x12\x01k\x22\x03\x0a\x01zP\x01";
 
 /// A put of "x" that has seen the first dot of the first life in this run's first vnode.
 pub const PUT_X_OVER_V: &[u8] =
@@ -82,6 +88,12 @@ pub const DELETED: &[u8] = b"\0\0\0\x01\x0e";
 pub const UNKNOWN_CODE: &[u8] = b"\0\0\0\x19\0\x0a\x14unknown message code\x10\x01";
 
 pub const BAD_MESSAGE: &[u8] = b"\0\0\0\x10\0\x0a\x0bbad message\x10\x01";
+
+pub const MISSING_FIELD: &[u8] = b"\0\0\0\x12\0\x0a\x0dmissing field\x10\x01";
+
+pub const EMPTY_NAME: &[u8] = b"\0\0\0\x0f\0\x0a\x0aempty name\x10\x01";
+
+pub const CLOCK_FULL: &[u8] = b"\0\0\0\x0f\0\x0a\x0aclock full\x10\x01";
 
 pub const BAD_CONTEXT: &[u8] = b"\0\0\0\x10\0\x0a\x0bbad context\x10\x01";
 

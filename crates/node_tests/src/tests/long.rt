@@ -19,6 +19,22 @@ const LONG: &[Session] = &[
         output: &[Part::Times(1200, PONG)],
         counts: &[Count::Reads(6001), Count::Unread(3999)],
     },
+    // 1,639 pings are 8,195 bytes: two reads of 4,096, one of three, and one that meets the end.
+    Session {
+        shows: "a read takes 4,096 bytes where they are there",
+        input: &[Part::Times(1639, PING)],
+        channel: Channel {
+            pieces: (5000, 5000),
+            most: 5000,
+            ..PLAIN
+        },
+        end: Ok(Ended {
+            replies: 1639,
+            rest: 0,
+        }),
+        output: &[Part::Times(1639, PONG)],
+        counts: &[Count::Reads(4), Count::Largest(4096)],
+    },
     // A put of 6,000 bytes on b/k, and a get of it. The 6,035 bytes of the replies go out by writes of one byte, each of
     // which is interrupted once.
     Session {

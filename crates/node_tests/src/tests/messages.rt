@@ -2,7 +2,8 @@
 
 use crate::tests::exchange::{Asks, Exchange, Plain, run_exchange};
 use crate::tests::frames::{
-    BAD_MESSAGE, GET, PING, PONG, PUT_V, SHOWN_V, STORED, UNKNOWN, UNKNOWN_CODE,
+    ABSENT, BAD_MESSAGE, EMPTY_NAME, GET, MISSING_FIELD, PING, PONG, PUT_V, SHOWN_V, STORED,
+    UNKNOWN, UNKNOWN_CODE,
 };
 
 const MESSAGES: &[Exchange] = &[
@@ -33,7 +34,8 @@ const MESSAGES: &[Exchange] = &[
             ),
         ],
     },
-    // A message of no code, a varint of eleven bytes, and a get that ends within its key.
+    // A message of no code, a varint of eleven bytes, a get that ends within its key, a content that ends before its value,
+    // and a field of wire type 3; then a content without value, and an empty bucket. None of them stores anything.
     Exchange {
         shows: "other messages get errors",
         home: Plain,
@@ -44,7 +46,15 @@ const MESSAGES: &[Exchange] = &[
                 BAD_MESSAGE,
             ),
             Asks(b"\0\0\0\x06\x09\x0a\x01b\x12\x01", BAD_MESSAGE),
+            Asks(
+                b"\0\0\0\x0b\x0b\x0a\x01b\x12\x01k\x22\x03\x0a\x01",
+                BAD_MESSAGE,
+            ),
+            Asks(b"\0\0\0\x09\x09\x0a\x01b\x12\x01k\x9b\x06", BAD_MESSAGE),
+            Asks(b"\0\0\0\x09\x0b\x0a\x01b\x12\x01k\x22\0", MISSING_FIELD),
+            Asks(b"\0\0\0\x06\x09\x0a\0\x12\x01k", EMPTY_NAME),
             Asks(PING, PONG),
+            Asks(GET, ABSENT),
         ],
     },
 ];

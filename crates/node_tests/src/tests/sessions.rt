@@ -10,6 +10,17 @@ pub enum Part {
     Bytes(&'static [u8]),
     /// The same bytes so many times.
     Times(u32, &'static [u8]),
+    /// Entries of a context: the first so many epochs of the vnode 131072, each with this counter.
+    Entries(u8, &'static [u8]),
+}
+
+/// Appends the first so many epochs of the vnode 131072, each with this counter.
+fn append_entries(bytes: &mut Vec<u8>, count: u8, counter: &[u8]) -> Result<(), AllocError> {
+    for epoch in 1..=count {
+        bytes.extend_from_slice(&[0, 0, 0, 0, 0, 2, 0, 0, 0, 0, 0, epoch])?;
+        bytes.extend_from_slice(counter)?;
+    }
+    Ok(())
 }
 
 /// The bytes of all parts.
@@ -23,6 +34,7 @@ pub fn joined(alloc: Global, parts: &[Part]) -> Result<Vec<u8>, AllocError> {
                     bytes.extend_from_slice(some)?;
                 }
             }
+            Part::Entries(count, counter) => append_entries(&mut bytes, *count, counter)?,
         }
     }
     Ok(bytes)
@@ -32,6 +44,8 @@ pub fn joined(alloc: Global, parts: &[Part]) -> Result<Vec<u8>, AllocError> {
 #[derive(Drop)]
 pub enum Count {
     Reads(u64),
+    /// How many bytes a read has asked for at most.
+    Largest(usize),
     Writes(u64),
     /// How many more flushes were made than reads.
     FlushesOverReads(u64),
@@ -74,6 +88,7 @@ fn are_counted(
     for count in counts {
         let is_right = match *count {
             Count::Reads(reads) => source.reads == reads,
+            Count::Largest(bytes) => source.largest == bytes,
             Count::Writes(writes) => sink.writes == writes,
             Count::FlushesOverReads(more) => sink.flushes == source.reads.saturating_add(more),
             Count::Unread(bytes) => source.left.len() == bytes,
@@ -112,8 +127,8 @@ pub fn comes_to_new(alloc: Global, input: &[u8], channel: &Channel, outcome: &Ou
     }
 }
 
-/// Whether a session on a new node goes as its row says.
-pub fn goes(alloc: Global, row: &Session) -> bool {
+/// Whether a session on this node goes as its row says.
+pub fn goes_on(alloc: Global, node: &mut PlainNode, row: &Session) -> bool {
     let (Ok(input), Ok(output)) = (joined(alloc, row.input), joined(alloc, row.output)) else {
         return false;
     };
@@ -122,5 +137,13 @@ pub fn goes(alloc: Global, row: &Session) -> bool {
         output: &output,
         counts: row.counts,
     };
-    comes_to_new(alloc, &input, &row.channel, &outcome)
+    comes_to(alloc, node, &input, &row.channel, &outcome)
+}
+
+/// The same on a new node.
+pub fn goes(alloc: Global, row: &Session) -> bool {
+    match PlainNode::new(alloc, 1) {
+        Ok(mut node) => goes_on(alloc, &mut node, row),
+        Err(_) => false,
+    }
 }

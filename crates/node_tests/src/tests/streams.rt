@@ -21,6 +21,8 @@ pub enum Call {
 pub enum Trouble {
     /// The call of this number fails, and each after it.
     Fails(Call, u64),
+    /// The call of this number alone fails.
+    FailsOnce(Call, u64),
     /// Each call whose number this divides is interrupted. 0 divides none.
     Interrupts(Call, u64),
     /// Each of the first so many calls is interrupted.
@@ -58,6 +60,11 @@ fn attempt(troubles: &[Trouble], call: Call, number: u64) -> io::Result<()> {
                     return Err(io::Error::from(ErrorKind::ConnectionReset));
                 }
             }
+            Trouble::FailsOnce(kind, one) => {
+                if kind == call && number == one {
+                    return Err(io::Error::from(ErrorKind::ConnectionReset));
+                }
+            }
             Trouble::Interrupts(kind, every) => {
                 if kind == call && every != 0 && number % every == 0 {
                     return Err(io::Error::from(ErrorKind::Interrupted));
@@ -92,6 +99,8 @@ pub struct Source<'i, 't, 'f> {
     later: usize,
     troubles: &'t [Trouble],
     pub reads: u64,
+    /// How many bytes a read has asked for at most.
+    pub largest: usize,
     given: u64,
     flushed: &'f Cell<usize>,
     ghost some: { 0 < piece },
@@ -112,6 +121,7 @@ impl<'i, 't, 'f> Source<'i, 't, 'f> {
             later: later.max(1),
             troubles: channel.troubles,
             reads: 0,
+            largest: 0,
             given: 0,
             flushed,
         }
@@ -130,6 +140,7 @@ impl Read for Source<'_, '_, '_> {
         }
         let number = self.reads;
         self.reads = number.saturating_add(1);
+        self.largest = self.largest.max(buf.len());
         attempt(self.troubles, Call::Read, number)?;
         let n = self.piece.min(self.left.len()).min(buf.len());
         let (front, left) = self.left.split_at(n);
