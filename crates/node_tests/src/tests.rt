@@ -15,4 +15,5 @@ mod options;
 mod reports;
 mod scripts;
 mod sessions;
+mod stops;
 mod streams;

@@ -202,7 +202,11 @@ fn shown_at_end(row: &Refusal, output: &[u8]) -> Option<(&'static [u8], &'static
 }
 
 /// The same after a session that ended behind so many replies: those requests were answered, and perhaps one more.
-fn shown_behind(row: &Refusal, output: &[u8], replies: u64) -> Option<(&'static [u8], &'static [u8])> {
+fn shown_behind(
+    row: &Refusal,
+    output: &[u8],
+    replies: u64,
+) -> Option<(&'static [u8], &'static [u8])> {
     if are_first(output, row.script, replies) {
         let next = shown_after(row.script, replies.saturating_add(1));
         return Some((shown_after(row.script, replies), next));
