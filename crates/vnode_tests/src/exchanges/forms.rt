@@ -1,6 +1,6 @@
 //! The same asks to a vnode over each form of storage: the answers are the same, and so are the tallies.
 
-use crate::exchanges::asking::{ask_of, get_of};
+use crate::exchanges::asking::{Place, ask_in, get_in};
 use crate::exchanges::steps::{
     Command, Del, GetOptions, ID, NONE, OF_DEAD, PLAIN_GET, PLAIN_PUT, PutWith, RETURN_BODY,
 };
@@ -13,6 +13,21 @@ use vnode_core::{Answer, Ask, Plan, Reaped, Refusal, Vnode, VnodeOver};
 
 /// A vnode over the list form of storage.
 type ListVnode = VnodeOver<ClockList>;
+
+/// Why the asking ends before all is answered.
+#[derive(Clone, Copy, Drop, PartialEq, Eq)]
+enum Stop {
+    /// The test itself was refused memory.
+    NoRoom,
+    /// A vnode answered that memory was refused.
+    NoMemory,
+}
+
+impl From<AllocError> for Stop {
+    fn from(_error: AllocError) -> Stop {
+        Stop::NoRoom
+    }
+}
 
 /// Bytes that look as drawn, the same in each run.
 #[derive(Drop)]
@@ -104,9 +119,9 @@ impl Answers {
     }
 
     /// Notes a refusal that isn't for want of memory.
-    fn note_refusal(&mut self, refusal: Refusal) -> Result<(), Refusal> {
+    fn note_refusal(&mut self, refusal: Refusal) -> Result<(), Stop> {
         if refusal == Refusal::NoMemory {
-            return Err(refusal);
+            return Err(Stop::NoMemory);
         }
         self.kind = Kind::Refused(refusal);
         Ok(())
@@ -114,7 +129,7 @@ impl Answers {
 }
 
 /// Notes an answer, which goes then.
-fn note_and_drop(answers: &mut Answers, answer: Answer) -> Result<(), Refusal> {
+fn note_and_drop(answers: &mut Answers, answer: Answer) -> Result<(), Stop> {
     let noted = answers.note_answer(&answer);
     drop(answer);
     Ok(noted?)
@@ -126,7 +141,7 @@ fn make<S: ClockStore>(
     alloc: Global,
     ask: Ask,
     answers: &mut Answers,
-) -> Result<(), Refusal> {
+) -> Result<(), Stop> {
     match vnode.prepare(alloc, ask) {
         Ok(Plan::Change(change)) => note_and_drop(answers, vnode.finish(change)),
         Ok(Plan::Nothing(answer)) => note_and_drop(answers, answer),
@@ -135,10 +150,10 @@ fn make<S: ClockStore>(
 }
 
 /// Notes what a get was answered.
-fn note_read(answers: &mut Answers, read: &Result<GetReply, Refusal>) -> Result<(), Refusal> {
+fn note_read(answers: &mut Answers, read: &Result<GetReply, Refusal>) -> Result<(), Stop> {
     match read {
         Ok(reply) => Ok(answers.note_get(reply)?),
-        Err(refusal) => Err(*refusal),
+        Err(refusal) => answers.note_refusal(*refusal),
     }
 }
 
@@ -148,7 +163,7 @@ fn read<S: ClockStore>(
     alloc: Global,
     get: GetAsk,
     answers: &mut Answers,
-) -> Result<(), Refusal> {
+) -> Result<(), Stop> {
     let read = vnode.get(alloc, &get);
     let noted = note_read(answers, &read);
     drop(read);
@@ -160,16 +175,17 @@ fn read<S: ClockStore>(
 fn ask<S: ClockStore>(
     vnode: &mut VnodeOver<S>,
     alloc: Global,
+    place: Place<'_>,
     asked: Asked<'_>,
     answers: &mut Answers,
-) -> Result<(), Refusal> {
+) -> Result<(), Stop> {
     match asked {
         Asked::Get(name, options) => {
-            let get = get_of(alloc, name, NONE, options)?;
+            let get = get_in(alloc, place, name, NONE, options)?;
             read(vnode, alloc, get, answers)
         }
         Asked::Change(command) => {
-            let ask = ask_of(alloc, command)?;
+            let ask = ask_in(alloc, place, command)?;
             make(vnode, alloc, ask, answers)
         }
     }
@@ -207,6 +223,26 @@ fn context_at(own: u8, draw: u8) -> Option<u8> {
     }
 }
 
+/// Where the keys are: a bucket of the default type, one that begins as it does, and two of another type.
+const PLACES: [Place<'static>; 4] = [
+    Place {
+        bucket_type: None,
+        bucket: b"b",
+    },
+    Place {
+        bucket_type: None,
+        bucket: b"b and sixteen more bytes",
+    },
+    Place {
+        bucket_type: Some(b"maps"),
+        bucket: b"b",
+    },
+    Place {
+        bucket_type: Some(b"maps"),
+        bucket: b"c",
+    },
+];
+
 /// The last context that was shown of a key.
 fn shown_of(contexts: &[Vec<u8>], at: Option<u8>) -> &[u8] {
     match at {
@@ -218,41 +254,50 @@ fn shown_of(contexts: &[Vec<u8>], at: Option<u8>) -> &[u8] {
     }
 }
 
+/// Asks a vnode. So many times it may answer that memory was refused, and is asked again.
+fn ask_again<S: ClockStore>(
+    vnode: &mut VnodeOver<S>,
+    alloc: Global,
+    place: Place<'_>,
+    asked: Asked<'_>,
+    answers: &mut Answers,
+    refusals: &mut u8,
+) -> Result<(), Stop> {
+    match ask(vnode, alloc, place, asked, answers) {
+        Err(Stop::NoMemory) if *refusals > 0 => {
+            *refusals -= 1;
+            ask(vnode, alloc, place, asked, answers)
+        }
+        answered => answered,
+    }
+}
+
 /// Asks both the same, and keeps the context that they show: whether they answer the same.
 fn ask_both(
     alloc: Global,
     draws: &mut Draws,
+    refusals: &mut u8,
     contexts: &mut Vec<Vec<u8>>,
     vnode: &mut Vnode,
     list: &mut ListVnode,
-) -> Result<bool, Refusal> {
+) -> Result<bool, Stop> {
     let own = draws.next() % 20;
-    let name = [b'a'.wrapping_add(own)];
+    let name = [b'a'.wrapping_add(own / 4)];
+    let place = PLACES[usize::from(own % 4)];
     let value = [draws.next(), draws.next()];
     let command = draws.next();
     let context = shown_of(contexts, context_at(own, draws.next()));
     let asked = asked_of(command, &name, &value, context, draws.next() % 4 == 0);
     let mut answers = Answers::new(alloc);
     let mut also = Answers::new(alloc);
-    let noted = ask_each(alloc, asked, vnode, &mut answers, list, &mut also);
+    let noted = ask_again(vnode, alloc, place, asked, &mut answers, refusals);
+    let also_noted = ask_again(list, alloc, place, asked, &mut also, refusals);
     let is_same = answers.is_same(&also);
     drop(also);
     keep(contexts, own, answers);
     noted?;
+    also_noted?;
     Ok(is_same)
-}
-
-/// Asks the one vnode, and then the other, and notes the answer of each.
-fn ask_each(
-    alloc: Global,
-    asked: Asked<'_>,
-    vnode: &mut Vnode,
-    answers: &mut Answers,
-    list: &mut ListVnode,
-    also: &mut Answers,
-) -> Result<(), Refusal> {
-    ask(vnode, alloc, asked, answers)?;
-    ask(list, alloc, asked, also)
 }
 
 /// Keeps the context that was answered, where there is one, as the last that was shown of a key.
@@ -279,13 +324,14 @@ fn no_contexts(alloc: Global) -> Result<Vec<Vec<u8>>, AllocError> {
 /// Whether both answer 1,000 asks alike, and count the same.
 fn answer_the_same(
     alloc: Global,
+    mut refusals: u8,
     vnode: &mut Vnode,
     list: &mut ListVnode,
-) -> Result<bool, Refusal> {
+) -> Result<bool, Stop> {
     let mut contexts = no_contexts(alloc)?;
     let mut draws = Draws { state: 1 };
     for _ in 0..1000 {
-        if !ask_both(alloc, &mut draws, &mut contexts, vnode, list)? {
+        if !ask_both(alloc, &mut draws, &mut refusals, &mut contexts, vnode, list)? {
             return Ok(false);
         }
     }
@@ -293,14 +339,26 @@ fn answer_the_same(
     Ok(counts == list.tally() && counts.writes > 200 && counts.tombstones > 50 && counts.reaps > 20)
 }
 
-/// 1,000 asks over 20 keys, by contexts of earlier replies, with deletes and reaps: each form answers the same, and counts
-/// the same. Where memory is refused they end.
-#[test]
-fn forms_answer_the_same(rt: HostRuntime) {
-    let mut vnode = Vnode::new(rt.alloc(), ID, 1);
-    let mut list = ListVnode::new(rt.alloc(), ID, 1);
-    let answers = answer_the_same(rt.alloc(), &mut vnode, &mut list);
+/// The same of new vnodes.
+fn new_forms_answer_the_same(alloc: Global, refusals: u8) -> Result<bool, Stop> {
+    let mut vnode = Vnode::new(alloc, ID, 1);
+    let mut list = ListVnode::new(alloc, ID, 1);
+    let answers = answer_the_same(alloc, refusals, &mut vnode, &mut list);
     drop(vnode);
     drop(list);
-    assert!(&rt; answers != Ok(false));
+    answers
+}
+
+/// 1,000 asks over 20 keys of three buckets and two types, by contexts of earlier replies, with deletes and reaps: each form
+/// answers the same, and counts the same. No ask is answered by a refusal of memory.
+#[test]
+fn forms_answer_the_same(rt: HostRuntime) {
+    assert!(&rt; new_forms_answer_the_same(rt.alloc(), 0) == Ok(true));
+}
+
+/// The same where one ask may be refused memory, and is asked again.
+#[test]
+fn forms_answer_the_same_after_a_refusal(rt: HostRuntime) {
+    let answers = new_forms_answer_the_same(rt.alloc(), 1);
+    assert!(&rt; answers == Ok(true) || answers == Err(Stop::NoRoom));
 }

@@ -7,6 +7,7 @@ use crate::exchanges::steps::{
 };
 use std::alloc::Global;
 use std::process::Abort;
+use tomb_reaper::{Swept, sweep};
 use vnode_core::{Plan, Vnode};
 
 /// Takes 4,099 bytes, and lets them go: whether it got them.
@@ -131,4 +132,67 @@ const A_REAP_OF_THE_FIRST: &Marked = &Marked {
 #[test]
 fn a_reap_of_the_first_dead_key(rt: HostRuntime) {
     goes_between_marks(&rt, A_REAP_OF_THE_FIRST);
+}
+
+const A_DELETE_BY_A_CONTEXT: &Marked = &Marked {
+    before: V_IS_PUT,
+    command: Del(b"k", FIRST),
+    after: &[HasDead(None, true)],
+};
+
+#[test]
+fn a_delete_by_a_context(rt: HostRuntime) {
+    goes_between_marks(&rt, A_DELETE_BY_A_CONTEXT);
+}
+
+const A_PUT_BY_A_CONTEXT_OF_SEVERAL_ACTORS: &Marked = &Marked {
+    before: V_IS_PUT,
+    command: Command::PutAfterOthers(5),
+    after: &[],
+};
+
+#[test]
+fn a_put_by_a_context_of_several_actors(rt: HostRuntime) {
+    goes_between_marks(&rt, A_PUT_BY_A_CONTEXT_OF_SEVERAL_ACTORS);
+}
+
+const A_REAP_OF_THE_FIRST_FROM_A_KEY: &Marked = &Marked {
+    before: IS_DEAD,
+    command: Command::ReapFirst(Some(b"j")),
+    after: &[HasDead(None, false)],
+};
+
+#[test]
+fn a_reap_of_the_first_dead_key_from_a_key(rt: HostRuntime) {
+    goes_between_marks(&rt, A_REAP_OF_THE_FIRST_FROM_A_KEY);
+}
+
+/// Three dead keys; then a sweep of two of them between two marks: whether there was such a one.
+fn sweeps_between_marks(alloc: Global) -> bool {
+    let mut vnode = Vnode::new(alloc, ID, 1);
+    let is_dead = taken(&mut vnode, alloc, ARE_DEAD) == ARE_DEAD.len();
+    let is_begun = mark(alloc);
+    let swept = sweep(&mut vnode, None, 2);
+    let is_ended = mark(alloc);
+    drop(vnode);
+    is_dead && is_begun && is_ended && swept == TWO_OF_THREE
+}
+
+const ARE_DEAD: &[Step] = &[
+    Ask(Put(b"i", b"v", NONE), Done),
+    Ask(Del(b"i", NONE), Done),
+    Ask(Put(b"j", b"v", NONE), Done),
+    Ask(Del(b"j", NONE), Done),
+    Ask(Put(b"k", b"v", NONE), Done),
+    Ask(Del(b"k", NONE), Done),
+];
+
+const TWO_OF_THREE: Swept = Swept {
+    reaped: 2,
+    more: true,
+};
+
+#[test]
+fn a_sweep(rt: HostRuntime) {
+    assert!(rt; sweeps_between_marks(rt.alloc()));
 }

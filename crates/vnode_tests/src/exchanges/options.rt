@@ -3,10 +3,10 @@
 use crate::exchanges::asking::go_as_expected;
 use crate::exchanges::steps::{
     Ask, BARE, BOTH_CONDITIONS, Del, Done, Exchange, FIRST, Get, GetWith, HEAD, IF_NONE_MATCH,
-    IF_NOT_MODIFIED, NONE, NOTHING, PLAIN_GET, Put, PutWith, RETURN_BODY, RETURN_BOTH, RETURN_HEAD,
-    Refused, Reply, SECOND, Shows, THIRD, Tombstone, Unchanged, V, W, X,
+    IF_NOT_MODIFIED, NONE, NOTHING, OF_DEAD, PLAIN_GET, Put, PutWith, RETURN_BODY, RETURN_BOTH,
+    RETURN_HEAD, Reap, Refused, Reply, SECOND, Shows, THIRD, Tombstone, Unchanged, V, W, X,
 };
-use vnode_core::Refusal;
+use vnode_core::{Reaped, Refusal};
 
 const BAD: Reply = Refused(Refusal::BadContext);
 
@@ -68,6 +68,9 @@ fn puts_have_conditions(rt: HostRuntime) {
     go_as_expected(&rt, CONDITIONS);
 }
 
+/// More bytes than lie in a name itself.
+const LONG_NAME: &[u8] = b"a name of more than sixteen bytes";
+
 const REPLIES: &[Exchange] = &[
     // The siblings that stay, the new one first, and the context with its dot.
     Exchange {
@@ -101,6 +104,20 @@ const REPLIES: &[Exchange] = &[
                 PutWith(b"k", b"w", NONE, RETURN_BODY),
                 Shows(&[W, Tombstone], THIRD),
             ),
+        ],
+    },
+    Exchange {
+        shows: "a key of a long name lives as any other",
+        steps: &[
+            Ask(
+                PutWith(LONG_NAME, b"v", NONE, RETURN_BODY),
+                Shows(&[V], FIRST),
+            ),
+            Get(LONG_NAME, Shows(&[V], FIRST)),
+            Ask(Del(LONG_NAME, FIRST), Done),
+            GetWith(LONG_NAME, NONE, OF_DEAD, Shows(&[], SECOND)),
+            Reap(LONG_NAME, Reaped::Gone),
+            GetWith(LONG_NAME, NONE, OF_DEAD, NOTHING),
         ],
     },
     // An older one, one that isn't of the form, or that of an absent key is as none. head shows empty values.
