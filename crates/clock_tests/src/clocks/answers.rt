@@ -1,7 +1,7 @@
 //! What clocks answer, at their limits too, and what they take in.
 
 use crate::clocks::steps::Step::{Discard, Event, Overwrite, Put};
-use crate::clocks::steps::{Step, count, event, holds, takes_all, takes_crowd};
+use crate::clocks::steps::{Step, count, event, holds, takes_all, takes_crowd, takes_in};
 use crate::clocks::{A, B, C, D, SEEN_1, SEEN_2, SEEN_3, SEEN_A_C_D, SEEN_ALL, SEEN_ALL_BUT_ONE};
 use actor_epoch::{Actor, Context, Counter, Dot};
 use dvv_set::{Clock, ClockFault, Needed};
@@ -322,18 +322,6 @@ const CASES: &[Case] = &[
         ],
     },
 ];
-
-/// Takes in another clock, and again where memory is refused.
-fn takes_in(alloc: Global, clock: &mut Clock<u8>, steps: &[Step]) -> bool {
-    let mut other = Clock::new(alloc);
-    if !takes_all(&mut other, steps) {
-        return false;
-    }
-    match clock.sync(other) {
-        Ok(()) => true,
-        Err(refused) => clock.sync(refused.value).is_ok(),
-    }
-}
 
 fn answers(
     alloc: Global,

@@ -1,7 +1,8 @@
 //! What is done to a clock, each step tried again where memory is refused.
 
 use actor_epoch::{Actor, Context, Counter};
-use dvv_set::{Clock, ClockFault};
+use dvv_set::{Clock, ClockFault, Rejected};
+use std::alloc::Global;
 
 /// What is done to a clock.
 #[derive(Drop)]
@@ -81,14 +82,60 @@ pub fn count(clock: &Clock<u8>) -> u32 {
     values
 }
 
-/// Whether a step is taken. Where memory is refused, the clock has as many values as before; then once more.
+/// The pairs that a clock knows, and its values: the first so many of each.
+#[derive(Drop)]
+struct Held {
+    pairs: [(Actor, Counter); 64],
+    known: usize,
+    values: [u8; 64],
+    live: usize,
+}
+
+/// An actor that no clock knows.
+const NOBODY: Actor = Actor { vnode: 0, epoch: 0 };
+
+/// What a clock holds. It takes no memory.
+fn held(clock: &Clock<u8>) -> Held {
+    let mut pairs = [(NOBODY, 0); 64];
+    let mut known = 0usize;
+    for pair in clock.join() {
+        if let Some(place) = pairs.get_mut(known) {
+            *place = pair;
+        }
+        known = known.saturating_add(1);
+    }
+    let mut values = [0u8; 64];
+    let mut live = 0usize;
+    for value in clock.values() {
+        if let Some(place) = values.get_mut(live) {
+            *place = *value;
+        }
+        live = live.saturating_add(1);
+    }
+    Held {
+        pairs,
+        known,
+        values,
+        live,
+    }
+}
+
+/// Whether a clock holds just this.
+fn is_held(clock: &Clock<u8>, held: &Held) -> bool {
+    match (held.pairs.get(..held.known), held.values.get(..held.live)) {
+        (Some(pairs), Some(values)) => holds(clock, pairs, values),
+        _ => false,
+    }
+}
+
+/// Whether a step is taken. Where memory is refused, the clock holds the pairs and values of before; then once more.
 fn takes(clock: &mut Clock<u8>, step: &Step) -> bool {
-    let before = count(clock);
+    let before = held(clock);
     match try_step(clock, step) {
         Ok(()) => true,
         Err(fault) => {
             fault == Some(ClockFault::NoMemory)
-                && count(clock) == before
+                && is_held(clock, &before)
                 && try_step(clock, step).is_ok()
         }
     }
@@ -102,6 +149,34 @@ pub fn takes_all(clock: &mut Clock<u8>, steps: &[Step]) -> bool {
         }
     }
     true
+}
+
+/// Whether a refused sync left both clocks as they were, for want of memory.
+fn is_refused(
+    clock: &Clock<u8>,
+    before: &Held,
+    refused: &Rejected<Clock<u8>>,
+    other: &Held,
+) -> bool {
+    refused.fault == ClockFault::NoMemory
+        && is_held(clock, before)
+        && is_held(&refused.value, other)
+}
+
+/// Takes in another clock, and again where memory is refused: then both are as before.
+pub fn takes_in(alloc: Global, clock: &mut Clock<u8>, steps: &[Step]) -> bool {
+    let mut other = Clock::new(alloc);
+    if !takes_all(&mut other, steps) {
+        return false;
+    }
+    let before = held(clock);
+    let others = held(&other);
+    match clock.sync(other) {
+        Ok(()) => true,
+        Err(refused) => {
+            is_refused(clock, &before, &refused, &others) && clock.sync(refused.value).is_ok()
+        }
+    }
 }
 
 /// Whether so many actors of one vnode each take a value.
