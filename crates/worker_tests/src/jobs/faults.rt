@@ -1,8 +1,15 @@
 //! A source that fails ends the run, and its workers are joined.
+ghost use Rattle.std.specs.Prelude.{◌≡◌};
+
 use crate::jobs::{Numbers, doubled};
-use job_pool::RunFault;
+use job_pool::{JobFault, Jobs, RunFault, Service, run};
+use std::alloc::Global;
 use std::process::Abort;
+use std::sync::Wait;
+use std::sync::atomic::{AtomicU64, Ordering};
 use std::test::*;
+use std::thread;
+use std::thread::Threads;
 
 // The source gives two jobs and then fails. The run ends by that fault, and the source is as its last call left it.
 #[test]
@@ -30,5 +37,100 @@ fn jobs_fail_at_once(rt: HostRuntime) -> Result<(), Fail> {
     let fault = doubled(&rt, rt.alloc(), &mut source, 4).err();
     assert!(rt; fault == Some(RunFault::JobsFailed));
     assert_eq!(rt; source.next, 7);
+    Ok(())
+}
+
+/// Gives numbers, and says so before it fails.
+#[derive(Drop)]
+struct Failing<'a> {
+    numbers: Numbers,
+    has_failed: &'a AtomicU64,
+}
+
+impl Jobs for Failing<'_> {
+    type Job = u32;
+
+    ghost use Rattle.std.specs.Prelude.{⊤};
+
+    ghost gives = { λ first given last. ⊤ };
+
+    fn next(&mut self) -> Result<Option<u32>, JobFault> {
+        let next = self.numbers.next();
+        if next.is_err() {
+            self.has_failed.store(1, Ordering::SeqCst);
+        }
+        next
+    }
+}
+
+/// How many turns a job waits for the source's failure at most, and how many after it.
+const TURNS: u32 = 1_000_000;
+
+const TURNS_AFTER: u32 = 1_000;
+
+/// Counts the jobs that it serves, each when the source has failed: until then all but one for each worker wait in the queue.
+#[derive(Drop)]
+struct Counter<'a> {
+    served: &'a AtomicU64,
+    has_failed: &'a AtomicU64,
+}
+
+impl Service for Counter<'_> {
+    type Job = u32;
+
+    type End = u32;
+
+    type Worker = ();
+
+    ghost use Rattle.std.specs.Prelude.{⊤};
+
+    ghost accepts = { λ service job. ⊤ };
+
+    ghost serves = { λ service first job last end. ⊤ };
+
+    fn serve(&self, _alloc: Global, _worker: (), job: u32) -> ((), u32) {
+        for _ in 0..TURNS {
+            if self.has_failed.load(Ordering::SeqCst) > 0 {
+                break;
+            }
+            thread::yield_now();
+        }
+        for _ in 0..TURNS_AFTER {
+            thread::yield_now();
+        }
+        self.served.fetch_add(1, Ordering::SeqCst);
+        ((), job)
+    }
+}
+
+/// How many of so many jobs two workers serve whose source then fails; none where the run ends otherwise.
+fn served_before_fault<T: Threads + Wait + Sync>(rt: &T, alloc: Global, jobs: u32) -> Option<u64> {
+    let served = AtomicU64::new(0);
+    let has_failed = AtomicU64::new(0);
+    let service = Counter {
+        served: &served,
+        has_failed: &has_failed,
+    };
+    let mut source = Failing {
+        numbers: Numbers {
+            next: 1,
+            left: jobs,
+            fails: true,
+        },
+        has_failed: &has_failed,
+    };
+    let mut workers = Vec::new(alloc);
+    workers.push(()).ok()?;
+    workers.push(()).ok()?;
+    match run(rt, alloc, &service, &mut source, workers) {
+        Err(RunFault::JobsFailed) => Some(served.load(Ordering::SeqCst)),
+        _ => None,
+    }
+}
+
+// The jobs that wait in the queue when the source fails are served before the run ends.
+#[test]
+fn jobs_that_wait_at_a_fault_are_served(rt: HostRuntime) -> Result<(), Fail> {
+    assert!(rt; served_before_fault(&rt, rt.alloc(), 100) == Some(100));
     Ok(())
 }

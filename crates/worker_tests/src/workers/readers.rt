@@ -11,6 +11,7 @@ use std::sync::atomic::{AtomicU64, Ordering};
 use std::test::*;
 use std::thread;
 use std::thread::Threads;
+use vnode_core::Tally;
 use worker_pool::Turnstile;
 
 /// How many turns the first call waits at most.
@@ -62,6 +63,11 @@ const TWO_GETS: Run = Run {
         refusals: 0,
         reaps: 0,
     }),
+    accepted: Tally {
+        writes: 0,
+        tombstones: 0,
+        reaps: 0,
+    },
 };
 
 /// Whether the second get was answered while the first was inside.

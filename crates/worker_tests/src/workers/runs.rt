@@ -8,7 +8,7 @@ use stats_book::Totals;
 use std::alloc::Global;
 use std::process::Abort;
 use std::sync::Wait;
-use std::sync::atomic::AtomicU64;
+use std::sync::atomic::{AtomicU64, Ordering};
 use std::test::*;
 use std::thread::Threads;
 use vnode_core::Tally;
@@ -23,8 +23,10 @@ pub struct Run {
     pub lines: &'static [Line],
     /// Whether the source fails behind its jobs.
     pub fails: bool,
-    /// What is counted, or why the run fails. All vnodes together accept what is counted.
+    /// What is counted, or why the run fails.
     pub totals: Result<Totals, PoolFault>,
+    /// What all vnodes together accept, also where the run fails: its jobs were served.
+    pub accepted: Tally,
 }
 
 /// One that is whole, one that is cut, and one whose writer fails.
@@ -80,6 +82,11 @@ const RUNS: &[Run] = &[
             refusals: 0,
             reaps: 1,
         }),
+        accepted: Tally {
+            writes: 2,
+            tombstones: 1,
+            reaps: 1,
+        },
     },
     Run {
         shows: "three jobs end in their order, one cut and one without a writer",
@@ -94,16 +101,25 @@ const RUNS: &[Run] = &[
             refusals: 0,
             reaps: 1,
         }),
+        accepted: THREE_ACCEPTED,
     },
     Run {
-        shows: "a source that fails behind its jobs fails the run",
+        shows: "a source that fails behind its jobs fails the run, and the jobs were served",
         partitions: 2,
         budget: 1,
         lines: THREE_JOBS,
         fails: true,
         totals: Err(PoolFault::JobsFailed),
+        accepted: THREE_ACCEPTED,
     },
 ];
+
+/// What the vnodes accept of the three jobs.
+const THREE_ACCEPTED: Tally = Tally {
+    writes: 3,
+    tombstones: 1,
+    reaps: 1,
+};
 
 /// Whether a session ended as its line says, and its reader and writer were ended once.
 fn is_end(end: &End<Input, Output<'_>>, line: &Line) -> bool {
@@ -142,21 +158,23 @@ fn sum_of(tallies: &[Tally]) -> Tally {
     sum
 }
 
-/// Whether the vnodes, so many, accepted what was counted.
-fn are_tallies(tallies: &[Tally], partitions: u16, totals: Totals) -> bool {
-    let sum = Tally {
+/// Whether the vnodes, so many, accepted what was counted, and what they are to accept.
+fn are_tallies(tallies: &[Tally], totals: Totals, run: &Run) -> bool {
+    let counted = Tally {
         writes: totals.puts,
         tombstones: totals.deletes,
         reaps: totals.reaps,
     };
-    tallies.len() == usize::from(partitions) && sum_of(tallies) == sum
+    tallies.len() == usize::from(run.partitions)
+        && sum_of(tallies) == counted
+        && counted == run.accepted
 }
 
 /// Whether what a run left is as it says.
 fn is_closed(closed: &Closed<Input, Output<'_>>, run: &Run) -> bool {
     run.totals == Ok(closed.totals)
         && are_ends(closed.ends.as_slice(), run.lines)
-        && are_tallies(closed.tallies.as_slice(), run.partitions, closed.totals)
+        && are_tallies(closed.tallies.as_slice(), closed.totals, run)
 }
 
 /// Whether a run over these gates, through a turnstile, comes to what it says. The replies are counted as they are written.
@@ -168,16 +186,41 @@ fn play_over<X: Threads + Wait + Sync, T: Turnstile + Sync>(
     turnstile: &T,
     run: &Run,
 ) -> bool {
+    let well_ended = AtomicU64::new(0);
     let script = Script {
         alloc,
         shared,
         writes,
+        well_ended: &well_ended,
         lines: run.lines,
         fails: run.fails,
     };
-    match play(rt, script, turnstile) {
+    let is_so = match play(rt, script, turnstile) {
         Ok(closed) => is_closed(&closed, run),
         Err(fault) => run.totals == Err(fault),
+    };
+    is_so && well_ended.load(Ordering::SeqCst) == run.lines.len() as u64
+}
+
+/// Whether a run without jobs over these gates finds that the vnodes accepted what a run before was to.
+fn is_accepted<X: Threads + Wait + Sync>(
+    rt: &X,
+    alloc: Global,
+    shared: &Shared,
+    run: &Run,
+) -> bool {
+    let number = AtomicU64::new(0);
+    let script = Script {
+        alloc,
+        shared,
+        writes: &number,
+        well_ended: &number,
+        lines: &[],
+        fails: false,
+    };
+    match play(rt, script, &Open) {
+        Ok(closed) => closed.ends.is_empty() && sum_of(closed.tallies.as_slice()) == run.accepted,
+        Err(_) => false,
     }
 }
 
@@ -190,7 +233,10 @@ pub fn play_anew<X: Threads + Wait + Sync, T: Turnstile + Sync>(
     run: &Run,
 ) -> bool {
     match new_shared(alloc, run.partitions, run.budget) {
-        Some(shared) => play_over(rt, alloc, &shared, writes, turnstile, run),
+        Some(shared) => {
+            play_over(rt, alloc, &shared, writes, turnstile, run)
+                && is_accepted(rt, alloc, &shared, run)
+        }
         None => false,
     }
 }

@@ -23,6 +23,8 @@ pub struct Script<'a> {
     pub alloc: Global,
     pub shared: &'a Shared,
     pub writes: &'a AtomicU64,
+    /// How many writers were ended with just their line's bytes.
+    pub well_ended: &'a AtomicU64,
     pub lines: &'a [Line],
     pub fails: bool,
 }
@@ -54,6 +56,8 @@ impl<'a> Jobs for Script<'a> {
                 held: Vec::new(self.alloc),
                 fails: line.fails,
                 writes: self.writes,
+                wanted: line.written,
+                well_ended: self.well_ended,
                 ended: 0,
             },
             passes,

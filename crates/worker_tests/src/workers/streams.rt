@@ -37,6 +37,9 @@ pub struct Output<'a> {
     pub held: Vec<u8>,
     pub fails: bool,
     pub writes: &'a AtomicU64,
+    /// What it is to hold when it is ended, and a number that is raised where it does.
+    pub wanted: &'static [u8],
+    pub well_ended: &'a AtomicU64,
     pub ended: u32,
 }
 
@@ -61,6 +64,9 @@ impl Write for Output<'_> {
 
 impl EndWrite for Output<'_> {
     fn ended(&mut self) {
+        if self.held.as_slice() == self.wanted {
+            self.well_ended.fetch_add(1, Ordering::SeqCst);
+        }
         self.ended = self.ended.saturating_add(1);
     }
 }
