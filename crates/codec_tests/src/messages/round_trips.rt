@@ -186,6 +186,24 @@ const MESSAGES: &[Message] = &[
         code: 12,
         body: b"\x0a\x2a\x0a\x01v\x12\x01t\x1a\x01c\x22\x01e\x32\x06\x0a\x01b\x1a\x01t\x32\0\x4a\x03\x0a\x01m\x4a\x05\x0a\x01n\x12\0\x52\x06\x0a\x01i\x12\x01x",
     },
+    Message {
+        shows: "a get of a type, a bucket and a key of twenty bytes",
+        kind: Kind::Request,
+        code: 9,
+        body: b"\x0a\x14a bucket of 20 bytes\x12\x14and a key of as manyj\x14its type of 20 bytes",
+    },
+    Message {
+        shows: "a put under such names, with details as long",
+        kind: Kind::Request,
+        code: 11,
+        body: b"\x0a\x14a bucket of 20 bytes\x12\x14and a key of as many\x22\xbf\x01\x0a\x01v\x12\x15text/plain; charset=x2C\x0a\x14the bucket of a link\x12\x15the key that it names\x1a\x14the tag of that linkJ-\x0a\x14a name of usermeta..\x12\x15and the value of it..R/\x0a\x14an index of 20 bytes\x12\x17and what it is found by8\x01\x82\x01\x14its type of 20 bytes",
+    },
+    Message {
+        shows: "the reply to a put with details as long",
+        kind: Kind::Reply,
+        code: 12,
+        body: b"\x0a\xbf\x01\x0a\x01v\x12\x15text/plain; charset=x2C\x0a\x14the bucket of a link\x12\x15the key that it names\x1a\x14the tag of that linkJ-\x0a\x14a name of usermeta..\x12\x15and the value of it..R/\x0a\x14an index of 20 bytes\x12\x17and what it is found by\x12\x11\x01\0\0\0\0\0\x01\0\0\0\0\0\x01\0\0\0\x01",
+    },
 ];
 
 fn write_read_request(
