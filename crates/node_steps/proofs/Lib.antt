@@ -12,6 +12,7 @@ pub mod Rows
 mod Fitting
 mod Following
 mod Looking
+mod Looked
 mod Publishing
 mod Stepping
 mod Finding

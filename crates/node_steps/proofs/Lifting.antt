@@ -4,17 +4,18 @@ use Rattle.std.specs.Prelude.{pred, Option, Some, None, Result, slice_get, slice
 use Rattle.std.specs.Option.{option_map_or}
 use Rattle.std.proofs.lemmas.Option.{some_pair_parts}
 use Rattle.riak_msgs.specs.Contents.{Content}
-use Rattle.vnode_machine.specs.Machine.{State}
+use Rattle.vnode_machine.specs.Machine.{State, stored}
 use Rattle.vnode_machine.specs.Replay.{History, replay, HasReplay}
 use Rattle.vnode_machine.specs.Step.{Response}
 use Rattle.vnode_machine.specs.Runs.{IsAnswer}
 use Rattle.vnode_machine.proofs.Legals.{replay_is_legal}
 use Rattle.vnode_machine.proofs.DifferentDots.{no_dot_twice}
 use Rattle.vnode_machine.proofs.LiveDots.{dots_are_of_lives}
+use Rattle.vnode_machine.proofs.Steps.{known, alive, held_by}
 use Rattle.node_steps.specs.World.{Phase, Idle, Asked, Reading, Holding, Done, Vnode, Worker, World, Call, worker_at, id_at, history_at, prefix_of, prefix_at, call_of, call_at}
 use Rattle.node_steps.specs.Steps.{Step, Outcome, NotPossible, Happened, Replied, Turn, turned, happens}
 use Rattle.node_steps.specs.Schedules.{IsPrefix}
-use Rattle.node_steps.specs.Claims.{HistoriesAreLegal, LooksShowReplays, state_shown, RepliesAreRegisters, NothingElseHappens, RepliesHaveSeen, NoDotIsIssuedTwice}
+use Rattle.node_steps.specs.Claims.{HistoriesAreLegal, LooksShowReplays, state_shown, RepliesAreRegisters, NothingElseHappens, RepliesHaveSeen, NoDotIsIssuedTwice, LivesAreOfDefinedKeys}
 use Rattle.node_steps.proofs.Lists.{how_many, set-here, set-there, same_or_other, counted_one}
 use Rattle.node_steps.proofs.Inside.{is_reader, reads, holds, IsInHand, same_test, IsAware}
 use Rattle.node_steps.proofs.Turns.{IsReplyTo, Comes, IsTurn, place_read}
@@ -32,6 +33,14 @@ histories_are_legal w orderly step = λ index. (replays_at w orderly index, repl
 
 pub no_dots_twice : (w : World) → IsOrderly w → (step : Step) → NoDotIsIssuedTwice w step
 no_dots_twice w orderly step = λ index. (no_dot_twice (id_at w index) 0 (history_at w index), dots_are_of_lives (id_at w index) 0 (history_at w index))
+
+pub lives_are_defined : (w : World) → IsOrderly w → (step : Step) → LivesAreOfDefinedKeys w step
+lives_are_defined w orderly step = λ index key.
+    let id = id_at w index in
+    let history = history_at w index in
+    let k = known id 0 history (replays_at w orderly index) in
+    let o = stored (replay id 0 history) key in
+    alive id 0 history k key o (k.keys key) ∙ sym (held_by id 0 history k key o (k.keys key))
 
 pub looks_show_replays : (w : World) → IsOrderly w → (step : Step) → LooksShowReplays w step
 looks_show_replays w orderly step = λ index worker vnode state worker_is vnode_is shows.

@@ -91,6 +91,13 @@ put_back_unmarks : outcomes (opening_world 1 2 1)
     ≡ Happened ∷ Happened ∷ NotPossible ∷ Happened ∷ NotPossible ∷ NotPossible ∷ Happened ∷ Happened ∷ Happened ∷ []
 put_back_unmarks = refl
 
+-- a reader that leaves keeps the mark: no reader enters until it is taken away
+leave_keeps_mark : outcomes (opening_world 1 3 1)
+    (does 1 (Asks 0 get) ∷ does 2 (Asks 0 put) ∷ does 3 (Asks 0 get) ∷ does 1 Enters ∷ does 2 Marks ∷ does 1 Leaves ∷ does 3 Enters ∷ does 2 Marks
+    ∷ does 2 Unmarks ∷ does 3 Enters ∷ [])
+    ≡ Happened ∷ Happened ∷ Happened ∷ Happened ∷ Happened ∷ Happened ∷ NotPossible ∷ NotPossible ∷ Happened ∷ Happened ∷ []
+leave_keeps_mark = refl
+
 -- a publish without a look, a look from outside, and a worker that isn't there
 not_possible : outcomes (opening_world 1 1 1)
     (does 1 (Asks 0 put) ∷ does 1 Enters ∷ does 1 Takes ∷ does 1 Publishes ∷ does 1 Leaves ∷ does 1 Puts ∷ does 1 Looks

@@ -187,6 +187,9 @@ module _ (index : ℕ) (key : Key) where
       events = events_next;
     })
 
+is_some : (r : World × Outcome) → Some r ≡ None → ⊥
+is_some r h = cc
+
 not_shown : (response : Response) → NotPossible ≡ Replied (Ok response) → ⊥
 not_shown response h = cc
 
@@ -224,7 +227,7 @@ module _ (start : Start) (is : IsStart start) (index : ℕ) (key : Key) where
           let w : World = world_after start earlier in
           let p = possible w step r h in
           subst (λ q. IsNamed index key q.0 (WasShown start index key (step ∷ earlier))) p.gives
-          (named_next index key w (orderly start is earlier) step r p (WasShown start index key earlier) named gives.1 (outcome w step)
+          (named_next index key w (orderly start is earlier) step r p (WasShown start index key earlier) named (gives.1 (λ none. is_some r (sym h ∙ none))) (outcome w step)
           (ap (λ (q : World × Outcome). q.1) p.gives ∙ sym (ap (λ o. option_map_or (λ (r : World × Outcome). r.1) o NotPossible) h)) (WasShown start index key (step ∷ earlier))
           (λ context s. elim s [
             | inl now ↦ inl (record { call = now.call; asked = now.asked; at = now.at; of_key = now.of_key; response = now.response; replied = now.replied; decodes = now.decodes })

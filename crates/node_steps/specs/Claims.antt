@@ -1,23 +1,23 @@
 -- What is claimed of every schedule, claim by claim: of the world after it, and of any step from there.
-use Rattle.std.specs.Prelude.{◌≡◌, ◌≢◌, ◌⊎◌, ◌++◌, List, ◌∷◌, ℕ, not, Option, Some, None, Result, IsTrue, slice_get}
+use Rattle.std.specs.Prelude.{◌≡◌, ◌≢◌, ◌⊎◌, ◌++◌, List, ◌∷◌, ℕ, not, Option, Some, None, Result, Ok, Err, IsTrue, slice_get}
 use Rattle.riak_msgs.specs.declared.Key.{Key}
 use Rattle.riak_msgs.specs.Contents.{Content}
 use Rattle.sibling_register.specs.History.{Event, content_of}
-use Rattle.sibling_register.specs.Siblings.{siblings, is_among}
+use Rattle.sibling_register.specs.Siblings.{siblings, is_among, is_defined}
 use Rattle.sibling_register.specs.Legal.{IsLegal}
 use Rattle.sibling_register.specs.Leaving.{is_seen_in}
 use Rattle.actor_epoch.specs.declared.Dot.{Dot}
 use Rattle.actor_epoch.specs.Given.{Context}
 use Rattle.vnode_machine.specs.Machine.{State}
-use Rattle.vnode_machine.specs.Lives.{dot_of}
+use Rattle.vnode_machine.specs.Lives.{dot_of, is_alive}
 use Rattle.vnode_machine.specs.Replay.{History, naming, HasReplay, IsAfter}
-use Rattle.vnode_machine.specs.Step.{Response}
+use Rattle.vnode_machine.specs.Step.{Response, StepOutcome, Refused, Answered, Accepted, outcome as outcome_of_ask}
 use Rattle.vnode_machine.specs.Contexts.{SawPosition}
 use Rattle.vnode_machine.specs.Runs.{IsAnswer}
 use Rattle.vnode_machine.specs.Laws.{NoDotTwice, DotsAreOfLives}
 use Rattle.vnode_machine.specs.Leaving.{is_taken_in}
 use Rattle.node_steps.specs.World.{Phase, Reading, Holding, Vnode, Worker, World, Call, worker_at, id_at, history_at, prefix_at, call_at}
-use Rattle.node_steps.specs.Steps.{Step, Replied, after, outcome}
+use Rattle.node_steps.specs.Steps.{Looks, Step, Outcome, Happened, Replied, happens, after, outcome}
 use Rattle.node_steps.specs.Schedules.{Start, IsStart, world_after, IsPrefix}
 use Rattle.node_steps.specs.Contexts.{GivesShown}
 
@@ -42,6 +42,25 @@ LooksShowReplays w step =
     (index : ℕ) (worker : Worker) (vnode : Vnode) (state : State Content)
     → worker_at w step.worker ≡ Some worker → slice_get w.vnodes index ≡ Some vnode
     → state_shown worker.phase vnode ≡ Some (index, state) → IsAfter vnode.id 0 vnode.history state
+
+-- what comes of a look, by what the machine does with the call in the state that is shown
+abbrev pub comes_of : StepOutcome → Outcome
+comes_of (Refused number) = Replied (Err number)
+comes_of (Answered response) = Replied (Ok response)
+comes_of (Accepted operation response next) = Happened
+
+-- a look is shown the replay of its vnode's whole history at that step, and what comes of it is what the machine does with
+-- the worker's call in that state
+pub record SeesReplay (w : World) (step : Step) (came : Outcome) : Type 0 where
+  pub call : Call
+  pub asked : call_at w step.worker ≡ Some call
+  pub state : State Content
+  pub replay : IsAfter (id_at w call.index) 0 (history_at w call.index) state
+  pub comes : came ≡ comes_of (outcome_of_ask state call.ask)
+
+-- each look that is possible does
+abbrev pub LooksSeeReplays : World → Step → Type 0
+LooksSeeReplays w step = step.action ≡ Looks → (came : World × Outcome) → happens w step ≡ Some came → SeesReplay w step came.1
 
 -- a reply answers the worker's call as the register may at the end of the vnode's history, which then is the one after
 pub record IsRegisters (w : World) (step : Step) (reply : Result Response ℕ) : Type 0 where
@@ -78,6 +97,10 @@ RepliesHaveSeen w step =
 abbrev pub NoDotIsIssuedTwice : World → Step → Type 0
 NoDotIsIssuedTwice w step =
     (index : ℕ) → NoDotTwice (id_at w index) 0 (history_at w index) × DotsAreOfLives (id_at w index) 0 (history_at w index)
+
+-- a key is in a life exactly where it is defined
+abbrev pub LivesAreOfDefinedKeys : World → Step → Type 0
+LivesAreOfDefinedKeys w step = (index : ℕ) (key : Key) → is_alive (history_at w index) key ≡ is_defined (history_at w index) key
 
 -- a write is a sibling of its key at one position of a history, and at a later one it isn't
 pub record Leaves (history between position : History) (key : Key) (number : ℕ) : Type 0 where

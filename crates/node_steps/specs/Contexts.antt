@@ -1,12 +1,12 @@
 -- Which contexts were given for a key, and which were shown for it.
-use Rattle.std.specs.Prelude.{◌≡◌, ◌⊎◌, ◌&&◌, ◌==◌, if◌then◌else◌, List, [], ◌∷◌, ℕ, Option, Some, None, Ok}
+use Rattle.std.specs.Prelude.{◌≡◌, ◌≢◌, ◌⊎◌, ◌&&◌, ◌==◌, if◌then◌else◌, List, [], ◌∷◌, ℕ, Option, Some, None, Ok}
 use Rattle.riak_msgs.specs.declared.Key.{Key}
 use Rattle.riak_msgs.specs.KeyOrder.{key_eq}
 use Rattle.actor_epoch.specs.Given.{Context, context_of}
 use Rattle.vnode_machine.specs.Step.{Response, GetDone, PutDone, DelDone, ReapDone, ReapKept}
 use Rattle.vnode_machine.specs.Registers.{key_of, context_in_ask}
 use Rattle.node_steps.specs.World.{World, Call, call_at}
-use Rattle.node_steps.specs.Steps.{Action, Asks, Step, Replied, outcome}
+use Rattle.node_steps.specs.Steps.{Action, Asks, Step, Replied, happens, outcome}
 use Rattle.node_steps.specs.Schedules.{Start, world_after}
 
 -- the context by which an action's command has seen something of the key at the vnode of an index
@@ -38,8 +38,10 @@ module _ (start : Start) (index : ℕ) (key : Key) where
   WasShown [] context = ⊥
   WasShown (step ∷ earlier) context = Shows (world_after start earlier) step index key context ⊎ WasShown earlier context
 
-  -- each context that was given for the key had been shown for it before
+  -- each context that was given for the key had been shown for it before; a step that isn't possible gives none
   abbrev pub GivesShown : List Step → Type 0
   GivesShown [] = Unit {0}
   GivesShown (step ∷ earlier) =
-      GivesShown earlier × ((context : Context) → given_by step.action index key ≡ Some context → WasShown earlier context)
+      GivesShown earlier
+      × (happens (world_after start earlier) step ≢ None
+      → (context : Context) → given_by step.action index key ≡ Some context → WasShown earlier context)

@@ -5,6 +5,7 @@ ghost use Rattle.vnode_protocol.specs.declared.ask.Ask.TheVariants.{Put, Del, Re
 ghost use Rattle.node_steps.specs.Asked.{CallsFor};
 ghost use Rattle.node_steps.specs.Running.{IsChangeOf};
 
+use crate::copies::{copy_of_del, copy_of_put};
 use riak_msgs::{DelAsk, GetAsk, Key, PutAsk, Request};
 use std::alloc::{AllocError, Global};
 use vnode_core::Ask;
@@ -28,31 +29,6 @@ pub(crate) fn call_of(alloc: Global, request: Request) -> Result<Option<Call>, A
         Request::Put(put) => Ok(Some(Call::Put(Box::new(alloc, put)?))),
         Request::Del(del) => Ok(Some(Call::Del(Box::new(alloc, del)?))),
     }
-}
-
-/// A copy of a put.
-fn copy_of_put(alloc: Global, put: &PutAsk) -> Result<PutAsk, AllocError>
-    ensures { IfOk result (λ copy. copy ≡ put.now) }
-{
-    Ok(PutAsk {
-        key: put.key.clone(alloc)?,
-        context: put.context.clone(alloc)?,
-        content: put.content.clone(alloc)?,
-        return_body: put.return_body,
-        return_head: put.return_head,
-        if_not_modified: put.if_not_modified,
-        if_none_match: put.if_none_match,
-    })
-}
-
-/// A copy of a delete.
-fn copy_of_del(alloc: Global, del: &DelAsk) -> Result<DelAsk, AllocError>
-    ensures { IfOk result (λ copy. copy ≡ del.now) }
-{
-    Ok(DelAsk {
-        key: del.key.clone(alloc)?,
-        context: del.context.clone(alloc)?,
-    })
 }
 
 impl Call {

@@ -35,6 +35,7 @@
 
 mod acts;
 mod call;
+mod copies;
 mod fault;
 mod hand;
 mod laws;

@@ -1,6 +1,10 @@
 //! A step of a running world.
 
+ghost use Rattle.std.specs.Prelude.{◌≡◌, IfOk};
+
+use crate::copies::copy_of_request;
 use riak_msgs::{Key, Request};
+use std::alloc::{AllocError, Global};
 
 /// What one worker does next. Workers are numbered from 1, vnodes from 0.
 #[derive(Drop)]
@@ -25,6 +29,29 @@ pub enum Step {
     Look(u16),
     /// It publishes what it planned at its look.
     Publish(u16),
+}
+
+impl Step {
+    /// A copy, with that of its request or key.
+    pub fn clone(&self, alloc: Global) -> Result<Step, AllocError>
+        ensures { IfOk result (λ copy. copy ≡ self.now) }
+    {
+        match self {
+            Step::Ask(worker, vnode, request) => {
+                let request = copy_of_request(alloc, request)?;
+                Ok(Step::Ask(*worker, *vnode, request))
+            }
+            Step::Reap(worker, vnode, key) => { Ok(Step::Reap(*worker, *vnode, key.clone(alloc)?)) }
+            Step::Enter(worker) => Ok(Step::Enter(*worker)),
+            Step::Leave(worker) => Ok(Step::Leave(*worker)),
+            Step::Mark(worker) => Ok(Step::Mark(*worker)),
+            Step::Unmark(worker) => Ok(Step::Unmark(*worker)),
+            Step::Take(worker) => Ok(Step::Take(*worker)),
+            Step::Put(worker) => Ok(Step::Put(*worker)),
+            Step::Look(worker) => Ok(Step::Look(*worker)),
+            Step::Publish(worker) => Ok(Step::Publish(*worker)),
+        }
+    }
 }
 
 /// What a worker that has a call does.

@@ -117,16 +117,17 @@ impl World {
         self.parts.step(alloc, step)
     }
 
-    /// Makes room for the outcomes, and takes the steps in their order. Where memory is refused for a step those before it
-    /// are taken.
-    pub fn run(&mut self, alloc: Global, steps: Vec<Step>) -> Result<Vec<Outcome>, StepFault>
+    /// Makes room for the outcomes, and takes the steps in their order, each as a copy. Where memory is refused for a step
+    /// those before it are taken.
+    pub fn run(&mut self, alloc: Global, steps: &[Step]) -> Result<Vec<Outcome>, StepFault>
         ensures ok { IfOk result (λ outcomes.
-            FollowsAll self.old steps.items outcomes.items self.new) }
-        ensures err { OnErr result (FollowsSome self.old steps.items self.new) }
+            FollowsAll self.old steps.now outcomes.items self.new) }
+        ensures err { OnErr result (FollowsSome self.old steps.now self.new) }
     {
         let mut outcomes = Vec::with_capacity(alloc, steps.len())?;
         for step in steps {
-            let outcome = self.step(alloc, step)?;
+            let copy = step.clone(alloc)?;
+            let outcome = self.step(alloc, copy)?;
             let Ok(()) = outcomes.push(outcome) else {
                 return Err(StepFault::NoMemory);
             };

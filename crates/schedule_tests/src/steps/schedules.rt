@@ -209,7 +209,7 @@ fn runs(world: &mut World, alloc: Global) -> bool {
     let Ok(steps) = four_steps(alloc) else {
         return false;
     };
-    let outcomes = world.run(alloc, steps);
+    let outcomes = world.run(alloc, steps.as_slice());
     let is_so = are_as_taken(&outcomes);
     let_go(outcomes);
     is_so

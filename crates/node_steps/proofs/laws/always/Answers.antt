@@ -1,6 +1,7 @@
 use Rattle.node_steps.specs.Schedules.{world_after}
 use Rattle.node_steps.proofs.Kept.{orderly}
-use Rattle.node_steps.proofs.Lifting.{histories_are_legal, looks_show_replays, replies_are_registers, nothing_else_happens, replies_have_seen, no_dots_twice}
+use Rattle.node_steps.proofs.Lifting.{histories_are_legal, looks_show_replays, replies_are_registers, nothing_else_happens, replies_have_seen, no_dots_twice, lives_are_defined}
+use Rattle.node_steps.proofs.Looked.{looks_see_replays}
 use Rattle.node_steps.proofs.Leaving.{values_leave_only_covered}
 use Rattle.node_steps.proofs.Showing.{values_leave_only_seen}
 use Rattle.node_steps.proofs.laws.always.Goals as goal
@@ -10,6 +11,9 @@ returns-clause-histories c = λ start is schedule step. histories_are_legal (wor
 
 pub returns-clause-looks : goal.returns-clause-looks
 returns-clause-looks c = λ start is schedule step. looks_show_replays (world_after start schedule) (orderly start is schedule) step
+
+pub returns-clause-looked : goal.returns-clause-looked
+returns-clause-looked c = λ start is schedule step. looks_see_replays (world_after start schedule) (orderly start is schedule) step
 
 pub returns-clause-answers : goal.returns-clause-answers
 returns-clause-answers c = λ start is schedule step. replies_are_registers (world_after start schedule) step (orderly start is schedule)
@@ -22,6 +26,9 @@ returns-clause-seen c = λ start is schedule step. replies_have_seen (world_afte
 
 pub returns-clause-dots : goal.returns-clause-dots
 returns-clause-dots c = λ start is schedule step. no_dots_twice (world_after start schedule) (orderly start is schedule) step
+
+pub returns-clause-lives : goal.returns-clause-lives
+returns-clause-lives c = λ start is schedule step. lives_are_defined (world_after start schedule) (orderly start is schedule) step
 
 pub returns-clause-covered : goal.returns-clause-covered
 returns-clause-covered c = λ start is schedule step. values_leave_only_covered (world_after start schedule) (orderly start is schedule) step
