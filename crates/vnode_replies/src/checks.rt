@@ -15,7 +15,7 @@ use riak_msgs::PutAsk;
 use vnode_protocol::Refusal;
 
 /// The most siblings of a key.
-const MAX_SIBLINGS: u128 = 64;
+pub(crate) const MAX_SIBLINGS: u128 = 64;
 
 /// Who makes a write: the actor of its key's life, or the next one's where it begins a life; and the last epoch that is
 /// given once it is made.

@@ -10,6 +10,7 @@ ghost use Rattle.vnode_machine.specs.Replies.{shown};
 ghost use Rattle.vnode_replies.specs.Replies.{nothing, nothing_after, is_its, all_shown, siblings_of, reply_after, filled, clock_after, clock_found, RefersTo, Previews, FitsPut};
 ghost use Rattle.clock_store.specs.Keys.{stored_of};
 
+use crate::checks::MAX_SIBLINGS;
 use actor_epoch::{Actor, Context, Counter};
 use clock_store::StoredClock;
 use dvv_set::Clock;
@@ -55,11 +56,16 @@ fn show_content(alloc: Global, content: &Content, is_bare: bool) -> Result<Shown
     })
 }
 
+/// The room that copies of a clock's values are given at once: theirs, since a key has no more siblings than its limit.
+fn room_for<V: MadeWith<Global> + Drop>(clock: &Clock<V>) -> usize {
+    clock.uncovered(None).min(MAX_SIBLINGS) as usize
+}
+
 /// Copies of a key's siblings as a reply shows them.
 fn show_all(alloc: Global, key: &StoredClock, is_bare: bool) -> Result<Sequence<Shown>, AllocError>
     ensures { IfOk result (λ all. all ≡ all_shown is_bare key.now.clock.meaning) }
 {
-    let mut all = Sequence::with_capacity(alloc, key.clock.uncovered(None) as usize)?;
+    let mut all = Sequence::with_capacity(alloc, room_for(&key.clock))?;
     for sibling in key.clock.values() {
         all.push(show(alloc, sibling, is_bare)?)?;
     }
@@ -227,7 +233,7 @@ fn show_after(
     ensures { IfOk result (λ all. all ≡
         map (λ entry. shown is_bare (filled content.now entry.1)) after.now.meaning.live) }
 {
-    let mut all = Sequence::with_capacity(alloc, after.uncovered(None) as usize)?;
+    let mut all = Sequence::with_capacity(alloc, room_for(after))?;
     for sibling in after.values() {
         all.push(show_filled(alloc, *sibling, content, is_bare)?)?;
     }
