@@ -40,6 +40,32 @@ not_dead true same o e h = ap (λ b. is_dead (cond b None o)) e
 not_dead false same None e h = refl
 not_dead false same (Some s) e h = ap not h
 
+-- a key with room that is not dead, nor may be after the write, has no entry
+pub no_entry : (places : Places) (old : Clocks) (dead : Index) (room : Room) (key : Key) (reserved : Reservation) → IsMap places old dead (Some room)
+    → ReservedAt places old room key reserved → has_no_mark old room ≡ true → tree.get key_cmp dead key ≡ None
+no_entry places old dead room key reserved holds at h = by (tree.get key_cmp dead key) refl
+  where
+    alive : is_dead (shown_of places old (Some room) key) ≡ false
+    alive =
+        ap (λ o. is_dead (option_and_then (shown_at old (Some room)) o)) at.placed
+        ∙ not_dead room.is_new (room.place == room.place) (stored_at old room.place) (nat_eq-refl room.place) (and_right (not room.may_die) _ h)
+
+    by : (o : Option DeadMark) → tree.get key_cmp dead key ≡ o → o ≡ None
+    by None is = refl
+    by (Some Spare) is =
+        let may = holds.spare key is in
+        let same : room ≡ may.0 = (let e = may.1 in cc) in
+        clash (sym (and_left (not room.may_die) _ h) ∙ ap not (ap (λ (r : Room). r.may_die) same ∙ may.2))
+    by (Some Dead) is = clash (sym (ap is_marked is) ∙ holds.marks key ∙ alive)
+
+-- where the key of the room may not die, no entry is spare
+pub no_spares : (places : Places) (clocks : Clocks) (dead : Index) (room : Room) → IsMap places clocks dead (Some room) → room.may_die ≡ false
+    → (q : Key) → tree.get key_cmp dead q ≡ Some Spare → ⊥
+no_spares places clocks dead room holds h q is =
+    let may = holds.spare q is in
+    let same : room ≡ may.0 = (let e = may.1 in cc) in
+    clash (sym (ap (λ (r : Room). r.may_die) same ∙ may.2) ∙ h)
+
 -- a write in the room of a key
 module _ (places : Places) (old new : Clocks) (dead : Index) (room : Room) (key : Key) (actor : Actor) (value : Option Content)
     (left : DotState (Option Content) → DotState (Option Content)) (holds : IsMap places old dead (Some room)) (reserved : Reservation)
@@ -50,20 +76,7 @@ module _ (places : Places) (old new : Clocks) (dead : Index) (room : Room) (key 
 
   -- a key that isn't dead before the write, nor may be after it, has no entry
   pub unmarked : has_no_mark old room ≡ true → tree.get key_cmp dead key ≡ None
-  unmarked h = by (tree.get key_cmp dead key) refl
-    where
-      alive : is_dead (shown_of places old (Some room) key) ≡ false
-      alive =
-          ap (λ o. is_dead (option_and_then (shown_at old (Some room)) o)) at.placed
-          ∙ not_dead room.is_new (room.place == room.place) (stored_at old room.place) (nat_eq-refl room.place) (and_right (not room.may_die) _ h)
-
-      by : (o : Option DeadMark) → tree.get key_cmp dead key ≡ o → o ≡ None
-      by None is = refl
-      by (Some Spare) is =
-          let may = holds.spare key is in
-          let same : room ≡ may.0 = (let e = may.1 in cc) in
-          clash (sym (and_left (not room.may_die) _ h) ∙ ap not (ap (λ (r : Room). r.may_die) same ∙ may.2))
-      by (Some Dead) is = clash (sym (ap is_marked is) ∙ holds.marks key ∙ alive)
+  unmarked h = no_entry places old dead room key reserved holds at h
 
   abbrev after : Stored Content
   after = record { own = Some actor; clock = event actor value (left wrote.stored.clock.meaning) }

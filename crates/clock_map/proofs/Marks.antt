@@ -353,3 +353,9 @@ and_true false = refl
 pub some_copied : {A : Type 0} (o : Option (Bor A)) → is_some (option_map (λ (k : Bor A). k.now) o) ≡ is_some o
 some_copied None = refl
 some_copied (Some k) = refl
+
+-- what is no spare entry stays
+pub without_none : (o : Option DeadMark) → (o ≡ Some Spare → ⊥) → o ≡ without_spare o
+without_none None h = refl
+without_none (Some Spare) h = absurd (h refl)
+without_none (Some Dead) h = refl

@@ -1,6 +1,7 @@
 //! The dead keys in their order.
 
-ghost use Rattle.std.specs.Prelude.{◌≡◌, true, false, OnOk, OnErr, IsSome, IfSome, IfNone, None, drop};
+ghost use Rattle.std.specs.Prelude.{◌≡◌, true, false, OnOk, OnErr, IsSome, IfSome, IfNone, Some, None, is_some, drop};
+ghost use Rattle.clock_map.specs.declared.index.DeadMark.TheVariants.{Spare};
 ghost use Rattle.std.specs.BTreeMap.{get, IsOrdered};
 ghost use Rattle.riak_msgs.specs.KeyOrder.{key_cmp};
 ghost use Rattle.std.specs.Option.{option_map};
@@ -33,19 +34,33 @@ impl DeadMark {
     }
 }
 
-/// Makes a spare entry for a key, where it has none. Refused where memory is, and then nothing changes.
+/// Whether a key has an entry; one that is known to have none isn't searched for.
+fn has_entry(index: &BTreeMap<Key, DeadMark>, key: &Key, is_absent: bool) -> bool
+    requires { is_absent ≡ true → get key_cmp index.now key.now ≡ None }
+    ensures { result ≡ is_some (get key_cmp index.now key.now) }
+{
+    if is_absent {
+        return false;
+    }
+    index.contains_key(key)
+}
+
+/// Makes a spare entry for a key, where it has none; a key that is known to have none isn't searched for. Refused where
+/// memory is, and then nothing changes.
 pub(crate) fn add_spare(
     index: &mut BTreeMap<Key, DeadMark>,
     alloc: Global,
     key: &Key,
+    is_absent: bool,
 ) -> Result<(), AllocError>
+    requires { is_absent ≡ true → get key_cmp index.old key.now ≡ None }
     ensures marked { (q : Key) →
         is_marked (get key_cmp index.new q) ≡ is_marked (get key_cmp index.old q) }
     ensures spare { (q : Key) → SpareIsNew index.old index.new key.now q }
     ensures ok { OnOk result (IsSome (get key_cmp index.new key.now)) }
     ensures err { OnErr result ((q : Key) → get key_cmp index.new q ≡ get key_cmp index.old q) }
 {
-    if index.contains_key(key) {
+    if has_entry(index, key, is_absent) {
         return Ok(());
     }
     let own = key.clone(alloc)?;
@@ -89,11 +104,21 @@ pub(crate) fn update_mark(
     }
 }
 
-/// Takes the spare entries out, by a pass over all of them.
-pub(crate) fn drop_spares(index: &mut BTreeMap<Key, DeadMark>)
+/// Takes the spare entries out, by a pass over all entries.
+fn retain_dead(index: &mut BTreeMap<Key, DeadMark>)
     ensures { (q : Key) → get key_cmp index.new q ≡ without_spare (get key_cmp index.old q) }
 {
     index.retain(|_key, mark| mark.is_dead());
+}
+
+/// Takes the spare entries out; where there can be none, none is looked for.
+pub(crate) fn drop_spares(index: &mut BTreeMap<Key, DeadMark>, may_have: bool)
+    requires { may_have ≡ false → (q : Key) → get key_cmp index.old q ≡ Some Spare → ⊥ }
+    ensures { (q : Key) → get key_cmp index.new q ≡ without_spare (get key_cmp index.old q) }
+{
+    if may_have {
+        retain_dead(index);
+    }
 }
 
 /// The first dead key of a part of the index.

@@ -20,7 +20,8 @@
 //! the place that was reserved, and is one search among d where the key was dead or may be. A look for a dead key is a search among d; forgetting the least
 //! one is a search among d and one among n, and forgetting the least one at or after a key also passes over the dead keys
 //! before that.
-//! Room that a write never used is taken away by a search among n where the key was new, and a pass over the d dead keys.
+//! Room that a write never used is taken away by a search among n where the key was new, and a pass over the d dead keys
+//! where it was a tombstone's.
 //! A key's bytes are held once, a second time while it is dead or may be, and a second time while a new key has room.
 #![tactic(auto)]
 

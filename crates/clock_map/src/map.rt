@@ -110,10 +110,11 @@ impl ClockMap {
         ensures ok { OnOk result (self.new.room ≡ allowing_death self.old.room) }
         ensures err { OnErr result (self.new.room ≡ self.old.room) }
     {
-        index::add_spare(&mut self.dead, alloc, key)?;
         let Some(mut room) = self.room else {
             unreachable!()
         };
+        let is_absent = places::has_no_mark(&self.clocks, room);
+        index::add_spare(&mut self.dead, alloc, key, is_absent)?;
         room.may_die = true;
         self.room = Some(room);
         Ok(())
@@ -195,7 +196,7 @@ impl ClockStore for ClockMap {
         if let Some(room) = self.room.take() {
             let spare = self.spare.take();
             places::drop_spare(&mut self.places, &mut self.clocks, room, spare);
-            index::drop_spares(&mut self.dead);
+            index::drop_spares(&mut self.dead, room.may_die);
         }
     }
 

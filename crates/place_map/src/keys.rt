@@ -24,8 +24,8 @@ pub(crate) fn one_key(
     }
 }
 
-/// Gives a key a place, which replaces the one that it has: the key is copied only where it is new. Refused where memory
-/// is, and then nothing changes.
+/// Gives a key a place, which replaces the one that it has, by one search. The key is copied first; where it is held
+/// already its copy is let go. Refused where memory is, and then nothing changes.
 pub(crate) fn insert_key(
     keys: &mut BTreeMap<Bytes, usize>,
     alloc: Global,
@@ -37,13 +37,8 @@ pub(crate) fn insert_key(
     ensures refused { OnErr result (keys.new.entries ≡ keys.old.entries) }
     ensures ordered { IsOrdered bytes_cmp keys.new }
 {
-    match keys.get_mut(key) {
-        Some(held) => {
-            *held = place;
-            return Ok(());
-        }
-        None => {}
-    }
+    // No call for the count: what a map's call gives is that its keys are in order, also where the copy is refused.
+    let _count = keys.len();
     let own = key.clone(alloc)?;
     match keys.insert(own, place) {
         Ok(_) => Ok(()),

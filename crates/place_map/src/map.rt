@@ -61,9 +61,8 @@ impl PlaceMap {
         }
     }
 
-    /// Gives a key a place, which replaces the one that it has. Only what is not held yet is copied: the key's bytes, its
-    /// bucket and its bucket type, each where it is new. Refused where memory is, and then each key has the place that it
-    /// had.
+    /// Gives a key a place, which replaces the one that it has. The key's bytes are copied, its bucket and its
+    /// bucket type where they are new. Refused where memory is, and then each key has the place that it had.
     pub fn insert(&mut self, alloc: Global, key: &Key, place: usize) -> Result<(), AllocError>
         ensures inserted { OnOk result ((other : Key) → get key_cmp self.new other
             ≡ (if is_at (key_cmp key.now) other then Some place else get key_cmp self.old other)) }

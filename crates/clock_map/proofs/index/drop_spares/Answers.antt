@@ -1,10 +1,7 @@
-use Rattle.std.proofs.Common.{rules}
-use Rattle.std.proofs.lemmas.Map.Made.{filter_same_pairs}
-use Rattle.clock_map.specs.Index.{is_dead_mark}
-use Rattle.clock_map.proofs.Marks.{filtered}
+use Rattle.std.specs.BTreeMap.{get}
+use Rattle.riak_msgs.specs.KeyOrder.{key_cmp}
+use Rattle.clock_map.proofs.Marks.{without_none}
 use Rattle.clock_map.proofs.index.drop_spares.Goals as goal
 
-pub returns : goal.returns
-returns c =
-    filtered c.args.index.now c.retain.new.self c.retain.ensures.was_ordered
-    (filter_same_pairs _ (λ e. is_dead_mark e.1) _ (λ k v b w f' t. search rules) _ _ c.retain.ensures.filtered)
+pub returns-else-may_have : goal.returns-else-may_have
+returns-else-may_have c = λ q. without_none (get key_cmp c.args.index.now q) (c.requires c.if-may_have.false q)

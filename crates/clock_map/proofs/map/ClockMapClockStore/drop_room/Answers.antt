@@ -2,7 +2,7 @@ use Rattle.std.proofs.Common.{◌∙◌, sym, ap, subst}
 use Rattle.std.specs.Prelude.{Some}
 use Rattle.clock_map.specs.Places.{IsSpareKey}
 use Rattle.clock_map.specs.Maps.{keys_in, shown_at, place_at, IsMap}
-use Rattle.clock_map.proofs.Maps.{no_room_key, dropped_map, dropped_keys}
+use Rattle.clock_map.proofs.Maps.{no_room_key, no_spares, dropped_map, dropped_keys}
 use Rattle.clock_map.proofs.Views.{places_are, dropped_places, with_map, with_keys}
 use Rattle.clock_map.proofs.map.ClockMapClockStore.drop_room.Goals as goal
 
@@ -43,3 +43,10 @@ returns-in-Some-clause-places c =
     ∙ dropped_places v.places c.drop_spare.new.places v.clocks c.drop_spare.new.clocks c.in-Some.room c.self.invariant.map.tied c.drop_spare.ensures
     ∙ ap (λ o. keys_in (place_at o) v.places.entries) (sym was)
     ∙ places_are v.places v.clocks v.dead v.room c.self.invariant.map c.args.self.now c.self.view_is
+
+pub drop_spares-requires : goal.drop_spares-requires
+drop_spares-requires c =
+    let was = sym c.take.ensures.value ∙ c.in-Some.is in
+    let v = c.self.inside in
+    let holds = with_map v.places v.clocks v.dead v.room c.self.invariant.map c.args.self.now c.self.view_is c.in-Some.room was in
+    no_spares v.places v.clocks v.dead c.in-Some.room holds
