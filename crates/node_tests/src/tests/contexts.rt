@@ -2,8 +2,8 @@
 
 use crate::tests::exchange::{Asks, Exchange, Plain, Repeats, run_exchange};
 use crate::tests::frames::{
-    ABSENT, BAD_CONTEXT, CLOCK_FULL, GET, PUT_V, PUT_W, PUT_X_OVER_V, SHOWN_V, SHOWN_W_V,
-    SHOWN_X_W, STORED, TOO_MANY_SIBLINGS,
+    ABSENT, BAD_CONTEXT, CLOCK_FULL, GET, PUT_V, PUT_W, PUT_X_OVER_V, PUT_X_OVER_V_AS_SHOWN,
+    SHOWN_V, SHOWN_W_V, SHOWN_X_W, STORED, TOO_MANY_SIBLINGS,
 };
 use crate::tests::sessions::{Part, Session, goes};
 use crate::tests::streams::{Channel, PLAIN};
@@ -36,6 +36,44 @@ const CONTEXTS: &[Exchange] = &[
             Asks(GET, SHOWN_X_W),
         ],
     },
+    // The same by the context as it was shown.
+    Exchange {
+        shows: "a context of version 2 covers what it had seen",
+        home: Plain,
+        turns: &[
+            Asks(PUT_V, STORED),
+            Asks(PUT_W, STORED),
+            Asks(PUT_X_OVER_V_AS_SHOWN, STORED),
+            Asks(GET, SHOWN_X_W),
+        ],
+    },
+    // "x" over "v" by version 1; "y" over "x" and "w" by version 2; then "w" over "y" by version 1.
+    Exchange {
+        shows: "one session mixes both versions",
+        home: Plain,
+        turns: &[
+            Asks(PUT_V, STORED),
+            Asks(PUT_W, STORED),
+            Asks(PUT_X_OVER_V, STORED),
+            Asks(GET, SHOWN_X_W),
+            Asks(
+                b"\0\0\0\x23\x0b\x0a\x01b\x12\x01k\x1a\x15\x02\0\0\0\0\0\x01\0\0\0\0\0\x01\0\0\0\0\0\0\0\x03\x22\x03\x0a\x01y",
+                STORED,
+            ),
+            Asks(
+                GET,
+                b"\0\0\0\x1d\x0a\x0a\x03\x0a\x01y\x12\x15\x02\0\0\0\0\0\x01\0\0\0\0\0\x01\0\0\0\0\0\0\0\x04",
+            ),
+            Asks(
+                b"\0\0\0\x1f\x0b\x0a\x01b\x12\x01k\x1a\x11\x01\0\0\0\0\0\x01\0\0\0\0\0\x01\0\0\0\x04\x22\x03\x0a\x01w",
+                STORED,
+            ),
+            Asks(
+                GET,
+                b"\0\0\0\x1d\x0a\x0a\x03\x0a\x01w\x12\x15\x02\0\0\0\0\0\x01\0\0\0\0\0\x01\0\0\0\0\0\0\0\x05",
+            ),
+        ],
+    },
     Exchange {
         shows: "a key has at most 64 siblings",
         home: Plain,
@@ -58,7 +96,7 @@ const CONTEXTS: &[Exchange] = &[
             ),
             Asks(
                 GET,
-                b"\0\0\0\x19\x0a\x0a\x03\x0a\x01w\x12\x11\x01\0\0\0\0\0\x01\0\0\0\0\0\x01\0\0\0A",
+                b"\0\0\0\x1d\x0a\x0a\x03\x0a\x01w\x12\x15\x02\0\0\0\0\0\x01\0\0\0\0\0\x01\0\0\0\0\0\0\0A",
             ),
         ],
     },
@@ -81,7 +119,7 @@ const CONTEXTS: &[Exchange] = &[
                 b"\0\0\0/\x0b\x0a\x01b\x12\x01k\x1a!\x01\0\0\0\0\0\x01\0\0\0\0\0\x01\0\0\0\x01\0\0\0\0\0\x01\0\0\0\0\0\x01\0\0\0\x01\x22\x03\x0a\x01x",
                 BAD_CONTEXT,
             ),
-            // No entry, and another form.
+            // No entry, and an entry of version 1 as one of version 2, which is short by four bytes.
             Asks(
                 b"\0\0\0\x0f\x0b\x0a\x01b\x12\x01k\x1a\x01\x01\x22\x03\x0a\x01x",
                 BAD_CONTEXT,
@@ -90,18 +128,38 @@ const CONTEXTS: &[Exchange] = &[
                 b"\0\0\0\x1f\x0b\x0a\x01b\x12\x01k\x1a\x11\x02\0\0\0\0\0\x01\0\0\0\0\0\x01\0\0\0\x01\x22\x03\x0a\x01x",
                 BAD_CONTEXT,
             ),
+            // Of version 2 the counter runs ahead: by one, and by 2 to the 32.
+            Asks(
+                b"\0\0\0\x23\x0b\x0a\x01b\x12\x01k\x1a\x15\x02\0\0\0\0\0\x01\0\0\0\0\0\x01\0\0\0\0\0\0\0\x02\x22\x03\x0a\x01x",
+                BAD_CONTEXT,
+            ),
+            Asks(
+                b"\0\0\0\x23\x0b\x0a\x01b\x12\x01k\x1a\x15\x02\0\0\0\0\0\x01\0\0\0\0\0\x01\0\0\0\x01\0\0\0\x01\x22\x03\x0a\x01x",
+                BAD_CONTEXT,
+            ),
+            // Its actors don't rise, and no entry.
+            Asks(
+                b"\0\0\0\x37\x0b\x0a\x01b\x12\x01k\x1a\x29\x02\0\0\0\0\0\x01\0\0\0\0\0\x01\0\0\0\0\0\0\0\x01\0\0\0\0\0\x01\0\0\0\0\0\x01\0\0\0\0\0\0\0\x01\x22\x03\x0a\x01x",
+                BAD_CONTEXT,
+            ),
+            Asks(
+                b"\0\0\0\x0f\x0b\x0a\x01b\x12\x01k\x1a\x01\x02\x22\x03\x0a\x01x",
+                BAD_CONTEXT,
+            ),
             Asks(b"\0\0\0\x0c\x0b\x0a\x01b\x12\x01j\x22\x03\x0a\x01v", STORED),
             Asks(PUT_X_BY_SECOND_EPOCH, STORED),
             Asks(
                 GET,
-                b"\0\0\0.\x0a\x0a\x03\x0a\x01x\x0a\x03\x0a\x01v\x12!\x01\0\0\0\0\0\x01\0\0\0\0\0\x01\0\0\0\x02\0\0\0\0\0\x01\0\0\0\0\0\x02\0\0\0\x01",
+                b"\0\0\06\x0a\x0a\x03\x0a\x01x\x0a\x03\x0a\x01v\x12)\x02\0\0\0\0\0\x01\0\0\0\0\0\x01\0\0\0\0\0\0\0\x02\0\0\0\0\0\x01\0\0\0\0\0\x02\0\0\0\0\0\0\0\x01",
             ),
         ],
     },
 ];
 
-/// The counter of each entry in a context of many.
+/// The counter of each entry in a context of many, of version 1 and of version 2.
 const ONE: &[u8] = b"\0\0\0\x01";
+
+const WIDE_ONE: &[u8] = b"\0\0\0\0\0\0\0\x01";
 
 const LONG_PIECES: Channel<'static> = Channel {
     pieces: (500, 500),
@@ -151,9 +209,9 @@ const CROWDS: &[Session] = &[
         output: &[
             Part::Bytes(STORED),
             Part::Bytes(
-                b"\0\0\x04\x0a\x0a\x0a\x03\x0a\x01v\x12\x81\x08\x01\0\0\0\0\0\x01\0\0\0\0\0\x01\0\0\0\x01",
+                b"\0\0\x05\x0a\x0a\x0a\x03\x0a\x01v\x12\x81\x0a\x02\0\0\0\0\0\x01\0\0\0\0\0\x01\0\0\0\0\0\0\0\x01",
             ),
-            Part::Entries(63, ONE),
+            Part::Entries(63, WIDE_ONE),
         ],
         counts: &[],
     },
@@ -175,6 +233,48 @@ const CROWDS: &[Session] = &[
         output: &[
             Part::Bytes(BAD_CONTEXT),
             Part::Bytes(ABSENT),
+            Part::Bytes(STORED),
+            Part::Bytes(SHOWN_V),
+        ],
+        counts: &[],
+    },
+    Session {
+        shows: "a context of 64 wide entries is one, and leaves no room for the own actor",
+        input: &[
+            Part::Bytes(b"\0\0\x05\x10\x0b\x0a\x01b\x12\x01k\x1a\x81\x0a\x02"),
+            Part::Entries(64, WIDE_ONE),
+            Part::Bytes(b"\x22\x03\x0a\x01v"),
+            Part::Bytes(PUT_V),
+            Part::Bytes(GET),
+        ],
+        channel: LONG_PIECES,
+        end: Ok(Ended {
+            replies: 3,
+            rest: 0,
+        }),
+        output: &[
+            Part::Bytes(CLOCK_FULL),
+            Part::Bytes(STORED),
+            Part::Bytes(SHOWN_V),
+        ],
+        counts: &[],
+    },
+    Session {
+        shows: "65 wide entries are no context",
+        input: &[
+            Part::Bytes(b"\0\0\x05\x24\x0b\x0a\x01b\x12\x01k\x1a\x95\x0a\x02"),
+            Part::Entries(65, WIDE_ONE),
+            Part::Bytes(b"\x22\x03\x0a\x01v"),
+            Part::Bytes(PUT_V),
+            Part::Bytes(GET),
+        ],
+        channel: LONG_PIECES,
+        end: Ok(Ended {
+            replies: 3,
+            rest: 0,
+        }),
+        output: &[
+            Part::Bytes(BAD_CONTEXT),
             Part::Bytes(STORED),
             Part::Bytes(SHOWN_V),
         ],

@@ -7,9 +7,9 @@ pub const REQUESTS: [u8; 32] = [
 ];
 
 /// Their replies: a ping, an empty put reply, and "v" with its context.
-pub const REPLIES: [u8; 39] = [
-    0, 0, 0, 1, 2, 0, 0, 0, 1, 12, 0, 0, 0, 25, 10, 10, 3, 10, 1, 118, 18, 17, 1, 0, 0, 0, 0, 0, 1,
-    0, 0, 0, 0, 0, 1, 0, 0, 0, 1,
+pub const REPLIES: [u8; 43] = [
+    0, 0, 0, 1, 2, 0, 0, 0, 1, 12, 0, 0, 0, 29, 10, 10, 3, 10, 1, 118, 18, 21, 2, 0, 0, 0, 0, 0, 1,
+    0, 0, 0, 0, 0, 1, 0, 0, 0, 0, 0, 0, 0, 1,
 ];
 
 /// The put and the get alone.
@@ -18,7 +18,7 @@ pub const PUT_AND_GET: &[u8] =
 
 /// Their replies.
 pub const STORED_AND_SHOWN: &[u8] =
-    b"\0\0\0\x01\x0c\0\0\0\x19\x0a\x0a\x03\x0a\x01v\x12\x11\x01\0\0\0\0\0\x01\0\0\0\0\0\x01\0\0\0\x01";
+    b"\0\0\0\x01\x0c\0\0\0\x1d\x0a\x0a\x03\x0a\x01v\x12\x15\x02\0\0\0\0\0\x01\0\0\0\0\0\x01\0\0\0\0\0\0\0\x01";
 
 /// How many of the replies are due for so many bytes of the requests, and how many bytes they are.
 pub fn due(given: u64) -> (u64, usize) {
@@ -26,7 +26,7 @@ pub fn due(given: u64) -> (u64, usize) {
         0..=4 => (0, 0),
         5..=20 => (1, 5),
         21..=31 => (2, 10),
-        _ => (3, 39),
+        _ => (3, 43),
     }
 }
 
@@ -57,6 +57,10 @@ pub const PUT_Z_IF_NONE: &[u8] = b"\0\0\0\x0e\x0b\x0a\x01b\x12\x01k\x22\x03\x0a\
 pub const PUT_X_OVER_V: &[u8] =
     b"\0\0\0\x1f\x0b\x0a\x01b\x12\x01k\x1a\x11\x01\0\0\0\0\0\x01\0\0\0\0\0\x01\0\0\0\x01\x22\x03\x0a\x01x";
 
+/// The same by a context of version 2, as the node shows it.
+pub const PUT_X_OVER_V_AS_SHOWN: &[u8] =
+    b"\0\0\0\x23\x0b\x0a\x01b\x12\x01k\x1a\x15\x02\0\0\0\0\0\x01\0\0\0\0\0\x01\0\0\0\0\0\0\0\x01\x22\x03\x0a\x01x";
+
 /// A put of "e" on b/k that wants the key as its context shows it, the first dot.
 pub const PUT_E_IF_V: &[u8] =
     b"\0\0\0\x21\x0b\x0a\x01b\x12\x01k\x1a\x11\x01\0\0\0\0\0\x01\0\0\0\0\0\x01\0\0\0\x01\x22\x03\x0a\x01eH\x01";
@@ -69,15 +73,15 @@ pub const STORED: &[u8] = b"\0\0\0\x01\x0c";
 
 /// "v" with its context.
 pub const SHOWN_V: &[u8] =
-    b"\0\0\0\x19\x0a\x0a\x03\x0a\x01v\x12\x11\x01\0\0\0\0\0\x01\0\0\0\0\0\x01\0\0\0\x01";
+    b"\0\0\0\x1d\x0a\x0a\x03\x0a\x01v\x12\x15\x02\0\0\0\0\0\x01\0\0\0\0\0\x01\0\0\0\0\0\0\0\x01";
 
 /// "w" and "v" with their context.
 pub const SHOWN_W_V: &[u8] =
-    b"\0\0\0\x1e\x0a\x0a\x03\x0a\x01w\x0a\x03\x0a\x01v\x12\x11\x01\0\0\0\0\0\x01\0\0\0\0\0\x01\0\0\0\x02";
+    b"\0\0\0\x22\x0a\x0a\x03\x0a\x01w\x0a\x03\x0a\x01v\x12\x15\x02\0\0\0\0\0\x01\0\0\0\0\0\x01\0\0\0\0\0\0\0\x02";
 
 /// "x" and "w" with their context.
 pub const SHOWN_X_W: &[u8] =
-    b"\0\0\0\x1e\x0a\x0a\x03\x0a\x01x\x0a\x03\x0a\x01w\x12\x11\x01\0\0\0\0\0\x01\0\0\0\0\0\x01\0\0\0\x03";
+    b"\0\0\0\x22\x0a\x0a\x03\x0a\x01x\x0a\x03\x0a\x01w\x12\x15\x02\0\0\0\0\0\x01\0\0\0\0\0\x01\0\0\0\0\0\0\0\x03";
 
 /// A delete of b/k without context.
 pub const DELETE: &[u8] = b"\0\0\0\x07\x0d\x0a\x01b\x12\x01k";

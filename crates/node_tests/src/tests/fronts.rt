@@ -100,7 +100,7 @@ const FRAMES: &[Frame] = &[
         bytes: b"\0\0\0\x0f\x0b\x0a\x01b\x12\x01k\x1a\x01\x01\x22\x03\x0a\x01x",
     },
     Frame {
-        shows: "a put by a context of form 2 whose entry is short",
+        shows: "a put by a context of version 2 whose entry is short",
         bytes: b"\0\0\0\x1f\x0b\x0a\x01b\x12\x01k\x1a\x11\x02\0\0\0\0\0\x01\0\0\0\0\0\x01\0\0\0\x01\x22\x03\x0a\x01x",
     },
     Frame {

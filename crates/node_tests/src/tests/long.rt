@@ -5,6 +5,9 @@ use crate::tests::sessions::{Count, Part, Session, goes};
 use crate::tests::streams::{Call, Channel, PLAIN, Trouble};
 use node_session::{Ended, SessionFault};
 
+/// The field of a reply that shows the first dot.
+const VCLOCK: &[u8] = b"\x12\x15\x02\0\0\0\0\0\x01\0\0\0\0\0\x01\0\0\0\0\0\0\0\x01";
+
 const LONG: &[Session] = &[
     // 2,000 pings are 10,000 bytes. By 6,001 reads of one byte 1,200 of them come whole.
     Session {
@@ -35,7 +38,7 @@ const LONG: &[Session] = &[
         output: &[Part::Times(1639, PONG)],
         counts: &[Count::Reads(4), Count::Largest(4096)],
     },
-    // A put of 6,000 bytes on b/k, and a get of it. The 6,035 bytes of the replies go out by writes of one byte, each of
+    // A put of 6,000 bytes on b/k, and a get of it. The 6,039 bytes of the replies go out by writes of one byte, each of
     // which is interrupted once.
     Session {
         shows: "a long reply goes out byte by byte",
@@ -55,13 +58,13 @@ const LONG: &[Session] = &[
             rest: 0,
         }),
         output: &[
-            Part::Bytes(b"\0\0\0\x01\x0c\0\0\x17\x8a\x0a\x0a\xf3\x2e\x0a\xf0\x2e"),
+            Part::Bytes(b"\0\0\0\x01\x0c\0\0\x17\x8e\x0a\x0a\xf3\x2e\x0a\xf0\x2e"),
             Part::Times(6000, b"\x07"),
-            Part::Bytes(b"\x12\x11\x01\0\0\0\0\0\x01\0\0\0\0\0\x01\0\0\0\x01"),
+            Part::Bytes(VCLOCK),
         ],
-        counts: &[Count::Writes(12_070)],
+        counts: &[Count::Writes(12_078)],
     },
-    // A put of the longest frame that a request may have. The reply to a get of it is a frame of 13 bytes more.
+    // A put of the longest frame that a request may have. The reply to a get of it is a frame of 17 bytes more.
     Session {
         shows: "the longest request is stored and shown",
         input: &[
@@ -81,9 +84,9 @@ const LONG: &[Session] = &[
         }),
         output: &[
             Part::Bytes(STORED),
-            Part::Bytes(b"\0\x10\0\x0d\x0a\x0a\xf5\xff\x3f\x0a\xf1\xff\x3f"),
+            Part::Bytes(b"\0\x10\0\x11\x0a\x0a\xf5\xff\x3f\x0a\xf1\xff\x3f"),
             Part::Times(1_048_561, b"\x07"),
-            Part::Bytes(b"\x12\x11\x01\0\0\0\0\0\x01\0\0\0\0\0\x01\0\0\0\x01"),
+            Part::Bytes(VCLOCK),
         ],
         counts: &[],
     },

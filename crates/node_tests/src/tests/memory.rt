@@ -108,11 +108,11 @@ const PUT_AND_DELETE: &[Line] = &[
 
 /// "w" with the first dot.
 const SHOWN_W: &[u8] =
-    b"\0\0\0\x19\x0a\x0a\x03\x0a\x01w\x12\x11\x01\0\0\0\0\0\x01\0\0\0\0\0\x01\0\0\0\x01";
+    b"\0\0\0\x1d\x0a\x0a\x03\x0a\x01w\x12\x15\x02\0\0\0\0\0\x01\0\0\0\0\0\x01\0\0\0\0\0\0\0\x01";
 
 /// "x" with the second.
 const SHOWN_X: &[u8] =
-    b"\0\0\0\x19\x0a\x0a\x03\x0a\x01x\x12\x11\x01\0\0\0\0\0\x01\0\0\0\0\0\x01\0\0\0\x02";
+    b"\0\0\0\x1d\x0a\x0a\x03\x0a\x01x\x12\x15\x02\0\0\0\0\0\x01\0\0\0\0\0\x01\0\0\0\0\0\0\0\x02";
 
 /// A put with `return_body` under a type, a bucket and a key of twenty bytes, of a value with a content type, a link, a pair and
 /// an index; and a get of it.
@@ -136,10 +136,10 @@ const GET_LONG: &[u8] =
     b"\0\0\0C\x09\x0a\x14a bucket of 20 bytes\x12\x14and a key of as manyj\x14its type of 20 bytes";
 
 const STORED_DETAILED: &[u8] =
-    b"\0\0\0\xd6\x0c\x0a\xbf\x01\x0a\x01v\x12\x15text/plain; charset=x2C\x0a\x14the bucket of a link\x12\x15the key that it names\x1a\x14the tag of that linkJ-\x0a\x14a name of usermeta..\x12\x15and the value of it..R/\x0a\x14an index of 20 bytes\x12\x17and what it is found by\x12\x11\x01\0\0\0\0\0\x01\0\0\0\0\0\x01\0\0\0\x01";
+    b"\0\0\0\xda\x0c\x0a\xbf\x01\x0a\x01v\x12\x15text/plain; charset=x2C\x0a\x14the bucket of a link\x12\x15the key that it names\x1a\x14the tag of that linkJ-\x0a\x14a name of usermeta..\x12\x15and the value of it..R/\x0a\x14an index of 20 bytes\x12\x17and what it is found by\x12\x15\x02\0\0\0\0\0\x01\0\0\0\0\0\x01\0\0\0\0\0\0\0\x01";
 
 const SHOWN_DETAILED: &[u8] =
-    b"\0\0\0\xd6\x0a\x0a\xbf\x01\x0a\x01v\x12\x15text/plain; charset=x2C\x0a\x14the bucket of a link\x12\x15the key that it names\x1a\x14the tag of that linkJ-\x0a\x14a name of usermeta..\x12\x15and the value of it..R/\x0a\x14an index of 20 bytes\x12\x17and what it is found by\x12\x11\x01\0\0\0\0\0\x01\0\0\0\0\0\x01\0\0\0\x01";
+    b"\0\0\0\xda\x0a\x0a\xbf\x01\x0a\x01v\x12\x15text/plain; charset=x2C\x0a\x14the bucket of a link\x12\x15the key that it names\x1a\x14the tag of that linkJ-\x0a\x14a name of usermeta..\x12\x15and the value of it..R/\x0a\x14an index of 20 bytes\x12\x17and what it is found by\x12\x15\x02\0\0\0\0\0\x01\0\0\0\0\0\x01\0\0\0\0\0\0\0\x01";
 
 /// Pieces of 64 bytes, and writes of as many as there are.
 const WHOLE: Channel<'static> = Channel {

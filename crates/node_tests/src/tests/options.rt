@@ -12,7 +12,7 @@ const DELETE_V: &[u8] =
 
 /// A put's reply that shows "v" with its own dot.
 const STORED_V: &[u8] =
-    b"\0\0\0\x19\x0c\x0a\x03\x0a\x01v\x12\x11\x01\0\0\0\0\0\x01\0\0\0\0\0\x01\0\0\0\x01";
+    b"\0\0\0\x1d\x0c\x0a\x03\x0a\x01v\x12\x15\x02\0\0\0\0\0\x01\0\0\0\0\0\x01\0\0\0\0\0\0\0\x01";
 
 const OPTIONS: &[Exchange] = &[
     Exchange {
@@ -41,7 +41,7 @@ const OPTIONS: &[Exchange] = &[
             Asks(DELETE_V, DELETED),
             Asks(
                 GET,
-                b"\0\0\0\x1f\x0a\x0a\x04\x0a\0X\x01\x0a\x03\x0a\x01w\x12\x11\x01\0\0\0\0\0\x01\0\0\0\0\0\x01\0\0\0\x03",
+                b"\0\0\0#\x0a\x0a\x04\x0a\0X\x01\x0a\x03\x0a\x01w\x12\x15\x02\0\0\0\0\0\x01\0\0\0\0\0\x01\0\0\0\0\0\0\0\x03",
             ),
         ],
     },
@@ -54,9 +54,18 @@ const OPTIONS: &[Exchange] = &[
                 b"\0\0\0\x1a\x09\x0a\x01b\x12\x01k:\x11\x01\0\0\0\0\0\x01\0\0\0\0\0\x01\0\0\0\x01",
                 b"\0\0\0\x03\x0a\x18\x01",
             ),
+            // The same by version 2, and one whose counter is greater by 2 to the 32.
+            Asks(
+                b"\0\0\0\x1e\x09\x0a\x01b\x12\x01k:\x15\x02\0\0\0\0\0\x01\0\0\0\0\0\x01\0\0\0\0\0\0\0\x01",
+                b"\0\0\0\x03\x0a\x18\x01",
+            ),
+            Asks(
+                b"\0\0\0\x1e\x09\x0a\x01b\x12\x01k:\x15\x02\0\0\0\0\0\x01\0\0\0\0\0\x01\0\0\0\x01\0\0\0\x01",
+                SHOWN_V,
+            ),
             Asks(
                 b"\0\0\0\x09\x09\x0a\x01b\x12\x01k@\x01",
-                b"\0\0\0\x18\x0a\x0a\x02\x0a\0\x12\x11\x01\0\0\0\0\0\x01\0\0\0\0\0\x01\0\0\0\x01",
+                b"\0\0\0\x1c\x0a\x0a\x02\x0a\0\x12\x15\x02\0\0\0\0\0\x01\0\0\0\0\0\x01\0\0\0\0\0\0\0\x01",
             ),
         ],
     },
@@ -85,6 +94,23 @@ const OPTIONS: &[Exchange] = &[
             Asks(
                 b"\0\0\0\x10\x0b\x0a\x01b\x12\x01k\x22\x03\x0a\x01eH\x01P\x01",
                 MATCH_FOUND,
+            ),
+        ],
+    },
+    // By version 1, and then by version 2.
+    Exchange {
+        shows: "a put wants the key unchanged by a context of either version",
+        home: Plain,
+        turns: &[
+            Asks(PUT_V, STORED),
+            Asks(PUT_E_IF_V, STORED),
+            Asks(
+                b"\0\0\0\x25\x0b\x0a\x01b\x12\x01k\x1a\x15\x02\0\0\0\0\0\x01\0\0\0\0\0\x01\0\0\0\0\0\0\0\x01\x22\x03\x0a\x01eH\x01",
+                MODIFIED,
+            ),
+            Asks(
+                b"\0\0\0\x25\x0b\x0a\x01b\x12\x01k\x1a\x15\x02\0\0\0\0\0\x01\0\0\0\0\0\x01\0\0\0\0\0\0\0\x02\x22\x03\x0a\x01eH\x01",
+                STORED,
             ),
         ],
     },

@@ -63,20 +63,20 @@ const STOPS: &[Stops] = &[
         script: PING_PUT_GET,
         call: Call::Write,
         is_bounded: false,
-        sizes: &[Size(WHOLE, 1, 39)],
+        sizes: &[Size(WHOLE, 1, 43)],
     },
-    // The replies are of 5, 29, 5, 34, 5 and 34 bytes.
+    // The replies are of 5, 33, 5, 38, 5 and 38 bytes.
     Stops {
         shows: "each write of three puts fails in turn",
         script: THREE_PUTS,
         call: Call::Write,
         is_bounded: false,
         sizes: &[
-            Size(WHOLE, 1, 112),
-            Size(WHOLE, 2, 58),
-            Size(WHOLE, 3, 40),
-            Size(WHOLE, 4, 32),
-            Size(WHOLE, 5, 23),
+            Size(WHOLE, 1, 124),
+            Size(WHOLE, 2, 64),
+            Size(WHOLE, 3, 43),
+            Size(WHOLE, 4, 35),
+            Size(WHOLE, 5, 26),
         ],
     },
     // A flush before each read.
