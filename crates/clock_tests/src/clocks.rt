@@ -30,16 +30,20 @@ const D: Actor = Actor {
     epoch: 2,
 };
 
-/// The bytes of the context (A, 1).
+/// The bytes of the context (A, 1), of version 1 as all but those that name another.
 const SEEN_1: &[u8] = b"\x01\0\0\0\0\0\x01\0\0\0\0\0\x01\0\0\0\x01";
 
-const SEEN_2: &[u8] = b"\x01\0\0\0\0\0\x01\0\0\0\0\0\x01\0\0\0\x02";
+/// Of version 2.
+const SEEN_2: &[u8] = b"\x02\0\0\0\0\0\x01\0\0\0\0\0\x01\0\0\0\0\0\0\0\x02";
 
 const SEEN_3: &[u8] = b"\x01\0\0\0\0\0\x01\0\0\0\0\0\x01\0\0\0\x03";
 
-const SEEN_ALL_BUT_ONE: &[u8] = b"\x01\0\0\0\0\0\x01\0\0\0\0\0\x01\xff\xff\xff\xfe";
+const SEEN_ALL_BUT_ONE: &[u8] = b"\x02\0\0\0\0\0\x01\0\0\0\0\0\x01\xff\xff\xff\xff\xff\xff\xff\xfe";
 
-const SEEN_ALL: &[u8] = b"\x01\0\0\0\0\0\x01\0\0\0\0\0\x01\xff\xff\xff\xff";
+const SEEN_ALL: &[u8] = b"\x02\0\0\0\0\0\x01\0\0\0\0\0\x01\xff\xff\xff\xff\xff\xff\xff\xff";
+
+/// The greatest counter of version 1.
+const SEEN_MANY: &[u8] = b"\x01\0\0\0\0\0\x01\0\0\0\0\0\x01\xff\xff\xff\xff";
 
 /// The bytes of the context (A, 1), (C, 1), (D, 3).
 const SEEN_A_C_D: &[u8] = b"\x01\

@@ -33,10 +33,13 @@ struct Case {
     seen: &'static [(Actor, Seen)],
 }
 
-/// Two pairs, and the bytes of their context.
+/// Two pairs, and the bytes of their context: of version 2, and of version 1.
 const PAIRS: &[(Actor, Counter)] = &[(FIRST, 1), (SECOND, 258)];
 
 const ENCODED: &[u8] =
+    b"\x02\0\0\0\0\0\x01\0\0\0\0\0\x01\0\0\0\0\0\0\0\x01\0\0\0\0\0\x01\0\0\0\0\0\x02\0\0\0\0\0\0\x01\x02";
+
+const NARROW: &[u8] =
     b"\x01\0\0\0\0\0\x01\0\0\0\0\0\x01\0\0\0\x01\0\0\0\0\0\x01\0\0\0\0\0\x02\0\0\x01\x02";
 
 const CASES: &[Case] = &[
@@ -53,7 +56,19 @@ const CASES: &[Case] = &[
         seen: &[],
     },
     Case {
+        shows: "version 2 alone is malformed",
+        bytes: b"\x02",
+        pairs: &[],
+        seen: &[],
+    },
+    Case {
         shows: "another version is malformed",
+        bytes: b"\x03\0\0\0\0\0\x01\0\0\0\0\0\x01\0\0\0\0\0\0\0\x01",
+        pairs: &[],
+        seen: &[],
+    },
+    Case {
+        shows: "an entry of version 1 is too short for version 2",
         bytes: b"\x02\0\0\0\0\0\x01\0\0\0\0\0\x01\0\0\0\x01",
         pairs: &[],
         seen: &[],
@@ -83,10 +98,77 @@ const CASES: &[Case] = &[
         seen: &[],
     },
     Case {
+        shows: "an entry of version 2 is too long for version 1",
+        bytes: b"\x01\0\0\0\0\0\x01\0\0\0\0\0\x01\0\0\0\0\0\0\0\x01",
+        pairs: &[],
+        seen: &[],
+    },
+    Case {
+        shows: "epoch 0 of version 2 is malformed",
+        bytes: b"\x02\0\0\0\0\0\x01\0\0\0\0\0\0\0\0\0\0\0\0\0\x01",
+        pairs: &[],
+        seen: &[],
+    },
+    Case {
+        shows: "counter 0 of version 2 is malformed",
+        bytes: b"\x02\0\0\0\0\0\x01\0\0\0\0\0\x01\0\0\0\0\0\0\0\0",
+        pairs: &[],
+        seen: &[],
+    },
+    Case {
+        shows: "the same actor twice in version 2 is malformed",
+        bytes: b"\x02\0\0\0\0\0\x01\0\0\0\0\0\x01\0\0\0\0\0\0\0\x01\0\0\0\0\0\x01\0\0\0\0\0\x01\0\0\0\0\0\0\0\x01",
+        pairs: &[],
+        seen: &[],
+    },
+    Case {
+        shows: "a byte too few of version 2 is malformed",
+        bytes: b"\x02\0\0\0\0\0\x01\0\0\0\0\0\x01\0\0\0\0\0\0\0",
+        pairs: &[],
+        seen: &[],
+    },
+    Case {
         shows: "a context of one pair",
         bytes: b"\x01\0\0\0\0\0\x01\0\0\0\0\0\x01\0\0\0\x01",
         pairs: &[(FIRST, 1)],
         seen: &[],
+    },
+    Case {
+        shows: "a context of one pair of version 2",
+        bytes: b"\x02\0\0\0\0\0\x01\0\0\0\0\0\x01\0\0\0\0\0\0\0\x01",
+        pairs: &[(FIRST, 1)],
+        seen: &[],
+    },
+    // In version 1 the counter ends at 2 to the 32, in version 2 at 2 to the 64.
+    Case {
+        shows: "the greatest counter of version 1",
+        bytes: b"\x01\0\0\0\0\0\x01\0\0\0\0\0\x01\xff\xff\xff\xff",
+        pairs: &[(FIRST, 4_294_967_295)],
+        seen: &[
+            (FIRST, Covers(4_294_967_295, true)),
+            (FIRST, Covers(4_294_967_296, false)),
+        ],
+    },
+    Case {
+        shows: "the greatest counter of version 2",
+        bytes: b"\x02\0\0\0\0\0\x01\0\0\0\0\0\x01\xff\xff\xff\xff\xff\xff\xff\xff",
+        pairs: &[(FIRST, 18_446_744_073_709_551_615)],
+        seen: &[
+            (FIRST, Covers(18_446_744_073_709_551_615, true)),
+            (FIRST, Last(18_446_744_073_709_551_615)),
+        ],
+    },
+    Case {
+        shows: "a context of two pairs of version 1 covers their dots",
+        bytes: NARROW,
+        pairs: PAIRS,
+        seen: &[
+            (FIRST, Covers(1, true)),
+            (FIRST, Covers(2, false)),
+            (SECOND, Covers(258, true)),
+            (SECOND, Covers(259, false)),
+            (OTHER, Last(0)),
+        ],
     },
     // The dots on both sides of where each pair ends.
     Case {

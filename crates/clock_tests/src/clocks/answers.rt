@@ -2,7 +2,9 @@
 
 use crate::clocks::steps::Step::{Discard, Event, Overwrite, Put};
 use crate::clocks::steps::{Step, count, event, holds, takes_all, takes_crowd, takes_in};
-use crate::clocks::{A, B, C, D, SEEN_1, SEEN_2, SEEN_3, SEEN_A_C_D, SEEN_ALL, SEEN_ALL_BUT_ONE};
+use crate::clocks::{
+    A, B, C, D, SEEN_1, SEEN_2, SEEN_3, SEEN_A_C_D, SEEN_ALL, SEEN_ALL_BUT_ONE, SEEN_MANY,
+};
 use actor_epoch::{Actor, Context, Counter, Dot};
 use dvv_set::{Clock, ClockFault, Needed};
 use std::alloc::Global;
@@ -34,7 +36,7 @@ enum Answer {
     /// The last counter of an actor.
     Last(Actor, Counter),
     /// The context doesn't cover so many values.
-    Uncovered(usize),
+    Uncovered(u128),
     /// What an event of an actor needs.
     Needs(Actor, Needed),
     /// Whether an event of an actor would make too many actors known.
@@ -197,7 +199,7 @@ const CASES: &[Case] = &[
         context: b"",
         answers: &[
             Refuses(A, ClockFault::CounterFull),
-            Holds(&[(A, 4_294_967_295)], b""),
+            Holds(&[(A, 18_446_744_073_709_551_615)], b""),
         ],
     },
     Case {
@@ -206,12 +208,19 @@ const CASES: &[Case] = &[
         steps: &[Event(A, b'v'), Discard(SEEN_ALL_BUT_ONE), Event(A, b'w')],
         context: b"",
         answers: &[
-            Holds(&[(A, 4_294_967_295)], b"w"),
+            Holds(&[(A, 18_446_744_073_709_551_615)], b"w"),
             Covers(Dot {
                 actor: A,
-                counter: 4_294_967_295,
+                counter: 18_446_744_073_709_551_615,
             }),
         ],
+    },
+    Case {
+        shows: "a counter goes past 2 to the 32",
+        crowd: 0,
+        steps: &[Event(A, b'v'), Discard(SEEN_MANY), Event(A, b'w')],
+        context: b"",
+        answers: &[Holds(&[(A, 4_294_967_296)], b"w")],
     },
     Case {
         shows: "one actor fits beside sixty-three",
