@@ -90,9 +90,10 @@ fn put_in(
 /// The bytes of a context of so many entries, all of another vnode.
 fn context_of_others(alloc: Global, count: u8) -> Result<Vec<u8>, AllocError> {
     let mut bytes = Vec::new(alloc);
-    bytes.push(1)?;
+    bytes.push(2)?;
     for epoch in 1..=count {
-        bytes.extend_from_slice(&[0, 0, 0, 0, 0, 0, 0, 1, 0, 0, 0, epoch, 0, 0, 0, 1])?;
+        bytes.extend_from_slice(&[0, 0, 0, 0, 0, 0, 0, 1, 0, 0, 0, epoch])?;
+        bytes.extend_from_slice(&[0, 0, 0, 0, 0, 0, 0, 1])?;
     }
     Ok(bytes)
 }

@@ -2,8 +2,8 @@
 
 use crate::exchanges::asking::go_as_expected;
 use crate::exchanges::steps::{
-    Ask, Done, Exchange, FIRST, FIRST_OF_SECOND, Get, NONE, Put, Refused, Reply, SECOND, Shows,
-    THIRD, V, W, X,
+    Ask, Done, Exchange, FIRST, FIRST_OF_SECOND, Get, NARROW_FIRST, NONE, Put, Refused, Reply,
+    SECOND, Shows, THIRD, V, W, X,
 };
 use vnode_core::Refusal;
 
@@ -24,6 +24,15 @@ const EXCHANGES: &[Exchange] = &[
             Get(b"k", Shows(&[X, W], THIRD)),
         ],
     },
+    Exchange {
+        shows: "a context of version 1 covers what it covered",
+        steps: &[
+            Ask(Put(b"k", b"v", NONE), Done),
+            Ask(Put(b"k", b"w", NONE), Done),
+            Ask(Put(b"k", b"x", NARROW_FIRST), Done),
+            Get(b"k", Shows(&[X, W], THIRD)),
+        ],
+    },
     // A context that is refused changes nothing.
     Exchange {
         shows: "contexts out of the form, and contexts that run ahead, are refused",
@@ -41,8 +50,13 @@ const EXCHANGES: &[Exchange] = &[
             // a byte too few
             Ask(Put(b"k", b"w", A_BYTE_TOO_FEW), BAD),
             Get(b"k", ONLY_V),
-            // another form
-            Ask(Put(b"k", b"w", ANOTHER_FORM), BAD),
+            // an entry that is too short for its version, and another version
+            Ask(Put(b"k", b"w", SHORT_FOR_ITS_VERSION), BAD),
+            Get(b"k", ONLY_V),
+            Ask(Put(b"k", b"w", ANOTHER_VERSION), BAD),
+            Get(b"k", ONLY_V),
+            // a counter that is ahead by 2 to the 32
+            Ask(Put(b"k", b"w", FAR_AHEAD), BAD),
             Get(b"k", ONLY_V),
             // the same actor twice
             Ask(Put(b"k", b"w", ONE_ACTOR_TWICE), BAD),
@@ -63,14 +77,18 @@ const EXCHANGES: &[Exchange] = &[
 
 const A_BYTE_TOO_FEW: &[u8] = b"\x01\0\0\0\0\0\x01\0\0\0\0\0\x01\0\0\0";
 
-const ANOTHER_FORM: &[u8] = b"\x02\0\0\0\0\0\x01\0\0\0\0\0\x01\0\0\0\x01";
+const SHORT_FOR_ITS_VERSION: &[u8] = b"\x02\0\0\0\0\0\x01\0\0\0\0\0\x01\0\0\0\x01";
+
+const ANOTHER_VERSION: &[u8] = b"\x03\0\0\0\0\0\x01\0\0\0\0\0\x01\0\0\0\0\0\0\0\x01";
+
+const FAR_AHEAD: &[u8] = b"\x02\0\0\0\0\0\x01\0\0\0\0\0\x01\0\0\0\x01\0\0\0\x01";
 
 const ONE_ACTOR_TWICE: &[u8] =
     b"\x01\0\0\0\0\0\x01\0\0\0\0\0\x01\0\0\0\x01\0\0\0\0\0\x01\0\0\0\0\0\x01\0\0\0\x01";
 
 /// The second dot of the first epoch, and the first of the second.
 const SECOND_AND_THAT_OF_J: &[u8] =
-    b"\x01\0\0\0\0\0\x01\0\0\0\0\0\x01\0\0\0\x02\0\0\0\0\0\x01\0\0\0\0\0\x02\0\0\0\x01";
+    b"\x02\0\0\0\0\0\x01\0\0\0\0\0\x01\0\0\0\0\0\0\0\x02\0\0\0\0\0\x01\0\0\0\0\0\x02\0\0\0\0\0\0\0\x01";
 
 #[test]
 fn contexts_cover_what_they_saw(rt: HostRuntime) {

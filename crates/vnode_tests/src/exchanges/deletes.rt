@@ -70,7 +70,7 @@ const EXCHANGES: &[Exchange] = &[
 
 /// The first dot of the first epoch, and the first of the second.
 const THAT_OF_J_AND_ITS_OWN: &[u8] =
-    b"\x01\0\0\0\0\0\x01\0\0\0\0\0\x01\0\0\0\x01\0\0\0\0\0\x01\0\0\0\0\0\x02\0\0\0\x01";
+    b"\x02\0\0\0\0\0\x01\0\0\0\0\0\x01\0\0\0\0\0\0\0\x01\0\0\0\0\0\x01\0\0\0\0\0\x02\0\0\0\0\0\0\0\x01";
 
 #[test]
 fn deletes_leave_tombstones(rt: HostRuntime) {

@@ -8,11 +8,11 @@ use crate::exchanges::steps::{
 use std::process::Abort;
 use vnode_core::Refusal;
 
-const SIXTY_FOURTH: &[u8] = b"\x01\0\0\0\0\0\x01\0\0\0\0\0\x01\0\0\0\x40";
+const SIXTY_FOURTH: &[u8] = b"\x02\0\0\0\0\0\x01\0\0\0\0\0\x01\0\0\0\0\0\0\0\x40";
 
-const SIXTY_FIFTH: &[u8] = b"\x01\0\0\0\0\0\x01\0\0\0\0\0\x01\0\0\0\x41";
+const SIXTY_FIFTH: &[u8] = b"\x02\0\0\0\0\0\x01\0\0\0\0\0\x01\0\0\0\0\0\0\0\x41";
 
-const SECOND_OF_LAST_EPOCH: &[u8] = b"\x01\0\0\0\0\0\x01\0\0\xff\xff\xff\xff\0\0\0\x02";
+const SECOND_OF_LAST_EPOCH: &[u8] = b"\x02\0\0\0\0\0\x01\0\0\xff\xff\xff\xff\0\0\0\0\0\0\0\x02";
 
 const SHOWS_64: Reply = Shows(&[V; 64], SIXTY_FOURTH);
 
@@ -42,7 +42,7 @@ const EXCHANGES: &[Exchange] = &[
             Ask(PutAfterOthers(64), Refused(Refusal::ClockFull)),
             Get(b"k", Shows(&[V], FIRST)),
             Ask(PutAfterOthers(63), Done),
-            Get(b"k", Counts(2, 1_025)),
+            Get(b"k", Counts(2, 1_281)),
         ],
     },
 ];

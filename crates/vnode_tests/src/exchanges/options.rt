@@ -2,9 +2,10 @@
 
 use crate::exchanges::asking::go_as_expected;
 use crate::exchanges::steps::{
-    Ask, BARE, BOTH_CONDITIONS, Del, Done, Exchange, FIRST, Get, GetWith, HEAD, IF_NONE_MATCH,
-    IF_NOT_MODIFIED, NONE, NOTHING, OF_DEAD, PLAIN_GET, Put, PutWith, RETURN_BODY, RETURN_BOTH,
-    RETURN_HEAD, Reap, Refused, Reply, SECOND, Shows, THIRD, Tombstone, Unchanged, V, W, X,
+    Ask, BARE, BOTH_CONDITIONS, Del, Done, Exchange, FIRST, FOURTH, Get, GetWith, HEAD,
+    IF_NONE_MATCH, IF_NOT_MODIFIED, NARROW_FIRST, NARROW_SECOND, NONE, NOTHING, OF_DEAD, PLAIN_GET,
+    Put, PutWith, RETURN_BODY, RETURN_BOTH, RETURN_HEAD, Reap, Refused, Reply, SECOND, Shows,
+    THIRD, Tombstone, Unchanged, V, W, X,
 };
 use vnode_core::{Reaped, Refusal};
 
@@ -34,7 +35,7 @@ const CONDITIONS: &[Exchange] = &[
         ],
     },
     // An absent key isn't found, nor is a dead one; with an old context, or none, the key is modified; with its own it is
-    // written.
+    // written, whichever version it is of.
     Exchange {
         shows: "if_not_modified wants the key's own context",
         steps: &[
@@ -44,8 +45,13 @@ const CONDITIONS: &[Exchange] = &[
             Ask(PutWith(b"k", b"x", FIRST, IF_NOT_MODIFIED), MODIFIED),
             Ask(PutWith(b"k", b"x", NONE, IF_NOT_MODIFIED), MODIFIED),
             Get(b"k", W_AND_V),
-            Ask(PutWith(b"k", b"x", SECOND, IF_NOT_MODIFIED), Done),
-            Get(b"k", Shows(&[X], THIRD)),
+            Ask(PutWith(b"k", b"x", NARROW_SECOND, IF_NOT_MODIFIED), Done),
+            Ask(
+                PutWith(b"k", b"x", NARROW_SECOND, IF_NOT_MODIFIED),
+                MODIFIED,
+            ),
+            Ask(PutWith(b"k", b"w", THIRD, IF_NOT_MODIFIED), Done),
+            Get(b"k", Shows(&[W], FOURTH)),
             Ask(Del(b"k", NONE), Done),
             Ask(PutWith(b"k", b"y", NONE, IF_NOT_MODIFIED), NOT_FOUND),
         ],
@@ -127,6 +133,8 @@ const REPLIES: &[Exchange] = &[
             GetWith(b"k", FIRST, PLAIN_GET, NOTHING),
             Ask(Put(b"k", b"v", NONE), Done),
             GetWith(b"k", FIRST, PLAIN_GET, Unchanged),
+            GetWith(b"k", NARROW_FIRST, PLAIN_GET, Unchanged),
+            GetWith(b"k", NARROW_SECOND, PLAIN_GET, Shows(&[V], FIRST)),
             GetWith(b"k", b"\x01", PLAIN_GET, Shows(&[V], FIRST)),
             Ask(Put(b"k", b"w", NONE), Done),
             GetWith(b"k", FIRST, PLAIN_GET, W_AND_V),

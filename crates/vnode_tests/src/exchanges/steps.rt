@@ -9,17 +9,22 @@ pub(crate) const ID: u64 = 65_536;
 /// No context.
 pub(crate) const NONE: &[u8] = b"";
 
-/// A context: the number of the form, then vnode id, epoch and counter of the one entry.
-pub(crate) const FIRST: &[u8] = b"\x01\0\0\0\0\0\x01\0\0\0\0\0\x01\0\0\0\x01";
+/// A context: the number of the version, then vnode id, epoch and counter of the one entry.
+pub(crate) const FIRST: &[u8] = b"\x02\0\0\0\0\0\x01\0\0\0\0\0\x01\0\0\0\0\0\0\0\x01";
 
-pub(crate) const SECOND: &[u8] = b"\x01\0\0\0\0\0\x01\0\0\0\0\0\x01\0\0\0\x02";
+pub(crate) const SECOND: &[u8] = b"\x02\0\0\0\0\0\x01\0\0\0\0\0\x01\0\0\0\0\0\0\0\x02";
 
-pub(crate) const THIRD: &[u8] = b"\x01\0\0\0\0\0\x01\0\0\0\0\0\x01\0\0\0\x03";
+pub(crate) const THIRD: &[u8] = b"\x02\0\0\0\0\0\x01\0\0\0\0\0\x01\0\0\0\0\0\0\0\x03";
 
-pub(crate) const FOURTH: &[u8] = b"\x01\0\0\0\0\0\x01\0\0\0\0\0\x01\0\0\0\x04";
+pub(crate) const FOURTH: &[u8] = b"\x02\0\0\0\0\0\x01\0\0\0\0\0\x01\0\0\0\0\0\0\0\x04";
+
+/// The same as version 1 has them, whose counters are of four bytes.
+pub(crate) const NARROW_FIRST: &[u8] = b"\x01\0\0\0\0\0\x01\0\0\0\0\0\x01\0\0\0\x01";
+
+pub(crate) const NARROW_SECOND: &[u8] = b"\x01\0\0\0\0\0\x01\0\0\0\0\0\x01\0\0\0\x02";
 
 /// The first dot of the second epoch.
-pub(crate) const FIRST_OF_SECOND: &[u8] = b"\x01\0\0\0\0\0\x01\0\0\0\0\0\x02\0\0\0\x01";
+pub(crate) const FIRST_OF_SECOND: &[u8] = b"\x02\0\0\0\0\0\x01\0\0\0\0\0\x02\0\0\0\0\0\0\0\x01";
 
 /// A sibling as a reply shows it.
 pub(crate) enum Sibling {

@@ -14,7 +14,7 @@ const NOT_FOUND: Reply = Refused(Refusal::NotFound);
 
 /// Two entries: the first dot of the first epoch, and the second of the second.
 const BOTH_LIVES: &[u8] =
-    b"\x01\0\0\0\0\0\x01\0\0\0\0\0\x01\0\0\0\x01\0\0\0\0\0\x01\0\0\0\0\0\x02\0\0\0\x02";
+    b"\x02\0\0\0\0\0\x01\0\0\0\0\0\x01\0\0\0\0\0\0\0\x01\0\0\0\0\0\x01\0\0\0\0\0\x02\0\0\0\0\0\0\0\x02";
 
 const NONE_YET: Tally = Tally {
     writes: 0,

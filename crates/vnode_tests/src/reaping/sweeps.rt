@@ -24,7 +24,7 @@ const NONE_OF_THEM: Swept = Swept {
 };
 
 /// The context of the key d: the first dot of the third epoch.
-const LIFE_OF_D: &[u8] = b"\x01\0\0\0\0\0\x01\0\0\0\0\0\x03\0\0\0\x01";
+const LIFE_OF_D: &[u8] = b"\x02\0\0\0\0\0\x01\0\0\0\0\0\x03\0\0\0\0\0\0\0\x01";
 
 const EXCHANGES: &[Exchange] = &[
     // Of the dead keys a, c and e a sweep from b with budget 1 forgets c, and more are left; one of all with budget 5
