@@ -8,6 +8,9 @@ mod requests;
 mod round_trips;
 
 /// One entry of a context, as clients get it.
+const SHOWN_CONTEXT: &[u8] = b"\x02\0\0\0\0\0\x01\0\0\0\0\0\x01\0\0\0\0\0\0\0\x01";
+
+/// The same of version 1, as clients that got it before may give it.
 const CONTEXT: &[u8] = b"\x01\0\0\0\0\0\x01\0\0\0\0\0\x01\0\0\0\x01";
 
 /// Bucket b and key k, as fields 1 and 2.

@@ -1,7 +1,7 @@
 //! Replies, as this node writes them and as a client reads them, and a request that a client makes.
 
 use crate::messages::contents::{FULL, content};
-use crate::messages::{CONTEXT, reading};
+use crate::messages::{SHOWN_CONTEXT, reading};
 use riak_msgs::*;
 use std::alloc::{AllocError, Global};
 
@@ -81,8 +81,8 @@ const WRITTEN: &[Written] = &[
     },
     Written {
         shows: "the reply to a get with a value and a tombstone",
-        made: Get(&[Value(b"v"), Tombstone], CONTEXT, false),
-        message: b"\x0a\x0a\x03\x0a\x01v\x0a\x04\x0a\0\x58\x01\x12\x11\x01\0\0\0\0\0\x01\0\0\0\0\0\x01\0\0\0\x01",
+        made: Get(&[Value(b"v"), Tombstone], SHOWN_CONTEXT, false),
+        message: b"\x0a\x0a\x03\x0a\x01v\x0a\x04\x0a\0\x58\x01\x12\x15\x02\0\0\0\0\0\x01\0\0\0\0\0\x01\0\0\0\0\0\0\0\x01",
     },
     Written {
         shows: "the reply to a put with the full content, and it without its value",

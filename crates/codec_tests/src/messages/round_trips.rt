@@ -172,13 +172,13 @@ const MESSAGES: &[Message] = &[
         shows: "the reply to a get with a value",
         kind: Kind::Reply,
         code: 10,
-        body: b"\x0a\x03\x0a\x01v\x12\x11\x01\0\0\0\0\0\x01\0\0\0\0\0\x01\0\0\0\x01",
+        body: b"\x0a\x03\x0a\x01v\x12\x15\x02\0\0\0\0\0\x01\0\0\0\0\0\x01\0\0\0\0\0\0\0\x01",
     },
     Message {
         shows: "the reply to a get with a tombstone and a value",
         kind: Kind::Reply,
         code: 10,
-        body: b"\x0a\x04\x0a\0\x58\x01\x0a\x03\x0a\x01w\x12\x11\x01\0\0\0\0\0\x01\0\0\0\0\0\x01\0\0\0\x03",
+        body: b"\x0a\x04\x0a\0\x58\x01\x0a\x03\x0a\x01w\x12\x15\x02\0\0\0\0\0\x01\0\0\0\0\0\x01\0\0\0\0\0\0\0\x03",
     },
     Message {
         shows: "the reply to a put with a content of every field",
@@ -202,7 +202,7 @@ const MESSAGES: &[Message] = &[
         shows: "the reply to a put with details as long",
         kind: Kind::Reply,
         code: 12,
-        body: b"\x0a\xbf\x01\x0a\x01v\x12\x15text/plain; charset=x2C\x0a\x14the bucket of a link\x12\x15the key that it names\x1a\x14the tag of that linkJ-\x0a\x14a name of usermeta..\x12\x15and the value of it..R/\x0a\x14an index of 20 bytes\x12\x17and what it is found by\x12\x11\x01\0\0\0\0\0\x01\0\0\0\0\0\x01\0\0\0\x01",
+        body: b"\x0a\xbf\x01\x0a\x01v\x12\x15text/plain; charset=x2C\x0a\x14the bucket of a link\x12\x15the key that it names\x1a\x14the tag of that linkJ-\x0a\x14a name of usermeta..\x12\x15and the value of it..R/\x0a\x14an index of 20 bytes\x12\x17and what it is found by\x12\x15\x02\0\0\0\0\0\x01\0\0\0\0\0\x01\0\0\0\0\0\0\0\x01",
     },
 ];
 
