@@ -16,7 +16,7 @@ pub const TWO_LIVES: &[u8] =
 /// Stored; "b" with the first epoch; deleted; stored; "b" with the second epoch. The key is forgotten after the delete, so
 /// the second put begins a second life.
 pub const LIVED_TWICE: &[u8] =
-    b"\0\0\0\x01\x0c\0\0\0\x19\x0a\x0a\x03\x0a\x01b\x12\x11\x01\0\0\0\0\0\x01\0\0\0\0\0\x01\0\0\0\x01\0\0\0\x01\x0e\0\0\0\x01\x0c\0\0\0\x19\x0a\x0a\x03\x0a\x01b\x12\x11\x01\0\0\0\0\0\x01\0\0\0\0\0\x02\0\0\0\x01";
+    b"\0\0\0\x01\x0c\0\0\0\x1d\x0a\x0a\x03\x0a\x01b\x12\x15\x02\0\0\0\0\0\x01\0\0\0\0\0\x01\0\0\0\0\0\0\0\x01\0\0\0\x01\x0e\0\0\0\x01\x0c\0\0\0\x1d\x0a\x0a\x03\x0a\x01b\x12\x15\x02\0\0\0\0\0\x01\0\0\0\0\0\x02\0\0\0\0\0\0\0\x01";
 
 /// The gates of run 1 on a ring of so many partitions, of which each answer forgets so many dead keys.
 pub fn new_shared(alloc: Global, partitions: u16, budget: u32) -> Option<Shared> {

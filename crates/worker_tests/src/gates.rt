@@ -51,7 +51,7 @@ const GET_PUT_W: &[u8] =
 
 /// "v" with the context of its dot; stored.
 const V_STORED: &[u8] =
-    b"\0\0\0\x19\x0a\x0a\x03\x0a\x01v\x12\x11\x01\0\0\0\0\0\x01\0\0\0\0\0\x01\0\0\0\x01\0\0\0\x01\x0c";
+    b"\0\0\0\x1d\x0a\x0a\x03\x0a\x01v\x12\x15\x02\0\0\0\0\0\x01\0\0\0\0\0\x01\0\0\0\0\0\0\0\x01\0\0\0\x01\x0c";
 
 /// A get, a put of "x" by the context that showed "v" alone, and a get.
 const GET_PUT_X_GET: &[u8] =
@@ -59,7 +59,7 @@ const GET_PUT_X_GET: &[u8] =
 
 /// "w" and "v"; stored; "x" and "w".
 const SIBLINGS: &[u8] =
-    b"\0\0\0\x1e\x0a\x0a\x03\x0a\x01w\x0a\x03\x0a\x01v\x12\x11\x01\0\0\0\0\0\x01\0\0\0\0\0\x01\0\0\0\x02\0\0\0\x01\x0c\0\0\0\x1e\x0a\x0a\x03\x0a\x01x\x0a\x03\x0a\x01w\x12\x11\x01\0\0\0\0\0\x01\0\0\0\0\0\x01\0\0\0\x03";
+    b"\0\0\0\x22\x0a\x0a\x03\x0a\x01w\x0a\x03\x0a\x01v\x12\x15\x02\0\0\0\0\0\x01\0\0\0\0\0\x01\0\0\0\0\0\0\0\x02\0\0\0\x01\x0c\0\0\0\x22\x0a\x0a\x03\x0a\x01x\x0a\x03\x0a\x01w\x12\x15\x02\0\0\0\0\0\x01\0\0\0\0\0\x01\0\0\0\0\0\0\0\x03";
 
 /// A ping, a put of "v" on b/k, a put of "u" on b/j, and a get of each.
 const TWO_KEYS: &[u8] =
@@ -67,7 +67,7 @@ const TWO_KEYS: &[u8] =
 
 /// Each has the first epoch of its vnode, 65,536 and 65,537.
 const TWO_VNODES: &[u8] =
-    b"\0\0\0\x01\x02\0\0\0\x01\x0c\0\0\0\x01\x0c\0\0\0\x19\x0a\x0a\x03\x0a\x01v\x12\x11\x01\0\0\0\0\0\x01\0\0\0\0\0\x01\0\0\0\x01\0\0\0\x19\x0a\x0a\x03\x0a\x01u\x12\x11\x01\0\0\0\0\0\x01\0\x01\0\0\0\x01\0\0\0\x01";
+    b"\0\0\0\x01\x02\0\0\0\x01\x0c\0\0\0\x01\x0c\0\0\0\x1d\x0a\x0a\x03\x0a\x01v\x12\x15\x02\0\0\0\0\0\x01\0\0\0\0\0\x01\0\0\0\0\0\0\0\x01\0\0\0\x1d\x0a\x0a\x03\x0a\x01u\x12\x15\x02\0\0\0\0\0\x01\0\x01\0\0\0\x01\0\0\0\0\0\0\0\x01";
 
 /// The greatest number that the book has room for.
 const LAST: u64 = 18_446_744_073_709_551_615;
@@ -354,7 +354,7 @@ const PUT_TWICE: Session = Session {
 const GET_EIGHT: Session = Session {
     gets_before: 0,
     requests: GET,
-    replies: b"\0\0\0\x3c\x0a\x0a\x03\x0a\x01v\x0a\x03\x0a\x01v\x0a\x03\x0a\x01v\x0a\x03\x0a\x01v\x0a\x03\x0a\x01v\x0a\x03\x0a\x01v\x0a\x03\x0a\x01v\x0a\x03\x0a\x01v\x12\x11\x01\0\0\0\0\0\x01\0\0\0\0\0\x01\0\0\0\x08",
+    replies: b"\0\0\0@\x0a\x0a\x03\x0a\x01v\x0a\x03\x0a\x01v\x0a\x03\x0a\x01v\x0a\x03\x0a\x01v\x0a\x03\x0a\x01v\x0a\x03\x0a\x01v\x0a\x03\x0a\x01v\x0a\x03\x0a\x01v\x12\x15\x02\0\0\0\0\0\x01\0\0\0\0\0\x01\0\0\0\0\0\0\0\x08",
     is_book_full: false,
     totals: Totals {
         gets: 1,

@@ -147,11 +147,11 @@ struct Row {
 }
 
 /// The contexts of the first two dots of the key's first life, and of the first of its second.
-const FIRST: &[u8] = b"\x01\0\0\0\0\0\x01\0\0\0\0\0\x01\0\0\0\x01";
+const FIRST: &[u8] = b"\x02\0\0\0\0\0\x01\0\0\0\0\0\x01\0\0\0\0\0\0\0\x01";
 
-const SECOND: &[u8] = b"\x01\0\0\0\0\0\x01\0\0\0\0\0\x01\0\0\0\x02";
+const SECOND: &[u8] = b"\x02\0\0\0\0\0\x01\0\0\0\0\0\x01\0\0\0\0\0\0\0\x02";
 
-const SECOND_LIFE: &[u8] = b"\x01\0\0\0\0\0\x01\0\0\0\0\0\x02\0\0\0\x01";
+const SECOND_LIFE: &[u8] = b"\x02\0\0\0\0\0\x01\0\0\0\0\0\x02\0\0\0\0\0\0\0\x01";
 
 const ONE_DIED: Tally = Tally {
     writes: 2,

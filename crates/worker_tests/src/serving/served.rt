@@ -44,13 +44,13 @@ const PUT_V_GET: &[u8] =
 const PUT_W_GET: &[u8] =
     b"\0\0\0\x0c\x0b\x0a\x01b\x12\x01j\x22\x03\x0a\x01w\0\0\0\x07\x09\x0a\x01b\x12\x01j";
 
-/// Stored; "v" with the context of one dot of the vnode 65,536, but for its epoch and counter, which are eight bytes.
+/// Stored; "v" with the context of one dot of the vnode 65,536, but for its epoch and counter, which are twelve bytes.
 const STORED_V: &[u8] =
-    b"\0\0\0\x01\x0c\0\0\0\x19\x0a\x0a\x03\x0a\x01v\x12\x11\x01\0\0\0\0\0\x01\0\0";
+    b"\0\0\0\x01\x0c\0\0\0\x1d\x0a\x0a\x03\x0a\x01v\x12\x15\x02\0\0\0\0\0\x01\0\0";
 
 /// The same of "w".
 const STORED_W: &[u8] =
-    b"\0\0\0\x01\x0c\0\0\0\x19\x0a\x0a\x03\x0a\x01w\x12\x11\x01\0\0\0\0\0\x01\0\0";
+    b"\0\0\0\x01\x0c\0\0\0\x1d\x0a\x0a\x03\x0a\x01w\x12\x15\x02\0\0\0\0\0\x01\0\0";
 
 /// Two clients that are connected at once: each puts a value of its own and gets it.
 const TWO_CLIENTS: &[Step] = &[
@@ -58,8 +58,8 @@ const TWO_CLIENTS: &[Step] = &[
     Step::Connects,
     Step::Acts(1, Action::Sends(PUT_W_GET)),
     Step::Acts(0, Action::Sends(PUT_V_GET)),
-    Step::Acts(0, Action::Gets(STORED_V, 8)),
-    Step::Acts(1, Action::Gets(STORED_W, 8)),
+    Step::Acts(0, Action::Gets(STORED_V, 12)),
+    Step::Acts(1, Action::Gets(STORED_W, 12)),
     Step::Acts(0, Action::Shuts),
     Step::Acts(0, Action::IsEnded),
     Step::Acts(1, Action::Shuts),
@@ -90,7 +90,7 @@ const THREE_CLIENTS: &[Step] = &[
     Step::Leaves,
     Step::Connects,
     Step::Acts(0, Action::Sends(PUT_V_GET)),
-    Step::Acts(0, Action::Gets(STORED_V, 8)),
+    Step::Acts(0, Action::Gets(STORED_V, 12)),
     Step::Acts(0, Action::Shuts),
     Step::Acts(0, Action::IsEnded),
 ];
