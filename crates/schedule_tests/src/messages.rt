@@ -39,7 +39,7 @@ pub const ABSENT: Message = Message {
 /// The reply to a get that shows "v", the first write of the vnode 0 of run 1, and its context.
 pub const SHOWS_V: Message = Message {
     code: 10,
-    body: b"\x0a\x03\x0a\x01v\x12\x11\x01\0\0\0\0\0\x01\0\0\0\0\0\x01\0\0\0\x01",
+    body: b"\x0a\x03\x0a\x01v\x12\x15\x02\0\0\0\0\0\x01\0\0\0\0\0\x01\0\0\0\0\0\0\0\x01",
 };
 
 /// The reply to a put.

@@ -47,37 +47,37 @@ const GET_HEAD: Message = Message {
 /// "w", and the context of "v".
 const SHOWS_W: Message = Message {
     code: 10,
-    body: b"\x0a\x03\x0a\x01w\x12\x11\x01\0\0\0\0\0\x01\0\0\0\0\0\x01\0\0\0\x01",
+    body: b"\x0a\x03\x0a\x01w\x12\x15\x02\0\0\0\0\0\x01\0\0\0\0\0\x01\0\0\0\0\0\0\0\x01",
 };
 
 /// "x" and "w".
 const SHOWS_X_W: Message = Message {
     code: 10,
-    body: b"\x0a\x03\x0a\x01x\x0a\x03\x0a\x01w\x12\x11\x01\0\0\0\0\0\x01\0\0\0\0\0\x01\0\0\0\x03",
+    body: b"\x0a\x03\x0a\x01x\x0a\x03\x0a\x01w\x12\x15\x02\0\0\0\0\0\x01\0\0\0\0\0\x01\0\0\0\0\0\0\0\x03",
 };
 
 /// "w" and "x".
 const SHOWS_W_X: Message = Message {
     code: 10,
-    body: b"\x0a\x03\x0a\x01w\x0a\x03\x0a\x01x\x12\x11\x01\0\0\0\0\0\x01\0\0\0\0\0\x01\0\0\0\x03",
+    body: b"\x0a\x03\x0a\x01w\x0a\x03\x0a\x01x\x12\x15\x02\0\0\0\0\0\x01\0\0\0\0\0\x01\0\0\0\0\0\0\0\x03",
 };
 
 /// A tombstone and "w".
 const SHOWS_TOMBSTONE_W: Message = Message {
     code: 10,
-    body: b"\x0a\x04\x0a\0\x58\x01\x0a\x03\x0a\x01w\x12\x11\x01\0\0\0\0\0\x01\0\0\0\0\0\x01\0\0\0\x03",
+    body: b"\x0a\x04\x0a\0\x58\x01\x0a\x03\x0a\x01w\x12\x15\x02\0\0\0\0\0\x01\0\0\0\0\0\x01\0\0\0\0\0\0\0\x03",
 };
 
 /// That there is a value, which isn't given, and the context of "v".
 const SHOWS_HEAD: Message = Message {
     code: 10,
-    body: b"\x0a\x02\x0a\0\x12\x11\x01\0\0\0\0\0\x01\0\0\0\0\0\x01\0\0\0\x01",
+    body: b"\x0a\x02\x0a\0\x12\x15\x02\0\0\0\0\0\x01\0\0\0\0\0\x01\0\0\0\0\0\0\0\x01",
 };
 
 /// "w" as the first write of a key that was forgotten once.
 const SHOWS_W_ANEW: Message = Message {
     code: 10,
-    body: b"\x0a\x03\x0a\x01w\x12\x11\x01\0\0\0\0\0\x01\0\0\0\0\0\x02\0\0\0\x01",
+    body: b"\x0a\x03\x0a\x01w\x12\x15\x02\0\0\0\0\0\x01\0\0\0\0\0\x02\0\0\0\0\0\0\0\x01",
 };
 
 /// The refusal of a put where a value is there.

@@ -68,7 +68,7 @@ const WRITTEN_LINES: &[WrittenLine] = &[
     WrittenLine {
         shows: "a reply is its code and body in hexadecimal",
         of: Written::Reply(16, SHOWS_V),
-        line: "16 reply 0a0a030a017612110100000000000100000000000100000001\n",
+        line: "16 reply 0a0a030a01761215020000000000010000000000010000000000000001\n",
     },
     WrittenLine {
         shows: "the error message of a refusal",
