@@ -95,7 +95,7 @@ struct Held {
 const NOBODY: Actor = Actor { vnode: 0, epoch: 0 };
 
 /// What a clock holds. It takes no memory.
-fn held(clock: &Clock<u8>) -> Held {
+fn held_by(clock: &Clock<u8>) -> Held {
     let mut pairs = [(NOBODY, 0); 64];
     let mut known = 0usize;
     for pair in clock.join() {
@@ -130,7 +130,7 @@ fn is_held(clock: &Clock<u8>, held: &Held) -> bool {
 
 /// Whether a step is taken. Where memory is refused, the clock holds the pairs and values of before; then once more.
 fn takes(clock: &mut Clock<u8>, step: &Step) -> bool {
-    let before = held(clock);
+    let before = held_by(clock);
     match try_step(clock, step) {
         Ok(()) => true,
         Err(fault) => {
@@ -169,8 +169,8 @@ pub fn takes_in(alloc: Global, clock: &mut Clock<u8>, steps: &[Step]) -> bool {
     if !takes_all(&mut other, steps) {
         return false;
     }
-    let before = held(clock);
-    let others = held(&other);
+    let before = held_by(clock);
+    let others = held_by(&other);
     match clock.sync(other) {
         Ok(()) => true,
         Err(refused) => {
