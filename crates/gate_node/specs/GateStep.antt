@@ -7,6 +7,7 @@ use Rattle.riak_msgs.specs.declared.Reply.{Reply}
 use Rattle.riak_msgs.specs.declared.Reply.TheVariants as replies
 use Rattle.vnode_protocol.specs.declared.ask.Ask.TheVariants as asks
 use Rattle.stats_book.specs.declared.quantity.Quantity.{Quantity}
+use Rattle.vnode_machine.specs.Replay.{IsWithinLimits}
 use Rattle.vnode_protocol.specs.Events.{IsMadeNew}
 use Rattle.node_session.specs.PlainNodes.{partition_of}
 use Rattle.gate_node.specs.Gates.{Gates}
@@ -20,7 +21,8 @@ pub record Node : Type 0 where
   pub count : Count
 
 -- A request is answered at the vnode of this index, of which dead keys are forgotten then, and all of that is counted. The
--- gate was made round that vnode when it was new, and what was seen of any other vnode stays.
+-- gate was made round that vnode when it was new, its id is one that a vnode can have, and what was seen of any other vnode
+-- stays.
 pub record AtIndex (index : ℕ) (old new : Node) (Answers : Sight → Sight → Option Quantity → Type 0) : Type 0 where
   pub before : Sight
   pub after : Sight
@@ -29,6 +31,7 @@ pub record AtIndex (index : ℕ) (old new : Node) (Answers : Sight → Sight →
   pub count : Count
   pub stands : slice_get old.passes index ≡ Some before
   pub made_new : IsMadeNew (id_of old.shared.run index) 0 before.gate
+  pub limits : IsWithinLimits (id_of old.shared.run index) 0
   pub gate : after.gate ≡ before.gate
   pub steps : AnswersAndReaps old.shared.budget reaps (λ p q. Answers p q quantity) before after
   pub counts : CountsAnswer quantity reaps old.count count

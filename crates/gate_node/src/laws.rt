@@ -14,8 +14,8 @@ ghost use Rattle.gate_node.specs.Sessions.{most_of, CountsUpTo};
 
 /// Each position at which a [`GateNode`](crate::GateNode) answers is a legal history of the sibling register, and the state
 /// there is its replay. For the node's step names the position and its run (`leads` of `IsMade` and `IsSaid` in
-/// `specs/Asking`), and that the gate was made round the new vnode of the key's partition (`made_new` of `AtIndex` in
-/// `specs/GateStep`).
+/// `specs/Asking`), that the gate was made round the new vnode of the key's partition, and that the id of this vnode is one
+/// that a vnode can have (`made_new` and `limits` of `AtIndex` in `specs/GateStep`).
 pub fn positions_are_legal()
     ensures { (vnode : ℕ) (gate : GateId View) (events : List Event) (state : State Content)
         → PositionIsLegal vnode gate events state }

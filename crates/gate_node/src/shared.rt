@@ -1,7 +1,7 @@
 //! The gates of a run, and a caller's passes of them.
 ghost use Rattle.std.specs.Prelude.{◌≡◌, ◌≤◌, ◌^◌, IfOk, IsOkUnless, All, length, map};
 ghost use Rattle.vnode_protocol.specs.Events.{IsMadeNew};
-ghost use Rattle.gate_node.specs.Gates.{AreMadeNew, IsUnused};
+ghost use Rattle.gate_node.specs.Gates.{AreMadeNew, AreOfNewRun, IsUnused};
 
 use crate::fault::PoolFault;
 use crate::turnstile::Turnstile;
@@ -43,7 +43,7 @@ impl Drop for Shared {
 
 impl Model for Shared {
     ghost use Rattle.std.specs.Prelude.{◌≡◌, ◌≤◌, ◌^◌, length};
-    ghost use Rattle.gate_node.specs.Gates.{Gates, AreMadeNew};
+    ghost use Rattle.gate_node.specs.Gates.{Gates, AreOfNewRun};
 
     ghost Value = { Gates };
 
@@ -55,7 +55,7 @@ impl Model for Shared {
       gates = s.gates.items;
     } };
 
-    ghost invariant = { λ s. AreMadeNew s.run 0 s.gates.items × (length s.gates.items ≡ 2 ^ s.ring)
+    ghost invariant = { λ s. AreOfNewRun s.run s.gates.items × (length s.gates.items ≡ 2 ^ s.ring)
         × (s.reads ≤ 2 ^ 32) };
 }
 
@@ -89,6 +89,7 @@ fn new_gates(alloc: Global, ring: Ring, run: u32) -> Result<Vec<Gate<Vnode>>, Al
     requires { 1 ≤ run }
     ensures gates { IfOk result (λ gates. AreMadeNew run 0 gates.items) }
     ensures size { IfOk result (λ gates. length gates.items ≡ 2 ^ ring) }
+    ensures few { IfOk result (λ gates. length gates.items ≤ 1024) }
 {
     let size = ring.size();
     let mut gates = Vec::with_capacity(alloc, usize::from(size))?;
@@ -156,6 +157,7 @@ impl Shared {
     pub fn gates(&self) -> &[Gate<Vnode>]
         ensures gates { result.now ≡ self.now.gates }
         ensures size { length result.now ≡ 2 ^ self.now.index_bits }
+        ensures new_run { AreOfNewRun self.now.run self.now.gates }
     {
         self.gates.as_slice()
     }

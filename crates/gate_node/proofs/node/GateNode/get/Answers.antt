@@ -1,6 +1,6 @@
 use Rattle.std.proofs.Common.{◌<◌, ◌∙◌, ap, sym, subst, length}
 use Rattle.gate_node.specs.Asked.{Gets}
-use Rattle.gate_node.specs.Gates.{AreMadeNew}
+use Rattle.gate_node.specs.Gates.{AreOfNewRun}
 use Rattle.gate_node.proofs.Opened.{same_gates, at_index}
 use Rattle.gate_node.proofs.node.GateNode.get.Goals as goal
 
@@ -12,7 +12,7 @@ returns g c =
     let shared = c.self.inside.shared.now in
     let gates = c.shared.inside.gates.items in
     let of = c.self.invariant ∙ ap (λ s. s.gates) (sym c.shared.view_is) in
-    let all = subst (λ n. AreMadeNew n 0 gates) (ap (λ s. s.run) c.shared.view_is) c.shared.invariant.0 in
+    let all = subst (λ n. AreOfNewRun n gates) (ap (λ s. s.run) c.shared.view_is) c.shared.invariant.0 in
     let within = subst (λ n. c.args.index < length n.passes) (sym c.self.view_is) c.requires in
     rw (← c.self.view_is)
     (at_index (record { shared = shared; passes = c.self.inside.passes.items; count = c.self.inside.counter }) gates c.args.index c.index_mut-pass.result.now c.get_and_reap-answered.new.pass
