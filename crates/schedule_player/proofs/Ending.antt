@@ -3,7 +3,7 @@ use Rattle.std.proofs.Common.{◌≡◌, ◌⊎◌, ◌+◌, ◌≤◌, ℕ, Lis
 use Rattle.std.specs.Io.KnownBytes.{Appends, Keeps}
 use Rattle.std.proofs.KnownBytes.{Appends-trans, Appends-kept, Appends-nil, Consumes-nil}
 use Rattle.schedule_text.specs.Cuts.{lines_of}
-use Rattle.schedule_text.specs.Verdicts.{verdict_line, verdict_of}
+use Rattle.schedule_text.specs.Verdicts.{verdict_line}
 use Rattle.node_steps.specs.declared.outcome.Outcome.{Outcome as Returned}
 use Rattle.node_steps.specs.Steps.{Step, outcome}
 use Rattle.node_steps.specs.Schedules.{Start, world_after}
@@ -14,6 +14,7 @@ use Rattle.schedule_player.specs.declared.player.Player.{Player}
 use Rattle.schedule_player.specs.Answers.{answer_line, next_line}
 use Rattle.schedule_player.specs.Asked.{AsksFor, AsksForNone, AskForAll}
 use Rattle.schedule_player.specs.Lines.{PlaysLine}
+use Rattle.schedule_player.specs.Heard.{Heard, heard_after, last_line}
 use Rattle.schedule_player.specs.Played.{Ends, Answered, Played}
 use Rattle.schedule_player.specs.Progress.{HasAnswered, WritesEnd}
 use Rattle.schedule_player.proofs.Texts.{whole_alone}
@@ -93,19 +94,24 @@ module _ (start : Start) (ring : ℕ) where
   ended_between fault player input answered rest texts schedule first held held' parts whole has kept ends =
       ended input answered rest [] texts schedule player first held held' (Err fault) parts (whole_alone answered texts whole) (ap lines_of parts ∙ whole rest) has (nothing held held' kept) ends
 
+  -- the verdict that was kept is that of the last line
+  last_is : (schedule : List Step) (player : Player) → player.referee ≡ heard_after start schedule
+      → verdict_line player.referee.compared.verdict ≡ last_line start schedule
+  last_is schedule player heard = ap (λ (h : Heard). verdict_line h.compared.verdict) heard
+
   -- all lines were answered, and the line of the verdict is written
   pub end_written : (result : Result (Unit {0}) StepsFault) (player : Player) (input : List ℕ) (texts : List (List ℕ)) (schedule : List Step) (first held held' : Option (List ℕ))
       → lines_of input ≡ texts → HasAnswered start ring player texts schedule first held → WritesEnd player held held' result → Answered start ring input first held' result
   end_written (Ok u) player input texts schedule first held held' lines has w =
       ended input input [] _ texts schedule player first held held' (Ok u) (sym (append-nil input)) lines (lines ∙ sym (append-nil texts)) has w
-      (record { nothing = refl; verdict = verdict_of player.referee.comparison; may = has.verdict; next_is = refl })
+      (record { nothing = refl; next_is = last_is schedule player has.heard })
   end_written (Err (BadStep line)) player input texts schedule first held held' lines has w = absurd w
   end_written (Err ReadFailed) player input texts schedule first held held' lines has w = absurd w
   end_written (Err WriteFailed) player input texts schedule first held held' lines has w =
       ended input input [] _ texts schedule player first held held' (Err WriteFailed) (sym (append-nil input)) lines (lines ∙ sym (append-nil texts)) has w.1
       (inr (record {
-        next = verdict_line (verdict_of player.referee.comparison);
-        is_next = inr (record { nothing = refl; verdict = verdict_of player.referee.comparison; may = has.verdict; next_is = refl });
+        next = verdict_line player.referee.compared.verdict;
+        is_next = inr (record { nothing = refl; next_is = last_is schedule player has.heard });
         len = w.0;
         begins = refl;
       }))

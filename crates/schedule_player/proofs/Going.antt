@@ -19,6 +19,14 @@ pub record HasGone (old : Player) (partial piece : List ℕ) (held : Option (Lis
   pub split : piece ≡ done ++ rest
   pub goes : PlaysPiece old partial done held player left held' (Ok tt)
 
+-- nothing of it was
+pub nothing_gone : (old : Player) (partial piece : List ℕ) (held : Option (List ℕ)) → HasGone old partial piece held old piece partial held
+nothing_gone old partial piece held = record {
+  done = [];
+  split = refl;
+  goes = λ start ring input first s. subst (λ x. HasPlayed start ring old x first held partial) (sym (append-nil input)) s;
+}
+
 module _ (old player : Player) (partial piece rest left : List ℕ) (held held' : Option (List ℕ)) where
   -- one line more
   pub line_gone : (new : Player) (front behind : List ℕ) (held'' : Option (List ℕ)) → HasGone old partial piece held player rest left held' → IsCut 10 rest front behind

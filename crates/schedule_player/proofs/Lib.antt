@@ -3,3 +3,5 @@ mod Texts
 mod Progress
 mod Ending
 mod Going
+mod Calls
+mod Hearing

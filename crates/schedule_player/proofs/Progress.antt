@@ -3,11 +3,12 @@ use Rattle.std.proofs.Common.{◌+◌, ◌<◌, ℕ, List, [], ◌∷◌, ◌++�
 use Rattle.std.specs.Io.KnownBytes.{Appends, Keeps}
 use Rattle.std.proofs.KnownBytes.{Appends-trans, Appends-kept, Appends-nil}
 use Rattle.schedule_text.specs.Cuts.{Lacks}
-use Rattle.schedule_text.specs.Verdicts.{MayFollow, verdict_of}
-use Rattle.node_steps.specs.Steps.{Step}
-use Rattle.node_steps.specs.Schedules.{Start}
+use Rattle.node_steps.specs.Steps.{Step, outcome}
+use Rattle.node_steps.specs.Schedules.{Start, world_after}
+use Rattle.node_steps.specs.Returned.{returned}
 use Rattle.schedule_player.specs.declared.player.Player.{Player}
 use Rattle.schedule_player.specs.Lines.{IsPlayed}
+use Rattle.schedule_player.specs.Heard.{Heard, after_line, asked_by, heard_after}
 use Rattle.schedule_player.specs.Progress.{IsOpening, HasAnswered, HasPlayed}
 use Rattle.schedule_player.proofs.Texts.{lacks_both, whole_more}
 use Rattle.schedule_player.proofs.Ending.{line_is, asks_on}
@@ -29,7 +30,9 @@ module _ (start : Start) (ring : ℕ) where
         kept = f.1;
         count = omega (arith, a.lines, has.count);
         few = omega (arith, fewer);
-        verdict = (verdict_of old.referee.comparison, has.verdict, subst (λ n. MayFollow (n + 1) (verdict_of old.referee.comparison) (verdict_of new.referee.comparison)) has.count a.verdict);
+        heard = a.heard ∙ ap (λ n. after_line (n + 1) p.step.worker (asked_by p.step.action) a.outcome old.referee) has.count
+            ∙ ap (λ o. after_line (length schedule + 1) p.step.worker (asked_by p.step.action) o old.referee) f.0
+            ∙ ap (after_line (length schedule + 1) p.step.worker (asked_by p.step.action) (returned (outcome (world_after start schedule) p.step))) has.heard;
         written = Appends-trans first held held' _ _ has.written (subst (Appends held held') line a.written);
       }
 
@@ -80,7 +83,7 @@ module _ (start : Start) (ring : ℕ) where
       kept = s.has.kept;
       count = s.has.count;
       few = s.has.few;
-      verdict = s.has.verdict;
+      heard = s.has.heard;
       written = Appends-kept first held held' _ s.has.written kept;
     };
     unended = s.unended;
@@ -101,7 +104,7 @@ module _ (start : Start) (ring : ℕ) where
       kept = record { start_is = o.start_is; workers = o.workers_fit; world_is = o.world_is };
       count = o.lines;
       few = omega arith;
-      verdict = o.verdict;
+      heard = o.heard;
       written = Appends-nil held;
     };
     unended = refl;

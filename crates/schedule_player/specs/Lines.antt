@@ -1,7 +1,9 @@
 -- What comes of one line.
 use Rattle.std.specs.Prelude.{◌≡◌, ◌⊎◌, ◌+◌, ◌<◌, ◌≤◌, ℕ, List, Option, Result, Ok, Err, take}
 use Rattle.std.specs.Io.KnownBytes.{Appends, Keeps}
-use Rattle.schedule_text.specs.Verdicts.{MayFollow, verdict_of}
+use Rattle.riak_msgs.specs.Contents.{Content}
+use Rattle.sibling_register.specs.Answers.{Ask}
+use Rattle.actor_epoch.specs.Given.{Context}
 use Rattle.node_steps.specs.declared.outcome.Outcome.{Outcome as Returned}
 use Rattle.node_steps.specs.Steps.{Step}
 use Rattle.node_steps.specs.Kept.{Follows}
@@ -10,27 +12,28 @@ use Rattle.schedule_player.specs.declared.fault.StepsFault.TheVariants.{BadStep,
 use Rattle.schedule_player.specs.declared.player.Player.{Player}
 use Rattle.schedule_player.specs.Answers.{answer_line}
 use Rattle.schedule_player.specs.Asked.{AsksFor, AsksForNone}
+use Rattle.schedule_player.specs.Heard.{after_line, asked_by}
 
--- one line more was written and counted; the world is the same
-pub record IsWritten (old : Player) (outcome : Returned) (held held' : Option (List ℕ)) (new : Player) : Type 0 where
+-- one line more was written and counted, of a worker that got this call or none; the world is the same
+pub record IsWritten (old : Player) (worker : ℕ) (asked : Option (Ask Content Context)) (outcome : Returned) (held held' : Option (List ℕ)) (new : Player) : Type 0 where
   pub world : new.world ≡ old.world
   pub workers : new.workers ≡ old.workers
   pub ring : new.ring ≡ old.ring
   pub lines : new.lines ≡ old.lines + 1
-  pub verdict : MayFollow (old.lines + 1) (verdict_of old.referee.comparison) (verdict_of new.referee.comparison)
+  pub heard : new.referee ≡ after_line (old.lines + 1) worker asked outcome old.referee
   pub written : Appends held held' (answer_line (old.lines + 1) outcome)
 
 -- a beginning of the next line was written
 abbrev pub IsCutTo : Player → Returned → Option (List ℕ) → Option (List ℕ) → Type 0
 IsCutTo old outcome held held' = (len : ℕ) × Appends held held' (take len (answer_line (old.lines + 1) outcome))
 
--- what came of a step is written as the next line
-abbrev pub WritesLine : Player → Returned → Option (List ℕ) → Option (List ℕ) → Player → Result (Unit {0}) StepsFault → Type 0
-WritesLine old outcome held held' new (Ok u) = IsWritten old outcome held held' new
-WritesLine old outcome held held' new (Err (BadStep line)) = ⊥
-WritesLine old outcome held held' new (Err ReadFailed) = ⊥
-WritesLine old outcome held held' new (Err WriteFailed) = IsCutTo old outcome held held' × (new.world ≡ old.world)
-WritesLine old outcome held held' new (Err NoMemory) = Keeps held held'
+-- what came of a worker's step is written as the next line
+abbrev pub WritesLine : Player → ℕ → Option (Ask Content Context) → Returned → Option (List ℕ) → Option (List ℕ) → Player → Result (Unit {0}) StepsFault → Type 0
+WritesLine old worker asked outcome held held' new (Ok u) = IsWritten old worker asked outcome held held' new
+WritesLine old worker asked outcome held held' new (Err (BadStep line)) = ⊥
+WritesLine old worker asked outcome held held' new (Err ReadFailed) = ⊥
+WritesLine old worker asked outcome held held' new (Err WriteFailed) = IsCutTo old outcome held held' × (new.world ≡ old.world)
+WritesLine old worker asked outcome held held' new (Err NoMemory) = Keeps held held'
 
 -- a step was taken, and what it returned is the next line
 pub record IsAnswered (old : Player) (step : Step) (held held' : Option (List ℕ)) (new : Player) : Type 0 where
@@ -39,7 +42,7 @@ pub record IsAnswered (old : Player) (step : Step) (held held' : Option (List �
   pub workers : new.workers ≡ old.workers
   pub ring : new.ring ≡ old.ring
   pub lines : new.lines ≡ old.lines + 1
-  pub verdict : MayFollow (old.lines + 1) (verdict_of old.referee.comparison) (verdict_of new.referee.comparison)
+  pub heard : new.referee ≡ after_line (old.lines + 1) step.worker (asked_by step.action) outcome old.referee
   pub written : Appends held held' (answer_line (old.lines + 1) outcome)
 
 -- a step was taken, and a beginning of its line was written

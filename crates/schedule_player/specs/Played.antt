@@ -2,25 +2,17 @@
 use Rattle.std.specs.Prelude.{◌≡◌, ◌⊎◌, ◌+◌, ◌^◌, ◌≤◌, ℕ, List, [], ◌∷◌, ◌++◌, length, take, Option, Result, Ok, Err}
 use Rattle.std.specs.Io.KnownBytes.{Appends, Consumes}
 use Rattle.schedule_text.specs.Cuts.{Lacks, lines_of}
-use Rattle.schedule_text.specs.declared.verdict.Verdict.{Verdict}
-use Rattle.schedule_text.specs.declared.verdict.Verdict.TheVariants.{Equal}
-use Rattle.schedule_text.specs.Verdicts.{MayFollow, verdict_line}
 use Rattle.node_steps.specs.Steps.{Step}
 use Rattle.node_steps.specs.Schedules.{Start}
 use Rattle.schedule_player.specs.declared.fault.StepsFault.{StepsFault}
 use Rattle.schedule_player.specs.declared.fault.StepsFault.TheVariants.{BadStep, ReadFailed, WriteFailed, NoMemory}
 use Rattle.schedule_player.specs.Answers.{answer_lines, next_line}
 use Rattle.schedule_player.specs.Asked.{AsksFor, AsksForNone, AskForAll}
+use Rattle.schedule_player.specs.Heard.{last_line}
 
 -- where a run begins, on a ring of so many index bits
 abbrev pub start_on : (run workers ring : ℕ) → Start
 start_on run workers ring = record { run = run; workers = workers; vnodes = 2 ^ ring }
-
--- a verdict that may be that of a schedule, whose latest step comes first: it begins as equal, and goes on line by line
-abbrev pub MayBeVerdict : List Step → Verdict → Type 0
-MayBeVerdict [] verdict = verdict ≡ Equal
-MayBeVerdict (step ∷ earlier) verdict =
-    (former : Verdict) × MayBeVerdict earlier former × MayFollow (length earlier + 1) former verdict
 
 module _ (start : Start) (ring : ℕ) where
   -- the next line of the rest asks for a step, and this is its answer
@@ -32,12 +24,10 @@ module _ (start : Start) (ring : ℕ) where
     pub asks : AsksFor start.workers ring text step
     pub next_is : next ≡ next_line start schedule step
 
-  -- nothing is left, and this is the line of the verdict
+  -- nothing is left, and this is the last line
   pub record IsLastLine (schedule : List Step) (rest next : List ℕ) : Type 0 where
     pub nothing : rest ≡ []
-    pub verdict : Verdict
-    pub may : MayBeVerdict schedule verdict
-    pub next_is : next ≡ verdict_line verdict
+    pub next_is : next ≡ last_line start schedule
 
   -- a beginning of the next line was written last, perhaps none of it
   pub record IsCutLine (schedule : List Step) (rest last : List ℕ) : Type 0 where

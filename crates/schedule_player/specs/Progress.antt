@@ -2,8 +2,7 @@
 use Rattle.std.specs.Prelude.{◌≡◌, ◌+◌, ◌<◌, ◌≤◌, ◌^◌, ℕ, List, [], ◌++◌, length, take, Option, Result, Ok, Err}
 use Rattle.std.specs.Io.KnownBytes.{Appends, Keeps}
 use Rattle.schedule_text.specs.Cuts.{Lacks, lines_of}
-use Rattle.schedule_text.specs.declared.verdict.Verdict.TheVariants.{Equal}
-use Rattle.schedule_text.specs.Verdicts.{verdict_line, verdict_of}
+use Rattle.schedule_text.specs.Verdicts.{verdict_line}
 use Rattle.node_steps.specs.World.{opening_world}
 use Rattle.node_steps.specs.Erased.{erase}
 use Rattle.node_steps.specs.Steps.{Step}
@@ -14,7 +13,8 @@ use Rattle.schedule_player.specs.declared.fault.StepsFault.TheVariants.{BadStep,
 use Rattle.schedule_player.specs.declared.player.Player.{Player}
 use Rattle.schedule_player.specs.Answers.{answer_lines}
 use Rattle.schedule_player.specs.Asked.{AskForAll}
-use Rattle.schedule_player.specs.Played.{MayBeVerdict, Answered, Played}
+use Rattle.schedule_player.specs.Heard.{heard_after, nothing_heard}
+use Rattle.schedule_player.specs.Played.{Answered, Played}
 
 -- a player that has answered nothing
 pub record IsOpening (start : Start) (ring : ℕ) (player : Player) : Type 0 where
@@ -24,7 +24,7 @@ pub record IsOpening (start : Start) (ring : ℕ) (player : Player) : Type 0 whe
   pub workers : player.workers ≡ start.workers
   pub ring_is : player.ring ≡ ring
   pub lines : player.lines ≡ 0
-  pub verdict : verdict_of player.referee.comparison ≡ Equal
+  pub heard : player.referee ≡ nothing_heard start.workers
 
 -- the player is that of a start, and has answered the steps of a schedule, which some texts asked for
 pub record HasAnswered (start : Start) (ring : ℕ) (player : Player) (texts : List (List ℕ)) (schedule : List Step) (held held' : Option (List ℕ)) : Type 0 where
@@ -34,7 +34,7 @@ pub record HasAnswered (start : Start) (ring : ℕ) (player : Player) (texts : L
   pub kept : IsKeptAfter start schedule player.world
   pub count : player.lines ≡ length schedule
   pub few : length schedule ≤ 100000
-  pub verdict : MayBeVerdict schedule (verdict_of player.referee.comparison)
+  pub heard : player.referee ≡ heard_after start schedule
   pub written : Appends held held' (answer_lines start schedule)
 
 -- the whole lines of an input were answered, and behind them lies a part of a line
@@ -64,11 +64,11 @@ PlaysEnd old partial held held' result =
 
 -- the line of the verdict is written
 abbrev pub WritesEnd : Player → Option (List ℕ) → Option (List ℕ) → Result (Unit {0}) StepsFault → Type 0
-WritesEnd player held held' (Ok u) = Appends held held' (verdict_line (verdict_of player.referee.comparison))
+WritesEnd player held held' (Ok u) = Appends held held' (verdict_line player.referee.compared.verdict)
 WritesEnd player held held' (Err (BadStep line)) = ⊥
 WritesEnd player held held' (Err ReadFailed) = ⊥
 WritesEnd player held held' (Err WriteFailed) =
-    (len : ℕ) × Appends held held' (take len (verdict_line (verdict_of player.referee.comparison)))
+    (len : ℕ) × Appends held held' (take len (verdict_line player.referee.compared.verdict))
 WritesEnd player held held' (Err NoMemory) = Keeps held held'
 
 -- a new player plays a schedule

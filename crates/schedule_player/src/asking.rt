@@ -1,15 +1,17 @@
 //! The step that a line asks for, of the running world.
 
-ghost use Rattle.std.specs.Prelude.{◌≡◌, IfErr};
+ghost use Rattle.std.specs.Prelude.{◌≡◌, IfOk, is_some};
 ghost use Rattle.schedule_player.specs.Asked.{gate_step, index_for, line_step};
-ghost use Rattle.schedule_player.specs.Reads.{IsRefused, ReadsStep};
+ghost use Rattle.schedule_player.specs.Calls.{call_in, call_of};
+ghost use Rattle.schedule_player.specs.Reads.{ReadsStep};
+ghost use Rattle.node_steps.specs.Asked.{step_of};
 
 use crate::fault::StepsFault;
 use node_steps::Step;
 use riak_msgs::Request;
 use ring_map::Ring;
 use schedule_text::{Action, GateStep, Line, LineFault, read_line};
-use std::alloc::Global;
+use std::alloc::{AllocError, Global};
 
 /// The index of the vnode that a request is for. (A ping is for none, and no line asks for one.)
 fn index_for(ring: Ring, request: &Request) -> u16
@@ -78,33 +80,41 @@ pub(crate) fn read_step(
     }
 }
 
-/// Whether the step gives its worker a call.
-fn is_call(step: &Step) -> bool {
-    matches!(step, Step::Ask(_, _, _) | Step::Reap(_, _, _))
+/// Whether the step asks something, and so gives its worker a call. (To ask a ping is no call.)
+pub(crate) fn asks(step: &Step) -> bool
+    ensures { result ≡ is_some (call_of step.now) }
+{
+    match step {
+        Step::Ask(_, _, request) => !matches!(request, Request::Ping),
+        Step::Reap(_, _, _) => true,
+        Step::Enter(_)
+        | Step::Leave(_)
+        | Step::Mark(_)
+        | Step::Unmark(_)
+        | Step::Take(_)
+        | Step::Put(_)
+        | Step::Look(_)
+        | Step::Publish(_) => false,
+    }
 }
 
-/// The step of a line of this number on the heap, if it gives its worker a call.
-pub(crate) fn read_call(
-    alloc: Global,
-    text: &[u8],
-    workers: u16,
-    ring: Ring,
-    number: u32,
-) -> Result<Option<Box<Step>>, StepsFault>
-    ensures { IfErr result (IsRefused workers number text.now) }
+/// A copy of the step on the heap, if it gives its worker a call.
+#[tactic(auto, using(crate::proofs::Calls::none_is))]
+pub(crate) fn kept_call(alloc: Global, step: &Step) -> Result<Option<Box<Step>>, AllocError>
+    ensures { IfOk result (λ call. call_in call ≡ call_of step.now) }
 {
-    let step = read_step(alloc, text, workers, ring, number)?;
-    if !is_call(&step) {
+    if !asks(step) {
         return Ok(None);
     }
-    match Box::new(alloc, step) {
-        Ok(call) => Ok(Some(call)),
-        Err(_) => Err(StepsFault::NoMemory),
-    }
+    let copy = step.clone(alloc)?;
+    let call = Box::new(alloc, copy)?;
+    Ok(Some(call))
 }
 
 /// The number of the worker that takes a step.
-pub(crate) fn worker_of(step: &Step) -> u16 {
+pub(crate) fn worker_of(step: &Step) -> u16
+    ensures { result ≡ (step_of step.now).worker }
+{
     match step {
         Step::Ask(worker, _, _) => *worker,
         Step::Reap(worker, _, _) => *worker,

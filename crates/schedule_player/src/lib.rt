@@ -5,9 +5,9 @@
 //! the comparison with plain registers.
 //!
 //! What it means (`specs/Played`): what was written are the outcomes that the theorem's world has for the steps that the
-//! lines ask for, in their order, from the opening world on.
+//! lines ask for, in their order, from the opening world on; the last line is a function of them (`specs/Heard`).
 //!
-//! What it costs: each line is looked at twice, and copied once into a buffer of its length. Of each worker the last call is
+//! What it costs: each line is looked at once, and copied once into a buffer of its length. Of each worker the last call is
 //! kept. A line takes a step of its world and one write; the comparison reads a vnode's whole history for each answer.
 //!
 //! ```text

@@ -67,7 +67,7 @@ pub(crate) fn finish<W: Write>(
 fn write_end<W: Write>(alloc: Global, player: &Player, writer: &mut W) -> Result<(), StepsFault>
     ensures { WritesEnd player.now (W.contents writer.old) (W.contents writer.new) result }
 {
-    let line = write_verdict(alloc, player.referee.comparison.verdict())?;
+    let line = write_verdict(alloc, player.referee.verdict())?;
     send(writer, line.as_slice())?;
     flush(writer)
 }

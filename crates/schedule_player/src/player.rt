@@ -2,10 +2,11 @@
 
 ghost use Rattle.std.specs.Prelude.{◌<◌};
 ghost use Rattle.node_steps.specs.Asked.{step_of};
+ghost use Rattle.schedule_player.specs.Calls.{call_in};
 ghost use Rattle.schedule_player.specs.Lines.{AnswersStep, PlaysLine, WritesLine};
 
 use crate::answer::write_answer;
-use crate::asking::{read_call, read_step, worker_of};
+use crate::asking::{kept_call, read_step, worker_of};
 use crate::fault::StepsFault;
 use crate::referee::Referee;
 use crate::sending::send;
@@ -40,16 +41,14 @@ impl Player {
             return Err(StepsFault::BadStep(self.lines.saturating_add(1)));
         }
         let number = self.lines + 1;
-        let call = read_call(alloc, text, self.workers, self.ring, number)?;
         let step = read_step(alloc, text, self.workers, self.ring, number)?;
-        self.play_step(alloc, call, step, writer)
+        self.play_step(alloc, step, writer)
     }
 
     /// Takes a step, and writes what came of it.
     fn play_step<W: Write>(
         &mut self,
         alloc: Global,
-        call: Option<Box<Step>>,
         step: Step,
         writer: &mut W,
     ) -> Result<(), StepsFault>
@@ -58,6 +57,7 @@ impl Player {
             (W.contents writer.old) (W.contents writer.new) self.new result }
     {
         let worker = worker_of(&step);
+        let call = kept_call(alloc, &step)?;
         match self.world.step(alloc, step) {
             Ok(outcome) => self.write_line(alloc, worker, call, &outcome, writer),
             Err(_) => Err(StepsFault::NoMemory),
@@ -74,7 +74,7 @@ impl Player {
         writer: &mut W,
     ) -> Result<(), StepsFault>
         requires { self.old.lines < 100000 }
-        ensures { WritesLine self.old outcome.now
+        ensures { WritesLine self.old worker (call_in call) outcome.now
             (W.contents writer.old) (W.contents writer.new) self.new result }
     {
         let number = u64::from(self.lines) + 1;

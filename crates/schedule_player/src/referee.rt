@@ -1,66 +1,130 @@
-//! What the comparison with plain registers is given of a run.
+//! What the comparison with a plain register is told of a run.
 
-ghost use Rattle.std.specs.Prelude.{◌≡◌, IfOk};
-ghost use Rattle.schedule_text.specs.declared.verdict.Verdict.TheVariants.{Equal};
-ghost use Rattle.schedule_text.specs.Verdicts.{MayFollow, verdict_of};
+ghost use Rattle.std.specs.Prelude.{◌≡◌, ◌-◌, IfOk, OnOk, Some, map, option_and_then, option_copied};
+ghost use Rattle.std.specs.Option.{option_map_or};
+ghost use Rattle.riak_msgs.specs.Contents.{Content};
+ghost use Rattle.actor_epoch.specs.Given.{Context};
+ghost use Rattle.sibling_register.specs.Answers.{Ask};
+ghost use Rattle.node_steps.specs.declared.outcome.Outcome.TheVariants.{Done};
+ghost use Rattle.schedule_text.specs.Compared.{after_call};
+ghost use Rattle.schedule_player.specs.Calls.{call_in, call_of};
+ghost use Rattle.schedule_player.specs.Heard.{after_line, last_call, nothing_heard, reaped, replied, with_call};
 
+use crate::asking::asks;
 use node_steps::{Outcome, Step};
 use riak_msgs::Reply;
-use schedule_text::Comparison;
+use schedule_text::{Comparison, Verdict};
 use std::alloc::{AllocError, Global};
+use std::marker::Model;
 
-/// The last call of each worker, and the comparison, which is given it once it is answered.
+/// The last call of each worker, and the comparison, which is told of it when it is given and when it is answered. Contracts
+/// see what is heard of a run (`specs/Heard`).
 #[derive(Drop)]
 pub(crate) struct Referee {
-    pub(crate) calls: Vec<Option<Box<Step>>>,
-    pub(crate) comparison: Comparison,
+    calls: Vec<Option<Box<Step>>>,
+    comparison: Comparison,
+}
+
+impl Model for Referee {
+    ghost use Rattle.std.specs.Prelude.{map};
+    ghost use Rattle.schedule_player.specs.Calls.{call_in};
+    ghost use Rattle.schedule_player.specs.Heard.{Heard};
+
+    ghost Value = { Heard };
+
+    ghost view = { λ r. record {
+        calls = map call_in r.calls.items;
+        compared = r.comparison;
+    } };
 }
 
 /// Where the last call of a worker lies. Workers are numbered from 1.
-fn place_of(worker: u16) -> usize {
-    usize::from(worker).wrapping_sub(1)
+fn place_of(worker: u16) -> usize
+    ensures { result ≡ worker - 1 }
+{
+    usize::from(worker.saturating_sub(1))
 }
 
 /// The last call of a worker.
-fn call_of(calls: &[Option<Box<Step>>], worker: u16) -> Option<&Step> {
+#[tactic(auto, using(crate::proofs::Calls::last_is))]
+fn last_call(calls: &[Option<Box<Step>>], worker: u16) -> Option<&Step>
+    ensures { option_and_then call_of (option_copied result)
+        ≡ last_call (map call_in calls.now) worker }
+{
     match calls.get(place_of(worker)) {
+        None => None,
+        Some(None) => None,
         Some(Some(call)) => Some(&**call),
-        _ => None,
     }
 }
 
-/// Compares the answer to a worker's get, put or delete with the plain node's.
+/// Compares the answer to a worker's get, put or delete with the register's.
+#[tactic(auto, using(crate::proofs::Calls::replied_is))]
 fn compare(
     comparison: &mut Comparison,
     alloc: Global,
-    number: u64,
+    line: u64,
     call: Option<&Step>,
     reply: &Reply,
 ) -> Result<(), AllocError>
-    ensures { MayFollow number (verdict_of comparison.old) (verdict_of comparison.new) }
+    ensures { OnOk result (comparison.new
+        ≡ option_map_or (λ ask. replied line reply.now ask comparison.old)
+            (option_and_then call_of (option_copied call.entry)) comparison.old) }
 {
     match call {
-        Some(Step::Ask(_, index, request)) => {
-            comparison.compare(alloc, number, *index, request, reply)
-        }
+        Some(Step::Ask(_, _, request)) => comparison.reply(alloc, line, request, reply),
         _ => Ok(()),
     }
 }
 
-/// Has the plain node reap what a worker reaped.
+/// Has the register reap what a worker's vnode was asked to reap.
 fn reap(comparison: &mut Comparison, alloc: Global, call: Option<&Step>) -> Result<(), AllocError>
-    ensures { verdict_of comparison.new ≡ verdict_of comparison.old }
+    ensures { OnOk result (comparison.new
+        ≡ option_map_or (λ ask. reaped ask comparison.old)
+            (option_and_then call_of (option_copied call.entry)) comparison.old) }
 {
     match call {
-        Some(Step::Reap(_, index, key)) => comparison.reap(alloc, *index, key),
+        Some(Step::Reap(_, _, key)) => comparison.reap(alloc, key),
         _ => Ok(()),
+    }
+}
+
+/// Tells the comparison of a call.
+#[tactic(auto, using(crate::proofs::Calls::asked_is))]
+fn tell(comparison: &mut Comparison, call: &Step)
+    ensures { comparison.new
+        ≡ option_map_or (λ ask. after_call ask comparison.old) (call_of call.now) comparison.old }
+{
+    match call {
+        Step::Ask(_, _, request) => comparison.call(request),
+        Step::Reap(_, _, _)
+        | Step::Enter(_)
+        | Step::Leave(_)
+        | Step::Mark(_)
+        | Step::Unmark(_)
+        | Step::Take(_)
+        | Step::Put(_)
+        | Step::Look(_)
+        | Step::Publish(_) => {}
+    }
+}
+
+/// Keeps a worker's call.
+#[tactic(auto, using(crate::proofs::Calls::kept_is, crate::proofs::Calls::not_kept))]
+fn keep(calls: &mut Vec<Option<Box<Step>>>, worker: u16, call: Box<Step>)
+    ensures { (ask : Ask Content Context) → call_of call.value ≡ Some ask
+        → map call_in calls.new.items ≡ with_call (map call_in calls.old.items) worker ask }
+{
+    match calls.get_mut(place_of(worker)) {
+        None => {}
+        Some(slot) => *slot = Some(call),
     }
 }
 
 impl Referee {
     /// Of a run of so many workers, which have no call.
     pub(crate) fn new(alloc: Global, workers: u16) -> Result<Referee, AllocError>
-        ensures { IfOk result (λ referee. verdict_of referee.comparison ≡ Equal) }
+        ensures { IfOk result (λ referee. referee ≡ nothing_heard workers) }
     {
         let mut calls = Vec::with_capacity(alloc, usize::from(workers))?;
         for _ in 0..workers {
@@ -72,41 +136,55 @@ impl Referee {
         })
     }
 
-    /// Keeps a worker's call.
-    fn keep(&mut self, worker: u16, call: Option<Box<Step>>)
-        ensures { self.new.comparison ≡ self.old.comparison }
+    /// The verdict so far.
+    pub(crate) fn verdict(&self) -> Verdict
+        ensures { result ≡ self.now.compared.verdict }
     {
-        if call.is_some() {
-            if let Some(place) = self.calls.get_mut(place_of(worker)) {
-                *place = call;
-            }
+        self.comparison.verdict()
+    }
+
+    /// Takes down the call that a worker got.
+    #[tactic(auto, using(crate::proofs::Calls::called_is, crate::proofs::Calls::none_is))]
+    fn hear_call(&mut self, worker: u16, call: Option<Box<Step>>)
+        ensures { self.new ≡ after_line 0 worker (call_in call) Done self.old }
+    {
+        let Some(call) = call else {
+            return;
+        };
+        if !asks(&call) {
+            return;
         }
+        tell(&mut self.comparison, &call);
+        keep(&mut self.calls, worker, call);
     }
 
     /// Takes down what came of the step of a line: the call that the worker got, or the answer to its last one.
+    ///
+    /// Refused where memory is; the referee is then of no more use.
+    #[tactic(auto, using(crate::proofs::Hearing::heard_reap))]
     pub(crate) fn hear(
         &mut self,
         alloc: Global,
-        number: u64,
+        line: u64,
         worker: u16,
         call: Option<Box<Step>>,
         outcome: &Outcome,
     ) -> Result<(), AllocError>
-        ensures { MayFollow number
-            (verdict_of self.old.comparison) (verdict_of self.new.comparison) }
+        ensures { OnOk result (
+            self.new ≡ after_line line worker (call_in call) outcome.now self.old) }
     {
         match outcome {
             Outcome::No => Ok(()),
             Outcome::Done => {
-                self.keep(worker, call);
+                self.hear_call(worker, call);
                 Ok(())
             }
             Outcome::Reply(reply) => {
-                let last = call_of(self.calls.as_slice(), worker);
-                compare(&mut self.comparison, alloc, number, last, reply)
+                let last = last_call(self.calls.as_slice(), worker);
+                compare(&mut self.comparison, alloc, line, last, reply)
             }
             Outcome::Reaped | Outcome::Kept => {
-                let last = call_of(self.calls.as_slice(), worker);
+                let last = last_call(self.calls.as_slice(), worker);
                 reap(&mut self.comparison, alloc, last)
             }
         }

@@ -4,3 +4,4 @@ mod Messages
 mod Words
 mod LineOperands
 mod OneStep
+mod PlainAsking

@@ -5,3 +5,4 @@ pub mod Reading
 pub mod Outcomes
 pub mod Verdicts
 pub mod PlainAnswers
+pub mod Compared

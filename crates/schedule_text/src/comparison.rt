@@ -1,113 +1,117 @@
-//! The comparison of a run with plain registers.
+//! The comparison of a run with a plain register.
 
-ghost use Rattle.std.specs.Prelude.{◌≡◌, ◌<◌, length, IfOk, IfSome};
-ghost use Rattle.schedule_text.specs.declared.verdict.Verdict.TheVariants.{Equal};
-ghost use Rattle.schedule_text.specs.Verdicts.{MayFollow, verdict_of};
+ghost use Rattle.std.specs.Prelude.{◌≡◌, OnOk};
+ghost use Rattle.std.specs.Option.{option_map_or};
+ghost use Rattle.schedule_text.specs.Compared.{after_call, after_reap, after_reply, ask_of, nothing_compared};
 
-use crate::plain_vnode::PlainVnode;
+use crate::plain_ask::{ask_register, reap_plain, within};
+use crate::reply_parts::{context_shown, is_asked, is_due, key_and_context};
+use crate::shown_context::{ShownContext, is_unknown, note, position_given};
 use crate::verdict::Verdict;
-use riak_msgs::{Key, Reply, Request};
+use riak_msgs::{Content, Key, Reply, Request};
+use sibling_register::PlainRegister;
 use std::alloc::{AllocError, Global};
+use std::marker::Model;
 
-/// The register of a vnode, by the vnode's index.
-#[derive(Drop)]
-struct Indexed {
-    index: u16,
-    vnode: PlainVnode,
-}
-
-/// The comparison of a run with [plain registers](sibling_register::PlainRegister), one for each vnode.
+/// The comparison of a run with a [plain register](sibling_register::PlainRegister), which is asked the same.
 ///
-/// It takes each answered get, put, delete and reap, in the order in which they were answered, and asks the register
-/// of the vnode the same command. A context is named by the position at which a reply of this run first showed it for its
-/// key; a get's `if_modified` is a context too. A put or delete that was refused as bad context, clock full, epochs used up,
-/// counter used up or for want of memory isn't asked, since a register has no such refusals. Compared are the contents of
-/// replies, in order, and the refusals `match_found`, `modified`, `notfound` and `too many siblings`.
+/// It is told each get, put and delete that a worker gets, and each answer, in the order of the run. The register is asked a
+/// command when that is answered. A context is the position at which a reply of this run first showed its pairs for its key; a
+/// get's `if_modified` is a context too. A put or delete that was refused as bad context, clock full, epochs used up, counter used up
+/// or for want of memory isn't asked, since a register has no such refusals. Compared are the contents of replies, in order, and
+/// the refusals `match_found`, `modified`, `notfound` and `too many siblings`.
 ///
-/// A register reads its whole history for each command, some of them once for each sibling.
+/// Contracts see what is known of the run (`specs/Compared`). One register stands for all vnodes: what it answers of a key
+/// depends on that key's commands alone, and a key has one vnode. It reads its whole history for each command, some of it once
+/// for each sibling.
 #[derive(Drop)]
 pub struct Comparison {
-    vnodes: Vec<Indexed>,
+    register: PlainRegister<Content>,
+    shown: Vec<ShownContext>,
     verdict: Verdict,
+}
+
+impl Model for Comparison {
+    ghost use Rattle.schedule_text.specs.Compared.{Compared};
+
+    ghost Value = { Compared };
+
+    ghost view = { λ c. record {
+        history = c.register;
+        shown = c.shown.items;
+        verdict = c.verdict;
+    } };
 }
 
 impl Comparison {
     /// The comparison of a run that has answered nothing. It takes no memory.
     pub fn new(alloc: Global) -> Comparison
-        ensures { verdict_of result ≡ Equal }
+        ensures { result ≡ nothing_compared }
     {
         Comparison {
-            vnodes: Vec::new(alloc),
+            register: PlainRegister::new(alloc),
+            shown: Vec::new(alloc),
             verdict: Verdict::Equal,
         }
     }
 
     /// What is known so far.
     pub fn verdict(&self) -> Verdict
-        ensures { result ≡ verdict_of self.now }
+        ensures { result ≡ self.now.verdict }
     {
         self.verdict
     }
 
-    /// Compares an answer of a vnode, by the number of the line that gave it. A request that gives a context of the right
-    /// form that no earlier reply showed for its key ends the comparison.
+    /// Takes a call that a worker got. One that gives a context of the right form that no earlier reply showed for its key ends
+    /// the comparison, whether it is answered later or not.
+    pub fn call(&mut self, request: &Request)
+        ensures { self.new
+            ≡ option_map_or (λ ask. after_call ask self.old) (ask_of request.now) self.old }
+    {
+        let Some((key, context)) = key_and_context(request) else {
+            return;
+        };
+        if is_unknown(self.shown.as_slice(), key, context.as_slice()) {
+            self.verdict = Verdict::NotCompared;
+        }
+    }
+
+    /// Takes the answer to a call, by the number of the line that gave it.
     ///
     /// Refused where memory is; the comparison is then of no more use.
-    pub fn compare(
+    pub fn reply(
         &mut self,
         alloc: Global,
         line: u64,
-        vnode: u16,
         request: &Request,
         reply: &Reply,
     ) -> Result<(), AllocError>
-        ensures { MayFollow line (verdict_of self.old) (verdict_of self.new) }
+        ensures { OnOk result (self.new
+            ≡ option_map_or (λ ask. after_reply line ask reply.now self.old)
+                (ask_of request.now) self.old) }
     {
-        if self.verdict == Verdict::NotCompared {
+        let Some((key, context)) = key_and_context(request) else {
+            return Ok(());
+        };
+        if !is_asked(reply) {
             return Ok(());
         }
-        let place = place_of(alloc, &mut self.vnodes, vnode)?;
-        let finding = self.vnodes[place].vnode.compare(alloc, request, reply)?;
-        self.verdict = self.verdict.after(line, finding);
+        let position = position_given(self.shown.as_slice(), key, context.as_slice());
+        let position = within(position, &self.register);
+        let told = ask_register(alloc, &mut self.register, request, position)?;
+        let is_due = is_due(&self.register, alloc, key, &told, reply)?;
+        let end = self.register.len();
+        note(alloc, &mut self.shown, key, context_shown(reply), end)?;
+        self.verdict = self.verdict.after(line, is_due);
         Ok(())
     }
 
     /// Takes a reap that was answered, whether it forgot the key or kept it.
     ///
     /// Refused where memory is; the comparison is then of no more use.
-    pub fn reap(&mut self, alloc: Global, vnode: u16, key: &Key) -> Result<(), AllocError>
-        ensures { verdict_of self.new ≡ verdict_of self.old }
+    pub fn reap(&mut self, alloc: Global, key: &Key) -> Result<(), AllocError>
+        ensures { OnOk result (self.new ≡ after_reap key.now self.old) }
     {
-        let place = place_of(alloc, &mut self.vnodes, vnode)?;
-        self.vnodes[place].vnode.reap(alloc, key)
-    }
-}
-
-/// The place of the vnode of this index.
-fn find(vnodes: &[Indexed], index: u16) -> Option<usize>
-    ensures { IfSome result (λ place. place < length vnodes.now) }
-{
-    let mut place = 0;
-    while place < vnodes.len() {
-        if vnodes[place].index == index {
-            return Some(place);
-        }
-        place += 1;
-    }
-    None
-}
-
-/// The place of the vnode of this index, which is added where it isn't there.
-fn place_of(alloc: Global, vnodes: &mut Vec<Indexed>, index: u16) -> Result<usize, AllocError>
-    ensures { IfOk result (λ place. place < length vnodes.new.items) }
-{
-    match find(vnodes.as_slice(), index) {
-        Some(place) => Ok(place),
-        None => {
-            let place = vnodes.len();
-            let vnode = PlainVnode::new(alloc);
-            vnodes.push(Indexed { index, vnode })?;
-            Ok(place)
-        }
+        reap_plain(alloc, &mut self.register, key)
     }
 }

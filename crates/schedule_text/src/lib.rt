@@ -5,8 +5,8 @@
 //! (`specs/Lines`), and a line asks for one step ([`a_line_asks_for_one_step`]). [`Lines`] cuts a text into its lines
 //! (`specs/Cuts`), and [`write_outcome`] writes the outcome of a step (`specs/Outcomes`).
 //!
-//! A [`Comparison`] takes each answer of a run and asks a plain register the same (`specs/PlainAnswers`); its verdict is
-//! the run's last line, which [`write_verdict`] writes (`specs/Verdicts`).
+//! A [`Comparison`] takes each call and each answer of a run and asks a plain register the same (`specs/Compared`,
+//! `specs/PlainAnswers`); its verdict is the run's last line, which [`write_verdict`] writes (`specs/Verdicts`).
 //!
 //! ```text
 //! ask 1 090a016212016b        worker 1 asks for bucket b, key k: a get
@@ -27,9 +27,9 @@ mod message;
 mod operands;
 mod outcome;
 mod plain_ask;
-mod plain_vnode;
 mod reading;
 mod reply_parts;
+mod shown_context;
 mod verdict;
 
 pub use comparison::Comparison;

@@ -1,107 +1,138 @@
 //! Asking a plain register what a vnode was asked.
 
-ghost use Rattle.std.specs.Prelude.{◌≤◌, IfOk, IfSome};
-ghost use Rattle.schedule_text.specs.PlainAnswers.{AnswersWith, AnswersRequest, del_command, get_command, put_command};
-ghost use Rattle.sibling_register.specs.Plain.{IsPosition};
+ghost use Rattle.std.specs.Prelude.{◌≡◌, ◌≤◌, IfOk, IfSome, OnOk, length, Some};
+ghost use Rattle.riak_msgs.specs.Contents.{Content};
+ghost use Rattle.actor_epoch.specs.Given.{Context};
+ghost use Rattle.sibling_register.specs.Answers.{Ask, AskDel, AskGet, AskPut};
+ghost use Rattle.sibling_register.specs.Plain.{GivesPositions, IsPosition, answer_of};
+ghost use Rattle.sibling_register.specs.declared.command.Command.TheVariants.{Reap};
+ghost use Rattle.vnode_machine.specs.Asks.{del_command, get_command, put_command};
+ghost use Rattle.schedule_text.specs.PlainAnswers.{Comes, command_by, history_after, plain_of};
+ghost use Rattle.schedule_text.specs.Compared.{ask_of, within};
 
-use riak_msgs::{Content, DelAsk, GetAsk, PutAsk, Request};
-use sibling_register::{Command, PlainRegister, RegisterFault, Told};
+use riak_msgs::{Content, DelAsk, GetAsk, Key, PutAsk, Request};
+use sibling_register::{Command, PlainRegister, Told};
 use std::alloc::{AllocError, Global};
 
 /// A position that isn't past the end. (No position is: the minimum only says so.)
-pub(crate) fn within(position: Option<u64>, end: u64) -> Option<u64>
-    ensures { IfSome result (λ p. p ≤ end) }
+pub(crate) fn within(position: Option<u64>, register: &PlainRegister<Content>) -> Option<u64>
+    ensures is { result ≡ within register.now position }
+    ensures at { IsPosition register.now result }
 {
     match position {
         None => None,
-        Some(position) => Some(position.min(end)),
+        Some(position) => Some(position.min(register.len())),
+    }
+}
+
+/// Asks a command.
+fn ask_command(
+    alloc: Global,
+    register: &mut PlainRegister<Content>,
+    command: Command<Content>,
+) -> Result<Told, AllocError>
+    requires { GivesPositions register.old command }
+    ensures { IfOk result (λ told. Comes register.old command (answer_of told) register.new) }
+{
+    match register.ask(alloc, command) {
+        Ok(told) => Ok(told),
+        Err(_) => Err(AllocError),
     }
 }
 
 /// Asks a get.
 fn ask_get(
-    register: &mut PlainRegister<Content>,
     alloc: Global,
+    register: &mut PlainRegister<Content>,
     ask: &GetAsk,
     if_modified: Option<u64>,
-) -> Result<Told, RegisterFault>
+) -> Result<Told, AllocError>
     requires { IsPosition register.old if_modified }
     ensures { IfOk result (λ told.
-        AnswersWith register.old (get_command ask.now if_modified) told register.new) }
+        Comes register.old (command_by (AskGet (get_command ask.now)) if_modified)
+            (answer_of told) register.new) }
 {
     let key = ask.key.clone(alloc)?;
-    register.ask(
-        alloc,
-        Command::Get {
-            key,
-            if_modified,
-            head: ask.head,
-            deletedvclock: ask.deletedvclock,
-        },
-    )
+    let command = Command::Get {
+        key,
+        if_modified,
+        head: ask.head,
+        deletedvclock: ask.deletedvclock,
+    };
+    ask_command(alloc, register, command)
 }
 
 /// Asks a put.
 fn ask_put(
-    register: &mut PlainRegister<Content>,
     alloc: Global,
+    register: &mut PlainRegister<Content>,
     ask: &PutAsk,
     context: Option<u64>,
-) -> Result<Told, RegisterFault>
+) -> Result<Told, AllocError>
     requires { IsPosition register.old context }
     ensures { IfOk result (λ told.
-        AnswersWith register.old (put_command ask.now context) told register.new) }
+        Comes register.old (command_by (AskPut (put_command ask.now)) context)
+            (answer_of told) register.new) }
 {
     let key = ask.key.clone(alloc)?;
     let value = ask.content.as_content().clone(alloc)?;
-    register.ask(
-        alloc,
-        Command::Put {
-            key,
-            context,
-            value,
-            return_body: ask.return_body,
-            return_head: ask.return_head,
-            if_not_modified: ask.if_not_modified,
-            if_none_match: ask.if_none_match,
-        },
-    )
+    let command = Command::Put {
+        key,
+        context,
+        value,
+        return_body: ask.return_body,
+        return_head: ask.return_head,
+        if_not_modified: ask.if_not_modified,
+        if_none_match: ask.if_none_match,
+    };
+    ask_command(alloc, register, command)
 }
 
 /// Asks a delete.
 fn ask_del(
-    register: &mut PlainRegister<Content>,
     alloc: Global,
+    register: &mut PlainRegister<Content>,
     ask: &DelAsk,
     context: Option<u64>,
-) -> Result<Told, RegisterFault>
+) -> Result<Told, AllocError>
     requires { IsPosition register.old context }
     ensures { IfOk result (λ told.
-        AnswersWith register.old (del_command ask.now context) told register.new) }
+        Comes register.old (command_by (AskDel (del_command ask.now)) context)
+            (answer_of told) register.new) }
 {
     let key = ask.key.clone(alloc)?;
-    register.ask(alloc, Command::Del { key, context })
+    ask_command(alloc, register, Command::Del { key, context })
 }
 
-/// Asks a register what a request asks, its context being named by a position. A ping is answered as done.
-pub(crate) fn ask(
-    register: &mut PlainRegister<Content>,
+/// Asks what a request asks, its context as this position. (A ping asks nothing.)
+pub(crate) fn ask_register(
     alloc: Global,
+    register: &mut PlainRegister<Content>,
     request: &Request,
     position: Option<u64>,
 ) -> Result<Told, AllocError>
     requires { IsPosition register.old position }
-    ensures { IfOk result (λ told.
-        AnswersRequest register.old request.now position told register.new) }
+    ensures { (ask : Ask Content Context) → ask_of request.now ≡ Some ask → IfOk result (λ told.
+        Comes register.old (command_by ask position) (answer_of told) register.new) }
 {
-    let told = match request {
+    match request {
         Request::Ping => Ok(Told::Done),
-        Request::Get(get) => ask_get(register, alloc, get, position),
-        Request::Put(put) => ask_put(register, alloc, put, position),
-        Request::Del(del) => ask_del(register, alloc, del, position),
-    };
-    match told {
-        Ok(told) => Ok(told),
-        Err(_) => Err(AllocError),
+        Request::Get(get) => ask_get(alloc, register, get, position),
+        Request::Put(put) => ask_put(alloc, register, put, position),
+        Request::Del(del) => ask_del(alloc, register, del, position),
     }
+}
+
+/// Asks to reap a key.
+pub(crate) fn reap_plain(
+    alloc: Global,
+    register: &mut PlainRegister<Content>,
+    key: &Key,
+) -> Result<(), AllocError>
+    ensures { OnOk result (
+        register.new ≡ history_after register.old (plain_of register.old (Reap key.now))) }
+{
+    let key = key.clone(alloc)?;
+    ask_command(alloc, register, Command::Reap { key })?;
+    Ok(())
 }

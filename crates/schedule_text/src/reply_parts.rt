@@ -1,12 +1,24 @@
 //! What requests give and replies show, and whether a register's answer is a reply's.
 
-use pb_fields::Message;
+ghost use Rattle.std.specs.Prelude.{◌≡◌, IfOk, IfNone, IfSome, None, map, nat_eq, false, if◌then◌else◌};
+ghost use Rattle.std.specs.Option.{option_eq};
+ghost use Rattle.pb_fields.specs.Encoding.{repeated_field};
+ghost use Rattle.riak_msgs.specs.Encoding.{shown_message};
+ghost use Rattle.riak_msgs.specs.Contents.{bare};
+ghost use Rattle.sibling_register.specs.Plain.{answer_of};
+ghost use Rattle.schedule_text.specs.PlainAnswers.{are_due, is_due, plain_refusal, refusal_due, same_contents, sibling_shown};
+ghost use Rattle.schedule_text.specs.Compared.{AreOf, ask_of, context_in, is_asked};
+
+use pb_fields::encode_repeated;
 use riak_msgs::{Bytes, Content, Key, Reply, Request, Shown, Text};
 use sibling_register::{MATCH_FOUND, MODIFIED, NOT_FOUND, PlainRegister, TOO_MANY_SIBLINGS, Told};
 use std::alloc::{AllocError, Global};
 
 /// The key of a request, and the context that it gives: of a get that is `if_modified`. A ping has none.
-pub(crate) fn key_and_context(request: &Request) -> Option<(&Key, &Bytes)> {
+pub(crate) fn key_and_context(request: &Request) -> Option<(&Key, &Bytes)>
+    ensures some { IfSome result (λ given. AreOf request.now given.0.now given.1.now) }
+    ensures none { IfNone result (ask_of request.now ≡ None) }
+{
     match request {
         Request::Ping => None,
         Request::Get(ask) => Some((&ask.key, &ask.if_modified)),
@@ -16,7 +28,9 @@ pub(crate) fn key_and_context(request: &Request) -> Option<(&Key, &Bytes)> {
 }
 
 /// The number of a refusal that a register has too; none of another text.
-fn refusal_of(text: Text) -> Option<u8> {
+fn plain_refusal(text: Text) -> Option<u8>
+    ensures { result ≡ plain_refusal text }
+{
     match text {
         Text::MatchFound => Some(MATCH_FOUND),
         Text::Modified => Some(MODIFIED),
@@ -27,126 +41,143 @@ fn refusal_of(text: Text) -> Option<u8> {
 }
 
 /// Whether a register is asked the command of this reply: it is accepted, or refused as a register may.
-pub(crate) fn is_asked(reply: &Reply) -> bool {
+pub(crate) fn is_asked(reply: &Reply) -> bool
+    ensures { result ≡ is_asked reply.now }
+{
     match reply {
-        Reply::Error(text) => refusal_of(*text).is_some(),
+        Reply::Error(text) => plain_refusal(*text).is_some(),
         Reply::Ping => false,
         Reply::Get(_) | Reply::Put(_) | Reply::Del => true,
     }
 }
 
-/// The contents that a reply shows; none where it is an error.
-fn contents_of(reply: &Reply) -> Option<&[Shown]> {
+/// The bytes of the context that a reply shows; none where it shows none.
+pub(crate) fn context_shown(reply: &Reply) -> &[u8]
+    ensures { result.now ≡ context_in reply.now }
+{
     match reply {
-        Reply::Error(_) | Reply::Ping => None,
-        Reply::Get(shown) => Some(shown.contents.as_slice()),
-        Reply::Put(shown) => Some(shown.contents.as_slice()),
-        Reply::Del => Some(&[]),
+        Reply::Error(_) | Reply::Ping | Reply::Del => &[],
+        Reply::Get(shown) => shown.context.as_slice(),
+        Reply::Put(shown) => shown.context.as_slice(),
     }
 }
 
-/// The context that a reply shows.
-pub(crate) fn context_shown(reply: &Reply) -> Option<&Bytes> {
-    match reply {
-        Reply::Error(_) | Reply::Ping | Reply::Del => None,
-        Reply::Get(shown) => Some(&shown.context),
-        Reply::Put(shown) => Some(&shown.context),
-    }
+/// A content as a reply shows it, whole or bare.
+fn content_shown(alloc: Global, content: &Content, is_bare: bool) -> Result<Shown, AllocError>
+    ensures { IfOk result (λ shown. shown
+        ≡ record { content = if is_bare then bare content.now else content.now; deleted = false }) }
+{
+    let content = if is_bare {
+        content.clone_head(alloc)?
+    } else {
+        content.clone(alloc)?
+    };
+    Ok(Shown {
+        content,
+        deleted: false,
+    })
 }
 
-/// A content's bytes as a message.
-fn encoded(alloc: Global, content: &Content) -> Result<Vec<u8>, AllocError> {
-    let mut out = Vec::new(alloc);
-    content.encode(&mut out)?;
-    Ok(out)
-}
-
-/// Whether two contents are one, by their bytes as messages.
-fn is_same_content(alloc: Global, left: &Content, right: &Content) -> Result<bool, AllocError> {
-    let left = encoded(alloc, left)?;
-    let right = encoded(alloc, right)?;
-    Ok(left.as_slice() == right.as_slice())
-}
-
-/// Whether a content is empty, as that of a tombstone is.
-fn is_empty_content(alloc: Global, shown: &Content) -> Result<bool, AllocError> {
-    let empty = Content::new(alloc);
-    is_same_content(alloc, &empty, shown)
-}
-
-/// Whether a content is another with its value left out.
-fn is_head_of(alloc: Global, content: &Content, shown: &Content) -> Result<bool, AllocError> {
-    let head = content.clone_head(alloc)?;
-    is_same_content(alloc, &head, shown)
-}
-
-/// Whether what a reply shows is this sibling of the register: a tombstone where the number has no value.
-fn is_sibling(
+/// A sibling of the key as a reply shows it: a tombstone where the number has no value.
+fn sibling_shown(
     register: &PlainRegister<Content>,
     alloc: Global,
     key: &Key,
+    is_bare: bool,
     number: u64,
-    bare: bool,
-    shown: &Shown,
-) -> Result<bool, AllocError> {
-    let stored = register.value(key, number);
-    if shown.deleted != stored.is_none() {
-        return Ok(false);
-    }
-    match stored {
-        None => is_empty_content(alloc, &shown.content),
-        Some(content) if bare => is_head_of(alloc, content, &shown.content),
-        Some(content) => is_same_content(alloc, content, &shown.content),
+) -> Result<Shown, AllocError>
+    ensures { IfOk result (λ shown. shown ≡ sibling_shown register.now key.now is_bare number) }
+{
+    match register.value(key, number) {
+        None => Ok(Shown::tombstone(alloc)),
+        Some(content) => content_shown(alloc, content, is_bare),
     }
 }
 
-/// Whether these are the siblings that a reply shows, in their order.
-fn are_siblings(
+/// The siblings of these numbers, as a reply shows them.
+fn siblings_shown(
     register: &PlainRegister<Content>,
     alloc: Global,
     key: &Key,
-    siblings: &[u64],
-    bare: bool,
+    is_bare: bool,
+    numbers: &[u64],
+) -> Result<Vec<Shown>, AllocError>
+    ensures { IfOk result (λ shown.
+        shown.items ≡ map (sibling_shown register.now key.now is_bare) numbers.now) }
+{
+    let mut shown = Vec::with_capacity(alloc, numbers.len())?;
+    for number in numbers {
+        let sibling = sibling_shown(register, alloc, key, is_bare, *number)?;
+        shown.push(sibling)?;
+    }
+    Ok(shown)
+}
+
+/// Contents as a reply has them.
+fn bytes_of(alloc: Global, contents: &[Shown]) -> Result<Vec<u8>, AllocError>
+    ensures { IfOk result (λ bytes. bytes.items ≡ repeated_field shown_message 1 contents.now) }
+{
+    let mut bytes = Vec::new(alloc);
+    encode_repeated(&mut bytes, 1, contents)?;
+    Ok(bytes)
+}
+
+/// Whether two lists of contents are one, by the bytes that a reply has for them.
+fn are_same(alloc: Global, due: &[Shown], contents: &[Shown]) -> Result<bool, AllocError>
+    ensures { IfOk result (λ is_same. is_same ≡ same_contents due.now contents.now) }
+{
+    let due = bytes_of(alloc, due)?;
+    let contents = bytes_of(alloc, contents)?;
+    Ok(due.as_slice() == contents.as_slice())
+}
+
+/// Whether these contents are due for the register's answer.
+fn are_due(
+    register: &PlainRegister<Content>,
+    alloc: Global,
+    key: &Key,
+    told: &Told,
     contents: &[Shown],
-) -> Result<bool, AllocError> {
-    if siblings.len() != contents.len() {
-        return Ok(false);
-    }
-    for (place, shown) in contents.iter().enumerate() {
-        match siblings.get(place) {
-            None => return Ok(false),
-            Some(number) => {
-                if !is_sibling(register, alloc, key, *number, bare, shown)? {
-                    return Ok(false);
-                }
-            }
+) -> Result<bool, AllocError>
+    ensures { IfOk result (λ are.
+        are ≡ are_due register.now key.now (answer_of told.now) contents.now) }
+{
+    match told {
+        Told::Shown { siblings, bare, .. } => {
+            let due = siblings_shown(register, alloc, key, *bare, siblings.as_slice())?;
+            are_same(alloc, due.as_slice(), contents)
         }
+        Told::Done => are_same(alloc, &[], contents),
+        Told::Refused(_) | Told::Reaped | Told::Kept => Ok(false),
     }
-    Ok(true)
+}
+
+/// Whether a refusal of this text is due for the register's answer.
+fn refuses_by(told: &Told, text: Text) -> bool
+    ensures { result ≡ option_eq nat_eq (refusal_due (answer_of told.now)) (plain_refusal text) }
+{
+    let due = match told {
+        Told::Refused(number) => Some(*number),
+        Told::Shown { .. } | Told::Done | Told::Reaped | Told::Kept => None,
+    };
+    due == plain_refusal(text)
 }
 
 /// Whether a reply is the register's answer: the same refusal, or the same contents in their order.
-pub(crate) fn is_same_answer(
+pub(crate) fn is_due(
     register: &PlainRegister<Content>,
     alloc: Global,
     key: &Key,
     told: &Told,
     reply: &Reply,
-) -> Result<bool, AllocError> {
-    match (told, contents_of(reply)) {
-        (Told::Refused(number), None) => Ok(refused_as(reply, *number)),
-        (Told::Shown { siblings, bare, .. }, Some(contents)) => {
-            are_siblings(register, alloc, key, siblings.as_slice(), *bare, contents)
-        }
-        (Told::Done, Some(contents)) => Ok(contents.is_empty()),
-        _ => Ok(false),
-    }
-}
-
-/// Whether a reply is the refusal of this number.
-fn refused_as(reply: &Reply, number: u8) -> bool {
+) -> Result<bool, AllocError>
+    ensures { IfOk result (λ is. is ≡ is_due register.now key.now (answer_of told.now) reply.now) }
+{
     match reply {
-        Reply::Error(text) => refusal_of(*text) == Some(number),
-        _ => false,
+        Reply::Error(text) => Ok(refuses_by(told, *text)),
+        Reply::Ping => Ok(false),
+        Reply::Get(shown) => are_due(register, alloc, key, told, shown.contents.as_slice()),
+        Reply::Put(shown) => are_due(register, alloc, key, told, shown.contents.as_slice()),
+        Reply::Del => are_due(register, alloc, key, told, &[]),
     }
 }

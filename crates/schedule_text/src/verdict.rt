@@ -3,7 +3,6 @@
 ghost use Rattle.std.specs.Prelude.{◌≡◌, IfOk};
 ghost use Rattle.schedule_text.specs.Verdicts.{verdict_line, verdict_after};
 
-use crate::plain_vnode::Finding;
 use itoa::Buffer;
 use std::alloc::{AllocError, Global};
 
@@ -14,19 +13,18 @@ pub enum Verdict {
     Equal,
     /// The reply of this line is the first that isn't.
     DiffersAt(u64),
-    /// A request gave a context of the right form that no reply had shown.
+    /// A call gave a context of the right form that no earlier reply had shown for its key.
     NotCompared,
 }
 
 impl Verdict {
-    /// The verdict after the answer of one line more: the first difference stays.
-    pub(crate) fn after(self, line: u64, finding: Finding) -> Verdict
-        ensures { result ≡ verdict_after line self finding }
+    /// The verdict after the answer of one line more, by whether it is the register's: the first difference stays.
+    pub(crate) fn after(self, line: u64, is_due: bool) -> Verdict
+        ensures { result ≡ verdict_after line self is_due }
     {
-        match (self, finding) {
-            (Verdict::NotCompared, _) | (_, Finding::NotComparable) => Verdict::NotCompared,
-            (Verdict::Equal, Finding::Differs) => Verdict::DiffersAt(line),
-            (verdict, _) => verdict,
+        match self {
+            Verdict::Equal if !is_due => Verdict::DiffersAt(line),
+            verdict => verdict,
         }
     }
 }

@@ -84,6 +84,38 @@ plain equal\n",
         result: Ok(()),
         answers: "1 ok\n2 ok\n3 reply 0a\n4 ok\nplain not compared\n",
     },
+    // The put's context is of the right form, and its ask is possible; it is never answered.
+    Schedule {
+        shows: "a call by a context that wasn't shown is not compared, answered or not",
+        text: "ask 1 0b0a016212016b1a11010000000000010000000000010000000122030a0178\n",
+        workers: 1,
+        result: Ok(()),
+        answers: "1 ok\nplain not compared\n",
+    },
+    // Worker 1 has a call, so that it can't be asked the put.
+    Schedule {
+        shows: "an ask that isn't possible gives no context",
+        text: "ask 1 090a016212016b\n\
+ask 1 0b0a016212016b1a11010000000000010000000000010000000122030a0178\nenter 1\nlook 1\n",
+        workers: 1,
+        result: Ok(()),
+        answers: "1 ok\n2 no\n3 ok\n4 reply 0a\nplain equal\n",
+    },
+    // "v" is deleted and its key forgotten; then "w" is alone.
+    Schedule {
+        shows: "the register is asked to reap, too",
+        text: "ask 1 0b0a016212016b22030a0176\ntake 1\nlook 1\npublish 1\nput 1\n\
+ask 1 0d0a016212016b\ntake 1\nlook 1\npublish 1\nput 1\n\
+reap 1 090a016212016b\ntake 1\nlook 1\npublish 1\nput 1\n\
+ask 1 0b0a016212016b22030a01773801\ntake 1\nlook 1\npublish 1\nput 1\n",
+        workers: 1,
+        result: Ok(()),
+        answers: "1 ok\n2 ok\n3 ok\n4 reply 0c\n5 ok\n\
+6 ok\n7 ok\n8 ok\n9 reply 0e\n10 ok\n\
+11 ok\n12 ok\n13 ok\n14 reaped\n15 ok\n\
+16 ok\n17 ok\n18 ok\n19 reply 0c0a030a017712110100000000000100000000000200000001\n20 ok\n\
+plain equal\n",
+    },
     Schedule {
         shows: "a last line that is a bad step has its number",
         text: "enter 01",

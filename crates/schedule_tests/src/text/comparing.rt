@@ -38,6 +38,54 @@ const DELETE_V: Message = Message {
     body: b"\x0a\x01b\x12\x01k\x22\x11\x01\0\0\0\0\0\x01\0\0\0\0\0\x01\0\0\0\x01",
 };
 
+/// A put of "v" in the place of b/k that is named j.
+const PUT_V_AT_J: Message = Message {
+    code: 11,
+    body: b"\x0a\x01b\x12\x01j\x22\x03\x0a\x01v",
+};
+
+/// A get of b/j.
+const GET_J: Message = Message {
+    code: 9,
+    body: b"\x0a\x01b\x12\x01j",
+};
+
+/// A put of "v" that asks for the siblings after it.
+const PUT_V_FOR_BODY: Message = Message {
+    code: 11,
+    body: b"\x0a\x01b\x12\x01k\x22\x03\x0a\x01v\x38\x01",
+};
+
+/// What such a put shows.
+const PUT_SHOWS_V: Message = Message {
+    code: 12,
+    body: b"\x0a\x03\x0a\x01v\x12\x11\x01\0\0\0\0\0\x01\0\0\0\0\0\x01\0\0\0\x01",
+};
+
+/// "x" alone.
+const SHOWS_X: Message = Message {
+    code: 10,
+    body: b"\x0a\x03\x0a\x01x\x12\x11\x01\0\0\0\0\0\x01\0\0\0\0\0\x01\0\0\0\x02",
+};
+
+/// A put of "y" without context that wants its key unmodified.
+const PUT_Y_IF_SAME: Message = Message {
+    code: 11,
+    body: b"\x0a\x01b\x12\x01k\x22\x03\x0a\x01y\x48\x01",
+};
+
+/// The refusal of a put that wants its key unmodified where there is none.
+const NOT_FOUND: Message = Message {
+    code: 0,
+    body: b"\x0a\x08notfound\x10\x01",
+};
+
+/// The refusal of a sibling too many.
+const TOO_MANY: Message = Message {
+    code: 0,
+    body: b"\x0a\x11too many siblings\x10\x01",
+};
+
 /// A get that asks for no values.
 const GET_HEAD: Message = Message {
     code: 9,
@@ -100,17 +148,17 @@ const BAD_CONTEXT: Message = Message {
 
 /// What a comparison is given, or must say.
 enum Event {
-    /// The vnode 0 gives this reply to this request, at this line.
+    /// A worker gets this call, and it is answered by this reply, at this line.
     Answer(u64, Message, Message),
-    /// The same at the vnode 5.
-    AnswerAt5(u64, Message, Message),
-    /// The vnode 0 forgets b/k.
+    /// A worker gets this call, which isn't answered.
+    Call(Message),
+    /// A reap of b/k is answered.
     Reap,
     /// The verdict is this one.
     Is(Verdict),
 }
 
-use Event::{Answer, AnswerAt5, Is, Reap};
+use Event::{Answer, Call, Is, Reap};
 
 /// A run that is compared.
 struct Run {
@@ -202,11 +250,69 @@ const RUNS: &[Run] = &[
         ],
     },
     Run {
-        shows: "each vnode has its register",
+        shows: "a call that isn't answered counts by its context",
         events: &[
             Answer(1, PUT_V, STORED),
-            AnswerAt5(2, GET, ABSENT),
+            Call(PUT_W),
+            Call(PUT_Z_BY_BAD_CONTEXT),
             Is(Verdict::Equal),
+            Call(PUT_X),
+            Is(Verdict::NotCompared),
+            Answer(2, GET, ABSENT),
+            Is(Verdict::NotCompared),
+        ],
+    },
+    Run {
+        shows: "a context that was shown for another key isn't known for this one",
+        events: &[
+            Answer(1, PUT_V_AT_J, STORED),
+            Answer(2, GET_J, SHOWS_V),
+            Answer(3, PUT_V, STORED),
+            Is(Verdict::Equal),
+            Call(PUT_X),
+            Is(Verdict::NotCompared),
+        ],
+    },
+    Run {
+        shows: "the reply to a put shows a context",
+        events: &[
+            Answer(1, PUT_V_FOR_BODY, PUT_SHOWS_V),
+            Answer(2, PUT_X, STORED),
+            Answer(3, GET, SHOWS_X),
+            Is(Verdict::Equal),
+        ],
+    },
+    Run {
+        shows: "a put without options shows nothing",
+        events: &[Answer(1, PUT_V, PUT_SHOWS_V), Is(Verdict::DiffersAt(1))],
+    },
+    Run {
+        shows: "a put that asks for its body shows it",
+        events: &[Answer(1, PUT_V_FOR_BODY, STORED), Is(Verdict::DiffersAt(1))],
+    },
+    Run {
+        shows: "an absent key that a put wants unmodified is refused",
+        events: &[
+            Answer(1, PUT_Y_IF_SAME, NOT_FOUND),
+            Is(Verdict::Equal),
+            Answer(2, PUT_Y_IF_SAME, STORED),
+            Is(Verdict::DiffersAt(2)),
+        ],
+    },
+    Run {
+        shows: "an absent key's refusal where there is a value differs",
+        events: &[
+            Answer(1, PUT_V, STORED),
+            Answer(2, PUT_Y_IF_SAME, NOT_FOUND),
+            Is(Verdict::DiffersAt(2)),
+        ],
+    },
+    Run {
+        shows: "too many siblings where there are few differs",
+        events: &[
+            Answer(1, PUT_V, STORED),
+            Answer(2, PUT_W, TOO_MANY),
+            Is(Verdict::DiffersAt(2)),
         ],
     },
 ];
@@ -218,14 +324,36 @@ fn compares_read(
     run: &mut Comparison,
     alloc: Global,
     line: u64,
-    vnode: u16,
     request: &Result<Request, MsgFault>,
     reply: &Result<Reply, MsgFault>,
 ) -> bool {
     match (request, reply) {
-        (Ok(request), Ok(reply)) => run.compare(alloc, line, vnode, request, reply).is_ok(),
+        (Ok(request), Ok(reply)) => {
+            run.call(request);
+            run.reply(alloc, line, request, reply).is_ok()
+        }
         _ => false,
     }
+}
+
+fn calls_read(run: &mut Comparison, request: &Result<Request, MsgFault>) -> bool {
+    match request {
+        Ok(request) => {
+            run.call(request);
+            true
+        }
+        Err(_) => false,
+    }
+}
+
+fn let_request_go(_request: Result<Request, MsgFault>) {}
+
+/// Tells of a call.
+fn calls(run: &mut Comparison, alloc: Global, request: &Message) -> bool {
+    let asked = request_again(alloc, request);
+    let is_told = calls_read(run, &asked);
+    let_request_go(asked);
+    is_told
 }
 
 /// Compares the reply to a request.
@@ -233,28 +361,27 @@ fn compares(
     run: &mut Comparison,
     alloc: Global,
     line: u64,
-    vnode: u16,
     request: &Message,
     reply: &Message,
 ) -> bool {
     let asked = request_again(alloc, request);
     let answered = reply_again(alloc, reply);
-    let is_compared = compares_read(run, alloc, line, vnode, &asked, &answered);
+    let is_compared = compares_read(run, alloc, line, &asked, &answered);
     let_go(asked, answered);
     is_compared
 }
 
 fn reaps(run: &mut Comparison, alloc: Global) -> bool {
     match Key::of_default_type(alloc, b"b", b"k") {
-        Ok(key) => run.reap(alloc, 0, &key).is_ok(),
+        Ok(key) => run.reap(alloc, &key).is_ok(),
         Err(_) => false,
     }
 }
 
 fn takes(run: &mut Comparison, alloc: Global, event: &Event) -> bool {
     match event {
-        Answer(line, request, reply) => compares(run, alloc, *line, 0, request, reply),
-        AnswerAt5(line, request, reply) => compares(run, alloc, *line, 5, request, reply),
+        Answer(line, request, reply) => compares(run, alloc, *line, request, reply),
+        Call(request) => calls(run, alloc, request),
         Reap => reaps(run, alloc),
         Is(verdict) => run.verdict() == *verdict,
     }

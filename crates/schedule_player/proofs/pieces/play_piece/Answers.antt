@@ -2,8 +2,11 @@ use Rattle.std.proofs.Common.{List, ℕ, Err, subst, ◌∙◌}
 use Rattle.std.proofs.lemmas.Result.{err_from_is_err_and}
 use Rattle.schedule_text.specs.Cuts.{Lacks}
 use Rattle.schedule_player.specs.Lines.{IsPlayed, PlaysLine}
-use Rattle.schedule_player.proofs.Going.{line_gone, line_stops, memory_stops, rest_gone}
+use Rattle.schedule_player.proofs.Going.{nothing_gone, line_gone, line_stops, memory_stops, rest_gone}
 use Rattle.schedule_player.proofs.pieces.play_piece.Goals as goal
+
+pub loop-front-init : goal.loop-front-init
+loop-front-init g c = nothing_gone c.args.player.now c.args.partial.now.items c.args.piece.now (g.W.Write.contents c.args.writer.now)
 
 pub returns-in_err-extend_from_slice : goal.returns-in_err-extend_from_slice
 returns-in_err-extend_from_slice g c =

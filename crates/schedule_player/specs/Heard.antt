@@ -1,0 +1,76 @@
+-- What is heard of a run: each worker's last call, and the comparison with a plain register. The last line of a run is
+-- defined by it.
+use Rattle.std.specs.Prelude.{ℕ, ◌+◌, ◌-◌, List, [], ◌∷◌, Option, Some, None, length, replicate, slice_get, slice_set, unwrap_or}
+use Rattle.std.specs.Option.{option_map_or}
+use Rattle.riak_msgs.specs.Contents.{Content}
+use Rattle.riak_msgs.specs.declared.reply.Reply.{Reply}
+use Rattle.sibling_register.specs.Answers.{Ask, AskGet, AskPut, AskDel, AskReap}
+use Rattle.actor_epoch.specs.Given.{Context}
+use Rattle.schedule_text.specs.Compared.{Compared, nothing_compared, after_call, after_reply, after_reap}
+use Rattle.schedule_text.specs.Verdicts.{verdict_line}
+use Rattle.node_steps.specs.declared.outcome.Outcome.{Outcome as Returned}
+use Rattle.node_steps.specs.declared.outcome.Outcome.TheVariants as outcomes
+use Rattle.node_steps.specs.Returned.{returned}
+use Rattle.node_steps.specs.Schedules.{Start, world_after}
+use Rattle.node_steps.specs.Steps.{Action, Asks, Step, outcome}
+
+-- the last call of each worker, from worker 1 on; none before the first
+abbrev pub Calls : Type 0
+Calls = List (Option (Ask Content Context))
+
+pub record Heard : Type 0 where
+  pub calls : Calls
+  pub compared : Compared
+
+-- the last call of the worker of a number
+abbrev pub last_call : Calls → ℕ → Option (Ask Content Context)
+last_call calls worker = unwrap_or (slice_get calls (worker - 1)) None
+
+-- the worker of a number got a call
+abbrev pub with_call : Calls → ℕ → Ask Content Context → Calls
+with_call calls worker ask = slice_set calls (worker - 1) (Some ask)
+
+-- what an action asks, if it gives its worker a call
+abbrev pub asked_by : Action → Option (Ask Content Context)
+asked_by (Asks index ask) = Some ask
+asked_by action = None
+
+-- a get, put or delete was answered by this reply, at the line of this number
+abbrev pub replied : ℕ → Reply → Ask Content Context → Compared → Compared
+replied line reply (AskReap key) known = known
+replied line reply ask known = after_reply line ask reply known
+
+-- a reap was answered
+abbrev pub reaped : Ask Content Context → Compared → Compared
+reaped (AskReap key) known = after_reap key known
+reaped ask known = known
+
+-- what the line of this number adds: a worker took a step, by which it gets a call or not, and this was returned
+abbrev pub after_line : (line worker : ℕ) → Option (Ask Content Context) → Returned → Heard → Heard
+after_line line worker asked outcomes.No heard = heard
+after_line line worker asked outcomes.Done heard =
+    option_map_or (λ ask. record {
+      calls = with_call heard.calls worker ask;
+      compared = after_call ask heard.compared;
+    }) asked heard
+after_line line worker asked (outcomes.Reply reply) heard =
+    option_map_or (λ ask. record heard { compared = replied line reply ask heard.compared }) (last_call heard.calls worker) heard
+after_line line worker asked outcomes.Reaped heard =
+    option_map_or (λ ask. record heard { compared = reaped ask heard.compared }) (last_call heard.calls worker) heard
+after_line line worker asked outcomes.Kept heard =
+    option_map_or (λ ask. record heard { compared = reaped ask heard.compared }) (last_call heard.calls worker) heard
+
+-- before any line of so many workers
+abbrev pub nothing_heard : (workers : ℕ) → Heard
+nothing_heard workers = record { calls = replicate workers None; compared = nothing_compared }
+
+-- after the lines of a schedule, whose latest step comes first
+abbrev pub heard_after : Start → List Step → Heard
+heard_after start [] = nothing_heard start.workers
+heard_after start (step ∷ earlier) =
+    after_line (length earlier + 1) step.worker (asked_by step.action)
+    (returned (outcome (world_after start earlier) step)) (heard_after start earlier)
+
+-- the last line of a run
+abbrev pub last_line : Start → List Step → List ℕ
+last_line start schedule = verdict_line (heard_after start schedule).compared.verdict
