@@ -6,6 +6,7 @@ use std::alloc::Global;
 
 /// A frame of the longest request: its header, and so many zeros behind it.
 const HEADER: &[u8] = &[0, 0x10, 0, 0, 9];
+
 const ZEROS: usize = 1_048_575;
 
 /// Takes 4,099 bytes, and lets them go: whether it got them.

@@ -33,8 +33,8 @@ impl Model for Referee {
     ghost Value = { Heard };
 
     ghost view = { λ r. record {
-        calls = map call_in r.calls.items;
-        compared = r.comparison;
+      calls = map call_in r.calls.items;
+      compared = r.comparison;
     } };
 }
 
@@ -69,7 +69,7 @@ fn compare(
 ) -> Result<(), AllocError>
     ensures { OnOk result (comparison.new
         ≡ option_map_or (λ ask. replied line reply.now ask comparison.old)
-            (option_and_then call_of (option_copied call.entry)) comparison.old) }
+        (option_and_then call_of (option_copied call.entry)) comparison.old) }
 {
     match call {
         Some(Step::Ask(_, _, request)) => comparison.reply(alloc, line, request, reply),
@@ -81,7 +81,7 @@ fn compare(
 fn reap(comparison: &mut Comparison, alloc: Global, call: Option<&Step>) -> Result<(), AllocError>
     ensures { OnOk result (comparison.new
         ≡ option_map_or (λ ask. reaped ask comparison.old)
-            (option_and_then call_of (option_copied call.entry)) comparison.old) }
+        (option_and_then call_of (option_copied call.entry)) comparison.old) }
 {
     match call {
         Some(Step::Reap(_, _, key)) => comparison.reap(alloc, key),

@@ -37,9 +37,9 @@ impl Model for Comparison {
     ghost Value = { Compared };
 
     ghost view = { λ c. record {
-        history = c.register;
-        shown = c.shown.items;
-        verdict = c.verdict;
+      history = c.register;
+      shown = c.shown.items;
+      verdict = c.verdict;
     } };
 }
 
@@ -88,7 +88,7 @@ impl Comparison {
     ) -> Result<(), AllocError>
         ensures { OnOk result (self.new
             ≡ option_map_or (λ ask. after_reply line ask reply.now self.old)
-                (ask_of request.now) self.old) }
+            (ask_of request.now) self.old) }
     {
         let Some((key, context)) = key_and_context(request) else {
             return Ok(());

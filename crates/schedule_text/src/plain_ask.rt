@@ -50,7 +50,7 @@ fn ask_get(
     requires { IsPosition register.old if_modified }
     ensures { IfOk result (λ told.
         Comes register.old (command_by (AskGet (get_command ask.now)) if_modified)
-            (answer_of told) register.new) }
+        (answer_of told) register.new) }
 {
     let key = ask.key.clone(alloc)?;
     let command = Command::Get {
@@ -72,7 +72,7 @@ fn ask_put(
     requires { IsPosition register.old context }
     ensures { IfOk result (λ told.
         Comes register.old (command_by (AskPut (put_command ask.now)) context)
-            (answer_of told) register.new) }
+        (answer_of told) register.new) }
 {
     let key = ask.key.clone(alloc)?;
     let value = ask.content.as_content().clone(alloc)?;
@@ -98,7 +98,7 @@ fn ask_del(
     requires { IsPosition register.old context }
     ensures { IfOk result (λ told.
         Comes register.old (command_by (AskDel (del_command ask.now)) context)
-            (answer_of told) register.new) }
+        (answer_of told) register.new) }
 {
     let key = ask.key.clone(alloc)?;
     ask_command(alloc, register, Command::Del { key, context })
