@@ -1,4 +1,4 @@
-use Rattle.std.proofs.Common.{◌∙◌, ap, length, sym, subst}
+use Rattle.std.proofs.Common.{◌∙◌, [], ap, inl, length, refl, sym, subst}
 use Rattle.stats_book.specs.Counting.{zeros}
 use Rattle.job_pool.specs.Lists.{Pairwise}
 use Rattle.job_pool.proofs.Once.{once_length}
@@ -35,3 +35,6 @@ pub returns-in-Ok-run-clause-fault : goal.returns-in-Ok-run-clause-fault
 returns-in-Ok-run-clause-fault g c =
     let all = served_all g.J.Jobs.gives g.I.Read.remaining g.O.Write.contents c.args.shared.now _ _ _ _ _ c.in-Ok-run.ensures.served in
     if_err _ _ c.finish.result (λ fault is. leaves_after g.J.Jobs.gives g.I.Read.remaining g.O.Write.contents c.args.shared.now _ _ _ all fault is) c.finish.ensures.fault
+
+pub returns-in_default-clause-fault : goal.returns-in_default-clause-fault
+returns-in_default-clause-fault g c = ([], inl (inl refl))
