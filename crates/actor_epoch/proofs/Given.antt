@@ -1,5 +1,5 @@
 -- Bytes decode to the pairs that they encode.
-use Rattle.std.proofs.Common.{◌≡◌, ℕ, suc, ◌*◌, ◌/◌, ◌%◌, ◌<◌, ◌&&◌, ◌^◌, cond, Bool, true, false, IsTrue, List, [], ◌∷◌, length, get_or, refl, sym, ◌∙◌, ap, subst, inl, inr, arith}
+use Rattle.std.proofs.Common.{◌≡◌, ℕ, suc, ◌/◌, ◌%◌, ◌<◌, ◌&&◌, ◌^◌, cond, Bool, true, false, IsTrue, List, [], ◌∷◌, length, get_or, refl, sym, ◌∙◌, ap, subst, inl, inr, arith}
 use Rattle.std.specs.Prelude.{◌↔◌, ◌⊎◌, flat_map, nat_eq, Option, Some, None}
 use Rattle.std.specs.List.{All, list_all}
 use Rattle.std.proofs.lemmas.Bool.{cases_lt}
@@ -8,7 +8,7 @@ use Rattle.std.proofs.lemmas.Bool.Decides.{nat_tests}
 use Rattle.actor_epoch.specs.declared.dot.Dot.{Dot}
 use Rattle.actor_epoch.specs.declared.version.Version.{Version}
 use Rattle.actor_epoch.specs.declared.version.Version.TheVariants.{One, Two}
-use Rattle.actor_epoch.specs.Versions.{version_byte, version_of, entry_len}
+use Rattle.actor_epoch.specs.Versions.{version_of, entry_len}
 use Rattle.actor_epoch.specs.Contexts.{encoding, encoding_as, has_room, EncodesAs, is_well_formed, is_rising, is_within_limits, entry_bytes, DecodesContext}
 use Rattle.actor_epoch.specs.Entries.{entries_in}
 use Rattle.actor_epoch.specs.Given.{Context, Malformed, Pairs, pairs_in, is_context, context_in, context_of, pairs_read}

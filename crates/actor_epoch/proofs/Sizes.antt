@@ -1,5 +1,5 @@
 -- The lengths of pairs in bytes.
-use Rattle.std.proofs.Common.{◌≡◌, ℕ, suc, ◌+◌, ◌-◌, ◌*◌, ◌/◌, ◌%◌, ◌≤◌, arith}
+use Rattle.std.proofs.Common.{◌≡◌, ℕ, suc, ◌-◌, ◌*◌, ◌/◌, ◌%◌, ◌≤◌, arith}
 use Rattle.actor_epoch.specs.declared.version.Version.{Version}
 use Rattle.actor_epoch.specs.declared.version.Version.TheVariants.{One, Two}
 use Rattle.actor_epoch.specs.Versions.{entry_len}

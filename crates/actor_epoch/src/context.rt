@@ -1,6 +1,6 @@
 //! A context: what a client has seen of a key, as the bytes that it gives back.
 
-ghost use Rattle.std.specs.Prelude.{◌≡◌, ◌↔◌, true, IsTrue, IfOk, IfErr, Some, ◌&&◌};
+ghost use Rattle.std.specs.Prelude.{◌≡◌, IsTrue, IfOk, IfErr, Some, ◌&&◌};
 ghost use Rattle.std.specs.Option.{option_map};
 ghost use Rattle.std.specs.List.{list_all};
 ghost use Rattle.actor_epoch.specs.Dots.{covers, counter_in};
@@ -137,22 +137,6 @@ impl<'a> Context<'a> {
             }
         }
         greatest
-    }
-
-    /// Whether another context has the same pairs, in whatever versions the two were given.
-    pub fn has_same_pairs(&self, other: &Context<'_>) -> bool
-        ensures { (result ≡ true) ↔ (self.now ≡ other.now) }
-    {
-        let mut others = other.pairs();
-        for (actor, counter) in self.pairs() {
-            let Some((other_actor, other_counter)) = others.next() else {
-                return false;
-            };
-            if actor != other_actor || counter != other_counter {
-                return false;
-            }
-        }
-        others.next().is_none()
     }
 
     /// The bytes of a context of these pairs, which are 1 to 64, strictly rising by actor, with epochs and counters
