@@ -113,7 +113,7 @@ ask 1 0b0a016212016b22030a01773801\ntake 1\nlook 1\npublish 1\nput 1\n",
         answers: "1 ok\n2 ok\n3 ok\n4 reply 0c\n5 ok\n\
 6 ok\n7 ok\n8 ok\n9 reply 0e\n10 ok\n\
 11 ok\n12 ok\n13 ok\n14 reaped\n15 ok\n\
-16 ok\n17 ok\n18 ok\n19 reply 0c0a030a017712110100000000000100000000000200000001\n20 ok\n\
+16 ok\n17 ok\n18 ok\n19 reply 0c0a030a01771215020000000000010000000000020000000000000001\n20 ok\n\
 plain equal\n",
     },
     Schedule {
