@@ -1,5 +1,6 @@
 //! Schedules, line by line.
 
+mod compared;
 mod comparing;
 mod outcomes;
 pub(crate) mod reading;

@@ -6,7 +6,7 @@ ghost use Rattle.schedule_text.specs.Verdicts.{verdict_line, verdict_after};
 use itoa::Buffer;
 use std::alloc::{AllocError, Global};
 
-/// The verdict of the comparison of a run with plain registers.
+/// The verdict of the comparison of a run with a plain register.
 #[derive(Clone, Copy, Debug, Drop, PartialEq, Eq)]
 pub enum Verdict {
     /// Every reply is that of the registers.
