@@ -63,6 +63,7 @@ impl<'a> Model for Context<'a> {
 impl<'a> Context<'a> {
     /// Reads the bytes of a context; None exactly where they encode no 1 to 64 pairs that strictly rise by actor, with
     /// epochs and counters from 1 on, in neither version. Takes no memory.
+    #[inline(always)]
     pub fn read(bytes: &'a [u8]) -> Option<Context<'a>>
         ensures read { result ≡ pairs_read (context_of bytes.now) }
         ensures decodes { DecodesContext bytes.now result }
@@ -89,6 +90,7 @@ impl<'a> Context<'a> {
 
     /// What was given as a context: none where there are no bytes, else the context that they are. Refused exactly where
     /// there are bytes and `read` gives None. Takes no memory.
+    #[inline(always)]
     pub fn given(bytes: &'a [u8]) -> Result<Option<Context<'a>>, MalformedContext>
         ensures ok { IfOk result (λ found. context_of bytes.now ≡ option_map Pairs found) }
         ensures malformed { IfErr result (λ _. context_of bytes.now ≡ Some Malformed) }
@@ -103,6 +105,7 @@ impl<'a> Context<'a> {
     }
 
     /// Its pairs (actor, n), by rising actor.
+    #[inline(always)]
     pub fn pairs(&self) -> ContextPairs<'a>
         ensures pairs { result ≡ self.now }
         ensures of_form { IsTrue (is_well_formed self.now) }
@@ -177,6 +180,7 @@ fn are_rising(pairs: ContextPairs<'_>) -> bool
 }
 
 /// Whether a pair may follow the last actor: it is above that, and its epoch and counter begin at 1.
+#[inline(always)]
 fn is_next(last: Option<Actor>, actor: Actor, counter: Counter) -> bool
     ensures { result ≡ (may_follow last actor && is_within_limits (entry_of (actor, counter))) }
 {
@@ -188,6 +192,7 @@ fn is_next(last: Option<Actor>, actor: Actor, counter: Counter) -> bool
 }
 
 /// The 20 bytes of a pair, as it is written.
+#[inline(always)]
 fn bytes_of(actor: Actor, counter: Counter) -> [u8; 20]
     ensures { result ≡ entry_bytes Two (entry_of (actor, counter)) }
 {

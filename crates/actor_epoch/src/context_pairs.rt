@@ -34,6 +34,7 @@ impl<'a> Model for ContextPairs<'a> {
 
 impl ContextPairs<'_> {
     /// How many are still to come.
+    #[inline(always)]
     pub fn len(&self) -> usize
         ensures { result ≡ length self.now }
     {
@@ -52,6 +53,7 @@ impl<'a> Iterator for ContextPairs<'a> {
 
     ghost remaining = { λ p. at_most (length p) };
 
+    #[inline(always)]
     fn next(&mut self) -> Option<(Actor, Counter)> {
         if self.count == 0 {
             return None;
@@ -65,6 +67,7 @@ impl<'a> Iterator for ContextPairs<'a> {
 }
 
 /// The pair in the first bytes.
+#[inline(always)]
 fn entry_at(version: Version, entries: &[u8]) -> Dot
     requires { entry_len version ≤ length entries.now }
     ensures { result ≡ entry_in version entries.now }

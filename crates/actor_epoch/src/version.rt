@@ -18,6 +18,7 @@ pub(crate) enum Version {
 
 impl Version {
     /// The version that the first byte of a context names; None where it names none.
+    #[inline(always)]
     pub(crate) fn from_byte(byte: u8) -> Option<Version>
         ensures { result ≡ version_of byte }
     {
@@ -29,6 +30,7 @@ impl Version {
     }
 
     /// The length of a pair in bytes: vnode id in 8, epoch in 4, then the counter.
+    #[inline(always)]
     pub(crate) fn entry_len(self) -> usize
         ensures len { result ≡ entry_len self }
         ensures positive { 1 ≤ result }
@@ -40,6 +42,7 @@ impl Version {
     }
 
     /// The counter in the first bytes.
+    #[inline(always)]
     pub(crate) fn counter_at(self, bytes: &[u8]) -> Counter
         requires { counter_len self ≤ length bytes.now }
         ensures { result ≡ big_number (counter_len self) bytes.now }

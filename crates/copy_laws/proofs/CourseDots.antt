@@ -1,5 +1,5 @@
 -- What came in a course and when; where what is known came, the course is a hand-off of the key.
-use Rattle.std.proofs.Common.{◌≡◌, ◌≢◌, ℕ, suc, ◌+◌, ◌<◌, ◌≤◌, Bool, true, false, ◌&&◌, ◌||◌, cond, List, [], ◌∷◌, ◌++◌, length, refl, sym, ◌∙◌, ap, arith, subst, inl, inr, length-append}
+use Rattle.std.proofs.Common.{◌≡◌, ◌≢◌, ℕ, ◌+◌, ◌<◌, ◌≤◌, Bool, true, false, ◌&&◌, cond, List, [], ◌∷◌, ◌++◌, length, refl, sym, ◌∙◌, ap, arith, subst, inl, inr, length-append}
 use Rattle.std.specs.Prelude.{◌⊎◌, ◌==◌, nat_le, Option, Some, None, MatchBool}
 use Rattle.std.specs.Option.{option_map_or}
 use Rattle.std.proofs.lemmas.List.{append_assoc}
@@ -8,48 +8,36 @@ use Rattle.std.proofs.lemmas.Bool.{cases_lt}
 use Rattle.riak_msgs.specs.declared.Key.{Key}
 use Rattle.riak_msgs.specs.Contents.{Content}
 use Rattle.riak_msgs.specs.KeyOrder.{key_eq}
-use Rattle.sibling_register.specs.History.{Event, Operation, Write, Tombstone, Reap, count_of, is_update}
+use Rattle.sibling_register.specs.History.{Event, count_of}
 use Rattle.actor_epoch.specs.declared.Dot.{Dot}
-use Rattle.actor_epoch.specs.Dots.{dot_eq, covers}
+use Rattle.actor_epoch.specs.Dots.{covers}
 use Rattle.actor_epoch.specs.Given.{Context, Pairs}
-use Rattle.dvv_set.proofs.Live.{dot_eq-same}
 use Rattle.vnode_machine.specs.Machine.{clock_of, pairs_of}
 use Rattle.vnode_machine.specs.Lives.{dot_of}
 use Rattle.vnode_machine.proofs.Keys.{key_eq-same}
+use Rattle.vnode_machine.proofs.Tests.{nat_eq-same}
 use Rattle.copy_laws.specs.Copies.{Copy, Command, Copied, commands_of, count_brought as brought_count}
 use Rattle.copy_laws.specs.Sides.{Partition, Number, is_covered_by, takes_all}
 use Rattle.copy_laws.specs.CopyReplay.{primary_after}
-use Rattle.copy_laws.specs.Joining.{Log, IsHandOff, IsJoined, IsTrueCopy, HasDot, HasCome}
-use Rattle.copy_laws.specs.Diversions.{Happening, AtPrimary, Divert, AtFallback, CopyBack, Return, Course, diversions_of, is_diverted, fallback_of, fallback_state, copy_of, primary_of, WasShown, Happens, CoursesAreHandOffs, CoursesShow, ReturnsJoin}
+use Rattle.copy_laws.specs.Joining.{Log, IsHandOff, IsTrueCopy, HasDot, HasCome}
+use Rattle.copy_laws.specs.Diversions.{Happening, AtPrimary, AtFallback, CopyBack, Course, diversions_of, is_diverted, fallback_of, fallback_state, copy_of, primary_of, WasShown, Happens}
+use Rattle.copy_laws.proofs.Tests.{not_zero, test-le}
 use Rattle.copy_laws.proofs.Splits.{tail-same, Compared, compare}
-use Rattle.copy_laws.proofs.Clocks.{knows, knows-sync, taken_pairs, clock-other, clock-reap, clock-uncopied}
-use Rattle.copy_laws.proofs.Since.{state_at, clock_at, pairs_at, dot_given, IsUpdate, knows-at, sync-at}
+use Rattle.copy_laws.proofs.Clocks.{knows}
+use Rattle.copy_laws.proofs.Since.{clock_at}
 use Rattle.copy_laws.proofs.LifeDots.{one-number}
 use Rattle.copy_laws.proofs.Later.{count-later, dot-later}
-use Rattle.copy_laws.proofs.Fallback.{known-from}
 use Rattle.copy_laws.proofs.Numbered.{number-within, number-positive}
 use Rattle.copy_laws.proofs.Brought.{BroughtBy, count_brought, brought-by, is_seen, SeenBy, seen-by}
-use Rattle.copy_laws.proofs.PrimaryDots.{commands-append, own-number-dot}
-use Rattle.copy_laws.proofs.Tracked.{exact-at}
+use Rattle.copy_laws.proofs.PrimaryDots.{commands-append}
 use Rattle.copy_laws.proofs.Apart.{dots_stand_apart}
-use Rattle.copy_laws.proofs.JoinLaw.{copies_join}
-use Rattle.copy_laws.proofs.Showing.{each_position_shows}
-use Rattle.copy_laws.proofs.Courses.{diversions-grow, diverted-some, diverted-since, Grown, fallback-grows, none-yet, happens-before, LogGrown, primary-grows, within, open_always, legal-primary, legal-fallback, all-updates, settled, sides-rise, CopyMade, copy-made, CommandMade, command-made, Covering, covering}
-
-not_zero : (n : ℕ) → 1 ≤ n → (n == 0) ≡ false
-not_zero n h = grind (arith, nat_tests)
-
-is_zero : (n : ℕ) → (n == 0) ≡ true → n ≡ 0
-is_zero n h = grind (arith, nat_tests)
+use Rattle.copy_laws.proofs.Courses.{diversions-grow, diverted-some, diverted-since, Grown, fallback-grows, none-yet, happens-before, LogGrown, primary-grows, within, legal-primary, legal-fallback, all-updates, settled, sides-rise, CopyMade, copy-made, CommandMade, command-made, Covering, covering}
 
 nonzero : (n : ℕ) → (n == 0) ≡ false → 1 ≤ n
 nonzero n h = grind (arith, nat_tests)
 
-none_some : (dot : Dot) → None ≡ Some dot → ⊥
+pub none_some : (dot : Dot) → None ≡ Some dot → ⊥
 none_some dot e = cc
-
-at_most : (a b : ℕ) → nat_le a b ≡ true → a ≤ b
-at_most a b h = grind (arith, nat_tests)
 
 module _ (partition : Partition) (key : Key) (ids : partition.primary < partition.fallback) where
   abbrev v : ℕ
@@ -69,7 +57,7 @@ module _ (partition : Partition) (key : Key) (ids : partition.primary < partitio
   Came course dot = (number : Number) × DotIn course number dot
 
   -- its number and dot stay
-  dot-stays : (later moment : Course) (number : Number) (dot : Dot) → DotIn moment number dot → DotIn (later ++ moment) number dot
+  pub dot-stays : (later moment : Course) (number : Number) (dot : Dot) → DotIn moment number dot → DotIn (later ++ moment) number dot
   dot-stays later moment number dot h = by (number.side == 0) h
     where
       own : dot_of v l (commands_of (primary_log moment)) key number.number ≡ Some dot → dot_of v l (commands_of (primary_log (later ++ moment))) key number.number ≡ Some dot
@@ -185,7 +173,7 @@ module _ (partition : Partition) (key : Key) (ids : partition.primary < partitio
         there : (b : Bool) → (number.side == 0) ≡ b
             → cond b (dot_of v l (commands_of (primary_log moment)) key number.number) (dot_of partition.fallback (partition.opened number.side) (fallback_of moment number.side) key number.number) ≡ Some dot
             → dot_of partition.fallback (partition.opened number.side) (fallback_of moment number.side) key number.number ≡ Some dot
-        there true e d = absurd (ne (is_zero number.side e))
+        there true e d = absurd (ne (nat_eq-same number.side 0 e))
         there false e d = d
 
         none : diversions_of moment < number.side → ⊥
@@ -336,7 +324,7 @@ module _ (partition : Partition) (key : Key) (ids : partition.primary < partitio
             at (Some context) p h =
                 by_context (lifted (context-came m.moment s.event.key s.event.context s.itself (below course all (later' ++ m.later) (AtPrimary s.event) m.moment whole) shown dot (ap (λ g. covers (pairs_of g) dot) p ∙ h)))
             at None p h =
-                let reached : number.number ≤ brought_count s.before s.event.key number.side = at_most number.number (brought_count s.before s.event.key number.side) (second (takes_all s.event.operation) (nat_le number.number (brought_count s.before s.event.key number.side)) h) in
+                let reached : number.number ≤ brought_count s.before s.event.key number.side = test-le number.number (brought_count s.before s.event.key number.side) (second (takes_all s.event.operation) (nat_le number.number (brought_count s.before s.event.key number.side)) h) in
                 by_copy (s.later ++ Command s.event ∷ []) s.before (append_assoc s.later (Command s.event ∷ []) s.before ∙ s.is) (subst (λ k. number.number ≤ brought_count s.before k number.side) (key_eq-same s.event.key key s.itself) reached)
 
     reaps-came : (later before : Log) (event : Event Content Context) → later ++ Command event ∷ before ≡ log → (number : Number) (dot : Dot) → DotIn course number dot → number.side ≢ 0

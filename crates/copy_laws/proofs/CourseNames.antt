@@ -1,34 +1,28 @@
 -- In each course the primary's contexts name its positions.
-use Rattle.std.proofs.Common.{◌≡◌, ℕ, ◌<◌, ◌≤◌, Bool, true, false, not, cond, List, [], ◌∷◌, ◌++◌, length, refl, sym, ◌∙◌, ap, arith, subst, inl, inr}
+use Rattle.std.proofs.Common.{◌≡◌, ℕ, ◌<◌, ◌≤◌, true, not, [], ◌∷◌, ◌++◌, length, refl, sym, ◌∙◌, ap, arith, inl, inr}
 use Rattle.std.specs.Prelude.{◌⊎◌, ◌==◌, Option, Some, None}
-use Rattle.std.specs.FinMap.Entries.{find}
 use Rattle.std.proofs.lemmas.List.{append_assoc, length-map}
-use Rattle.std.proofs.lemmas.Bool.Decides.{nat_tests}
 use Rattle.riak_msgs.specs.declared.Key.{Key}
 use Rattle.riak_msgs.specs.Contents.{Content}
 use Rattle.riak_msgs.specs.KeyOrder.{key_eq}
-use Rattle.sibling_register.specs.History.{Event, count_of}
 use Rattle.actor_epoch.specs.declared.Dot.{Dot}
-use Rattle.actor_epoch.specs.Dots.{covers}
-use Rattle.actor_epoch.specs.Given.{Context}
-use Rattle.dvv_set.specs.Clocks.{show_cmp}
-use Rattle.dvv_set.proofs.Orders.{eq_by_cmp-dot}
-use Rattle.vnode_machine.specs.Machine.{clock_of, same_pairs}
+use Rattle.vnode_machine.specs.Machine.{same_pairs}
 use Rattle.vnode_machine.proofs.Names.{same_pairs-refl}
 use Rattle.vnode_machine.proofs.Sights.{same_pairs-same}
-use Rattle.copy_laws.specs.Copies.{Copy, LogEntry, Command, Copied, Closed, brought}
-use Rattle.copy_laws.specs.Sides.{Partition, Number, siblings_at, is_defined_at, dot_at, content_at}
+use Rattle.copy_laws.specs.Copies.{Command, Copied, Closed, brought}
+use Rattle.copy_laws.specs.Sides.{Partition, siblings_at, is_defined_at}
 use Rattle.copy_laws.specs.CopyReplay.{primary_after, IsUntouchedBy}
-use Rattle.copy_laws.specs.Joining.{Log, IsHandOff, IsJoined, SidesRise, value_at}
-use Rattle.copy_laws.specs.Diversions.{Course, AtPrimary, primary_of, fallback_of, Happens, CoursesNamePositions}
+use Rattle.copy_laws.specs.Joining.{Log, IsHandOff, IsJoined, value_at}
+use Rattle.copy_laws.specs.Diversions.{Course, primary_of, fallback_of, Happens, CoursesNamePositions}
+use Rattle.copy_laws.proofs.Tests.{not_true}
 use Rattle.copy_laws.proofs.Clocks.{Clock, clock-other, clock-uncopied}
 use Rattle.copy_laws.proofs.Since.{state_at, clock_at}
-use Rattle.copy_laws.proofs.Fallback.{dot_eq-refl}
-use Rattle.copy_laws.proofs.Brought.{BroughtBy, count_brought, brought-by}
+use Rattle.copy_laws.proofs.Brought.{BroughtBy, brought-by}
 use Rattle.copy_laws.proofs.Positions.{beginning, brought-count, joined-then}
 use Rattle.copy_laws.proofs.Showing.{each_position_shows}
 use Rattle.copy_laws.proofs.Courses.{open-part, command-made}
 use Rattle.copy_laws.proofs.CourseLaw.{courses_are_hand_offs}
+use Rattle.copy_laws.proofs.CourseHeld.{first-live}
 use Rattle.copy_laws.proofs.Takers.{Taker, taker-within}
 use Rattle.copy_laws.proofs.CourseTakers.{context-covers-taken}
 use Rattle.copy_laws.proofs.Untouched.{CoversTaken, untouched}
@@ -55,12 +49,8 @@ module _ (partition : Partition) (course : Course) (ids : partition.primary < pa
 
   -- what is defined has something live
   some-live : is_defined_at partition log key ≡ true → (dot : Dot) × ((value : Option Content) × (value_at (clock_at v l key log) dot ≡ Some value))
-  some-live defined = first (clock_at v l key log).live (ap (λ n. not (n == 0)) same_length ∙ defined)
+  some-live defined = first-live v l key (clock_at v l key log).live (ap (λ n. not (n == 0)) same_length ∙ defined)
     where
-      first : (live : List (Dot × Option Content)) → not (length live == 0) ≡ true → (dot : Dot) × ((value : Option Content) × (find show_cmp dot live ≡ Some value))
-      first [] h = let e : (0 == 0) ≡ true = refl in cc
-      first (entry ∷ live) h = (entry.0, (entry.1, ap (λ b. cond b (Some entry.1) (find show_cmp entry.0 live)) (eq_by_cmp-dot entry.0 entry.0 ∙ dot_eq-refl v l key entry.0)))
-
       same_length : length (clock_at v l key log).live ≡ length (siblings_at partition log key)
       same_length =
           sym (length-map _ _)
@@ -97,19 +87,11 @@ module _ (partition : Partition) (course : Course) (ids : partition.primary < pa
   -- where no entry changes the clock it is the same
   unchanged : (part : Log) → IsUntouchedBy partition part position key → clock_at v l key (part ++ position) ≡ clock_at v l key position
   unchanged [] h = refl
-  unchanged (Command event ∷ part) h = clock-other (state_at v l key (part ++ position)) event.key key event.context event.operation (other (key_eq event.key key) h.0) ∙ unchanged part h.1
-    where
-      other : (b : Bool) → not b ≡ true → b ≡ false
-      other true h = cc
-      other false h = refl
+  unchanged (Command event ∷ part) h = clock-other (state_at v l key (part ++ position)) event.key key event.context event.operation (not_true (key_eq event.key key) h.0) ∙ unchanged part h.1
   unchanged (Copied copy ∷ part) h = by h.0 ∙ unchanged part h.1
     where
-      other : (b : Bool) → not b ≡ true → b ≡ false
-      other true h = cc
-      other false h = refl
-
       by : (not (key_eq copy.key key) ≡ true) ⊎ (clock_at v l key (Copied copy ∷ part ++ position) ≡ clock_at v l key (part ++ position)) → clock_at v l key (Copied copy ∷ part ++ position) ≡ clock_at v l key (part ++ position)
-      by (inl e) = clock-uncopied (state_at v l key (part ++ position)) copy.key key copy.clock (other (key_eq copy.key key) e)
+      by (inl e) = clock-uncopied (state_at v l key (part ++ position)) copy.key key copy.clock (not_true (key_eq copy.key key) e)
       by (inr e) = e
   unchanged (Closed number ∷ part) h = absurd h.0
 

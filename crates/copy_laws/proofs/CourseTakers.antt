@@ -1,9 +1,8 @@
 -- In a course a clock that knows the dot of a fallback's command knows each dot that the command took away; so does each
 -- context that was shown.
-use Rattle.std.proofs.Common.{◌≡◌, ◌≢◌, ℕ, suc, ◌+◌, ◌<◌, ◌≤◌, Bool, true, false, not, ◌&&◌, ◌||◌, cond, List, [], ◌∷◌, ◌++◌, refl, sym, ◌∙◌, ap, arith, subst, inl, inr}
-use Rattle.std.specs.Prelude.{◌⊎◌, ◌==◌, Option, Some, None}
+use Rattle.std.proofs.Common.{◌≡◌, ℕ, suc, ◌+◌, ◌<◌, ◌≤◌, Bool, true, false, ◌||◌, cond, List, [], ◌∷◌, ◌++◌, refl, sym, ◌∙◌, ap, arith, subst, inl, inr}
+use Rattle.std.specs.Prelude.{Option, Some, None}
 use Rattle.std.proofs.lemmas.List.{append_assoc}
-use Rattle.std.proofs.lemmas.Bool.Decides.{nat_tests}
 use Rattle.riak_msgs.specs.declared.Key.{Key}
 use Rattle.riak_msgs.specs.Contents.{Content}
 use Rattle.riak_msgs.specs.KeyOrder.{key_eq}
@@ -17,14 +16,15 @@ use Rattle.vnode_machine.specs.Lives.{dot_of}
 use Rattle.vnode_machine.specs.Replay.{HasReplay, replay}
 use Rattle.vnode_machine.proofs.Keys.{key_eq-same}
 use Rattle.vnode_machine.proofs.Numbers.{dot_of-own}
-use Rattle.copy_laws.specs.Copies.{Copy, Command, Copied, commands_of}
+use Rattle.vnode_machine.proofs.Tests.{nat_eq-refl}
+use Rattle.copy_laws.specs.Copies.{Copy, Copied, commands_of}
 use Rattle.copy_laws.specs.Sides.{Partition, Number}
 use Rattle.copy_laws.specs.CopyReplay.{primary_after}
 use Rattle.copy_laws.specs.Joining.{Log}
 use Rattle.copy_laws.specs.Diversions.{Happening, AtPrimary, Divert, AtFallback, CopyBack, Return, Course, diversions_of, fallback_of, fallback_state, copy_of, primary_of, WasShown, Happens}
+use Rattle.copy_laws.proofs.Tests.{not_zero, one_of_three, one_of_two, or_second}
 use Rattle.copy_laws.proofs.Clocks.{knows, knows-sync, taken_pairs, given_dot, clock-other, clock-reap, clock-uncopied}
 use Rattle.copy_laws.proofs.Since.{state_at, clock_at, pairs_at, dot_given, IsUpdate, knows-at, sync-at}
-use Rattle.copy_laws.proofs.LifeDots.{one-number}
 use Rattle.copy_laws.proofs.Later.{H, are_updates, count-later}
 use Rattle.copy_laws.proofs.Fallback.{knows-after, latest-given}
 use Rattle.copy_laws.proofs.Numbered.{number-within}
@@ -56,12 +56,6 @@ module _ (partition : Partition) (key : Key) (ids : partition.primary < partitio
 
   abbrev number : Number
   number = record { side = n; number = j }
-
-  not_zero : (n : ℕ) → 1 ≤ n → (n == 0) ≡ false
-  not_zero n h = grind (arith, nat_tests)
-
-  same : (n : ℕ) → (n == n) ≡ true
-  same n = grind (arith, nat_tests)
 
   on_side : (moment : Course) (side number : ℕ) (d : Dot) → 1 ≤ side → dot_of partition.fallback (partition.opened side) (fallback_of moment side) key number ≡ Some d
       → DotIn partition key ids moment (record { side = side; number = number }) d
@@ -123,11 +117,6 @@ module _ (partition : Partition) (key : Key) (ids : partition.primary < partitio
             | inr p ↦ as_pairs (clock_of (fallback_state partition w.moment) key).known dot p ∙ k.fallback (sym (as_pairs (clock_of (fallback_state partition w.moment) key).known own p) ∙ h)
           ]
 
-  one_of : (a b c : Bool) → (a || (b || c)) ≡ true → (a ≡ true) ⊎ ((b ≡ true) ⊎ (c ≡ true))
-  one_of true b c e = inl refl
-  one_of false true c e = inr (inl refl)
-  one_of false false c e = inr (inr e)
-
   or_middle : (a c : Bool) → (a || (true || c)) ≡ true
   or_middle true c = refl
   or_middle false c = refl
@@ -174,7 +163,7 @@ module _ (partition : Partition) (key : Key) (ids : partition.primary < partitio
 
       by : (a : Bool) → key_eq event.key key ≡ a → (u : Bool) → is_update event.operation ≡ u → knows (clock_at v l key (log_of (AtPrimary event ∷ before))) dot ≡ true
       by true p true q =
-          elim (one_of (dot_eq (dot_given v l key (log_of before) event) own) (knows (clock_at v l key (log_of before)) own) (covers (pairs_at v l key (log_of before) event) own)
+          elim (one_of_three (dot_eq (dot_given v l key (log_of before) event) own) (knows (clock_at v l key (log_of before)) own) (covers (pairs_at v l key (log_of before) event) own)
           (sym (knows-at v l key event (log_of before) (p, q) own) ∙ h)) [
             | inl x ↦ absurd (given (p, q) x)
             | inr (inl x) ↦ knows-at v l key event (log_of before) (p, q) dot
@@ -194,14 +183,6 @@ module _ (partition : Partition) (key : Key) (ids : partition.primary < partitio
       → knows (clock_at v l key (log_of (CopyBack at ∷ before))) own ≡ true → knows (clock_at v l key (log_of (CopyBack at ∷ before))) dot ≡ true
   copy-takes at before all h = by (key_eq at key) refl
     where
-      one : (a b : Bool) → (a || b) ≡ true → (a ≡ true) ⊎ (b ≡ true)
-      one true b e = inl refl
-      one false b e = inr e
-
-      right : (a b : Bool) → b ≡ true → (a || b) ≡ true
-      right true b e = refl
-      right false b e = e
-
       copy : Copy Content
       copy = copy_of partition before at
 
@@ -213,9 +194,9 @@ module _ (partition : Partition) (key : Key) (ids : partition.primary < partitio
 
       by : (a : Bool) → key_eq at key ≡ a → knows (clock_at v l key (log_of (CopyBack at ∷ before))) dot ≡ true
       by true p =
-          elim (one (knows (clock_at v l key (log_of before)) own) (knows (copy_of partition before at).clock own) (sym (synced-knows p own) ∙ h)) [
+          elim (one_of_two (knows (clock_at v l key (log_of before)) own) (knows (copy_of partition before at).clock own) (sym (synced-knows p own) ∙ h)) [
             | inl x ↦ synced-knows p dot ∙ ap (λ b. b || knows (copy_of partition before at).clock dot) ((taken-now before all).primary x)
-            | inr x ↦ synced-knows p dot ∙ right (knows (clock_at v l key (log_of before)) dot) (knows (copy_of partition before at).clock dot)
+            | inr x ↦ synced-knows p dot ∙ or_second (knows (clock_at v l key (log_of before)) dot) (knows (copy_of partition before at).clock dot)
                 (ap (λ k. knows (clock_of (fallback_state partition before) k) dot) (key_eq-same at key p)
                 ∙ (taken-now before all).fallback (ap (λ k. knows (clock_of (fallback_state partition before) k) own) (sym (key_eq-same at key p)) ∙ x))
           ]
@@ -238,7 +219,7 @@ module _ (partition : Partition) (key : Key) (ids : partition.primary < partitio
           ≡ clock_of (replay partition.fallback (partition.opened (diversions_of before)) (event ∷ fallback_of before (diversions_of before))) key
       state_is =
           ap (λ b. clock_of (replay partition.fallback (partition.opened (diversions_of before)) (cond b (event ∷ fallback_of before (diversions_of before)) (fallback_of before (diversions_of before)))) key)
-          (same (diversions_of before))
+          (nat_eq-refl (diversions_of before))
 
       there : knows (clock_of (replay partition.fallback (partition.opened (diversions_of before)) (event ∷ fallback_of before (diversions_of before))) key) own ≡ true
       there = sym (ap (λ c. knows c own) state_is) ∙ h
@@ -260,12 +241,12 @@ module _ (partition : Partition) (key : Key) (ids : partition.primary < partitio
       itself p g =
           let replays = legal-fallback partition (AtFallback event ∷ before) may (diversions_of before) in
           let whole : HasReplay partition.fallback (partition.opened (diversions_of before)) (event ∷ fallback_of before (diversions_of before)) =
-          subst (λ b. HasReplay partition.fallback (partition.opened (diversions_of before)) (cond b (event ∷ fallback_of before (diversions_of before)) (fallback_of before (diversions_of before)))) (same (diversions_of before)) replays in
+          subst (λ b. HasReplay partition.fallback (partition.opened (diversions_of before)) (cond b (event ∷ fallback_of before (diversions_of before)) (fallback_of before (diversions_of before)))) (nat_eq-refl (diversions_of before)) replays in
           let numbered : dot_of partition.fallback (partition.opened (diversions_of before)) (event ∷ fallback_of before (diversions_of before)) key (suc (count_of (fallback_of before (diversions_of before)) key)) ≡ Some own =
           dot_of-own event (fallback_of before (diversions_of before)) key partition.fallback (partition.opened (diversions_of before)) p may.1.1
           ∙ latest-given partition.fallback (partition.opened (diversions_of before)) key event (fallback_of before (diversions_of before)) whole p may.1.1 ∙ ap (λ d. Some d) (dot_eq-same given own g) in
           let at_moment : dot_of partition.fallback (partition.opened (diversions_of before)) (fallback_of (AtFallback event ∷ before) (diversions_of before)) key (suc (count_of (fallback_of before (diversions_of before)) key)) ≡ Some own =
-          ap (λ b. dot_of partition.fallback (partition.opened (diversions_of before)) (cond b (event ∷ fallback_of before (diversions_of before)) (fallback_of before (diversions_of before))) key (suc (count_of (fallback_of before (diversions_of before)) key))) (same (diversions_of before))
+          ap (λ b. dot_of partition.fallback (partition.opened (diversions_of before)) (cond b (event ∷ fallback_of before (diversions_of before)) (fallback_of before (diversions_of before))) key (suc (count_of (fallback_of before (diversions_of before)) key))) (nat_eq-refl (diversions_of before))
           ∙ numbered in
           let has = on_side (AtFallback event ∷ before) (diversions_of before) (suc (count_of (fallback_of before (diversions_of before)) key)) own (diverted-some before may.1.0) at_moment in
           let side : diversions_of before ≡ n = one-side later (AtFallback event ∷ before) e (record { side = diversions_of before; number = suc (count_of (fallback_of before (diversions_of before)) key) }) has in
@@ -304,7 +285,7 @@ module _ (partition : Partition) (key : Key) (ids : partition.primary < partitio
           → knows (clock_of (replay partition.fallback (partition.opened (diversions_of before)) (event ∷ fallback_of before (diversions_of before))) key) dot ≡ true
       by true p =
           let step = knows-after partition.fallback (partition.opened (diversions_of before)) key event (fallback_of before (diversions_of before)) p may.1.1 in
-          elim (one_of (dot_eq given own) (knows (clock_of (fallback_state partition before) key) own) (covers (taken_pairs (fallback_state partition before) event.key event.context event.operation) own) (sym (step own) ∙ there)) [
+          elim (one_of_three (dot_eq given own) (knows (clock_of (fallback_state partition before) key) own) (covers (taken_pairs (fallback_state partition before) event.key event.context event.operation) own) (sym (step own) ∙ there)) [
             | inl x ↦ itself p x
             | inr (inl x) ↦ step dot ∙ ap (λ b. dot_eq given dot || (b || covers (taken_pairs (fallback_state partition before) event.key event.context event.operation) dot)) (earlier x)
                 ∙ or_middle (dot_eq given dot) (covers (taken_pairs (fallback_state partition before) event.key event.context event.operation) dot)

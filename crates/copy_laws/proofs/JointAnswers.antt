@@ -1,19 +1,18 @@
 -- In each course the primary answers gets, and reaps, as the register does over sides and numbers.
-use Rattle.std.proofs.Common.{◌≡◌, ℕ, ◌-◌, ◌<◌, Bool, true, false, not, ◌&&◌, cond, List, [], ◌∷◌, length, map, refl, sym, ◌∙◌, ap, arith}
+use Rattle.std.proofs.Common.{◌≡◌, ◌-◌, ◌<◌, Bool, true, false, not, ◌&&◌, cond, List, [], ◌∷◌, length, map, refl, sym, ◌∙◌, ap, arith}
 use Rattle.std.specs.Prelude.{Option, Some, None, drop}
 use Rattle.riak_msgs.specs.declared.Key.{Key}
-use Rattle.riak_msgs.specs.declared.Shown.{Shown as ShownContent}
 use Rattle.riak_msgs.specs.declared.GetReply.{GetReply}
 use Rattle.riak_msgs.specs.Contents.{Content}
 use Rattle.sibling_register.specs.Answers.{GetCommand, Told, Shown}
 use Rattle.actor_epoch.specs.declared.Dot.{Dot}
 use Rattle.actor_epoch.specs.Given.{Context, Malformed, Pairs}
 use Rattle.dvv_set.specs.Clocks.{join}
-use Rattle.vnode_machine.specs.Machine.{State, clock_of, is_held, has_value, holds_dead, matches_clock, same_context, same_pairs}
+use Rattle.vnode_machine.specs.Machine.{State, clock_of, is_held, holds_dead, matches_clock, same_pairs}
 use Rattle.vnode_machine.specs.Replies.{contents_in, context_in, get_reply, position_at, shown}
 use Rattle.copy_laws.specs.Copies.{brought}
-use Rattle.copy_laws.specs.Sides.{Partition, Number, dot_at, content_at, siblings_at, is_defined_at, is_present_at, is_dead_at}
-use Rattle.copy_laws.specs.CopyReplay.{primary_after, name_at}
+use Rattle.copy_laws.specs.Sides.{Partition, Number, dot_at, content_at, siblings_at, is_defined_at, is_dead_at}
+use Rattle.copy_laws.specs.CopyReplay.{primary_after}
 use Rattle.copy_laws.specs.Joining.{Log, ShowsSiblings}
 use Rattle.copy_laws.specs.Diversions.{Course, primary_of, fallback_of, Happens}
 use Rattle.copy_laws.specs.JointAnswers.{is_name_at, get_told_at, get_shown_at, CoursesAnswerGets, CoursesReapDead}
@@ -31,21 +30,21 @@ module _ (partition : Partition) (course : Course) (ids : partition.primary < pa
   abbrev state : State Content
   state = primary_after partition log
 
-  held-same : (key : Key) → is_held state key ≡ is_defined_at partition log key
+  pub held-same : (key : Key) → is_held state key ≡ is_defined_at partition log key
   held-same key = courses_hold_defined partition course ids happens key
 
-  shows : (key : Key) → ShowsSiblings partition log (fallback_of course) key log
+  pub shows : (key : Key) → ShowsSiblings partition log (fallback_of course) key log
   shows key = courses_show partition course ids happens key
 
   dead-same : (key : Key) → holds_dead state key ≡ is_dead_at partition log key
   dead-same key = λ i. held-same key i && not ((shows key).present i)
 
-  name-same : (key : Key) (given : Option Context) → is_defined_at partition log key ≡ true → matches_clock state key given ≡ is_name_at partition log key given
+  pub name-same : (key : Key) (given : Option Context) → is_defined_at partition log key ≡ true → matches_clock state key given ≡ is_name_at partition log key given
   name-same key None h = refl
   name-same key (Some Malformed) h = refl
   name-same key (Some (Pairs pairs)) h = ap (λ b. b && same_pairs pairs (join (clock_of state key))) (held-same key ∙ h)
 
-  contents-same : (key : Key) (bare : Bool) → contents_in state key bare ≡ map (λ number. shown bare (content_at partition log (brought log key) key number)) (siblings_at partition log key)
+  pub contents-same : (key : Key) (bare : Bool) → contents_in state key bare ≡ map (λ number. shown bare (content_at partition log (brought log key) key number)) (siblings_at partition log key)
   contents-same key bare =
       sym (map-map {Y = Option Dot × Option Content} (λ entry. (Some entry.0, entry.1)) (λ pair. shown bare pair.1) (clock_of state key).live)
       ∙ ap (map (λ (pair : Option Dot × Option Content). shown bare pair.1)) (shows key).live
@@ -56,7 +55,7 @@ module _ (partition : Partition) (course : Course) (ids : partition.primary < pa
   whole : {X : Type 0} (xs : List X) → position_at xs (length xs) ≡ xs
   whole xs = let none : length xs - length xs ≡ 0 = omega arith in ap (λ n. drop n xs) none
 
-  context-same : (key : Key) → context_in state key ≡ context_in (primary_after partition (position_at log (length log))) key
+  pub context-same : (key : Key) → context_in state key ≡ context_in (primary_after partition (position_at log (length log))) key
   context-same key = ap (λ t. context_in (primary_after partition t) key) (sym (whole log))
 
   gets : (get : GetCommand Context) → get_reply state get ≡ get_shown_at partition log get.key (get_told_at partition log get)

@@ -1,13 +1,12 @@
 -- A primary that knows the dot of a fallback's number had the number brought, or a command of it saw the number.
-use Rattle.std.proofs.Common.{◌≡◌, ◌≢◌, ℕ, suc, ◌≤◌, Bool, true, false, not, ◌&&◌, ◌||◌, cond, List, [], ◌∷◌, ◌++◌, refl, sym, ◌∙◌, ap, arith, subst, inl, inr}
+use Rattle.std.proofs.Common.{◌≡◌, ℕ, suc, ◌≤◌, Bool, true, false, ◌&&◌, [], ◌∷◌, ◌++◌, refl, sym, ◌∙◌, ap, arith, subst, inl, inr}
 use Rattle.std.specs.Prelude.{◌⊎◌, ◌==◌, nat_le, Option, Some, None, MatchBool}
 use Rattle.std.specs.Option.{option_map_or}
 use Rattle.std.proofs.lemmas.List.{append_assoc}
-use Rattle.std.proofs.lemmas.Bool.Decides.{nat_tests}
 use Rattle.riak_msgs.specs.declared.Key.{Key}
 use Rattle.riak_msgs.specs.Contents.{Content}
 use Rattle.riak_msgs.specs.KeyOrder.{key_eq}
-use Rattle.sibling_register.specs.History.{Event, Operation, Write, Tombstone, Reap, count_of, is_update}
+use Rattle.sibling_register.specs.History.{Operation, Write, Tombstone, Reap, count_of, is_update}
 use Rattle.actor_epoch.specs.declared.Dot.{Dot}
 use Rattle.actor_epoch.specs.Dots.{dot_eq, covers}
 use Rattle.actor_epoch.specs.Given.{Context}
@@ -16,15 +15,17 @@ use Rattle.vnode_machine.specs.Machine.{clock_of, pairs_of}
 use Rattle.vnode_machine.specs.Lives.{dot_of}
 use Rattle.vnode_machine.specs.Replay.{replay}
 use Rattle.vnode_machine.proofs.Keys.{key_eq-same}
+use Rattle.vnode_machine.proofs.Tests.{nat_eq-same}
 use Rattle.copy_laws.specs.Copies.{Copy, LogEntry, Command, Copied, Closed, commands_of, count_brought as brought_count}
-use Rattle.copy_laws.specs.Sides.{Partition, Number, is_covered_by, takes_all}
-use Rattle.copy_laws.specs.Joining.{Log, Fallbacks, IsJoined, IsDiversion, HasDot, HasCome, value_at}
+use Rattle.copy_laws.specs.Sides.{Partition, Number, takes_all}
+use Rattle.copy_laws.specs.Joining.{Log, Fallbacks, IsJoined, IsDiversion, HasCome, value_at}
+use Rattle.copy_laws.proofs.Tests.{differs, not_zero, one_of_three, one_of_two}
 use Rattle.copy_laws.proofs.Clocks.{knows, knows-sync, taken_pairs, clock-other, clock-reap, clock-uncopied}
 use Rattle.copy_laws.proofs.Since.{Since, GivesValue, MakesKnown, state_at, clock_at, pairs_at, dot_given, IsUpdate, knows-at, knows-since, sync-at, value-since}
 use Rattle.copy_laws.proofs.Fallback.{known-from}
 use Rattle.copy_laws.proofs.Numbered.{number-within, number-known}
 use Rattle.copy_laws.proofs.Brought.{count_brought, brought-more, brought-here, is_seen, seen-later, seen-here}
-use Rattle.copy_laws.proofs.PrimaryDots.{own-number-dot, not_zero}
+use Rattle.copy_laws.proofs.PrimaryDots.{own-number-dot}
 use Rattle.copy_laws.proofs.Tracked.{exact-at}
 use Rattle.copy_laws.proofs.JoinedFacts.{Dotted, IsOfFallback, of-fallback, fallback-number, dotted-prefix, copy-knows, copy-sibling}
 
@@ -65,19 +66,13 @@ module _ (partition : Partition) (primary : Log) (fallbacks : Fallbacks) (key : 
     abbrev IsCome : Log → Type 0
     IsCome log = (j ≤ count_brought key log n) ⊎ (is_seen key number dot log ≡ true)
 
-    equal : (a b : ℕ) → (a == b) ≡ true → a ≡ b
-    equal a b h = grind (arith, nat_tests)
-
-    differs : (a b : ℕ) → (a == b) ≡ false → a ≢ b
-    differs a b h e = grind (arith, nat_tests)
-
     come-at : (log : Log) → j ≤ count_brought key log n → HasCome partition primary fallbacks key log number
     come-at log h =
-        subst (λ b. MatchBool b (j ≤ count_of (commands_of log) key) (j ≤ count_brought key log n)) (sym (not_zero partition primary fallbacks key joined n diversion.0)) h
+        subst (λ b. MatchBool b (j ≤ count_of (commands_of log) key) (j ≤ count_brought key log n)) (sym (not_zero n diversion.0)) h
 
     came-at : (log : Log) → HasCome partition primary fallbacks key log number → j ≤ count_brought key log n
     came-at log h =
-        subst (λ b. MatchBool b (j ≤ count_of (commands_of log) key) (j ≤ count_brought key log n)) (not_zero partition primary fallbacks key joined n diversion.0) h
+        subst (λ b. MatchBool b (j ≤ count_of (commands_of log) key) (j ≤ count_brought key log n)) (not_zero n diversion.0) h
 
     more : (entry : LogEntry Content) (before : Log) → IsCome before → IsCome (entry ∷ before)
     more entry before (inl h) = let up = brought-more key entry before n in inl (omega (arith, h, up))
@@ -95,7 +90,7 @@ module _ (partition : Partition) (primary : Log) (fallbacks : Fallbacks) (key : 
 
         by : (b : Bool) → (copy.diversion == n) ≡ b → IsCome (Copied copy ∷ before)
         by true q =
-            let same : copy.diversion ≡ n = equal copy.diversion n q in
+            let same : copy.diversion ≡ n = nat_eq-same copy.diversion n q in
             let whole : dot_of partition.fallback (partition.opened copy.diversion) (facts.gap ++ copy.prefix) key j ≡ Some dot =
             ap (λ t. dot_of partition.fallback (partition.opened copy.diversion) t key j) facts.begins
             ∙ ap (λ s. dot_of partition.fallback (partition.opened s) (fallbacks s) key j) same ∙ fallback-number partition primary fallbacks key joined n j dot diversion.0 dotted in
@@ -115,11 +110,6 @@ module _ (partition : Partition) (primary : Log) (fallbacks : Fallbacks) (key : 
     known-come gap (Command event ∷ before) e h =
         by (known-come (gap ++ Command event ∷ []) before (append_assoc gap (Command event ∷ []) before ∙ e)) (key_eq event.key key) refl (is_update event.operation) refl
       where
-        one_of : (a b c : Bool) → (a || (b || c)) ≡ true → (a ≡ true) ⊎ ((b ≡ true) ⊎ (c ≡ true))
-        one_of true b c e = inl refl
-        one_of false true c e = inr (inl refl)
-        one_of false false c e = inr (inr e)
-
         own : IsUpdate v l key event → dot_eq (dot_given v l key before event) dot ≡ true → ⊥
         own u given =
             let has = own-number-dot partition primary fallbacks key joined gap event before e u dot
@@ -142,7 +132,7 @@ module _ (partition : Partition) (primary : Log) (fallbacks : Fallbacks) (key : 
 
         by : (knows (clock_at v l key before) dot ≡ true → IsCome before) → (a : Bool) → key_eq event.key key ≡ a → (u : Bool) → is_update event.operation ≡ u → IsCome (Command event ∷ before)
         by rest true p true q =
-            elim (one_of (dot_eq (dot_given v l key before event) dot) (knows (clock_at v l key before) dot) (covers (pairs_at v l key before event) dot) (sym (knows-at v l key event before (p, q) dot) ∙ h)) [
+            elim (one_of_three (dot_eq (dot_given v l key before event) dot) (knows (clock_at v l key before) dot) (covers (pairs_at v l key before event) dot) (sym (knows-at v l key event before (p, q) dot) ∙ h)) [
               | inl x ↦ absurd (own (p, q) x)
               | inr (inl x) ↦ more (Command event) before (rest x)
               | inr (inr x) ↦ taken rest p event.context refl event.operation x
@@ -152,13 +142,9 @@ module _ (partition : Partition) (primary : Log) (fallbacks : Fallbacks) (key : 
     known-come gap (Copied copy ∷ before) e h =
         by (known-come (gap ++ Copied copy ∷ []) before (append_assoc gap (Copied copy ∷ []) before ∙ e)) (key_eq copy.key key) refl
       where
-        one_of : (a b : Bool) → (a || b) ≡ true → (a ≡ true) ⊎ (b ≡ true)
-        one_of true b e = inl refl
-        one_of false b e = inr e
-
         by : (knows (clock_at v l key before) dot ≡ true → IsCome before) → (a : Bool) → key_eq copy.key key ≡ a → IsCome (Copied copy ∷ before)
         by rest true p =
-            elim (one_of (knows (clock_at v l key before) dot) (knows copy.clock dot) (sym (ap (λ c. knows c dot) (sync-at v l key copy before p) ∙ knows-sync (clock_at v l key before) copy.clock dot) ∙ h)) [
+            elim (one_of_two (knows (clock_at v l key before) dot) (knows copy.clock dot) (sym (ap (λ c. knows c dot) (sync-at v l key copy before p) ∙ knows-sync (clock_at v l key before) copy.clock dot) ∙ h)) [
               | inl x ↦ more (Copied copy) before (rest x)
               | inr x ↦ copied gap copy before e p x
             ]

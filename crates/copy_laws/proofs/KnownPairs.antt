@@ -1,91 +1,65 @@
 -- The pairs that a clock knows rise, with counters from 1 on: at a primary and at a fallback.
-use Rattle.std.proofs.Common.{◌≡◌, ℕ, ◌+◌, ◌≤◌, Bool, true, false, not, ◌&&◌, ◌||◌, cond, IsTrue, List, [], ◌∷◌, ◌++◌, refl, sym, ◌∙◌, ap, arith, subst}
-use Rattle.std.specs.Prelude.{◌^◌, T, max, nat_le, nat_lt, Option, Some, None}
-use Rattle.std.specs.List.{list_any, list_all}
-use Rattle.std.specs.Ordering.{is_lt}
-use Rattle.std.specs.FinMap.Entries.{is_sorted, below_all}
+use Rattle.std.proofs.Common.{◌≡◌, ℕ, ◌+◌, ◌≤◌, Bool, true, false, not, ◌||◌, List, [], ◌∷◌, ◌++◌, refl, sym, ◌∙◌, ap, arith, subst}
+use Rattle.std.specs.Prelude.{max, nat_le, Option, Some, None}
+use Rattle.std.specs.List.{list_any}
 use Rattle.std.proofs.lemmas.List.{append_assoc}
 use Rattle.std.proofs.lemmas.Bool.Decides.{nat_tests}
 use Rattle.riak_msgs.specs.declared.Key.{Key}
 use Rattle.riak_msgs.specs.Contents.{Content}
 use Rattle.riak_msgs.specs.KeyOrder.{key_eq}
-use Rattle.sibling_register.specs.History.{Operation, Write, Tombstone, Reap, is_update, written}
+use Rattle.sibling_register.specs.History.{Operation, Write, Tombstone, Reap, is_update}
 use Rattle.actor_epoch.specs.declared.Actor.{Actor}
 use Rattle.actor_epoch.specs.declared.Dot.{Dot}
-use Rattle.actor_epoch.specs.Limits.{max_epoch, max_counter}
-use Rattle.actor_epoch.specs.Dots.{actor_cmp, covers, counter_in, insert_max, union}
-use Rattle.actor_epoch.specs.Contexts.{is_rising, is_within_limits, is_well_formed}
+use Rattle.actor_epoch.specs.Dots.{covers, counter_in, union}
+use Rattle.actor_epoch.specs.Contexts.{is_well_formed}
 use Rattle.actor_epoch.specs.Given.{Context, Malformed, Pairs}
-use Rattle.actor_epoch.proofs.Rising.{and_first, and_second}
-use Rattle.actor_epoch.proofs.Order.{is_below_all, rising-below, rising-tail}
 use Rattle.actor_epoch.proofs.Pairs.{counter_in-union}
-use Rattle.dvv_set.proofs.Orders.{T-both, T-is}
-use Rattle.dvv_set.proofs.Known.{ArePairs, ArePairs-union, ArePairs-insert_max, as_entries, same_pairs}
+use Rattle.dvv_set.specs.ClockEntries.{ClockEntries, known_of, entries_of_pairs}
+use Rattle.dvv_set.proofs.Events.{AreEntries-pairs}
+use Rattle.dvv_set.proofs.Known.{ArePairs, ArePairs-known_of, ArePairs-union, ArePairs-insert_max, same_pairs}
 use Rattle.vnode_machine.specs.Machine.{State, clock_of, actor_for, pairs_of, apply_operation, is_bad_context, names_unissued_dot}
 use Rattle.vnode_machine.specs.Replay.{HasReplay, Accepts, replay}
 use Rattle.vnode_machine.proofs.Keys.{key_eq-same}
-use Rattle.vnode_machine.proofs.Forms.{form-parts}
+use Rattle.vnode_machine.proofs.Steps.{not_first}
 use Rattle.vnode_machine.proofs.Counters.{covers-counter}
-use Rattle.copy_laws.specs.Copies.{Copy, LogEntry, Command, Copied, Closed}
+use Rattle.copy_laws.specs.Copies.{Copy, Command, Copied, Closed}
 use Rattle.copy_laws.specs.Sides.{Partition}
 use Rattle.copy_laws.specs.Joining.{Log, Fallbacks, IsJoined}
+use Rattle.copy_laws.proofs.Tests.{test-within, within-test}
 use Rattle.copy_laws.proofs.Clocks.{Clock, taken_pairs, discarded, clock-other, clock-update, clock-reap, clock-uncopied}
 use Rattle.copy_laws.proofs.Since.{state_at, clock_at, sync-at}
 use Rattle.copy_laws.proofs.Later.{H}
 use Rattle.copy_laws.proofs.PrimaryDots.{accepted}
 use Rattle.copy_laws.proofs.JoinedFacts.{IsOfFallback, of-fallback}
 
-below_all-entries : (a : Actor) (pairs : List Dot) → IsTrue (is_below_all a pairs) → T (below_all actor_cmp a (as_entries pairs))
-below_all-entries a [] h = tt
-below_all-entries a (pair ∷ pairs) h =
-    T-both (is_lt (actor_cmp a pair.actor)) _ (T-is _ (and_first (is_lt (actor_cmp a pair.actor)) (is_below_all a pairs) h))
-    (below_all-entries a pairs (and_second (is_lt (actor_cmp a pair.actor)) (is_below_all a pairs) h))
-
-is_sorted-rising : (pairs : List Dot) → IsTrue (is_rising pairs) → T (is_sorted actor_cmp (as_entries pairs))
-is_sorted-rising [] h = tt
-is_sorted-rising (pair ∷ pairs) h =
-    T-both (below_all actor_cmp pair.actor (as_entries pairs)) _
-    (below_all-entries pair.actor pairs (rising-below pair pairs h)) (is_sorted-rising pairs (rising-tail pair pairs h))
-
-positive-within : (pairs : List Dot) → IsTrue (list_all is_within_limits pairs) → IsTrue (list_all (λ pair. nat_le 1 pair.counter) pairs)
-positive-within [] h = refl
-positive-within (pair ∷ pairs) h =
-    λ i. counter (nat_lt pair.actor.vnode (2 ^ 64)) (nat_le 1 pair.actor.epoch && nat_le pair.actor.epoch max_epoch) (nat_le 1 pair.counter) (nat_le pair.counter max_counter)
-    (and_first (is_within_limits pair) (list_all is_within_limits pairs) h) i && positive-within pairs (and_second (is_within_limits pair) (list_all is_within_limits pairs) h) i
-  where
-    counter : (a b c d : Bool) → (a && (b && (c && d))) ≡ true → c ≡ true
-    counter true true true d h = refl
-    counter true true false d h = h
-    counter true false c d h = cc
-    counter false b c d h = cc
-
 -- pairs that are of the form of a context are such
 well-formed-pairs : (pairs : List Dot) → is_well_formed pairs ≡ true → ArePairs pairs
-well-formed-pairs pairs h = let parts = form-parts pairs h in record { sorted = is_sorted-rising pairs parts.rising; positive = positive-within pairs parts.within }
+well-formed-pairs pairs h = subst ArePairs (knows pairs) (ArePairs-known_of (entries_of_pairs pairs) (AreEntries-pairs Content pairs h))
+  where
+    knows : (pairs : List Dot) → known_of (let entries : ClockEntries Content = entries_of_pairs pairs in entries) ≡ pairs
+    knows [] = refl
+    knows (pair ∷ pairs) = ap (λ ps. pair ∷ ps) (knows pairs)
 
 no-pairs : ArePairs []
 no-pairs = record { sorted = tt; positive = refl }
 
-not_first : (b : Bool) (n : ℕ) (rest : Option ℕ) → cond b (Some n) rest ≡ None → b ≡ false
-not_first true n rest h = cc
-not_first false n rest h = refl
+-- what holds of no pairs, of pairs of the form of a context, and of what is known, holds of what an accepted command discards
+module _ (P : List Dot → Type 0) (none : P []) (form : (pairs : List Dot) → is_well_formed pairs ≡ true → P pairs) where
+  good-pairs : (state : State Content) (at : Key) (given : Option Context) → is_bad_context state at given ≡ false → P (pairs_of given)
+  good-pairs state at None h = none
+  good-pairs state at (Some Malformed) h = none
+  good-pairs state at (Some (Pairs pairs)) h = form pairs (by (is_well_formed pairs) (list_any (names_unissued_dot state at) pairs) h)
+    where
+      by : (a b : Bool) → (not a || b) ≡ false → a ≡ true
+      by true b h = refl
+      by false b h = cc
 
--- what an accepted command discards
-good-context : (state : State Content) (at : Key) (given : Option Context) → is_bad_context state at given ≡ false → ArePairs (pairs_of given)
-good-context state at None h = no-pairs
-good-context state at (Some Malformed) h = no-pairs
-good-context state at (Some (Pairs pairs)) h = well-formed-pairs pairs (by (is_well_formed pairs) (list_any (names_unissued_dot state at) pairs) h)
-  where
-    by : (a b : Bool) → (not a || b) ≡ false → a ≡ true
-    by true b h = refl
-    by false b h = cc
-
-accepted-pairs : (state : State Content) (at : Key) (given : Option Context) (operation : Operation Content) → ArePairs (clock_of state at).known → Accepts state at given operation
-    → is_update operation ≡ true → ArePairs (taken_pairs state at given operation)
-accepted-pairs state at given (Write content) h a u = good-context state at given (not_first (is_bad_context state at given) _ _ a)
-accepted-pairs state at None Tombstone h a u = h
-accepted-pairs state at (Some context) Tombstone h a u = good-context state at (Some context) (not_first (is_bad_context state at (Some context)) _ _ a)
-accepted-pairs state at given Reap h a u = cc
+  pub accepted-pairs : (state : State Content) (at : Key) (given : Option Context) (operation : Operation Content) → P (clock_of state at).known → Accepts state at given operation
+      → is_update operation ≡ true → P (taken_pairs state at given operation)
+  accepted-pairs state at given (Write content) h a u = good-pairs state at given (not_first (is_bad_context state at given) _ _ a)
+  accepted-pairs state at None Tombstone h a u = h
+  accepted-pairs state at (Some context) Tombstone h a u = good-pairs state at (Some context) (not_first (is_bad_context state at (Some context)) _ _ a)
+  accepted-pairs state at given Reap h a u = cc
 
 -- a command keeps them such
 pub pairs-after : (state : State Content) (at key : Key) (given : Option Context) (operation : Operation Content) → ArePairs (clock_of state key).known → Accepts state at given operation
@@ -103,7 +77,7 @@ pairs-after state at key given operation h a = by (key_eq at key) refl (is_updat
         subst (λ (c : Clock). ArePairs c.known) (sym (clock-update state at key given operation e u))
         (ArePairs-insert_max (record { actor = actor_for state at; counter = counter_in (discarded state at given operation).known (actor_for state at) + 1 }) (discarded state at given operation).known
         (positive (counter_in (discarded state at given operation).known (actor_for state at)))
-        (ArePairs-union (clock_of state at).known (taken_pairs state at given operation) (there e) (accepted-pairs state at given operation (there e) a u)))
+        (ArePairs-union (clock_of state at).known (taken_pairs state at given operation) (there e) (accepted-pairs ArePairs no-pairs well-formed-pairs state at given operation (there e) a u)))
     by true e false u = subst (λ (c : Clock). ArePairs c.known) (sym (clock-reap state at key given operation e u)) no-pairs
     by false e u q = subst (λ (c : Clock). ArePairs c.known) (sym (clock-other state at key given operation e)) h
 
@@ -141,19 +115,13 @@ counters-below own other h actor = by (nat_le 1 (counter_in other actor)) refl
     last : Dot
     last = record { actor = actor; counter = counter_in other actor }
 
-    reaches : (c n : ℕ) → (nat_le 1 c && nat_le c n) ≡ true → c ≤ n
-    reaches c n h = grind (arith, nat_tests)
-
-    itself : (c : ℕ) → nat_le 1 c ≡ true → (nat_le 1 c && nat_le c c) ≡ true
-    itself c h = grind (arith, nat_tests)
-
     none : (c n : ℕ) → nat_le 1 c ≡ false → c ≤ n
     none c n h = grind (arith, nat_tests)
 
     by : (b : Bool) → nat_le 1 (counter_in other actor) ≡ b → counter_in other actor ≤ counter_in own actor
     by true e =
-        reaches (counter_in other actor) (counter_in own actor)
-        (sym (covers-counter own last) ∙ h last (covers-counter other last ∙ itself (counter_in other actor) e))
+        within-test (counter_in other actor) (counter_in own actor)
+        (sym (covers-counter own last) ∙ h last (covers-counter other last ∙ test-within (counter_in other actor) e))
     by false e = none (counter_in other actor) (counter_in own actor) e
 
 pub union-known : (own other : List Dot) → ArePairs own → ArePairs other → ((dot : Dot) → covers other dot ≡ true → covers own dot ≡ true) → union own other ≡ own

@@ -1,7 +1,7 @@
 -- A value leaves a key's siblings at the primary only by a write or delete of some side that had seen it.
 use Rattle.std.proofs.Common.{◌≡◌, ◌≢◌, ℕ, suc, ◌≤◌, Bool, true, false, not, ◌&&◌, ◌||◌, cond, List, [], ◌∷◌, ◌++◌, refl, sym, ◌∙◌, ap, arith, subst, inl, inr}
 use Rattle.std.specs.Prelude.{◌⊎◌, ◌==◌, nat_le, Option, Some, None, is_some}
-use Rattle.std.specs.Option.{option_map_or, option_or, option_map}
+use Rattle.std.specs.Option.{option_map_or}
 use Rattle.std.specs.Ordering.{eq_by_cmp}
 use Rattle.std.specs.List.{list_any, list_all}
 use Rattle.std.specs.FinMap.Entries.{find}
@@ -17,26 +17,26 @@ use Rattle.sibling_register.proofs.Following.{count_of-own}
 use Rattle.actor_epoch.specs.declared.Dot.{Dot}
 use Rattle.actor_epoch.specs.Dots.{dot_eq, covers}
 use Rattle.actor_epoch.specs.Given.{Context}
-use Rattle.dvv_set.specs.Clocks.{show_cmp, sync, value_in}
+use Rattle.dvv_set.specs.Clocks.{show_cmp, sync}
 use Rattle.vnode_machine.specs.Machine.{State, clock_of, pairs_of, is_held, has_value, holds_dead}
 use Rattle.vnode_machine.specs.Lives.{latest_dot, dot_of}
 use Rattle.vnode_machine.specs.Replay.{HasReplay, replay, Accepts}
 use Rattle.vnode_machine.proofs.Keys.{key_eq-same}
-use Rattle.vnode_machine.proofs.Tests.{and_left, and_right}
+use Rattle.vnode_machine.proofs.Tests.{and_right, nat_eq-same}
 use Rattle.copy_laws.specs.Copies.{Copy, LogEntry, Command, Copied, Closed, commands_of, count_brought as brought_count, brought}
 use Rattle.copy_laws.specs.Sides.{Partition, Number, has_number, dot_at, content_at, is_covered_by, saw_brought, takes_all, siblings_at}
 use Rattle.copy_laws.specs.CopyReplay.{primary_after, HasEntries}
 use Rattle.copy_laws.specs.Joining.{Log, Fallbacks, IsJoined, HasDot, value_at}
 use Rattle.copy_laws.specs.Diversions.{Course, primary_of, fallback_of}
-use Rattle.copy_laws.specs.Leaving.{saw_number, brings_sight, has_seen, is_seen_between, LeavesOnlySeen, CoursesLeaveOnlySeen, FallbacksLeaveOnlySeen}
+use Rattle.copy_laws.specs.Leaving.{has_seen, is_seen_between, LeavesOnlySeen, CoursesLeaveOnlySeen, FallbacksLeaveOnlySeen}
 use Rattle.vnode_machine.proofs.Showing.{leaves_only_to_seers}
+use Rattle.copy_laws.proofs.Tests.{le-test, or_true}
 use Rattle.copy_laws.proofs.Clocks.{Clock, knows, synced, value-synced, taken_pairs, clock-other, clock-uncopied}
 use Rattle.copy_laws.proofs.Since.{state_at, clock_at, pairs_at, dot_given, IsUpdate, value-at, sync-at}
 use Rattle.copy_laws.proofs.Later.{H, are_updates, replay-before}
 use Rattle.copy_laws.proofs.Fallback.{known-from, sibling-value}
 use Rattle.copy_laws.proofs.LifeDots.{one-number}
 use Rattle.copy_laws.proofs.Numbered.{number-within, number-known}
-use Rattle.copy_laws.proofs.Brought.{count_brought}
 use Rattle.copy_laws.proofs.PrimaryDots.{open-before, no-close, accepted}
 use Rattle.copy_laws.proofs.OwnCommands.{siblings-step, siblings-newest, covers-saw}
 use Rattle.copy_laws.proofs.OwnNumbers.{IsOwnNumber, own-number, own-positive, known-counted}
@@ -68,10 +68,6 @@ live-value : (live : List (Dot × Option Content)) (dot : Dot) (content : Conten
 live-value [] dot content h = cc
 live-value (entry ∷ live) dot content h = by (live-value live dot content) (eq_by_cmp show_cmp dot entry.0) entry.1 h
   where
-    or_true : (b : Bool) → (b || true) ≡ true
-    or_true true = refl
-    or_true false = refl
-
     by : (find show_cmp dot live ≡ Some (Some content) → list_any (λ e. is_some e.1) live ≡ true) → (b : Bool) (value : Option Content) → cond b (Some value) (find show_cmp dot live) ≡ Some (Some content)
         → (is_some value || list_any (λ e. is_some e.1) live) ≡ true
     by rest true (Some x) h = refl
@@ -92,13 +88,6 @@ left-seen v l key [] number dot h all = cc
 left-seen v l key (event ∷ before) number dot h all =
     by (left-seen v l key before number dot) (key_eq event.key key) refl (is_update event.operation) refl (count_of (event ∷ before) key == number) refl h all
   where
-    or_true : (b : Bool) → (b || true) ≡ true
-    or_true true = refl
-    or_true false = refl
-
-    equal : (a b : ℕ) → (a == b) ≡ true → a ≡ b
-    equal a b h = grind (arith, nat_tests)
-
     earlier : (is_among (siblings before key) number ≡ true) ⊎ (is_seen_in before key number ≡ true) → dot_of v l before key number ≡ Some dot
         → (a u s : Bool) → key_eq event.key key ≡ a → is_update event.operation ≡ u → is_among event.saw number ≡ s → (a ≡ true → u ≡ true)
         → (is_among (siblings (event ∷ before) key) number ≡ true) ⊎ (is_seen_in (event ∷ before) key number ≡ true)
@@ -111,7 +100,7 @@ left-seen v l key (event ∷ before) number dot h all =
 
     newest : key_eq event.key key ≡ true → is_update event.operation ≡ true → (count_of (event ∷ before) key == number) ≡ true → is_among (siblings (event ∷ before) key) number ≡ true
     newest p q r =
-        let is : suc (count_of before key) ≡ number = sym (count_of-own event before key p) ∙ equal (count_of (event ∷ before) key) number r in
+        let is : suc (count_of before key) ≡ number = sym (count_of-own event before key p) ∙ nat_eq-same (count_of (event ∷ before) key) number r in
         ap (is_among (siblings (event ∷ before) key)) (sym is) ∙ siblings-newest key event before p q
 
     by : (dot_of v l before key number ≡ Some dot → are_updates key before ≡ true → (is_among (siblings before key) number ≡ true) ⊎ (is_seen_in before key number ≡ true))
@@ -165,7 +154,7 @@ module _ (partition : Partition) (primary : Log) (fallbacks : Fallbacks) (key : 
       by true h k = one-number v l (commands_of primary) key n m dot h k
       by false h k = one-number partition.fallback (partition.opened side) (fallbacks side) key n m dot h k
 
-  same-number : (other : Number) → HasDotHere other dot → HasDotHere number dot → other ≡ number
+  pub same-number : (other : Number) → HasDotHere other dot → HasDotHere number dot → other ≡ number
   same-number other h k =
       let sides : other.side ≡ number.side = joined.hand_off.apart other number dot h k in
       let numbers = one-of-side number.side other.number number.number (subst (λ s. HasDotHere (record { side = s; number = other.number }) dot) sides h) k in
@@ -211,9 +200,6 @@ module _ (partition : Partition) (primary : Log) (fallbacks : Fallbacks) (key : 
         there : dot_of partition.fallback (partition.opened number.side) (brought before key number.side) key number.number ≡ Some dot
         there = sym (ap (λ b. cond b (dot_of v l (commands_of before) key number.number) (dot_of partition.fallback (partition.opened number.side) (brought before key number.side) key number.number)) z) ∙ sibling.has_dot
 
-        le : (a b : ℕ) → a ≤ b → nat_le a b ≡ true
-        le a b h = grind (arith, nat_tests)
-
         come : number.number ≤ brought_count before event.key number.side
         come =
             let few = number-within partition.fallback (partition.opened number.side) key (brought before key number.side) number.number dot there in
@@ -225,7 +211,7 @@ module _ (partition : Partition) (primary : Log) (fallbacks : Fallbacks) (key : 
         by (Some context) (Write content) u h = h
         by (Some context) Tombstone u h = h
         by None (Write content) u h = cc
-        by None Tombstone u h = le number.number (brought_count before event.key number.side) come
+        by None Tombstone u h = le-test number.number (brought_count before event.key number.side) come
         by context Reap u h = cc
 
     seen_by_command : has_seen (Command event) before key number dot ≡ true
@@ -249,9 +235,6 @@ module _ (partition : Partition) (primary : Log) (fallbacks : Fallbacks) (key : 
 
     none_there : value_at (clock_of (replay partition.fallback (partition.opened n) copy.prefix) key) dot ≡ None
     none_there = ap (λ c. value_at c dot) (sym facts.clock_is) ∙ none
-
-    equal : (a b : ℕ) → (a == b) ≡ true → a ≡ b
-    equal a b h = grind (arith, nat_tests)
 
     differs : (a b : ℕ) → (a == b) ≡ false → b ≡ a → ⊥
     differs a b h e = grind (arith, nat_tests)
@@ -279,7 +262,7 @@ module _ (partition : Partition) (primary : Log) (fallbacks : Fallbacks) (key : 
     seen_by_copy = (λ i. itself i && by (number.side == n) refl i)
       where
         by : (b : Bool) → (number.side == n) ≡ b → cond b (is_seen_in copy.prefix key number.number) (is_covered_by copy.prefix key dot) ≡ true
-        by true e = by_own_side (equal number.side n e)
+        by true e = by_own_side (nat_eq-same number.side n e)
         by false e = by_other_side e
 
   -- one entry more
@@ -355,10 +338,6 @@ module _ (partition : Partition) (primary : Log) (fallbacks : Fallbacks) (key : 
   walk (entry ∷ between) position later e written_one sibling =
       by (walk between position (later ++ entry ∷ []) (append_assoc later (entry ∷ []) (between ++ position) ∙ e) written_one sibling)
     where
-      or_true : (b : Bool) → (b || true) ≡ true
-      or_true true = refl
-      or_true false = refl
-
       by : IsSiblingAt (between ++ position) ⊎ (is_seen_between between position key number dot ≡ true)
           → IsSiblingAt (entry ∷ between ++ position) ⊎ (is_seen_between (entry ∷ between) position key number dot ≡ true)
       by (inr h) = inr (ap (λ b. has_seen entry (between ++ position) key number dot || b) h ∙ or_true (has_seen entry (between ++ position) key number dot))

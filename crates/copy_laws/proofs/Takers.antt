@@ -1,6 +1,6 @@
 -- The command of a fallback that took a dot away.
-use Rattle.std.proofs.Common.{◌≡◌, ℕ, suc, ◌≤◌, Bool, true, false, ◌&&◌, ◌||◌, cond, List, [], ◌∷◌, ◌++◌, refl, sym, ◌∙◌, ap, arith, subst}
-use Rattle.std.specs.Prelude.{Option, Some, None}
+use Rattle.std.proofs.Common.{◌≡◌, ℕ, suc, ◌≤◌, true, [], ◌∷◌, ◌++◌, refl, sym, ◌∙◌, ap, arith, subst}
+use Rattle.std.specs.Prelude.{Some, None}
 use Rattle.riak_msgs.specs.declared.Key.{Key}
 use Rattle.riak_msgs.specs.Contents.{Content}
 use Rattle.riak_msgs.specs.KeyOrder.{key_eq}
@@ -9,7 +9,7 @@ use Rattle.sibling_register.proofs.Following.{count_of-own}
 use Rattle.actor_epoch.specs.declared.Dot.{Dot}
 use Rattle.actor_epoch.specs.Dots.{covers}
 use Rattle.actor_epoch.specs.Given.{Context}
-use Rattle.vnode_machine.specs.Machine.{State, opening, clock_of}
+use Rattle.vnode_machine.specs.Machine.{opening, clock_of}
 use Rattle.vnode_machine.specs.Lives.{dot_of}
 use Rattle.vnode_machine.specs.Replay.{HasReplay, replay}
 use Rattle.vnode_machine.proofs.Numbers.{dot_of-own}
@@ -18,7 +18,7 @@ use Rattle.copy_laws.specs.CopyReplay.{state_with}
 use Rattle.copy_laws.specs.Joining.{Log, value_at}
 use Rattle.copy_laws.proofs.Splits.{head-same, tail-same}
 use Rattle.copy_laws.proofs.Clocks.{knows, taken_pairs, given_dot}
-use Rattle.copy_laws.proofs.Since.{Since, since-here, TakesAway, IsGone, state_at, gone-since, gone-through, taken-since}
+use Rattle.copy_laws.proofs.Since.{Since, since-here, TakesAway, state_at, gone-since, gone-through, taken-since}
 use Rattle.copy_laws.proofs.Later.{H, are_updates, replay-before, dot-later, count-later}
 use Rattle.copy_laws.proofs.Fallback.{log-replay, quiet-commands, all-commands-append, latest-given}
 

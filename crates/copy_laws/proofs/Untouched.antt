@@ -1,11 +1,9 @@
 -- Two positions of a hand-off that know the same: nothing lies between them that changes the key's clock.
-use Rattle.std.proofs.Common.{◌≡◌, ℕ, ◌+◌, ◌<◌, ◌≤◌, Bool, true, false, not, ◌&&◌, ◌||◌, cond, List, [], ◌∷◌, ◌++◌, refl, sym, ◌∙◌, ap, arith, subst, inl, inr}
-use Rattle.std.specs.Prelude.{◌⊎◌, ◌==◌, nat_le, Option, Some, None, is_some, unwrap_or}
+use Rattle.std.proofs.Common.{◌≡◌, ℕ, ◌≤◌, Bool, true, false, not, ◌&&◌, ◌||◌, cond, [], ◌∷◌, ◌++◌, refl, sym, ◌∙◌, ap, arith, subst, inl, inr}
+use Rattle.std.specs.Prelude.{◌⊎◌, nat_le, Option, Some, None, is_some, unwrap_or}
 use Rattle.std.specs.Option.{option_map_or}
 use Rattle.std.specs.FinMap.Entries.{same_entries}
 use Rattle.std.proofs.lemmas.List.{append_assoc}
-use Rattle.std.proofs.lemmas.Bool.Decides.{nat_tests}
-use Rattle.std.proofs.lemmas.Bool.{cases_lt}
 use Rattle.riak_msgs.specs.declared.Key.{Key}
 use Rattle.riak_msgs.specs.Contents.{Content}
 use Rattle.riak_msgs.specs.KeyOrder.{key_eq}
@@ -13,24 +11,25 @@ use Rattle.sibling_register.specs.History.{Event, Operation, Write, Tombstone, R
 use Rattle.actor_epoch.specs.declared.Dot.{Dot}
 use Rattle.actor_epoch.specs.Dots.{covers, counter_in, union}
 use Rattle.actor_epoch.specs.Given.{Context}
-use Rattle.actor_epoch.proofs.Pairs.{counter_in-union}
-use Rattle.dvv_set.specs.Clocks.{DotState, show_cmp, sync, value_in}
+use Rattle.dvv_set.specs.Clocks.{show_cmp, sync, value_in}
 use Rattle.dvv_set.proofs.Orders.{show_cmp_total}
 use Rattle.dvv_set.proofs.Live.{show_cmp-same, dot_eq-same, is_sorted-sync}
 use Rattle.vnode_machine.specs.Machine.{clock_of, pairs_of}
 use Rattle.vnode_machine.specs.Replay.{replay, Accepts}
 use Rattle.vnode_machine.proofs.Keys.{key_eq-same}
+use Rattle.vnode_machine.proofs.Tests.{and_right}
 use Rattle.copy_laws.specs.Copies.{Copy, LogEntry, Command, Copied, Closed, count_brought as brought_count}
-use Rattle.copy_laws.specs.Sides.{Partition, Number, takes_all}
-use Rattle.copy_laws.specs.CopyReplay.{primary_after, PassesBy, IsUntouchedBy}
-use Rattle.copy_laws.specs.Joining.{Log, Fallbacks, IsJoined, IsDiversion, value_at}
-use Rattle.copy_laws.proofs.Splits.{any-at, none-left, none-right}
-use Rattle.copy_laws.proofs.Clocks.{Clock, knows, synced, value-synced, knows-sync, none-own, taken_pairs, clock-uncopied}
-use Rattle.copy_laws.proofs.Since.{Since, forgets, is_forgotten_in, state_at, clock_at, dot_given, IsUpdate, TakesAway, MakesKnown, GivesValue, knows-through, knows-since, gone-since, value-since, sync-at}
+use Rattle.copy_laws.specs.Sides.{Partition, takes_all}
+use Rattle.copy_laws.specs.CopyReplay.{PassesBy, IsUntouchedBy}
+use Rattle.copy_laws.specs.Joining.{Log, Fallbacks, IsJoined, value_at}
+use Rattle.copy_laws.proofs.Tests.{le-test, test-le}
+use Rattle.copy_laws.proofs.Splits.{none-left, none-right}
+use Rattle.copy_laws.proofs.Clocks.{Clock, knows, synced, value-synced, taken_pairs}
+use Rattle.copy_laws.proofs.Since.{Since, forgets, is_forgotten_in, state_at, clock_at, dot_given, IsUpdate, TakesAway, GivesValue, knows-through, knows-since, gone-since, value-since, sync-at}
 use Rattle.copy_laws.proofs.Later.{H, are_updates, count-later}
 use Rattle.copy_laws.proofs.Fallback.{dot_eq-refl}
 use Rattle.copy_laws.proofs.Numbered.{number-within}
-use Rattle.copy_laws.proofs.Brought.{BroughtBy, count_brought, brought-by, brought-later, brought-here, brought-at, is_seen, SeenBy, seen-by, seen-here, seen-later}
+use Rattle.copy_laws.proofs.Brought.{BroughtBy, count_brought, brought-by, brought-later, brought-here, brought-at, is_seen, SeenBy, seen-by, seen-here}
 use Rattle.copy_laws.proofs.PrimaryDots.{no-close, accepted}
 use Rattle.copy_laws.proofs.Tracked.{unknown-before}
 use Rattle.copy_laws.proofs.OwnCommands.{part-at}
@@ -151,13 +150,6 @@ module _ (partition : Partition) (primary : Log) (fallbacks : Fallbacks) (key : 
           whole : (later ++ Copied copy ∷ s.later) ++ Command s.event ∷ s.before ≡ primary
           whole = shift s.later (Command s.event) s.before s.is
 
-          le : (a b : ℕ) → nat_le a b ≡ true → a ≤ b
-          le a b h = grind (arith, nat_tests)
-
-          second : (a b : Bool) → (a && b) ≡ true → b ≡ true
-          second true b h = h
-          second false b h = cc
-
           full : Taker partition.fallback (partition.opened n) key (fallbacks n) dot
           full = record {
             event = t.event;
@@ -200,7 +192,7 @@ module _ (partition : Partition) (primary : Log) (fallbacks : Fallbacks) (key : 
               no_reap : Accepts (state_at v l key s.before) s.event.key (Some context) s.event.operation → ⊥
               no_reap a = let P : Operation Content → Type 0 = λ o. Accepts (state_at v l key s.before) s.event.key (Some context) o in absurd (subst P q a)
           at None p operation q a h =
-              brought (le j (brought_count s.before s.event.key n) (second (takes_all s.event.operation) (nat_le j (brought_count s.before s.event.key n))
+              brought (test-le j (brought_count s.before s.event.key n) (and_right (takes_all s.event.operation) (nat_le j (brought_count s.before s.event.key n))
               (sym (ap (λ o. option_map_or (λ (x : Context). covers (pairs_of (Some x)) own) o (takes_all s.event.operation && nat_le j (brought_count s.before s.event.key n))) p) ∙ h)))
 
       pub untaken : ⊥
@@ -218,10 +210,7 @@ module _ (partition : Partition) (primary : Log) (fallbacks : Fallbacks) (key : 
     kept : (dot : Dot) (x : Option Content) → value_in (clock before) copy.clock (dot, x) ≡ x
     kept dot x =
         ap (λ b. cond b x (unwrap_or (value_at copy.clock dot) x))
-        (le (counter_in copy.clock.known dot.actor) (counter_in (clock before).known dot.actor) (counters-below (clock before).known copy.clock.known known_all dot.actor))
-      where
-        le : (a b : ℕ) → a ≤ b → nat_le a b ≡ true
-        le a b h = grind (arith, nat_tests)
+        (le-test (counter_in copy.clock.known dot.actor) (counter_in (clock before).known dot.actor) (counters-below (clock before).known copy.clock.known known_all dot.actor))
 
     value-same : (dot : Dot) → value_at (sync (clock before) copy.clock) dot ≡ value_at (clock before) dot
     value-same dot = value-synced (clock before) copy.clock dot ∙ by (knows (clock before) dot) refl (knows copy.clock dot) refl (value_at (clock before) dot) refl (value_at copy.clock dot) refl

@@ -276,6 +276,7 @@ pub(crate) fn last_counter<V>(entries: &[Entry<V>], actor: Actor) -> Counter
 }
 
 /// Puts a value in front of an actor's, with its next counter, in the room of its entry or in that of a new one.
+#[inline(always)]
 pub(crate) fn put_value<V: MadeWith<Global> + Drop>(
     alloc: Global,
     entries: &mut InlineList<Entry<V>>,

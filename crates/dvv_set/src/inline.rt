@@ -124,6 +124,7 @@ impl<T: MadeWith<Global> + Drop> InlineList<T> {
     }
 
     /// Keeps the first items.
+    #[inline(always)]
     pub(crate) fn truncate(&mut self, len: usize)
         ensures items { self.new.items ≡ take len self.old.items }
         ensures capacity { self.new.capacity ≡ self.old.capacity }

@@ -97,6 +97,7 @@ pub(crate) fn most_actors<V>(entries: &[Entry<V>], context: Option<&Context<'_>>
 
 /// What is known after the next event of an actor, without what a context saw: the actor's counter before it, and how
 /// many actors there are more.
+#[inline(always)]
 pub(crate) fn required_room<V>(
     entries: &[Entry<V>],
     context: Option<&Context<'_>>,

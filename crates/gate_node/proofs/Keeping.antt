@@ -9,7 +9,7 @@ use Rattle.riak_msgs.specs.declared.Reply.{Reply}
 use Rattle.node_session.specs.Answers.{AnswersRead, Run}
 use Rattle.gate_node.specs.GateStep.{Node, GateStep}
 
-step-keeps : (old : Node) (request : Request) (reply : Reply) (new : Node) → GateStep old request reply new → new.shared ≡ old.shared
+pub step-keeps : (old : Node) (request : Request) (reply : Reply) (new : Node) → GateStep old request reply new → new.shared ≡ old.shared
 step-keeps old requests.Ping reply new step = ap (λ (n : Node). n.shared) step.1
 step-keeps old (requests.Get get) reply new step = ap (λ (n : Node). n.shared) step.node
 step-keeps old (requests.Put put) reply new step = ap (λ (n : Node). n.shared) step.node

@@ -3,3 +3,4 @@ pub mod Keeping
 pub mod Legal
 pub mod Opened
 pub mod Reaping
+pub mod Registers

@@ -3,3 +3,4 @@ pub mod Gates
 pub mod GateStep
 pub mod Legal
 pub mod Sessions
+pub mod Registers

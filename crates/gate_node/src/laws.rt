@@ -11,6 +11,9 @@ ghost use Rattle.node_session.specs.Answers.{Run};
 ghost use Rattle.gate_node.specs.GateStep.{Node, GateStep};
 ghost use Rattle.gate_node.specs.Legal.{PositionIsLegal};
 ghost use Rattle.gate_node.specs.Sessions.{most_of, CountsUpTo};
+ghost use Rattle.gate_node.specs.Registers.{RunIsRegister, EndIsRegister, StopIsRegister};
+ghost use Rattle.node_session.specs.declared.fault.SessionFault.{SessionFault};
+ghost use Rattle.std.specs.Prelude.{Option};
 
 /// Each position at which a [`GateNode`](crate::GateNode) answers is a legal history of the sibling register, and the state
 /// there is its replay. For the node's step names the position and its run (`leads` of `IsMade` and `IsSaid` in
@@ -35,4 +38,25 @@ pub fn sessions_count_their_replies()
     ensures { (old : Node) (messages : List Message) (replies : List Reply) (new : Node)
         → Run GateStep old messages replies new
         → CountsUpTo (most_of old.shared.budget replies) old.count new.count }
+{}
+
+/// A session over a [`GateNode`](crate::GateNode) is one over the sibling register, which others ask too.
+///
+/// What the register keeps is the history of each vnode, for good, and no clocks. Each request is answered at the vnode of its key, at one
+/// position of that history which has all that the node had seen of it: a get shows the siblings and the context of the position; a put or
+/// a delete is refused as the register may refuse it there, or is the next command, and its reply shows the position after it. Commands of
+/// other callers may stand between two of the session's, and the history with the command is legal. An error of the gate, that the history
+/// has moved or is full, is no command, and neither is a ping, nor a request for which memory was refused.
+///
+/// `run` is about messages and replies. `ended` and `stopped` are about bytes: what a session wrote for its input, however that was cut, to
+/// its end or to any fault.
+///
+/// What two sessions over the gates of one run have seen of a vnode begins one history (`Pass::is_behind` of `rw_gate`).
+pub fn gate_node_is_register()
+    ensures run { (old new : Node) (messages : List Message) (replies : List Reply)
+        → RunIsRegister old new messages replies }
+    ensures ended { (old new : Node) (input : List ℕ) (held held' : Option (List ℕ)) (count len : ℕ)
+        → EndIsRegister old new input held held' count len }
+    ensures stopped { (old new : Node) (input : List ℕ) (held held' : Option (List ℕ)) (fault : SessionFault)
+        → StopIsRegister old new input held held' fault }
 {}

@@ -42,7 +42,10 @@ mod shared;
 mod turnstile;
 
 pub use fault::PoolFault;
-pub use laws::{positions_are_legal, sessions_count_their_replies, sessions_keep_their_gates};
+pub use laws::{
+    gate_node_is_register, positions_are_legal, sessions_count_their_replies,
+    sessions_keep_their_gates,
+};
 pub use node::GateNode;
 pub use shared::{Passes, Shared};
 pub use turnstile::{Open, Turnstile};

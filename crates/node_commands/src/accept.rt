@@ -23,6 +23,11 @@ const NO_PROCESS_DESCRIPTOR: i32 = 24;
 /// Linux's ENOBUFS: the system has no memory for the socket.
 const NO_BUFFER: i32 = 105;
 
+/// Linux's errors of `accept` that are of the connection which it would have given, or of the network on its way, and say nothing of the
+/// listener: EPERM (a firewall's rule), EINTR, ENONET, EPROTO, ENOPROTOOPT, EOPNOTSUPP, ENETDOWN, ENETUNREACH, ECONNABORTED, ETIMEDOUT,
+/// EHOSTDOWN and EHOSTUNREACH. Its manual has them tried again.
+const OF_ONE_CONNECTION: [i32; 12] = [1, 4, 64, 71, 92, 95, 100, 101, 103, 110, 112, 113];
+
 /// Whether a connection may be had as soon as others have ended: for want of a descriptor or of memory there was none.
 fn is_exhausted(fault: &io::Error) -> bool {
     matches!(
@@ -31,22 +36,36 @@ fn is_exhausted(fault: &io::Error) -> bool {
     )
 }
 
-/// Waits for the next connection. Where the system has no descriptor or no memory for it, that is logged once, and it is accepted
-/// again every 10 ms, [`MAX_ACCEPT_TRIES`] times at most. Any other fault is returned at once.
+/// Whether it was one connection that failed, and the next may be had at once.
+fn is_of_one_connection(fault: &io::Error) -> bool {
+    match fault.raw_os_error() {
+        None => false,
+        Some(number) => OF_ONE_CONNECTION.contains(&number),
+    }
+}
+
+/// Waits for the next connection. One that failed before it was accepted is passed over. Where the system has no descriptor or no memory
+/// for one, that is logged once, and it is accepted again every 10 ms. After [`MAX_ACCEPT_TRIES`] of both the last fault is returned, and any
+/// other fault at once.
 pub(crate) fn accept<T: Log + Clock, L: OpenListener>(
     rt: &T,
     listener: &L,
 ) -> io::Result<(L::Stream, SocketAddr)> {
     let mut outcome = listener.accept();
-    for tries in 1..MAX_ACCEPT_TRIES {
-        match &outcome {
-            Err(fault) if is_exhausted(fault) => {}
-            _ => return outcome,
+    let mut is_logged = false;
+    for _ in 1..MAX_ACCEPT_TRIES {
+        let Err(fault) = &outcome else {
+            return outcome;
+        };
+        if is_exhausted(fault) {
+            if !is_logged {
+                warn!(rt; "no descriptor or no memory for a further connection: trying again");
+                is_logged = true;
+            }
+            thread::sleep(rt, Duration::from_millis(PAUSE_MILLIS));
+        } else if !is_of_one_connection(fault) {
+            return outcome;
         }
-        if tries == 1 {
-            warn!(rt; "no descriptor or no memory for a further connection: trying again");
-        }
-        thread::sleep(rt, Duration::from_millis(PAUSE_MILLIS));
         outcome = listener.accept();
     }
     outcome

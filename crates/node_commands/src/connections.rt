@@ -2,7 +2,7 @@
 ghost use Rattle.std.specs.Prelude.{IfOk, IfSome};
 ghost use Rattle.node_commands.specs.Sources.{IsNew};
 
-use crate::accept::accept;
+use crate::accept::{MAX_ACCEPT_TRIES, accept};
 use crate::fault::ServeFault;
 use crate::halves::{ReplyHalf, RequestHalf, new_halves};
 use log::{Log, info, warn};
@@ -54,22 +54,33 @@ impl<'a, T: Log + Clock, L: OpenListener<Stream = TcpStream>> Connections<'a, T,
         info!(self.rt; "connection from {peer}");
     }
 
-    /// The job of a connection that was accepted from `peer`.
-    fn job(&self, stream: TcpStream, peer: SocketAddr) -> Result<ConnectionJob, ServeFault>
-        ensures { IfOk result (IsNew self.now.shared.now) }
+    /// The job of a connection that was accepted from `peer`. None where memory is refused: the connection is closed then, and that is
+    /// logged.
+    fn job(&self, stream: TcpStream, peer: SocketAddr) -> Option<ConnectionJob>
+        ensures { IfSome result (IsNew self.now.shared.now) }
     {
         self.begin(&stream, peer);
-        new_job(self.alloc, self.shared, stream, peer).ok_or(ServeFault::NoMemory)
+        let job = new_job(self.alloc, self.shared, stream, peer);
+        if job.is_none() {
+            warn!(self.rt; "connection from {peer} closed: no memory");
+        }
+        job
     }
 
-    /// Waits for the next connection.
+    /// Waits for the next connection for which there is memory. After [`MAX_ACCEPT_TRIES`] that had to be closed for want of it there is
+    /// none.
     fn accept(&self) -> Result<ConnectionJob, ServeFault>
         ensures { IfOk result (IsNew self.now.shared.now) }
     {
-        match accept(self.rt, self.listener) {
-            Ok((stream, peer)) => self.job(stream, peer),
-            Err(_) => Err(ServeFault::AcceptFailed),
+        for _ in 0..MAX_ACCEPT_TRIES {
+            let Ok((stream, peer)) = accept(self.rt, self.listener) else {
+                return Err(ServeFault::AcceptFailed);
+            };
+            if let Some(job) = self.job(stream, peer) {
+                return Ok(job);
+            }
         }
+        Err(ServeFault::NoMemory)
     }
 }
 

@@ -12,7 +12,8 @@ pub enum ServeFault {
     /// The system refused a thread. No connection was accepted.
     #[error("no thread")]
     NoThread,
-    /// Memory was refused, to the run or for a connection.
+    /// Memory was refused to the run, or for one connection after another, so often that no more were tried. A single connection for which it
+    /// is refused is closed, and serving goes on.
     #[error("no memory")]
     NoMemory,
     /// A total would have passed 18,446,744,073,709,551,615.

@@ -1,7 +1,7 @@
 //! Many connections by many threads.
-ghost use Rattle.std.specs.Prelude.{◌≤◌, IfOk, OnOk};
+ghost use Rattle.std.specs.Prelude.{◌≤◌, IfOk, IfSome, OnOk};
 ghost use Rattle.std.specs.Io.KnownBytes.{Appends};
-ghost use Rattle.node_commands.specs.Runs.{AreServed, IsServed, address_line};
+ghost use Rattle.node_commands.specs.Runs.{AreOfRun, AreServed, IsServed, address_line};
 
 use crate::connections::Connections;
 use crate::fault::ServeFault;
@@ -82,6 +82,21 @@ fn serve_fault(fault: PoolFault, of_connections: ServeFault) -> ServeFault {
     }
 }
 
+/// The gates of a new run. Refused where memory is.
+fn new_shared(alloc: Global, settings: &Settings) -> Option<Shared>
+    requires { 1 ≤ settings.now.run }
+    ensures { IfSome result (AreOfRun settings.now) }
+{
+    Shared::new(
+        alloc,
+        settings.ring,
+        settings.run,
+        settings.sweep,
+        MAX_READS,
+    )
+    .ok()
+}
+
 /// Serves the next connections of a listener, so many, over the gates of a run.
 fn serve_over<T, L>(
     rt: &T,
@@ -95,7 +110,7 @@ where
     T: Log + Clock + Threads + Wait + Sync,
     L: OpenListener<Stream = TcpStream>,
     requires { (1 ≤ workers) × (workers ≤ 64) }
-    ensures { IfOk result (AreServed shared.now connections) }
+    ensures { IfOk result (AreServed shared.now connections workers) }
 {
     let mut source = Connections {
         rt,
@@ -119,24 +134,35 @@ fn announce<L: OpenListener, W: Write>(listener: &L, writer: &mut W) {
     }
 }
 
-/// Logs the ends, and writes the totals, as far as that can be done.
-fn report<T: Log, W: Write>(rt: &T, served: &Served, writer: &mut W) {
+/// Logs the ends, and writes and flushes the totals.
+fn report<T: Log, W: Write>(rt: &T, served: &Served, writer: &mut W) -> io::Result<()> {
     log_ends(rt, served.ends.as_slice());
-    let _ = write_totals(writer, served.totals);
-    let _ = writer.flush();
+    let written = write_totals(writer, served.totals);
+    writer.flush()?;
+    written
 }
 
 /// Serves the next connections of a listener, so many, by threads, and returns what came of them when all have ended.
 ///
+/// Each connection is served by one thread, to its end; where more come than there are threads, they wait. There is one history of each
+/// vnode, legal, and each reply of each connection is at a position of it, which is never before another position that this connection
+/// had a reply at. So what two connections are told of a key fits together. The vnode's tally is of the whole of that history, and the
+/// totals are the sums of what the sessions counted. Order in real time, and order between vnodes, aren't said.
+///
 /// It writes two lines: `listening 127.0.0.1:P` before the first connection is accepted, and the totals after the last one has ended. A
-/// failed write of them is passed over. Each connection is served by one thread, to its end; where more come than there are threads, they
-/// wait. A connection that fails ends alone. The log has a line for each connection when it is accepted, and for each
-/// one's end, with its fault, after the last one has ended.
+/// failed write of them is passed over. The log has a line for each connection when it is accepted, and for each one's end, with its
+/// fault, after the last one has ended.
+///
+/// A session that ends by a fault (a failed read or write, a bad length, too many reads, or no memory for what it reads or answers) ends
+/// its own connection alone. Serving as a whole ends, after the connections that were accepted, where the listener fails or memory is
+/// refused for a new connection; and it ends where memory is refused to the run, or for the outcome of a connection, where the system
+/// refuses a thread, and where a total has no room ([`ServeFault`]).
 ///
 /// Where the system has no descriptor or no memory for a further connection, the log has a warning, and it is accepted again every 10 ms
 /// until there is one, [`MAX_ACCEPT_TRIES`](crate::MAX_ACCEPT_TRIES) times at most.
 ///
-/// The outcome keeps each connection's end: with its passes about 700 bytes on a ring of 64, 45 MB for 65,535.
+/// The outcome keeps each connection's end: with its passes about 700 bytes on a ring of 64, 45 MB for 65,535. At the end each end's
+/// passes are compared with a look at their vnode, one after another.
 pub fn serve_on<T, L, W>(
     rt: &T,
     alloc: Global,
@@ -151,23 +177,24 @@ where
     requires workers { (1 ≤ settings.now.workers) × (settings.now.workers ≤ 64) }
     requires run { 1 ≤ settings.now.run }
 
-    // Each connection was served once, to its end, over the gates of a new run; these are the ends, and the tallies of its vnodes.
+    // Each connection was served once, to its end, over the gates of a new run, in one history of each vnode; these are the ends, the
+    // tallies of the vnodes at the ends of these histories, and the totals.
     ensures served { IfOk result (IsServed settings.now) }
 {
-    let Settings {
-        connections,
-        workers,
-        ring,
-        run,
-        sweep,
-    } = *settings;
-    let Ok(shared) = Shared::new(alloc, ring, run, sweep, MAX_READS) else {
+    let Some(shared) = new_shared(alloc, settings) else {
         return Err(ServeFault::NoMemory);
     };
     announce(&listener, writer);
-    let outcome = serve_over(rt, alloc, &shared, &listener, connections, workers);
+    let outcome = serve_over(
+        rt,
+        alloc,
+        &shared,
+        &listener,
+        settings.connections,
+        settings.workers,
+    );
     if let Ok(served) = &outcome {
-        report(rt, served, writer);
+        let _ = report(rt, served, writer);
     }
     outcome
 }

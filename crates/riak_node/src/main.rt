@@ -30,6 +30,7 @@ use std::alloc::Global;
 use std::io;
 use std::io::{BufWriter, Write};
 use std::net::{Net, TcpListener, TcpStream};
+use std::os::fd::AsRawFd;
 use std::process::ExitCode;
 use std::rt::Clock;
 use std::sync::Wait;
@@ -72,6 +73,22 @@ fn serve_streams(rt: &HostRuntime, options: PipeOptions) -> io::Result<ExitCode>
     )
 }
 
+/// The greatest descriptor of the standard streams.
+const STANDARD_ERROR: i32 = 2;
+
+/// A listener on this port. None where there is none, and where a standard stream was closed before the program began: sockets would get its
+/// descriptor, and what is printed or logged would go to clients.
+fn listen<R: Net<Listener = TcpListener, Stream = TcpStream>>(
+    rt: &R,
+    port: u16,
+) -> Option<TcpListener> {
+    let listener = TcpListener::bind(rt, ("127.0.0.1", port)).ok()?;
+    if listener.as_raw_fd() <= STANDARD_ERROR {
+        return None;
+    }
+    Some(listener)
+}
+
 /// Serves connections, by a ring of the asked size if there is one.
 fn serve_connections<R, W>(
     rt: &R,
@@ -92,7 +109,7 @@ where
     let Some(ring) = Ring::new(options.ring) else {
         return tell_no_ring(rt);
     };
-    let Ok(listener) = TcpListener::bind(rt, ("127.0.0.1", options.port)) else {
+    let Some(listener) = listen(rt, options.port) else {
         eprintln!(rt; "riak_node: cannot listen")?;
         return Ok(ExitCode::from(1));
     };

@@ -8,7 +8,8 @@
 //! lines ask for, in their order, from the opening world on; the last line is a function of them (`specs/Heard`).
 //!
 //! What it costs: each line is looked at once, and copied once into a buffer of its length. Of each worker the last call is
-//! kept. A line takes a step of its world and one write; the comparison reads a vnode's whole history for each answer.
+//! kept. A line takes a step of its world and one write, and an answer is compared by searches alone, so that the whole takes time in
+//! proportion to its lines, but for a logarithm.
 //!
 //! ```text
 //! ask 1 090a016212016b        1 ok

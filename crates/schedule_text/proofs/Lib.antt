@@ -5,3 +5,4 @@ mod Words
 mod LineOperands
 mod OneStep
 mod PlainAsking
+mod ShownIndexed

@@ -1,5 +1,5 @@
 -- What a plain register gives is what comes of the command.
-use Rattle.std.proofs.Common.{◌≡◌, ℕ, List, ◌∷◌, subst}
+use Rattle.std.proofs.Common.{◌≡◌, ℕ, subst}
 use Rattle.riak_msgs.specs.Contents.{Content}
 use Rattle.sibling_register.specs.declared.command.Command.{Command}
 use Rattle.sibling_register.specs.Answers.{Told, Outcome, Answers, Accepts}

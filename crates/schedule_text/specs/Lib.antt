@@ -6,3 +6,4 @@ pub mod Outcomes
 pub mod Verdicts
 pub mod PlainAnswers
 pub mod Compared
+pub mod ShownIndex

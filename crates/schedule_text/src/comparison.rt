@@ -6,7 +6,8 @@ ghost use Rattle.schedule_text.specs.Compared.{after_call, after_reap, after_rep
 
 use crate::plain_ask::{ask_register, reap_plain, within};
 use crate::reply_parts::{context_shown, is_asked, is_due, key_and_context};
-use crate::shown_context::{ShownContext, is_unknown, note, position_given};
+use crate::shown_context::{is_unknown, note, position_given};
+use crate::shown_contexts::ShownContexts;
 use crate::verdict::Verdict;
 use riak_msgs::{Content, Key, Reply, Request};
 use sibling_register::PlainRegister;
@@ -22,12 +23,12 @@ use std::marker::Model;
 /// the refusals `match_found`, `modified`, `notfound` and `too many siblings`.
 ///
 /// Contracts see what is known of the run (`specs/Compared`). One register stands for all vnodes: what it answers of a key
-/// depends on that key's commands alone, and a key has one vnode. It reads its whole history for each command, some of it once
-/// for each sibling.
+/// depends on that key's commands alone, and a key has one vnode. What a command costs doesn't grow with the run, but for the
+/// searches among the keys, a key's events and the contexts that were shown.
 #[derive(Drop)]
 pub struct Comparison {
     register: PlainRegister<Content>,
-    shown: Vec<ShownContext>,
+    shown: ShownContexts,
     verdict: Verdict,
 }
 
@@ -38,7 +39,7 @@ impl Model for Comparison {
 
     ghost view = { λ c. record {
       history = c.register;
-      shown = c.shown.items;
+      shown = c.shown;
       verdict = c.verdict;
     } };
 }
@@ -50,7 +51,7 @@ impl Comparison {
     {
         Comparison {
             register: PlainRegister::new(alloc),
-            shown: Vec::new(alloc),
+            shown: ShownContexts::new(alloc),
             verdict: Verdict::Equal,
         }
     }
@@ -71,7 +72,7 @@ impl Comparison {
         let Some((key, context)) = key_and_context(request) else {
             return;
         };
-        if is_unknown(self.shown.as_slice(), key, context.as_slice()) {
+        if is_unknown(&self.shown, key, context.as_slice()) {
             self.verdict = Verdict::NotCompared;
         }
     }
@@ -96,7 +97,7 @@ impl Comparison {
         if !is_asked(reply) {
             return Ok(());
         }
-        let position = position_given(self.shown.as_slice(), key, context.as_slice());
+        let position = position_given(&self.shown, key, context.as_slice());
         let position = within(position, &self.register);
         let told = ask_register(alloc, &mut self.register, request, position)?;
         let is_due = is_due(&self.register, alloc, key, &told, reply)?;

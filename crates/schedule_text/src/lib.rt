@@ -30,6 +30,7 @@ mod plain_ask;
 mod reading;
 mod reply_parts;
 mod shown_context;
+mod shown_contexts;
 mod verdict;
 
 pub use comparison::Comparison;

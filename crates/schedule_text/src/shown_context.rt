@@ -1,12 +1,13 @@
-//! The contexts that replies showed, and the positions that they name.
+//! A context that a reply showed, and the position that it names.
 
 ghost use Rattle.std.specs.Prelude.{◌≡◌, OnOk, false};
 ghost use Rattle.std.specs.Option.{option_map_or};
 ghost use Rattle.std.specs.Cmp.Lexicographic.{pointwise};
 ghost use Rattle.actor_epoch.specs.Dots.{dot_eq};
 ghost use Rattle.actor_epoch.specs.Given.{context_of, pairs_read};
-ghost use Rattle.schedule_text.specs.Compared.{is_of, is_unknown, position_given, position_of, shown_by};
+ghost use Rattle.schedule_text.specs.Compared.{is_of, is_unknown, position_given, shown_by};
 
+use crate::shown_contexts::ShownContexts;
 use actor_epoch::Context;
 use riak_msgs::{Bytes, Key};
 use std::alloc::{AllocError, Global};
@@ -50,64 +51,52 @@ fn is_same_context(context: &Context<'_>, bytes: &[u8]) -> bool
 
 impl ShownContext {
     /// Whether it is this context, and was shown for this key.
-    fn is_of(&self, key: &Key, context: &Context<'_>) -> bool
+    pub(crate) fn is_of(&self, key: &Key, context: &Context<'_>) -> bool
         ensures { result ≡ is_of key.now context.now self.now }
     {
         self.key.is_same(key) && is_same_context(context, self.context.as_slice())
     }
 }
 
-/// The position of a context, where it was shown for this key.
-fn position_of(shown: &[ShownContext], key: &Key, context: &Context<'_>) -> Option<u64>
-    ensures { result ≡ position_of shown.now key.now context.now }
-{
-    for entry in shown {
-        if entry.is_of(key, context) {
-            return Some(entry.position);
-        }
-    }
-    None
-}
-
 /// The position of what is given as a context for a key: none where it is of another form, or wasn't shown for the key.
-pub(crate) fn position_given(shown: &[ShownContext], key: &Key, given: &[u8]) -> Option<u64>
+pub(crate) fn position_given(shown: &ShownContexts, key: &Key, given: &[u8]) -> Option<u64>
     ensures { result ≡ position_given shown.now key.now (context_of given.now) }
 {
     match Context::read(given) {
         None => None,
-        Some(context) => position_of(shown, key, &context),
+        Some(context) => shown.position_of(key, &context),
     }
 }
 
 /// Whether what is given as a context is of the right form, and wasn't shown for the key.
-pub(crate) fn is_unknown(shown: &[ShownContext], key: &Key, given: &[u8]) -> bool
+pub(crate) fn is_unknown(shown: &ShownContexts, key: &Key, given: &[u8]) -> bool
     ensures { result ≡ is_unknown shown.now key.now (context_of given.now) }
 {
     match Context::read(given) {
         None => false,
-        Some(context) => position_of(shown, key, &context).is_none(),
+        Some(context) => shown.position_of(key, &context).is_none(),
     }
 }
 
 /// Notes the context that a reply shows for a key, where it wasn't shown before: it names this position.
 pub(crate) fn note(
     alloc: Global,
-    shown: &mut Vec<ShownContext>,
+    shown: &mut ShownContexts,
     key: &Key,
     context: &[u8],
     position: u64,
 ) -> Result<(), AllocError>
-    ensures { OnOk result (shown.new.items ≡ shown_by context.now key.now position shown.old.items) }
+    ensures { OnOk result (shown.new ≡ shown_by context.now key.now position shown.old) }
 {
-    if !is_unknown(shown.as_slice(), key, context) {
+    if !is_unknown(shown, key, context) {
         return Ok(());
     }
     let key = key.clone(alloc)?;
     let context = Bytes::from_slice(alloc, context)?;
-    shown.push(ShownContext {
+    let entry = ShownContext {
         key,
         context,
         position,
-    })?;
-    Ok(())
+    };
+    shown.push(alloc, entry)
 }

@@ -1,5 +1,5 @@
 -- The plain register answers as its definition may.
-use Rattle.std.proofs.Common.{◌≡◌, ◌∙◌, ℕ, Bool, true, false, not, ◌&&◌, cond, List, [], ◌∷◌, length, refl, sym, ap, inr, subst}
+use Rattle.std.proofs.Common.{◌≡◌, ℕ, Bool, true, false, not, ◌&&◌, cond, List, [], ◌∷◌, length, refl, sym, inr, subst}
 use Rattle.std.specs.Prelude.{Option, Some, None, IsTrue, MatchBool, ◌||◌}
 use Rattle.sibling_register.specs.declared.command.Command.{Command}
 use Rattle.sibling_register.specs.declared.command.Command.TheVariants.{Get, Put, Del, Reap}
@@ -127,7 +127,7 @@ module _ {V : Type 0} where
   follows_kept history told (Some entry) = (refl, refl)
 
   -- so its answer is by the definition
-  gives : (history : List (Event V ℕ)) (command : Command V) (told : Told ℕ) (entry : Option (Entry V)) (new : List (Event V ℕ))
+  pub gives : (history : List (Event V ℕ)) (command : Command V) (told : Told ℕ) (entry : Option (Entry V)) (new : List (Event V ℕ))
       → outcome_by told entry ≡ plain_outcome history (asked history command) → new ≡ kept_of history entry → Gives history command told new
   gives history command told entry new o n =
       let outcome : Outcome V ℕ = plain_outcome history (asked history command) in
@@ -142,13 +142,6 @@ module _ {V : Type 0} where
         follows = subst G (sym n) f;
         decided = subst D (sym (same_answer history outcome told _ f)) (decided history command);
       }
-
-  -- the same, of the histories that the plan read and that its entry was kept in
-  pub gives_of : (seen kept history : List (Event V ℕ)) (command : Command V) (told : Told ℕ) (entry : Option (Entry V)) (new : List (Event V ℕ))
-      → seen ≡ history → kept ≡ history → outcome_by told entry ≡ plain_outcome seen (asked seen command) → new ≡ kept_of kept entry
-      → Gives history command told new
-  gives_of seen kept history command told entry new s k o n =
-      gives history command told entry new (o ∙ ap (λ h. plain_outcome h (asked h command)) s) (n ∙ ap (λ h. kept_of h entry) k)
 
   -- what it accepts is accepted by the definition
   each_accepted : (old : List (Event V ℕ)) (command : Command V) (told : Told ℕ) (new : List (Event V ℕ)) → Gives old command told new

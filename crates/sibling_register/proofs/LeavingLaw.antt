@@ -32,7 +32,7 @@ bytes_eq-same [] (y ∷ b) h = cc
 bytes_eq-same (x ∷ a) [] h = cc
 bytes_eq-same (x ∷ a) (y ∷ b) h = λ i. nat_eq-same x y (and_left (nat_eq x y) (bytes_eq a b) h) i ∷ bytes_eq-same a b (and_right (nat_eq x y) (bytes_eq a b) h) i
 
-key_eq-same : (a b : Key) → key_eq a b ≡ true → a ≡ b
+pub key_eq-same : (a b : Key) → key_eq a b ≡ true → a ≡ b
 key_eq-same a b h =
     let types : a.bucket_type ≡ b.bucket_type = bytes_eq-same a.bucket_type b.bucket_type (and_left _ _ h) in
     let rest = and_right (bytes_eq a.bucket_type b.bucket_type) _ h in

@@ -4,6 +4,8 @@ pub mod Counts
 pub mod NamingLaw
 pub mod LeavingLaw
 pub mod Scanning
+pub mod Places
+pub mod Remembered
 pub mod Sights
 pub mod Plans
 pub mod Lawful

@@ -59,8 +59,8 @@ module _ {V : Type 0} where
       then Shown (follow_of entry number before) (Some position) false (not put.return_body) else Done)
 
   -- what was planned is the outcome of the ask at the plain register
-  abbrev pub IsOutcomeOf : List (Entry V) → Ask V ℕ → Planned V → Type 0
-  IsOutcomeOf entries ask planned = outcome_of planned ≡ plain_outcome (history_of entries) ask
+  abbrev pub IsOutcomeOf : List (Event V ℕ) → Ask V ℕ → Planned V → Type 0
+  IsOutcomeOf history ask planned = outcome_of planned ≡ plain_outcome history ask
 
   -- the history with an entry more, where there is one
   abbrev pub kept_of : List (Event V ℕ) → Option (Entry V) → List (Event V ℕ)

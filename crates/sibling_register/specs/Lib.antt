@@ -9,3 +9,4 @@ pub mod Counting
 pub mod Plans
 pub mod Plain
 pub mod Entries
+pub mod Index

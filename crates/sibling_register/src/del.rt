@@ -2,15 +2,14 @@
 
 ghost use Rattle.std.specs.Prelude.{◌≡◌, IfOk, is_none, ◌&&◌, ◌==◌, length, unwrap_or};
 ghost use Rattle.sibling_register.specs.Answers.{AskDel};
-ghost use Rattle.sibling_register.specs.Plain.{IsPosition};
-ghost use Rattle.sibling_register.specs.Entries.{history_of, del_of, IsOutcomeOf};
+ghost use Rattle.sibling_register.specs.Entries.{del_of, IsOutcomeOf};
 
 use crate::entry::Entry;
-use crate::key_state::KeyState;
+use crate::key_state::{KeyState, count_at};
 use crate::operation::Operation;
 use crate::planned::Planned;
 use crate::refusals::TOO_MANY_SIBLINGS;
-use crate::scans::count_at;
+use crate::register::PlainRegister;
 use crate::told::Told;
 use riak_msgs::Key;
 use std::alloc::{AllocError, Global};
@@ -32,16 +31,15 @@ fn seen_by_delete(named: Option<u64>, count: u64) -> u64
 /// The outcome of a delete.
 pub(crate) fn plan_del<V>(
     alloc: Global,
-    entries: &[Entry<V>],
+    register: &PlainRegister<V>,
     key: Key,
     context: Option<u64>,
 ) -> Result<Planned<V>, AllocError>
-    requires { IsPosition (history_of entries.now) context }
-    ensures value { IfOk result (IsOutcomeOf entries.now
-        (AskDel (del_of (history_of entries.now) key context))) }
+    ensures value { IfOk result (IsOutcomeOf register.now
+        (AskDel (del_of register.now key context))) }
 {
-    let key_state = KeyState::of(alloc, entries, &key)?;
-    let named = count_at(entries, &key, context);
+    let key_state = KeyState::of(alloc, register, &key)?;
+    let named = count_at(register, &key, context);
     if is_idle(named, &key_state) {
         return Ok(Planned::answer(Told::Done));
     }

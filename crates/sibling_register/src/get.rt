@@ -2,15 +2,14 @@
 
 ghost use Rattle.std.specs.Prelude.{◌≡◌, IfOk, [], false};
 ghost use Rattle.sibling_register.specs.Answers.{AskGet, Shown};
-ghost use Rattle.sibling_register.specs.Plain.{IsPosition, answer_of};
+ghost use Rattle.sibling_register.specs.Plain.{answer_of};
 ghost use Rattle.sibling_register.specs.Plans.{get_told_of};
-ghost use Rattle.sibling_register.specs.Entries.{history_of, get_of, IsOutcomeOf};
+ghost use Rattle.sibling_register.specs.Entries.{get_of, IsOutcomeOf};
 
-use crate::entry::Entry;
-use crate::key_state::KeyState;
+use crate::key_state::{KeyState, count_at, names_end};
 use crate::numbers::Numbers;
 use crate::planned::Planned;
-use crate::scans::{count_at, names_end};
+use crate::register::PlainRegister;
 use crate::told::Told;
 use riak_msgs::Key;
 use std::alloc::{AllocError, Global};
@@ -63,20 +62,19 @@ fn get_answer(
 /// The outcome of a get.
 pub(crate) fn plan_get<V>(
     alloc: Global,
-    entries: &[Entry<V>],
+    register: &PlainRegister<V>,
     key: &Key,
     if_modified: Option<u64>,
     head: bool,
     deletedvclock: bool,
 ) -> Result<Planned<V>, AllocError>
-    requires { IsPosition (history_of entries.now) if_modified }
-    ensures value { IfOk result (IsOutcomeOf entries.now
-        (AskGet (get_of (history_of entries.now) key.now if_modified head deletedvclock))) }
+    ensures value { IfOk result (IsOutcomeOf register.now
+        (AskGet (get_of register.now key.now if_modified head deletedvclock))) }
 {
-    let key_state = KeyState::of(alloc, entries, key)?;
-    let named = count_at(entries, key, if_modified);
+    let key_state = KeyState::of(alloc, register, key)?;
+    let named = count_at(register, key, if_modified);
     let is_name = names_end(named, key_state.count);
-    let position = entries.len() as u64;
+    let position = register.len();
     let told = get_answer(alloc, key_state, is_name, position, head, deletedvclock);
     Ok(Planned::answer(told))
 }

@@ -1,13 +1,15 @@
 //! The state of a key at the end of the history.
 
-ghost use Rattle.std.specs.Prelude.{◌≡◌, ◌≤◌, IfOk, length};
-ghost use Rattle.sibling_register.specs.History.{count_of};
+ghost use Rattle.std.specs.Prelude.{◌≡◌, ◌<◌, ◌^◌, IfOk, Some, nat_eq, is_some};
+ghost use Rattle.std.specs.List.{list_any};
+ghost use Rattle.std.specs.Option.{option_eq};
+ghost use Rattle.sibling_register.specs.History.{count_of, content_of};
 ghost use Rattle.sibling_register.specs.Siblings.{siblings, is_present};
-ghost use Rattle.sibling_register.specs.Entries.{history_of, is_dead_by, has_too_many_by};
+ghost use Rattle.sibling_register.specs.Counting.{context_at};
+ghost use Rattle.sibling_register.specs.Entries.{is_dead_by, has_too_many_by};
 
-use crate::entry::Entry;
 use crate::refusals::MAX_SIBLINGS;
-use crate::scans::{count_in, has_write, siblings_in};
+use crate::register::PlainRegister;
 use riak_msgs::Key;
 use std::alloc::{AllocError, Global};
 
@@ -20,23 +22,54 @@ pub(crate) struct KeyState {
     pub(crate) is_present: bool,
 }
 
+/// How many events the key had at a position.
+pub(crate) fn count_at<V>(
+    register: &PlainRegister<V>,
+    key: &Key,
+    position: Option<u64>,
+) -> Option<u64>
+    ensures value { result ≡ context_at register.now key.now position }
+{
+    match position {
+        None => None,
+        Some(position) => Some(register.count_before(key, position)),
+    }
+}
+
+/// Whether the position with this count has the context of the end, where the key has so many events.
+pub(crate) fn names_end(named: Option<u64>, count: u64) -> bool
+    ensures value { result ≡ option_eq nat_eq named (Some count) }
+{
+    named == Some(count)
+}
+
+/// Whether some of the numbers is of a write.
+fn has_write<V>(register: &PlainRegister<V>, key: &Key, numbers: &[u64]) -> bool
+    ensures value { result
+        ≡ list_any (λ n. is_some (content_of register.now key.now n)) numbers.now }
+{
+    numbers
+        .iter()
+        .any(|number| register.value(key, *number).is_some())
+}
+
 impl KeyState {
-    /// The state of the key after these entries.
+    /// The state of a key of the register.
     pub(crate) fn of<V>(
         alloc: Global,
-        entries: &[Entry<V>],
+        register: &PlainRegister<V>,
         key: &Key,
     ) -> Result<KeyState, AllocError>
         ensures siblings { IfOk result (λ s.
-            s.siblings.items ≡ siblings (history_of entries.now) key.now) }
-        ensures count { IfOk result (λ s. s.count ≡ count_of (history_of entries.now) key.now) }
-        ensures bound { IfOk result (λ s. s.count ≤ length entries.now) }
+            s.siblings.items ≡ siblings register.now key.now) }
+        ensures count { IfOk result (λ s. s.count ≡ count_of register.now key.now) }
+        ensures bound { IfOk result (λ s. s.count < 2 ^ 63) }
         ensures present { IfOk result (λ s.
-            s.is_present ≡ is_present (history_of entries.now) key.now) }
+            s.is_present ≡ is_present register.now key.now) }
     {
-        let siblings = siblings_in(alloc, entries, key)?;
-        let count = count_in(entries, key);
-        let is_present = has_write(entries, key, siblings.as_slice());
+        let siblings = register.siblings(alloc, key)?;
+        let count = register.count(key);
+        let is_present = has_write(register, key, siblings.as_slice());
         Ok(KeyState {
             siblings,
             count,

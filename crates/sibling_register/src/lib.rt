@@ -7,9 +7,10 @@
 //! (`specs/Legal`). The naming of contexts is a parameter: a store that shows contexts of its own defines what they name,
 //! and is held to the same definitions.
 //!
-//! [`PlainRegister`] is the register as a program, slow and short: a list of all accepted commands, which each call
-//! reads from its start, once for each sibling. Laws of the definitions: [`values_leave_only_seen`],
-//! [`a_context_names_one_sight`], [`counting_is_a_naming`] and [`answers_stay_legal`].
+//! [`PlainRegister`] is the register as a program: a list of all accepted commands, which is never shortened. Beside it
+//! stands an index of the keys, so that a call takes the same time however long the list is, but for a search. Laws of the
+//! definitions: [`values_leave_only_seen`], [`a_context_names_one_sight`], [`counting_is_a_naming`] and
+//! [`answers_stay_legal`].
 //!
 //! ```text
 //! put b/k "v"                    Done
@@ -25,6 +26,8 @@ mod del;
 mod entry;
 mod fault;
 mod get;
+mod key_index;
+mod key_map;
 mod key_state;
 mod laws;
 mod numbers;
@@ -34,7 +37,6 @@ mod put;
 mod reap;
 mod refusals;
 mod register;
-mod scans;
 mod told;
 
 pub use command::Command;

@@ -2,8 +2,8 @@
 
 ghost use Rattle.std.specs.Prelude.{◌≡◌, IfOk};
 ghost use Rattle.sibling_register.specs.Answers.{Answers};
-ghost use Rattle.sibling_register.specs.Plain.{asked, answer_of, GivesPositions};
-ghost use Rattle.sibling_register.specs.Entries.{history_of, outcome_of, IsOutcomeOf};
+ghost use Rattle.sibling_register.specs.Plain.{asked, answer_of};
+ghost use Rattle.sibling_register.specs.Entries.{outcome_of, IsOutcomeOf};
 
 use crate::command::Command;
 use crate::del::plan_del;
@@ -11,6 +11,7 @@ use crate::entry::Entry;
 use crate::get::plan_get;
 use crate::put::{Put, plan_put};
 use crate::reap::plan_reap;
+use crate::register::PlainRegister;
 use crate::told::Told;
 use std::alloc::{AllocError, Global};
 
@@ -33,11 +34,10 @@ impl<V> Planned<V> {
 /// The outcome of a command.
 pub(crate) fn plan<V: Drop>(
     alloc: Global,
-    entries: &[Entry<V>],
+    register: &PlainRegister<V>,
     command: Command<V>,
 ) -> Result<Planned<V>, AllocError>
-    requires { GivesPositions (history_of entries.now) command }
-    ensures value { IfOk result (IsOutcomeOf entries.now (asked (history_of entries.now) command)) }
+    ensures value { IfOk result (IsOutcomeOf register.now (asked register.now command)) }
 {
     match command {
         Command::Get {
@@ -45,7 +45,7 @@ pub(crate) fn plan<V: Drop>(
             if_modified,
             head,
             deletedvclock,
-        } => plan_get(alloc, entries, &key, if_modified, head, deletedvclock),
+        } => plan_get(alloc, register, &key, if_modified, head, deletedvclock),
         Command::Put {
             key,
             context,
@@ -64,9 +64,9 @@ pub(crate) fn plan<V: Drop>(
                 if_not_modified,
                 if_none_match,
             };
-            plan_put(alloc, entries, put)
+            plan_put(alloc, register, put)
         }
-        Command::Del { key, context } => plan_del(alloc, entries, key, context),
-        Command::Reap { key } => plan_reap(alloc, entries, key),
+        Command::Del { key, context } => plan_del(alloc, register, key, context),
+        Command::Reap { key } => plan_reap(alloc, register, key),
     }
 }

@@ -3,17 +3,18 @@
 ghost use Rattle.std.specs.Prelude.{◌≡◌, IfOk, Some, false, not, ◌||◌, if◌then◌else◌, nat_eq, unwrap_or};
 ghost use Rattle.std.specs.Option.{option_eq};
 ghost use Rattle.sibling_register.specs.Answers.{AskPut, Shown, Done};
-ghost use Rattle.sibling_register.specs.Plain.{IsPosition, answer_of};
+ghost use Rattle.sibling_register.specs.Plain.{answer_of};
 ghost use Rattle.sibling_register.specs.Plans.{first_check_of};
-ghost use Rattle.sibling_register.specs.Entries.{history_of, put_of, has_too_many_by, outcome_of, accepted_put, IsOutcomeOf};
+ghost use Rattle.sibling_register.specs.Entries.{put_of, has_too_many_by, outcome_of, accepted_put, IsOutcomeOf};
 
 use crate::entry::Entry;
-use crate::key_state::KeyState;
+use crate::key_index::follow;
+use crate::key_state::{KeyState, count_at, names_end};
 use crate::numbers::Numbers;
 use crate::operation::Operation;
 use crate::planned::Planned;
 use crate::refusals::{MATCH_FOUND, MODIFIED, NOT_FOUND, TOO_MANY_SIBLINGS};
-use crate::scans::{count_at, follow, names_end};
+use crate::register::PlainRegister;
 use crate::told::Told;
 use riak_msgs::Key;
 use std::alloc::{AllocError, Global};
@@ -130,19 +131,18 @@ fn accept_put<V: Drop>(
 /// The outcome of a put.
 pub(crate) fn plan_put<V: Drop>(
     alloc: Global,
-    entries: &[Entry<V>],
+    register: &PlainRegister<V>,
     put: Put<V>,
 ) -> Result<Planned<V>, AllocError>
-    requires { IsPosition (history_of entries.now) put.context }
-    ensures value { IfOk result (IsOutcomeOf entries.now
-        (AskPut (put_of (history_of entries.now) put))) }
+    ensures value { IfOk result (IsOutcomeOf register.now
+        (AskPut (put_of register.now put))) }
 {
-    let key_state = KeyState::of(alloc, entries, &put.key)?;
-    let named = count_at(entries, &put.key, put.context);
+    let key_state = KeyState::of(alloc, register, &put.key)?;
+    let named = count_at(register, &put.key, put.context);
     if let Some(number) = first_check(&key_state, named, put.if_not_modified, put.if_none_match) {
         return Ok(Planned::answer(Told::Refused(number)));
     }
     let number = key_state.count + 1;
-    let position = entries.len() as u64 + 1;
+    let position = register.next_position();
     accept_put(key_state.siblings, number, position, named, put)
 }

@@ -8,6 +8,7 @@ use crate::entry::Entry;
 use crate::key_state::KeyState;
 use crate::operation::Operation;
 use crate::planned::Planned;
+use crate::register::PlainRegister;
 use crate::told::Told;
 use riak_msgs::Key;
 use std::alloc::{AllocError, Global};
@@ -15,12 +16,12 @@ use std::alloc::{AllocError, Global};
 /// The outcome of a reap.
 pub(crate) fn plan_reap<V>(
     alloc: Global,
-    entries: &[Entry<V>],
+    register: &PlainRegister<V>,
     key: Key,
 ) -> Result<Planned<V>, AllocError>
-    ensures value { IfOk result (IsOutcomeOf entries.now (AskReap key)) }
+    ensures value { IfOk result (IsOutcomeOf register.now (AskReap key)) }
 {
-    let key_state = KeyState::of(alloc, entries, &key)?;
+    let key_state = KeyState::of(alloc, register, &key)?;
     if !key_state.is_dead() {
         return Ok(Planned::answer(Told::Kept));
     }

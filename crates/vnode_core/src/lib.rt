@@ -40,6 +40,8 @@ mod ready;
 mod vnode;
 
 pub use change::Change;
+/// The law of copies between a primary vnode and its fallbacks: what is live of a key at the primary are its joint siblings.
+pub use copy_laws::copy_joins;
 pub use kept::LoggedChange;
 pub use laws::{
     dots_are_of_lives, first_dead_is_least, machine_is_register, no_dot_is_issued_twice,

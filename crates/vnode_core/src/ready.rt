@@ -104,6 +104,7 @@ pub(crate) fn tombstones_after(tombstones: u64, ask: &Ask) -> u64
 }
 
 /// Puts what is ready in place of what was.
+#[inline(always)]
 pub(crate) fn set_ready(place: &mut Option<Ready>, ready: Ready)
     ensures { place.new ≡ Some ready }
 {

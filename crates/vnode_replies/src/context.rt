@@ -19,6 +19,7 @@ pub(crate) fn len(context: Option<&Context<'_>>) -> usize
 
 /// Whether some pair can't have been given by a vnode of this id, which gave this epoch last and this dot last in the
 /// key's life.
+#[inline(always)]
 pub fn names_unissued_dot(
     context: Option<&Context<'_>>,
     vnode: u64,
@@ -40,6 +41,7 @@ pub fn names_unissued_dot(
 }
 
 /// Whether a pair can't have been given so.
+#[inline(always)]
 fn is_ahead(vnode: u64, last_epoch: u32, last: Option<Dot>, pair: Dot) -> bool
     ensures { result ≡ is_ahead vnode last_epoch last pair }
 {

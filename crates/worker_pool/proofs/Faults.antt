@@ -4,6 +4,7 @@ use Rattle.std.specs.Prelude.{Option, Result}
 use Rattle.job_pool.specs.Giving.{AllServed}
 use Rattle.job_pool.specs.declared.jobs.JobFault.{JobFault}
 use Rattle.gate_node.specs.Gates.{Gates}
+use Rattle.gate_node.specs.GateStep.{GateStep}
 use Rattle.gate_node.specs.declared.fault.PoolFault.{PoolFault}
 use Rattle.gate_node.specs.declared.fault.PoolFault.TheVariants.{NoMemory, NoThread, JobsFailed, BookFull}
 use Rattle.worker_pool.specs.declared.job.Job.{Job}
@@ -13,7 +14,7 @@ use Rattle.worker_pool.specs.Leaving.{IsFaultAfter, Leaves}
 
 module _ {J I O : Type 0} (Gives : J → Result (Option (Job I O)) JobFault → J → Type 0) (remaining : I → Option (List ℕ)) (contents : O → Option (List ℕ)) (shared : Gates) (first last : J) where
   -- behind the workers' run
-  pub leaves_after : (served : List (Served I O)) → AllServed Gives (Serves remaining contents shared) first served last → (fault : PoolFault) → IsFaultAfter served fault → Leaves Gives remaining contents shared fault first last
+  pub leaves_after : (served : List (Served I O)) → AllServed Gives (Serves GateStep remaining contents shared) first served last → (fault : PoolFault) → IsFaultAfter served fault → Leaves Gives remaining contents shared fault first last
   leaves_after served all NoMemory h = (all.0, inr all.1)
   leaves_after served all NoThread h = absurd h
   leaves_after served all JobsFailed h = absurd h

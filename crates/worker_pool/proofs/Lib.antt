@@ -5,3 +5,6 @@ pub mod Ends
 pub mod Faults
 pub mod Sources
 pub mod Summing
+pub mod Histories
+pub mod InHistories
+pub mod Runs

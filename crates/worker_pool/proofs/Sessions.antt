@@ -49,7 +49,7 @@ module _ {I O : Type 0} (remaining : I → Option (List ℕ)) (contents : O → 
       → IfErr end.result (λ fault. Given (remaining job.reader) (remaining read) reads (λ input.
       Stops GateStep before after input (contents job.writer) (contents written) fault))
       → IfErr end.result (λ fault. IsTooManyReads fault → MadeReads (remaining job.reader) (remaining read) reads)
-      → MatchResult end.result (EndsAtEnd remaining contents shared job end before after) (EndsAtFault remaining contents shared job end before after)
+      → MatchResult end.result (EndsAtEnd GateStep remaining contents shared job end before after) (EndsAtFault GateStep remaining contents shared job end before after)
   session_kept end unread writes = by_result end.result where
     by_result : (result : Result Ended SessionFault)
         → IfOk result (λ ended. Given (remaining job.reader) (remaining read) reads (λ input.
@@ -58,7 +58,7 @@ module _ {I O : Type 0} (remaining : I → Option (List ℕ)) (contents : O → 
         → IfErr result (λ fault. Given (remaining job.reader) (remaining read) reads (λ input.
         Stops GateStep before after input (contents job.writer) (contents written) fault))
         → IfErr result (λ fault. IsTooManyReads fault → MadeReads (remaining job.reader) (remaining read) reads)
-        → MatchResult result (EndsAtEnd remaining contents shared job end before after) (EndsAtFault remaining contents shared job end before after)
+        → MatchResult result (EndsAtEnd GateStep remaining contents shared job end before after) (EndsAtFault GateStep remaining contents shared job end before after)
     by_result (Ok ended) h all none many =
         record {
           input = h.input;

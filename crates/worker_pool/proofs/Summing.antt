@@ -2,15 +2,15 @@
 use Rattle.std.proofs.Common.{◌≡◌, ◌+◌, ℕ, zero, suc, List, [], ◌∷◌, map, arith, sym, refl, subst}
 use Rattle.std.proofs.lemmas.List.Sums.{sum_by-cons}
 use Rattle.std.specs.List.{sum_by}
-use Rattle.std.specs.Prelude.{Option, Result, replicate}
-use Rattle.job_pool.specs.Giving.{AllServed, AllServedOnce}
+use Rattle.std.specs.Prelude.{Option, replicate}
+use Rattle.job_pool.specs.Lists.{Pairwise}
 use Rattle.job_pool.specs.Turns.{ServedOnce}
-use Rattle.job_pool.specs.declared.jobs.JobFault.{JobFault}
 use Rattle.job_pool.proofs.Lists.{pairs_more}
 use Rattle.job_pool.proofs.Once.{once_pairs, once_sums}
 use Rattle.stats_book.specs.Counting.{both, sum_of, zeros}
 use Rattle.stats_book.specs.declared.totals.Totals.{Totals}
 use Rattle.gate_node.specs.Gates.{Gates}
+use Rattle.gate_node.specs.GateStep.{GateStep}
 use Rattle.worker_pool.specs.declared.job.Job.{Job}
 use Rattle.worker_pool.specs.declared.job.End.{End}
 use Rattle.worker_pool.specs.declared.server.Served.{Served}
@@ -62,24 +62,22 @@ module _ {I O : Type 0} (R : Totals → Job I O → Totals → Served I O → Ty
       let reaps = number_raised (λ t. t.reaps) refl (λ a b. refl) R jobs n ends lasts h in
       λ i. record { gets = gets i; puts = puts i; deletes = deletes i; refusals = refusals i; reaps = reaps i }
 
-module _ {J I O : Type 0} (Gives : J → Result (Option (Job I O)) JobFault → J → Type 0) (remaining : I → Option (List ℕ)) (contents : O → Option (List ℕ)) (shared : Gates) (first last : J) where
-  abbrev Counts : Totals → Job I O → Totals → Served I O → Type 0
+module _ {I O : Type 0} (remaining : I → Option (List ℕ)) (contents : O → Option (List ℕ)) (shared : Gates) where
+  abbrev pub Counts : Totals → Job I O → Totals → Served I O → Type 0
   Counts = CountsInSession remaining contents shared
 
   -- each job was served
-  pub served_all : (firsts : List Totals) (ends : List (Served I O)) (lasts : List Totals) → AllServedOnce Gives Counts first firsts ends lasts last → AllServed Gives (Serves remaining contents shared) first ends last
-  served_all firsts ends lasts h = (h.0, h.1, pairs_more (λ job served was. (was.2.0, was.2.1, was.2.4)) h.0 ends (once_pairs Counts h.0 firsts ends lasts h.2))
+  pub served_all : (jobs : List (Job I O)) (firsts : List Totals) (ends : List (Served I O)) (lasts : List Totals) → ServedOnce Counts jobs firsts ends lasts → Pairwise (Serves GateStep remaining contents shared) jobs ends
+  served_all jobs firsts ends lasts h = pairs_more (λ job served was. (was.2.0, was.2.1, was.2.4)) jobs ends (once_pairs Counts jobs firsts ends lasts h)
 
   -- and by the sums of the shares the sessions raised the numbers
-  pub sums_sessions : (n : ℕ) (firsts : List Totals) (served : List (Served I O)) (lasts : List Totals) (ends : List (End I O)) (totals : Totals) → firsts ≡ replicate n zeros → map counted_whole ends ≡ served → totals ≡ sum_of lasts
-      → AllServedOnce Gives Counts first firsts served lasts last → SumsSessions Gives remaining contents shared n first ends totals last
-  sums_sessions n firsts served lasts ends totals new whole sums h =
-      let once : ServedOnce Counts h.0 (replicate n zeros) (map counted_whole ends) lasts = subst (λ es. ServedOnce Counts h.0 (replicate n zeros) es lasts) (sym whole) (subst (λ fs. ServedOnce Counts h.0 fs served lasts) new h.2) in
+  pub sums_sessions : (n : ℕ) (jobs : List (Job I O)) (firsts : List Totals) (served : List (Served I O)) (lasts : List Totals) (ends : List (End I O)) (totals : Totals) → firsts ≡ replicate n zeros → map counted_whole ends ≡ served → totals ≡ sum_of lasts → ServedOnce Counts jobs firsts served lasts
+      → SumsSessions remaining contents shared n jobs ends totals
+  sums_sessions n jobs firsts served lasts ends totals new whole sums h =
+      let once : ServedOnce Counts jobs (replicate n zeros) (map counted_whole ends) lasts = subst (λ es. ServedOnce Counts jobs (replicate n zeros) es lasts) (sym whole) (subst (λ fs. ServedOnce Counts jobs fs served lasts) new h) in
       record {
-        jobs = h.0;
         counts = lasts;
-        gave = h.1;
         once = once;
         sums = sums;
-        raised = subst (λ t. both (sums_before once.turns) t ≡ sums_after once.turns) (sym sums) (all_raised Counts h.0 n (map counted_whole ends) lasts once);
+        raised = subst (λ t. both (sums_before once.turns) t ≡ sums_after once.turns) (sym sums) (all_raised Counts jobs n (map counted_whole ends) lasts once);
       }

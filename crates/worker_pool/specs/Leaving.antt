@@ -5,6 +5,7 @@ use Rattle.job_pool.specs.declared.jobs.JobFault.{JobFault}
 use Rattle.job_pool.specs.declared.fault.RunFault.{RunFault}
 use Rattle.job_pool.specs.declared.fault.RunFault.TheVariants as runs
 use Rattle.gate_node.specs.Gates.{Gates}
+use Rattle.gate_node.specs.GateStep.{GateStep}
 use Rattle.gate_node.specs.declared.fault.PoolFault.{PoolFault}
 use Rattle.gate_node.specs.declared.fault.PoolFault.TheVariants.{NoMemory, NoThread, JobsFailed, BookFull}
 use Rattle.worker_pool.specs.declared.job.Job.{Job}
@@ -32,7 +33,7 @@ IsFaultAfter served BookFull = MetFullBook served
 module _ {J I O : Type 0} (Gives : J → Result (Option (Job I O)) JobFault → J → Type 0) (remaining : I → Option (List ℕ)) (contents : O → Option (List ℕ)) (shared : Gates) where
   -- all jobs were served, and the book was full in one of the sessions
   abbrev pub ServedPastFullBook : J → J → Type 0
-  ServedPastFullBook first last = (served : List (Served I O)) × AllServed Gives (Serves remaining contents shared) first served last × MetFullBook served
+  ServedPastFullBook first last = (served : List (Served I O)) × AllServed Gives (Serves GateStep remaining contents shared) first served last × MetFullBook served
 
   -- what is left of the source of jobs
   abbrev pub Leaves : PoolFault → J → J → Type 0

@@ -2,4 +2,6 @@
 pub mod Tallies
 pub mod Serving
 pub mod Summing
+pub mod OneHistory
+pub mod Run
 pub mod Leaving

@@ -1,5 +1,7 @@
 -- What the end of a job says.
 use Rattle.std.specs.Prelude.{◌≡◌, ℕ, false, List, Option, IfSome, MatchResult, map}
+use Rattle.riak_msgs.specs.declared.Request.{Request}
+use Rattle.riak_msgs.specs.declared.Reply.{Reply}
 use Rattle.node_session.specs.declared.ended.Ended.{Ended}
 use Rattle.node_session.specs.declared.fault.SessionFault.{SessionFault}
 use Rattle.node_session.specs.Answered.{Answered}
@@ -24,18 +26,17 @@ module _ {I O : Type 0} where
   abbrev pub counted_whole : End I O → Served I O
   counted_whole end = record { end = end; book_full = false }
 
-  module _ (remaining : I → Option (List ℕ)) (contents : O → Option (List ℕ)) (shared : Gates) where
-    -- what was written is the output for all that could be read, by a run of the step of a node over gates from the one
-    -- node to the other
+  module _ (Step : Node → Request → Reply → Node → Type 0) (remaining : I → Option (List ℕ)) (contents : O → Option (List ℕ)) (shared : Gates) where
+    -- what was written is the output for all that could be read, by a run of this step from the one node to the other
     abbrev pub EndsAtEnd : Job I O → End I O → Node → Node → Ended → Type 0
     EndsAtEnd job end before after ended = Given (remaining job.reader) (remaining end.reader) shared.reads (λ input.
         IfSome (remaining job.reader) (λ all. input ≡ all)
-        × Answered GateStep before input (contents job.writer) (contents end.writer) ended.replies (IsEnd after ended.rest))
+        × Answered Step before input (contents job.writer) (contents end.writer) ended.replies (IsEnd after ended.rest))
 
     -- what was written is the output for what was read, as far as the fault lets it come
     abbrev pub EndsAtFault : Job I O → End I O → Node → Node → SessionFault → Type 0
     EndsAtFault job end before after fault = Given (remaining job.reader) (remaining end.reader) shared.reads (λ input.
-        Stops GateStep before after input (contents job.writer) (contents end.writer) fault)
+        Stops Step before after input (contents job.writer) (contents end.writer) fault)
         × (IsTooManyReads fault → MadeReads (remaining job.reader) (remaining end.reader) shared.reads)
 
     -- between a node over these gates by the job's passes, which has met no full book, and one with what the end has,
@@ -57,7 +58,8 @@ module _ {I O : Type 0} where
     abbrev pub EndsWell : Job I O → End I O → Type 0
     EndsWell job end = Serves job (counted_whole end)
 
-    -- a session of the job counted on from the first numbers to the last, and came to this end
+  module _ (remaining : I → Option (List ℕ)) (contents : O → Option (List ℕ)) (shared : Gates) where
+    -- a session of the job over the gates counted on from the first numbers to the last, and came to this end
     abbrev pub CountsInSession : Totals → Job I O → Totals → Served I O → Type 0
     CountsInSession first job last served = (before : Node) × (after : Node)
-        × (before.count.counted ≡ first) × (after.count.counted ≡ last) × Joins job served before after
+        × (before.count.counted ≡ first) × (after.count.counted ≡ last) × Joins GateStep remaining contents shared job served before after

@@ -1,8 +1,6 @@
 -- What the sessions of a run counted in all.
-use Rattle.std.specs.Prelude.{◌≡◌, ℕ, List, Option, Result, map, replicate}
-use Rattle.job_pool.specs.Giving.{GaveAll}
+use Rattle.std.specs.Prelude.{◌≡◌, ℕ, List, Option, map, replicate}
 use Rattle.job_pool.specs.Turns.{Turn, ServedOnce}
-use Rattle.job_pool.specs.declared.jobs.JobFault.{JobFault}
 use Rattle.stats_book.specs.Counting.{both, sum_of, zeros}
 use Rattle.stats_book.specs.declared.totals.Totals.{Totals}
 use Rattle.gate_node.specs.Gates.{Gates}
@@ -22,13 +20,11 @@ sums_before {I} {O} sessions = sum_of (map (λ (s : Session I O). s.before) sess
 abbrev pub sums_after : {I O : Type 0} → List (Session I O) → Totals
 sums_after {I} {O} sessions = sum_of (map (λ (s : Session I O). s.after) sessions)
 
-module _ {J I O : Type 0} (Gives : J → Result (Option (Job I O)) JobFault → J → Type 0) (remaining : I → Option (List ℕ)) (contents : O → Option (List ℕ)) (shared : Gates) where
-  -- each job of the source was served in one session, to its end, by one of these workers, who counted from zero; the totals are
-  -- the sums of what the workers counted, and so what these sessions raised the numbers by
-  pub record SumsSessions (workers : ℕ) (first : J) (ends : List (End I O)) (totals : Totals) (last : J) : Type 0 where
-    pub jobs : List (Job I O)
+module _ {I O : Type 0} (remaining : I → Option (List ℕ)) (contents : O → Option (List ℕ)) (shared : Gates) where
+  -- each of these jobs was served in one session, to its end, by one of these workers, who counted from zero; the totals are the sums of
+  -- what the workers counted, and so what these sessions raised the numbers by
+  pub record SumsSessions (workers : ℕ) (jobs : List (Job I O)) (ends : List (End I O)) (totals : Totals) : Type 0 where
     pub counts : List Totals
-    pub gave : GaveAll Gives first jobs last
     pub once : ServedOnce (CountsInSession remaining contents shared) jobs (replicate workers zeros) (map counted_whole ends) counts
     pub sums : totals ≡ sum_of counts
     pub raised : both (sums_before once.turns) totals ≡ sums_after once.turns

@@ -10,11 +10,16 @@ use Rattle.vnode_protocol.specs.Events.{Makes}
 use Rattle.vnode_protocol.specs.Plans.{View}
 use Rattle.gate_node.specs.Asked.{state_of}
 
--- the events of each kind that the vnode behind a gate has accepted at one position of its history
-pub record IsTally (gate : GateId View) (tally : Tally) : Type 0 where
-  pub position : List Event
+-- a gate, and a history of the vnode behind it
+pub record History : Type 0 where
+  pub gate : GateId View
+  pub events : List Event
+
+-- the history is legal: the machine accepts its events, from the state that the gate was made with; and the tally counts those of
+-- each kind
+pub record IsTally (history : History) (tally : Tally) : Type 0 where
   pub state : State Content
-  pub leads : RunFrom state_of Makes gate.opening position state
+  pub legal : RunFrom state_of Makes history.gate.opening history.events state
   pub writes : tally.writes ≡ state.writes
   pub tombstones : tally.tombstones ≡ state.tombstones
   pub reaps : tally.reaps ≡ state.reaps

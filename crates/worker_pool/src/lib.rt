@@ -1,27 +1,31 @@
 //! Workers that serve connections over the gates of a run, and count what they do.
 //!
 //! What it means: [`Pool::run`] takes all jobs of a source, each a connection with passes of the run's gates, and gives one end for each,
-//! in the order in which the source gave the jobs (`specs/Serving`: `Serves`). An end is what `serve` of `node_session` makes of that
-//! job's reader and writer, by a run of the step of a node over the gates (`gate_node`) from the job's passes to the end's. With the
-//! ends come the totals of what these sessions counted, each session once (`specs/Summing`: `SumsSessions`), and the tally of each
-//! vnode after the last job.
+//! in the order in which the source gave the jobs (`specs/Run`: `ServesSource`). An end is what `serve` of `node_session` makes of that
+//! job's reader and writer, by a run of the step of a node over the gates (`gate_node`) from the job's passes to the end's. All these
+//! sessions are of one history of each vnode (`specs/OneHistory`: `StepIn`), and each of their replies is at a position of it
+//! ([`replies_are_at_positions`]). With the ends come the totals of what these sessions counted, each session once
+//! (`specs/Summing`: `SumsSessions`), and the tally of each vnode at the end of that history.
 //!
 //! What it costs: what a run of `job_pool` costs, the book's lock once for each answer that is counted, and a thread for each worker. A
-//! tally is one look under a right to read.
+//! tally is one look under a right to read, and a comparison of two numbers for each end.
 //!
 //! How it is built: a worker is a service of `job_pool`, whose state is its share of the book. It makes a node of the job's passes and its
-//! share, serves the session, and takes both back. A share has no bytes; all shares together say what the book's numbers are.
+//! share, serves the session, and takes both back. A share has no bytes; all shares together say what the book's numbers are. After the
+//! workers were joined a new pass of each gate looks, and of two passes of a gate the one behind has seen a beginning of what the other has:
+//! so what that look shows is a history of which every session has seen a beginning.
 //!
 //! ```text
 //! jobs a, b, c; two workers                 each begins with a share that has counted nothing
 //! worker 1  serves a, c                     its share: 2 puts, 1 get
 //! worker 2  serves b                        its share: 1 put
-//! Pool::run returns                         ends of a, b, c; 3 puts, 1 get; the tally of each vnode
+//! Pool::run returns                         ends of a, b, c; 3 puts, 1 get; the tally of each vnode: 3 writes in all
 //! ```
 #![tactic(auto)]
 
 mod closed;
 mod job;
+mod laws;
 mod pool;
 mod server;
 mod tallies;
@@ -30,4 +34,5 @@ pub use closed::Closed;
 pub use gate_node::{Open, Passes, PoolFault, Shared, Turnstile};
 pub use job::{End, EndRead, EndWrite, Job};
 pub use job_pool::{JobFault, Jobs};
+pub use laws::replies_are_at_positions;
 pub use pool::Pool;

@@ -1,13 +1,12 @@
 //! A run of the pool.
 ghost use Rattle.std.specs.Prelude.{◌≡◌, ◌≤◌, map, vec_len, IfOk, IfErr};
-ghost use Rattle.job_pool.specs.Giving.{AllServed, GivesOnly};
-ghost use Rattle.job_pool.specs.Lists.{Pairwise};
+ghost use Rattle.job_pool.specs.Giving.{GivesOnly};
 ghost use Rattle.stats_book.specs.Counting.{sum_of};
 ghost use Rattle.stats_book.specs.Holdings.{AllAre};
-ghost use Rattle.worker_pool.specs.Serving.{EndsWell, IsForGates, counted_whole};
-ghost use Rattle.worker_pool.specs.Summing.{SumsSessions};
+ghost use Rattle.worker_pool.specs.Serving.{IsForGates, counted_whole};
+ghost use Rattle.worker_pool.specs.OneHistory.{WereOfRun, ShareHistories};
+ghost use Rattle.worker_pool.specs.Run.{ServesSource};
 ghost use Rattle.worker_pool.specs.Leaving.{Leaves, IsFaultAfter, pool_fault};
-ghost use Rattle.worker_pool.specs.Tallies.{IsTally};
 
 use crate::closed::Closed;
 use crate::job::{End, EndRead, EndWrite, Job};
@@ -74,10 +73,11 @@ where
     E: Ledger,
     R: Ledger,
     requires all { AllAre (vec_len finished.workers) G.parts P.parts D.parts E.parts R.parts }
+    requires passes { WereOfRun shared.now finished.ends.items }
     ensures ends { IfOk result (λ closed.
         map counted_whole closed.ends.items ≡ finished.ends.items) }
-    ensures tallies { IfOk result (λ closed.
-        Pairwise IsTally shared.now.gates closed.tallies.items) }
+    ensures history { IfOk result (λ closed.
+        ShareHistories shared.now.gates closed.ends.items closed.tallies.items) }
     ensures totals { IfOk result (λ closed. closed.totals ≡ sum_of finished.workers.items) }
     ensures fault { IfErr result (IsFaultAfter finished.ends.items) }
 {
@@ -90,7 +90,7 @@ where
         Ok(ends) => ends,
         Err(fault) => return Err(fault),
     };
-    match tallies_of(rt, alloc, shared) {
+    match tallies_of(rt, alloc, shared, ends.as_slice()) {
         Ok(tallies) => Ok(Closed {
             totals,
             tallies,
@@ -129,14 +129,9 @@ where
     requires refusals { (blanks.refusals.name ≡ E.name) × (blanks.refusals.parts ≡ E.parts) }
     requires reaps { (blanks.reaps.name ≡ R.name) × (blanks.reaps.parts ≡ R.parts) }
     requires parts { AllAre workers G.parts P.parts D.parts E.parts R.parts }
-    ensures ends { IfOk result (λ closed.
-        AllServed J.gives (EndsWell I.remaining O.contents shared.now)
-        jobs.old closed.ends.items jobs.new) }
-    ensures totals { IfOk result (λ closed.
-        SumsSessions J.gives I.remaining O.contents shared.now workers
-        jobs.old closed.ends.items closed.totals jobs.new) }
-    ensures tallies { IfOk result (λ closed.
-        Pairwise IsTally shared.now.gates closed.tallies.items) }
+    ensures served { IfOk result (λ closed.
+        ServesSource I.remaining O.contents shared.now J.gives workers
+        jobs.old closed jobs.new) }
     ensures fault { IfErr result (λ fault.
         Leaves J.gives I.remaining O.contents shared.now fault jobs.old jobs.new) }
 {
@@ -164,7 +159,14 @@ impl Pool {
     /// there is one end for each job, in the order in which the source gave them. The end has the job's own reader, writer and
     /// passes, and what `serve` returned: what was written is the output for what was read, by a run of the step of a node over the
     /// gates from the job's passes to the end's, which may serve a later job. The totals are what the sessions of these ends counted,
-    /// each session once. The tallies are in the order of the partitions, each of one look after the workers were joined.
+    /// each session once.
+    ///
+    /// There is one history of the vnode behind each gate, legal, and after each step of each session the passes have seen beginnings
+    /// of these histories. So each reply is at a position of the history of its key's vnode
+    /// ([`replies_are_at_positions`](crate::replies_are_at_positions)), and what two connections are told of one vnode fits together. The
+    /// tallies are in the order of the partitions, each of the whole of that history: of one look after the workers were joined, made
+    /// again where the history had gone on past the state that was found, or where an end's pass had seen more. Order in real time isn't
+    /// said, nor any order between vnodes.
     ///
     /// Where it is refused, the workers that were started have been joined, and what they did to the vnodes stays:
     ///
@@ -192,14 +194,9 @@ impl Pool {
         T: Turnstile + Sync,
         requires workers { (1 ≤ workers) × (workers ≤ 64) }
         requires jobs { GivesOnly J.gives (IsForGates shared.now) jobs.old }
-        ensures ends { IfOk result (λ closed.
-            AllServed J.gives (EndsWell I.remaining O.contents shared.now)
-            jobs.old closed.ends.items jobs.new) }
-        ensures totals { IfOk result (λ closed.
-            SumsSessions J.gives I.remaining O.contents shared.now workers
-            jobs.old closed.ends.items closed.totals jobs.new) }
-        ensures tallies { IfOk result (λ closed.
-            Pairwise IsTally shared.now.gates closed.tallies.items) }
+        ensures served { IfOk result (λ closed.
+            ServesSource I.remaining O.contents shared.now J.gives workers
+            jobs.old closed jobs.new) }
         ensures fault { IfErr result (λ fault.
             Leaves J.gives I.remaining O.contents shared.now fault jobs.old jobs.new) }
     {

@@ -1,7 +1,10 @@
-//! A listener on a system that has no descriptor or no memory for a further connection.
+//! A listener whose first accepts fail by an error of the system.
 use std::io;
 use std::net::{Net, OpenListener, SocketAddr, TcpListener, TcpStream};
 use std::sync::atomic::{AtomicU32, Ordering};
+
+/// Linux's EBADF.
+pub const BAD_DESCRIPTOR: i32 = 9;
 
 /// Linux's ENOMEM.
 pub const NO_MEMORY: i32 = 12;

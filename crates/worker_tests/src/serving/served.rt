@@ -52,6 +52,20 @@ const STORED_V: &[u8] =
 const STORED_W: &[u8] =
     b"\0\0\0\x01\x0c\0\0\0\x1d\x0a\x0a\x03\x0a\x01w\x12\x15\x02\0\0\0\0\0\x01\0\0";
 
+/// A put of "v" on b/k, a put of "w" on it, and a get of it.
+const PUT_V: &[u8] = b"\0\0\0\x0c\x0b\x0a\x01b\x12\x01k\x22\x03\x0a\x01v";
+
+const PUT_W: &[u8] = b"\0\0\0\x0c\x0b\x0a\x01b\x12\x01k\x22\x03\x0a\x01w";
+
+const GET: &[u8] = b"\0\0\0\x07\x09\x0a\x01b\x12\x01k";
+
+/// Stored.
+const STORED: &[u8] = b"\0\0\0\x01\x0c";
+
+/// "w" and "v" as siblings, the later one first, with a context of one pair for both.
+const W_AND_V: &[u8] =
+    b"\0\0\0\x22\x0a\x0a\x03\x0a\x01w\x0a\x03\x0a\x01v\x12\x15\x02\0\0\0\0\0\x01\0\0";
+
 /// Two clients that are connected at once: each puts a value of its own and gets it.
 const TWO_CLIENTS: &[Step] = &[
     Step::Connects,
@@ -60,6 +74,24 @@ const TWO_CLIENTS: &[Step] = &[
     Step::Acts(0, Action::Sends(PUT_V_GET)),
     Step::Acts(0, Action::Gets(STORED_V, 12)),
     Step::Acts(1, Action::Gets(STORED_W, 12)),
+    Step::Acts(0, Action::Shuts),
+    Step::Acts(0, Action::IsEnded),
+    Step::Acts(1, Action::Shuts),
+    Step::Acts(1, Action::IsEnded),
+];
+
+/// Two clients that each put a value of their own on b/k, without a context, and then get it.
+const ONE_KEY: &[Step] = &[
+    Step::Connects,
+    Step::Connects,
+    Step::Acts(0, Action::Sends(PUT_V)),
+    Step::Acts(0, Action::Gets(STORED, 0)),
+    Step::Acts(1, Action::Sends(PUT_W)),
+    Step::Acts(1, Action::Gets(STORED, 0)),
+    Step::Acts(0, Action::Sends(GET)),
+    Step::Acts(0, Action::Gets(W_AND_V, 12)),
+    Step::Acts(1, Action::Sends(GET)),
+    Step::Acts(1, Action::Gets(W_AND_V, 12)),
     Step::Acts(0, Action::Shuts),
     Step::Acts(0, Action::IsEnded),
     Step::Acts(1, Action::Shuts),
@@ -120,6 +152,16 @@ const RUNS: &[Run] = &[
         connections: 2,
         workers: 2,
         steps: TWO_CLIENTS,
+        ends: TWO_PUT_AND_GOT,
+        tally: TWO_PUTS,
+        totals: TWO_GETS_AND_PUTS,
+    },
+    Run {
+        shows: "two clients of one key see one history of it",
+        failures: NO_FAILURES,
+        connections: 2,
+        workers: 2,
+        steps: ONE_KEY,
         ends: TWO_PUT_AND_GOT,
         tally: TWO_PUTS,
         totals: TWO_GETS_AND_PUTS,

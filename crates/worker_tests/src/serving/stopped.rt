@@ -1,6 +1,7 @@
 //! Runs that stop since no further connection is to be had.
 use crate::serving::listener::{
-    ABORTED, Failing, Failures, NO_FAILURES, NO_PROCESS_DESCRIPTOR, new_listener, port_of,
+    ABORTED, BAD_DESCRIPTOR, Failing, Failures, NO_FAILURES, NO_PROCESS_DESCRIPTOR, new_listener,
+    port_of,
 };
 use crate::serving::{Outcome, is_text, serve};
 use log::sink::Console;
@@ -47,11 +48,21 @@ const STOPS: &[Stop] = &[
         accepts: MAX_ACCEPT_TRIES,
     },
     Stop {
-        shows: "another fault ends the run at once",
+        shows: "connections that fail before they are accepted end the run at last",
         is_nonblocking: false,
         failures: Failures {
             count: u32::MAX,
             code: ABORTED,
+        },
+        workers: 1,
+        accepts: MAX_ACCEPT_TRIES,
+    },
+    Stop {
+        shows: "a fault of the listener itself ends the run at once",
+        is_nonblocking: false,
+        failures: Failures {
+            count: u32::MAX,
+            code: BAD_DESCRIPTOR,
         },
         workers: 1,
         accepts: 1,

@@ -7,13 +7,12 @@ run-requires-clause-jobs g c κs within = gives_new (λ s. s.shared.now) (λ s. 
 
 pub returns-in-Ok : goal.returns-in-Ok
 returns-in-Ok g c =
-    let all = c.in-Ok.ensures.ends in
+    let all = c.in-Ok.ensures.served in
     let sum = counts_jobs (λ s. s.shared.now) (λ s. s.left) _ all.0 all.1.0 all.1.1 in
     let none = all.1.2.1 in
     record {
       jobs = all.0;
       count = omega arith;
       new = all_new (λ s. s.shared.now) (λ s. s.left) _ all.0 all.1.0 all.1.1;
-      ends = all.2;
-      tallies = c.in-Ok.ensures.tallies;
+      served = all.2;
     }

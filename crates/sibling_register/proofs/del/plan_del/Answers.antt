@@ -3,13 +3,12 @@ use Rattle.std.specs.Prelude.{Option, unwrap_or}
 use Rattle.sibling_register.specs.History.{Event}
 use Rattle.sibling_register.specs.Answers.{DelCommand, AskDel}
 use Rattle.sibling_register.specs.Plans.{plain_outcome}
-use Rattle.sibling_register.specs.Entries.{history_of}
 use Rattle.sibling_register.proofs.Plans.{does_nothing-by, del_refusal-by, del_refused, del_kept}
 use Rattle.sibling_register.proofs.del.plan_del.Goals as goal
 
 pub returns-then-has_too_many : goal.returns-then-has_too_many
 returns-then-has_too_many g c =
-    let history : List (Event g.row.V.Denot ℕ) = history_of c.args.entries.now in
+    let history : List (Event g.row.V.Denot ℕ) = c.args.register.now in
     let del : Option ℕ → DelCommand ℕ = λ context. record { key = c.args.key; context = context } in
     let read = c.in_ok-key_state.ensures in
     let idle = c.is_idle.ensures.value ∙ does_nothing-by history (del c.count_at-named.result) _ read.siblings in
@@ -23,7 +22,7 @@ returns-then-has_too_many g c =
 
 pub returns : goal.returns
 returns g c =
-    let history : List (Event g.row.V.Denot ℕ) = history_of c.args.entries.now in
+    let history : List (Event g.row.V.Denot ℕ) = c.args.register.now in
     let del : Option ℕ → DelCommand ℕ = λ context. record { key = c.args.key; context = context } in
     let read = c.in_ok-key_state.ensures in
     let idle = c.is_idle.ensures.value ∙ does_nothing-by history (del c.count_at-named.result) _ read.siblings in

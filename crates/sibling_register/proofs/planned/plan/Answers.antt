@@ -1,16 +1,4 @@
-use Rattle.std.proofs.Common.{subst}
-use Rattle.sibling_register.specs.Plain.{GivesPositions}
-use Rattle.sibling_register.specs.Entries.{history_of}
 use Rattle.sibling_register.proofs.planned.plan.Goals as goal
-
-pub plan_get-requires : goal.plan_get-requires
-plan_get-requires g c = subst (GivesPositions (history_of c.args.entries.now)) c.in-Get.is c.requires
-
-pub plan_put-requires : goal.plan_put-requires
-plan_put-requires g c = subst (GivesPositions (history_of c.args.entries.now)) c.in-Put.is c.requires
-
-pub plan_del-requires : goal.plan_del-requires
-plan_del-requires g c = subst (GivesPositions (history_of c.args.entries.now)) c.in-Del.is c.requires
 
 pub returns-in-Get : goal.returns-in-Get
 returns-in-Get g c = record { value = rw c.in-Get.is c.plan_get.ensures.value }

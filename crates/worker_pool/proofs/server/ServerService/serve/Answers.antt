@@ -1,4 +1,5 @@
 use Rattle.std.proofs.Common.{◌∙◌, ap, sym}
+use Rattle.gate_node.specs.GateStep.{GateStep}
 use Rattle.worker_pool.specs.declared.job.End.{End}
 use Rattle.worker_pool.specs.declared.server.Served.{Served}
 use Rattle.worker_pool.specs.Serving.{Joins}
@@ -17,7 +18,7 @@ returns g c =
     let served : Served g.row.I.Denot g.row.O.Denot = record { end = end; book_full = c.parts-share.result.2 } in
     let said = c.serve-result.ensures in
     let same = session_keeps before after _ _ _ _ c.reads.result c.serve-result.result said.ended said.stopped ∙ c.new-node.ensures.shared in
-    let joins : Joins {I = g.row.I.Denot} {O = g.row.O.Denot} remaining contents shared c.args.job served before after = record {
+    let joins : Joins {I = g.row.I.Denot} {O = g.row.O.Denot} GateStep remaining contents shared c.args.job served before after = record {
       gates = c.new-node.ensures.shared;
       passes = c.new-node.ensures.passes;
       begins = ap (λ n. n.book_full) c.new-node.ensures.count;

@@ -1,0 +1,99 @@
+-- The sibling register as one caller of several sees it: between two of its requests others' commands may have been accepted.
+use Rattle.std.specs.Prelude.{◌≡◌, ◌≢◌, ◌⊎◌, ℕ, List, [], Option, Result, MatchOption, slice_get}
+use Rattle.std.specs.Option.{option_map_or}
+use mathlib.Core.List.{IsPrefix}
+use Rattle.pb_frame.specs.Message.{Message}
+use Rattle.ring_map.specs.Ring.{id_of}
+use Rattle.riak_msgs.specs.declared.Key.{Key}
+use Rattle.riak_msgs.specs.Contents.{Content}
+use Rattle.riak_msgs.specs.declared.Request.{Request}
+use Rattle.riak_msgs.specs.declared.Reply.{Reply}
+use Rattle.riak_msgs.specs.declared.Reply.TheVariants as replies
+use Rattle.riak_msgs.specs.declared.Text.TheVariants as texts
+use Rattle.sibling_register.specs.Answers.{Ask}
+use Rattle.actor_epoch.specs.Given.{Context}
+use Rattle.vnode_machine.specs.Machine.{State}
+use Rattle.vnode_machine.specs.Replay.{History}
+use Rattle.vnode_machine.specs.Step.{Response}
+use Rattle.vnode_machine.specs.Registers.{key_of}
+use Rattle.vnode_machine.specs.Runs.{AnswersTurn}
+use Rattle.vnode_protocol.specs.declared.event.Event.{Event}
+use Rattle.vnode_protocol.specs.Events.{GoesOnTo, history_after}
+use Rattle.node_session.specs.declared.fault.SessionFault.{SessionFault}
+use Rattle.node_session.specs.Answers.{Run}
+use Rattle.node_session.specs.Answered.{Answered}
+use Rattle.node_session.specs.PlainNodes.{partition_of}
+use Rattle.node_session.specs.PlainStep.{ask_of, reply_of}
+use Rattle.node_session.specs.Session.{IsEnd, Stops}
+use Rattle.gate_node.specs.Asked.{Sight}
+use Rattle.gate_node.specs.Gates.{Gates}
+use Rattle.gate_node.specs.GateStep.{Node, GateStep}
+
+-- the commands that a vnode accepted, oldest first, each with its answer
+abbrev pub Commands : Type 0
+Commands = List Event
+
+-- what a caller has seen of them, by the vnode's index
+abbrev pub Seen : Type 0
+Seen = ℕ → Commands
+
+-- what a node's pass of the gate at each index has seen
+abbrev pub seen_by : Node → Seen
+seen_by node index = option_map_or (λ (pass : Sight). pass.prefix) (slice_get node.passes index) []
+
+module _ (run index : ℕ) where
+  -- the register's history that these commands are, of the vnode at this index
+  abbrev pub history_of : Commands → History
+  history_of commands = history_after (id_of run index) 0 [] commands
+
+  -- it is legal, and each of them was answered as the register answers it at its place
+  abbrev pub IsLegalHistory : Commands → Type 0
+  IsLegalHistory commands = (state : State Content) × GoesOnTo (id_of run index) 0 [] commands state
+
+  -- the register answers an ask at a position that has all that its caller had seen; what it accepts is the next command; and then
+  -- more may have been accepted
+  pub record AnswersAmongOthers (ask : Ask Content Context) (old : Commands) (reply : Reply) (new : Commands) : Type 0 where
+    pub position : Commands
+    pub after : Commands
+    pub result : Result Response ℕ
+    pub begins : IsPrefix old position
+    pub legal : IsLegalHistory after
+    pub answers : AnswersTurn (id_of run index) 0 (history_of position) (record { ask = ask; reply = result }) (history_of after)
+    pub replied : reply ≡ reply_of result
+    pub more : IsPrefix after new
+
+-- the errors by which a gate answers in the place of the register: other commands came between, or there is no room for one more
+abbrev pub IsOfGate : Reply → Type 0
+IsOfGate reply = (reply ≡ replies.Error texts.Moved) ⊎ (reply ≡ replies.Error texts.HistoryFull)
+
+-- an ask is answered at the vnode of this index: by the register, or by the gate, and then it is no command; what was seen of
+-- other vnodes stays
+pub record AnswersAskAt (run index : ℕ) (ask : Ask Content Context) (old : Seen) (reply : Reply) (new : Seen) : Type 0 where
+  pub answers : AnswersAmongOthers run index ask (old index) reply (new index) ⊎ (IsOfGate reply × IsPrefix (old index) (new index))
+  pub others : (other : ℕ) → other ≢ index → new other ≡ old other
+
+-- a ping is answered by a ping and shows nothing, any other request at the vnode that its key lies in
+abbrev pub RegisterAmongOthers : (run : ℕ) (index_of : Key → ℕ) → Seen → Request → Reply → Seen → Type 0
+RegisterAmongOthers run index_of old request reply new =
+    MatchOption (ask_of request) ((reply ≡ replies.Ping) × (new ≡ old)) (λ ask. AnswersAskAt run (index_of (key_of ask)) ask old reply new)
+
+-- that of the gates of a run
+abbrev pub SharedRegister : Gates → Seen → Request → Reply → Seen → Type 0
+SharedRegister shared = RegisterAmongOthers shared.run (partition_of shared.index_bits)
+
+-- what a node over gates answers to messages, one after another, the register among others does
+abbrev pub RunIsRegister : (old new : Node) → List Message → List Reply → Type 0
+RunIsRegister old new messages replies =
+    Run GateStep old messages replies new → Run (SharedRegister old.shared) (seen_by old) messages replies (seen_by new)
+
+-- a session that comes to the end is one over the register among others
+abbrev pub EndIsRegister : (old new : Node) (input : List ℕ) (held held' : Option (List ℕ)) (count len : ℕ) → Type 0
+EndIsRegister old new input held held' count len =
+    Answered GateStep old input held held' count (IsEnd new len)
+    → Answered (SharedRegister old.shared) (seen_by old) input held held' count (IsEnd (seen_by new) len)
+
+-- and so is one that stops at a fault
+abbrev pub StopIsRegister : (old new : Node) (input : List ℕ) (held held' : Option (List ℕ)) → SessionFault → Type 0
+StopIsRegister old new input held held' fault =
+    Stops GateStep old new input held held' fault
+    → Stops (SharedRegister old.shared) (seen_by old) (seen_by new) input held held' fault

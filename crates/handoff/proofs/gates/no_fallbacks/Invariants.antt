@@ -1,0 +1,6 @@
+use Rattle.std.proofs.Common.{◌≡◌, length}
+use Rattle.handoff.specs.Partitions.{AreNone}
+use Rattle.handoff.proofs.gates.no_fallbacks.Given as goal
+
+abbrev pub invariant-loop-index : goal.invariant-loop-index
+invariant-loop-index l = AreNone l.fallbacks.items × (length l.fallbacks.items ≡ l.index)

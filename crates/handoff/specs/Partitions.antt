@@ -1,0 +1,78 @@
+-- The partitions of a run: the gate of each, and the fallbacks of those that are diverted.
+use Rattle.std.specs.Prelude.{◌≡◌, ◌<◌, ◌≤◌, ◌+◌, ◌^◌, ◌⊎◌, ℕ, List, [], ◌∷◌, length, Option, Some, None, IfSome, slice_get, slice_set}
+use Rattle.ring_map.specs.Ring.{id_of}
+use Rattle.rw_gate.specs.Views.{GateId}
+use Rattle.vnode_machine.specs.Replay.{IsWithinLimits}
+use Rattle.vnode_protocol.specs.Plans.{View}
+use Rattle.vnode_protocol.specs.Events.{IsMadeNew}
+use Rattle.handoff.specs.declared.fault.HandoffFault.{HandoffFault}
+use Rattle.handoff.specs.declared.fault.HandoffFault.TheVariants.{AlreadyDiverted, NoMemory}
+use Rattle.handoff.specs.declared.gates.Fallback.{Fallback}
+
+-- how many bits number the partitions, which run it is, the primaries' gates in the partitions' order, and the fallback of
+-- each partition that is diverted
+pub record HandoffView : Type 0 where
+  pub index_bits : ℕ
+  pub run : ℕ
+  pub gates : List (GateId View)
+  pub fallbacks : List (Option Fallback)
+
+-- these gates were made round the new vnodes of a run, from this index on
+abbrev pub AreMadeNew : (run index : ℕ) → List (GateId View) → Type 0
+AreMadeNew run index [] = Unit {0}
+AreMadeNew run index (gate ∷ gates) = IsMadeNew (id_of run index) 0 gate × AreMadeNew run (index + 1) gates
+
+-- the gates of a new run: its number fits into 32 bits, there are at most 1,024, and each was made round the new vnode of its
+-- index
+pub record AreOfNewRun (run : ℕ) (gates : List (GateId View)) : Type 0 where
+  pub made_new : AreMadeNew run 0 gates
+  pub fits : run < 2 ^ 32
+  pub few : length gates ≤ 1024
+
+-- the id of the vnode of a partition's fallback
+abbrev pub fallback_id : (run index : ℕ) → ℕ
+fallback_id run index = id_of run index + 32768
+
+-- A fallback's gate was made round a new vnode with that id, one that a vnode can have, behind some last epoch: behind none, where
+-- the diversion is the partition's first.
+pub record IsFallback (run index : ℕ) (fallback : Fallback) : Type 0 where
+  pub numbered : 1 ≤ fallback.diversion
+  pub last_epoch : ℕ
+  pub first : fallback.diversion ≡ 1 → last_epoch ≡ 0
+  pub made_new : IsMadeNew (fallback_id run index) last_epoch fallback.gate
+  pub limits : IsWithinLimits (fallback_id run index) last_epoch
+
+-- each is the fallback of its index, from this index on
+abbrev pub AreFallbacks : (run index : ℕ) → List (Option Fallback) → Type 0
+AreFallbacks run index [] = Unit {0}
+AreFallbacks run index (fallback ∷ fallbacks) = IfSome fallback (IsFallback run index) × AreFallbacks run (index + 1) fallbacks
+
+-- nothing stands at any of these places
+abbrev pub AreNone : {A : Type 0} → List (Option A) → Type 0
+AreNone [] = Unit {0}
+AreNone (place ∷ places) = (place ≡ None) × AreNone places
+
+-- the number of a partition's last diversion, 0 where there was none
+abbrev pub number_of : Option Fallback → ℕ
+number_of None = 0
+number_of (Some fallback) = fallback.diversion
+
+abbrev pub number_in : Option (Option Fallback) → ℕ
+number_in None = 0
+number_in (Some fallback) = number_of fallback
+
+abbrev pub diversion_at : HandoffView → (index : ℕ) → ℕ
+diversion_at handoff index = number_in (slice_get handoff.fallbacks index)
+
+-- a partition that had no fallback has a new one, of the next number, and all else is as it was
+pub record IsDiverted (index : ℕ) (old new : HandoffView) : Type 0 where
+  pub fallback : Fallback
+  pub undiverted : slice_get old.fallbacks index ≡ Some None
+  pub next : fallback.diversion ≡ diversion_at old index + 1
+  pub is_new : IsFallback old.run index fallback
+  pub is : new ≡ record old { fallbacks = slice_set old.fallbacks index (Some fallback) }
+
+-- why a partition isn't diverted: memory was refused, or it has a fallback
+abbrev pub IsRefused : HandoffView → (index : ℕ) → HandoffFault → Type 0
+IsRefused old index fault = (fault ≡ NoMemory)
+    ⊎ ((fault ≡ AlreadyDiverted) × (fallback : Fallback) × (slice_get old.fallbacks index ≡ Some (Some fallback)))

@@ -1,0 +1,148 @@
+//! The gates of a run, and the fallbacks of partitions that are diverted.
+ghost use Rattle.std.specs.Prelude.{◌≡◌, ◌<◌, ◌≤◌, ◌^◌, Some, length, slice_get};
+ghost use Rattle.std.specs.Prelude.{IfOk, IfErr, IfSome, IsOkUnless, OnOk, OnErr};
+ghost use Rattle.std.specs.Option.{option_map};
+ghost use Rattle.handoff.specs.Partitions.{AreMadeNew, AreOfNewRun, AreNone, IsFallback};
+ghost use Rattle.handoff.specs.Partitions.{IsDiverted, IsRefused, diversion_at};
+
+use crate::fault::HandoffFault;
+use crate::gates::{Fallback, new_fallback, new_gates, no_fallbacks};
+use ring_map::Ring;
+use rw_gate::Gate;
+use std::alloc::Global;
+use std::marker::Model;
+use vnode_core::Vnode;
+
+/// The gates of a run, one round the vnode of each partition of a ring, and beside each partition that is diverted its fallback.
+/// Threads share it by reference, so while one is diverted no call of any partition is under way.
+///
+/// ```text
+/// let mut handoff = Handoff::new(alloc, ring, 1)?   the primaries of run 1, with the ids 65536, 65537, ..; none is diverted
+/// handoff.diversion(0)                              0
+/// handoff.divert(alloc, 0)?                         the calls of partition 0 are for a new vnode from now on, with the id 98304
+/// handoff.diversion(0)                              1
+/// handoff.fallback(0)                               the gate round that vnode, and 1; the primary's gate and its keys stay
+/// handoff.divert(alloc, 0)                          Err(AlreadyDiverted)
+/// handoff.diversion(1)                              0: the other partitions are as they were
+/// ```
+pub struct Handoff {
+    ring: Ring,
+    run: u32,
+    gates: Vec<Gate<Vnode>>,
+    fallbacks: Vec<Option<Fallback>>,
+}
+
+/// One call at each place where one is let go.
+impl Drop for Handoff {
+    fn drop(self) {
+        let Handoff {
+            ring: _ring,
+            run: _run,
+            gates: _gates,
+            fallbacks: _fallbacks,
+        } = self;
+    }
+}
+
+impl Model for Handoff {
+    ghost use Rattle.std.specs.Prelude.{◌≡◌, ◌^◌, length};
+    ghost use Rattle.handoff.specs.Partitions.{HandoffView, AreOfNewRun, AreFallbacks};
+
+    ghost Value = { HandoffView };
+
+    ghost view = { λ h. record {
+      index_bits = h.ring;
+      run = h.run;
+      gates = h.gates.items;
+      fallbacks = h.fallbacks.items;
+    } };
+
+    ghost invariant = { λ h. AreOfNewRun h.run h.gates.items × (length h.gates.items ≡ 2 ^ h.ring)
+        × AreFallbacks h.run 0 h.fallbacks.items × (length h.fallbacks.items ≡ 2 ^ h.ring) };
+}
+
+impl Handoff {
+    /// The gates of a run, each round a new vnode: that of the partition at an index has the id `run * 65536 + index`. The run is at
+    /// least 1, and its number is used once: contexts that were shown in an earlier run of the same number may cover what their
+    /// holders never saw. No partition is diverted. Refused where memory is.
+    pub fn new(alloc: Global, ring: Ring, run: u32) -> Result<Handoff, HandoffFault>
+        requires { 1 ≤ run }
+        ensures ring { IfOk result (λ h. h.index_bits ≡ ring) }
+        ensures run { IfOk result (λ h. h.run ≡ run) }
+        ensures gates { IfOk result (λ h. AreMadeNew run 0 h.gates) }
+        ensures size { IfOk result (λ h. length h.gates ≡ 2 ^ ring) }
+        ensures none { IfOk result (λ h. AreNone h.fallbacks) }
+        ensures only { IsOkUnless result HandoffFault.NoMemory }
+    {
+        let gates = new_gates(alloc, ring, run)?;
+        let fallbacks = no_fallbacks(alloc, ring.size())?;
+        Ok(Handoff {
+            ring,
+            run,
+            gates,
+            fallbacks,
+        })
+    }
+
+    /// Diverts a partition, whose index is below the ring's size: its calls are for a new vnode from now on, with the id
+    /// `run * 65536 + 32768 + index`, whose first epoch is 1. Refused, and all stays as it was, where the partition has a fallback or
+    /// memory is refused.
+    pub fn divert(&mut self, alloc: Global, index: u16) -> Result<(), HandoffFault>
+        requires { index < 2 ^ self.old.index_bits }
+        ensures ok { OnOk result (IsDiverted index self.old self.new) }
+        ensures err { OnErr result (self.new ≡ self.old) }
+        ensures fault { IfErr result (IsRefused self.old index) }
+    {
+        let at = usize::from(index);
+        match &self.fallbacks[at] {
+            Some(_) => return Err(HandoffFault::AlreadyDiverted),
+            None => {}
+        }
+        let fallback = new_fallback(alloc, self.run, index, 1)?;
+        self.fallbacks[at] = Some(fallback);
+        Ok(())
+    }
+
+    /// The number of a partition's last diversion, 0 before the first. The index is below the ring's size.
+    pub fn diversion(&self, index: u16) -> u32
+        requires { index < 2 ^ self.now.index_bits }
+        ensures { result ≡ diversion_at self.now index }
+    {
+        match self.fallback(usize::from(index)) {
+            None => 0,
+            Some(fallback) => fallback.diversion,
+        }
+    }
+
+    /// How the partitions are numbered.
+    #[inline(always)]
+    pub fn ring(&self) -> Ring
+        ensures { result ≡ self.now.index_bits }
+    {
+        self.ring
+    }
+
+    /// The gates of the primaries, in the partitions' order.
+    #[inline(always)]
+    pub fn gates(&self) -> &[Gate<Vnode>]
+        ensures gates { result.now ≡ self.now.gates }
+        ensures size { length result.now ≡ 2 ^ self.now.index_bits }
+        ensures places { length self.now.fallbacks ≡ 2 ^ self.now.index_bits }
+        ensures new_run { AreOfNewRun self.now.run self.now.gates }
+    {
+        self.gates.as_slice()
+    }
+
+    /// The fallback of a partition, where it is diverted. The index is below the ring's size.
+    #[inline(always)]
+    pub fn fallback(&self, index: usize) -> Option<&Fallback>
+        requires { index < 2 ^ self.now.index_bits }
+        ensures stands { slice_get self.now.fallbacks index ≡ Some (option_map (λ f. f.now) result) }
+        ensures new { IfSome result (λ f. IsFallback self.now.run index f.now) }
+    {
+        match &self.fallbacks[index] {
+            None => None,
+            Some(fallback) => Some(fallback),
+        }
+    }
+}

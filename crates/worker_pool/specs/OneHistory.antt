@@ -1,0 +1,88 @@
+-- One history of each vnode of a run, of which every session has seen a beginning.
+use Rattle.std.specs.Prelude.{◌≡◌, ℕ, List, [], ◌∷◌, Some, IfSome, map, slice_get}
+use mathlib.Core.List.{IsPrefix}
+use Rattle.job_pool.specs.Lists.{Every, Pairwise}
+use Rattle.rw_gate.specs.Views.{GateId}
+use Rattle.vnode_core.specs.declared.vnode.tally.Tally.{Tally}
+use Rattle.vnode_protocol.specs.declared.event.Event.{Event}
+use Rattle.vnode_protocol.specs.Plans.{View}
+use Rattle.riak_msgs.specs.declared.Request.{Request}
+use Rattle.riak_msgs.specs.declared.Request.TheVariants as requests
+use Rattle.riak_msgs.specs.declared.Reply.{Reply}
+use Rattle.node_session.specs.PlainNodes.{partition_of}
+use Rattle.gate_node.specs.Asked.{Sight}
+use Rattle.gate_node.specs.Gates.{Gates}
+use Rattle.gate_node.specs.GateStep.{Node, GateStep}
+use Rattle.worker_pool.specs.declared.job.End.{End}
+use Rattle.worker_pool.specs.declared.server.Served.{Served}
+use Rattle.worker_pool.specs.Serving.{ArePassesOf}
+use Rattle.worker_pool.specs.Tallies.{History, IsTally}
+
+-- a pass of this history's gate, and what it has seen is a beginning of the history
+pub record IsSeen (history : History) (pass : Sight) : Type 0 where
+  pub of_gate : pass.gate ≡ history.gate
+  pub begins : IsPrefix pass.prefix history.events
+
+-- a step of a node over gates, after which each of its passes has seen a beginning of the history in its place
+abbrev pub StepIn : List History → Node → Request → Reply → Node → Type 0
+StepIn histories old request reply new = GateStep old request reply new × Pairwise IsSeen histories new.passes
+
+-- at this vnode a request was answered from all that a pass had then seen, with the event that the request made: these events are a
+-- beginning of the vnode's history, and so their end is a position of it
+pub record IsAnsweredIn (histories : List History) (index : ℕ) (before answered : Sight) : Type 0 where
+  pub history : History
+  pub stands : slice_get histories index ≡ Some history
+  pub of_gate : before.gate ≡ history.gate
+  pub position : IsPrefix answered.prefix history.events
+
+-- so is each request that a step in these histories answers, at the vnode that its key lies in
+abbrev pub AnswersIn : (histories : List History) (old : Node) (request : Request) (reply : Reply) (new : Node) → StepIn histories old request reply new → Type 0
+AnswersIn histories old requests.Ping reply new step = Unit {0}
+AnswersIn histories old (requests.Get get) reply new step = IsAnsweredIn histories (partition_of old.shared.index_bits get.key) step.0.before step.0.steps.answered
+AnswersIn histories old (requests.Put put) reply new step = IsAnsweredIn histories (partition_of old.shared.index_bits put.key) step.0.before step.0.steps.answered
+AnswersIn histories old (requests.Del del) reply new step = IsAnsweredIn histories (partition_of old.shared.index_bits del.key) step.0.before step.0.steps.answered
+
+-- these are histories of the vnodes behind these gates
+abbrev pub AreOfGates : List (GateId View) → List History → Type 0
+AreOfGates gates histories = map (λ (history : History). history.gate) histories ≡ gates
+
+-- the pass at this index, where there is one, is of this gate
+abbrev pub IsOfGate : ℕ → GateId View → List Sight → Type 0
+IsOfGate index gate passes = IfSome (slice_get passes index) (λ (pass : Sight). pass.gate ≡ gate)
+
+-- what the pass at this index, where there is one, has seen is a beginning of these events
+abbrev pub HasSeen : ℕ → List Event → List Sight → Type 0
+HasSeen index events passes = IfSome (slice_get passes index) (λ (pass : Sight). IsPrefix pass.prefix events)
+
+-- so it is with each of these histories and the pass in its place, where there is one
+abbrev pub HaveSeen : List History → List Sight → Type 0
+HaveSeen [] passes = Unit {0}
+HaveSeen (history ∷ histories) [] = Unit {0}
+HaveSeen (history ∷ histories) (pass ∷ passes) = IsPrefix pass.prefix history.events × HaveSeen histories passes
+
+module _ {I O : Type 0} where
+  -- the passes of each of these ends are of the gates of this run
+  abbrev pub AreOfRun : Gates → List (End I O) → Type 0
+  AreOfRun shared ends = Every (λ (end : End I O). ArePassesOf shared end.passes) ends
+
+  abbrev pub WereOfRun : Gates → List (Served I O) → Type 0
+  WereOfRun shared all = Every (λ (served : Served I O). ArePassesOf shared served.end.passes) all
+
+  abbrev pub AreOfGate : ℕ → GateId View → List (End I O) → Type 0
+  AreOfGate index gate ends = Every (λ (end : End I O). IsOfGate index gate end.passes) ends
+
+  abbrev pub AllHaveSeen : ℕ → List Event → List (End I O) → Type 0
+  AllHaveSeen index events ends = Every (λ (end : End I O). HasSeen index events end.passes) ends
+
+  -- the tally is of one history of the vnode behind this gate, and what each of these ends' passes of it has seen is a beginning of that
+  pub record SharesHistory (index : ℕ) (gate : GateId View) (ends : List (End I O)) (tally : Tally) : Type 0 where
+    pub events : List Event
+    pub tallied : IsTally (record { gate = gate; events = events }) tally
+    pub seen : AllHaveSeen index events ends
+
+  -- and so for each of these gates
+  pub record ShareHistories (gates : List (GateId View)) (ends : List (End I O)) (tallies : List Tally) : Type 0 where
+    pub histories : List History
+    pub of_gates : AreOfGates gates histories
+    pub tallied : Pairwise IsTally histories tallies
+    pub seen : Every (λ (end : End I O). HaveSeen histories end.passes) ends
