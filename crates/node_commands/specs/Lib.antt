@@ -1,3 +1,4 @@
 -- The definitions of this crate.
 pub mod Sources
 pub mod Runs
+pub mod Lines

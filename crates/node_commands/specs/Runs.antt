@@ -1,5 +1,5 @@
 -- What a run of connections leaves.
-use Rattle.std.specs.Prelude.{◌≡◌, ◌^◌, ℕ, List, None, length, codes, decimal, ◌++◌}
+use Rattle.std.specs.Prelude.{◌≡◌, ◌^◌, ℕ, List, None, length}
 use Rattle.job_pool.specs.Lists.{Every}
 use Rattle.gate_node.specs.Gates.{Gates, AreMadeNew}
 use Rattle.worker_pool.specs.declared.closed.Closed.{Closed}
@@ -7,10 +7,6 @@ use Rattle.worker_pool.specs.declared.job.Job.{Job}
 use Rattle.worker_pool.specs.Run.{ServesAll}
 use Rattle.node_commands.specs.Sources.{IsNew}
 use Rattle.node_commands.specs.declared.serving.Settings.{Settings}
-
--- the line of the address
-abbrev pub address_line : ℕ → List ℕ
-address_line port = codes "listening 127.0.0.1:" ++ decimal port ++ codes "\n"
 
 -- the gates of a new run with these settings
 pub record AreOfRun (settings : Settings) (gates : Gates) : Type 0 where

@@ -27,6 +27,7 @@ mod accept;
 mod connections;
 mod fault;
 mod halves;
+mod lines;
 mod serving;
 mod streams;
 

@@ -1,14 +1,15 @@
 //! Many connections by many threads.
 ghost use Rattle.std.specs.Prelude.{◌≤◌, IfOk, IfSome, OnOk};
 ghost use Rattle.std.specs.Io.KnownBytes.{Appends};
-ghost use Rattle.node_commands.specs.Runs.{AreOfRun, AreServed, IsServed, address_line};
+ghost use Rattle.node_commands.specs.Runs.{AreOfRun, AreServed, IsServed};
+ghost use Rattle.node_commands.specs.Lines.{totals_line};
 
 use crate::connections::Connections;
 use crate::fault::ServeFault;
 use crate::halves::{ReplyHalf, RequestHalf};
+use crate::lines::{write_address, write_totals};
 use log::{Log, info, warn};
 use ring_map::Ring;
-use stats_book::Totals;
 use std::alloc::Global;
 use std::io;
 use std::io::Write;
@@ -37,29 +38,6 @@ pub struct Settings {
     pub run: u32,
     /// How many dead keys are forgotten after an answer, at most.
     pub sweep: u32,
-}
-
-/// Writes where the listener listens, in a line.
-fn write_address<W: Write>(writer: &mut W, port: u16) -> io::Result<()>
-    ensures { OnOk result
-        (Appends (W.contents writer.old) (W.contents writer.new) (address_line port)) }
-{
-    writeln!(writer, "listening 127.0.0.1:{port}")
-}
-
-/// Writes the totals, in a line.
-fn write_totals<W: Write>(writer: &mut W, totals: Totals) -> io::Result<()> {
-    let Totals {
-        gets,
-        puts,
-        deletes,
-        refusals,
-        reaps,
-    } = totals;
-    writeln!(
-        writer,
-        "gets {gets} puts {puts} deletes {deletes} refusals {refusals} reaps {reaps}"
-    )
 }
 
 /// Logs how each connection ended.
@@ -135,7 +113,10 @@ fn announce<L: OpenListener, W: Write>(listener: &L, writer: &mut W) {
 }
 
 /// Logs the ends, and writes and flushes the totals.
-fn report<T: Log, W: Write>(rt: &T, served: &Served, writer: &mut W) -> io::Result<()> {
+fn report<T: Log, W: Write>(rt: &T, served: &Served, writer: &mut W) -> io::Result<()>
+    ensures { OnOk result
+        (Appends (W.contents writer.old) (W.contents writer.new) (totals_line served.now.totals)) }
+{
     log_ends(rt, served.ends.as_slice());
     let written = write_totals(writer, served.totals);
     writer.flush()?;

@@ -1,0 +1,50 @@
+//! The two lines that a run of connections writes.
+ghost use Rattle.std.specs.Prelude.{OnOk};
+ghost use Rattle.std.specs.Io.KnownBytes.{Appends};
+ghost use Rattle.node_commands.specs.Lines.{address_line, commands_text, others_text, totals_line};
+
+use stats_book::Totals;
+use std::io;
+use std::io::Write;
+
+/// Writes where the listener listens, in a line.
+pub(crate) fn write_address<W: Write>(writer: &mut W, port: u16) -> io::Result<()>
+    ensures { OnOk result
+        (Appends (W.contents writer.old) (W.contents writer.new) (address_line port)) }
+{
+    writeln!(writer, "listening 127.0.0.1:{port}")
+}
+
+/// Writes how many gets, puts and deletes were counted.
+fn write_commands<W: Write>(writer: &mut W, totals: Totals) -> io::Result<()>
+    ensures { OnOk result
+        (Appends (W.contents writer.old) (W.contents writer.new) (commands_text totals)) }
+{
+    let Totals {
+        gets,
+        puts,
+        deletes,
+        ..
+    } = totals;
+    write!(writer, "gets {gets} puts {puts} deletes {deletes}")
+}
+
+/// Writes how many refusals and reaps were counted, to the line's end.
+fn write_others<W: Write>(writer: &mut W, totals: Totals) -> io::Result<()>
+    ensures { OnOk result
+        (Appends (W.contents writer.old) (W.contents writer.new) (others_text totals)) }
+{
+    let Totals {
+        refusals, reaps, ..
+    } = totals;
+    writeln!(writer, " refusals {refusals} reaps {reaps}")
+}
+
+/// Writes the totals, in a line.
+pub(crate) fn write_totals<W: Write>(writer: &mut W, totals: Totals) -> io::Result<()>
+    ensures { OnOk result
+        (Appends (W.contents writer.old) (W.contents writer.new) (totals_line totals)) }
+{
+    write_commands(writer, totals)?;
+    write_others(writer, totals)
+}
