@@ -1,8 +1,7 @@
-pub mod Known
-pub mod Replying
-pub mod Composing
-pub mod Pieces
-pub mod Reading
+pub mod Frames
+pub mod Telling
+pub mod SentParts
+pub mod Standing
 pub mod Simulating
 pub mod Histories
 pub mod Sweeping

@@ -2,7 +2,11 @@ pub mod Limits
 pub mod Answers
 pub mod Answered
 pub mod Session
-pub mod Steps
+pub mod Views
+pub mod Unsent
+pub mod Taking
+pub mod Nexts
+pub mod Sending
 pub mod Report
 pub mod PlainStep
 pub mod PlainNodes

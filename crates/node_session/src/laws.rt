@@ -4,7 +4,7 @@ ghost use Rattle.std.specs.Prelude.{ℕ, ◌≡◌};
 ghost use Rattle.node_session.specs.Limits.{max_read_len};
 ghost use Rattle.node_session.specs.SessionLaws.{IsRun, RunsAreRegisters, EndsAreRegisters, StopsAreRegisters};
 
-use crate::session::MAX_READ_LEN;
+use crate::serving::MAX_READ_LEN;
 
 /// A plain node is the sibling register, message by message and byte by byte.
 ///

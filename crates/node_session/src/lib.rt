@@ -14,7 +14,10 @@
 //! of these replies are written. A length that no frame has is answered by one error, and ends the session. Each other
 //! end has its clause too: how many whole replies went out before it, and the state of the node (`specs/Session`).
 //!
-//! A session reads up to 4,096 bytes at a time, and answers each whole frame that has come before it reads on. Where it
+//! [`Session`] is one in steps, for a caller that has streams which don't wait: what was read is fed to it, each answer is lent the node, and
+//! what is to be sent is looked at and told as sent. [`serve`] is a loop over it that sends each reply before it answers on.
+//!
+//! `serve` reads up to 4,096 bytes at a time, and answers each whole frame that has come before it reads on. Where it
 //! stops among its answers, no frame is left unanswered but those that its last 4,096 bytes at most made whole. It never
 //! holds the whole input: only the frame that is still to come whole, what was read along with it, and one reply. Errors
 //! take no memory. It asks the writer to flush before each read, so a writer may gather the replies and pay one write
@@ -28,20 +31,26 @@
 mod answering;
 mod ended;
 mod error_frame;
+mod exchange;
 mod fault;
 mod laws;
 mod node;
+mod outbox;
 mod plain_node;
+mod reply;
 mod report;
 mod sending;
+mod serving;
 mod session;
 mod vnode_reply;
 
 pub use ended::Ended;
+pub use exchange::Exchange;
 pub use fault::SessionFault;
 pub use laws::{plain_node_is_register, read_limit};
 pub use node::Node;
 pub use plain_node::{NodeFault, PlainNode};
 pub use report::{exit_status, write_fault};
-pub use session::{MAX_READ_LEN, serve};
+pub use serving::{MAX_READ_LEN, serve};
+pub use session::{Halt, Next, Session};
 pub use vnode_reply::answer_reply;

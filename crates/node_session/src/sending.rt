@@ -3,8 +3,9 @@
 ghost use Rattle.std.specs.Prelude.{◌≡◌, ◌<◌, ◌≤◌, length, take, IfOk, IfErr, OnErr};
 ghost use Rattle.std.specs.Io.KnownBytes.{Appends, Keeps};
 ghost use Rattle.node_session.specs.declared.sending.Stop.TheVariants.{WriteFailed};
-ghost use Rattle.node_session.specs.Steps.{Sends};
+ghost use Rattle.node_session.specs.Sending.{SendsAll};
 
+use crate::session::Session;
 use std::io::{ErrorKind, Write};
 
 /// Why a session stops while it answers.
@@ -43,13 +44,13 @@ fn write_some<W: Write>(writer: &mut W, bytes: &[u8]) -> Result<usize, Stop>
     Err(Stop::WriteFailed)
 }
 
-/// Writes all of the bytes, or fails with a beginning of them written.
-pub(crate) fn send<W: Write>(writer: &mut W, bytes: &[u8]) -> Result<(), Stop>
-    ensures { Sends (W.contents writer.old) (W.contents writer.new) bytes.now result }
+/// Writes all that a session has to send, or fails with a beginning of it written.
+pub(crate) fn send_all<W: Write>(writer: &mut W, session: &mut Session) -> Result<(), Stop>
+    ensures { SendsAll (W.contents writer.old) (W.contents writer.new) session.old session.new result }
 {
-    let mut sent = 0;
-    while sent < bytes.len() {
-        sent += write_some(writer, &bytes[sent..])?;
+    while !session.pending().is_empty() {
+        let n = write_some(writer, session.pending())?;
+        session.sent(n);
     }
     Ok(())
 }

@@ -1,128 +1,182 @@
-//! A session from its first read to its end.
+//! A session in steps: bytes come in, messages are answered, bytes go out.
 
-ghost use Rattle.std.specs.Prelude.{◌≡◌, ◌≤◌, ◌^◌, [], None, IfOk, IfErr};
+ghost use Rattle.std.specs.Prelude.{◌≡◌, ◌≤◌, ◌<◌, ◌++◌, [], List, ℕ, drop, length, None, OnOk, OnErr};
 ghost use Rattle.pb_frame.specs.Limits.{max_request_len};
-ghost use Rattle.std.specs.Io.KnownBytes.{IsAtEnd, Keeps};
-ghost use Rattle.node_session.specs.Answered.{Answered};
-ghost use Rattle.node_session.specs.Session.{Given, IsEnd, IsTooManyReads, MadeReads, Stops, fault_for};
+ghost use Rattle.node_session.specs.Limits.{max_read_len};
+ghost use Rattle.pb_frame.specs.Message.{IsPartial};
+ghost use Rattle.node_session.specs.Views.{new_session, IsRead};
+ghost use Rattle.node_session.specs.Nexts.{AnswersNext};
+ghost use Rattle.node_session.specs.Unsent.{IsFront};
 
-use crate::answering::answer_piece;
-use crate::ended::Ended;
-use crate::fault::SessionFault;
+use crate::answering::answer_next;
+use crate::exchange::Exchange;
 use crate::node::Node;
-use crate::sending::{Stop, flush};
+use crate::outbox::Outbox;
+use crate::reply::frame_fault_text;
+use ghost_state::{GhostList, Listing};
 use pb_frame::{Framer, MAX_REQUEST_LEN};
-use std::alloc::Global;
-use std::io::{ErrorKind, Read, Write};
+use std::alloc::{AllocError, Global};
+use std::marker::Model;
 
-/// How many bytes are read at a time, at most.
-pub const MAX_READ_LEN: usize = 4096;
-
-/// The fault for a stop. What was written before a bad length or a refusal of memory is flushed, where that can be done.
-fn fault_of<W: Write>(writer: &mut W, stop: Stop, replies: u64) -> SessionFault
-    ensures fault { result ≡ fault_for stop replies }
-    ensures nothing { Keeps (W.contents writer.old) (W.contents writer.new) }
-{
-    match stop {
-        Stop::WriteFailed => SessionFault::WriteFailed(replies),
-        Stop::BadFrame => {
-            let _ = flush(writer);
-            SessionFault::BadFrame(replies)
-        }
-        Stop::NoMemory => {
-            let _ = flush(writer);
-            SessionFault::NoMemory(replies)
-        }
-    }
+/// What a session did about its next message.
+#[derive(Clone, Copy, Drop)]
+pub enum Next {
+    /// It was answered, and its reply is to be sent behind all others.
+    Answered,
+    /// None has come whole: the session waits for a further piece.
+    Idle,
+    /// So much waits to be sent that none is answered before some of it was.
+    Full,
 }
 
-/// Serves one connection: reads requests from `reader` to the end of the input, at most `reads` times, answers each of
-/// them in order by `node`, and writes the replies to `writer`.
+/// Why a session ends among its answers. What it has to send is still to be sent.
+#[derive(Clone, Copy, Drop)]
+pub enum Halt {
+    /// A bad length stood next. Its error is to be sent behind the replies.
+    BadFrame,
+    /// Memory was refused for a reply, which is lost. The node has taken its step.
+    NoMemory,
+}
+
+/// One connection's session, which knows neither its reader nor its writer nor its node: pieces that were read are fed to it, a node is lent
+/// to each answer, and what is to be sent is looked at and told as sent. So it serves streams that wait and streams that don't.
 ///
-/// A read takes up to [`MAX_READ_LEN`] bytes, and each whole request that has come is answered before the next read. A request's
-/// frame has a length of at most [`MAX_REQUEST_LEN`]. A message that is no request is answered by its error, and the
-/// session goes on. A read, write or flush that is interrupted is tried again; such a read counts as one. The writer is
-/// flushed before each read, so that at the end all is flushed, and, as far as that can be done, after a fault.
-pub fn serve<R: Read, W: Write, N: Node>(
-    alloc: Global,
-    reader: &mut R,
-    writer: &mut W,
-    node: &mut N,
-    reads: u64,
-) -> Result<Ended, SessionFault>
-    requires { reads ≤ 2 ^ 32 }
-
-    // What was written is the output for what was read, and all of it was read.
-    ensures ended { IfOk result (λ e.
-        Given (R.remaining reader.old) (R.remaining reader.new) reads (λ input.
-        Answered N.step node.old input (W.contents writer.old) (W.contents writer.new)
-        e.replies (IsEnd node.new e.rest))) }
-    ensures all { IfOk result (λ _. IsAtEnd (R.remaining reader.new)) }
-
-    // What was written is the output for what was read, as far as the fault lets it come.
-    ensures stopped { IfErr result (λ fault.
-        Given (R.remaining reader.old) (R.remaining reader.new) reads (λ input.
-        Stops N.step node.old node.new input
-        (W.contents writer.old) (W.contents writer.new) fault)) }
-
-    // Too many reads are a fault only after all were made: where none was interrupted, as many bytes came at least.
-    ensures too_many { IfErr result (λ fault. IsTooManyReads fault
-        → MadeReads (R.remaining reader.old) (R.remaining reader.new) reads) }
-{
-    let mut framer = Framer::new(alloc, MAX_REQUEST_LEN);
-    serve_from(alloc, &mut framer, reader, writer, node, reads)
+/// It holds the message that is still to come whole, what was read along with it, and the frames of the replies that weren't sent yet:
+/// where 65,536 bytes of these wait, or an error for which there was no memory, no further message is answered. Contracts see all that was
+/// read and each message with its reply too, of which nothing is held.
+#[derive(Drop)]
+pub struct Session {
+    framer: Framer,
+    outbox: Outbox,
+    input: GhostList<u8>,
+    exchanges: GhostList<Exchange>,
 }
 
-/// Serves as [`serve`] does, by a framer to which nothing was fed.
-fn serve_from<R: Read, W: Write, N: Node>(
-    alloc: Global,
-    framer: &mut Framer,
-    reader: &mut R,
-    writer: &mut W,
-    node: &mut N,
-    reads: u64,
-) -> Result<Ended, SessionFault>
-    requires reads { reads ≤ 2 ^ 32 }
-    requires new { framer.old ≡ record { limit = max_request_len; rest = []; fault = None } }
-    ensures ended { IfOk result (λ e.
-        Given (R.remaining reader.old) (R.remaining reader.new) reads (λ input.
-        Answered N.step node.old input (W.contents writer.old) (W.contents writer.new)
-        e.replies (IsEnd node.new e.rest))) }
-    ensures all { IfOk result (λ _. IsAtEnd (R.remaining reader.new)) }
-    ensures stopped { IfErr result (λ fault.
-        Given (R.remaining reader.old) (R.remaining reader.new) reads (λ input.
-        Stops N.step node.old node.new input
-        (W.contents writer.old) (W.contents writer.new) fault)) }
-    ensures too_many { IfErr result (λ fault. IsTooManyReads fault
-        → MadeReads (R.remaining reader.old) (R.remaining reader.new) reads) }
-{
-    let mut piece = [0u8; MAX_READ_LEN];
-    let mut replies = 0;
-    for _ in 0..reads {
-        if flush(writer).is_err() {
-            return Err(SessionFault::WriteFailed(replies));
+impl Model for Session {
+    ghost use Rattle.std.specs.Prelude.{◌≡◌};
+    ghost use Rattle.node_session.specs.Unsent.{whole};
+    ghost use Rattle.pb_frame.specs.Limits.{max_request_len};
+    ghost use Rattle.node_session.specs.Limits.{max_read_len};
+    ghost use Rattle.node_session.specs.Views.{SessionView, IsRead};
+
+    ghost Value = { SessionView };
+
+    ghost view = { λ s. record {
+      input = s.input;
+      exchanges = s.exchanges;
+      rest = s.framer.rest;
+      fault = s.framer.fault;
+      unsent = whole s.outbox;
+    } };
+
+    ghost invariant = { λ s. (s.framer.limit ≡ max_request_len)
+        × IsRead s.input s.exchanges s.framer.rest };
+}
+
+/// A list with a piece behind it.
+struct Fed;
+
+impl<'a> Listing<(&'a GhostList<u8>, &'a [u8]), u8> for Fed {
+    ghost use Rattle.std.specs.Prelude.{◌++◌};
+
+    ghost list = { λ pair. pair.0.now ++ pair.1.now };
+}
+
+/// What a framer has left.
+struct Left;
+
+impl Listing<Framer, u8> for Left {
+    ghost list = { λ f. f.rest };
+}
+
+impl Session {
+    /// A session that has read nothing. It takes no memory.
+    pub fn new(alloc: Global) -> Session
+        ensures { result ≡ new_session }
+    {
+        Session {
+            framer: Framer::new(alloc, MAX_REQUEST_LEN),
+            outbox: Outbox::new(alloc),
+            input: GhostList::new(),
+            exchanges: GhostList::new(),
         }
-        match reader.read(&mut piece) {
-            Ok(0) => {
-                return Ok(Ended {
-                    replies,
-                    rest: framer.rest(),
-                });
-            }
-            Ok(n) => {
-                let (more, answered) = answer_piece(alloc, framer, &piece[..n], writer, node);
-                replies += more;
-                if let Err(stop) = answered {
-                    return Err(fault_of(writer, stop, replies));
+    }
+
+    /// How many bytes were read that are in no message that was answered.
+    pub fn rest(&self) -> usize
+        ensures { result ≡ length self.now.rest }
+    {
+        self.framer.rest()
+    }
+
+    /// A law that has nothing to run: what was read is the frames of the messages that were answered, and what is left.
+    pub fn is_read(&self)
+        ensures { IsRead self.now.input self.now.exchanges self.now.rest }
+    {
+        let _ = &self.framer;
+    }
+
+    /// Takes a piece that was read, of at most 4,096 bytes, behind all others. Each whole message was answered before. Where memory is
+    /// refused nothing changes.
+    pub fn feed(&mut self, piece: &[u8]) -> Result<(), AllocError>
+        requires no_fault { self.old.fault ≡ None }
+        requires idle { IsPartial max_request_len self.old.rest }
+        requires bound { length piece.now ≤ max_read_len }
+        ensures ok { OnOk result (self.new ≡ record self.old {
+          input = self.old.input ++ piece.now;
+          rest = self.old.rest ++ piece.now;
+        }) }
+        ensures err { OnErr result (self.new ≡ self.old) }
+    {
+        if self.framer.feed(piece).is_err() {
+            return Err(AllocError);
+        }
+        let longer = GhostList::listed::<(&GhostList<u8>, &[u8]), Fed>(&(&self.input, piece));
+        self.input = longer;
+        Ok(())
+    }
+
+    /// What is to be sent first: not all of it where an error waits for which there was no memory. There is none only where nothing is to be
+    /// sent.
+    pub fn pending(&self) -> &[u8]
+        ensures { IsFront result.now self.now.unsent }
+    {
+        self.outbox.next()
+    }
+
+    /// So many bytes of what is to be sent were sent.
+    pub fn sent(&mut self, n: usize)
+        requires { n ≤ length self.old.unsent }
+        ensures { self.new ≡ record self.old { unsent = drop n self.old.unsent } }
+    {
+        self.outbox.sent(n);
+    }
+
+    /// Answers the next message that has come whole, by a step of the node or, where it is no request, by its error, which takes no memory.
+    /// After a halt there is nothing more to feed or answer.
+    pub fn answer_next<N: Node>(&mut self, alloc: Global, node: &mut N) -> Result<Next, Halt>
+        requires { self.old.fault ≡ None }
+        ensures { AnswersNext N.step node.old node.new self.old self.new result }
+    {
+        if self.outbox.is_full() {
+            return Ok(Next::Full);
+        }
+        match answer_next(alloc, &mut self.framer, &mut self.exchanges, node) {
+            Ok(Some(reply)) => match self.outbox.put(alloc, &reply) {
+                Ok(()) => Ok(Next::Answered),
+                Err(_) => {
+                    // What is left is all that it was given.
+                    let left = GhostList::listed::<Framer, Left>(&self.framer);
+                    self.input = left;
+                    self.exchanges = GhostList::new();
+                    Err(Halt::NoMemory)
                 }
-            }
-            Err(error) => {
-                if error.kind() != ErrorKind::Interrupted {
-                    return Err(SessionFault::ReadFailed(replies));
-                }
+            },
+            Ok(None) => Ok(Next::Idle),
+            Err(fault) => {
+                self.outbox.put_error(frame_fault_text(fault));
+                Err(Halt::BadFrame)
             }
         }
     }
-    let _ = flush(writer);
-    Err(SessionFault::TooManyReads(replies))
 }

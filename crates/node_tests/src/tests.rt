@@ -15,5 +15,6 @@ mod options;
 mod reports;
 mod scripts;
 mod sessions;
+mod steps;
 mod stops;
 mod streams;

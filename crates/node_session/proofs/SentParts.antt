@@ -1,0 +1,75 @@
+-- A part of what is to be sent was sent.
+use Rattle.std.proofs.Common.{◌≡◌, ◌==◌, false, ℕ, ◌+◌, ◌<◌, ◌≤◌, List, [], ◌∷◌, ◌++◌, length, take, drop, Option, refl, sym, ap, subst, ◌∙◌, append_assoc, append-nil, length-append, arith}
+use Rattle.std.specs.Io.KnownBytes.{Appends, Keeps}
+use Rattle.std.proofs.KnownBytes.{Appends-trans, Appends-nil, Appends-kept}
+use Rattle.std.proofs.lemmas.List.{take-append-le, take-append-drop, length-drop}
+use Rattle.std.proofs.lemmas.Bool.{false≢true}
+use Rattle.std.proofs.Math.Seq.{take-append_seam}
+use Rattle.node_session.specs.Sending.{IsCutShort}
+use Rattle.node_session.specs.Unsent.{IsFront}
+use Rattle.node_session.specs.Views.{SessionView}
+
+pub record SentPart (held held' : Option (List ℕ)) (old new : SessionView) : Type 0 where
+  pub done : List ℕ
+  pub splits : old.unsent ≡ done ++ new.unsent
+  pub written : Appends held held' done
+  pub same : new ≡ record old { unsent = new.unsent }
+
+pub sent_none : (held : Option (List ℕ)) (s : SessionView) → SentPart held held s s
+sent_none held s = record { done = []; splits = refl; written = Appends-nil held; same = refl }
+
+-- the first bytes of the front are the first bytes of all
+pub front_take : (front bytes : List ℕ) (n : ℕ) → IsFront front bytes → n ≤ length front → take n front ≡ take n bytes
+front_take front bytes n is le = sym (take-append-le n front is.more le) ∙ ap (take n) (sym is.splits)
+
+pub sent_more : (a b c : Option (List ℕ)) (old mid new : SessionView) (front : List ℕ) (n : ℕ) → SentPart a b old mid → IsFront front mid.unsent → n ≤ length front → Appends b c (take n front)
+    → new ≡ record mid { unsent = drop n mid.unsent } → SentPart a c old new
+sent_more a b c old mid new front n p is le wrote e =
+    let to : new.unsent ≡ drop n mid.unsent = ap (λ (s : SessionView). s.unsent) e in
+    let some = take n mid.unsent in
+    record {
+      done = p.done ++ some;
+      splits = p.splits ∙ ap (λ (t : List ℕ). p.done ++ t) (sym (take-append-drop n mid.unsent)) ∙ sym (append_assoc p.done some (drop n mid.unsent)) ∙ ap (λ (t : List ℕ). (p.done ++ some) ++ t) (sym to);
+      written = Appends-trans a b c p.done some p.written (subst (Appends b c) (front_take front mid.unsent n is le) wrote);
+      same = e ∙ ap (λ (s : SessionView). record s { unsent = drop n mid.unsent }) p.same ∙ ap (λ (t : List ℕ). record old { unsent = t }) (sym to);
+    }
+
+pub sent_less : (mid new : SessionView) (front : List ℕ) (n : ℕ) → IsFront front mid.unsent → 0 < n → n ≤ length front → new ≡ record mid { unsent = drop n mid.unsent } → length new.unsent < length mid.unsent
+sent_less mid new front n is some le e =
+    let to : length new.unsent ≡ length (drop n mid.unsent) = ap (λ (s : SessionView). length s.unsent) e in
+    let len : length mid.unsent ≡ length front + length is.more = ap length is.splits ∙ length-append front is.more in
+    let cut = length-drop n mid.unsent in
+    omega (arith, to, len, cut, some, le)
+
+-- nothing is left
+pub all_sent : (a b : Option (List ℕ)) (old new : SessionView) (front : List ℕ) → SentPart a b old new → IsFront front new.unsent → length front ≡ 0
+    → Appends a b old.unsent × (new ≡ record old { unsent = [] })
+all_sent a b old new front p is none =
+    let empty : new.unsent ≡ [] = is.some (nothing front none) in (
+      subst (Appends a b) (sym (append-nil p.done) ∙ ap (λ (t : List ℕ). p.done ++ t) (sym empty) ∙ sym p.splits) p.written,
+      p.same ∙ ap (λ (t : List ℕ). record old { unsent = t }) empty,
+    )
+  where
+    nothing : (xs : List ℕ) → length xs ≡ 0 → xs ≡ []
+    nothing [] e = refl
+    nothing (x ∷ xs) e = absurd (omega (arith, e))
+
+-- some is left
+pub sent_short : (a b c : Option (List ℕ)) (old new : SessionView) → SentPart a b old new → 0 < length new.unsent → Keeps b c → IsCutShort a c old.unsent
+sent_short a b c old new p some kept =
+    let all : length old.unsent ≡ length p.done + length new.unsent = ap length p.splits ∙ length-append p.done new.unsent in
+    record {
+      len = length p.done;
+      short = omega (arith, all, some);
+      written = Appends-kept a b c _ (subst (Appends a b) (sym (ap (take (length p.done)) p.splits ∙ take-append_seam p.done new.unsent)) p.written) kept;
+    }
+
+-- there is a byte in what has a front with a byte
+pub some_unsent : (front bytes : List ℕ) → IsFront front bytes → 0 < length front → 0 < length bytes
+some_unsent front bytes is some =
+    let len : length bytes ≡ length front + length is.more = ap length is.splits ∙ length-append front is.more in
+    omega (arith, len, some)
+
+pub not_empty : (xs : List ℕ) → (length xs == 0) ≡ false → 0 < length xs
+not_empty [] e = absurd (false≢true (sym e))
+not_empty (x ∷ xs) e = omega arith

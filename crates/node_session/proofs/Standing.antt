@@ -1,0 +1,283 @@
+-- How far a session has come, and how it ends.
+use Rattle.std.proofs.Common.{◌≡◌, ℕ, ◌+◌, ◌<◌, ◌≤◌, List, [], ◌∷◌, ◌++◌, length, take, Option, Result, Ok, Err, is_ok, refl, sym, ap, subst, ◌∙◌, append_assoc, append-nil, length-append, inl, inr, arith}
+use Rattle.std.specs.List.{flat_map}
+use Rattle.std.specs.Io.KnownBytes.{Appends, Consumes, Keeps}
+use Rattle.std.proofs.KnownBytes.{Appends-trans, Appends-nil, Appends-kept, Consumes-trans, Consumes-kept, Consumes-nil}
+use Rattle.std.proofs.lemmas.List.{map-append, length-map}
+use Rattle.std.proofs.lemmas.List.Concat.{flat_map-append}
+use Rattle.pb_frame.specs.declared.fault.FrameFault.{FrameFault}
+use Rattle.pb_frame.specs.declared.fault.FrameFault.TheVariants as frames
+use Rattle.pb_frame.specs.Limits.{max_request_len}
+use Rattle.pb_frame.specs.Message.{Message, frame, IsPartial, IsFaulty}
+use Rattle.riak_msgs.specs.declared.request.Request.{Request}
+use Rattle.riak_msgs.specs.declared.reply.Reply.{Reply}
+use Rattle.riak_msgs.specs.declared.reply.Reply.TheVariants.{Error}
+use Rattle.node_session.specs.declared.sending.Stop.{Stop}
+use Rattle.node_session.specs.declared.sending.Stop.TheVariants as stops
+use Rattle.node_session.specs.declared.exchange.Exchange.{Exchange}
+use Rattle.node_session.specs.declared.session.Next.{Next}
+use Rattle.node_session.specs.declared.session.Halt.{Halt}
+use Rattle.node_session.specs.declared.fault.SessionFault.TheVariants.{BadFrame, NoMemory}
+use Rattle.node_session.specs.Answers.{Answers, Run, reply_frame, frame_fault_text}
+use Rattle.node_session.specs.Answered.{AllAnswered, Answered, NextReply, IsError, IsBad, CameInLastRead, AtLastRead, WriteFailedAt, IsOutOfMemory}
+use Rattle.node_session.specs.Session.{IsEnd, MadeReads, Stops, fault_for}
+use Rattle.node_session.specs.declared.fault.SessionFault.{SessionFault}
+use Rattle.node_session.specs.Sending.{AnswersRest, SendsAll, Stands}
+use Rattle.std.specs.Prelude.{OnOk}
+use Rattle.std.proofs.lemmas.Bool.{false≢true}
+use Rattle.node_session.specs.Nexts.{AnswersNext, IsAnswered, IsBadNext, IsLost}
+use Rattle.node_session.specs.Views.{SessionView, EndsInPiece, IsRead, message_of, messages_of, replies_of}
+
+-- a piece with a byte
+some_piece : (piece : List ℕ) → (piece ≡ [] → ⊥) → 0 < length piece
+some_piece [] none = absurd (none refl)
+some_piece (x ∷ xs) none = omega arith
+
+-- what ends a session came with the last piece
+came_in : (rest : List ℕ) → EndsInPiece rest → (IsPartial max_request_len rest → ⊥) → CameInLastRead rest
+came_in rest last not_partial = record {
+  before = last.before;
+  piece = last.piece;
+  splits = last.splits;
+  some = some_piece last.piece (λ e. not_partial (subst (IsPartial max_request_len) (sym (last.splits ∙ ap (λ (t : List ℕ). last.before ++ t) e ∙ append-nil last.before)) last.partial));
+  bound = last.bound;
+  partial = last.partial;
+}
+
+-- a bad length is not partial
+faulty_not : (rest : List ℕ) (fault : FrameFault) → IsFaulty max_request_len rest fault → IsPartial max_request_len rest → ⊥
+faulty_not rest frames.Empty is p = let s = p.short is.length.0 in omega (arith, s.0, is.length.1)
+faulty_not rest frames.TooLarge is p = let s = p.short is.length.0 in omega (arith, s.1, is.length.1)
+faulty_not rest frames.NoMemory is p = absurd is.length
+
+-- a frame has a byte
+pub some_frame : (m : Message) → 0 < length (frame m)
+unfolding frame
+some_frame m = omega arith
+
+-- so many frames are at least so many bytes
+frames_long : (ms : List Message) → length ms ≤ length (flat_map frame ms)
+frames_long [] = omega arith
+frames_long (m ∷ ms) =
+    let ih = frames_long ms in
+    let one = some_frame m in
+    let len : length (flat_map frame (m ∷ ms)) ≡ length (frame m) + length (flat_map frame ms) = length-append (frame m) (flat_map frame ms) in
+    omega (arith, ih, len, one)
+
+pub read_count : (input rest : List ℕ) (es : List Exchange) → IsRead input es rest → length es + length rest ≤ length input
+read_count input rest es p =
+    let long = frames_long (messages_of es) in
+    let same : length (messages_of es) ≡ length es = length-map es message_of in
+    let len : length input ≡ length (flat_map frame (messages_of es)) + length rest = ap length p.stream ∙ length-append (flat_map frame (messages_of es)) rest in
+    omega (arith, long, same, len)
+
+-- what was sent, by how it came out
+pub sent_at : (h h' : Option (List ℕ)) (s t : SessionView) (r : Result (Unit {0}) Stop) (u : Unit {0}) → r ≡ Ok u → SendsAll h h' s t r → Appends h h' s.unsent × (t ≡ record s { unsent = [] })
+sent_at h h' s t r u e p = subst (λ (x : Result (Unit {0}) Stop). SendsAll h h' s t x) e p
+
+pub unsent_at : (h h' : Option (List ℕ)) (s t : SessionView) (r : Result (Unit {0}) Stop) (stop : Stop) → r ≡ Err stop → SendsAll h h' s t r → SendsAll h h' s t (Err stop)
+unsent_at h h' s t r stop e p = subst (λ (x : Result (Unit {0}) Stop). SendsAll h h' s t x) e p
+
+module _ {S : Type 0} (Step : S → Request → Reply → S → Type 0) where
+  -- what became of the next message, by how it came out
+  pub next_at : (b c : S) (s t : SessionView) (r : Result Next Halt) (n n' : Next) → r ≡ Ok n → n ≡ n' → AnswersNext Step b c s t r → AnswersNext Step b c s t (Ok n')
+  next_at b c s t r n n' e d p = subst (λ (x : Next). AnswersNext Step b c s t (Ok x)) d (subst (λ (x : Result Next Halt). AnswersNext Step b c s t x) e p)
+
+  pub halt_at : (b c : S) (s t : SessionView) (r : Result Next Halt) (n n' : Halt) → r ≡ Err n → n ≡ n' → AnswersNext Step b c s t r → AnswersNext Step b c s t (Err n')
+  halt_at b c s t r n n' e d p = subst (λ (x : Halt). AnswersNext Step b c s t (Err x)) d (subst (λ (x : Result Next Halt). AnswersNext Step b c s t x) e p)
+
+  -- one message more
+  run_more : (a b c : S) (ms : List Message) (rs : List Reply) (m : Message) (r : Reply) → Run Step a ms rs b → Answers Step b m r c → Run Step a (ms ++ m ∷ []) (rs ++ r ∷ []) c
+  run_more a b c [] [] m r p q = (c, subst (λ (x : S). Answers Step x m r c) p q, refl)
+  run_more a b c (n ∷ ms) (t ∷ rs) m r p q = (p.0, p.1, run_more p.0 b c ms rs m r p.2 q)
+  run_more a b c [] (t ∷ rs) m r p q = absurd p
+  run_more a b c (n ∷ ms) [] m r p q = absurd p
+
+  pub stands_none : (a : S) (h : Option (List ℕ)) (s : SessionView) → s.exchanges ≡ [] → Stands Step a a h h s
+  stands_none a h s e = record {
+    run = subst (λ (es : List Exchange). Run Step a (messages_of es) (replies_of es) a) (sym e) refl;
+    written = subst (λ (es : List Exchange). Appends h h (flat_map reply_frame (replies_of es))) (sym e) (Appends-nil h);
+  }
+
+  -- the exchanges alone count
+  pub stands_same : (a b : S) (h h' : Option (List ℕ)) (s t : SessionView) → t.exchanges ≡ s.exchanges → Stands Step a b h h' s → Stands Step a b h h' t
+  stands_same a b h h' s t e p = record {
+    run = subst (λ (es : List Exchange). Run Step a (messages_of es) (replies_of es) b) (sym e) p.run;
+    written = subst (λ (es : List Exchange). Appends h h' (flat_map reply_frame (replies_of es))) (sym e) p.written;
+  }
+
+  -- one exchange more, whose reply was written
+  pub stands_more : (a b c : S) (h h' h'' : Option (List ℕ)) (s t u : SessionView) → s.unsent ≡ [] → IsAnswered Step b c s t → Appends h' h'' t.unsent → u ≡ record t { unsent = [] }
+      → Stands Step a b h h' s → Stands Step a c h h'' u
+  stands_more a b c h h' h'' s t u none one wrote e p =
+      let es = s.exchanges in
+      let x = one.exchange in
+      let r = x.reply in
+      let sent : t.unsent ≡ reply_frame r = one.unsent ∙ ap (λ (l : List ℕ). l ++ reply_frame r) none in
+      let all : u.exchanges ≡ es ++ x ∷ [] = ap (λ (v : SessionView). v.exchanges) e ∙ one.exchanges in
+      let ms : messages_of (es ++ x ∷ []) ≡ messages_of es ++ message_of x ∷ [] = map-append message_of es (x ∷ []) in
+      let rs : replies_of (es ++ x ∷ []) ≡ replies_of es ++ r ∷ [] = map-append (λ (y : Exchange). y.reply) es (x ∷ []) in
+      let frames_are : flat_map reply_frame (replies_of (es ++ x ∷ [])) ≡ flat_map reply_frame (replies_of es) ++ reply_frame r =
+      ap (flat_map reply_frame) rs ∙ flat_map-append reply_frame (replies_of es) (r ∷ []) ∙ ap (λ (l : List ℕ). flat_map reply_frame (replies_of es) ++ l) (append-nil (reply_frame r)) in
+      record {
+        run = subst (λ (l : List Exchange). Run Step a (messages_of l) (replies_of l) c) (sym all)
+            (subst (λ (l : List Message). Run Step a l (replies_of (es ++ x ∷ [])) c) (sym ms)
+            (subst (λ (l : List Reply). Run Step a (messages_of es ++ message_of x ∷ []) l c) (sym rs)
+            (run_more a b c (messages_of es) (replies_of es) (message_of x) r p.run one.answers)));
+        written = subst (λ (l : List Exchange). Appends h h'' (flat_map reply_frame (replies_of l))) (sym all)
+            (subst (Appends h h'') (sym frames_are) (Appends-trans h h' h'' _ _ p.written (subst (Appends h' h'') sent wrote)));
+      }
+
+  module _ (a b : S) (h h' h'' : Option (List ℕ)) (s : SessionView) (count : ℕ) (p : Stands Step a b h h' s) (read : IsRead s.input s.exchanges s.rest) (counted : length s.exchanges ≡ count) where
+    -- it ended so behind what was written
+    pub ended : (last : List ℕ) (Ends : S → List ℕ → List ℕ → Type 0) → Appends h' h'' last → Ends b s.rest last → Answered Step a s.input h h'' count Ends
+    ended last Ends wrote ends = record {
+      messages = messages_of s.exchanges;
+      replies = replies_of s.exchanges;
+      mid = b;
+      rest = s.rest;
+      last = last;
+      stream = read.stream;
+      each = read.each;
+      run = p.run;
+      counted = length-map s.exchanges message_of ∙ counted;
+      written = Appends-trans h h' h'' _ last p.written wrote;
+      ends = ends;
+    }
+
+    module _ (c : S) (t : SessionView) (none : s.unsent ≡ []) where
+      -- a reply was cut short
+      pub cut_reply : (stop : Stop) (u : SessionView) → IsAnswered Step b c s t → SendsAll h' h'' t u (Err stop) → Stops Step a c s.input h h'' (fault_for stop count)
+      cut_reply stops.WriteFailed u one cut =
+          let r = one.exchange.reply in
+          let sent : t.unsent ≡ reply_frame r = one.unsent ∙ ap (λ (l : List ℕ). l ++ reply_frame r) none in
+          let next : NextReply Step b s.rest (reply_frame r) c = record { message = message_of one.exchange; reply = r; more = t.rest; front = one.front; within = one.within; answers = one.answers; is = refl } in
+          ended (take cut.len (reply_frame r)) (WriteFailedAt Step c) (subst (λ (l : List ℕ). Appends h' h'' (take cut.len l)) sent cut.written)
+          (inl (
+            came_in s.rest read.last (λ q. q.left (message_of one.exchange) t.rest one.within one.front),
+            record { next = reply_frame r; due = inl next; len = cut.len; short = subst (λ (l : List ℕ). cut.len < length l) sent cut.short; begins = refl },
+          ))
+      cut_reply stops.BadFrame u one cut = absurd cut
+      cut_reply stops.NoMemory u one cut = absurd cut
+
+      abbrev bad_error : (bad : IsBadNext s t) → c ≡ b → IsError b s.rest (reply_frame (Error (frame_fault_text bad.bad))) c
+      bad_error bad same = record { fault = bad.bad; faulty = bad.faulty; node = same; is = refl }
+
+      -- the error for a bad length was cut short
+      pub cut_error : (stop : Stop) (u : SessionView) → IsBadNext s t → c ≡ b → SendsAll h' h'' t u (Err stop) → Stops Step a c s.input h h'' (fault_for stop count)
+      cut_error stops.WriteFailed u bad same cut =
+          let error = reply_frame (Error (frame_fault_text bad.bad)) in
+          let sent : t.unsent ≡ error = bad.unsent ∙ ap (λ (l : List ℕ). l ++ error) none in
+          ended (take cut.len error) (WriteFailedAt Step c) (subst (λ (l : List ℕ). Appends h' h'' (take cut.len l)) sent cut.written)
+          (inl (
+            came_in s.rest read.last (faulty_not s.rest bad.bad bad.faulty),
+            record { next = error; due = inr (bad_error bad same); len = cut.len; short = subst (λ (l : List ℕ). cut.len < length l) sent cut.short; begins = refl },
+          ))
+      cut_error stops.BadFrame u bad same cut = absurd cut
+      cut_error stops.NoMemory u bad same cut = absurd cut
+
+      -- and was written whole
+      pub told_error : IsBadNext s t → c ≡ b → Appends h' h'' t.unsent → Stops Step a c s.input h h'' (BadFrame count)
+      told_error bad same wrote =
+          let error = reply_frame (Error (frame_fault_text bad.bad)) in
+          let sent : t.unsent ≡ error = bad.unsent ∙ ap (λ (l : List ℕ). l ++ error) none in
+          ended error (AtLastRead (IsBad c)) (subst (Appends h' h'') sent wrote)
+          (came_in s.rest read.last (faulty_not s.rest bad.bad bad.faulty), bad_error bad same)
+
+      -- a reply was lost
+      pub lost_reply : IsLost Step b c s t → Appends h' h'' [] → Stops Step a c s.input h h'' (NoMemory count)
+      lost_reply lost wrote =
+          ended [] (AtLastRead (IsOutOfMemory Step c)) wrote (
+            came_in s.rest read.last (λ q. q.left lost.due.message lost.due.more lost.due.within lost.due.front),
+            inl (record { nothing = refl; next = lost.next; due = lost.due; no_error = lost.no_error }),
+          )
+
+module _ {S : Type 0} (Step : S → Request → Reply → S → Type 0) where
+  -- what was written is kept
+  pub stands_kept : (a b : S) (h h' h'' : Option (List ℕ)) (s : SessionView) → Keeps h' h'' → Stands Step a b h h' s → Stands Step a b h h'' s
+  stands_kept a b h h' h'' s kept p = record { run = p.run; written = Appends-kept h h' h'' _ p.written kept }
+
+  answered_kept : (a : S) (input : List ℕ) (h h' h'' : Option (List ℕ)) (count : ℕ) (Ends : S → List ℕ → List ℕ → Type 0) → Keeps h' h'' → Answered Step a input h h' count Ends → Answered Step a input h h'' count Ends
+  answered_kept a input h h' h'' count Ends kept p = record {
+    messages = p.messages;
+    replies = p.replies;
+    mid = p.mid;
+    rest = p.rest;
+    last = p.last;
+    stream = p.stream;
+    each = p.each;
+    run = p.run;
+    counted = p.counted;
+    written = Appends-kept h h' h'' _ p.written kept;
+    ends = p.ends;
+  }
+
+  pub stops_kept : (a b : S) (input : List ℕ) (h h' h'' : Option (List ℕ)) (count : ℕ) (stop : Stop) (fault : SessionFault) → fault ≡ fault_for stop count → Keeps h' h'' → Stops Step a b input h h' (fault_for stop count) → Stops Step a b input h h'' fault
+  stops_kept a b input h h' h'' count stops.WriteFailed fault is kept p = subst (Stops Step a b input h h'') (sym is) (answered_kept a input h h' h'' count (WriteFailedAt Step b) kept p)
+  stops_kept a b input h h' h'' count stops.BadFrame fault is kept p = subst (Stops Step a b input h h'') (sym is) (answered_kept a input h h' h'' count (AtLastRead (IsBad b)) kept p)
+  stops_kept a b input h h' h'' count stops.NoMemory fault is kept p = subst (Stops Step a b input h h'') (sym is) (answered_kept a input h h' h'' count (AtLastRead (IsOutOfMemory Step b)) kept p)
+
+  module _ (a b : S) (h h' h'' : Option (List ℕ)) (s : SessionView) (count : ℕ) (p : Stands Step a b h h' s) (read : IsRead s.input s.exchanges s.rest) (counted : length s.exchanges ≡ count) (kept : Keeps h' h'') where
+    abbrev none_more : Appends h' h'' []
+    none_more = Appends-kept h' h' h'' [] (Appends-nil h') kept
+
+    -- no whole message is left
+    pub all_answered : IsPartial max_request_len s.rest → Answered Step a s.input h h'' count (AllAnswered b)
+    all_answered partial = ended Step a b h h' h'' s count p read counted [] (AllAnswered b) none_more (record { node = refl; partial = partial; nothing = refl })
+
+    pub none_flushed : IsPartial max_request_len s.rest → Answered Step a s.input h h'' count (WriteFailedAt Step b)
+    none_flushed partial = ended Step a b h h' h'' s count p read counted [] (WriteFailedAt Step b) none_more (inr (record { node = refl; partial = partial; nothing = refl }))
+
+    pub at_end : (len : ℕ) → len ≡ length s.rest → IsPartial max_request_len s.rest → Answered Step a s.input h h'' count (IsEnd b len)
+    at_end len is partial = ended Step a b h h' h'' s count p read counted [] (IsEnd b len) none_more (record { through = record { node = refl; partial = partial; nothing = refl }; left = sym is })
+
+    -- memory was refused for a piece
+    pub unkept : (piece : List ℕ) → 0 < length piece → length piece ≤ 4096 → IsPartial max_request_len s.rest → Answered Step a (s.input ++ piece) h h'' count (AtLastRead (IsOutOfMemory Step b))
+    unkept piece some few partial =
+        record {
+          messages = messages_of s.exchanges;
+          replies = replies_of s.exchanges;
+          mid = b;
+          rest = s.rest ++ piece;
+          last = [];
+          stream = ap (λ (t : List ℕ). t ++ piece) read.stream ∙ append_assoc (flat_map frame (messages_of s.exchanges)) s.rest piece;
+          each = read.each;
+          run = p.run;
+          counted = length-map s.exchanges message_of ∙ counted;
+          written = Appends-trans h h' h'' _ [] p.written none_more;
+          ends = (record { before = s.rest; piece = piece; splits = refl; some = some; bound = few; partial = partial }, inr (record { node = refl; nothing = refl }));
+        }
+
+-- no read was made yet
+pub MadeReads-none : (unread : Option (List ℕ)) → MadeReads unread unread 0
+MadeReads-none unread = record { input = []; read = Consumes-nil unread; interrupted = 0; gave = omega arith }
+
+-- one more read gave a piece
+pub MadeReads-piece : (a b c : Option (List ℕ)) (i : ℕ) (piece : List ℕ) → MadeReads a b i → Consumes b c piece → 0 < length piece → MadeReads a c (i + 1)
+MadeReads-piece a b c i piece p read some =
+    let len : length (p.input ++ piece) ≡ length p.input + length piece = length-append p.input piece in
+    let before : i ≤ p.interrupted + length p.input = p.gave in
+    record { input = p.input ++ piece; read = Consumes-trans a b c p.input piece p.read read; interrupted = p.interrupted; gave = omega (arith, len, before, some) }
+
+-- one more read was interrupted
+pub MadeReads-interrupted : (a b c : Option (List ℕ)) (i : ℕ) → MadeReads a b i → Keeps b c → MadeReads a c (i + 1)
+MadeReads-interrupted a b c i p left =
+    let before : i ≤ p.interrupted + length p.input = p.gave in
+    record { input = p.input; read = Consumes-kept a b c p.input p.read left; interrupted = p.interrupted + 1; gave = omega (arith, before) }
+
+-- a read of nothing
+pub consumes_none : (a b c : Option (List ℕ)) (input buf : List ℕ) (n : ℕ) → n ≡ 0 → Consumes a b input → Consumes b c (take n buf) → Consumes a c input
+consumes_none a b c input buf n e p q =
+    subst (Consumes a c) (ap (λ (k : ℕ). input ++ take k buf) e ∙ append-nil input) (Consumes-trans a b c input (take n buf) p q)
+
+-- what holds at a success
+pub ok_at : {P : Type 0} (r : Result (Unit {0}) Stop) (u : Unit {0}) → r ≡ Ok u → OnOk r P → P
+ok_at (Ok u) v e p = p
+ok_at (Err stop) v e p = absurd (false≢true (ap is_ok e))
+
+module _ {S : Type 0} (Step : S → Request → Reply → S → Type 0) (a b : S) (h h' : Option (List ℕ)) (old new : SessionView) (count : ℕ) where
+  pub rest_ok : (r : Result (Unit {0}) Stop) (u : Unit {0}) → r ≡ Ok u → AnswersRest Step a b h h' old new count r → Stands Step a b h h' new
+  rest_ok r u e p = subst (AnswersRest Step a b h h' old new count) e p
+
+  pub rest_err : (r : Result (Unit {0}) Stop) (stop : Stop) → r ≡ Err stop → AnswersRest Step a b h h' old new count r → Stops Step a b old.input h h' (fault_for stop count)
+  rest_err r stop e p = subst (AnswersRest Step a b h h' old new count) e p

@@ -1,0 +1,84 @@
+-- A message that was taken and answered.
+use Rattle.std.proofs.Common.{◌≡◌, ℕ, List, [], ◌∷◌, ◌++◌, Option, Some, None, Result, Ok, Err, refl, sym, ap, subst, ◌∙◌, inr}
+use Rattle.pb_frame.specs.declared.fault.FrameFault.{FrameFault}
+use Rattle.pb_frame.specs.declared.frame.Frame.{Frame}
+use Rattle.pb_frame.specs.Limits.{max_request_len}
+use Rattle.pb_frame.specs.Message.{frame, IsWithin}
+use Rattle.pb_frame.specs.Stream.{Stream}
+use Rattle.pb_frame.specs.Taking.{message_of as frame_message, IsTaken, Takes}
+use Rattle.riak_msgs.specs.declared.fault.MsgFault.{MsgFault}
+use Rattle.riak_msgs.specs.declared.fault.MsgFault.TheVariants as faults
+use Rattle.riak_msgs.specs.declared.request.Request.{Request}
+use Rattle.riak_msgs.specs.declared.reply.Reply.{Reply}
+use Rattle.riak_msgs.specs.declared.reply.Reply.TheVariants.{Error}
+use Rattle.riak_msgs.specs.Reading.{Reads}
+use Rattle.node_session.specs.declared.exchange.Exchange.{Exchange}
+use Rattle.node_session.specs.Answers.{Answers, message_fault_text, reply_frame, IsNoError}
+use Rattle.node_session.specs.Answered.{NextReply}
+use Rattle.node_session.specs.Taking.{IsToldNext, TakesNext}
+use Rattle.node_session.specs.Nexts.{IsAnswered, IsLost}
+use Rattle.node_session.specs.Views.{IsRead, SessionView, message_of}
+use Rattle.node_session.proofs.Frames.{read_more, read_left, goes_on}
+
+-- what `take` did where it gave a frame, and where it refused
+pub taken_at : (old new : Stream) (r : Result (Option Frame) FrameFault) (o : Option Frame) (f : Frame) → r ≡ Ok o → o ≡ Some f → Takes old r new → IsTaken old (frame_message f) new
+taken_at old new r o f e d t = subst (λ (x : Option Frame). Takes old (Ok x) new) d (subst (λ (x : Result (Option Frame) FrameFault). Takes old x new) e t)
+
+pub takes_at : (old new : Stream) (r r' : Result (Option Frame) FrameFault) → r ≡ r' → Takes old r new → Takes old r' new
+takes_at old new r r' e t = subst (λ (x : Result (Option Frame) FrameFault). Takes old x new) e t
+
+module _ {S : Type 0} (Step : S → Request → Reply → S → Type 0) where
+  -- a message that was not read is answered by its error
+  pub refused : (old new : S) (code : ℕ) (body : List ℕ) (fault : MsgFault) (reply : Reply) → reply ≡ Error (message_fault_text fault) → new ≡ old → Reads code body (Err fault) → Answers Step old (record { code = code; body = body }) reply new
+  refused old new code body faults.UnknownCode reply is same reads = record { said = Err faults.UnknownCode; says = reads; answers = (is, same) }
+  refused old new code body faults.BadMessage reply is same reads = record { said = Err faults.BadMessage; says = reads; answers = (is, same) }
+  refused old new code body faults.MissingField reply is same reads = record { said = Err faults.MissingField; says = reads; answers = (is, same) }
+  refused old new code body faults.EmptyName reply is same reads = record { said = Err faults.EmptyName; says = reads; answers = (is, same) }
+  refused old new code body faults.NoKey reply is same reads = record { said = Err faults.NoKey; says = reads; answers = (is, same) }
+  refused old new code body faults.NoMemory reply is same reads = record { said = Ok reads.0; says = reads.1; answers = inr (is, same) }
+
+  pub told_at : (node node' : S) (framer framer' : Stream) (es es' : List Exchange) (r : Result (Option Reply) FrameFault) (o : Option Reply) (reply : Reply) → r ≡ Ok o → o ≡ Some reply
+      → TakesNext Step node node' framer framer' es es' r → IsToldNext Step node node' framer framer' es es' reply
+  told_at node node' framer framer' es es' r o reply e d t =
+      subst (λ (x : Option Reply). TakesNext Step node node' framer framer' es es' (Ok x)) d (subst (λ (x : Result (Option Reply) FrameFault). TakesNext Step node node' framer framer' es es' x) e t)
+
+  module _ (node node' : S) (framer framer' : Stream) (es es' : List Exchange) (reply : Reply) (input : List ℕ) (limit : framer.limit ≡ max_request_len) (told : IsToldNext Step node node' framer framer' es es' reply) where
+    abbrev within : IsWithin max_request_len (message_of told.exchange)
+    within = subst (λ (n : ℕ). IsWithin n (message_of told.exchange)) limit told.taken.within
+
+    pub still_limit : framer'.limit ≡ max_request_len
+    still_limit = ap (λ (s : Stream). s.limit) told.taken.stream ∙ limit
+
+    pub still_read : IsRead input es framer.rest → IsRead input es' framer'.rest
+    still_read p = subst (λ (l : List Exchange). IsRead input l framer'.rest) (sym told.listed) (read_more input framer.rest framer'.rest es told.exchange p within told.taken.front)
+
+    pub left_read : IsRead input es framer.rest → IsRead framer'.rest [] framer'.rest
+    left_read p = read_left framer'.rest (goes_on framer.rest framer'.rest (message_of told.exchange) p.last within told.taken.front)
+
+    -- and whose reply was lost
+    abbrev pub was_due : (rest : List ℕ) → rest ≡ framer.rest → NextReply Step node rest (reply_frame reply) node'
+    was_due rest e = record {
+      message = message_of told.exchange;
+      reply = reply;
+      more = framer'.rest;
+      front = e ∙ told.taken.front;
+      within = within;
+      answers = told.answers;
+      is = refl;
+    }
+
+    pub lost : (old new : SessionView) → old.rest ≡ framer.rest → new.unsent ≡ old.unsent → IsNoError reply → IsLost Step node node' old new
+    lost old new e same none = record { next = reply_frame reply; due = was_due old.rest e; no_error = none; unsent = same }
+
+    pub answered : (old new : SessionView) → old.rest ≡ framer.rest → new.rest ≡ framer'.rest → framer.fault ≡ None → new.input ≡ old.input → old.exchanges ≡ es → new.exchanges ≡ es' → new.fault ≡ framer'.fault
+        → new.unsent ≡ old.unsent ++ reply_frame reply → IsAnswered Step node node' old new
+    answered old new e e' none same from to fault unsent = record {
+      exchange = told.exchange;
+      front = e ∙ told.taken.front ∙ ap (λ (t : List ℕ). frame (message_of told.exchange) ++ t) (sym e');
+      within = within;
+      answers = subst (λ (x : Reply). Answers Step node (message_of told.exchange) x node') (sym told.replied) told.answers;
+      input = same;
+      exchanges = to ∙ told.listed ∙ ap (λ (l : List Exchange). l ++ told.exchange ∷ []) (sym from);
+      fault = fault ∙ ap (λ (s : Stream). s.fault) told.taken.stream ∙ none;
+      unsent = unsent ∙ ap (λ (x : Reply). old.unsent ++ reply_frame x) (sym told.replied);
+    }

@@ -1,0 +1,50 @@
+-- What a session does with its next message.
+use Rattle.std.specs.Prelude.{◌≡◌, ℕ, ◌<◌, List, [], ◌∷◌, ◌++◌, None, Result, Ok, Err, length}
+use Rattle.pb_frame.specs.declared.fault.FrameFault.{FrameFault}
+use Rattle.pb_frame.specs.Limits.{max_request_len}
+use Rattle.pb_frame.specs.Message.{frame, IsWithin, IsPartial, IsFaulty}
+use Rattle.riak_msgs.specs.declared.request.Request.{Request}
+use Rattle.riak_msgs.specs.declared.reply.Reply.{Reply}
+use Rattle.riak_msgs.specs.declared.reply.Reply.TheVariants.{Error}
+use Rattle.node_session.specs.declared.exchange.Exchange.{Exchange}
+use Rattle.node_session.specs.declared.session.Next.{Next}
+use Rattle.node_session.specs.declared.session.Next.TheVariants.{Answered, Idle, Full}
+use Rattle.node_session.specs.declared.session.Halt.{Halt}
+use Rattle.node_session.specs.declared.session.Halt.TheVariants.{BadFrame, NoMemory}
+use Rattle.node_session.specs.Answers.{Answers, reply_frame, frame_fault_text, IsNoError}
+use Rattle.node_session.specs.Answered.{NextReply}
+use Rattle.node_session.specs.Views.{SessionView, message_of}
+
+-- a bad length stands next, and its error is to be sent
+pub record IsBadNext (old new : SessionView) : Type 0 where
+  pub bad : FrameFault
+  pub faulty : IsFaulty max_request_len old.rest bad
+  pub input : new.input ≡ old.input
+  pub exchanges : new.exchanges ≡ old.exchanges
+  pub unsent : new.unsent ≡ old.unsent ++ reply_frame (Error (frame_fault_text bad))
+
+module _ {S : Type 0} (Step : S → Request → Reply → S → Type 0) where
+  -- the next message was answered, and its reply is to be sent
+  pub record IsAnswered (node node' : S) (old new : SessionView) : Type 0 where
+    pub exchange : Exchange
+    pub front : old.rest ≡ frame (message_of exchange) ++ new.rest
+    pub within : IsWithin max_request_len (message_of exchange)
+    pub answers : Answers Step node (message_of exchange) exchange.reply node'
+    pub input : new.input ≡ old.input
+    pub exchanges : new.exchanges ≡ old.exchanges ++ exchange ∷ []
+    pub fault : new.fault ≡ None
+    pub unsent : new.unsent ≡ old.unsent ++ reply_frame exchange.reply
+
+  -- a reply was lost, and is no error; what is to be sent stays
+  pub record IsLost (node node' : S) (old new : SessionView) : Type 0 where
+    pub next : List ℕ
+    pub due : NextReply Step node old.rest next node'
+    pub no_error : IsNoError due.reply
+    pub unsent : new.unsent ≡ old.unsent
+
+  abbrev pub AnswersNext : S → S → SessionView → SessionView → Result Next Halt → Type 0
+  AnswersNext node node' old new (Ok Answered) = IsAnswered node node' old new
+  AnswersNext node node' old new (Ok Idle) = IsPartial max_request_len old.rest × (new ≡ old) × (node' ≡ node)
+  AnswersNext node node' old new (Ok Full) = (0 < length old.unsent) × (new ≡ old) × (node' ≡ node)
+  AnswersNext node node' old new (Err BadFrame) = IsBadNext old new × (node' ≡ node)
+  AnswersNext node node' old new (Err NoMemory) = IsLost node node' old new

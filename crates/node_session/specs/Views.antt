@@ -1,0 +1,45 @@
+-- What callers see of a session.
+use Rattle.std.specs.Prelude.{◌≡◌, ℕ, ◌≤◌, List, [], ◌++◌, Option, None, length, map}
+use Rattle.std.specs.List.{flat_map, All}
+use Rattle.pb_frame.specs.declared.fault.FrameFault.{FrameFault}
+use Rattle.pb_frame.specs.Limits.{max_request_len}
+use Rattle.node_session.specs.Limits.{max_read_len}
+use Rattle.pb_frame.specs.Message.{Message, frame, IsWithin, IsPartial}
+use Rattle.riak_msgs.specs.declared.reply.Reply.{Reply}
+use Rattle.node_session.specs.declared.exchange.Exchange.{Exchange}
+
+abbrev pub message_of : Exchange → Message
+message_of e = record { code = e.code; body = e.body }
+
+abbrev pub messages_of : List Exchange → List Message
+messages_of es = map message_of es
+
+abbrev pub replies_of : List Exchange → List Reply
+replies_of es = map (λ (e : Exchange). e.reply) es
+
+-- what was read, the messages of it that were answered, with their replies, what is left of it behind these, the bad length
+-- that was met, if there was one, and what was not yet sent of the replies' frames
+pub record SessionView : Type 0 where
+  pub input : List ℕ
+  pub exchanges : List Exchange
+  pub rest : List ℕ
+  pub fault : Option FrameFault
+  pub unsent : List ℕ
+
+-- nothing was read yet
+abbrev pub new_session : SessionView
+new_session = record { input = []; exchanges = []; rest = []; fault = None; unsent = [] }
+
+-- but for its last bytes, as many as a read takes at most, nothing is wrong with it and no whole frame stands there
+pub record EndsInPiece (rest : List ℕ) : Type 0 where
+  pub before : List ℕ
+  pub piece : List ℕ
+  pub splits : rest ≡ before ++ piece
+  pub bound : length piece ≤ max_read_len
+  pub partial : IsPartial max_request_len before
+
+-- the input is the frames of the messages that were answered, and then what is left
+pub record IsRead (input : List ℕ) (exchanges : List Exchange) (rest : List ℕ) : Type 0 where
+  pub stream : input ≡ flat_map frame (messages_of exchanges) ++ rest
+  pub each : All (IsWithin max_request_len) (messages_of exchanges)
+  pub last : EndsInPiece rest

@@ -1,0 +1,127 @@
+//! The frames of replies that were not yet sent.
+
+ghost use Rattle.std.specs.Prelude.{◌≡◌, ◌<◌, ◌≤◌, ◌++◌, [], length, drop, true, false, OnOk, OnErr, IfOk};
+ghost use Rattle.riak_msgs.specs.declared.reply.Reply.TheVariants.{Error};
+ghost use Rattle.node_session.specs.Answers.{reply_frame};
+ghost use Rattle.node_session.specs.Unsent.{PutsReply, whole, IsFront};
+
+use crate::error_frame::error_frame;
+use crate::reply::try_encode_reply;
+use riak_msgs::{Reply, Text};
+use std::alloc::{AllocError, Global};
+use std::marker::Model;
+
+/// How many bytes that wait keep a further message from being answered.
+const GATHERED: usize = 65_536;
+
+/// The frames of replies that were not yet sent. The frame of a reply is kept in its own buffer where nothing else waits.
+#[derive(Drop)]
+pub(crate) struct Outbox {
+    // Those before `sent` were sent.
+    frames: Vec<u8>,
+    sent: usize,
+    // An error behind them, for which there was no memory.
+    late: &'static [u8],
+}
+
+impl Model for Outbox {
+    ghost use Rattle.std.specs.Prelude.{◌≤◌, drop, vec_len};
+    ghost use Rattle.node_session.specs.Unsent.{Unsent};
+
+    ghost Value = { Unsent };
+
+    ghost view = { λ o. record { frames = drop o.sent o.frames.items; late = o.late.now } };
+
+    ghost invariant = { λ o. o.sent ≤ vec_len o.frames };
+}
+
+impl Outbox {
+    /// Nothing is to be sent. It takes no memory.
+    pub(crate) fn new(alloc: Global) -> Outbox
+        ensures { result ≡ record { frames = []; late = [] } }
+    {
+        Outbox {
+            frames: Vec::new(alloc),
+            sent: 0,
+            late: b"",
+        }
+    }
+
+    /// Whether so much waits that no further message is to be answered before.
+    pub(crate) fn is_full(&self) -> bool
+        ensures full { result ≡ true → 0 < length (whole self.now) }
+        ensures not { result ≡ false → self.now.late ≡ [] }
+    {
+        !self.late.is_empty() || self.frames.len() - self.sent >= GATHERED
+    }
+
+    /// What is to be sent first.
+    pub(crate) fn next(&self) -> &[u8]
+        ensures { IsFront result.now (whole self.now) }
+    {
+        if self.sent < self.frames.len() {
+            &self.frames[self.sent..]
+        } else {
+            self.late
+        }
+    }
+
+    /// So much of what is to be sent first was sent.
+    pub(crate) fn sent(&mut self, n: usize)
+        requires { n ≤ length (whole self.old) }
+        ensures { whole self.new ≡ drop n (whole self.old) }
+    {
+        let waits = self.frames.len() - self.sent;
+        if n < waits {
+            self.sent += n;
+        } else {
+            self.late = &self.late[n - waits..];
+            self.frames.clear();
+            self.sent = 0;
+        }
+    }
+
+    /// Puts a frame behind the others.
+    fn put_frame(&mut self, frame: Vec<u8>) -> Result<(), AllocError>
+        requires { self.old.late ≡ [] }
+        ensures ok { OnOk result (self.new ≡ record { frames = self.old.frames ++ frame.items; late = [] }) }
+        ensures err { OnErr result (self.new ≡ self.old) }
+    {
+        if self.sent == self.frames.len() {
+            self.frames = frame;
+            self.sent = 0;
+            return Ok(());
+        }
+        self.frames.extend_from_slice(&frame)
+    }
+
+    /// Puts an error behind them. It takes no memory where there is none.
+    pub(crate) fn put_error(&mut self, text: Text)
+        requires { self.old.late ≡ [] }
+        ensures { whole self.new ≡ whole self.old ++ reply_frame (Error text) }
+    {
+        let frame = error_frame(text);
+        if self.frames.extend_from_slice(frame).is_err() {
+            self.late = frame;
+        }
+    }
+
+    /// Puts a reply behind them.
+    pub(crate) fn put(&mut self, alloc: Global, reply: &Reply) -> Result<(), AllocError>
+        requires { self.old.late ≡ [] }
+        ensures { PutsReply reply.now self.old self.new result }
+    {
+        match reply {
+            Reply::Error(text) => {
+                self.put_error(*text);
+                Ok(())
+            }
+            other => {
+                let Some(frame) = try_encode_reply(alloc, other) else {
+                    return Err(AllocError);
+                };
+                self.put_frame(frame)
+            }
+        }
+    }
+}
