@@ -6,7 +6,7 @@ ghost use Rattle.node_session.specs.Answers.{reply_frame};
 ghost use Rattle.node_session.specs.Unsent.{PutsReply, whole, IsFront};
 
 use crate::error_frame::error_frame;
-use crate::reply::try_encode_reply;
+use crate::reply::encode_reply;
 use riak_msgs::{Reply, Text};
 use std::alloc::{AllocError, Global};
 use std::marker::Model;
@@ -106,18 +106,18 @@ impl Outbox {
         }
     }
 
-    /// Puts a reply behind them.
-    pub(crate) fn put(&mut self, alloc: Global, reply: &Reply) -> Result<(), AllocError>
+    /// Puts a reply behind them. The reply is let go before its frame is kept, so that no more than the two frames is held.
+    pub(crate) fn put(&mut self, alloc: Global, reply: Reply) -> Result<(), AllocError>
         requires { self.old.late ≡ [] }
-        ensures { PutsReply reply.now self.old self.new result }
+        ensures { PutsReply reply self.old self.new result }
     {
         match reply {
             Reply::Error(text) => {
-                self.put_error(*text);
+                self.put_error(text);
                 Ok(())
             }
             other => {
-                let Some(frame) = try_encode_reply(alloc, other) else {
+                let Some(frame) = encode_reply(alloc, other) else {
                     return Err(AllocError);
                 };
                 self.put_frame(frame)

@@ -32,8 +32,15 @@ pub(crate) fn frame_fault_text(fault: FrameFault) -> Text
     }
 }
 
+/// The frame of a reply, which is let go. None where memory is refused.
+pub(crate) fn encode_reply(alloc: Global, reply: Reply) -> Option<Vec<u8>>
+    ensures { IfSome result (λ v. v.items ≡ reply_frame reply) }
+{
+    try_encode_reply(alloc, &reply)
+}
+
 /// The frame of a reply, in one buffer that is made at its full size: the header, and the body behind it.
-pub(crate) fn try_encode_reply(alloc: Global, reply: &Reply) -> Option<Vec<u8>>
+fn try_encode_reply(alloc: Global, reply: &Reply) -> Option<Vec<u8>>
     ensures { IfSome result (λ v. v.items ≡ reply_frame reply.now) }
 {
     let len = reply.body_len().ok()?;

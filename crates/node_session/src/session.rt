@@ -162,7 +162,7 @@ impl Session {
             return Ok(Next::Full);
         }
         match answer_next(alloc, &mut self.framer, &mut self.exchanges, node) {
-            Ok(Some(reply)) => match self.outbox.put(alloc, &reply) {
+            Ok(Some(reply)) => match self.outbox.put(alloc, reply) {
                 Ok(()) => Ok(Next::Answered),
                 Err(_) => {
                     // What is left is all that it was given.

@@ -25,8 +25,8 @@ invariant_of-self-in-Err-put g c =
       left_read g.N.Node.step c.args.node.now new.node was.framer new.framer was.exchanges new.exchanges c.in-Ok-Some.reply was.input limit told c.self.invariant.1,
     )
 
-pub returns-in-Ok-Some : goal.returns-in-Ok-Some
-returns-in-Ok-Some g c =
+pub returns-in-Err-put : goal.returns-in-Err-put
+returns-in-Err-put g c =
     let was = c.self.inside in
     let new = c.answer_next.new in
     let told = told_at g.N.Node.step c.args.node.now new.node was.framer new.framer was.exchanges new.exchanges c.answer_next.result c.in-Ok-Some.field-0 c.in-Ok-Some.reply c.in-Ok-Some.is c.in-Ok-Some.field-0-is c.answer_next.ensures in
