@@ -65,7 +65,6 @@ mod round_trips;
 mod sequence;
 mod shown;
 mod text;
-mod try_clone;
 
 pub use boxed_content::BoxedContent;
 pub use bucket_type::{BucketType, DEFAULT_TYPE};
