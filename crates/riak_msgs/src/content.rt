@@ -10,7 +10,8 @@ use crate::content_view::ContentView;
 use crate::details::Details;
 use crate::encode::write_encoding;
 use crate::fault::MsgFault;
-use pb_fields::{LengthCounter, Message, Output};
+use crate::field_access::bytes_at;
+use pb_fields::{Fields, LengthCounter, Message, Output};
 use std::alloc::{AllocError, Global};
 use std::marker::Model;
 
@@ -102,11 +103,15 @@ impl Content {
         }
     }
 
-    /// The value's bytes. The time is linear in those of the encoding's fields.
+    /// The value's bytes, which are those of the first field.
     pub fn value(&self) -> &[u8]
         ensures { result.now ≡ self.now.value }
     {
-        self.view().value.unwrap_or(&[])
+        match Fields::new(self.encoding()).next() {
+            Some(Ok(field)) => bytes_at(1, field).unwrap_or(&[]),
+            Some(Err(_)) => unreachable!(),
+            None => unreachable!(),
+        }
     }
 
     /// The details. They take memory only where there are links or pairs, to list them; the time is linear in the encoding's bytes.
