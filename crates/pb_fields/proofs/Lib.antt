@@ -1,4 +1,5 @@
 pub mod Cases
+pub mod EncodedParts
 pub mod Lists
 pub mod Merging
 pub mod Parts

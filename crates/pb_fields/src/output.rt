@@ -41,6 +41,10 @@ pub trait Output {
         ensures { IfOk result (λ follows.
             BeginsMessage (appends self.old) number len follows self.new) };
 
+    /// Appends fields that are encoded already.
+    fn append_encoded(&mut self, fields: &[u8]) -> Result<(), AllocError>
+        ensures { OnOk result (appends self.old fields.now self.new) };
+
     /// Encodes a true as the number's field with 1, and a false not at all.
     fn encode_bool(&mut self, number: u32, value: bool) -> Result<(), AllocError>
         requires { IsNumber number }
@@ -80,6 +84,11 @@ impl Output for Vec<u8> {
     fn begin_message(&mut self, number: u32, len: usize) -> Result<bool, AllocError> {
         append_head(self, number, len)?;
         Ok(true)
+    }
+
+    #[inline(always)]
+    fn append_encoded(&mut self, fields: &[u8]) -> Result<(), AllocError> {
+        self.extend_from_slice(fields)
     }
 }
 
@@ -132,6 +141,11 @@ impl Output for LengthCounter {
     fn begin_message(&mut self, number: u32, len: usize) -> Result<bool, AllocError> {
         self.add_field(number, len)?;
         Ok(false)
+    }
+
+    #[inline(always)]
+    fn append_encoded(&mut self, fields: &[u8]) -> Result<(), AllocError> {
+        self.add(fields.len())
     }
 }
 

@@ -8,21 +8,12 @@ use Rattle.std.proofs.lemmas.List.Elements.{filter_map-append}
 use Rattle.std.proofs.lemmas.Grind.{flat_map-append}
 use Rattle.pb_fields.specs.Field.{WireField}
 use Rattle.pb_fields.specs.Message.{Encodes}
-use Rattle.pb_fields.proofs.Lists.{fields_once}
-use Rattle.riak_msgs.specs.Contents.{Content}
-use Rattle.riak_msgs.specs.declared.pair.Pair.{Pair}
+use Rattle.riak_msgs.specs.Content.{Pair, Content}
 use Rattle.riak_msgs.specs.Picking.{each_bytes, last_bytes}
 use Rattle.riak_msgs.specs.Embedded.{ContentFields, StandForContent, all_of, pair_of, link_of, content_of}
 use Rattle.riak_msgs.specs.Seen.{no_fields, merged, misses_key, scalars_of, with_parts}
+use Rattle.riak_msgs.specs.ContentOnce.{EachStand, same_content}
 use Rattle.riak_msgs.proofs.Picking.{each_bytes-append, AllZip-append, AllZip-split}
-
--- two contents of the same fields
-pub same_content : (c d : ContentFields) → c.own ≡ d.own → c.links ≡ d.links → c.usermeta ≡ d.usermeta → c.indexes ≡ d.indexes → c ≡ d
-same_content c d own links usermeta indexes = rw (own, links, usermeta, indexes) refl
-
--- the fields that occurrences have are those of each of their fields
-abbrev pub EachStand : ℕ → List WireField → List (List WireField) → Type 0
-EachStand number fields parts = AllZip Encodes (each_bytes number fields) parts
 
 -- no occurrence
 pub StandForContent-nil : StandForContent [] no_fields
@@ -75,29 +66,6 @@ StandForContent-split xs ys c all =
       record { parts = each.0; each = each.3; own = refl; links = links.3; usermeta = usermeta.3; indexes = indexes.3 },
       record { parts = each.1; each = each.4; own = refl; links = links.4; usermeta = usermeta.4; indexes = indexes.4 },
     )
-
-lists_once : (bss : List (List ℕ)) (us vs : List (List WireField)) → AllZip Encodes bss us → AllZip Encodes bss vs → us ≡ vs
-lists_once [] [] [] a b = refl
-lists_once [] [] (v ∷ vs) a b = absurd b
-lists_once [] (u ∷ us) vs a b = absurd a
-lists_once (bs ∷ bss) [] vs a b = absurd a
-lists_once (bs ∷ bss) (u ∷ us) [] a b = absurd b
-lists_once (bs ∷ bss) (u ∷ us) (v ∷ vs) a b = rw (fields_once bs u v a.0 b.0, lists_once bss us vs a.1 b.1) refl
-
-each_once : (number : ℕ) (fs gs : List WireField) (us vs : List (List WireField)) → fs ≡ gs → EachStand number fs us → EachStand number gs vs →
-    us ≡ vs
-each_once number fs gs us vs e a b =
-    let P : List WireField → Type 0 = λ hs. EachStand number hs vs in
-    lists_once (each_bytes number fs) us vs a (subst P (sym e) b)
-
--- occurrences stand for one content at most
-pub content_once : (occurrences : List (List ℕ)) (c d : ContentFields) → StandForContent occurrences c → StandForContent occurrences d → c ≡ d
-content_once occurrences c d a b =
-    let own : c.own ≡ d.own = a.own ∙ ap (flat_map (λ p. p)) (lists_once occurrences a.parts b.parts a.each b.each) ∙ sym b.own in
-    let links = each_once 6 c.own d.own c.links d.links own a.links b.links in
-    let usermeta = each_once 9 c.own d.own c.usermeta d.usermeta own a.usermeta b.usermeta in
-    let indexes = each_once 10 c.own d.own c.indexes d.indexes own a.indexes b.indexes in
-    same_content c d own links usermeta indexes
 
 -- parts of two occurrences are put behind a content one after the other
 pub with_parts-merged : (content : Content) (c part : ContentFields) →

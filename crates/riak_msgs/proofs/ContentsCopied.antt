@@ -4,12 +4,11 @@ use Rattle.std.specs.Prelude.{filter_map}
 use Rattle.std.proofs.lemmas.List.{append-nil}
 use Rattle.pb_fields.specs.Field.{WireField}
 use Rattle.pb_fields.specs.Message.{Encodes}
-use Rattle.riak_msgs.specs.Contents.{Content}
-use Rattle.riak_msgs.specs.declared.link.Link.{Link}
-use Rattle.riak_msgs.specs.declared.pair.Pair.{Pair}
+use Rattle.riak_msgs.specs.Content.{Link, Pair, Content}
 use Rattle.riak_msgs.specs.Embedded.{ContentFields, link_of, pair_of}
 use Rattle.riak_msgs.specs.Seen.{Copies, HoldContent, merged, no_fields}
-use Rattle.riak_msgs.proofs.Contents.{same_content, with_parts-no_fields}
+use Rattle.riak_msgs.specs.ContentOnce.{same_content}
+use Rattle.riak_msgs.proofs.Contents.{with_parts-no_fields}
 use Rattle.riak_msgs.proofs.ContentsWalked.{alone, string_at}
 
 -- nothing behind a content, and one content behind another

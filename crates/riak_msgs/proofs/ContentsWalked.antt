@@ -16,7 +16,8 @@ use Rattle.riak_msgs.specs.Picking.{last_bytes, last_varint, bytes_at, varint_at
 use Rattle.riak_msgs.specs.Embedded.{ContentFields, StandForContent, pair_of}
 use Rattle.riak_msgs.specs.Seen.{HasNoParts, HoldContent, IsPartOf, IsSeenOf, Sees, no_fields, merged, misses_key}
 use Rattle.riak_msgs.proofs.Walks.{bytes_at-other, bytes_at-no_string, varint_at-no_number, is_some-option_copied}
-use Rattle.riak_msgs.proofs.Contents.{EachStand, each-append, each-split}
+use Rattle.riak_msgs.specs.ContentOnce.{EachStand}
+use Rattle.riak_msgs.proofs.Contents.{each-append, each-split}
 use Rattle.riak_msgs.proofs.Picking.{last_bytes-append, last_varint-append}
 
 -- no fields

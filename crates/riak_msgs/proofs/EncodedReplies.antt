@@ -17,12 +17,14 @@ use Rattle.pb_fields.specs.Encoding.{bytes_field, repeated_field}
 use Rattle.riak_msgs.specs.Encoding.{shown_message}
 use Rattle.riak_msgs.specs.Replies.{error_body, get_reply_body, put_reply_body, reply_code, reply_body}
 use Rattle.riak_msgs.specs.Picking.{last_bytes, last_varint, flag_of}
-use Rattle.riak_msgs.specs.Embedded.{ContentFields, StandForContent, shown_of}
+use Rattle.riak_msgs.specs.Embedded.{ContentFields, StandForContent}
 use Rattle.riak_msgs.specs.Reading.{first_fault, said_by}
-use Rattle.riak_msgs.specs.ReadingReplies.{text_named, text_in, error_fault, ShownFields, EncodesShown, contents_of, shown_fault, get_reply_of, put_reply_of, DecodesReply}
-use Rattle.riak_msgs.proofs.EncodedParts.{Part, string, optional, each, flag, encoded, encoded_behind-is, fields_of, parts_short, stands}
-use Rattle.riak_msgs.proofs.EncodedPicks.{each_bytes-fields_of, last_bytes-fields_of, last_varint-fields_of, flag_of-fields_of, last_or-only, some_bytes, context_field-is, unwrap_or-some_bytes, repeated_field-map}
-use Rattle.riak_msgs.proofs.EncodedContents.{each_stands, all_of-back, shown_fields, shown_stands, shown_back}
+use Rattle.riak_msgs.specs.ReadingReplies.{text_named, text_in, error_fault, ShownFields, EncodesShown, contents_of, shown_of, shown_fault, get_reply_of, put_reply_of, DecodesReply}
+use Rattle.pb_fields.proofs.EncodedParts.{Part, string, optional, each, flag, encoded, encoded_behind-is, fields_of, parts_short, stands}
+use Rattle.riak_msgs.specs.EncodedPicks.{each_bytes-fields_of, last_bytes-fields_of, last_varint-fields_of, flag_of-fields_of, last_or-only, repeated_field-map}
+use Rattle.riak_msgs.specs.EncodedContents.{each_stands, all_of-back}
+use Rattle.riak_msgs.proofs.EncodedOptions.{some_bytes, context_field-is, unwrap_or-some_bytes}
+use Rattle.riak_msgs.proofs.EncodedShown.{shown_fields, shown_stands, shown_back}
 use Rattle.riak_msgs.proofs.EncodedRequests.{said_ok}
 
 -- each text names its error

@@ -21,9 +21,10 @@ use Rattle.riak_msgs.specs.Requests.{get_body, put_body, del_body, request_code,
 use Rattle.riak_msgs.specs.Picking.{last_bytes, flag_of}
 use Rattle.riak_msgs.specs.Embedded.{StandForContent, content_of}
 use Rattle.riak_msgs.specs.Reading.{first_fault, is_empty_name, has_empty_name, named_key, names_fault, get_of, del_of, PutFields, EncodesPut, put_fault, put_of, said_by, Decodes}
-use Rattle.riak_msgs.proofs.EncodedParts.{Part, string, optional, flag, encoded, encoded_behind-is, fields_of, parts_short, stands, bytes_field-shorter}
-use Rattle.riak_msgs.proofs.EncodedPicks.{each_bytes-fields_of, last_bytes-fields_of, flag_of-fields_of, last_or-only, some_bytes, context_field-is, unwrap_or-some_bytes, some_type, type_field-is, unwrap_or-some_type}
-use Rattle.riak_msgs.proofs.EncodedContents.{alive, shown_fields, content_stands, content_back}
+use Rattle.pb_fields.proofs.EncodedParts.{Part, string, optional, flag, encoded, encoded_behind-is, fields_of, parts_short, stands, bytes_field-shorter}
+use Rattle.riak_msgs.specs.EncodedPicks.{each_bytes-fields_of, last_bytes-fields_of, flag_of-fields_of, last_or-only}
+use Rattle.riak_msgs.specs.EncodedContents.{fields_in, content_stands, content_back}
+use Rattle.riak_msgs.proofs.EncodedOptions.{some_bytes, context_field-is, unwrap_or-some_bytes, some_type, type_field-is, unwrap_or-some_type}
 
 -- where no fault holds, what was asked is said
 pub said_ok : {A : Type 0} (fault : Option MsgFault) (said asked : A) → fault ≡ None → said ≡ asked → Ok said ≡ said_by fault asked
@@ -190,7 +191,7 @@ put_parts p =
     ∷ []
 
 put_fields : PutAsk → PutFields
-put_fields p = record { own = fields_of (put_parts p); content = shown_fields (alive p.content) }
+put_fields p = record { own = fields_of (put_parts p); content = fields_in p.content false }
 
 -- four behind another, one after the other
 four_behind : (x a b c d : List ℕ) → x ++ (a ++ b ++ c ++ d) ≡ x ++ a ++ b ++ c ++ d
@@ -223,7 +224,7 @@ put_stands p short =
     let each_short = parts_short parts (subst (λ bs. length bs < 2 ^ 64) (put_encoded p) short) in
     record {
       own = stands (put_body p) parts (put_encoded p) (search arith) short;
-      content = subst (λ bss. StandForContent bss (shown_fields (alive p.content))) (sym (each_bytes-fields_of 4 parts))
+      content = subst (λ bss. StandForContent bss (fields_in p.content false)) (sym (each_bytes-fields_of 4 parts))
           (content_stands p.content (bytes_field-shorter 4 (content_message p.content) each_short.1.1.1.0));
     }
 
@@ -250,7 +251,7 @@ unfolding put_parts put_fields
 put_in p = record {
   names = put_names p;
   context = last_bytes-fields_of 3 (put_parts p) ∙ last_or-only (some_bytes p.context);
-  content = content_back (alive p.content);
+  content = content_back p.content false;
   return_body = flag_of-fields_of 7 (put_parts p) p.return_body refl;
   if_not_modified = flag_of-fields_of 9 (put_parts p) p.if_not_modified refl;
   if_none_match = flag_of-fields_of 10 (put_parts p) p.if_none_match refl;

@@ -1,7 +1,8 @@
 pub mod Picking
-pub mod EncodedParts
-pub mod EncodedPicks
-pub mod EncodedContents
+pub mod ValueAndDetails
+pub mod KeptContents
+pub mod EncodedOptions
+pub mod EncodedShown
 pub mod EncodedRequests
 pub mod EncodedReplies
 pub mod Contents

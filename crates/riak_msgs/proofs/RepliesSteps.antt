@@ -9,10 +9,11 @@ use Rattle.pb_fields.proofs.Lists.{fields_once}
 use Rattle.riak_msgs.specs.Contents.{Content}
 use Rattle.riak_msgs.specs.declared.shown.Shown.{Shown}
 use Rattle.riak_msgs.specs.Picking.{bytes_at, each_bytes, flag_of}
-use Rattle.riak_msgs.specs.Embedded.{ContentFields, StandForContent, all_of, content_of, shown_of}
-use Rattle.riak_msgs.specs.ReadingReplies.{ShownFields, EncodesShown, contents_of}
+use Rattle.riak_msgs.specs.Embedded.{ContentFields, StandForContent, all_of, content_of}
+use Rattle.riak_msgs.specs.ReadingReplies.{ShownFields, EncodesShown, contents_of, shown_of}
 use Rattle.riak_msgs.specs.SeenReplies.{ContentsIn, whole_of}
-use Rattle.riak_msgs.proofs.Contents.{content_once, content_of-whole}
+use Rattle.riak_msgs.specs.ContentOnce.{content_once}
+use Rattle.riak_msgs.proofs.Contents.{content_of-whole}
 
 -- each of the byte strings stands for a content
 abbrev pub EachContent : List (List ℕ) → List ContentFields → Type 0

@@ -10,7 +10,7 @@ use Rattle.pb_fields.specs.Field.{WireField}
 use Rattle.riak_msgs.specs.Picking.{each_bytes}
 use Rattle.riak_msgs.specs.Embedded.{StandForContent}
 use Rattle.riak_msgs.specs.Reading.{PutFields, EncodesPut, DecodesBy, Decodes, IsRequestCode, said_by, names_fault, get_of, put_fault, put_of, del_of}
-use Rattle.riak_msgs.proofs.Contents.{content_once}
+use Rattle.riak_msgs.specs.ContentOnce.{content_once}
 
 -- bytes stand for one put at most
 put_once : (bs : List ℕ) (p q : PutFields) → EncodesPut bs p → EncodesPut bs q → p ≡ q

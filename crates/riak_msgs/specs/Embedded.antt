@@ -3,11 +3,8 @@ use Rattle.std.specs.Prelude.{◌≡◌, ℕ, List, [], ◌∷◌, Option, Some,
 use Rattle.std.specs.List.{AllZip}
 use Rattle.pb_fields.specs.Field.{WireField}
 use Rattle.pb_fields.specs.Message.{Encodes}
-use Rattle.riak_msgs.specs.declared.link.Link.{Link}
-use Rattle.riak_msgs.specs.declared.pair.Pair.{Pair}
-use Rattle.riak_msgs.specs.Contents.{Content}
-use Rattle.riak_msgs.specs.declared.shown.Shown.{Shown}
-use Rattle.riak_msgs.specs.Picking.{each_bytes, last_bytes, flag_of}
+use Rattle.riak_msgs.specs.Content.{Link, Pair, Content}
+use Rattle.riak_msgs.specs.Picking.{each_bytes, last_bytes}
 
 -- all of them, where each is there
 abbrev pub all_of : {A : Type 0} → List (Option A) → Option (List A)
@@ -51,7 +48,3 @@ content_of c =
       usermeta = usermeta;
       indexes = indexes;
     }) (all_of (map pair_of c.indexes))) (all_of (map pair_of c.usermeta))) (last_bytes 1 c.own)
-
--- and whether it is a tombstone
-abbrev pub shown_of : ContentFields → Option Shown
-shown_of c = option_map (λ content. record { content = content; deleted = flag_of 11 c.own }) (content_of c)

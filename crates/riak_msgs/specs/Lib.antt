@@ -3,11 +3,17 @@ pub mod KeyOrder
 pub mod Content
 pub mod Contents
 pub mod Text
+pub mod ContentEncoding
+pub mod Details
 pub mod Encoding
 pub mod Replies
 pub mod Requests
 pub mod Picking
 pub mod Embedded
+pub mod EncodedPicks
+pub mod EncodedContents
+pub mod ContentOnce
+pub mod KeptContent
 pub mod Seen
 pub mod SeenContents
 pub mod SeenRequests

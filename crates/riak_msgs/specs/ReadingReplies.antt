@@ -1,5 +1,5 @@
 -- What a reply says to a client: a function of its fields, or why it is none.
-use Rattle.std.specs.Prelude.{◌≡◌, ◌⊎◌, ℕ, ◌||◌, ◌&&◌, List, [], ◌∷◌, map, find, Option, is_none, is_some, unwrap_or, option_and_then, Result, Ok, Err}
+use Rattle.std.specs.Prelude.{◌≡◌, ◌⊎◌, ℕ, ◌||◌, ◌&&◌, List, [], ◌∷◌, map, find, Option, is_none, is_some, unwrap_or, option_map, option_and_then, Result, Ok, Err}
 use Rattle.std.specs.List.{AllZip}
 use Rattle.std.specs.Str.{bytes_eq}
 use Rattle.pb_fields.specs.Field.{WireField}
@@ -15,7 +15,7 @@ use Rattle.riak_msgs.specs.declared.fault.MsgFault.{MsgFault}
 use Rattle.riak_msgs.specs.declared.fault.MsgFault.TheVariants as faults
 use Rattle.riak_msgs.specs.Text.{text_bytes}
 use Rattle.riak_msgs.specs.Picking.{each_bytes, last_bytes, last_varint, flag_of}
-use Rattle.riak_msgs.specs.Embedded.{ContentFields, StandForContent, all_of, shown_of}
+use Rattle.riak_msgs.specs.Embedded.{ContentFields, StandForContent, all_of, content_of}
 use Rattle.riak_msgs.specs.Reading.{first_fault, said_by, DecodesBy}
 
 abbrev pub all_texts : List Text
@@ -46,6 +46,10 @@ pub record ShownFields : Type 0 where
 pub record EncodesShown (bs : List ℕ) (reply : ShownFields) : Type 0 where
   pub own : Encodes bs reply.own
   pub contents : AllZip (λ content fields. StandForContent (content ∷ []) fields) (each_bytes 1 reply.own) reply.contents
+
+-- a content, and whether it is a tombstone
+abbrev pub shown_of : ContentFields → Option Shown
+shown_of c = option_map (λ content. record { content = content; deleted = flag_of 11 c.own }) (content_of c)
 
 -- the contents that are shown, where each is whole
 abbrev pub contents_of : ShownFields → Option (List Shown)

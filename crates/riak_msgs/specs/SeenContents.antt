@@ -1,6 +1,7 @@
--- The content of a copy to which links and pairs are added.
-use Rattle.riak_msgs.specs.Content.{Content, content_with}
-use Rattle.riak_msgs.specs.declared.content_view.PartsCopy.{PartsCopy}
+-- The content of a view to which links and pairs are added.
+use Rattle.riak_msgs.specs.Content.{Content}
+use Rattle.riak_msgs.specs.Details.{content_with}
+use Rattle.riak_msgs.specs.declared.content_view.PartsView.{PartsView}
 
-abbrev pub content_in : PartsCopy → Content
-content_in copy = content_with copy.value.items copy.details
+abbrev pub content_in : PartsView → Content
+content_in parts = content_with parts.value.now parts.details

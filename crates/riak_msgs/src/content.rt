@@ -1,180 +1,149 @@
 //! What is stored under a key.
 
-ghost use Rattle.riak_msgs.specs.Encoding.{content_message};
-ghost use Rattle.std.specs.Prelude.{◌≡◌, IfOk, option_copied};
-ghost use Rattle.riak_msgs.specs.Content.{content_with};
-ghost use Rattle.riak_msgs.specs.Contents.{bare, no_content};
+ghost use Rattle.std.specs.Prelude.{◌≡◌, ◌<◌, ◌^◌, ◌∷◌, ◌++◌, [], Some, length, IfOk, IsOkUnless};
+ghost use Rattle.pb_fields.specs.Encoding.{bytes_field};
+ghost use Rattle.riak_msgs.specs.ContentEncoding.{content_message};
+ghost use Rattle.riak_msgs.specs.Details.{content_with, details_message};
+ghost use Rattle.riak_msgs.specs.KeptContent.{Keeps, Keeps-prop};
 
-use crate::bytes::Bytes;
+use crate::content_view::ContentView;
 use crate::details::Details;
-use crate::link::Link;
-use crate::pair::Pair;
-use pb_fields::{Message, Output};
+use crate::encode::write_encoding;
+use crate::fault::MsgFault;
+use crate::field_access::bytes_at;
+use pb_fields::{Fields, LengthCounter, Message, Output};
 use std::alloc::{AllocError, Global};
 use std::marker::Model;
 
-/// What a client stores under a key: a value, and its details. All is kept as it came.
+/// The encoding of the empty value without details.
+const NO_CONTENT: &[u8] = &[10, 0];
+
+/// What a client stores under a key: a value, and its details.
 ///
-/// The value's bytes lie on the heap, and so do the details, together, where there are some: a content takes 40 bytes beside them. Contracts
-/// see the record of the value and each detail.
+/// Kept is its encoding, as a reply has it, in one place on the heap: the value's field, and behind it those of the details that
+/// are there. So a reply takes it as it is, and a copy is one copy of bytes. Of the empty value without details nothing is kept.
+/// Contracts see the record of the value and each detail.
 ///
 /// Source: `RpbContent` of `riak_kv.proto`, without the tag and times that a server writes.
 pub struct Content {
-    value: Vec<u8>,
-    details: Option<Box<Details>>,
+    bytes: Vec<u8>,
+    ghost kept: { Keeps bytes.items } by { Keeps-prop bytes.items },
 }
 
 /// One call at each place where one is let go.
 impl Drop for Content {
     fn drop(self) {
-        let Content {
-            value: _value,
-            details: _details,
-        } = self;
+        let Content { bytes: _bytes } = self;
     }
 }
 
 impl Model for Content {
-    ghost use Rattle.std.specs.Option.{option_map_or};
-    ghost use Rattle.riak_msgs.specs.Content.{Content, content_with, no_details};
+    ghost use Rattle.riak_msgs.specs.Content.{Content};
+    ghost use Rattle.riak_msgs.specs.KeptContent.{content_kept};
 
     ghost Value = { Content };
 
-    ghost view = { λ c. content_with c.value.items (option_map_or (λ b. b.value) c.details no_details) };
+    ghost view = { λ c. content_kept c.bytes.items c.kept };
 }
 
 impl Content {
+    ghost use Rattle.riak_msgs.specs.Contents.{bare, no_content};
+    ghost use Rattle.riak_msgs.specs.Embedded.{ContentFields, StandForContent, content_of};
+    ghost use Rattle.riak_msgs.specs.Seen.{IsSeenOf};
+
     /// An empty value without details. It takes no memory.
     pub fn new(alloc: Global) -> Content
         ensures { result ≡ no_content }
     {
-        Content::plain(Vec::new(alloc))
-    }
-
-    /// A value without details, which is kept as it is. It takes no memory.
-    pub fn plain(value: Vec<u8>) -> Content
-        ensures { result ≡ record no_content { value = value.items } }
-    {
         Content {
-            value,
-            details: None,
+            bytes: Vec::new(alloc),
         }
     }
 
-    /// A copy of a value, without details.
+    /// A value without details.
     pub fn of_value(alloc: Global, value: &[u8]) -> Result<Content, AllocError>
         ensures { IfOk result (λ content. content ≡ record no_content { value = value.now }) }
     {
-        Ok(Content::plain(Vec::from_slice(alloc, value)?))
+        Content::with_details(alloc, value, &Details::new(alloc))
     }
 
-    /// A value with these details, both kept as they are. It takes one place on the heap. Where memory is refused both are let go.
+    /// A value with these details. It takes one place on the heap, of the size of its encoding.
     pub fn with_details(
         alloc: Global,
-        value: Vec<u8>,
-        details: Details,
+        value: &[u8],
+        details: &Details<'_>,
     ) -> Result<Content, AllocError>
-        ensures { IfOk result (λ content. content ≡ content_with value.items details) }
+        ensures { IfOk result (λ content. content ≡ content_with value.now details.now) }
     {
-        let details = Box::new(alloc, details)?;
-        Ok(Content {
-            value,
-            details: Some(details),
-        })
+        let bytes = write_encoding(alloc, &Detailed { value, details })?;
+        Ok(Content { bytes })
     }
 
-    /// The value's bytes.
+    /// The encoding.
+    fn encoding(&self) -> &[u8]
+        ensures encoding { result.now ≡ content_message self.now }
+        ensures counted { length result.now < 2 ^ 64 }
+    {
+        if self.bytes.is_empty() {
+            NO_CONTENT
+        } else {
+            self.bytes.as_slice()
+        }
+    }
+
+    /// What a scan over the encoding sees.
+    fn view(&self) -> ContentView<'_>
+        ensures { (c : ContentFields) × IsSeenOf result c
+            × StandForContent (content_message self.now ∷ []) c × (content_of c ≡ Some self.now) }
+    {
+        let mut view = ContentView::new();
+        match view.merge(self.encoding()) {
+            Ok(()) => view,
+            Err(_) => unreachable!(),
+        }
+    }
+
+    /// The value's bytes, which are those of the first field.
     pub fn value(&self) -> &[u8]
         ensures { result.now ≡ self.now.value }
     {
-        self.value.as_slice()
-    }
-
-    /// The content type, where it is given.
-    pub fn content_type(&self) -> Option<&Bytes>
-        ensures { option_copied result ≡ self.now.content_type }
-    {
-        match &self.details {
-            Some(details) => details.content_type.as_ref(),
-            None => None,
+        match Fields::new(self.encoding()).next() {
+            Some(Ok(field)) => bytes_at(1, field).unwrap_or(&[]),
+            Some(Err(_)) => unreachable!(),
+            None => unreachable!(),
         }
     }
 
-    /// The charset, where it is given.
-    pub fn charset(&self) -> Option<&Bytes>
-        ensures { option_copied result ≡ self.now.charset }
+    /// The details. They take memory only where there are links or pairs, to list them; the time is linear in the encoding's bytes.
+    pub fn details(&self, alloc: Global) -> Result<Details<'_>, MsgFault>
+        ensures details { IfOk result (λ details.
+            self.now ≡ content_with self.now.value details) }
+        ensures memory { IsOkUnless result MsgFault.NoMemory }
     {
-        match &self.details {
-            Some(details) => details.charset.as_ref(),
-            None => None,
-        }
-    }
-
-    /// The encoding, where it is given.
-    pub fn content_encoding(&self) -> Option<&Bytes>
-        ensures { option_copied result ≡ self.now.content_encoding }
-    {
-        match &self.details {
-            Some(details) => details.content_encoding.as_ref(),
-            None => None,
-        }
-    }
-
-    /// The links, in their order.
-    pub fn links(&self) -> &[Link]
-        ensures { result.now ≡ self.now.links }
-    {
-        match &self.details {
-            Some(details) => details.links.as_slice(),
-            None => &[],
-        }
-    }
-
-    /// The pairs of the metadata, in their order.
-    pub fn usermeta(&self) -> &[Pair]
-        ensures { result.now ≡ self.now.usermeta }
-    {
-        match &self.details {
-            Some(details) => details.usermeta.as_slice(),
-            None => &[],
-        }
-    }
-
-    /// The pairs of the indexes, in their order.
-    pub fn indexes(&self) -> &[Pair]
-        ensures { result.now ≡ self.now.indexes }
-    {
-        match &self.details {
-            Some(details) => details.indexes.as_slice(),
-            None => &[],
-        }
+        Ok(self.view().whole(alloc, self.encoding())?.details)
     }
 
     /// A copy.
     pub fn clone(&self, alloc: Global) -> Result<Content, AllocError>
         ensures { IfOk result (λ copy. copy ≡ self.now) }
     {
-        self.clone_details(alloc, Vec::from_slice(alloc, self.value.as_slice())?)
+        Ok(Content {
+            bytes: Vec::from_slice(alloc, self.bytes.as_slice())?,
+        })
     }
 
     /// A copy with an empty value: the value's bytes are neither copied nor given room.
     pub fn clone_head(&self, alloc: Global) -> Result<Content, AllocError>
         ensures { IfOk result (λ copy. copy ≡ bare self.now) }
     {
-        self.clone_details(alloc, Vec::new(alloc))
-    }
-
-    /// Another value with a copy of the details.
-    fn clone_details(&self, alloc: Global, value: Vec<u8>) -> Result<Content, AllocError>
-        ensures { IfOk result (λ copy. copy ≡ record self.now { value = value.items }) }
-    {
-        match &self.details {
-            Some(details) => {
-                let details: &Details = details;
-                Content::with_details(alloc, value, details.clone(alloc)?)
-            }
-            None => Ok(Content::plain(value)),
-        }
+        let encoding = self.encoding();
+        let mut head = LengthCounter { len: 0 };
+        head.encode_bytes(1, self.value())?;
+        let details = &encoding[head.len..];
+        let mut bytes = Vec::with_capacity(alloc, details.len().saturating_add(NO_CONTENT.len()))?;
+        bytes.append_encoded(NO_CONTENT)?;
+        bytes.append_encoded(details)?;
+        Ok(Content { bytes })
     }
 }
 
@@ -183,10 +152,22 @@ impl Message for Content {
 
     #[inline(always)]
     fn encode<O: Output>(&self, out: &mut O) -> Result<(), AllocError> {
-        out.encode_bytes(1, self.value.as_slice())?;
-        match &self.details {
-            Some(details) => details.encode(out),
-            None => Ok(()),
-        }
+        out.append_encoded(self.encoding())
+    }
+}
+
+/// A value, and its details behind it.
+#[derive(Clone, Copy)]
+struct Detailed<'a, 'd> {
+    value: &'a [u8],
+    details: &'a Details<'d>,
+}
+
+impl<'a, 'd> Message for Detailed<'a, 'd> {
+    ghost encoding = { λ d. bytes_field 1 d.value.now ++ details_message d.details.now };
+
+    fn encode<O: Output>(&self, out: &mut O) -> Result<(), AllocError> {
+        out.encode_bytes(1, self.value)?;
+        self.details.encode(out)
     }
 }

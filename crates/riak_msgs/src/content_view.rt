@@ -1,17 +1,16 @@
-//! What a walk over a content's fields sees, without memory; and the content that is then copied out of them.
+//! What a walk over a content's fields sees, without memory; and the content that is then made of it.
 
-ghost use Rattle.std.specs.Prelude.{◌≡◌, ◌∷◌, [], IfOk, IfErr, OnOk, OnErr, is_some, None, false, option_copied};
+ghost use Rattle.std.specs.Prelude.{◌≡◌, ◌∷◌, [], IfOk, IfErr, OnOk, OnErr, is_some};
 ghost use Rattle.pb_fields.specs.Field.{byte_string};
 ghost use Rattle.riak_msgs.specs.Embedded.{ContentFields, StandForContent, content_of};
 ghost use Rattle.riak_msgs.specs.SeenContents.{content_in};
-ghost use Rattle.riak_msgs.specs.Content.{no_details};
 ghost use Rattle.riak_msgs.specs.Seen.{Copies, HoldsNone, IsSeenOf, RefusesToCopy, Sees};
 ghost use Rattle.riak_msgs.specs.Seen.{no_fields, merged, scalars_of, with_parts};
 
 use crate::content::Content;
 use crate::details::Details;
 use crate::fault::MsgFault;
-use crate::pairs_and_links::{PairView, copied_three, copy_link, copy_pair};
+use crate::pairs_and_links::{PairView, push_link, push_pair};
 use crate::sequence::Sequence;
 use pb_fields::{Field, FieldFault, Merge, Value, scan};
 use std::alloc::{AllocError, Global};
@@ -91,62 +90,36 @@ impl<'a> ContentView<'a> {
         self.value.is_some() && !self.misses_key
     }
 
-    /// Whether a content type, a charset or an encoding was seen.
-    fn has_labels(&self) -> bool
-        ensures { result ≡ false → (option_copied self.now.content_type ≡ None)
-            × (option_copied self.now.charset ≡ None)
-            × (option_copied self.now.content_encoding ≡ None) }
+    /// The scalars that were seen, to which links and pairs can be added.
+    pub(crate) fn scalars(&self, alloc: Global) -> PartsView<'a>
+        ensures { (c : ContentFields) → IsSeenOf self.now c → content_in result ≡ scalars_of c }
     {
-        self.content_type.is_some() || self.charset.is_some() || self.content_encoding.is_some()
-    }
-
-    /// A copy of the scalars.
-    pub(crate) fn scalars(&self, alloc: Global) -> Result<Content, AllocError>
-        ensures { (c : ContentFields) → IsSeenOf self.now c
-            → IfOk result (λ content. content ≡ scalars_of c) }
-    {
-        if !self.has_labels() {
-            return Content::of_value(alloc, self.value.unwrap_or(&[]));
+        PartsView {
+            value: self.value.unwrap_or(&[]),
+            details: Details {
+                content_type: self.content_type,
+                charset: self.charset,
+                content_encoding: self.content_encoding,
+                links: Sequence::new(alloc),
+                usermeta: Sequence::new(alloc),
+                indexes: Sequence::new(alloc),
+            },
         }
-        self.parts_copy(alloc)?.content()
     }
 
-    /// A copy of the scalars, to which links and pairs can be added.
-    pub(crate) fn parts_copy(&self, alloc: Global) -> Result<PartsCopy, AllocError>
-        ensures { (c : ContentFields) → IsSeenOf self.now c
-            → IfOk result (λ copy. content_in copy ≡ scalars_of c) }
+    /// What was seen in the bytes of one occurrence, with its links and pairs. They are scanned once more where there are some.
+    pub(crate) fn whole(&self, alloc: Global, bytes: &'a [u8]) -> Result<PartsView<'a>, MsgFault>
+        ensures ok { (c : ContentFields) → IsSeenOf self.now c
+            → StandForContent (bytes.now ∷ []) c
+            → IfOk result (λ parts. content_in parts ≡ with_parts (scalars_of c) c) }
+        ensures err { (c : ContentFields) → StandForContent (bytes.now ∷ []) c
+            → IfErr result (λ fault. fault ≡ MsgFault.NoMemory) }
     {
-        let value = Vec::from_slice(alloc, self.value.unwrap_or(&[]))?;
-        let details = self.labels(alloc)?;
-        Ok(PartsCopy {
-            alloc,
-            value,
-            details,
-        })
-    }
-
-    /// A copy of the content type, the charset and the encoding.
-    fn labels(&self, alloc: Global) -> Result<Details, AllocError>
-        ensures { IfOk result (λ details. details ≡ record no_details {
-          content_type = option_copied self.now.content_type;
-          charset = option_copied self.now.charset;
-          content_encoding = option_copied self.now.content_encoding;
-        }) }
-    {
-        let (content_type, charset, content_encoding) = copied_three(
-            alloc,
-            self.content_type,
-            self.charset,
-            self.content_encoding,
-        )?;
-        Ok(Details {
-            content_type,
-            charset,
-            content_encoding,
-            links: Sequence::new(alloc),
-            usermeta: Sequence::new(alloc),
-            indexes: Sequence::new(alloc),
-        })
+        let mut parts = self.scalars(alloc);
+        if self.has_parts {
+            merge_parts(bytes, &mut parts)?;
+        }
+        Ok(parts)
     }
 }
 
@@ -171,24 +144,23 @@ impl<'a> Merge<'a> for ContentView<'a> {
     }
 }
 
-/// A content, into which the links and pairs of its occurrences are copied.
+/// A content, borrowed, into which the links and pairs of its occurrences are merged.
 #[derive(Drop)]
-pub(crate) struct PartsCopy {
-    pub(crate) alloc: Global,
-    pub(crate) value: Vec<u8>,
-    pub(crate) details: Details,
+pub(crate) struct PartsView<'a> {
+    pub(crate) value: &'a [u8],
+    pub(crate) details: Details<'a>,
 }
 
-impl PartsCopy {
+impl<'a> PartsView<'a> {
     /// The content, whole.
-    pub(crate) fn content(self) -> Result<Content, AllocError>
-        ensures { IfOk result (λ content. content ≡ content_in self) }
+    pub(crate) fn content(&self, alloc: Global) -> Result<Content, AllocError>
+        ensures { IfOk result (λ content. content ≡ content_in self.now) }
     {
-        Content::with_details(self.alloc, self.value, self.details)
+        Content::with_details(alloc, self.value, &self.details)
     }
 }
 
-impl<'a> Merge<'a> for PartsCopy {
+impl<'a> Merge<'a> for PartsView<'a> {
     type Fault = MsgFault;
 
     ghost merges = { λ before field after. Copies (content_in before) field (content_in after) };
@@ -200,22 +172,22 @@ impl<'a> Merge<'a> for PartsCopy {
             return Ok(());
         };
         match field.number {
-            6 => copy_link(self.alloc, bytes, &mut self.details.links),
-            9 => copy_pair(self.alloc, bytes, &mut self.details.usermeta),
-            10 => copy_pair(self.alloc, bytes, &mut self.details.indexes),
+            6 => push_link(bytes, &mut self.details.links),
+            9 => push_pair(bytes, &mut self.details.usermeta),
+            10 => push_pair(bytes, &mut self.details.indexes),
             _ => Ok(()),
         }
     }
 }
 
-/// Copies the links and pairs of one occurrence of a content behind those that it has.
+/// Puts the links and pairs of one occurrence of a content behind those that are there.
 ///
 /// The occurrence was seen before, so only memory can be refused.
-pub(crate) fn copy_parts(bytes: &[u8], copy: &mut PartsCopy) -> Result<(), MsgFault>
+pub(crate) fn merge_parts<'a>(bytes: &'a [u8], parts: &mut PartsView<'a>) -> Result<(), MsgFault>
     ensures ok { OnOk result ((part : ContentFields) × StandForContent (bytes.now ∷ []) part
-        × (content_in copy.new ≡ with_parts (content_in copy.old) part)) }
+        × (content_in parts.new ≡ with_parts (content_in parts.old) part)) }
     ensures err { (part : ContentFields) → StandForContent (bytes.now ∷ []) part
         → IfErr result (λ fault. fault ≡ MsgFault.NoMemory) }
 {
-    scan(bytes, copy)
+    scan(bytes, parts)
 }

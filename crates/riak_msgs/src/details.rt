@@ -1,32 +1,29 @@
 //! What a content may state beside its value.
 
-ghost use Rattle.riak_msgs.specs.Encoding.{details_message};
-ghost use Rattle.std.specs.Prelude.{◌≡◌, IfOk};
-ghost use Rattle.riak_msgs.specs.Content.{no_details};
+ghost use Rattle.riak_msgs.specs.Details.{details_message, no_details};
+ghost use Rattle.std.specs.Prelude.{◌≡◌};
 
-use crate::bytes::Bytes;
 use crate::encode::encode_optional;
 use crate::link::Link;
 use crate::pair::Pair;
 use crate::sequence::Sequence;
-use crate::try_clone::try_clone_three;
 use pb_fields::{Message, Output, encode_repeated};
 use std::alloc::{AllocError, Global};
 
-/// What a content may state beside its value. Each part may be absent, and most contents have none.
+/// What a content may state beside its value, borrowed. Each part may be absent, and most contents have none.
 ///
 /// Source: `RpbContent` of `riak_kv.proto`.
-pub struct Details {
-    pub content_type: Option<Bytes>,
-    pub charset: Option<Bytes>,
-    pub content_encoding: Option<Bytes>,
-    pub links: Sequence<Link>,
-    pub usermeta: Sequence<Pair>,
-    pub indexes: Sequence<Pair>,
+pub struct Details<'a> {
+    pub content_type: Option<&'a [u8]>,
+    pub charset: Option<&'a [u8]>,
+    pub content_encoding: Option<&'a [u8]>,
+    pub links: Sequence<Link<'a>>,
+    pub usermeta: Sequence<Pair<'a>>,
+    pub indexes: Sequence<Pair<'a>>,
 }
 
 /// One call at each place where one is let go.
-impl Drop for Details {
+impl<'a> Drop for Details<'a> {
     fn drop(self) {
         let Details {
             content_type: _content_type,
@@ -39,12 +36,9 @@ impl Drop for Details {
     }
 }
 
-/// Links, metadata and indexes.
-type Parts = (Sequence<Link>, Sequence<Pair>, Sequence<Pair>);
-
-impl Details {
+impl<'a> Details<'a> {
     /// None is given. It takes no memory.
-    pub fn new(alloc: Global) -> Details
+    pub fn new(alloc: Global) -> Details<'a>
         ensures { result ≡ no_details }
     {
         Details {
@@ -56,49 +50,15 @@ impl Details {
             indexes: Sequence::new(alloc),
         }
     }
-
-    /// A copy.
-    pub fn clone(&self, alloc: Global) -> Result<Details, AllocError>
-        ensures { IfOk result (λ copy. copy ≡ self.now) }
-    {
-        let (content_type, charset, content_encoding) = try_clone_three(
-            &self.content_type,
-            &self.charset,
-            &self.content_encoding,
-            alloc,
-        )?;
-        let (links, usermeta, indexes) = self.clone_parts(alloc)?;
-        Ok(Details {
-            content_type,
-            charset,
-            content_encoding,
-            links,
-            usermeta,
-            indexes,
-        })
-    }
-
-    /// Copies of the links, the metadata and the indexes. (Apart from the others, since each value that is held at a `?` costs
-    /// the prover time.)
-    fn clone_parts(&self, alloc: Global) -> Result<Parts, AllocError>
-        ensures { IfOk result (λ r. (r.0 ≡ self.now.links) × (r.1 ≡ self.now.usermeta)
-            × (r.2 ≡ self.now.indexes)) }
-    {
-        Ok((
-            self.links.clone(alloc)?,
-            self.usermeta.clone(alloc)?,
-            self.indexes.clone(alloc)?,
-        ))
-    }
 }
 
-impl Message for Details {
+impl<'a> Message for Details<'a> {
     ghost encoding = { details_message };
 
     fn encode<O: Output>(&self, out: &mut O) -> Result<(), AllocError> {
-        encode_optional(out, 2, &self.content_type)?;
-        encode_optional(out, 3, &self.charset)?;
-        encode_optional(out, 4, &self.content_encoding)?;
+        encode_optional(out, 2, self.content_type)?;
+        encode_optional(out, 3, self.charset)?;
+        encode_optional(out, 4, self.content_encoding)?;
         encode_repeated(out, 6, self.links.as_slice())?;
         encode_repeated(out, 9, self.usermeta.as_slice())?;
         encode_repeated(out, 10, self.indexes.as_slice())

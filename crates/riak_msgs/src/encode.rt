@@ -1,6 +1,6 @@
 //! Fields that may be absent, and a message behind its code.
 
-ghost use Rattle.std.specs.Prelude.{◌≡◌, ◌∷◌, IfOk, IsOkUnless, OnOk};
+ghost use Rattle.std.specs.Prelude.{◌≡◌, ◌∷◌, ◌<◌, ◌^◌, length, IfOk, IsOkUnless, OnOk, option_copied};
 ghost use Rattle.pb_fields.specs.Encoding.{optional_field};
 ghost use Rattle.pb_fields.specs.Field.{IsNumber};
 ghost use Rattle.riak_msgs.specs.Encoding.{context_field};
@@ -17,13 +17,14 @@ use std::alloc::{AllocError, Global};
 pub(crate) fn encode_optional<O: Output>(
     out: &mut O,
     number: u32,
-    bytes: &Option<Bytes>,
+    bytes: Option<&[u8]>,
 ) -> Result<(), AllocError>
     requires { IsNumber number }
-    ensures { OnOk result (O.appends out.old (optional_field number bytes.now) out.new) }
+    ensures { OnOk result
+        (O.appends out.old (optional_field number (option_copied bytes.entry)) out.new) }
 {
     match bytes {
-        Some(bytes) => out.encode_bytes(number, bytes.as_slice()),
+        Some(bytes) => out.encode_bytes(number, bytes),
         None => Ok(()),
     }
 }
@@ -75,6 +76,16 @@ pub(crate) fn write_message<M: Message>(
     let body = encoded_len(message)?;
     let mut out = Vec::with_capacity(alloc, body.saturating_add(1))?;
     out.extend_from_slice(&[code])?;
+    message.encode(&mut out)?;
+    Ok(out)
+}
+
+/// A message's encoding, in one buffer of the right size.
+pub(crate) fn write_encoding<M: Message>(alloc: Global, message: &M) -> Result<Vec<u8>, AllocError>
+    ensures encoded { IfOk result (λ v. v.items ≡ M.encoding message.now) }
+    ensures counted { IfOk result (λ v. length v.items < 2 ^ 64) }
+{
+    let mut out = Vec::with_capacity(alloc, encoded_len(message)?)?;
     message.encode(&mut out)?;
     Ok(out)
 }

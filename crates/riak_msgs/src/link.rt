@@ -1,54 +1,39 @@
 //! Links of a content.
 
-ghost use Rattle.riak_msgs.specs.Encoding.{link_message};
-ghost use Rattle.std.specs.Prelude.{◌≡◌, IfOk};
+ghost use Rattle.riak_msgs.specs.ContentEncoding.{link_message};
 
-use crate::bytes::Bytes;
 use crate::encode::encode_optional;
-use crate::try_clone::{TryClone, try_clone_three};
 use pb_fields::{Message, Output};
-use std::alloc::{AllocError, Global};
+use std::alloc::AllocError;
+use std::marker::Model;
 
-/// A link from a value to another key. Each part may be absent.
-pub struct Link {
-    pub bucket: Option<Bytes>,
-    pub key: Option<Bytes>,
-    pub tag: Option<Bytes>,
+/// A link from a value to another key, borrowed. Each part may be absent. Contracts see the record of its parts.
+#[derive(Drop)]
+pub struct Link<'a> {
+    pub bucket: Option<&'a [u8]>,
+    pub key: Option<&'a [u8]>,
+    pub tag: Option<&'a [u8]>,
 }
 
-/// One call at each place where one is let go.
-impl Drop for Link {
-    fn drop(self) {
-        let Link {
-            bucket: _bucket,
-            key: _key,
-            tag: _tag,
-        } = self;
-    }
+impl<'a> Model for Link<'a> {
+    ghost use Rattle.std.specs.Prelude.{option_copied};
+    ghost use Rattle.riak_msgs.specs.Content.{Link};
+
+    ghost Value = { Link };
+
+    ghost view = { λ link. record {
+      bucket = option_copied link.bucket;
+      key = option_copied link.key;
+      tag = option_copied link.tag;
+    } };
 }
 
-impl Link {
-    /// A copy.
-    pub fn clone(&self, alloc: Global) -> Result<Link, AllocError>
-        ensures { IfOk result (λ copy. copy ≡ self.now) }
-    {
-        let (bucket, key, tag) = try_clone_three(&self.bucket, &self.key, &self.tag, alloc)?;
-        Ok(Link { bucket, key, tag })
-    }
-}
-
-impl TryClone for Link {
-    fn try_clone(&self, alloc: Global) -> Result<Link, AllocError> {
-        self.clone(alloc)
-    }
-}
-
-impl Message for Link {
+impl<'a> Message for Link<'a> {
     ghost encoding = { link_message };
 
     fn encode<O: Output>(&self, out: &mut O) -> Result<(), AllocError> {
-        encode_optional(out, 1, &self.bucket)?;
-        encode_optional(out, 2, &self.key)?;
-        encode_optional(out, 3, &self.tag)
+        encode_optional(out, 1, self.bucket)?;
+        encode_optional(out, 2, self.key)?;
+        encode_optional(out, 3, self.tag)
     }
 }

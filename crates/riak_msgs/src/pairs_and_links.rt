@@ -1,20 +1,17 @@
 //! Links and pairs, the messages in a content.
 
-ghost use Rattle.std.specs.Prelude.{◌≡◌, ◌++◌, ◌∷◌, [], List, IfOk, IfErr, OnOk, OnErr, filter_map, option_copied};
+ghost use Rattle.std.specs.Prelude.{◌≡◌, ◌++◌, ◌∷◌, [], List, IfOk, IfErr, OnOk, OnErr, filter_map};
 ghost use Rattle.pb_fields.specs.Field.{WireField};
 ghost use Rattle.pb_fields.specs.Merging.{RefusesNone, Tracks};
 ghost use Rattle.pb_fields.specs.Message.{Encodes};
 ghost use Rattle.riak_msgs.specs.Embedded.{link_of, pair_of};
 ghost use Rattle.riak_msgs.specs.Seen.{IsPartOf};
 
-use crate::bytes::Bytes;
 use crate::fault::MsgFault;
 use crate::link::Link;
 use crate::pair::Pair;
 use crate::sequence::Sequence;
-use crate::try_clone::ThreeBytes;
 use pb_fields::{Field, FieldFault, Merge, Value, scan};
-use std::alloc::{AllocError, Global};
 
 /// The last byte strings of the fields 1, 2 and 3 of a message: bucket, key and tag of a link, key and value of a pair.
 #[derive(Clone, Copy)]
@@ -61,12 +58,8 @@ impl<'a> PairView<'a> {
     }
 }
 
-/// Copies the link that these bytes are behind the others. Where they stand for a list of fields, only memory can be refused.
-pub(crate) fn copy_link(
-    alloc: Global,
-    bytes: &[u8],
-    links: &mut Sequence<Link>,
-) -> Result<(), MsgFault>
+/// Puts the link that these bytes are behind the others. Where they stand for a list of fields, only memory can be refused.
+pub(crate) fn push_link<'a>(bytes: &'a [u8], links: &mut Sequence<Link<'a>>) -> Result<(), MsgFault>
     ensures ok { OnOk result ((fields : List WireField) × Encodes bytes.now fields
         × (links.new ≡ links.old ++ link_of fields ∷ [])) }
     ensures err { (fields : List WireField) → Encodes bytes.now fields
@@ -75,18 +68,17 @@ pub(crate) fn copy_link(
     let Ok(part) = PairView::read(bytes) else {
         return Err(MsgFault::BadMessage);
     };
-    let (bucket, key, tag) = copied_three(alloc, part.first, part.second, part.third)?;
-    links.push(Link { bucket, key, tag })?;
+    links.push(Link {
+        bucket: part.first,
+        key: part.second,
+        tag: part.third,
+    })?;
     Ok(())
 }
 
-/// Copies the pair that these bytes are behind the others, if it has a key. Where they stand for a list of fields, only memory
+/// Puts the pair that these bytes are behind the others, if it has a key. Where they stand for a list of fields, only memory
 /// can be refused.
-pub(crate) fn copy_pair(
-    alloc: Global,
-    bytes: &[u8],
-    pairs: &mut Sequence<Pair>,
-) -> Result<(), MsgFault>
+pub(crate) fn push_pair<'a>(bytes: &'a [u8], pairs: &mut Sequence<Pair<'a>>) -> Result<(), MsgFault>
     ensures ok { OnOk result ((fields : List WireField) × Encodes bytes.now fields
         × (pairs.new ≡ pairs.old ++ filter_map pair_of (fields ∷ []))) }
     ensures err { (fields : List WireField) → Encodes bytes.now fields
@@ -98,35 +90,9 @@ pub(crate) fn copy_pair(
     let Some(key) = part.first else {
         return Ok(());
     };
-    let key = Bytes::from_slice(alloc, key)?;
-    let value = copied(alloc, part.second)?;
-    pairs.push(Pair { key, value })?;
+    pairs.push(Pair {
+        key,
+        value: part.second,
+    })?;
     Ok(())
-}
-
-/// A copy of bytes that may be absent.
-pub(crate) fn copied(alloc: Global, bytes: Option<&[u8]>) -> Result<Option<Bytes>, AllocError>
-    ensures { IfOk result (λ copy. copy ≡ option_copied bytes.entry) }
-{
-    match bytes {
-        Some(bytes) => Ok(Some(Bytes::from_slice(alloc, bytes)?)),
-        None => Ok(None),
-    }
-}
-
-/// Copies of three byte strings that may be absent, in their order.
-pub(crate) fn copied_three(
-    alloc: Global,
-    first: Option<&[u8]>,
-    second: Option<&[u8]>,
-    third: Option<&[u8]>,
-) -> Result<ThreeBytes, AllocError>
-    ensures { IfOk result (λ copy. (copy.0 ≡ option_copied first.entry)
-        × (copy.1 ≡ option_copied second.entry) × (copy.2 ≡ option_copied third.entry)) }
-{
-    Ok((
-        copied(alloc, first)?,
-        copied(alloc, second)?,
-        copied(alloc, third)?,
-    ))
 }

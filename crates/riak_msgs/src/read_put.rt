@@ -11,8 +11,7 @@ ghost use Rattle.riak_msgs.specs.SeenRequests.{RefusesOccurrence, no_put};
 
 use crate::boxed_content::BoxedContent;
 use crate::bytes::Bytes;
-use crate::content::Content;
-use crate::content_view::{ContentView, PartsCopy, copy_parts};
+use crate::content_view::{ContentView, PartsView, merge_parts};
 use crate::fault::MsgFault;
 use crate::field_access::{bytes_at, keep_flag, keep_last};
 use crate::key_view::KeyView;
@@ -133,7 +132,7 @@ impl<'a> PutView<'a> {
     }
 
     /// A copy of what is asked, where nothing is missing.
-    fn ask(&self, alloc: Global, body: &[u8]) -> Result<PutAsk, MsgFault>
+    fn ask(&self, alloc: Global, body: &'a [u8]) -> Result<PutAsk, MsgFault>
         ensures ok { (put : PutFields) → IsSeenPutOf self.now put → EncodesPut body.now put
             → None ≡ put_fault put → IfOk result (λ ask. ask ≡ put_of put) }
         ensures err { (put : PutFields) → IsSeenPutOf self.now put → EncodesPut body.now put
@@ -150,19 +149,21 @@ impl<'a> PutView<'a> {
         })
     }
 
-    /// A copy of the content, behind a pointer. Where links or pairs were seen in it the body is scanned once more, to copy them.
+    /// The content, behind a pointer. Where links or pairs were seen in it the body is scanned once more, to list them.
     /// (Apart from the others, since each value that is held at a `?` costs the prover time.)
-    fn boxed_content(&self, alloc: Global, body: &[u8]) -> Result<BoxedContent, MsgFault>
+    fn boxed_content(&self, alloc: Global, body: &'a [u8]) -> Result<BoxedContent, MsgFault>
         ensures ok { (put : PutFields) → IsSeenPutOf self.now put → EncodesPut body.now put
             → IfOk result (λ content. content ≡ with_parts (scalars_of put.content) put.content) }
         ensures err { (put : PutFields) → IsSeenPutOf self.now put → EncodesPut body.now put
             → IfErr result (λ fault. fault ≡ MsgFault.NoMemory) }
     {
-        let content = if self.content.has_parts {
-            copy_contents(body, self.content.parts_copy(alloc)?)?
+        let scalars = self.content.scalars(alloc);
+        let parts = if self.content.has_parts {
+            merge_contents(body, scalars)?
         } else {
-            self.content.scalars(alloc)?
+            scalars
         };
+        let content = parts.content(alloc)?;
         Ok(BoxedContent::new(alloc, content)?)
     }
 }
@@ -185,13 +186,13 @@ impl<'a> Merge<'a> for PutView<'a> {
     }
 }
 
-/// The content of a put, into which the links and pairs of each occurrence are copied.
+/// The content of a put, into which the links and pairs of each occurrence are merged.
 #[derive(Drop)]
-pub(crate) struct PutCopy {
-    pub(crate) parts: PartsCopy,
+pub(crate) struct PutParts<'a> {
+    pub(crate) parts: PartsView<'a>,
 }
 
-impl<'a> Merge<'a> for PutCopy {
+impl<'a> Merge<'a> for PutParts<'a> {
     type Fault = MsgFault;
 
     ghost merges = { λ before field after.
@@ -201,7 +202,7 @@ impl<'a> Merge<'a> for PutCopy {
 
     fn merge_field(&mut self, field: Field<'a>) -> Result<(), MsgFault> {
         match bytes_at(CONTENT, field) {
-            Some(bytes) => copy_parts(bytes, &mut self.parts),
+            Some(bytes) => merge_parts(bytes, &mut self.parts),
             None => Ok(()),
         }
     }
@@ -210,13 +211,13 @@ impl<'a> Merge<'a> for PutCopy {
 /// The content with the links and pairs of all its occurrences in a put's body behind its own.
 ///
 /// The body was seen before, so only memory can be refused.
-fn copy_contents(body: &[u8], parts: PartsCopy) -> Result<Content, MsgFault>
+fn merge_contents<'a>(body: &'a [u8], parts: PartsView<'a>) -> Result<PartsView<'a>, MsgFault>
     ensures ok { (put : PutFields) → EncodesPut body.now put
-        → IfOk result (λ copied. copied ≡ with_parts (content_in parts) put.content) }
+        → IfOk result (λ whole. content_in whole ≡ with_parts (content_in parts.entry) put.content) }
     ensures err { (put : PutFields) → EncodesPut body.now put
         → IfErr result (λ fault. fault ≡ MsgFault.NoMemory) }
 {
-    let mut copy = PutCopy { parts };
-    scan(body, &mut copy)?;
-    Ok(copy.parts.content()?)
+    let mut put = PutParts { parts };
+    scan(body, &mut put)?;
+    Ok(put.parts)
 }

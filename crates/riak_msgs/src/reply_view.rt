@@ -3,14 +3,13 @@
 ghost use Rattle.std.specs.Prelude.{◌≡◌, ◌++◌, ◌∷◌, [], IfOk, OnOk, OnErr};
 ghost use Rattle.pb_fields.specs.Merging.{RefusesNone, Tracks};
 ghost use Rattle.riak_msgs.specs.Embedded.{ContentFields, StandForContent};
-ghost use Rattle.riak_msgs.specs.Seen.{IsSeenOf, scalars_of, with_parts};
+ghost use Rattle.riak_msgs.specs.Seen.{IsSeenOf};
 ghost use Rattle.riak_msgs.specs.ReadingReplies.{ReadsReply};
 ghost use Rattle.riak_msgs.specs.SeenReplies.{DecodesError, ReadsShown, HasSeenReply, IsSeenError, MergesContent, RefusesContent};
 ghost use Rattle.riak_msgs.specs.SeenReplies.{whole_of};
 
 use crate::bytes::Bytes;
-use crate::content::Content;
-use crate::content_view::{ContentView, copy_parts};
+use crate::content_view::ContentView;
 use crate::fault::MsgFault;
 use crate::field_access::{bytes_at, keep_flag, varint_at};
 use crate::get::GetReply;
@@ -145,40 +144,22 @@ impl<'a> ReplyView<'a> {
     }
 }
 
-// Copies the content that was seen in these bytes behind the others. They are scanned once more only for links and pairs.
-fn push_content(
+// Copies the content that was seen in these bytes behind the others.
+fn push_content<'a>(
     alloc: Global,
-    bytes: &[u8],
-    view: ContentView<'_>,
+    bytes: &'a [u8],
+    view: ContentView<'a>,
     contents: &mut Sequence<Shown>,
 ) -> Result<(), MsgFault>
     ensures { (c : ContentFields) → IsSeenOf view.entry c → StandForContent (bytes.now ∷ []) c
         → OnOk result (contents.new ≡ contents.old ++ whole_of c ∷ []) }
 {
-    let content = if view.has_parts {
-        content_with_parts(alloc, bytes, view)?
-    } else {
-        view.scalars(alloc)?
-    };
+    let content = view.whole(alloc, bytes)?.content(alloc)?;
     contents.push(Shown {
         content,
         deleted: view.deleted,
     })?;
     Ok(())
-}
-
-// A copy of the content that was seen in these bytes, with its links and pairs, for which they are scanned once more.
-fn content_with_parts(
-    alloc: Global,
-    bytes: &[u8],
-    view: ContentView<'_>,
-) -> Result<Content, MsgFault>
-    ensures { (c : ContentFields) → IsSeenOf view.entry c → StandForContent (bytes.now ∷ []) c
-        → IfOk result (λ content. content ≡ with_parts (scalars_of c) c) }
-{
-    let mut copy = view.parts_copy(alloc)?;
-    copy_parts(bytes, &mut copy)?;
-    Ok(copy.content()?)
 }
 
 /// Decodes the body of a reply to a get; of a reply to a put the flag isn't used.

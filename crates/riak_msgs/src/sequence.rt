@@ -2,7 +2,6 @@
 
 ghost use Rattle.std.specs.Prelude.{◌≡◌, ◌==◌, ◌++◌, ◌∷◌, List, [], length, IfOk, OnOk, OnErr};
 
-use crate::try_clone::TryClone;
 use std::alloc::{AllocError, Global};
 use std::marker::Model;
 
@@ -73,19 +72,5 @@ impl<T> Sequence<T> {
         ensures { result ≡ (length self.now == 0) }
     {
         self.content.is_empty()
-    }
-}
-
-impl<T: TryClone + Drop> Sequence<T> {
-    /// A copy of each value, in the same order.
-    pub fn clone(&self, alloc: Global) -> Result<Sequence<T>, AllocError>
-        ensures { IfOk result (λ copy. copy ≡ self.now) }
-    {
-        let items = self.as_slice();
-        let mut copy = Sequence::with_capacity(alloc, items.len())?;
-        for item in items {
-            copy.push(item.try_clone(alloc)?)?;
-        }
-        Ok(copy)
     }
 }

@@ -48,107 +48,58 @@ pub(crate) const FULL: ContentRow = ContentRow {
     indexes: &[(b"i_bin", Some(&[b'z'; 130]))],
 };
 
-fn label(alloc: Global, bytes: Label) -> Result<Option<Bytes>, AllocError> {
-    match bytes {
-        Some(bytes) => Ok(Some(Bytes::from_slice(alloc, bytes)?)),
-        None => Ok(None),
-    }
-}
-
-fn pair(alloc: Global, row: &PairRow) -> Result<Pair, AllocError> {
-    Ok(Pair {
-        key: Bytes::from_slice(alloc, row.0)?,
-        value: label(alloc, row.1)?,
-    })
-}
-
-fn pairs(alloc: Global, rows: &[PairRow]) -> Result<Sequence<Pair>, AllocError> {
+fn pairs(alloc: Global, rows: &[PairRow]) -> Result<Sequence<Pair<'static>>, AllocError> {
     let mut pairs = Sequence::new(alloc);
     for row in rows {
-        pairs.push(pair(alloc, row)?)?;
+        pairs.push(Pair {
+            key: row.0,
+            value: row.1,
+        })?;
     }
     Ok(pairs)
 }
 
-type Labels = (Option<Bytes>, Option<Bytes>, Option<Bytes>);
-
-/// Three fields of bytes.
-fn labels(alloc: Global, row: LinkRow) -> Result<Labels, AllocError> {
-    Ok((
-        label(alloc, row.0)?,
-        label(alloc, row.1)?,
-        label(alloc, row.2)?,
-    ))
-}
-
-fn link(alloc: Global, row: &LinkRow) -> Result<Link, AllocError> {
-    let (bucket, key, tag) = labels(alloc, *row)?;
-    Ok(Link { bucket, key, tag })
-}
-
-fn links(alloc: Global, rows: &[LinkRow]) -> Result<Sequence<Link>, AllocError> {
+fn links(alloc: Global, rows: &[LinkRow]) -> Result<Sequence<Link<'static>>, AllocError> {
     let mut links = Sequence::new(alloc);
     for row in rows {
-        links.push(link(alloc, row)?)?;
+        links.push(Link {
+            bucket: row.0,
+            key: row.1,
+            tag: row.2,
+        })?;
     }
     Ok(links)
 }
 
-type Parts = (Sequence<Link>, Sequence<Pair>, Sequence<Pair>);
-
-fn parts(alloc: Global, row: &ContentRow) -> Result<Parts, AllocError> {
-    Ok((
-        links(alloc, row.links)?,
-        pairs(alloc, row.usermeta)?,
-        pairs(alloc, row.indexes)?,
-    ))
-}
-
-fn details(alloc: Global, row: &ContentRow) -> Result<Details, AllocError> {
-    let (content_type, charset, content_encoding) = labels(
-        alloc,
-        (row.content_type, row.charset, row.content_encoding),
-    )?;
-    let (links, usermeta, indexes) = parts(alloc, row)?;
+fn details(alloc: Global, row: &ContentRow) -> Result<Details<'static>, AllocError> {
     Ok(Details {
-        content_type,
-        charset,
-        content_encoding,
-        links,
-        usermeta,
-        indexes,
+        content_type: row.content_type,
+        charset: row.charset,
+        content_encoding: row.content_encoding,
+        links: links(alloc, row.links)?,
+        usermeta: pairs(alloc, row.usermeta)?,
+        indexes: pairs(alloc, row.indexes)?,
     })
 }
 
 pub(crate) fn content(alloc: Global, row: &ContentRow) -> Result<Content, AllocError> {
-    let value = Vec::from_slice(alloc, row.value)?;
-    Content::with_details(alloc, value, details(alloc, row)?)
+    Content::with_details(alloc, row.value, &details(alloc, row)?)
 }
 
-fn is_label(bytes: Option<&Bytes>, want: Label) -> bool {
-    match (bytes, want) {
-        (Some(bytes), Some(want)) => bytes.as_slice() == want,
-        (None, None) => true,
-        _ => false,
-    }
-}
-
-fn are_pairs(pairs: &[Pair], rows: &[PairRow]) -> bool {
+fn are_pairs(pairs: &[Pair<'_>], rows: &[PairRow]) -> bool {
     for (pair, row) in pairs.iter().zip(rows) {
-        if pair.key.as_slice() != row.0 || !is_label(pair.value.as_ref(), row.1) {
+        if pair.key != row.0 || pair.value != row.1 {
             return false;
         }
     }
     pairs.len() == rows.len()
 }
 
-fn is_link(link: &Link, row: &LinkRow) -> bool {
-    is_label(link.bucket.as_ref(), row.0)
-        && is_label(link.key.as_ref(), row.1)
-        && is_label(link.tag.as_ref(), row.2)
+fn is_link(link: &Link<'_>, row: &LinkRow) -> bool {
+    link.bucket == row.0 && link.key == row.1 && link.tag == row.2
 }
 
-fn are_links(links: &[Link], rows: &[LinkRow]) -> bool {
+fn are_links(links: &[Link<'_>], rows: &[LinkRow]) -> bool {
     for (link, row) in links.iter().zip(rows) {
         if !is_link(link, row) {
             return false;
@@ -157,13 +108,27 @@ fn are_links(links: &[Link], rows: &[LinkRow]) -> bool {
     links.len() == rows.len()
 }
 
+fn are_details(details: &Details<'_>, row: &ContentRow) -> bool {
+    details.content_type == row.content_type
+        && details.charset == row.charset
+        && details.content_encoding == row.content_encoding
+        && are_links(details.links.as_slice(), row.links)
+        && are_pairs(details.usermeta.as_slice(), row.usermeta)
+        && are_pairs(details.indexes.as_slice(), row.indexes)
+}
+
+/// Where memory is refused for the details, they are read once more.
+fn has_details(alloc: Global, content: &Content, row: &ContentRow) -> bool {
+    match content.details(alloc) {
+        Ok(details) => are_details(&details, row),
+        Err(_) => match content.details(alloc) {
+            Ok(details) => are_details(&details, row),
+            Err(_) => false,
+        },
+    }
+}
+
 /// The content has the fields of the row, and no others.
-pub(crate) fn is_content(content: &Content, row: &ContentRow) -> bool {
-    content.value() == row.value
-        && is_label(content.content_type(), row.content_type)
-        && is_label(content.charset(), row.charset)
-        && is_label(content.content_encoding(), row.content_encoding)
-        && are_links(content.links(), row.links)
-        && are_pairs(content.usermeta(), row.usermeta)
-        && are_pairs(content.indexes(), row.indexes)
+pub(crate) fn is_content(alloc: Global, content: &Content, row: &ContentRow) -> bool {
+    content.value() == row.value && has_details(alloc, content, row)
 }

@@ -43,16 +43,16 @@ fn read_again(alloc: Global, code: u8, body: &[u8]) -> Result<Request, MsgFault>
 /// The message is read as what the row asks.
 pub(crate) fn reads(alloc: Global, row: &Read) -> bool {
     let read = read_again(alloc, row.code, row.body);
-    let is_so = is_read(&read, &row.asked);
+    let is_so = is_read(alloc, &read, &row.asked);
     let_go(read);
     is_so
 }
 
-fn is_read(read: &Result<Request, MsgFault>, want: &Asked) -> bool {
+fn is_read(alloc: Global, read: &Result<Request, MsgFault>, want: &Asked) -> bool {
     match read {
         Ok(Request::Ping) => matches!(want, Asked::Ping),
         Ok(Request::Get(ask)) => is_get(ask, want),
-        Ok(Request::Put(ask)) => is_put(ask, want),
+        Ok(Request::Put(ask)) => is_put(alloc, ask, want),
         Ok(Request::Del(ask)) => is_del(ask, want),
         Err(fault) => is_refused(*fault, want),
     }
@@ -84,12 +84,12 @@ fn is_get(ask: &GetAsk, want: &Asked) -> bool {
     }
 }
 
-fn is_put(ask: &PutAsk, want: &Asked) -> bool {
+fn is_put(alloc: Global, ask: &PutAsk, want: &Asked) -> bool {
     match want {
         Asked::Put(bucket_type, context, content, set) => {
             is_of(&ask.key, bucket_type)
                 && ask.context.as_slice() == *context
-                && is_content(ask.content.as_content(), content)
+                && is_content(alloc, ask.content.as_content(), content)
                 && are_set(ask, set)
         }
         _ => false,

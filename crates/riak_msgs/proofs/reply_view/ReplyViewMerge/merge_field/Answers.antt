@@ -3,8 +3,8 @@ use Rattle.std.specs.Prelude.{is_none, option_copied}
 use Rattle.std.proofs.lemmas.List.{append-nil, map-append}
 use Rattle.std.proofs.lemmas.Result.{on_ok_weaker}
 use Rattle.pb_fields.specs.Field.{seen}
-use Rattle.riak_msgs.specs.Embedded.{ContentFields, all_of, content_of, shown_of}
-use Rattle.riak_msgs.specs.ReadingReplies.{contents_of}
+use Rattle.riak_msgs.specs.Embedded.{ContentFields, all_of, content_of}
+use Rattle.riak_msgs.specs.ReadingReplies.{contents_of, shown_of}
 use Rattle.riak_msgs.specs.SeenReplies.{whole_of}
 use Rattle.riak_msgs.proofs.Walks.{IfErr-from_OnErr}
 use Rattle.riak_msgs.proofs.Scans.{EachContent-more}

@@ -5,7 +5,7 @@ use Rattle.riak_msgs.specs.SeenContents.{content_in}
 use Rattle.riak_msgs.proofs.Walks.{bytes_at-no_string, bytes_at-other, seen-bytes, string_in-no_bytes}
 use Rattle.riak_msgs.proofs.ContentsWalked.{alone-holds}
 use Rattle.riak_msgs.proofs.ContentsCopied.{Copies-index, Copies-link, Copies-none, Copies-usermeta}
-use Rattle.riak_msgs.proofs.content_view.PartsCopyMerge.merge_field.Goals as goal
+use Rattle.riak_msgs.proofs.content_view.PartsViewMerge.merge_field.Goals as goal
 
 pub returns-in_default : goal.returns-in_default
 returns-in_default c =
@@ -19,21 +19,21 @@ returns-in_default c =
 
 pub returns-in-6-clause-ok : goal.returns-in-6-clause-ok
 returns-in-6-clause-ok c =
-    on_ok_weaker c.copy_link.result (λ copied.
-    Copies-link (content_in c.args.self.now) (seen c.args.field) c.in-Bytes.bytes.now c.copy_link.new.links copied.0
-    (seen-bytes c.args.field 6 c.in-Bytes.bytes c.in-6.is c.in-Bytes.is) copied.1 copied.2) c.copy_link.ensures.ok
+    on_ok_weaker c.push_link.result (λ put.
+    Copies-link (content_in c.args.self.now) (seen c.args.field) c.in-Bytes.bytes.now c.push_link.new.links put.0
+    (seen-bytes c.args.field 6 c.in-Bytes.bytes c.in-6.is c.in-Bytes.is) put.1 put.2) c.push_link.ensures.ok
 
 pub returns-in-9-clause-ok : goal.returns-in-9-clause-ok
 returns-in-9-clause-ok c =
-    on_ok_weaker c.copy_pair.result (λ copied.
-    Copies-usermeta (content_in c.args.self.now) (seen c.args.field) c.in-Bytes.bytes.now c.copy_pair.new.pairs copied.0
-    (seen-bytes c.args.field 9 c.in-Bytes.bytes c.in-9.is c.in-Bytes.is) copied.1 copied.2) c.copy_pair.ensures.ok
+    on_ok_weaker c.push_pair.result (λ put.
+    Copies-usermeta (content_in c.args.self.now) (seen c.args.field) c.in-Bytes.bytes.now c.push_pair.new.pairs put.0
+    (seen-bytes c.args.field 9 c.in-Bytes.bytes c.in-9.is c.in-Bytes.is) put.1 put.2) c.push_pair.ensures.ok
 
 pub returns-in-10-clause-ok : goal.returns-in-10-clause-ok
 returns-in-10-clause-ok c =
-    on_ok_weaker c.copy_pair-in-10.result (λ copied.
-    Copies-index (content_in c.args.self.now) (seen c.args.field) c.in-Bytes.bytes.now c.copy_pair-in-10.new.pairs copied.0
-    (seen-bytes c.args.field 10 c.in-Bytes.bytes c.in-10.is c.in-Bytes.is) copied.1 copied.2) c.copy_pair-in-10.ensures.ok
+    on_ok_weaker c.push_pair-in-10.result (λ put.
+    Copies-index (content_in c.args.self.now) (seen c.args.field) c.in-Bytes.bytes.now c.push_pair-in-10.new.pairs put.0
+    (seen-bytes c.args.field 10 c.in-Bytes.bytes c.in-10.is c.in-Bytes.is) put.1 put.2) c.push_pair-in-10.ensures.ok
 
 pub returns-in_default-number-clause-ok : goal.returns-in_default-number-clause-ok
 returns-in_default-number-clause-ok c =

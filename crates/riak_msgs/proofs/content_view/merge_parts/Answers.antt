@@ -3,12 +3,12 @@ use Rattle.riak_msgs.specs.SeenContents.{content_in}
 use Rattle.riak_msgs.proofs.Walks.{IfErr-weaker}
 use Rattle.riak_msgs.proofs.ContentsWalked.{HoldContent-one, StandForContent-one}
 use Rattle.riak_msgs.proofs.Scans.{parts_copied, parts_not_copied}
-use Rattle.riak_msgs.proofs.content_view.copy_parts.Goals as goal
+use Rattle.riak_msgs.proofs.content_view.merge_parts.Goals as goal
 
 pub returns-clause-ok : goal.returns-clause-ok
 returns-clause-ok c =
     on_ok_weaker c.scan.result (λ all.
-    let copied = parts_copied content_in c.args.copy.now c.scan.new.into all.0 all.2 in
+    let copied = parts_copied content_in c.args.parts.now c.scan.new.into all.0 all.2 in
     (copied.0, StandForContent-one c.args.bytes.now all.0 copied.0 all.1 copied.1, copied.2)) c.scan.ensures.ok
 
 pub returns-clause-err : goal.returns-clause-err

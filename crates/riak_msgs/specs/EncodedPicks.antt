@@ -1,17 +1,12 @@
 -- What is picked from the fields of a encoding.
-use Rattle.std.proofs.Common.{◌≡◌, ℕ, ◌==◌, Bool, true, false, not, List, [], ◌∷◌, ◌++◌, map, Option, Some, None, option_to_list, refl, ap, sym, ◌∙◌, if◌then◌else◌}
+use Rattle.std.proofs.Common.{◌≡◌, ℕ, ◌==◌, Bool, true, false, not, List, [], ◌∷◌, ◌++◌, map, Option, Some, None, option_to_list, refl, ap, ◌∙◌, if◌then◌else◌}
 use Rattle.std.specs.List.{last_or, filter_map, cons_option, flat_map}
-use Rattle.std.specs.Option.{option_map_or, unwrap_or}
-use Rattle.std.specs.Cmp.Lexicographic.{same_text}
-use Rattle.std.specs.Str.{bytes_eq}
+use Rattle.std.specs.Option.{option_map_or}
 use Rattle.std.proofs.lemmas.List.{append-nil}
 use Rattle.std.proofs.lemmas.List.Elements.{filter_map-append}
-use Rattle.pb_fields.specs.Encoding.{bytes_field, optional_field, repeated_field}
-use Rattle.riak_msgs.specs.Encoding.{context_field}
-use Rattle.riak_msgs.specs.BucketTypes.{default_type}
-use Rattle.riak_msgs.specs.Requests.{type_field}
+use Rattle.pb_fields.specs.Encoding.{bytes_field, repeated_field}
 use Rattle.riak_msgs.specs.Picking.{each_bytes, last_bytes, last_varint, flag_of, bytes_at, varint_at}
-use Rattle.riak_msgs.proofs.EncodedParts.{Part, number_of, strings_in, numbers_in, string_at, number_at, part_fields, fields_of}
+use Rattle.pb_fields.proofs.EncodedParts.{Part, number_of, strings_in, numbers_in, string_at, number_at, part_fields, fields_of}
 
 -- where a test takes each or none
 filter_map-if : {X Y : Type 0} (taken : Bool) (f : X → Option Y) (g : Y → X) → ((y : Y) → f (g y) ≡ (if taken then Some y else None)) → (ys : List Y) →
@@ -95,37 +90,6 @@ flag_back false = refl
 pub flag_of-fields_of : (n : ℕ) (ps : List Part) (b : Bool) → numbers_of n ps ≡ (if b then 1 ∷ [] else []) ++ [] → flag_of n (fields_of ps) ≡ b
 flag_of-fields_of n ps b is =
     ap (λ o. option_map_or (λ v. not (v == 0)) o false) (last_varint-fields_of n ps ∙ ap (last_or None) is) ∙ flag_back b
-
--- bytes of which none are as absent
-abbrev pub some_bytes : List ℕ → Option (List ℕ)
-some_bytes [] = None
-some_bytes (b ∷ bs) = Some (b ∷ bs)
-
-pub context_field-is : (n : ℕ) (bs : List ℕ) → context_field n bs ≡ optional_field n (some_bytes bs)
-context_field-is n [] = refl
-context_field-is n (b ∷ bs) = refl
-
-pub unwrap_or-some_bytes : (bs : List ℕ) → unwrap_or (some_bytes bs) [] ≡ bs
-unwrap_or-some_bytes [] = refl
-unwrap_or-some_bytes (b ∷ bs) = refl
-
--- a type, of which the default is as absent
-abbrev pub some_type : List ℕ → Option (List ℕ)
-some_type t = if bytes_eq t default_type then None else Some t
-
-type_field-if : (n : ℕ) (t : List ℕ) (b : Bool) → (if b then [] else bytes_field n t) ≡ optional_field n (if b then None else Some t)
-type_field-if n t true = refl
-type_field-if n t false = refl
-
-pub type_field-is : (n : ℕ) (t : List ℕ) → type_field n t ≡ optional_field n (some_type t)
-type_field-is n t = type_field-if n t (bytes_eq t default_type)
-
-unwrap_or-if : (t d : List ℕ) (b : Bool) → b ≡ bytes_eq t d → unwrap_or (if b then None else Some t) d ≡ t
-unwrap_or-if t d true is = sym (same_text t d is)
-unwrap_or-if t d false is = refl
-
-pub unwrap_or-some_type : (t : List ℕ) → unwrap_or (some_type t) default_type ≡ t
-unwrap_or-some_type t = unwrap_or-if t default_type (bytes_eq t default_type) refl
 
 -- each message as its bytes
 pub repeated_field-map : {A : Type 0} (encode : A → List ℕ) (n : ℕ) (xs : List A) → repeated_field encode n xs ≡ repeated_field (λ x. x) n (map encode xs)

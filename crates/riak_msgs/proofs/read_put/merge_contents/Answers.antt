@@ -6,10 +6,10 @@ use Rattle.riak_msgs.specs.Picking.{each_bytes}
 use Rattle.riak_msgs.specs.Embedded.{StandForContent}
 use Rattle.riak_msgs.specs.Seen.{with_parts}
 use Rattle.riak_msgs.specs.SeenContents.{content_in}
-use Rattle.riak_msgs.specs.declared.read_put.PutCopy.{PutCopy}
-use Rattle.riak_msgs.proofs.Contents.{content_once}
+use Rattle.riak_msgs.specs.declared.read_put.PutParts.{PutParts}
+use Rattle.riak_msgs.specs.ContentOnce.{content_once}
 use Rattle.riak_msgs.proofs.Scans.{occurrences_copied, occurrences_not_copied}
-use Rattle.riak_msgs.proofs.read_put.copy_contents.Goals as goal
+use Rattle.riak_msgs.proofs.read_put.merge_contents.Goals as goal
 
 pub returns-in_err-scan-clause-err : goal.returns-in_err-scan-clause-err
 returns-in_err-scan-clause-err c = λ put stands.
@@ -20,7 +20,7 @@ returns-in_err-scan-clause-err c = λ put stands.
 pub returns-clause-ok : goal.returns-clause-ok
 returns-clause-ok c = λ put stands.
     let (fields, same, all) = c.in_ok-scan.ensures.ok in
-    let (part, parts, is) = occurrences_copied (λ (x : PutCopy). content_in x.parts) _ c.scan.new.into fields all in
+    let (part, parts, is) = occurrences_copied (λ (x : PutParts). content_in x.parts) _ c.scan.new.into fields all in
     let P : List WireField → Type 0 = λ fs. StandForContent (each_bytes 4 fs) put.content in
     let own : put.own ≡ fields = fields_once c.args.body.now put.own fields stands.own same in
-    c.in_ok-content.ensures ∙ is ∙ ap (with_parts (content_in c.args.parts)) (content_once (each_bytes 4 fields) part put.content parts (subst P own stands.content))
+    is ∙ ap (with_parts (content_in c.args.parts)) (content_once (each_bytes 4 fields) part put.content parts (subst P own stands.content))
