@@ -1,1 +1,2 @@
-pub mod Nested
+mod Nested
+mod NextEntry
