@@ -8,12 +8,12 @@ ghost use Rattle.clock_store.specs.Contents.{HasRoom};
 ghost use Rattle.clock_store.specs.Keys.{clock_at};
 ghost use Rattle.clock_list.specs.Rows.{entry_of, contents_in, IsRoom};
 
-use crate::place::{Place, place_of};
+use crate::place::{Place, next_row, place_of};
 use crate::removal::{first_dead, forget_at};
 use crate::row::{Row, new_row, overwrite_at, reserve_at, write_at, write_new};
 use actor_epoch::{Actor, Context};
 use clock_store::{
-    ClockStore, Found, Place as KeyPlace, Reaped, StoredClock, WriteKind, stored_in,
+    ClockStore, Found, KeyRef, Place as KeyPlace, Reaped, StoredClock, WriteKind, stored_in,
 };
 use riak_msgs::{BoxedContent, Key};
 use std::alloc::{AllocError, Global};
@@ -104,6 +104,13 @@ impl ClockStore for ClockList {
         }
     }
 
+    fn next(&self, after: Option<KeyRef<'_>>) -> Option<(KeyRef<'_>, &StoredClock)> {
+        match next_row(self.rows.as_slice(), after) {
+            None => None,
+            Some(row) => Some((KeyRef::of(&row.key), &row.stored)),
+        }
+    }
+
     fn reserve(
         &mut self,
         alloc: Global,
@@ -173,5 +180,10 @@ impl ClockStore for ClockList {
                 true
             }
         }
+    }
+
+    fn clear(&mut self) {
+        self.rows.clear();
+        self.room = None;
     }
 }

@@ -12,7 +12,7 @@ use crate::index::{self, DeadMark};
 use crate::places;
 use crate::room::{Room, is_spare};
 use actor_epoch::{Actor, Context};
-use clock_store::{ClockStore, Found, Place, Reaped, StoredClock, WriteKind, stored_in};
+use clock_store::{ClockStore, Found, KeyRef, Place, Reaped, StoredClock, WriteKind, stored_in};
 use place_map::PlaceMap;
 use riak_msgs::{BoxedContent, Key};
 use slab::Slab;
@@ -169,6 +169,20 @@ impl ClockStore for ClockMap {
         }
     }
 
+    fn next(&self, after: Option<KeyRef<'_>>) -> Option<(KeyRef<'_>, &StoredClock)> {
+        let Some((key, found)) = places::next(&self.places, &self.clocks, after) else {
+            return None;
+        };
+        if !is_spare(&self.room, found.place.index) {
+            return Some((key, found.stored));
+        }
+        // The spare place is no key's, and there is no other spare one.
+        match places::next(&self.places, &self.clocks, Some(key)) {
+            None => None,
+            Some((key, found)) => Some((key, found.stored)),
+        }
+    }
+
     fn reserve(
         &mut self,
         alloc: Global,
@@ -249,5 +263,13 @@ impl ClockStore for ClockMap {
         };
         places::remove(&mut self.places, &mut self.clocks, &key);
         true
+    }
+
+    fn clear(&mut self) {
+        self.places.clear();
+        self.clocks.clear();
+        self.dead.clear();
+        self.room = None;
+        self.spare = None;
     }
 }

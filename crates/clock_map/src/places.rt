@@ -1,21 +1,48 @@
 //! Keys, and the places of their clocks in a slab.
 
-ghost use Rattle.std.specs.Prelude.{◌≡◌, [], IfOk, OnOk, OnErr, Some, None, IsSome};
+ghost use Rattle.std.specs.Prelude.{◌≡◌, [], IfOk, OnOk, OnErr, Some, None, IsSome, IfSome};
+ghost use Rattle.std.specs.Option.{option_map};
 ghost use Rattle.riak_msgs.specs.KeyOrder.{key_cmp};
 ghost use Rattle.place_map.specs.AssocList.{IsOrdered};
+ghost use Rattle.place_map.specs.Behind.{next_entry};
+ghost use Rattle.place_map.specs.KeyRefs.{key_in, key_after};
 ghost use Rattle.dvv_set.specs.Clocks.{event, discard};
 ghost use Rattle.dvv_set.specs.Held.{IsWithin, IsReady, without, pairs_of as seen_in};
-ghost use Rattle.clock_store.specs.Keys.{empty};
-ghost use Rattle.clock_map.specs.Places.{place_of, lives_at, has_no_mark, IsTied, IsSpareKey, FitsAt, IsReadyAt, StoresSame, WritesAt, AddsAt, Unchanged, RemovesAt, DropsSpare};
+ghost use Rattle.clock_store.specs.Keys.{empty, stored_of};
+ghost use Rattle.clock_map.specs.Places.{place_of, lives_at, has_no_mark, IsTied, IsSpareKey, FitsAt, IsReadyAt, StoresSame, WritesAt, AddsAt, Unchanged, RemovesAt, DropsSpare, stored_at};
 
 use crate::room::Room;
 use actor_epoch::{Actor, Context};
-use clock_store::StoredClock;
+use clock_store::{Found, KeyRef, Place, StoredClock};
 use dvv_set::Clock;
 use place_map::PlaceMap;
 use riak_msgs::{BoxedContent, Key};
 use slab::Slab;
 use std::alloc::{AllocError, Global};
+
+/// The least key behind one, or of all where none is given, with what lies at its place; a key that isn't held yet too.
+pub(crate) fn next<'a>(
+    places: &'a PlaceMap,
+    clocks: &'a Slab<StoredClock>,
+    after: Option<KeyRef<'_>>,
+) -> Option<(KeyRef<'a>, Found<'a>)>
+    requires { IsTied places.now clocks.now }
+    ensures next { option_map (λ entry. (key_in entry.0, entry.1.place.index)) result
+        ≡ next_entry key_cmp (key_after after.entry) places.now.entries }
+    ensures stored { IfSome result (λ entry. stored_at clocks.now entry.1.place.index
+        ≡ Some (stored_of entry.1.stored.now)) }
+{
+    match places.next(after) {
+        None => None,
+        Some((key, index)) => {
+            let Some(stored) = clocks.get(index) else {
+                unreachable!()
+            };
+            let place = Place { index };
+            Some((key, Found { place, stored }))
+        }
+    }
+}
 
 /// Makes room for a write in the clock at a place. Refused where memory is.
 pub(crate) fn reserve_at(

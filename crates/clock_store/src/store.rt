@@ -3,6 +3,7 @@
 use crate::found::{Found, Place};
 use crate::stored_clock::StoredClock;
 use actor_epoch::{Actor, Context};
+use place_map::KeyRef;
 use riak_msgs::{BoxedContent, Key};
 use std::alloc::{AllocError, Global};
 
@@ -41,6 +42,8 @@ pub trait ClockStore: Drop {
     ghost use Rattle.std.specs.Option.{option_map};
     ghost use Rattle.std.specs.FinMap.Entries.{find};
     ghost use Rattle.riak_msgs.specs.KeyOrder.{key_cmp};
+    ghost use Rattle.place_map.specs.Behind.{next_entry};
+    ghost use Rattle.place_map.specs.KeyRefs.{key_in, key_after};
     ghost use Rattle.dvv_set.specs.Held.{IsWithin, pairs_of as seen_in};
     ghost use Rattle.vnode_machine.specs.Dead.{has_dead};
     ghost use Rattle.clock_store.specs.Keys.{stored_of, clock_at, written, overwritten};
@@ -66,6 +69,11 @@ pub trait ClockStore: Drop {
             ≡ find key_cmp key.now (shows self.now).keys }
         ensures place { option_map (λ found. found.place) result
             ≡ find key_cmp key.now (shows self.now).places };
+
+    /// The least key behind one, or of all where none is given, with what is stored of it. It takes no memory.
+    fn next(&self, after: Option<KeyRef<'_>>) -> Option<(KeyRef<'_>, &StoredClock)>
+        ensures { option_map (λ entry. (key_in entry.0, stored_of entry.1.now)) result
+            ≡ next_entry key_cmp (key_after after.entry) (shows self.now).keys };
 
     /// Makes room for a write of a key at an actor, which discards what a context has seen (None: nothing), in place of
     /// what room there was. The place is what `find` says of the key, which isn't searched for again. Refused where memory
@@ -130,5 +138,10 @@ pub trait ClockStore: Drop {
         ensures found { result ≡ has_dead (holding (shows self.old).keys) (key_given from.entry) }
         ensures keys { (shows self.new).keys
             ≡ (after_first_reap (holding (shows self.old).keys) (key_given from.entry)).keys }
+        ensures room { (shows self.new).room ≡ None };
+
+    /// Forgets all keys. What room there was ends. It takes no memory.
+    fn clear(&mut self)
+        ensures keys { (shows self.new).keys ≡ [] }
         ensures room { (shows self.new).room ≡ None };
 }

@@ -1,2 +1,2 @@
 mod Nested
-mod NextEntry
+pub mod NextEntry

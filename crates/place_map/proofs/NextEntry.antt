@@ -11,8 +11,10 @@ use Rattle.std.specs.List.Sorted.{IsStrictlySortedBy}
 use Rattle.std.specs.Map.{lookup, lookup_key, keys_of}
 use Rattle.std.specs.Ordering.{is_eq, is_lt, ordering_then}
 use Rattle.std.proofs.lemmas.List.Elements.{filter-append}
+use Rattle.std.proofs.lemmas.Cmp.{tied_itself}
+use Rattle.std.specs.Cmp.{IsTotalOrder}
 use Rattle.std.proofs.lemmas.Map.Keys.{sorted_head, sorted_tail}
-use Rattle.place_map.specs.Behind.{entries_behind, next_entry, entry_at}
+use Rattle.place_map.specs.Behind.{is_behind, entries_behind, next_entry, entry_at}
 use Rattle.place_map.specs.Nested.{flatten, IsNested, next_inside, first_behind}
 use Rattle.place_map.proofs.Nested.{IsLexicographic, or_else, at, some_not_none}
 
@@ -43,9 +45,86 @@ head_map : {X Y : Type 0} (f : X → Y) (xs : List X) → slice_get (map f xs) 0
 head_map f [] = refl
 head_map f (x ∷ xs) = refl
 
-no_head : {X : Type 0} (xs : List X) → slice_get xs 0 ≡ None → xs ≡ []
+pub no_head : {X : Type 0} (xs : List X) → slice_get xs 0 ≡ None → xs ≡ []
 no_head [] h = refl
 no_head (x ∷ xs) h = some_not_none x h
+
+head_cons : {X : Type 0} (xs : List X) (x : X) → slice_get xs 0 ≡ Some x → (rest : List X) × (xs ≡ x ∷ rest)
+head_cons [] x h = some_not_none x (sym h)
+head_cons (y ∷ ys) x h = let same : y ≡ x = cc in (ys, ap (λ z. z ∷ ys) same)
+
+head_passes : {X : Type 0} (p : X → Bool) (xs : List X) (x : X) → slice_get (filter p xs) 0 ≡ Some x → p x ≡ true
+head_passes p [] x h = some_not_none x (sym h)
+head_passes p (y ∷ ys) x h = by (p y) refl h (head_passes p ys x)
+  where
+    by : (b : Bool) → p y ≡ b → slice_get (cond b (y ∷ filter p ys) (filter p ys)) 0 ≡ Some x → (slice_get (filter p ys) 0 ≡ Some x → p x ≡ true) → p x ≡ true
+    by true at h rest = let same : y ≡ x = cc in ap p (sym same) ∙ at
+    by false at h rest = rest h
+
+less_by : (o : Ordering) → is_lt o ≡ true → o ≡ Less
+less_by Less h = refl
+less_by Equal h = cc
+less_by Greater h = cc
+
+clash : {A : Type 0} → true ≡ false → A
+clash h = cc
+
+-- ---- from one entry to the next
+
+behind_also : {K : Type 0} {cmp : K → K → Ordering} → IsTotalOrder cmp → (after : Option K) (k : K) → is_behind cmp after k ≡ true → (y : K) → cmp k y ≡ Less → is_behind cmp after y ≡ true
+behind_also total None k here y less = refl
+behind_also {cmp = cmp} total (Some a) k here y less = ap is_lt (total.trans a k y (less_by (cmp a k) here) less)
+
+-- the next key is behind the one that was given
+pub next_is_behind : {K X : Type 0} (cmp : K → K → Ordering) (after : Option K) (es : List (K × X)) (e : K × X) → next_entry cmp after es ≡ Some e → is_behind cmp after e.0 ≡ true
+next_is_behind {K = K} {X = X} cmp after es e h = head_passes (λ (e : K × X). is_behind cmp after e.0) es e h
+
+module _ {K X : Type 0} {cmp : K → K → Ordering} (total : IsTotalOrder cmp) where
+  all_behind : (after : Option K) (k : K) (es : List (K × X)) → is_behind cmp after k ≡ true → AllByRecursion (λ y. cmp k y ≡ Less) (keys_of es) → entries_behind cmp after es ≡ es
+  all_behind after k [] at all = refl
+  all_behind after k (e ∷ es) at all =
+      ap (λ b. cond b (e ∷ entries_behind cmp after es) (entries_behind cmp after es)) (behind_also total after k at e.0 all.0) ∙ ap (λ xs. e ∷ xs) (all_behind after k es at all.1)
+
+  behind_all : (k : K) (es : List (K × X)) → AllByRecursion (λ y. cmp k y ≡ Less) (keys_of es) → entries_behind cmp (Some k) es ≡ es
+  behind_all k [] all = refl
+  behind_all k (e ∷ es) all =
+      ap (λ o. cond (is_lt o) (e ∷ entries_behind cmp (Some k) es) (entries_behind cmp (Some k) es)) all.0 ∙ ap (λ xs. e ∷ xs) (behind_all k es all.1)
+
+  -- what is behind the first of the entries behind a key are the others of these
+  behind_first : (after : Option K) (es : List (K × X)) (e : K × X) (rest : List (K × X)) → IsStrictlySortedBy cmp (keys_of es) → entries_behind cmp after es ≡ e ∷ rest
+      → entries_behind cmp (Some e.0) es ≡ rest
+  behind_first after [] e rest sorted h = cc
+  behind_first after (x ∷ xs) e rest sorted h = by (is_behind cmp after x.0) refl h (behind_first after xs e rest (sorted_tail cmp x.0 (keys_of xs) sorted))
+    where
+      above : AllByRecursion (λ y. cmp x.0 y ≡ Less) (keys_of xs)
+      above = sorted_head cmp x.0 (keys_of xs) sorted
+
+      not_before : (a : Option K) → is_behind cmp a x.0 ≡ false → is_behind cmp a e.0 ≡ true → (b : Bool) → is_lt (cmp e.0 x.0) ≡ b → b ≡ false
+      not_before a at here false is = refl
+      not_before a at here true is = clash (sym (behind_also total a e.0 here x.0 (less_by (cmp e.0 x.0) is)) ∙ at)
+
+      by : (b : Bool) → is_behind cmp after x.0 ≡ b → cond b (x ∷ entries_behind cmp after xs) (entries_behind cmp after xs) ≡ e ∷ rest
+          → (entries_behind cmp after xs ≡ e ∷ rest → entries_behind cmp (Some e.0) xs ≡ rest)
+          → cond (is_lt (cmp e.0 x.0)) (x ∷ entries_behind cmp (Some e.0) xs) (entries_behind cmp (Some e.0) xs) ≡ rest
+      by true at h next =
+          let same : x ≡ e = cc in
+          let others : entries_behind cmp after xs ≡ rest = cc in
+          ap (λ (e : K × X). cond (is_lt (cmp e.0 x.0)) (x ∷ entries_behind cmp (Some e.0) xs) (entries_behind cmp (Some e.0) xs)) (sym same)
+          ∙ ap (λ o. cond (is_lt o) (x ∷ entries_behind cmp (Some x.0) xs) (entries_behind cmp (Some x.0) xs)) (tied_itself total x.0)
+          ∙ behind_all x.0 xs above ∙ sym (all_behind after x.0 xs at above) ∙ others
+      by false at h next =
+          ap (λ b. cond b (x ∷ entries_behind cmp (Some e.0) xs) (entries_behind cmp (Some e.0) xs))
+          (not_before after at (head_passes (λ (e : K × X). is_behind cmp after e.0) xs e (ap (λ es. slice_get es 0) h)) (is_lt (cmp e.0 x.0)) refl)
+          ∙ next h
+
+  -- the entries behind a key are the next one, and those behind that
+  pub goes_on : (after : Option K) (es : List (K × X)) (e : K × X) → IsStrictlySortedBy cmp (keys_of es) → next_entry cmp after es ≡ Some e
+      → entries_behind cmp after es ≡ e ∷ entries_behind cmp (Some e.0) es
+  goes_on after es e sorted h =
+      let parts = head_cons (entries_behind cmp after es) e h in
+      parts.1 ∙ ap (λ xs. e ∷ xs) (sym (behind_first after es e parts.0 sorted parts.1))
+
+-- ---- through inner maps
 
 -- the entry at a key, by what is found there
 entry_found : {K X : Type 0} (cmp : K → K → Ordering) (a k : K) (x : X) (es : List (K × X)) → lookup_key (is_at (cmp a)) es ≡ Some k → lookup (is_at (cmp a)) es ≡ Some x → entry_at cmp a es ≡ Some (k, x)
