@@ -15,8 +15,9 @@ use Rattle.riak_msgs.specs.Contents.{Content}
 use Rattle.riak_msgs.specs.KeyOrder.{key_cmp}
 use Rattle.actor_epoch.specs.declared.Actor.{Actor}
 use Rattle.actor_epoch.specs.declared.Dot.{Dot}
-use Rattle.dvv_set.specs.Clocks.{DotState, discard, event}
-use Rattle.dvv_set.specs.Held.{IsWithin, IsReady}
+use Rattle.actor_epoch.specs.Limits.{max_actors}
+use Rattle.dvv_set.specs.Clocks.{DotState, discard, event, sync}
+use Rattle.dvv_set.specs.Held.{IsWithin, IsReady, IsSyncReady}
 use Rattle.vnode_machine.specs.Machine.{Stored}
 use Rattle.vnode_machine.proofs.Keys.{key_cmp_total}
 use Rattle.clock_list.specs.declared.place.Place.{Place}
@@ -30,7 +31,7 @@ use Rattle.clock_store.specs.declared.store.WriteKind.TheVariants.{Value, Tombst
 use Rattle.clock_store.specs.Contents.{Reservation, HasPlaceIfDead, HasRoom}
 use Rattle.clock_store.specs.Keys.{Keys, stored_of, empty, clock_at, written, overwritten}
 use Rattle.std.specs.Ordering.{eq_by_cmp}
-use Rattle.clock_list.specs.Rows.{entry_of, place_entry, first_place, FitsAt, ReadyAt, reservation_of, contents_in, IsRoom, IsList}
+use Rattle.clock_list.specs.Rows.{entry_of, place_entry, first_place, FitsAt, ReadyAt, SyncFitsAt, SyncReadyAt, reservation_of, contents_in, IsRoom, IsList}
 use Rattle.clock_list.proofs.Finding.{at_place, new_place}
 
 -- a key stands at its place
@@ -117,20 +118,39 @@ module _ (seen : Option (List Dot)) (actor : Actor) where
       let clock : clock_at (map entry_of items) key ≡ empty = rw (sym none) refl in
       subst (λ (m : DotState (Option Content)). IsWithin m.known seen actor) (clock ∙ sym is) fits
 
--- a write at an actor, of which this is left of a clock
-module _ (left : DotState (Option Content) → DotState (Option Content)) (actor : Actor) (value : Option Content) where
-  abbrev written_to : Keys → Key → Keys
-  written_to keys key = put key_cmp key (record { own = Some actor; clock = event actor value (left (clock_at keys key)) }) keys
+-- the same of a sync with another clock
+module _ (other : DotState (Option Content)) where
+  pub sync_fits_at : (items : List Row) (key : Key) (i : ℕ) → place_in key (map entry_of items) ≡ At i → length (sync (clock_at (map entry_of items) key) other).known ≤ max_actors
+      → SyncFitsAt items i other
+  sync_fits_at items key i h few =
+      let at = stands items key i h in
+      let clock : clock_at (map entry_of items) key ≡ at.row.stored.clock.meaning = let o = at.find in rw o refl in
+      record { row = at.row; get = at.get; fits = subst (λ (m : DotState (Option Content)). length (sync m other).known ≤ max_actors) clock few }
 
-  pub written_at : (items : List Row) (key : Key) (i : ℕ) (read new : Row) → place_in key (map entry_of items) ≡ At i → read ≡ get_or items i read
-      → new.key ≡ read.key → new.stored.actor ≡ actor → new.stored.clock.meaning ≡ event actor value (left read.stored.clock.meaning)
-      → map entry_of (set items i new) ≡ written_to (map entry_of items) key
-  written_at items key i read new h is same own clock =
+  pub sync_ready_at : (items : List Row) (i : ℕ) (new : Row) → i < length items → IsSyncReady new.stored.clock other → SyncReadyAt (set items i new) i other
+  sync_ready_at items i new h ready = record { row = new; get = slice_get-set items i new h; ready = ready }
+
+  pub sync_fits_new : (items : List Row) (key : Key) (i : ℕ) → IsTrue (is_sorted key_cmp (map entry_of items)) → place_in key (map entry_of items) ≡ New i
+      → length (sync (clock_at (map entry_of items) key) other).known ≤ max_actors → length (sync empty other).known ≤ max_actors
+  sync_fits_new items key i sorted h few =
+      let none = found_none items key i sorted h in
+      let clock : clock_at (map entry_of items) key ≡ empty = rw (sym none) refl in
+      subst (λ (m : DotState (Option Content)). length (sync m other).known ≤ max_actors) clock few
+
+-- a change of a clock, at an actor
+module _ (change : DotState (Option Content) → DotState (Option Content)) (actor : Actor) where
+  abbrev changed_to : Keys → Key → Keys
+  changed_to keys key = put key_cmp key (record { own = Some actor; clock = change (clock_at keys key) }) keys
+
+  pub changed_at : (items : List Row) (key : Key) (i : ℕ) (read new : Row) → place_in key (map entry_of items) ≡ At i → read ≡ get_or items i read
+      → new.key ≡ read.key → new.stored.actor ≡ actor → new.stored.clock.meaning ≡ change read.stored.clock.meaning
+      → map entry_of (set items i new) ≡ changed_to (map entry_of items) key
+  changed_at items key i read new h is same own clock =
       let at = stands items key i h in
       let it : read ≡ at.row = is ∙ get_or_from_slice_get items i at.row read at.get in
       let was : clock_at (map entry_of items) key ≡ read.stored.clock.meaning = let o = at.find in rw (o, it) refl in
-      let stored : stored_of new.stored ≡ record { own = Some actor; clock = event actor value (left (clock_at (map entry_of items) key)) } =
-      (λ j. record { own = Some (own j); clock = clock j }) ∙ (λ j. record { own = Some actor; clock = event actor value (left (sym was j)) }) in
+      let stored : stored_of new.stored ≡ record { own = Some actor; clock = change ((clock_at (map entry_of items) key)) } =
+      (λ j. record { own = Some (own j); clock = clock j }) ∙ (λ j. record { own = Some actor; clock = change ((sym was j)) }) in
       map-set entry_of items i new
       ∙ ap (λ k. set (map entry_of items) i (k, stored_of new.stored)) (same ∙ ap (λ (r : Row). r.key) it)
       ∙ sym (at.put (stored_of new.stored))
@@ -142,20 +162,35 @@ module _ (left : DotState (Option Content) → DotState (Option Content)) (actor
       ∙ ap (λ front. front ++ entry_of row ∷ map entry_of (drop i items)) (sym (take-map entry_of i items))
       ∙ ap (λ back. take i (map entry_of items) ++ entry_of row ∷ back) (sym (drop-map entry_of i items))
 
-  pub written_new : (items : List Row) (i : ℕ) (made new : Row) → IsTrue (is_sorted key_cmp (map entry_of items)) → place_in made.key (map entry_of items) ≡ New i
-      → made.stored.clock.meaning ≡ empty → new.key ≡ made.key → new.stored.actor ≡ actor → new.stored.clock.meaning ≡ event actor value (left made.stored.clock.meaning)
-      → map entry_of (insert items i new) ≡ written_to (map entry_of items) made.key
-  written_new items i made new sorted h none same own clock =
+  pub changed_new : (items : List Row) (i : ℕ) (made new : Row) → IsTrue (is_sorted key_cmp (map entry_of items)) → place_in made.key (map entry_of items) ≡ New i
+      → made.stored.clock.meaning ≡ empty → new.key ≡ made.key → new.stored.actor ≡ actor → new.stored.clock.meaning ≡ change made.stored.clock.meaning
+      → map entry_of (insert items i new) ≡ changed_to (map entry_of items) made.key
+  changed_new items i made new sorted h none same own clock =
       let at = new_place 0 made.key (map entry_of items) i sorted h in
       let k : at.k ≡ i = omega (arith, at.is) in
       let was : clock_at (map entry_of items) made.key ≡ empty = let o = at.find in rw o refl in
-      let stored : stored_of new.stored ≡ record { own = Some actor; clock = event actor value (left (clock_at (map entry_of items) made.key)) } =
-      (λ j. record { own = Some (own j); clock = clock j }) ∙ (λ j. record { own = Some actor; clock = event actor value (left ((none ∙ sym was) j)) }) in
+      let stored : stored_of new.stored ≡ record { own = Some actor; clock = change ((clock_at (map entry_of items) made.key)) } =
+      (λ j. record { own = Some (own j); clock = clock j }) ∙ (λ j. record { own = Some actor; clock = change (((none ∙ sym was) j)) }) in
       mapped_insert items i new
       ∙ ap (λ key. insert (map entry_of items) i (key, stored_of new.stored)) same
       ∙ ap (λ n. insert (map entry_of items) n (made.key, stored_of new.stored)) (sym k)
       ∙ sym (at.put (stored_of new.stored))
       ∙ ap (λ s. put key_cmp made.key s (map entry_of items)) stored
+
+-- a write at an actor, of which this is left of a clock
+module _ (left : DotState (Option Content) → DotState (Option Content)) (actor : Actor) (value : Option Content) where
+  abbrev written_to : Keys → Key → Keys
+  written_to keys key = put key_cmp key (record { own = Some actor; clock = event actor value (left (clock_at keys key)) }) keys
+
+  pub written_at : (items : List Row) (key : Key) (i : ℕ) (read new : Row) → place_in key (map entry_of items) ≡ At i → read ≡ get_or items i read
+      → new.key ≡ read.key → new.stored.actor ≡ actor → new.stored.clock.meaning ≡ event actor value (left read.stored.clock.meaning)
+      → map entry_of (set items i new) ≡ written_to (map entry_of items) key
+  written_at = changed_at (λ clock. event actor value (left clock)) actor
+
+  pub written_new : (items : List Row) (i : ℕ) (made new : Row) → IsTrue (is_sorted key_cmp (map entry_of items)) → place_in made.key (map entry_of items) ≡ New i
+      → made.stored.clock.meaning ≡ empty → new.key ≡ made.key → new.stored.actor ≡ actor → new.stored.clock.meaning ≡ event actor value (left made.stored.clock.meaning)
+      → map entry_of (insert items i new) ≡ written_to (map entry_of items) made.key
+  written_new = changed_new (λ clock. event actor value (left clock)) actor
 
 pub within_new : (items : List Row) (key : Key) (i : ℕ) → IsTrue (is_sorted key_cmp (map entry_of items)) → place_in key (map entry_of items) ≡ New i → i ≤ length items
 within_new items key i sorted h =

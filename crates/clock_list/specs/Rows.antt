@@ -1,5 +1,5 @@
 -- What a list of rows means, and what is always true of it.
-use Rattle.std.specs.Prelude.{◌≡◌, ◌<◌, ℕ, true, List, map, IsTrue, Option, Some, None, slice_get, vec_len, vec_capacity}
+use Rattle.std.specs.Prelude.{◌≡◌, ◌<◌, ◌≤◌, ℕ, length, true, List, map, IsTrue, Option, Some, None, slice_get, vec_len, vec_capacity}
 use Rattle.std.specs.Option.{option_map}
 use Rattle.std.specs.declared.vec.Vec.{Vec}
 use Rattle.std.specs.declared.alloc.Global.{Global}
@@ -9,7 +9,9 @@ use Rattle.riak_msgs.specs.Contents.{Content}
 use Rattle.riak_msgs.specs.KeyOrder.{key_cmp}
 use Rattle.actor_epoch.specs.declared.Actor.{Actor}
 use Rattle.actor_epoch.specs.declared.Dot.{Dot}
-use Rattle.dvv_set.specs.Held.{IsWithin, IsReady}
+use Rattle.actor_epoch.specs.Limits.{max_actors}
+use Rattle.dvv_set.specs.Clocks.{DotState, sync}
+use Rattle.dvv_set.specs.Held.{IsWithin, IsReady, IsSyncReady}
 use Rattle.vnode_machine.specs.Machine.{Stored}
 use Rattle.clock_store.specs.Contents.{Reservation, Contents}
 use Rattle.clock_store.specs.Keys.{empty, stored_of}
@@ -35,6 +37,23 @@ pub record ReadyAt (items : List Row) (i : ℕ) (seen : Option (List Dot)) (acto
   pub row : Row
   pub get : slice_get items i ≡ Some row
   pub ready : IsReady row.stored.clock seen actor
+
+-- the same of a sync
+pub record SyncFitsAt (items : List Row) (i : ℕ) (other : DotState (Option Content)) : Type 0 where
+  pub row : Row
+  pub get : slice_get items i ≡ Some row
+  pub fits : length (sync row.stored.clock.meaning other).known ≤ max_actors
+
+pub record SyncReadyAt (items : List Row) (i : ℕ) (other : DotState (Option Content)) : Type 0 where
+  pub row : Row
+  pub get : slice_get items i ≡ Some row
+  pub ready : IsSyncReady row.stored.clock other
+
+-- a row of this key that knows nothing and has room for a sync
+pub record IsNewSyncRow (row : Row) (key : Key) (other : DotState (Option Content)) : Type 0 where
+  pub same : row.key ≡ key
+  pub none : row.stored.clock.meaning ≡ empty
+  pub ready : IsSyncReady row.stored.clock other
 
 -- a row of this key that knows nothing and has room for a write
 pub record IsNewRow (row : Row) (key : Key) (seen : Option (List Dot)) (actor : Actor) : Type 0 where

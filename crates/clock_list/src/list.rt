@@ -1,20 +1,26 @@
 //! The list of keys with room for one write.
 
-ghost use Rattle.std.specs.Prelude.{◌≡◌, map, IsTrue, IfOk, Some};
+ghost use Rattle.std.specs.Prelude.{◌≡◌, ◌≤◌, map, length, IsTrue, IfOk, Some};
 ghost use Rattle.std.specs.FinMap.Entries.{is_sorted};
 ghost use Rattle.riak_msgs.specs.KeyOrder.{key_cmp};
 ghost use Rattle.dvv_set.specs.Held.{IsWithin, pairs_of as seen_in};
-ghost use Rattle.clock_store.specs.Contents.{HasRoom};
+ghost use Rattle.actor_epoch.specs.Limits.{max_actors};
+ghost use Rattle.dvv_set.specs.Clocks.{sync};
+ghost use Rattle.clock_store.specs.Contents.{HasRoom, HasSyncRoom};
 ghost use Rattle.clock_store.specs.Keys.{clock_at};
 ghost use Rattle.clock_list.specs.Rows.{entry_of, contents_in, IsRoom};
 
-use crate::place::{Place, place_of};
+use crate::place::{Place, next_row, place_of};
 use crate::removal::{first_dead, forget_at};
-use crate::row::{Row, new_row, overwrite_at, reserve_at, write_at, write_new};
+use crate::row::{
+    Row, new_row, new_sync_row, overwrite_at, reserve_at, reserve_sync_at, sync_at, sync_new,
+    write_at, write_new,
+};
 use actor_epoch::{Actor, Context};
 use clock_store::{
-    ClockStore, Found, Place as KeyPlace, Reaped, StoredClock, WriteKind, stored_in,
+    ClockStore, Found, KeyRef, Place as KeyPlace, Reaped, StoredClock, WriteKind, stored_in,
 };
+use dvv_set::Clock;
 use riak_msgs::{BoxedContent, Key};
 use std::alloc::{AllocError, Global};
 use std::marker::Model;
@@ -80,6 +86,36 @@ fn make_room(
     }
 }
 
+/// Makes room for a sync of a key's clock: in it, or in a row of its own.
+fn make_sync_room(
+    rows: &mut Vec<Row>,
+    alloc: Global,
+    key: &Key,
+    actor: Actor,
+    other: &Clock<Option<BoxedContent>>,
+) -> Result<Room, AllocError>
+    requires sorted { IsTrue (is_sorted key_cmp (map entry_of rows.old.items)) }
+    requires few { length (sync (clock_at (map entry_of rows.old.items) key.now)
+        other.now.meaning).known ≤ max_actors }
+    ensures same { map entry_of rows.new.items ≡ map entry_of rows.old.items }
+    ensures ok { IfOk result (λ room.
+        HasSyncRoom (contents_in rows.new.items (Some room)) key.now other.now.meaning) }
+    ensures fits { IfOk result (λ room. IsRoom rows.new (Some room)) }
+{
+    match place_of(rows.as_slice(), key) {
+        Place::At(i) => {
+            let own = key.clone(alloc)?;
+            reserve_sync_at(rows, i, other)?;
+            Ok(Room::At(i, own))
+        }
+        Place::New(i) => {
+            let row = new_sync_row(alloc, key, actor, other)?;
+            rows.reserve(1)?;
+            Ok(Room::New(i, row))
+        }
+    }
+}
+
 impl ClockStore for ClockList {
     ghost shows = { λ list. list };
 
@@ -101,6 +137,13 @@ impl ClockStore for ClockList {
                 stored: &self.rows[i].stored,
             }),
             Place::New(_) => None,
+        }
+    }
+
+    fn next(&self, after: Option<KeyRef<'_>>) -> Option<(KeyRef<'_>, &StoredClock)> {
+        match next_row(self.rows.as_slice(), after) {
+            None => None,
+            Some(row) => Some((KeyRef::of(&row.key), &row.stored)),
         }
     }
 
@@ -146,6 +189,29 @@ impl ClockStore for ClockList {
         }
     }
 
+    fn reserve_sync(
+        &mut self,
+        alloc: Global,
+        key: &Key,
+        place: Option<KeyPlace>,
+        actor: Actor,
+        other: &Clock<Option<BoxedContent>>,
+    ) -> Result<(), AllocError> {
+        let _place = place;
+        self.room = None;
+        let room = make_sync_room(&mut self.rows, alloc, key, actor, other)?;
+        self.room = Some(room);
+        Ok(())
+    }
+
+    fn sync(&mut self, key: Key, actor: Actor, other: Clock<Option<BoxedContent>>) {
+        match self.room.take() {
+            Some(Room::At(i, _)) => sync_at(&mut self.rows, i, key, actor, other),
+            Some(Room::New(i, row)) => sync_new(&mut self.rows, i, row, actor, other),
+            None => unreachable!(),
+        }
+    }
+
     fn has_dead(&self, from: Option<&Key>) -> bool {
         first_dead(self.rows.as_slice(), from).is_some()
     }
@@ -173,5 +239,10 @@ impl ClockStore for ClockList {
                 true
             }
         }
+    }
+
+    fn clear(&mut self) {
+        self.rows.clear();
+        self.room = None;
     }
 }

@@ -1,10 +1,15 @@
 //! Where a key stands in the list of keys.
 
 ghost use Rattle.std.specs.Prelude.{◌≡◌, map};
+ghost use Rattle.std.specs.Option.{option_map};
+ghost use Rattle.riak_msgs.specs.KeyOrder.{key_cmp};
+ghost use Rattle.place_map.specs.Behind.{is_behind, next_entry};
+ghost use Rattle.place_map.specs.KeyRefs.{key_after};
 ghost use Rattle.clock_list.specs.Places.{place_in};
 ghost use Rattle.clock_list.specs.Rows.{entry_of};
 
 use crate::row::Row;
+use clock_store::KeyRef;
 use riak_msgs::Key;
 use std::cmp::Ordering;
 
@@ -29,4 +34,34 @@ pub(crate) fn place_of(rows: &[Row], key: &Key) -> Place
         }
     }
     Place::New(rows.len())
+}
+
+/// Whether a key is behind another, where one is given.
+fn is_behind(after: Option<KeyRef<'_>>, key: &Key) -> bool
+    ensures { result ≡ is_behind key_cmp (key_after after.entry) key.now }
+{
+    match after {
+        None => true,
+        Some(after) => {
+            let bucket_type = after.bucket_type.cmp(&key.bucket_type);
+            let bucket = after.bucket.cmp(&key.bucket);
+            bucket_type
+                .then(bucket)
+                .then(after.key.cmp(&key.key))
+                .is_lt()
+        }
+    }
+}
+
+/// The row of the least key behind one, or of all where none is given. It looks through the list from the front.
+pub(crate) fn next_row<'a>(rows: &'a [Row], after: Option<KeyRef<'_>>) -> Option<&'a Row>
+    ensures { option_map (λ row. entry_of row.now) result
+        ≡ next_entry key_cmp (key_after after.entry) (map entry_of rows.now) }
+{
+    for row in rows {
+        if is_behind(after, &row.key) {
+            return Some(row);
+        }
+    }
+    None
 }

@@ -1,13 +1,15 @@
 //! Rows of the list, and writes at their places.
 
-ghost use Rattle.std.specs.Prelude.{◌≡◌, map, IsTrue, OnOk, IfOk, None};
+ghost use Rattle.std.specs.Prelude.{◌≡◌, ◌≤◌, map, length, IsTrue, OnOk, IfOk, None};
 ghost use Rattle.std.specs.FinMap.Entries.{is_sorted};
 ghost use Rattle.riak_msgs.specs.KeyOrder.{key_cmp};
-ghost use Rattle.dvv_set.specs.Held.{IsWithin, IsReady, pairs_of as seen_in};
-ghost use Rattle.clock_store.specs.Keys.{empty, written, overwritten};
+ghost use Rattle.actor_epoch.specs.Limits.{max_actors};
+ghost use Rattle.dvv_set.specs.Clocks.{sync};
+ghost use Rattle.dvv_set.specs.Held.{IsWithin, IsReady, IsSyncReady, pairs_of as seen_in};
+ghost use Rattle.clock_store.specs.Keys.{empty, written, overwritten, synced};
 ghost use Rattle.clock_list.specs.declared.place.Place.TheVariants as places;
 ghost use Rattle.clock_list.specs.Places.{place_in};
-ghost use Rattle.clock_list.specs.Rows.{entry_of, FitsAt, ReadyAt, FitsIn, IsNewRow};
+ghost use Rattle.clock_list.specs.Rows.{entry_of, FitsAt, ReadyAt, SyncFitsAt, SyncReadyAt, FitsIn, IsNewRow, IsNewSyncRow};
 
 use actor_epoch::{Actor, Context};
 use clock_store::StoredClock;
@@ -34,6 +36,36 @@ pub(crate) fn reserve_at(
     ensures ok { OnOk result (ReadyAt rows.new.items i (seen_in seen.entry) actor) }
 {
     rows[i].stored.reserve(seen, actor)
+}
+
+/// Makes room for a sync in the clock of the row at a place.
+pub(crate) fn reserve_sync_at(
+    rows: &mut Vec<Row>,
+    i: usize,
+    other: &Clock<Option<BoxedContent>>,
+) -> Result<(), AllocError>
+    requires { SyncFitsAt rows.old.items i other.now.meaning }
+    ensures same { map entry_of rows.new.items ≡ map entry_of rows.old.items }
+    ensures ok { OnOk result (SyncReadyAt rows.new.items i other.now.meaning) }
+{
+    rows[i].stored.reserve_sync(other)
+}
+
+/// A row of a key that isn't held: its clock is empty, with room for a sync.
+pub(crate) fn new_sync_row(
+    alloc: Global,
+    key: &Key,
+    actor: Actor,
+    other: &Clock<Option<BoxedContent>>,
+) -> Result<Row, AllocError>
+    requires { length (sync empty other.now.meaning).known ≤ max_actors }
+    ensures { IfOk result (λ row. IsNewSyncRow row key.now other.now.meaning) }
+{
+    let key = key.clone(alloc)?;
+    let clock = Clock::new(alloc);
+    let mut stored = StoredClock { actor, clock };
+    stored.reserve_sync(other)?;
+    Ok(Row { key, stored })
 }
 
 /// A row of a key that isn't held: its clock is empty, with room for a write.
@@ -104,6 +136,43 @@ pub(crate) fn write_new(
         ≡ written (map entry_of rows.old.items) row.key (seen_in seen.entry) actor value }
 {
     row.stored.write(seen, actor, value);
+    if rows.insert(i, row).is_err() {
+        unreachable!()
+    }
+}
+
+/// Syncs the clock of the row at a place.
+pub(crate) fn sync_at(
+    rows: &mut Vec<Row>,
+    i: usize,
+    key: Key,
+    actor: Actor,
+    other: Clock<Option<BoxedContent>>,
+)
+    requires placed { place_in key (map entry_of rows.old.items) ≡ places.At i }
+    requires ready { SyncReadyAt rows.old.items i other.meaning }
+    ensures { map entry_of rows.new.items
+        ≡ synced (map entry_of rows.old.items) key actor other.meaning }
+{
+    let _key = key;
+    rows[i].stored.sync(actor, other);
+}
+
+/// Puts a row in at its place, with its first clock.
+pub(crate) fn sync_new(
+    rows: &mut Vec<Row>,
+    i: usize,
+    mut row: Row,
+    actor: Actor,
+    other: Clock<Option<BoxedContent>>,
+)
+    requires sorted { IsTrue (is_sorted key_cmp (map entry_of rows.old.items)) }
+    requires fits { FitsIn rows.old i row }
+    requires ready { IsSyncReady row.stored.clock other.meaning }
+    ensures { map entry_of rows.new.items
+        ≡ synced (map entry_of rows.old.items) row.key actor other.meaning }
+{
+    row.stored.sync(actor, other);
     if rows.insert(i, row).is_err() {
         unreachable!()
     }

@@ -2,6 +2,7 @@ mod Entries
 mod Ties
 mod Marks
 mod Maps
+mod NextShown
 mod Views
 mod Passed
 mod Until

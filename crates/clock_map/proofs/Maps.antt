@@ -1,5 +1,5 @@
 -- What always holds of a map of clocks, after each of its calls.
-use Rattle.std.proofs.Common.{◌≡◌, ◌∙◌, inl, inr, refl, sym, ap, subst, List, [], ℕ, Bool, true, false, not, cond}
+use Rattle.std.proofs.Common.{◌≡◌, ◌∙◌, inl, inr, refl, sym, ap, subst, ℕ, Bool, true, false, not, cond}
 use Rattle.std.specs.Prelude.{◌==◌, ◌&&◌, ◌||◌, Option, Some, None, IsSome, is_some, option_and_then}
 use Rattle.std.specs.Prelude.{Result, Ok, Err, OnErr}
 use Rattle.std.specs.Option.{option_map, option_map_or}
@@ -14,22 +14,21 @@ use Rattle.riak_msgs.specs.KeyOrder.{key_cmp}
 use Rattle.actor_epoch.specs.declared.Actor.{Actor}
 use Rattle.actor_epoch.specs.declared.Dot.{Dot}
 use Rattle.dvv_set.specs.Clocks.{DotState, event, show_cmp}
-use Rattle.dvv_set.specs.Held.{IsWithin}
 use Rattle.vnode_machine.specs.Machine.{Stored}
 use Rattle.clock_store.specs.declared.stored_clock.StoredClock.{StoredClock}
 use Rattle.clock_store.specs.Keys.{Keys, stored_of, empty, clock_at}
-use Rattle.clock_store.specs.Contents.{Contents, Reservation, HasPlaceIfDead, HasRoom, kind_of}
-use Rattle.clock_store.specs.declared.store.WriteKind.TheVariants.{Value}
+use Rattle.clock_store.specs.Contents.{Contents, Reservation, HasPlaceIfDead, kind_of}
 use Rattle.clock_store.specs.declared.store.Reaped.TheVariants.{Gone}
 use Rattle.clock_store.specs.Forgetting.{holding, reap_result}
 use Rattle.clock_store.proofs.Reaps.{reap-none, reap-kept}
 use Rattle.vnode_machine.proofs.Tests.{and_left, and_right, nat_eq-refl}
 use Rattle.clock_map.specs.declared.room.Room.{Room}
+use Rattle.clock_map.specs.declared.room.Need.{Need}
 use Rattle.clock_map.specs.declared.index.DeadMark.{DeadMark}
 use Rattle.clock_map.specs.declared.index.DeadMark.TheVariants.{Spare, Dead}
 use Rattle.clock_map.specs.Index.{Index, is_marked, mark_of, without_spare, SpareIsNew}
-use Rattle.clock_map.specs.Places.{Places, Clocks, place_of, stored_at, lives, lives_at, has_no_mark, FitsAt, IsReadyAt, StoresSame, WritesAt, AddsAt, Unchanged, RemovesAt, DropsSpare, IsSpareKey, is_for_new, is_spare}
-use Rattle.clock_map.specs.Maps.{is_dead, shown_at, shown_of, keys_in, reserved_in, IsRoomOf, IsRoom, MayDie, IsMap}
+use Rattle.clock_map.specs.Places.{Places, Clocks, place_of, stored_at, lives, lives_at, has_no_mark, Fits, FitsAt, HasRoomAt, StoresSame, WritesAt, AddsAt, Unchanged, RemovesAt, DropsSpare, IsSpareKey, is_for_new, is_spare}
+use Rattle.clock_map.specs.Maps.{is_dead, shown_at, shown_of, keys_in, reserved_in, IsRoomOf, IsRoom, MayDie, IsMap, HasMadeRoom}
 use Rattle.clock_map.proofs.Entries.{find_shown, keys_same}
 use Rattle.clock_map.proofs.Ties.{clash, tied_stored, tied_written, tied_removed, removed_shown, tied_added, added_place, added_shown, tied_dropped, dropped_shown, written_shown, written_keys, ReservedAt, reserved_for, no_spare_key}
 use Rattle.clock_map.proofs.Marks.{settled_marks, settled_spare, unspared, no_spare, any_put}
@@ -66,45 +65,30 @@ no_spares places clocks dead room holds h q is =
     let same : room ≡ may.0 = (let e = may.1 in cc) in
     clash (sym (ap (λ (r : Room). r.may_die) same ∙ may.2) ∙ h)
 
--- a write in the room of a key
-module _ (places : Places) (old new : Clocks) (dead : Index) (room : Room) (key : Key) (actor : Actor) (value : Option Content)
-    (left : DotState (Option Content) → DotState (Option Content)) (holds : IsMap places old dead (Some room)) (reserved : Reservation)
-    (at : ReservedAt places old room key reserved) (dies : HasPlaceIfDead (kind_of value) reserved.may_die)
-    (wrote : WritesAt old new room.place actor (λ clock. event actor value (left clock))) where
+-- a change of the clock in the room of a key
+module _ (places : Places) (old new : Clocks) (dead : Index) (room : Room) (key : Key) (actor : Actor) (change : DotState (Option Content) → DotState (Option Content))
+    (holds : IsMap places old dead (Some room)) (reserved : Reservation) (at : ReservedAt places old room key reserved) (wrote : WritesAt old new room.place actor change) where
   room_key : holds.room.0 ≡ key
   room_key = holds.tied.one holds.room.0 key room.place holds.room.1.placed at.placed
 
-  -- a key that isn't dead before the write, nor may be after it, has no entry
-  pub unmarked : has_no_mark old room ≡ true → tree.get key_cmp dead key ≡ None
-  unmarked h = no_entry places old dead room key reserved holds at h
-
   abbrev after : Stored Content
-  after = record { own = Some actor; clock = event actor value (left wrote.stored.clock.meaning) }
+  after = record { own = Some actor; clock = change wrote.stored.clock.meaning }
 
-  -- what is a value lives
-  value_lives : (content : Content) → value ≡ Some content → lives (Some after) ≡ true
-  value_lives content is =
-      any_put show_cmp (λ (entry : Dot × Option Content). is_some entry.1) (record { actor = actor; counter = _ }) value (left wrote.stored.clock.meaning).live (λ k. ap is_some is)
+  -- where the key may be dead after it, the index has an entry
+  pub mark_dying : reserved.may_die ≡ true → IsSome (tree.get key_cmp dead key)
+  mark_dying dies = ap (λ k. is_some (tree.get key_cmp dead k)) (sym room_key) ∙ holds.room.1.mark (sym at.may_die ∙ dies)
 
-  -- so where the key is dead, the write was a tombstone, for which the index has an entry
-  pub mark_ready : (b : Bool) → b ≡ lives_at new room.place → not b ≡ true → IsSome (tree.get key_cmp dead key)
-  mark_ready b is dead_now = by value refl dies
-    where
-      by : (v : Option Content) → value ≡ v → HasPlaceIfDead (kind_of v) reserved.may_die → IsSome (tree.get key_cmp dead key)
-      by None v may_die = ap (λ k. is_some (tree.get key_cmp dead k)) (sym room_key) ∙ holds.room.1.mark (sym at.may_die ∙ may_die)
-      by (Some content) v h = clash (sym dead_now ∙ ap not (is ∙ ap lives wrote.now ∙ value_lives content v))
-
-  pub written_map : (index : Index) (b : Bool) → b ≡ lives_at new room.place → ((q : Key) → tree.get key_cmp index q ≡ mark_of key (not b) q (tree.get key_cmp dead q))
+  pub changed_map : (index : Index) (b : Bool) → b ≡ lives_at new room.place → ((q : Key) → tree.get key_cmp index q ≡ mark_of key (not b) q (tree.get key_cmp dead q))
       → IsMap places new index None
-  written_map index b is settled = record {
-    tied = tied_written places old new room.place actor (λ clock. event actor value (left clock)) holds.tied wrote;
+  changed_map index b is settled = record {
+    tied = tied_written places old new room.place actor change holds.tied wrote;
     marks = settled_marks dead index (shown_of places old (Some room)) (shown_of places new None) key (Some after) (not b) holds.marks shows settled dead_is;
     spare = λ q h. absurd (settled_spare dead index (shown_of places old (Some room)) (shown_of places new None) key (Some after) (not b) holds.marks shows settled dead_is only q h);
     room = tt;
   }
     where
       shows : (q : Key) → shown_of places new None q ≡ cond (is_at (key_cmp key) q) (Some after) (shown_of places old (Some room) q)
-      shows = written_shown places old new room key actor (λ clock. event actor value (left clock)) holds.tied at.placed wrote
+      shows = written_shown places old new room key actor change holds.tied at.placed wrote
 
       dead_is : not b ≡ is_dead (Some after)
       dead_is = ap not (is ∙ ap lives wrote.now)
@@ -115,12 +99,42 @@ module _ (places : Places) (old new : Clocks) (dead : Index) (room : Room) (key 
           let same : room ≡ may.0 = (let e = may.1 in cc) in
           holds.tied.one key q room.place at.placed (may.3 ∙ ap (λ (r : Room). Some r.place) (sym same))
 
-  pub written_is : keys_in (shown_at new None) places.entries
-      ≡ put key_cmp key (record { own = Some actor; clock = event actor value (left (clock_at (keys_in (shown_at old (Some room)) places.entries) key)) }) (keys_in (shown_at old (Some room)) places.entries)
-  written_is = written_keys places old new room key actor (λ clock. event actor value (left clock)) holds.tied at.placed wrote (room_empty holds.room.1)
+  pub changed_is : keys_in (shown_at new None) places.entries
+      ≡ put key_cmp key (record { own = Some actor; clock = change (clock_at (keys_in (shown_at old (Some room)) places.entries) key) }) (keys_in (shown_at old (Some room)) places.entries)
+  changed_is = written_keys places old new room key actor change holds.tied at.placed wrote (room_empty holds.room.1)
     where
       room_empty : {k : Key} → IsRoomOf places old dead room k → room.is_new ≡ true → (stored : Stored Content) → stored_at old room.place ≡ Some stored → stored.clock ≡ empty
       room_empty r = r.empty
+
+-- a write in the room of a key
+module _ (places : Places) (old new : Clocks) (dead : Index) (room : Room) (key : Key) (actor : Actor) (value : Option Content)
+    (left : DotState (Option Content) → DotState (Option Content)) (holds : IsMap places old dead (Some room)) (reserved : Reservation)
+    (at : ReservedAt places old room key reserved) (dies : HasPlaceIfDead (kind_of value) reserved.may_die)
+    (wrote : WritesAt old new room.place actor (λ clock. event actor value (left clock))) where
+  -- a key that isn't dead before the write, nor may be after it, has no entry
+  pub unmarked : has_no_mark old room ≡ true → tree.get key_cmp dead key ≡ None
+  unmarked h = no_entry places old dead room key reserved holds at h
+
+  -- what is a value lives
+  value_lives : (content : Content) → value ≡ Some content → lives (Some (record { own = Some actor; clock = event actor value (left wrote.stored.clock.meaning) })) ≡ true
+  value_lives content is =
+      any_put show_cmp (λ (entry : Dot × Option Content). is_some entry.1) (record { actor = actor; counter = _ }) value (left wrote.stored.clock.meaning).live (λ k. ap is_some is)
+
+  -- so where the key is dead, the write was a tombstone, for which the index has an entry
+  pub mark_ready : (b : Bool) → b ≡ lives_at new room.place → not b ≡ true → IsSome (tree.get key_cmp dead key)
+  mark_ready b is dead_now = by value refl dies
+    where
+      by : (v : Option Content) → value ≡ v → HasPlaceIfDead (kind_of v) reserved.may_die → IsSome (tree.get key_cmp dead key)
+      by None v may_die = mark_dying places old new dead room key actor (λ clock. event actor value (left clock)) holds reserved at wrote may_die
+      by (Some content) v h = clash (sym dead_now ∙ ap not (is ∙ ap lives wrote.now ∙ value_lives content v))
+
+  pub written_map : (index : Index) (b : Bool) → b ≡ lives_at new room.place → ((q : Key) → tree.get key_cmp index q ≡ mark_of key (not b) q (tree.get key_cmp dead q))
+      → IsMap places new index None
+  written_map = changed_map places old new dead room key actor (λ clock. event actor value (left clock)) holds reserved at wrote
+
+  pub written_is : keys_in (shown_at new None) places.entries
+      ≡ put key_cmp key (record { own = Some actor; clock = event actor value (left (clock_at (keys_in (shown_at old (Some room)) places.entries) key)) }) (keys_in (shown_at old (Some room)) places.entries)
+  written_is = changed_is places old new dead room key actor (λ clock. event actor value (left clock)) holds reserved at wrote
 
 -- a key is removed, and its mark
 module _ (old new : Places) (were are : Clocks) (dead index : Index) (key : Key) (holds : IsMap old were dead None) (left : RemovesAt old new were are key)
@@ -180,20 +194,20 @@ module _ (places : Places) (old new : Clocks) (dead : Index) (holds : IsMap plac
     held_keys = keys_same (shown_at old None) (shown_at new (Some held_room)) places places holds.tied.ordered holds.tied.ordered (stored_shown places old new place same)
 
 -- room for a key that isn't held
-module _ (old new : Places) (were are : Clocks) (dead : Index) (key : Key) (place : ℕ) (seen : Option (List Dot)) (actor : Actor) (holds : IsMap old were dead None)
-    (absent : place_of old key ≡ None) (added : AddsAt old new were are key place seen actor) where
+module _ (old new : Places) (were are : Clocks) (dead : Index) (key : Key) (place : ℕ) (need : Need) (actor : Actor) (holds : IsMap old were dead None)
+    (absent : place_of old key ≡ None) (added : AddsAt old new were are key place need actor) where
   abbrev pub new_room : Room
   new_room = record { place = place; is_new = true; may_die = false }
 
   pub added_map : IsMap new are dead (Some new_room)
   added_map = record {
-    tied = tied_added old new were are key place seen actor holds.tied absent added;
-    marks = λ q. holds.marks q ∙ ap is_dead (sym (added_shown old new were are key place seen actor holds.tied absent added new_room refl q));
+    tied = tied_added old new were are key place need actor holds.tied absent added;
+    marks = λ q. holds.marks q ∙ ap is_dead (sym (added_shown old new were are key place need actor holds.tied absent added new_room refl q));
     spare = λ q h. (let may = holds.spare q h in let e = may.1 in cc);
     room = (
       key,
       record {
-        placed = added_place old new were are key place seen actor holds.tied absent added;
+        placed = added_place old new were are key place need actor holds.tied absent added;
         empty = λ h stored is.
             (let s : stored_of added.stored ≡ stored = (let e : Some (stored_of added.stored) ≡ Some stored = sym (ap (option_map stored_of) added.put.changed) ∙ is in cc) in
             sym (ap (λ (s : Stored Content). s.clock) s) ∙ added.empty);
@@ -205,7 +219,7 @@ module _ (old new : Places) (were are : Clocks) (dead : Index) (key : Key) (plac
   pub added_keys : keys_in (shown_at are (Some new_room)) new.entries ≡ keys_in (shown_at were None) old.entries
   added_keys =
       keys_same (shown_at were None) (shown_at are (Some new_room)) old new holds.tied.ordered added.ordered
-      (added_shown old new were are key place seen actor holds.tied absent added new_room refl)
+      (added_shown old new were are key place need actor holds.tied absent added new_room refl)
 
 -- nothing changed
 module _ (old new : Places) (were are : Clocks) (dead : Index) (holds : IsMap old were dead None) (same : Unchanged old new were are) where
@@ -224,27 +238,27 @@ module _ (places : Places) (clocks : Clocks) (dead : Index) (key : Key) (holds :
   pub find_none : find key_cmp key (keys_in (shown_at clocks None) places.entries) ≡ shown_of places clocks None key
   find_none = find_shown (shown_at clocks None) key places.entries holds.tied.ordered
 
-  pub fits_at : (place : ℕ) (seen : Option (List Dot)) (actor : Actor) → place_of places key ≡ Some place
-      → IsWithin (clock_at (keys_in (shown_at clocks None) places.entries) key).known seen actor → FitsAt clocks place seen actor
-  fits_at place seen actor placed fits = by (slab.get clocks place) refl (holds.tied.held key place placed)
+  pub fits_at : (place : ℕ) (need : Need) (actor : Actor) → place_of places key ≡ Some place
+      → Fits need actor (clock_at (keys_in (shown_at clocks None) places.entries) key) → FitsAt clocks place need actor
+  fits_at place need actor placed fits = by (slab.get clocks place) refl (holds.tied.held key place placed)
     where
       clock : clock_at (keys_in (shown_at clocks None) places.entries) key ≡ option_map_or (λ (s : Stored Content). s.clock) (stored_at clocks place) empty
       clock = ap (λ o. option_map_or (λ (s : Stored Content). s.clock) o empty) (find_none ∙ ap (option_and_then (shown_at clocks None)) placed)
 
-      by : (o : Option StoredClock) → slab.get clocks place ≡ o → IsSome o → FitsAt clocks place seen actor
+      by : (o : Option StoredClock) → slab.get clocks place ≡ o → IsSome o → FitsAt clocks place need actor
       by None is some = cc
       by (Some stored) is some = record {
         stored = stored;
         is = is;
-        fits = subst (λ (m : DotState (Option Content)). IsWithin m.known seen actor) (clock ∙ ap (λ o. option_map_or (λ (s : Stored Content). s.clock) (option_map stored_of o) empty) is) fits;
+        fits = subst (Fits need actor) (clock ∙ ap (λ o. option_map_or (λ (s : Stored Content). s.clock) (option_map stored_of o) empty) is) fits;
       }
 
-  pub fits_new : (seen : Option (List Dot)) (actor : Actor) → place_of places key ≡ None
-      → IsWithin (clock_at (keys_in (shown_at clocks None) places.entries) key).known seen actor → IsWithin [] seen actor
-  fits_new seen actor absent fits =
+  pub fits_new : (need : Need) (actor : Actor) → place_of places key ≡ None
+      → Fits need actor (clock_at (keys_in (shown_at clocks None) places.entries) key) → Fits need actor empty
+  fits_new need actor absent fits =
       let clock : clock_at (keys_in (shown_at clocks None) places.entries) key ≡ empty =
       ap (λ o. option_map_or (λ (s : Stored Content). s.clock) o empty) (find_none ∙ ap (option_and_then (shown_at clocks None)) absent) in
-      subst (λ (m : DotState (Option Content)). IsWithin m.known seen actor) clock fits
+      subst (Fits need actor) clock fits
 
 -- nothing that is stored changed
 pub same_stored : (places : Places) (old new : Clocks) (dead : Index) (made : Option Room) → IsMap places old dead made → StoresSame old new → IsMap places new dead made
@@ -294,15 +308,14 @@ dying_key places room (Some key) h =
     (record { place = room.place; is_new = room.is_new; may_die = true }, refl, ap (λ (r : Room). r.is_new) same ∙ h.2, h.3 ∙ ap (λ (r : Room). Some r.place) (sym same))
 
 -- room in the clock at the place of a key
-pub has_room : (places : Places) (clocks : Clocks) (dead : Index) (room : Room) (key : Key) (seen : Option (List Dot)) (actor : Actor) (contents : Contents)
+pub has_room : (places : Places) (clocks : Clocks) (dead : Index) (room : Room) (key : Key) (need : Need) (actor : Actor) (contents : Contents)
     → IsMap places clocks dead (Some room) → contents.room ≡ reserved_in places clocks (Some room) → place_of places key ≡ Some room.place
-    → IsReadyAt clocks room.place seen actor → HasRoom contents key seen actor Value
-has_room places clocks dead room key seen actor contents holds is placed ready = record {
+    → HasRoomAt clocks room.place need actor → HasMadeRoom contents key need actor
+has_room places clocks dead room key need actor contents holds is placed ready = record {
   reserved = record { key = key; clock = ready.stored.clock; may_die = room.may_die };
   is = is ∙ reserved_for places clocks room key ready.stored holds.tied placed ready.is;
   same = refl;
   ready = ready.ready;
-  dies = tt;
 }
 
 -- a place in the index for the key that has room

@@ -1,5 +1,5 @@
 -- Keys and their places after a change of one of them.
-use Rattle.std.proofs.Common.{◌≡◌, ◌≢◌, ◌∙◌, ◌⊎◌, inl, inr, refl, sym, ap, List, ℕ, Bool, true, false, not, cond}
+use Rattle.std.proofs.Common.{◌≡◌, ◌≢◌, ◌∙◌, ◌⊎◌, inl, inr, refl, sym, ap, ℕ, Bool, true, false, not, cond}
 use Rattle.std.specs.Prelude.{◌&&◌, ◌==◌, Option, Some, None, IsSome, is_some, option_and_then}
 use Rattle.std.specs.Option.{option_map, option_map_or}
 use Rattle.std.specs.Ordering.{eq_by_cmp}
@@ -10,7 +10,6 @@ use Rattle.riak_msgs.specs.declared.Key.{Key}
 use Rattle.riak_msgs.specs.Contents.{Content}
 use Rattle.riak_msgs.specs.KeyOrder.{key_cmp}
 use Rattle.actor_epoch.specs.declared.Actor.{Actor}
-use Rattle.actor_epoch.specs.declared.Dot.{Dot}
 use Rattle.dvv_set.specs.Clocks.{DotState}
 use Rattle.vnode_machine.specs.Machine.{Stored}
 use Rattle.vnode_machine.proofs.DeadKeys.{eq-itself}
@@ -19,6 +18,7 @@ use Rattle.clock_store.specs.declared.stored_clock.StoredClock.{StoredClock}
 use Rattle.clock_store.specs.Keys.{stored_of, empty, clock_at}
 use Rattle.clock_store.specs.Contents.{Reservation}
 use Rattle.clock_map.specs.declared.room.Room.{Room}
+use Rattle.clock_map.specs.declared.room.Need.{Need}
 use Rattle.clock_map.specs.Places.{Places, Clocks, place_of, stored_at, is_spare, unless_spare, IsSpareKey, IsTied, StoresSame, WritesAt, AddsAt, RemovesAt, DropsSpare}
 use Rattle.clock_map.specs.Maps.{shown_at, shown_of, keys_in, key_at, reserved_in}
 use Rattle.clock_map.proofs.Entries.{same_key, find_shown, keys_put, keys_without, key_at-place, key_at-some}
@@ -134,7 +134,7 @@ module _ (old new : Places) (were are : Clocks) (key : Key) where
   removed_keys tied left = keys_without (shown_at were None) (shown_at are None) old new tied.ordered left.ordered key (removed_shown tied left)
 
   -- a key that is added has a place, which shows nothing
-  module _ (place : ℕ) (seen : Option (List Dot)) (actor : Actor) (tied : IsTied old were) (absent : place_of old key ≡ None) (added : AddsAt old new were are key place seen actor) where
+  module _ (place : ℕ) (need : Need) (actor : Actor) (tied : IsTied old were) (absent : place_of old key ≡ None) (added : AddsAt old new were are key place need actor) where
     vacant_apart : (q : Key) (p : ℕ) → place_of old q ≡ Some p → p ≢ place
     vacant_apart q p is same = clash (sym (tied.held q p is) ∙ ap is_some (ap (slab.get were) same ∙ added.vacant))
 

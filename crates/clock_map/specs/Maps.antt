@@ -14,7 +14,9 @@ use Rattle.clock_map.specs.declared.index.DeadMark.TheVariants.{Spare}
 use Rattle.clock_map.specs.declared.room.Room.{Room}
 use Rattle.clock_map.specs.declared.map.ClockMap.TheInside.{Inside}
 use Rattle.clock_map.specs.Index.{Index, is_marked}
-use Rattle.clock_map.specs.Places.{Places, Clocks, place_of, stored_at, is_spare, IsSpareKey, IsTied}
+use Rattle.actor_epoch.specs.declared.Actor.{Actor}
+use Rattle.clock_map.specs.declared.room.Need.{Need}
+use Rattle.clock_map.specs.Places.{Places, Clocks, HasRoomFor, place_of, stored_at, is_spare, IsSpareKey, IsTied}
 
 -- tombstones alone
 abbrev pub is_dead : Option (Stored Content) → Bool
@@ -72,6 +74,13 @@ pub record IsReservedFor (room : Option Reservation) (key : Key) : Type 0 where
   pub reserved : Reservation
   pub is : room ≡ Some reserved
   pub same : reserved.key ≡ key
+
+-- and the clock has what is needed
+pub record HasMadeRoom (contents : Contents) (key : Key) (need : Need) (actor : Actor) : Type 0 where
+  pub reserved : Reservation
+  pub is : contents.room ≡ Some reserved
+  pub same : reserved.key ≡ key
+  pub ready : HasRoomFor need actor reserved.clock
 
 abbrev pub allowing_death : Option Reservation → Option Reservation
 allowing_death room =

@@ -1,5 +1,5 @@
 -- Keys and the places of their clocks, and what a call leaves of them.
-use Rattle.std.specs.Prelude.{◌≡◌, ◌≢◌, ◌&&◌, ◌||◌, ℕ, Bool, true, false, not, List, Option, Some, None, IsSome, is_some, if◌then◌else◌, ◌==◌}
+use Rattle.std.specs.Prelude.{◌≡◌, ◌≢◌, ◌≤◌, ◌&&◌, ◌||◌, ℕ, length, Bool, true, false, not, List, Option, Some, None, IsSome, is_some, if◌then◌else◌, ◌==◌}
 use Rattle.std.specs.Option.{option_map}
 use Rattle.std.specs.List.{list_any}
 use Rattle.std.specs.BTreeMap.{is_at}
@@ -12,12 +12,15 @@ use Rattle.riak_msgs.specs.Contents.{Content}
 use Rattle.riak_msgs.specs.KeyOrder.{key_cmp}
 use Rattle.actor_epoch.specs.declared.Actor.{Actor}
 use Rattle.actor_epoch.specs.declared.Dot.{Dot}
-use Rattle.dvv_set.specs.Clocks.{DotState}
-use Rattle.dvv_set.specs.Held.{IsWithin, IsReady}
+use Rattle.actor_epoch.specs.Limits.{max_actors}
+use Rattle.dvv_set.specs.Clocks.{DotState, sync}
+use Rattle.dvv_set.specs.Held.{Held, IsWithin, IsReady, IsSyncReady, pairs_of as seen_in}
 use Rattle.vnode_machine.specs.Machine.{Stored}
 use Rattle.clock_store.specs.declared.stored_clock.StoredClock.{StoredClock}
 use Rattle.clock_store.specs.Keys.{stored_of, empty}
 use Rattle.clock_map.specs.declared.room.Room.{Room}
+use Rattle.clock_map.specs.declared.room.Need.{Need}
+use Rattle.clock_map.specs.declared.room.Need.TheVariants.{Write, Sync}
 
 abbrev pub Places : Type 0
 Places = AssocList Key ℕ
@@ -51,17 +54,38 @@ pub record IsTied (places : Places) (clocks : Clocks) : Type 0 where
   pub one : (key other : Key) (place : ℕ) → place_of places key ≡ Some place → place_of places other ≡ Some place → key ≡ other
   pub used : (place : ℕ) → IsSome (slab.get clocks place) → (key : Key) × (place_of places key ≡ Some place)
 
--- the clock at a place is within its limits after a write
-pub record FitsAt (clocks : Clocks) (place : ℕ) (seen : Option (List Dot)) (actor : Actor) : Type 0 where
-  pub stored : StoredClock
-  pub is : slab.get clocks place ≡ Some stored
-  pub fits : IsWithin stored.clock.meaning.known seen actor
+-- a clock is within its limits after what room is needed for
+abbrev pub Fits : Need → Actor → DotState (Option Content) → Type 0
+Fits (Write seen) actor clock = IsWithin clock.known (seen_in seen) actor
+Fits (Sync other) actor clock = length (sync clock other.now.meaning).known ≤ max_actors
 
 -- and has room for it
+abbrev pub HasRoomFor : Need → Actor → Held (Option Content) → Type 0
+HasRoomFor (Write seen) actor clock = IsReady clock (seen_in seen) actor
+HasRoomFor (Sync other) actor clock = IsSyncReady clock other.now.meaning
+
+-- the clock at a place is so
+pub record FitsAt (clocks : Clocks) (place : ℕ) (need : Need) (actor : Actor) : Type 0 where
+  pub stored : StoredClock
+  pub is : slab.get clocks place ≡ Some stored
+  pub fits : Fits need actor stored.clock.meaning
+
+pub record HasRoomAt (clocks : Clocks) (place : ℕ) (need : Need) (actor : Actor) : Type 0 where
+  pub stored : StoredClock
+  pub is : slab.get clocks place ≡ Some stored
+  pub ready : HasRoomFor need actor stored.clock
+
+-- the clock at a place has room for a write
 pub record IsReadyAt (clocks : Clocks) (place : ℕ) (seen : Option (List Dot)) (actor : Actor) : Type 0 where
   pub stored : StoredClock
   pub is : slab.get clocks place ≡ Some stored
   pub ready : IsReady stored.clock seen actor
+
+-- or for a sync
+pub record IsSyncReadyAt (clocks : Clocks) (place : ℕ) (other : DotState (Option Content)) : Type 0 where
+  pub stored : StoredClock
+  pub is : slab.get clocks place ≡ Some stored
+  pub ready : IsSyncReady stored.clock other
 
 -- what is stored at each place stays
 abbrev pub StoresSame : Clocks → Clocks → Type 0
@@ -74,15 +98,15 @@ pub record WritesAt (old new : Clocks) (place : ℕ) (actor : Actor) (change : D
   pub now : stored_at new place ≡ Some (record { own = Some actor; clock = change stored.clock.meaning })
   pub others : (other : ℕ) → other ≢ place → slab.get new other ≡ slab.get old other
 
--- a new key has this place, where an empty clock with room for a write lies
-pub record AddsAt (old new : Places) (were are : Clocks) (key : Key) (place : ℕ) (seen : Option (List Dot)) (actor : Actor) : Type 0 where
+-- a new key has this place, where an empty clock with room lies
+pub record AddsAt (old new : Places) (were are : Clocks) (key : Key) (place : ℕ) (need : Need) (actor : Actor) : Type 0 where
   pub ordered : IsOrdered key_cmp new
   pub places : (other : Key) → place_of new other ≡ (if is_at (key_cmp key) other then Some place else place_of old other)
   pub vacant : slab.get were place ≡ None
   pub stored : StoredClock
   pub put : slab.Updates were are place (Some stored)
   pub empty : stored.clock.meaning ≡ empty
-  pub ready : IsReady stored.clock seen actor
+  pub ready : HasRoomFor need actor stored.clock
 
 -- each key has the place that it had, and each place what it had
 pub record Unchanged (old new : Places) (were are : Clocks) : Type 0 where

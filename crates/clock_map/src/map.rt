@@ -3,16 +3,14 @@
 ghost use Rattle.std.specs.Prelude.{◌≡◌, OnOk, OnErr, None, true};
 ghost use Rattle.std.specs.FinMap.Entries.{find};
 ghost use Rattle.riak_msgs.specs.KeyOrder.{key_cmp};
-ghost use Rattle.dvv_set.specs.Held.{IsWithin, pairs_of as seen_in};
 ghost use Rattle.clock_store.specs.Keys.{clock_at};
-ghost use Rattle.clock_store.specs.Contents.{HasRoom};
-ghost use Rattle.clock_store.specs.declared.store.WriteKind.TheVariants.{Value};
 
 use crate::index::{self, DeadMark};
 use crate::places;
-use crate::room::{Room, is_spare};
+use crate::room::{Need, Room, is_spare};
 use actor_epoch::{Actor, Context};
-use clock_store::{ClockStore, Found, Place, Reaped, StoredClock, WriteKind, stored_in};
+use clock_store::{ClockStore, Found, KeyRef, Place, Reaped, StoredClock, WriteKind, stored_in};
+use dvv_set::Clock;
 use place_map::PlaceMap;
 use riak_msgs::{BoxedContent, Key};
 use slab::Slab;
@@ -69,34 +67,35 @@ impl Model for ClockMap {
 
 impl ClockMap {
     ghost use Rattle.clock_store.specs.Forgetting.{holding, reap_result};
-    ghost use Rattle.clock_map.specs.Maps.{IsReservedFor, allowing_death};
+    ghost use Rattle.clock_map.specs.Maps.{IsReservedFor, HasMadeRoom, allowing_death};
+    ghost use Rattle.clock_map.specs.Places.{Fits};
 
-    /// Makes room in the clock of a key that is held, or at a spare place. Refused where memory is.
+    /// Makes the room that is needed in the clock of a key that is held, or at a spare place. Refused where memory is.
     fn make_room(
         &mut self,
         alloc: Global,
         key: &Key,
         place: Option<Place>,
-        seen: Option<&Context<'_>>,
+        need: Need<'_, '_>,
         actor: Actor,
     ) -> Result<(), AllocError>
         requires none { self.old.room ≡ None }
         requires place { place ≡ find key_cmp key.now self.old.places }
-        requires fits { IsWithin (clock_at self.old.keys key.now).known (seen_in seen) actor }
+        requires fits { Fits need actor (clock_at self.old.keys key.now) }
         ensures same { self.new.keys ≡ self.old.keys }
-        ensures ok { OnOk result (HasRoom self.new key.now (seen_in seen.entry) actor Value) }
+        ensures ok { OnOk result (HasMadeRoom self.new key.now need.entry actor) }
         ensures err { OnErr result (self.new.room ≡ None) }
     {
         match place {
             Some(place) => {
-                places::reserve_at(&mut self.clocks, place.index, seen, actor)?;
+                places::reserve_at(&mut self.clocks, place.index, need, actor)?;
                 self.room = Some(Room::at(place.index, false));
                 return Ok(());
             }
             None => {}
         }
         let spare = key.clone(alloc)?;
-        let place = places::add(&mut self.places, &mut self.clocks, alloc, key, seen, actor)?;
+        let place = places::add(&mut self.places, &mut self.clocks, alloc, key, need, actor)?;
         self.spare = Some(spare);
         self.room = Some(Room::at(place, true));
         Ok(())
@@ -169,6 +168,20 @@ impl ClockStore for ClockMap {
         }
     }
 
+    fn next(&self, after: Option<KeyRef<'_>>) -> Option<(KeyRef<'_>, &StoredClock)> {
+        let Some((key, found)) = places::next(&self.places, &self.clocks, after) else {
+            return None;
+        };
+        if !is_spare(&self.room, found.place.index) {
+            return Some((key, found.stored));
+        }
+        // The spare place is no key's, and there is no other spare one.
+        match places::next(&self.places, &self.clocks, Some(key)) {
+            None => None,
+            Some((key, found)) => Some((key, found.stored)),
+        }
+    }
+
     fn reserve(
         &mut self,
         alloc: Global,
@@ -179,7 +192,7 @@ impl ClockStore for ClockMap {
         kind: WriteKind,
     ) -> Result<(), AllocError> {
         self.drop_room();
-        self.make_room(alloc, key, place, seen, actor)?;
+        self.make_room(alloc, key, place, Need::Write(seen), actor)?;
         match kind {
             WriteKind::Value => Ok(()),
             WriteKind::Tombstone => {
@@ -225,6 +238,32 @@ impl ClockStore for ClockMap {
         index::set_mark(&mut self.dead, &key, !lives);
     }
 
+    fn reserve_sync(
+        &mut self,
+        alloc: Global,
+        key: &Key,
+        place: Option<Place>,
+        actor: Actor,
+        other: &Clock<Option<BoxedContent>>,
+    ) -> Result<(), AllocError> {
+        self.drop_room();
+        self.make_room(alloc, key, place, Need::Sync(other), actor)?;
+        if self.allow_death(alloc, key).is_err() {
+            self.drop_room();
+            return Err(AllocError);
+        }
+        Ok(())
+    }
+
+    fn sync(&mut self, key: Key, actor: Actor, other: Clock<Option<BoxedContent>>) {
+        let Some(room) = self.room.take() else {
+            unreachable!()
+        };
+        self.spare = None;
+        let lives = places::sync_at(&mut self.clocks, room.place, actor, other);
+        index::set_mark(&mut self.dead, &key, !lives);
+    }
+
     fn has_dead(&self, from: Option<&Key>) -> bool {
         index::first_dead(&self.dead, from).is_some()
     }
@@ -249,5 +288,13 @@ impl ClockStore for ClockMap {
         };
         places::remove(&mut self.places, &mut self.clocks, &key);
         true
+    }
+
+    fn clear(&mut self) {
+        self.places.clear();
+        self.clocks.clear();
+        self.dead.clear();
+        self.room = None;
+        self.spare = None;
     }
 }

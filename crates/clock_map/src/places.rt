@@ -1,37 +1,76 @@
 //! Keys, and the places of their clocks in a slab.
 
-ghost use Rattle.std.specs.Prelude.{◌≡◌, [], IfOk, OnOk, OnErr, Some, None, IsSome};
+ghost use Rattle.std.specs.Prelude.{◌≡◌, [], IfOk, OnOk, OnErr, Some, None, IsSome, IfSome};
+ghost use Rattle.std.specs.Option.{option_map};
 ghost use Rattle.riak_msgs.specs.KeyOrder.{key_cmp};
 ghost use Rattle.place_map.specs.AssocList.{IsOrdered};
-ghost use Rattle.dvv_set.specs.Clocks.{event, discard};
-ghost use Rattle.dvv_set.specs.Held.{IsWithin, IsReady, without, pairs_of as seen_in};
-ghost use Rattle.clock_store.specs.Keys.{empty};
-ghost use Rattle.clock_map.specs.Places.{place_of, lives_at, has_no_mark, IsTied, IsSpareKey, FitsAt, IsReadyAt, StoresSame, WritesAt, AddsAt, Unchanged, RemovesAt, DropsSpare};
+ghost use Rattle.place_map.specs.Behind.{next_entry};
+ghost use Rattle.place_map.specs.KeyRefs.{key_in, key_after};
+ghost use Rattle.dvv_set.specs.Clocks.{event, discard, sync};
+ghost use Rattle.dvv_set.specs.Held.{without, pairs_of as seen_in};
+ghost use Rattle.clock_store.specs.Keys.{empty, stored_of};
+ghost use Rattle.clock_map.specs.Places.{place_of, lives_at, has_no_mark, IsTied, IsSpareKey, Fits, FitsAt, HasRoomFor, HasRoomAt, IsReadyAt, IsSyncReadyAt, StoresSame, WritesAt, AddsAt, Unchanged, RemovesAt, DropsSpare, stored_at};
 
-use crate::room::Room;
+use crate::room::{Need, Room};
 use actor_epoch::{Actor, Context};
-use clock_store::StoredClock;
+use clock_store::{Found, KeyRef, Place, StoredClock};
 use dvv_set::Clock;
 use place_map::PlaceMap;
 use riak_msgs::{BoxedContent, Key};
 use slab::Slab;
 use std::alloc::{AllocError, Global};
 
-/// Makes room for a write in the clock at a place. Refused where memory is.
+/// The least key behind one, or of all where none is given, with what lies at its place; a key that isn't held yet too.
+pub(crate) fn next<'a>(
+    places: &'a PlaceMap,
+    clocks: &'a Slab<StoredClock>,
+    after: Option<KeyRef<'_>>,
+) -> Option<(KeyRef<'a>, Found<'a>)>
+    requires { IsTied places.now clocks.now }
+    ensures next { option_map (λ entry. (key_in entry.0, entry.1.place.index)) result
+        ≡ next_entry key_cmp (key_after after.entry) places.now.entries }
+    ensures stored { IfSome result (λ entry. stored_at clocks.now entry.1.place.index
+        ≡ Some (stored_of entry.1.stored.now)) }
+{
+    match places.next(after) {
+        None => None,
+        Some((key, index)) => {
+            let Some(stored) = clocks.get(index) else {
+                unreachable!()
+            };
+            let place = Place { index };
+            Some((key, Found { place, stored }))
+        }
+    }
+}
+
+/// Makes the room in a clock that is needed. Refused where memory is; either way what is stored stays.
+fn reserve_in(stored: &mut StoredClock, need: Need<'_, '_>, actor: Actor) -> Result<(), AllocError>
+    requires { Fits need actor stored.old.clock.meaning }
+    ensures same { stored_of stored.new ≡ stored_of stored.old }
+    ensures ok { OnOk result (HasRoomFor need.entry actor stored.new.clock) }
+{
+    match need {
+        Need::Write(seen) => stored.reserve(seen, actor),
+        Need::Sync(other) => stored.reserve_sync(other),
+    }
+}
+
+/// Makes the room that is needed in the clock at a place. Refused where memory is.
 pub(crate) fn reserve_at(
     clocks: &mut Slab<StoredClock>,
     place: usize,
-    seen: Option<&Context<'_>>,
+    need: Need<'_, '_>,
     actor: Actor,
 ) -> Result<(), AllocError>
-    requires { FitsAt clocks.old place (seen_in seen) actor }
+    requires { FitsAt clocks.old place need actor }
     ensures same { StoresSame clocks.old clocks.new }
-    ensures ok { OnOk result (IsReadyAt clocks.new place (seen_in seen.entry) actor) }
+    ensures ok { OnOk result (HasRoomAt clocks.new place need.entry actor) }
 {
     let Some(stored) = clocks.get_mut(place) else {
         unreachable!()
     };
-    stored.reserve(seen, actor)
+    reserve_in(stored, need, actor)
 }
 
 /// Whether the key of this room has no entry in the index of dead keys: it isn't dead, and won't be after the write.
@@ -89,19 +128,35 @@ pub(crate) fn overwrite_at(
     stored.has_value()
 }
 
-/// An empty clock with room for a write.
-fn empty_clock(
-    alloc: Global,
-    seen: Option<&Context<'_>>,
+/// Syncs the clock at a place with another one, in its room; says whether there is a value now.
+pub(crate) fn sync_at(
+    clocks: &mut Slab<StoredClock>,
+    place: usize,
     actor: Actor,
-) -> Result<StoredClock, AllocError>
-    requires { IsWithin [] (seen_in seen) actor }
-    ensures empty { IfOk result (λ stored. stored.clock.meaning ≡ empty) }
-    ensures ready { IfOk result (λ stored. IsReady stored.clock (seen_in seen.entry) actor) }
+    other: Clock<Option<BoxedContent>>,
+) -> bool
+    requires { IsSyncReadyAt clocks.old place other.meaning }
+    ensures wrote { WritesAt clocks.old clocks.new place actor
+        (λ clock. sync clock other.meaning) }
+    ensures lives { result ≡ lives_at clocks.new place }
 {
-    let mut clock = Clock::new(alloc);
-    clock.reserve(seen, actor)?;
-    Ok(StoredClock { actor, clock })
+    let Some(stored) = clocks.get_mut(place) else {
+        unreachable!()
+    };
+    stored.sync(actor, other);
+    stored.has_value()
+}
+
+/// An empty clock with the room that is needed.
+fn empty_clock(alloc: Global, need: Need<'_, '_>, actor: Actor) -> Result<StoredClock, AllocError>
+    requires { Fits need actor empty }
+    ensures empty { IfOk result (λ stored. stored.clock.meaning ≡ empty) }
+    ensures ready { IfOk result (λ stored. HasRoomFor need.entry actor stored.clock) }
+{
+    let clock = Clock::new(alloc);
+    let mut stored = StoredClock { actor, clock };
+    reserve_in(&mut stored, need, actor)?;
+    Ok(stored)
 }
 
 /// Puts a new key's clock at a place of its own. Refused where memory is, and then nothing changes.
@@ -111,17 +166,17 @@ fn put_new(
     alloc: Global,
     key: &Key,
     stored: StoredClock,
-    seen: Option<&Context<'_>>,
+    need: Need<'_, '_>,
     actor: Actor,
 ) -> Result<usize, AllocError>
     requires ordered { IsOrdered key_cmp places.old }
     requires empty { stored.clock.meaning ≡ empty }
-    requires ready { IsReady stored.clock (seen_in seen) actor }
+    requires ready { HasRoomFor need actor stored.clock }
     ensures ok { IfOk result (λ place.
-        AddsAt places.old places.new clocks.old clocks.new key.now place (seen_in seen.entry) actor) }
+        AddsAt places.old places.new clocks.old clocks.new key.now place need.entry actor) }
     ensures err { OnErr result (Unchanged places.old places.new clocks.old clocks.new) }
 {
-    let _seen = seen;
+    let _need = need;
     let _actor = actor;
     clocks.reserve(1)?;
     let place = clocks.vacant_key();
@@ -130,23 +185,23 @@ fn put_new(
     Ok(place)
 }
 
-/// Adds a key with an empty clock that has room for a write. Refused where memory is, and then nothing changes.
+/// Adds a key with an empty clock that has the room that is needed. Refused where memory is, and then nothing changes.
 pub(crate) fn add(
     places: &mut PlaceMap,
     clocks: &mut Slab<StoredClock>,
     alloc: Global,
     key: &Key,
-    seen: Option<&Context<'_>>,
+    need: Need<'_, '_>,
     actor: Actor,
 ) -> Result<usize, AllocError>
     requires ordered { IsOrdered key_cmp places.old }
-    requires fits { IsWithin [] (seen_in seen) actor }
+    requires fits { Fits need actor empty }
     ensures ok { IfOk result (λ place.
-        AddsAt places.old places.new clocks.old clocks.new key.now place (seen_in seen.entry) actor) }
+        AddsAt places.old places.new clocks.old clocks.new key.now place need.entry actor) }
     ensures err { OnErr result (Unchanged places.old places.new clocks.old clocks.new) }
 {
-    let stored = empty_clock(alloc, seen, actor)?;
-    put_new(places, clocks, alloc, key, stored, seen, actor)
+    let stored = empty_clock(alloc, need, actor)?;
+    put_new(places, clocks, alloc, key, stored, need, actor)
 }
 
 /// Removes a key that has a place, with its clock. It takes no memory.

@@ -1,7 +1,20 @@
-//! The room that was made for one write.
+//! The room that was made for one write, and what room is needed for.
 
 ghost use Rattle.std.specs.Prelude.{◌≡◌, false};
 ghost use Rattle.clock_map.specs.Places.{is_spare};
+
+use actor_epoch::Context;
+use dvv_set::Clock;
+use riak_msgs::BoxedContent;
+
+/// What room in a clock is needed for, at an actor.
+#[derive(Clone, Copy)]
+pub(crate) enum Need<'a, 'b> {
+    /// A write, which discards what a context has seen (None: nothing).
+    Write(Option<&'a Context<'b>>),
+    /// A sync with another clock.
+    Sync(&'a Clock<Option<BoxedContent>>),
+}
 
 /// Room for one write: at a place, whose clock has it.
 #[derive(Clone, Copy, Debug, Drop, PartialEq, Eq)]

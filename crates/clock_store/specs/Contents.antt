@@ -4,7 +4,8 @@ use Rattle.riak_msgs.specs.declared.Key.{Key}
 use Rattle.riak_msgs.specs.Contents.{Content}
 use Rattle.actor_epoch.specs.declared.Actor.{Actor}
 use Rattle.actor_epoch.specs.declared.Dot.{Dot}
-use Rattle.dvv_set.specs.Held.{Held as Clock, IsReady}
+use Rattle.dvv_set.specs.Clocks.{DotState}
+use Rattle.dvv_set.specs.Held.{Held as Clock, IsReady, IsSyncReady}
 use Rattle.clock_store.specs.declared.found.Place.{Place}
 use Rattle.clock_store.specs.declared.store.WriteKind.{WriteKind}
 use Rattle.clock_store.specs.declared.store.WriteKind.TheVariants.{Value, Tombstone}
@@ -38,3 +39,11 @@ pub record HasRoom (contents : Contents) (key : Key) (seen : Option (List Dot)) 
   pub same : reserved.key ≡ key
   pub ready : IsReady reserved.clock seen actor
   pub dies : HasPlaceIfDead kind reserved.may_die
+
+-- there is room for a sync of this key's clock with another one, after which the key may be dead
+pub record HasSyncRoom (contents : Contents) (key : Key) (other : DotState (Option Content)) : Type 0 where
+  pub reserved : Reservation
+  pub is : contents.room ≡ Some reserved
+  pub same : reserved.key ≡ key
+  pub ready : IsSyncReady reserved.clock other
+  pub dies : reserved.may_die ≡ true

@@ -7,7 +7,7 @@ use Rattle.riak_msgs.specs.Contents.{Content}
 use Rattle.riak_msgs.specs.KeyOrder.{key_cmp}
 use Rattle.actor_epoch.specs.declared.Actor.{Actor}
 use Rattle.actor_epoch.specs.declared.Dot.{Dot}
-use Rattle.dvv_set.specs.Clocks.{DotState, discard, event}
+use Rattle.dvv_set.specs.Clocks.{DotState, discard, event, sync}
 use Rattle.dvv_set.specs.Held.{without}
 use Rattle.vnode_machine.specs.Machine.{Stored}
 use Rattle.clock_store.specs.declared.stored_clock.StoredClock.{StoredClock}
@@ -35,6 +35,11 @@ abbrev pub overwritten : Keys → Key → Actor → Option Content → Keys
 overwritten keys key actor value =
     let clock = clock_at keys key in
     put key_cmp key (record { own = Some actor; clock = event actor value (discard clock.known clock) }) keys
+
+-- the keys after a sync of a key's clock with another one, at this actor
+abbrev pub synced : Keys → Key → Actor → DotState (Option Content) → Keys
+synced keys key actor clock =
+    put key_cmp key (record { own = Some actor; clock = sync (clock_at keys key) clock }) keys
 
 -- the keys after a tombstone, which discards what its context has seen, or all without one
 abbrev pub deleted : Keys → Key → Option (List Dot) → Actor → Keys

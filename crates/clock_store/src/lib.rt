@@ -7,6 +7,8 @@
 //! store.write(k.clone(alloc)?, None, a, Some(v));             k has v at the dot 1 of a, and there is no room
 //! store.get(&k)                                               its clock: has_value() is true
 //! store.forget_dead(&k)                                       Reaped::Kept: it isn't dead
+//! store.next(None)                                            k, by references to its parts, with its clock
+//! store.clear();                                              no key, no room
 //! ```
 //!
 //! A store means the keys in their order, each with the actor of its life and its clock, the place of each, and the room
@@ -28,5 +30,6 @@ mod store;
 mod stored_clock;
 
 pub use found::{Found, Place, place_in, stored_in};
+pub use place_map::KeyRef;
 pub use store::{ClockStore, Reaped, WriteKind};
 pub use stored_clock::StoredClock;

@@ -3,6 +3,8 @@
 use crate::found::{Found, Place};
 use crate::stored_clock::StoredClock;
 use actor_epoch::{Actor, Context};
+use dvv_set::Clock;
+use place_map::KeyRef;
 use riak_msgs::{BoxedContent, Key};
 use std::alloc::{AllocError, Global};
 
@@ -37,14 +39,18 @@ pub enum Reaped {
 /// - `overwrite` of b/k by a tombstone: b/k is dead. `forget_first_dead` from b/a on forgets it, and answers true; the next
 ///   one answers false.
 pub trait ClockStore: Drop {
-    ghost use Rattle.std.specs.Prelude.{◌≡◌, [], OnOk, OnErr, None};
+    ghost use Rattle.std.specs.Prelude.{◌≡◌, ◌≤◌, [], OnOk, OnErr, None, length};
     ghost use Rattle.std.specs.Option.{option_map};
     ghost use Rattle.std.specs.FinMap.Entries.{find};
     ghost use Rattle.riak_msgs.specs.KeyOrder.{key_cmp};
+    ghost use Rattle.place_map.specs.Behind.{next_entry};
+    ghost use Rattle.place_map.specs.KeyRefs.{key_in, key_after};
+    ghost use Rattle.actor_epoch.specs.Limits.{max_actors};
+    ghost use Rattle.dvv_set.specs.Clocks.{sync};
     ghost use Rattle.dvv_set.specs.Held.{IsWithin, pairs_of as seen_in};
     ghost use Rattle.vnode_machine.specs.Dead.{has_dead};
-    ghost use Rattle.clock_store.specs.Keys.{stored_of, clock_at, written, overwritten};
-    ghost use Rattle.clock_store.specs.Contents.{Contents, HasRoom, kind_of};
+    ghost use Rattle.clock_store.specs.Keys.{stored_of, clock_at, written, overwritten, synced};
+    ghost use Rattle.clock_store.specs.Contents.{Contents, HasRoom, HasSyncRoom, kind_of};
     ghost use Rattle.clock_store.specs.Forgetting.{holding, key_given, reap_result, after_reap, after_first_reap};
 
     // The keys in their order, the place of each, and the room that was made for one write.
@@ -66,6 +72,11 @@ pub trait ClockStore: Drop {
             ≡ find key_cmp key.now (shows self.now).keys }
         ensures place { option_map (λ found. found.place) result
             ≡ find key_cmp key.now (shows self.now).places };
+
+    /// The least key behind one, or of all where none is given, with what is stored of it. It takes no memory.
+    fn next(&self, after: Option<KeyRef<'_>>) -> Option<(KeyRef<'_>, &StoredClock)>
+        ensures { option_map (λ entry. (key_in entry.0, stored_of entry.1.now)) result
+            ≡ next_entry key_cmp (key_after after.entry) (shows self.now).keys };
 
     /// Makes room for a write of a key at an actor, which discards what a context has seen (None: nothing), in place of
     /// what room there was. The place is what `find` says of the key, which isn't searched for again. Refused where memory
@@ -113,6 +124,32 @@ pub trait ClockStore: Drop {
         ensures keys { (shows self.new).keys ≡ overwritten (shows self.old).keys key actor value }
         ensures room { (shows self.new).room ≡ None };
 
+    /// Makes room for a sync of a key's clock with another one, or of an empty clock where the key is absent, in place of
+    /// what room there was; both know 64 actors at most (a condition). The place is what `find` says of the key. The key may
+    /// be dead after the sync, or no longer. Refused where memory is, and then there is none. The keys stay either way.
+    fn reserve_sync(
+        &mut self,
+        alloc: Global,
+        key: &Key,
+        place: Option<Place>,
+        actor: Actor,
+        other: &Clock<Option<BoxedContent>>,
+    ) -> Result<(), AllocError>
+        requires place { place ≡ find key_cmp key.now (shows self.old).places }
+        requires few { length (sync (clock_at (shows self.old).keys key.now)
+            other.now.meaning).known ≤ max_actors }
+        ensures same { (shows self.new).keys ≡ (shows self.old).keys }
+        ensures ok { OnOk result (HasSyncRoom (shows self.new) key.now other.now.meaning) }
+        ensures none { OnErr result ((shows self.new).room ≡ None) };
+
+    /// Syncs a key's clock with another one where there is room for it; the room is used up. The actor is the one that is
+    /// stored, or that of a key that is absent. It takes no memory.
+    fn sync(&mut self, key: Key, actor: Actor, other: Clock<Option<BoxedContent>>)
+        requires { HasSyncRoom (shows self.old) key other.meaning }
+        ensures keys { (shows self.new).keys
+            ≡ synced (shows self.old).keys key actor other.meaning }
+        ensures room { (shows self.new).room ≡ None };
+
     /// Whether a dead key stands at or after one, or anywhere where none is given. It takes no memory.
     fn has_dead(&self, from: Option<&Key>) -> bool
         ensures { result ≡ has_dead (holding (shows self.now).keys) (key_given from.entry) };
@@ -130,5 +167,10 @@ pub trait ClockStore: Drop {
         ensures found { result ≡ has_dead (holding (shows self.old).keys) (key_given from.entry) }
         ensures keys { (shows self.new).keys
             ≡ (after_first_reap (holding (shows self.old).keys) (key_given from.entry)).keys }
+        ensures room { (shows self.new).room ≡ None };
+
+    /// Forgets all keys. What room there was ends. It takes no memory.
+    fn clear(&mut self)
+        ensures keys { (shows self.new).keys ≡ [] }
         ensures room { (shows self.new).room ≡ None };
 }

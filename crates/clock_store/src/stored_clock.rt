@@ -1,14 +1,15 @@
 //! What is stored of one key.
 
-ghost use Rattle.std.specs.Prelude.{◌≡◌, OnOk, None, is_some};
+ghost use Rattle.std.specs.Prelude.{◌≡◌, ◌≤◌, OnOk, None, is_some, length};
 ghost use Rattle.std.specs.List.{list_any};
-ghost use Rattle.dvv_set.specs.Clocks.{event, discard};
-ghost use Rattle.dvv_set.specs.Held.{IsWithin, IsReady, without, pairs_of as seen_in};
+ghost use Rattle.actor_epoch.specs.Limits.{max_actors};
+ghost use Rattle.dvv_set.specs.Clocks.{event, discard, sync};
+ghost use Rattle.dvv_set.specs.Held.{IsWithin, IsReady, IsSyncReady, without, pairs_of as seen_in};
 ghost use Rattle.vnode_machine.specs.Machine.{same_pairs};
 ghost use Rattle.clock_store.specs.Keys.{stored_of};
 
 use actor_epoch::{Actor, Context};
-use dvv_set::Clock;
+use dvv_set::{Clock, ClockFault};
 use riak_msgs::BoxedContent;
 use std::alloc::AllocError;
 
@@ -98,5 +99,29 @@ impl StoredClock {
     {
         self.actor = actor;
         self.clock.overwrite_ready(actor, value);
+    }
+
+    /// Makes room for a sync with another clock, where both know 64 actors at most (a condition). Refused where memory is;
+    /// either way what is stored stays.
+    pub fn reserve_sync(&mut self, other: &Clock<Option<BoxedContent>>) -> Result<(), AllocError>
+        requires { length (sync self.old.clock.meaning other.now.meaning).known ≤ max_actors }
+        ensures same { stored_of self.new ≡ stored_of self.old }
+        ensures ok { OnOk result (IsSyncReady self.new.clock other.now.meaning) }
+    {
+        match self.clock.reserve_sync(other) {
+            Ok(()) => Ok(()),
+            Err(ClockFault::NoMemory) => Err(AllocError),
+            Err(_) => unreachable!(),
+        }
+    }
+
+    /// Syncs with another clock in that room. It takes no memory.
+    pub fn sync(&mut self, actor: Actor, other: Clock<Option<BoxedContent>>)
+        requires { IsSyncReady self.old.clock other.meaning }
+        ensures actor { self.new.actor ≡ actor }
+        ensures clock { self.new.clock.meaning ≡ sync self.old.clock.meaning other.meaning }
+    {
+        self.actor = actor;
+        self.clock.sync_ready(other);
     }
 }

@@ -1,1 +1,2 @@
-pub mod Nested
+mod Nested
+pub mod NextEntry

@@ -32,7 +32,7 @@ types_order = record {
   inner_total = then_total (on_total (λ (p : BucketKey). p.0) nat_list_cmp_total) (on_total (λ (p : BucketKey). p.1) nat_list_cmp_total);
 }
 
-abbrev or_else : {V : Type 0} → Option V → Option V → Option V
+abbrev pub or_else : {V : Type 0} → Option V → Option V → Option V
 or_else None o = o
 or_else (Some v) o = Some v
 
@@ -96,7 +96,7 @@ module _ {A B C V M : Type 0} {entries_of : M → List (B × V)} {combine : A �
   in_inner None b = None
   in_inner (Some m) b = lookup (is_at (inner b)) (entries_of m)
 
-  abbrev at : A → List (B × V) → List (C × V)
+  abbrev pub at : A → List (B × V) → List (C × V)
   at a fs = map {B = C × V} (λ (f : B × V). (combine a f.0, f.1)) fs
 
   lookup-at : (test : C → Bool) (a : A) (fs : List (B × V)) → lookup test (at a fs) ≡ lookup (λ (b : B). test (combine a b)) fs

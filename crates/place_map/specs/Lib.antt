@@ -1,2 +1,4 @@
 pub mod AssocList
+pub mod Behind
+pub mod KeyRefs
 pub mod Nested

@@ -1,19 +1,33 @@
 -- A map whose values are maps, as one list of entries.
-use Rattle.std.specs.Prelude.{◌≡◌, ◌≢◌, ℕ, Some, List, [], ◌∷◌, ◌++◌, map}
+use Rattle.std.specs.Prelude.{◌≡◌, ◌≢◌, ℕ, Option, Some, List, [], ◌∷◌, ◌++◌, map, slice_get, option_and_then}
 use Rattle.std.specs.declared.cmp.Ordering.{Ordering}
 use Rattle.std.specs.BTreeMap.{BTreeMap, is_at}
 use Rattle.std.specs.Cmp.Lexicographic.{slice_cmp}
 use Rattle.std.specs.List.Sorted.{IsStrictlySortedBy}
 use Rattle.std.specs.Map.{lookup, keys_of}
+use Rattle.std.specs.Option.{option_map}
 use Rattle.std.specs.Ordering.{nat_cmp, ordering_then}
 use Rattle.riak_msgs.specs.declared.key.Key.{Key}
 use Rattle.place_map.specs.AssocList.{AssocList}
+use Rattle.place_map.specs.Behind.{entries_behind, next_entry, entry_at}
 
 -- the entries of each inner map in turn, with each key combined of the outer and the inner one
 abbrev pub flatten : {A B C V M : Type 0} → (M → List (B × V)) → (A → B → C) → List (A × M) → List (C × V)
 flatten entries_of combine [] = []
 flatten {B = B} {C = C} {V = V} entries_of combine (e ∷ es) =
     map {B = C × V} (λ (f : B × V). (combine e.0 f.0, f.1)) (entries_of e.1) ++ flatten entries_of combine es
+
+module _ {A B C V M : Type 0} (entries_of : M → List (B × V)) (combine : A → B → C) (outer : A → A → Ordering) where
+  -- the least combined key behind one, of those with its outer key
+  abbrev pub next_inside : (B → B → Ordering) → A → B → List (A × M) → Option (C × V)
+  next_inside inner a b es =
+      option_and_then
+      (λ (e : A × M). option_map {U = C × V} (λ (f : B × V). (combine e.0 f.0, f.1)) (next_entry inner (Some b) (entries_of e.1)))
+      (entry_at outer a es)
+
+  -- the least of those with outer keys behind one, or of all where none is given
+  abbrev pub first_behind : Option A → List (A × M) → Option (C × V)
+  first_behind after es = slice_get (flatten entries_of combine (entries_behind outer after es)) 0
 
 -- an inner map: its keys ascend, and there is one
 pub record IsInnerMap {B V : Type 0} (cmp : B → B → Ordering) (entries : List (B × V)) : Type 0 where

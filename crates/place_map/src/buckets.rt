@@ -2,9 +2,12 @@
 
 ghost use Rattle.std.specs.Prelude.{◌≡◌, [], ◌∷◌, IfOk, OnOk, OnErr, Some, None, IsTrue, ◌↔◌, if◌then◌else◌};
 ghost use Rattle.std.specs.BTreeMap.{is_at};
+ghost use Rattle.std.specs.Option.{option_map};
 ghost use Rattle.place_map.specs.AssocList.{get, IsOrdered};
-ghost use Rattle.place_map.specs.Nested.{BucketKey, bucket_key_cmp};
+ghost use Rattle.place_map.specs.Behind.{next_entry};
+ghost use Rattle.place_map.specs.Nested.{BucketKey, bucket_key, bytes_cmp, bucket_key_cmp, key_entries, next_inside, first_behind, AreBuckets};
 
+use crate::behind::next_entry;
 use crate::keys;
 use riak_msgs::Bytes;
 use std::alloc::{AllocError, Global};
@@ -35,6 +38,44 @@ impl Model for BucketPlaces {
     ghost invariant = { λ b. AreBuckets b.buckets };
 }
 
+/// The least key behind one in its own bucket, with its bucket and its place.
+fn next_in_bucket<'a>(
+    buckets: &'a BTreeMap<Bytes, BTreeMap<Bytes, usize>>,
+    bucket: &Bytes,
+    key: &Bytes,
+) -> Option<(&'a Bytes, &'a Bytes, usize)>
+    ensures { option_map (λ entry. ((entry.0.now, entry.1.now), entry.2)) result
+        ≡ next_inside key_entries bucket_key bytes_cmp bytes_cmp bucket.now key.now
+        buckets.now.entries }
+{
+    match buckets.get_key_value(bucket) {
+        None => None,
+        Some((bucket, keys)) => match next_entry(keys, Some(key)) {
+            None => None,
+            Some((key, place)) => Some((bucket, key, *place)),
+        },
+    }
+}
+
+/// The least key of the buckets behind one, or of all where none is given, with its bucket and its place.
+fn first_behind<'a>(
+    buckets: &'a BTreeMap<Bytes, BTreeMap<Bytes, usize>>,
+    after: Option<&Bytes>,
+) -> Option<(&'a Bytes, &'a Bytes, usize)>
+    requires { AreBuckets buckets.now }
+    ensures { option_map (λ entry. ((entry.0.now, entry.1.now), entry.2)) result
+        ≡ first_behind key_entries bucket_key bytes_cmp
+        (option_map (λ bucket. bucket.now) after.entry) buckets.now.entries }
+{
+    match next_entry(buckets, after) {
+        None => None,
+        Some((bucket, keys)) => match next_entry(keys, None) {
+            None => unreachable!(),
+            Some((key, place)) => Some((bucket, key, *place)),
+        },
+    }
+}
+
 impl BucketPlaces {
     /// One key with its place. Refused where memory is.
     pub(crate) fn one_key(
@@ -62,6 +103,21 @@ impl BucketPlaces {
         match self.buckets.get(bucket) {
             Some(keys) => keys.get(key).copied(),
             None => None,
+        }
+    }
+
+    /// The least key behind one, or of all where none is given, with its bucket and its place.
+    pub(crate) fn next(&self, after: Option<(&Bytes, &Bytes)>) -> Option<(&Bytes, &Bytes, usize)>
+        ensures { option_map (λ entry. ((entry.0.now, entry.1.now), entry.2)) result
+            ≡ next_entry bucket_key_cmp (option_map (λ key. (key.0.now, key.1.now)) after.entry)
+            self.now.entries }
+    {
+        let Some((bucket, key)) = after else {
+            return first_behind(&self.buckets, None);
+        };
+        match next_in_bucket(&self.buckets, bucket, key) {
+            None => first_behind(&self.buckets, Some(bucket)),
+            Some(found) => Some(found),
         }
     }
 

@@ -2,11 +2,17 @@
 
 ghost use Rattle.std.specs.Prelude.{◌≡◌, [], OnOk, OnErr, Some, None, if◌then◌else◌};
 ghost use Rattle.std.specs.BTreeMap.{is_at};
+ghost use Rattle.std.specs.Option.{option_map};
 ghost use Rattle.riak_msgs.specs.declared.key.Key.{Key};
 ghost use Rattle.riak_msgs.specs.KeyOrder.{key_cmp};
 ghost use Rattle.place_map.specs.AssocList.{get, IsOrdered};
+ghost use Rattle.place_map.specs.Behind.{next_entry};
+ghost use Rattle.place_map.specs.KeyRefs.{key_in, key_after};
+ghost use Rattle.place_map.specs.Nested.{bytes_cmp, bucket_key_cmp, bucket_entries, key_of, next_inside, first_behind, AreTypes};
 
+use crate::behind::next_entry;
 use crate::buckets::BucketPlaces;
+use crate::key_ref::KeyRef;
 use riak_msgs::{BucketType, Key};
 use std::alloc::{AllocError, Global};
 use std::collections::BTreeMap;
@@ -40,6 +46,57 @@ impl Model for PlaceMap {
     ghost invariant = { λ p. AreTypes p.types };
 }
 
+/// The least key behind one in its own bucket type, with its place.
+fn next_in_type<'a>(
+    types: &'a BTreeMap<BucketType, BucketPlaces>,
+    after: KeyRef<'_>,
+) -> Option<(KeyRef<'a>, usize)>
+    ensures { option_map (λ entry. (key_in entry.0, entry.1)) result
+        ≡ next_inside bucket_entries key_of bytes_cmp bucket_key_cmp after.entry.bucket_type.now
+        (after.entry.bucket.now, after.entry.key.now) types.now.entries }
+{
+    match types.get_key_value(after.bucket_type) {
+        None => None,
+        Some((bucket_type, buckets)) => match buckets.next(Some((after.bucket, after.key))) {
+            None => None,
+            Some((bucket, key, place)) => {
+                let key = KeyRef {
+                    bucket_type,
+                    bucket,
+                    key,
+                };
+                Some((key, place))
+            }
+        },
+    }
+}
+
+/// The least key of the bucket types behind one, or of all where none is given, with its place.
+fn first_behind<'a>(
+    types: &'a BTreeMap<BucketType, BucketPlaces>,
+    after: Option<&BucketType>,
+) -> Option<(KeyRef<'a>, usize)>
+    requires { AreTypes types.now }
+    ensures { option_map (λ entry. (key_in entry.0, entry.1)) result
+        ≡ first_behind bucket_entries key_of bytes_cmp
+        (option_map (λ bucket_type. bucket_type.now) after.entry) types.now.entries }
+{
+    match next_entry(types, after) {
+        None => None,
+        Some((bucket_type, buckets)) => match buckets.next(None) {
+            None => unreachable!(),
+            Some((bucket, key, place)) => {
+                let key = KeyRef {
+                    bucket_type,
+                    bucket,
+                    key,
+                };
+                Some((key, place))
+            }
+        },
+    }
+}
+
 impl PlaceMap {
     /// No keys. It takes no memory.
     pub fn new(alloc: Global) -> PlaceMap
@@ -61,6 +118,21 @@ impl PlaceMap {
         }
     }
 
+    /// The least key behind one, or of all where none is given, with its place. It takes no memory.
+    pub fn next(&self, after: Option<KeyRef<'_>>) -> Option<(KeyRef<'_>, usize)>
+        ensures next { option_map (λ entry. (key_in entry.0, entry.1)) result
+            ≡ next_entry key_cmp (key_after after.entry) self.now.entries }
+        ensures ordered { IsOrdered key_cmp self.now }
+    {
+        let Some(after) = after else {
+            return first_behind(&self.types, None);
+        };
+        match next_in_type(&self.types, after) {
+            None => first_behind(&self.types, Some(after.bucket_type)),
+            Some(found) => Some(found),
+        }
+    }
+
     /// Gives a key a place, which replaces the one that it has. The key's bytes are copied, its bucket and its
     /// bucket type where they are new. Refused where memory is, and then each key has the place that it had.
     pub fn insert(&mut self, alloc: Global, key: &Key, place: usize) -> Result<(), AllocError>
@@ -79,6 +151,13 @@ impl PlaceMap {
             Ok(_) => Ok(()),
             Err(_) => Err(AllocError),
         }
+    }
+
+    /// Removes all keys. It takes no memory.
+    pub fn clear(&mut self)
+        ensures { self.new.entries ≡ [] }
+    {
+        self.types.clear();
     }
 
     /// Removes a key, and its bucket and its bucket type where these have no other key; returns the place that it had, if
