@@ -1,6 +1,6 @@
 -- The passes that are kept of fallbacks, and the fallbacks.
-use Rattle.std.proofs.Common.{◌≡◌, ◌<◌, ◌∙◌, ℕ, List, [], ◌∷◌, length, refl, sym, ap, subst, arith, inl, inr}
-use Rattle.std.specs.Prelude.{Option, Some, None, true, ◌==◌, slice_get, slice_set, zero, suc}
+use Rattle.std.proofs.Common.{◌≡◌, ◌<◌, ◌∙◌, ℕ, List, [], ◌∷◌, length, refl, sym, ap, subst, arith, inl}
+use Rattle.std.specs.Prelude.{Option, Some, None, true, slice_get, slice_set, zero, suc}
 use Rattle.std.proofs.lemmas.Bool.{eqb-true}
 use Rattle.std.proofs.lemmas.Option.{slice_get_within}
 use Rattle.handoff.specs.declared.gates.Fallback.{Fallback}
@@ -8,7 +8,7 @@ use Rattle.handoff.specs.Partitions.{AreNone}
 use Rattle.gate_node.specs.declared.passes.FallbackPass.{FallbackPass}
 use Rattle.gate_node.specs.Asked.{Sight}
 use Rattle.gate_node.specs.Gates.{Gates}
-use Rattle.gate_node.specs.Passes.{Sights, Fits, AllFit, ArePassesOf, OutliveDiversion, AnswersAtFallback, IsRenewed, is_of, kept_of}
+use Rattle.gate_node.specs.Passes.{Sights, Fits, AllFit, OutliveDiversion, AnswersAtFallback, IsRenewed, is_of, kept_of}
 
 none_some : {A : Type 0} (x : A) → None ≡ Some x → ⊥
 none_some x h = cc

@@ -1,5 +1,5 @@
 -- A session over gates answers as the sibling register does, among others.
-use Rattle.std.proofs.Common.{◌≡◌, ◌≢◌, ◌∙◌, ℕ, List, [], ◌∷◌, ◌++◌, refl, sym, ap, subst, inl, inr, append_assoc}
+use Rattle.std.proofs.Common.{◌≡◌, ◌≢◌, ◌∙◌, ℕ, List, [], ◌∷◌, ◌++◌, refl, sym, ap, subst, inl, inr}
 use Rattle.std.proofs.lemmas.Bool.{eq-eqb}
 use Rattle.std.proofs.lemmas.List.{append-nil}
 use Rattle.std.specs.Prelude.{◌⊎◌, if◌then◌else◌, Option, Some, None, Result, Ok, Err, zero, suc, slice_get, slice_set}
@@ -15,7 +15,6 @@ use Rattle.riak_msgs.specs.declared.DelAsk.{DelAsk}
 use Rattle.riak_msgs.specs.declared.Request.{Request}
 use Rattle.riak_msgs.specs.declared.Request.TheVariants as requests
 use Rattle.riak_msgs.specs.declared.Reply.{Reply}
-use Rattle.riak_msgs.specs.declared.Reply.TheVariants as replies
 use Rattle.sibling_register.specs.Answers.{Ask as Command, AskGet, AskPut, AskDel, Answers as Gives, Accepts, Refused as ToldRefused}
 use Rattle.sibling_register.specs.Refusals.{no_memory}
 use Rattle.sibling_register.specs.History.{Operation}
@@ -26,20 +25,19 @@ use Rattle.vnode_machine.specs.Machine.{State}
 use Rattle.vnode_machine.specs.Registers.{IsRegisters, IsTold, IsNext, next_event}
 use Rattle.vnode_machine.specs.Replay.{History, naming, IsWithinLimits, IsAfter}
 use Rattle.vnode_machine.specs.Runs.{AnswersTurn}
-use Rattle.vnode_machine.specs.Step.{Response, GetDone, StepOutcome, Answered, Refused, outcome}
+use Rattle.vnode_machine.specs.Step.{Response, GetDone, Answered, Refused, outcome}
 use Rattle.vnode_machine.specs.Replies.{get_reply}
 use Rattle.vnode_machine.proofs.StepLaw.{registers-after}
 use Rattle.rw_gate.proofs.Prefixes.{prefix_trans}
 use Rattle.vnode_protocol.specs.declared.ask.Ask.{Ask}
 use Rattle.vnode_protocol.specs.declared.ask.Ask.TheVariants as asks
 use Rattle.vnode_protocol.specs.declared.ask.Answer.{Answer}
-use Rattle.vnode_protocol.specs.declared.ask.Answer.TheVariants as answers
 use Rattle.vnode_protocol.specs.declared.event.Event.{Event}
 use Rattle.vnode_protocol.specs.declared.event.Event.TheVariants as events
 use Rattle.vnode_protocol.specs.declared.refusal.Refusal.{Refusal}
 use Rattle.vnode_protocol.specs.declared.refusal.Refusal.TheVariants as refusals
-use Rattle.vnode_protocol.specs.Events.{Makes, Asks, AnsweredBy, IsMadeNew, GoesOnTo, AreNext, event_command, event_deed, event_response, history_after, register_event}
-use Rattle.vnode_protocol.specs.Plans.{View, Refuses, ask_outcome, response_of}
+use Rattle.vnode_protocol.specs.Events.{Asks, AnsweredBy, IsMadeNew, GoesOnTo, AreNext, event_command, event_deed, event_response, history_after, register_event}
+use Rattle.vnode_protocol.specs.Plans.{View, Refuses, response_of}
 use Rattle.vnode_protocol.specs.Refusals.{number_of}
 use Rattle.handoff.specs.declared.gates.Fallback.{Fallback}
 use Rattle.handoff.specs.Partitions.{fallback_id}
@@ -47,19 +45,19 @@ use Rattle.gate_ask.specs.declared.asking.Outcome.{Outcome}
 use Rattle.gate_ask.specs.declared.asking.Outcome.TheVariants as Outcomes
 use Rattle.node_session.specs.Answers.{Run}
 use Rattle.node_session.specs.Answered.{Answered as Output}
-use Rattle.node_session.specs.PlainStep.{ask_of, reply_of}
+use Rattle.node_session.specs.PlainStep.{reply_of}
 use Rattle.node_session.specs.PlainNodes.{partition_of}
 use Rattle.node_session.specs.Session.{IsEnd, Stops}
 use Rattle.node_session.specs.declared.fault.SessionFault.{SessionFault}
 use Rattle.node_session.proofs.Simulating.{run_like, end_like, stops_like}
 use Rattle.stats_book.specs.declared.quantity.Quantity.{Quantity}
-use Rattle.gate_node.specs.Asked.{Sight, Gets, Changes, ComesOf, IsMadeBy, IsSaidOf, Shows, Reaps, ReapsUpTo, AnswersAndReaps, outcome_reply, first_reap}
+use Rattle.gate_node.specs.Asked.{Sight, Gets, Changes, ComesOf, IsMadeBy, IsSaidOf, Shows, Reaps, ReapsUpTo, outcome_reply}
 use Rattle.gate_node.specs.Gates.{Gates}
 use Rattle.gate_node.specs.declared.passes.FallbackPass.{FallbackPass}
 use Rattle.gate_node.specs.GateStep.{Node, GateStep, AtIndex, AtFallback, AtPartition}
 use Rattle.gate_node.specs.Passes.{Resumes, kept_of}
 use Rattle.gate_node.specs.Registers.{VnodeId, vnode_at, id_at, first_epoch, seen_at, seen_at_fallback}
-use Rattle.gate_node.specs.Registers.{Commands, Seen, seen_by, history_of, IsLegalHistory, AnswersAmongOthers, IsOfGate, AnswersAskAt, SharedRegister, RunIsRegister, EndIsRegister, StopIsRegister}
+use Rattle.gate_node.specs.Registers.{Commands, Seen, seen_by, history_of, AnswersAmongOthers, IsOfGate, AnswersAskAt, SharedRegister, RunIsRegister, EndIsRegister, StopIsRegister}
 use Rattle.gate_node.proofs.Keeping.{step-keeps}
 use Rattle.gate_node.proofs.Legal.{position-is-legal}
 

@@ -1,9 +1,7 @@
 -- A caller's passes of the gates of a run, and of the fallbacks that it met.
-use Rattle.std.specs.Prelude.{◌≡◌, ◌≤◌, ◌⊎◌, ◌==◌, Bool, false, List, [], ◌∷◌, All, Option, Some, None, map, slice_get, slice_set}
+use Rattle.std.specs.Prelude.{◌≡◌, ◌≤◌, ◌⊎◌, ◌==◌, ℕ, Bool, false, List, [], ◌∷◌, All, Option, Some, None, map}
 use Rattle.std.specs.Option.{option_map_or}
 use mathlib.Core.List.{IsPrefix}
-use Rattle.rw_gate.specs.Views.{GateId}
-use Rattle.vnode_protocol.specs.Plans.{View}
 use Rattle.handoff.specs.declared.gates.Fallback.{Fallback}
 use Rattle.handoff.specs.Partitions.{AreNone, IsDiverted}
 use Rattle.gate_node.specs.declared.passes.FallbackPass.{FallbackPass}

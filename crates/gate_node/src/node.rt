@@ -6,8 +6,7 @@ ghost use Rattle.gate_node.specs.Asked.{Gets, Changes};
 ghost use Rattle.gate_node.specs.GateStep.{AtIndex, AtFallback, AtPartition};
 ghost use Rattle.gate_node.specs.Passes.{ArePassesOf};
 
-use crate::gated_vnode::{Answered, change_and_reap, change_diverted};
-use crate::gated_vnode::{get_and_reap, get_diverted};
+use crate::gated_vnode::{Answered, change_and_reap, change_diverted, get_and_reap, get_diverted};
 use crate::passes::{FallbackPass, Passes};
 use crate::shared::Shared;
 use crate::turnstile::Turnstile;
@@ -138,7 +137,8 @@ impl<'a, W: Wait, T: Turnstile, G: Ledger, P: Ledger, D: Ledger, E: Ledger, R: L
         ensures index { result ≡ partition_of self.now.shared.index_bits key.now }
         ensures below { result < 2 ^ self.now.shared.index_bits }
     {
-        usize::from(self.shared.handoff.ring().index(key))
+        let shared = self.shared;
+        usize::from(shared.handoff.ring().index(key))
     }
 
     /// Answers a get at the primary of a partition that isn't diverted.
@@ -196,8 +196,15 @@ impl<'a, W: Wait, T: Turnstile, G: Ledger, P: Ledger, D: Ledger, E: Ledger, R: L
     {
         let shared = self.shared;
         let kept = &mut self.fallbacks[index];
-        let (reply, quantity) =
-            get_diverted(self.rt, alloc, shared, self.turnstile, fallback, kept, get);
+        let (reply, quantity) = get_diverted(
+            self.rt,
+            alloc,
+            shared,
+            self.turnstile,
+            fallback,
+            kept,
+            get,
+        );
         self.counter.count_answer(self.rt, quantity, 0);
         reply
     }
@@ -217,8 +224,15 @@ impl<'a, W: Wait, T: Turnstile, G: Ledger, P: Ledger, D: Ledger, E: Ledger, R: L
     {
         let shared = self.shared;
         let kept = &mut self.fallbacks[index];
-        let (reply, quantity) =
-            change_diverted(self.rt, alloc, shared, self.turnstile, fallback, kept, change);
+        let (reply, quantity) = change_diverted(
+            self.rt,
+            alloc,
+            shared,
+            self.turnstile,
+            fallback,
+            kept,
+            change,
+        );
         self.counter.count_answer(self.rt, quantity, 0);
         reply
     }
@@ -228,7 +242,8 @@ impl<'a, W: Wait, T: Turnstile, G: Ledger, P: Ledger, D: Ledger, E: Ledger, R: L
         requires { index < 2 ^ self.old.shared.index_bits }
         ensures { AtPartition index self.old self.new (λ p q. Gets get.now p q result) }
     {
-        match self.shared.handoff.fallback(index) {
+        let shared = self.shared;
+        match shared.handoff.fallback(index) {
             None => self.get_at_primary(alloc, index, get),
             Some(fallback) => self.get_at_fallback(alloc, index, fallback, get),
         }
@@ -239,7 +254,8 @@ impl<'a, W: Wait, T: Turnstile, G: Ledger, P: Ledger, D: Ledger, E: Ledger, R: L
         requires { index < 2 ^ self.old.shared.index_bits }
         ensures { AtPartition index self.old self.new (λ p q. Changes change p q result) }
     {
-        match self.shared.handoff.fallback(index) {
+        let shared = self.shared;
+        match shared.handoff.fallback(index) {
             None => self.change_at_primary(alloc, index, change),
             Some(fallback) => self.change_at_fallback(alloc, index, fallback, change),
         }

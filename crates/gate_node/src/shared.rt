@@ -116,7 +116,7 @@ impl Shared {
 
     /// The gates and the fallbacks, with all that their vnodes hold. It takes no memory.
     pub fn into_handoff(self) -> Handoff
-        ensures { result ≡ handoff_of self.entry }
+        ensures { result ≡ handoff_of self }
     {
         let Shared {
             handoff,

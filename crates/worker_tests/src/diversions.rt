@@ -50,8 +50,7 @@ const PUT_P_AND_U: &[u8] =
 const STORED_TWICE: &[u8] = b"\0\0\0\x01\x0c\0\0\0\x01\x0c";
 
 /// Gets of b/k and of b/j.
-const GET_BOTH: &[u8] =
-    b"\0\0\0\x07\x09\x0a\x01b\x12\x01k\0\0\0\x07\x09\x0a\x01b\x12\x01j";
+const GET_BOTH: &[u8] = b"\0\0\0\x07\x09\x0a\x01b\x12\x01k\0\0\0\x07\x09\x0a\x01b\x12\x01j";
 
 /// Nothing; "u", with the first dot of the vnode 65,537.
 const NOTHING_U: &[u8] =

@@ -54,7 +54,11 @@ fn serve_by<W: Wait, T: Turnstile, G: Ledger, P: Ledger, D: Ledger, E: Ledger, R
     let mut node = GateNode::new(rt, shared, book, share, passes, turnstile);
     let is_answered = answers(alloc, &mut node, session);
     let (share, passes, is_book_full) = node.parts();
-    (share, passes, is_answered && is_book_full == session.is_book_full)
+    (
+        share,
+        passes,
+        is_answered && is_book_full == session.is_book_full,
+    )
 }
 
 /// The passes of a node with the one share of this book, which has counted some gets before. None where it doesn't answer and count as
@@ -76,8 +80,9 @@ fn play_in<W: Wait, T: Turnstile, G: Ledger, P: Ledger, D: Ledger, E: Ledger, R:
 {
     let mut share = shares.swap_remove(0);
     let _ = share.add(rt, &book, Quantity::Gets, session.gets_before);
-    let (share, passes, is_well) =
-        serve_by(rt, alloc, shared, turnstile, session, &book, share, passes);
+    let (share, passes, is_well) = serve_by(
+        rt, alloc, shared, turnstile, session, &book, share, passes,
+    );
     shares.push_reserved(share);
     let totals = close(book, shares);
     if is_well && totals == session.totals {
