@@ -43,7 +43,7 @@ use Rattle.gate_ask.specs.declared.asking.Outcome.TheVariants as Outcomes
 use Rattle.gate_node.specs.Asked.{Sight, Changes, ComesOf, IsMadeBy, IsSaidOf, answer_quantity, get_quantity, outcome_quantity, outcome_reply}
 use Rattle.gate_node.specs.Asked.{Gets as AnswersGet}
 use Rattle.gate_node.specs.Gates.{Gates}
-use Rattle.gate_node.specs.GateStep.{Node, GateStep, AtIndex}
+use Rattle.gate_node.specs.GateStep.{Node, GateStep, AtPartition}
 use Rattle.stats_book.specs.Counter.{Count, Counts, CountsReply, CountsAnswer}
 use Rattle.gate_node.specs.Sessions.{reply_most, most_of, CountsUpTo}
 use Rattle.stats_book.proofs.Raising.{raised_none}
@@ -287,11 +287,14 @@ none-counts most old gets puts = record {
 }
 
 at-counts : (index : ℕ) (old new : Node) (reply : Reply) (Answers : Sight → Sight → Option Quantity → Type 0) → ((p q : Sight) (quantity : Option Quantity) → Answers p q quantity → Fits reply quantity)
-    → AtIndex index old new Answers → CountsUpTo (λ q. reply_most old.shared.budget q reply) old.count new.count
-at-counts index old new reply Answers fits at =
+    → AtPartition index old new Answers → CountsUpTo (λ q. reply_most old.shared.budget q reply) old.count new.count
+at-counts index old new reply Answers fits (inl at) =
     let few : at.reaps ≤ old.shared.budget = at.steps.reaps.few in
     subst (λ (n : Node). CountsUpTo (λ q. reply_most old.shared.budget q reply) old.count n.count) (sym at.node)
     (one-counts old.shared.budget at.reaps reply at.quantity old.count at.count (fits at.before at.steps.answered at.quantity at.steps.answers) few at.counts)
+at-counts index old new reply Answers fits (inr at) =
+    subst (λ (n : Node). CountsUpTo (λ q. reply_most old.shared.budget q reply) old.count n.count) (sym at.node)
+    (one-counts old.shared.budget 0 reply at.quantity old.count at.count (fits at.before at.after at.quantity at.answers) (omega arith) at.counts)
 
 same-counts : (most : Quantity → ℕ) (old new : Node) → new ≡ old → most Gets ≡ 0 → most Puts ≡ 0 → CountsUpTo most old.count new.count
 same-counts most old new same gets puts = subst (λ (n : Node). CountsUpTo most old.count n.count) (sym same) (none-counts most old.count gets puts)

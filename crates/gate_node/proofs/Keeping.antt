@@ -1,19 +1,25 @@
 -- A node over gates keeps them.
-use Rattle.std.proofs.Common.{◌≡◌, ◌∙◌, List, [], ◌∷◌, ap, inl, inr}
-use Rattle.std.specs.Prelude.{Result, Ok, Err}
+use Rattle.std.proofs.Common.{◌≡◌, ◌∙◌, ℕ, List, [], ◌∷◌, ap, inl, inr}
+use Rattle.std.specs.Prelude.{Option, Result, Ok, Err}
 use Rattle.pb_frame.specs.Message.{Message}
 use Rattle.riak_msgs.specs.declared.fault.MsgFault.{MsgFault}
 use Rattle.riak_msgs.specs.declared.Request.{Request}
 use Rattle.riak_msgs.specs.declared.Request.TheVariants as requests
 use Rattle.riak_msgs.specs.declared.Reply.{Reply}
 use Rattle.node_session.specs.Answers.{AnswersRead, Run}
-use Rattle.gate_node.specs.GateStep.{Node, GateStep}
+use Rattle.stats_book.specs.declared.quantity.Quantity.{Quantity}
+use Rattle.gate_node.specs.Asked.{Sight}
+use Rattle.gate_node.specs.GateStep.{Node, GateStep, AtPartition}
+
+partition-keeps : (index : ℕ) (old new : Node) (Answers : Sight → Sight → Option Quantity → Type 0) → AtPartition index old new Answers → new.shared ≡ old.shared
+partition-keeps index old new Answers (inl at) = ap (λ (n : Node). n.shared) at.node
+partition-keeps index old new Answers (inr at) = ap (λ (n : Node). n.shared) at.node
 
 pub step-keeps : (old : Node) (request : Request) (reply : Reply) (new : Node) → GateStep old request reply new → new.shared ≡ old.shared
 step-keeps old requests.Ping reply new step = ap (λ (n : Node). n.shared) step.1
-step-keeps old (requests.Get get) reply new step = ap (λ (n : Node). n.shared) step.node
-step-keeps old (requests.Put put) reply new step = ap (λ (n : Node). n.shared) step.node
-step-keeps old (requests.Del del) reply new step = ap (λ (n : Node). n.shared) step.node
+step-keeps old (requests.Get get) reply new step = partition-keeps _ old new _ step
+step-keeps old (requests.Put put) reply new step = partition-keeps _ old new _ step
+step-keeps old (requests.Del del) reply new step = partition-keeps _ old new _ step
 
 pub read-keeps : (old : Node) (said : Result Request MsgFault) (reply : Reply) (new : Node) → AnswersRead GateStep old said reply new → new.shared ≡ old.shared
 read-keeps old (Ok request) reply new (inl step) = step-keeps old request reply new step

@@ -1,27 +1,24 @@
--- Gates that were made round new vnodes.
-use Rattle.std.proofs.Common.{◌≡◌, ◌∙◌, ◌+◌, ◌<◌, ◌≤◌, ◌^◌, ℕ, List, [], ◌∷◌, ◌++◌, length, map, refl, sym, ap, subst, arith}
+-- Gates that were made round new vnodes, and what is answered at them.
+use Rattle.std.proofs.Common.{◌≡◌, ◌∙◌, ◌+◌, ◌<◌, ◌≤◌, ◌^◌, ℕ, List, [], ◌∷◌, length, map, refl, sym, ap, subst, arith}
 use Rattle.std.specs.Prelude.{Option, Some, None, slice_get, slice_set, get_or, zero, suc}
 use Rattle.std.proofs.Math.Seq.{map-set_same}
 use Rattle.std.specs.Option.{option_map}
-use Rattle.std.proofs.lemmas.Option.{slice_get-get_or, slice_get-map, slice_get_within}
+use Rattle.std.proofs.lemmas.List.{length-map}
+use Rattle.std.proofs.lemmas.Option.{slice_get-map, slice_get_within}
 use Rattle.ring_map.specs.Ring.{id_of}
 use Rattle.rw_gate.specs.Views.{GateId}
 use Rattle.vnode_machine.specs.Replay.{IsWithinLimits}
 use Rattle.vnode_protocol.specs.Plans.{View}
 use Rattle.vnode_protocol.specs.Events.{IsMadeNew}
 use Rattle.stats_book.specs.declared.quantity.Quantity.{Quantity}
-use Rattle.gate_node.specs.Asked.{Sight, AnswersAndReaps}
 use Rattle.stats_book.specs.Counter.{Count, CountsAnswer}
-use Rattle.gate_node.specs.Gates.{AreMadeNew, AreOfNewRun}
-use Rattle.gate_node.specs.GateStep.{Node, AtIndex}
-
--- one gate more
-pub made_new_push : (run index : ℕ) (gates : List (GateId View)) (gate : GateId View) → AreMadeNew run index gates → IsMadeNew (id_of run (index + length gates)) 0 gate
-    → AreMadeNew run index (gates ++ gate ∷ [])
-made_new_push run index [] gate all one = (subst (λ n. IsMadeNew (id_of run n) 0 gate) (omega arith) one, tt)
-made_new_push run index (g ∷ gates) gate all one =
-    let next : index + length (g ∷ gates) ≡ (index + 1) + length gates = omega arith in
-    (all.0, made_new_push run (index + 1) gates gate all.1 (subst (λ n. IsMadeNew (id_of run n) 0 gate) next one))
+use Rattle.handoff.specs.declared.gates.Fallback.{Fallback}
+use Rattle.handoff.specs.Partitions.{AreMadeNew, AreOfNewRun, IsFallback}
+use Rattle.handoff.proofs.Opened.{got}
+use Rattle.gate_node.specs.declared.passes.FallbackPass.{FallbackPass}
+use Rattle.gate_node.specs.Asked.{Sight, AnswersAndReaps}
+use Rattle.gate_node.specs.GateStep.{Node, AtIndex, AtFallback}
+use Rattle.gate_node.specs.Passes.{AnswersAtFallback}
 
 none_some : {A : Type 0} (x : A) → None ≡ Some x → ⊥
 none_some x h = cc
@@ -47,16 +44,17 @@ new_at run gates new index gate at =
       limits_at run (length gates) index new.fits new.few (slice_get_within gates index gate at),
     )
 
--- what a list has at an index within it
-got : {A : Type 0} (xs : List A) (i : ℕ) (x : A) → i < length xs → x ≡ get_or xs i x → slice_get xs i ≡ Some x
-got xs i x within is = slice_get-get_or xs i x within ∙ ap (λ y. Some y) (sym is)
+abbrev gate_of : Sight → GateId View
+gate_of pass = pass.gate
+
+-- each gate has its pass
+pub within_passes : (passes : List Sight) (gates : List (GateId View)) (size i : ℕ) → map (λ (s : Sight). s.gate) passes ≡ gates → length gates ≡ size → i < size → i < length passes
+within_passes passes gates size i of all inside =
+    let many : length passes ≡ length gates = sym (length-map passes gate_of) ∙ ap length of in omega (arith, many, all, inside)
 
 -- a pass that goes on is of its gate still
 pub same_gates : (passes : List Sight) (i : ℕ) (p q : Sight) → p ≡ get_or passes i p → q.gate ≡ p.gate → map (λ (s : Sight). s.gate) (slice_set passes i q) ≡ map (λ (s : Sight). s.gate) passes
 same_gates passes i p q at same = map-set_same (λ (s : Sight). s.gate) passes i q p (same ∙ ap (λ (s : Sight). s.gate) at)
-
-abbrev gate_of : Sight → GateId View
-gate_of pass = pass.gate
 
 -- the gate of the pass at an index was made round the new vnode of that index
 new_there : (run i : ℕ) (gates : List (GateId View)) (passes : List Sight) (p : Sight) → AreOfNewRun run gates → map gate_of passes ≡ gates → slice_get passes i ≡ Some p → IsMadeNew (id_of run i) 0 p.gate × IsWithinLimits (id_of run i) 0
@@ -65,11 +63,35 @@ new_there run i gates passes p new of at =
     new_at run gates new i p.gate gate
 
 -- what is answered by the pass at an index is answered at that index
-pub at_index : (node : Node) (gates : List (GateId View)) (i : ℕ) (p q : Sight) (Answers : Sight → Sight → Option Quantity → Type 0) (quantity : Option Quantity) (reaps : ℕ) (count : Count)
-    → AreOfNewRun node.shared.run gates → map (λ (s : Sight). s.gate) node.passes ≡ gates → i < length node.passes
-    → p ≡ get_or node.passes i p → q.gate ≡ p.gate → AnswersAndReaps node.shared.budget reaps (λ x y. Answers x y quantity) p q → CountsAnswer quantity reaps node.count count
-    → AtIndex i node (record node { passes = slice_set node.passes i q; count = count }) Answers
-at_index node gates i p q Answers quantity reaps count all of within is gate steps counts =
-    let at = got node.passes i p within is in
-    let new = new_there node.shared.run i gates node.passes p all of at in
-    record { before = p; after = q; quantity = quantity; reaps = reaps; count = count; stands = at; made_new = new.0; limits = new.1; gate = gate; steps = steps; counts = counts; node = refl }
+pub at_index : (node : Node) (i : ℕ) (p q : Sight) (Answers : Sight → Sight → Option Quantity → Type 0) (quantity : Option Quantity) (reaps : ℕ) (count : Count)
+    → AreOfNewRun node.shared.run node.shared.gates → map (λ (s : Sight). s.gate) node.passes.primaries ≡ node.shared.gates → slice_get node.shared.fallbacks i ≡ Some None → i < length node.passes.primaries
+    → p ≡ get_or node.passes.primaries i p → q.gate ≡ p.gate → AnswersAndReaps node.shared.budget reaps (λ x y. Answers x y quantity) p q → CountsAnswer quantity reaps node.count count
+    → AtIndex i node (record node { passes = record node.passes { primaries = slice_set node.passes.primaries i q }; count = count }) Answers
+at_index node i p q Answers quantity reaps count all of none within is gate steps counts =
+    let at = got node.passes.primaries i p within is in
+    let new = new_there node.shared.run i node.shared.gates node.passes.primaries p all of at in
+    record { undiverted = none; before = p; after = q; quantity = quantity; reaps = reaps; count = count; stands = at; made_new = new.0; limits = new.1; gate = gate; steps = steps; counts = counts; node = refl }
+
+-- and what is answered by the pass that is kept of a fallback, at that
+pub at_fallback : (node : Node) (i : ℕ) (fallback : Fallback) (kept new : Option FallbackPass) (Answers : Sight → Sight → Option Quantity → Type 0) (quantity : Option Quantity) (count : Count)
+    → slice_get node.shared.fallbacks i ≡ Some (Some fallback) → IsFallback node.shared.run i fallback → i < length node.passes.fallbacks → kept ≡ get_or node.passes.fallbacks i kept
+    → AnswersAtFallback fallback kept new (λ x y. Answers x y quantity) → CountsAnswer quantity 0 node.count count
+    → AtFallback i node (record node { passes = record node.passes { fallbacks = slice_set node.passes.fallbacks i new }; count = count }) Answers
+at_fallback node i fallback kept new Answers quantity count some is_new within is answers counts = record {
+  fallback = fallback;
+  diverted = some;
+  is_new = is_new;
+  kept = kept;
+  stood = got node.passes.fallbacks i kept within is;
+  before = answers.before;
+  after = answers.after;
+  quantity = quantity;
+  count = count;
+  resumes = answers.resumes;
+  of_gate = answers.of_gate;
+  gate = answers.gate;
+  more = answers.more;
+  answers = answers.answers;
+  counts = counts;
+  node = ap (λ k. record node { passes = record node.passes { fallbacks = slice_set node.passes.fallbacks i k }; count = count }) answers.kept;
+}

@@ -1,33 +1,25 @@
--- The gates of a run: one round the vnode of each partition.
-use Rattle.std.specs.Prelude.{◌≡◌, ◌<◌, ◌≤◌, ◌+◌, ◌^◌, ℕ, List, [], ◌∷◌, length}
-use Rattle.ring_map.specs.Ring.{id_of}
-use Rattle.rw_gate.specs.Views.{GateId, PassView}
-use Rattle.vnode_protocol.specs.declared.event.Event.{Event}
+-- The gates of a run: one round the vnode of each partition, and the fallbacks of those that are diverted.
+use Rattle.std.specs.Prelude.{ℕ, List, Option}
+use Rattle.rw_gate.specs.Views.{GateId}
 use Rattle.vnode_protocol.specs.Plans.{View}
-use Rattle.vnode_protocol.specs.Events.{IsMadeNew}
+use Rattle.handoff.specs.declared.gates.Fallback.{Fallback}
+use Rattle.handoff.specs.Partitions.{HandoffView}
 
 -- how many bits number the partitions, which run it is, how many dead keys are forgotten at most after an answer, how often a
--- session reads at most, and the gates in the partitions' order
+-- session reads at most, the gates in the partitions' order, and the fallback of each partition that is diverted
 pub record Gates : Type 0 where
   pub index_bits : ℕ
   pub run : ℕ
   pub budget : ℕ
   pub reads : ℕ
   pub gates : List (GateId View)
+  pub fallbacks : List (Option Fallback)
 
--- these gates were made round the new vnodes of a run, from this index on
-abbrev pub AreMadeNew : (run index : ℕ) → List (GateId View) → Type 0
-AreMadeNew run index [] = Unit {0}
-AreMadeNew run index (gate ∷ gates) = IsMadeNew (id_of run index) 0 gate × AreMadeNew run (index + 1) gates
-
--- the gates of a new run: its number fits into 32 bits, there are at most 1,024, and each was made round the new vnode of its
--- index
-pub record AreOfNewRun (run : ℕ) (gates : List (GateId View)) : Type 0 where
-  pub made_new : AreMadeNew run 0 gates
-  pub fits : run < 2 ^ 32
-  pub few : length gates ≤ 1024
-
--- a pass whose holder has seen and published nothing
-pub record IsUnused (pass : PassView View Event) : Type 0 where
-  pub prefix : pass.prefix ≡ []
-  pub own : pass.own ≡ []
+-- without what sessions over them have in common
+abbrev pub handoff_of : Gates → HandoffView
+handoff_of shared = record {
+  index_bits = shared.index_bits;
+  run = shared.run;
+  gates = shared.gates;
+  fallbacks = shared.fallbacks;
+}

@@ -12,5 +12,7 @@ use Rattle.gate_node.specs.Asked.{state_of}
 
 -- at a position to which the history of a gate leads that was made round this new vnode, the events before it are a legal
 -- history of the register, each answered as the register answers it there, and the state is their replay
-abbrev pub PositionIsLegal : (vnode : ℕ) → GateId View → List Event → State Content → Type 0
-PositionIsLegal vnode gate events state = IsWithinLimits vnode 0 → IsMadeNew vnode 0 gate → RunFrom state_of Makes gate.opening events state → GoesOnTo vnode 0 [] events state
+abbrev pub PositionIsLegal : (vnode last_epoch : ℕ) → GateId View → List Event → State Content → Type 0
+PositionIsLegal vnode last_epoch gate events state =
+    IsWithinLimits vnode last_epoch → IsMadeNew vnode last_epoch gate → RunFrom state_of Makes gate.opening events state
+    → GoesOnTo vnode last_epoch [] events state

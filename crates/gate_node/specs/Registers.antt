@@ -1,5 +1,5 @@
 -- The sibling register as one caller of several sees it: between two of its requests others' commands may have been accepted.
-use Rattle.std.specs.Prelude.{◌≡◌, ◌≢◌, ◌⊎◌, ℕ, List, [], Option, Result, MatchOption, slice_get}
+use Rattle.std.specs.Prelude.{◌≡◌, ◌≢◌, ◌⊎◌, if◌then◌else◌, ℕ, List, [], Option, Some, None, Result, MatchOption, slice_get, unwrap_or}
 use Rattle.std.specs.Option.{option_map_or}
 use mathlib.Core.List.{IsPrefix}
 use Rattle.pb_frame.specs.Message.{Message}
@@ -25,30 +25,64 @@ use Rattle.node_session.specs.Answered.{Answered}
 use Rattle.node_session.specs.PlainNodes.{partition_of}
 use Rattle.node_session.specs.PlainStep.{ask_of, reply_of}
 use Rattle.node_session.specs.Session.{IsEnd, Stops}
+use Rattle.vnode_protocol.specs.Plans.{View}
+use Rattle.rw_gate.specs.Views.{GateId}
+use Rattle.handoff.specs.declared.gates.Fallback.{Fallback}
+use Rattle.handoff.specs.Partitions.{fallback_id}
+use Rattle.gate_node.specs.declared.passes.FallbackPass.{FallbackPass}
 use Rattle.gate_node.specs.Asked.{Sight}
 use Rattle.gate_node.specs.Gates.{Gates}
+use Rattle.gate_node.specs.Passes.{is_of}
 use Rattle.gate_node.specs.GateStep.{Node, GateStep}
 
 -- the commands that a vnode accepted, oldest first, each with its answer
 abbrev pub Commands : Type 0
 Commands = List Event
 
--- what a caller has seen of them, by the vnode's index
+-- what a caller has seen of them, by the partition's index
 abbrev pub Seen : Type 0
 Seen = ℕ → Commands
 
--- what a node's pass of the gate at each index has seen
-abbrev pub seen_by : Node → Seen
-seen_by node index = option_map_or (λ (pass : Sight). pass.prefix) (slice_get node.passes index) []
+-- what a pass of this fallback has seen that is kept; nothing, where none is
+abbrev pub seen_at_fallback : Fallback → Option FallbackPass → Commands
+seen_at_fallback fallback kept = if is_of fallback kept then option_map_or (λ (pass : FallbackPass). pass.pass.prefix) kept [] else []
 
-module _ (run index : ℕ) where
-  -- the register's history that these commands are, of the vnode at this index
+-- what is seen of a partition by a pass of its primary, or of its fallback where one stands
+abbrev pub seen_at : Option (Option Fallback) → Option Sight → Option (Option FallbackPass) → Commands
+seen_at (Some (Some fallback)) primary kept = seen_at_fallback fallback (unwrap_or kept None)
+seen_at (Some None) primary kept = option_map_or (λ (pass : Sight). pass.prefix) primary []
+seen_at None primary kept = option_map_or (λ (pass : Sight). pass.prefix) primary []
+
+-- what a node's passes have seen at each index, of the vnode that the calls of the partition are for
+abbrev pub seen_by : Node → Seen
+seen_by node index = seen_at (slice_get node.shared.fallbacks index) (slice_get node.passes.primaries index) (slice_get node.passes.fallbacks index)
+
+-- a vnode: its id, and the last epoch that it had given before its history began
+pub record VnodeId : Type 0 where
+  pub vnode : ℕ
+  pub last_epoch : ℕ
+
+-- the last epoch that a vnode had given round which a gate was made
+abbrev pub first_epoch : GateId View → ℕ
+first_epoch gate = option_map_or (λ (first : View). first.state.last_epoch) gate.opening 0
+
+abbrev pub id_at : (run index : ℕ) → Option (Option Fallback) → VnodeId
+id_at run index (Some (Some fallback)) = record { vnode = fallback_id run index; last_epoch = first_epoch fallback.gate }
+id_at run index (Some None) = record { vnode = id_of run index; last_epoch = 0 }
+id_at run index None = record { vnode = id_of run index; last_epoch = 0 }
+
+-- the vnode that the calls of the partition of an index are for: its primary, or its fallback where one stands
+abbrev pub vnode_at : Gates → (index : ℕ) → VnodeId
+vnode_at shared index = id_at shared.run index (slice_get shared.fallbacks index)
+
+module _ (id : VnodeId) where
+  -- the register's history that these commands of the vnode are
   abbrev pub history_of : Commands → History
-  history_of commands = history_after (id_of run index) 0 [] commands
+  history_of commands = history_after id.vnode id.last_epoch [] commands
 
   -- it is legal, and each of them was answered as the register answers it at its place
   abbrev pub IsLegalHistory : Commands → Type 0
-  IsLegalHistory commands = (state : State Content) × GoesOnTo (id_of run index) 0 [] commands state
+  IsLegalHistory commands = (state : State Content) × GoesOnTo id.vnode id.last_epoch [] commands state
 
   -- the register answers an ask at a position that has all that its caller had seen; what it accepts is the next command; and then
   -- more may have been accepted
@@ -58,7 +92,7 @@ module _ (run index : ℕ) where
     pub result : Result Response ℕ
     pub begins : IsPrefix old position
     pub legal : IsLegalHistory after
-    pub answers : AnswersTurn (id_of run index) 0 (history_of position) (record { ask = ask; reply = result }) (history_of after)
+    pub answers : AnswersTurn id.vnode id.last_epoch (history_of position) (record { ask = ask; reply = result }) (history_of after)
     pub replied : reply ≡ reply_of result
     pub more : IsPrefix after new
 
@@ -66,20 +100,21 @@ module _ (run index : ℕ) where
 abbrev pub IsOfGate : Reply → Type 0
 IsOfGate reply = (reply ≡ replies.Error texts.Moved) ⊎ (reply ≡ replies.Error texts.HistoryFull)
 
--- an ask is answered at the vnode of this index: by the register, or by the gate, and then it is no command; what was seen of
--- other vnodes stays
-pub record AnswersAskAt (run index : ℕ) (ask : Ask Content Context) (old : Seen) (reply : Reply) (new : Seen) : Type 0 where
-  pub answers : AnswersAmongOthers run index ask (old index) reply (new index) ⊎ (IsOfGate reply × IsPrefix (old index) (new index))
+-- an ask is answered at this vnode of the partition of this index: by the register, or by the gate, and then it is no command; what
+-- was seen of other partitions stays
+pub record AnswersAskAt (id : VnodeId) (index : ℕ) (ask : Ask Content Context) (old : Seen) (reply : Reply) (new : Seen) : Type 0 where
+  pub answers : AnswersAmongOthers id ask (old index) reply (new index) ⊎ (IsOfGate reply × IsPrefix (old index) (new index))
   pub others : (other : ℕ) → other ≢ index → new other ≡ old other
 
--- a ping is answered by a ping and shows nothing, any other request at the vnode that its key lies in
-abbrev pub RegisterAmongOthers : (run : ℕ) (index_of : Key → ℕ) → Seen → Request → Reply → Seen → Type 0
-RegisterAmongOthers run index_of old request reply new =
-    MatchOption (ask_of request) ((reply ≡ replies.Ping) × (new ≡ old)) (λ ask. AnswersAskAt run (index_of (key_of ask)) ask old reply new)
+-- a ping is answered by a ping and shows nothing, any other request at the partition that its key lies in
+abbrev pub RegisterAmongOthers : (vnode_of : ℕ → VnodeId) (index_of : Key → ℕ) → Seen → Request → Reply → Seen → Type 0
+RegisterAmongOthers vnode_of index_of old request reply new =
+    MatchOption (ask_of request) ((reply ≡ replies.Ping) × (new ≡ old))
+    (λ ask. AnswersAskAt (vnode_of (index_of (key_of ask))) (index_of (key_of ask)) ask old reply new)
 
 -- that of the gates of a run
 abbrev pub SharedRegister : Gates → Seen → Request → Reply → Seen → Type 0
-SharedRegister shared = RegisterAmongOthers shared.run (partition_of shared.index_bits)
+SharedRegister shared = RegisterAmongOthers (vnode_at shared) (partition_of shared.index_bits)
 
 -- what a node over gates answers to messages, one after another, the register among others does
 abbrev pub RunIsRegister : (old new : Node) → List Message → List Reply → Type 0

@@ -1,12 +1,15 @@
 //! The requests to one vnode behind a gate.
-ghost use Rattle.std.specs.Prelude.{◌≡◌};
+ghost use Rattle.std.specs.Prelude.{◌≡◌, Some};
 ghost use mathlib.Core.List.{IsPrefix};
 ghost use Rattle.gate_node.specs.Asked.{Shows, IsShown, Gets, Changes, ReapsUpTo, AnswersAndReaps};
+ghost use Rattle.gate_node.specs.Passes.{Fits, AnswersAtFallback};
 
+use crate::passes::{FallbackPass, renew};
 use crate::replies::{get_quantity, outcome_quantity, outcome_reply};
 use crate::shared::Shared;
 use crate::turnstile::Turnstile;
 use gate_ask::{Outcome, ask, ask_under};
+use handoff::Fallback;
 use riak_msgs::{GetAsk, Reply, Text};
 use rw_gate::{Gate, Pass};
 use stats_book::Quantity;
@@ -154,5 +157,55 @@ pub(crate) fn change_and_reap<W: Wait, T: Turnstile>(
         reply,
         quantity,
         reaps,
+    }
+}
+
+/// Answers a get at the fallback of a partition, by the pass of it that is kept; and what that is counted as.
+pub(crate) fn get_diverted<W: Wait, T: Turnstile>(
+    rt: &W,
+    alloc: Global,
+    shared: &Shared,
+    turnstile: &T,
+    fallback: &Fallback,
+    kept: &mut Option<FallbackPass>,
+    get: &GetAsk,
+) -> (Reply, Option<Quantity>)
+    requires { Fits (Some fallback.now) kept.old }
+    ensures { AnswersAtFallback fallback.now kept.old kept.new
+        (λ p q. Gets get.now p q result.0 result.1) }
+{
+    renew(kept, fallback);
+    match kept {
+        Some(kept) => {
+            let gate = &fallback.gate;
+            let reply = answer_get(rt, alloc, shared, turnstile, gate, &mut kept.pass, get);
+            let quantity = Some(get_quantity(&reply));
+            (reply, quantity)
+        }
+        None => unreachable!(),
+    }
+}
+
+/// Answers what may change a vnode at the fallback of a partition, by the pass of it that is kept; and what that is counted as.
+pub(crate) fn change_diverted<W: Wait, T: Turnstile>(
+    rt: &W,
+    alloc: Global,
+    shared: &Shared,
+    turnstile: &T,
+    fallback: &Fallback,
+    kept: &mut Option<FallbackPass>,
+    change: Ask,
+) -> (Reply, Option<Quantity>)
+    requires { Fits (Some fallback.now) kept.old }
+    ensures { AnswersAtFallback fallback.now kept.old kept.new
+        (λ p q. Changes change p q result.0 result.1) }
+{
+    renew(kept, fallback);
+    match kept {
+        Some(kept) => {
+            let gate = &fallback.gate;
+            answer_change(rt, alloc, shared, turnstile, gate, &mut kept.pass, change)
+        }
+        None => unreachable!(),
     }
 }

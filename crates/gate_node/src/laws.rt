@@ -9,7 +9,9 @@ ghost use Rattle.vnode_protocol.specs.declared.event.Event.{Event};
 ghost use Rattle.vnode_protocol.specs.Plans.{View};
 ghost use Rattle.node_session.specs.Answers.{Run};
 ghost use Rattle.gate_node.specs.GateStep.{Node, GateStep};
+ghost use Rattle.gate_node.specs.Gates.{Gates};
 ghost use Rattle.gate_node.specs.Legal.{PositionIsLegal};
+ghost use Rattle.gate_node.specs.Passes.{Sights, OutliveDiversion};
 ghost use Rattle.gate_node.specs.Sessions.{most_of, CountsUpTo};
 ghost use Rattle.gate_node.specs.Registers.{RunIsRegister, EndIsRegister, StopIsRegister};
 ghost use Rattle.node_session.specs.declared.fault.SessionFault.{SessionFault};
@@ -17,11 +19,12 @@ ghost use Rattle.std.specs.Prelude.{Option};
 
 /// Each position at which a [`GateNode`](crate::GateNode) answers is a legal history of the sibling register, and the state
 /// there is its replay. For the node's step names the position and its run (`leads` of `IsMade` and `IsSaid` in
-/// `specs/Asking`), that the gate was made round the new vnode of the key's partition, and that the id of this vnode is one
-/// that a vnode can have (`made_new` and `limits` of `AtIndex` in `specs/GateStep`).
+/// `specs/Asking`), that the gate was made round a new vnode, and that the id of this vnode is one that a vnode can have: for that of
+/// the key's partition `made_new` and `limits` of `AtIndex` in `specs/GateStep`, for the partition's fallback those of `IsFallback`
+/// (`is_new` of `AtFallback`).
 pub fn positions_are_legal()
-    ensures { (vnode : ℕ) (gate : GateId View) (events : List Event) (state : State Content)
-        → PositionIsLegal vnode gate events state }
+    ensures { (vnode last_epoch : ℕ) (gate : GateId View) (events : List Event) (state : State Content)
+        → PositionIsLegal vnode last_epoch gate events state }
 {}
 
 /// A session over a [`GateNode`](crate::GateNode) keeps its gates: after the messages that `serve` has answered, by a run of
@@ -29,6 +32,13 @@ pub fn positions_are_legal()
 pub fn sessions_keep_their_gates()
     ensures { (old : Node) (messages : List Message) (replies : List Reply) (new : Node)
         → Run GateStep old messages replies new → new.shared ≡ old.shared }
+{}
+
+/// A caller's passes outlive diversions: what passes of a run's gates have to be for a node over them, they are after a partition was
+/// diverted. For a pass that is kept of a fallback has the number of its diversion, and no later diversion has that number.
+pub fn passes_outlive_diversions()
+    ensures { (index : ℕ) (old new : Gates) (passes : Sights)
+        → OutliveDiversion index old new passes }
 {}
 
 /// A session over a [`GateNode`](crate::GateNode) counts its replies: each reply to a get as a get, each to a put as a put,

@@ -1,7 +1,8 @@
 //! A node over the gates of a run: many threads, each with a node of its own, serve one set of vnodes.
 //!
-//! [`Shared`] has a gate (`rw_gate`) round the vnode of each partition of a ring. [`Passes`] are one caller's passes of these
-//! gates: what the caller has seen of each vnode's history, and which of its events the caller published. A [`GateNode`]
+//! [`Shared`] has a gate (`rw_gate`) round the vnode of each partition of a ring, and the fallbacks of those that are diverted
+//! (`handoff`). [`Passes`] are one caller's passes of these gates, and of the fallbacks that it met: what the caller has seen of each
+//! vnode's history, and which of its events the caller published. A [`GateNode`]
 //! answers requests by them: a get under a right to read, a put or a delete under a right to write, and after each of
 //! these the first dead keys of that vnode are forgotten, so many at most, each under a right to write of its own. Each
 //! of these calls passes a [`Turnstile`] while it has its right. What was answered is counted in a book (`stats_book`) by
@@ -16,6 +17,11 @@
 //! that was forgotten, and by nothing else; where the book has no room for that, the reply is the same and the node keeps
 //! that fact.
 //!
+//! Where a key's partition is diverted, all of that is so at its fallback: another vnode, which has an id and a history of its own, and at
+//! first no keys (`AtFallback`). No dead key is forgotten there, and the primary isn't asked; what it holds no request sees. A partition
+//! is diverted only while no node is over the gates ([`Shared::into_handoff`]), and a caller's passes outlive that
+//! ([`passes_outlive_diversions`]).
+//!
 //! ```text
 //! let shared = Shared::new(alloc, ring, 1, 0, 100)?          the gates of run 1, each round a new vnode; no reaps, 100 reads a session
 //! let passes = Passes::new(alloc, &shared)?                  one pass for each gate, which has seen nothing
@@ -26,7 +32,8 @@
 //!
 //! What it costs: a request waits while another thread has its vnode's state in hand, and while another counts. What is
 //! answered lies between the taking and the giving back of a right, and so a get copies its reply while other readers may
-//! be in. Memory is taken by the vnode alone, and by `Shared::new` and `Passes::new`.
+//! be in. Memory is taken by the vnode alone, and by `Shared::new` and `Passes::new`. Where nothing is diverted a request looks at one
+//! word more, whether its partition has a fallback, and a caller's passes have a place for the pass of each partition's fallback.
 //!
 //! How it is built: a function that takes a right gives it back itself, as `gate_ask::ask` does for any state behind a gate,
 //! and what is done under a right to write is one function (`ask_under`). The reply and its quantity are made from what came of it
@@ -37,15 +44,17 @@ mod fault;
 mod gated_vnode;
 mod laws;
 mod node;
+mod passes;
 mod replies;
 mod shared;
 mod turnstile;
 
 pub use fault::PoolFault;
 pub use laws::{
-    gate_node_is_register, positions_are_legal, sessions_count_their_replies,
-    sessions_keep_their_gates,
+    gate_node_is_register, passes_outlive_diversions, positions_are_legal,
+    sessions_count_their_replies, sessions_keep_their_gates,
 };
 pub use node::GateNode;
-pub use shared::{Passes, Shared};
+pub use passes::Passes;
+pub use shared::Shared;
 pub use turnstile::{Open, Turnstile};

@@ -1,12 +1,16 @@
 //! A node over the gates of a run.
-ghost use Rattle.std.specs.Prelude.{◌≡◌, ◌<◌, length, map, false};
+ghost use Rattle.std.specs.Prelude.{◌≡◌, ◌<◌, ◌^◌, Some, None, false, slice_get};
+ghost use Rattle.handoff.specs.Partitions.{IsFallback};
 ghost use Rattle.node_session.specs.PlainNodes.{partition_of};
 ghost use Rattle.gate_node.specs.Asked.{Gets, Changes};
-ghost use Rattle.gate_node.specs.GateStep.{AtIndex};
+ghost use Rattle.gate_node.specs.GateStep.{AtIndex, AtFallback, AtPartition};
+ghost use Rattle.gate_node.specs.Passes.{ArePassesOf};
 
-use crate::gated_vnode::{Answered, change_and_reap, get_and_reap};
-use crate::shared::{Passes, Shared};
+use crate::gated_vnode::{Answered, change_and_reap, change_diverted, get_and_reap, get_diverted};
+use crate::passes::{FallbackPass, Passes};
+use crate::shared::Shared;
 use crate::turnstile::Turnstile;
+use handoff::Fallback;
 use node_session::Node;
 use riak_msgs::{GetAsk, Key, Reply, Request};
 use rw_gate::Pass;
@@ -25,6 +29,9 @@ use vnode_core::{Ask, Vnode};
 /// node had seen of it; `moved` and `history full` change nothing. A get that was answered, a put that was accepted, a
 /// delete that wrote a tombstone, an error, and each dead key that was forgotten add one to the share and to the book;
 /// where the book has no room, the reply is the same, and the node keeps that fact.
+///
+/// In a partition that is diverted all of this is so at its fallback, whose history is its own, and no dead key is forgotten there; the
+/// primary is not asked.
 #[derive(Drop)]
 pub struct GateNode<
     'a,
@@ -40,23 +47,25 @@ pub struct GateNode<
     shared: &'a Shared,
     turnstile: &'a T,
     counter: Counter<'a, G, P, D, E, R>,
-    passes: Vec<Pass<Vnode>>,
+    primaries: Vec<Pass<Vnode>>,
+    fallbacks: Vec<Option<FallbackPass>>,
 }
 
 impl<'a, W: Wait, T: Turnstile, G: Ledger, P: Ledger, D: Ledger, E: Ledger, R: Ledger> Model
     for GateNode<'a, W, T, G, P, D, E, R> {
-    ghost use Rattle.std.specs.Prelude.{◌≡◌, map};
     ghost use Rattle.gate_node.specs.GateStep.{Node};
+    ghost use Rattle.gate_node.specs.Passes.{ArePassesOf};
 
     ghost Value = { Node };
 
     ghost view = { λ n. record {
       shared = n.shared.now;
-      passes = n.passes.items;
+      passes = record { primaries = n.primaries.items; fallbacks = n.fallbacks.items };
       count = n.counter;
     } };
 
-    ghost invariant = { λ n. map (λ pass. pass.gate) n.passes.items ≡ n.shared.now.gates };
+    ghost invariant = { λ n. ArePassesOf n.shared.now
+        (record { primaries = n.primaries.items; fallbacks = n.fallbacks.items }) };
 }
 
 impl<'a, W: Wait, T: Turnstile, G: Ledger, P: Ledger, D: Ledger, E: Ledger, R: Ledger> GateNode<
@@ -79,19 +88,23 @@ impl<'a, W: Wait, T: Turnstile, G: Ledger, P: Ledger, D: Ledger, E: Ledger, R: L
         passes: Passes,
         turnstile: &'a T,
     ) -> GateNode<'a, W, T, G, P, D, E, R>
-        requires { map (λ pass. pass.gate) passes ≡ shared.now.gates }
+        requires { ArePassesOf shared.now passes }
         ensures shared { result.shared ≡ shared.now }
         ensures passes { result.passes ≡ passes }
         ensures count { result.count ≡ record { counted = share; book_full = false } }
     {
-        let Passes { passes } = passes;
+        let Passes {
+            primaries,
+            fallbacks,
+        } = passes;
         let counter = Counter::new(book, share);
         GateNode {
             rt,
             shared,
             turnstile,
             counter,
-            passes,
+            primaries,
+            fallbacks,
         }
     }
 
@@ -100,7 +113,7 @@ impl<'a, W: Wait, T: Turnstile, G: Ledger, P: Ledger, D: Ledger, E: Ledger, R: L
     pub fn parts(self) -> (Share<G, P, D, E, R>, Passes, bool)
         ensures share { result.0 ≡ self.entry.count.counted }
         ensures passes { result.1 ≡ self.entry.passes }
-        ensures gates { map (λ pass. pass.gate) result.1 ≡ self.entry.shared.gates }
+        ensures gates { ArePassesOf self.entry.shared result.1 }
         ensures full { result.2 ≡ self.entry.count.book_full }
     {
         let GateNode {
@@ -108,29 +121,36 @@ impl<'a, W: Wait, T: Turnstile, G: Ledger, P: Ledger, D: Ledger, E: Ledger, R: L
             shared: _,
             turnstile: _,
             counter,
-            passes,
+            primaries,
+            fallbacks,
         } = self;
         let (share, is_book_full) = counter.parts();
-        (share, Passes { passes }, is_book_full)
+        let passes = Passes {
+            primaries,
+            fallbacks,
+        };
+        (share, passes, is_book_full)
     }
 
-    /// The index of the vnode that a key lies in.
+    /// The index of the partition that a key lies in.
     fn index(&self, key: &Key) -> usize
         ensures index { result ≡ partition_of self.now.shared.index_bits key.now }
-        ensures below { result < length self.now.passes }
+        ensures below { result < 2 ^ self.now.shared.index_bits }
     {
         let shared = self.shared;
-        usize::from(shared.ring.index(key))
+        usize::from(shared.handoff.ring().index(key))
     }
 
-    /// Answers a get.
-    fn get(&mut self, alloc: Global, index: usize, get: &GetAsk) -> Reply
-        requires { index < length self.old.passes }
+    /// Answers a get at the primary of a partition that isn't diverted.
+    fn get_at_primary(&mut self, alloc: Global, index: usize, get: &GetAsk) -> Reply
+        requires within { index < 2 ^ self.old.shared.index_bits }
+        requires undiverted { slice_get self.old.shared.fallbacks index ≡ Some None }
         ensures { AtIndex index self.old self.new (λ p q. Gets get.now p q result) }
     {
         let shared = self.shared;
-        let gate = &shared.gates[index];
-        let pass = &mut self.passes[index];
+        let gates = shared.handoff.gates();
+        let gate = &gates[index];
+        let pass = &mut self.primaries[index];
         let answered = get_and_reap(self.rt, alloc, shared, self.turnstile, gate, pass, get);
         let Answered {
             reply,
@@ -141,14 +161,16 @@ impl<'a, W: Wait, T: Turnstile, G: Ledger, P: Ledger, D: Ledger, E: Ledger, R: L
         reply
     }
 
-    /// Answers what may change a vnode.
-    fn change(&mut self, alloc: Global, index: usize, change: Ask) -> Reply
-        requires { index < length self.old.passes }
+    /// Answers what may change a vnode at the primary of a partition that isn't diverted.
+    fn change_at_primary(&mut self, alloc: Global, index: usize, change: Ask) -> Reply
+        requires within { index < 2 ^ self.old.shared.index_bits }
+        requires undiverted { slice_get self.old.shared.fallbacks index ≡ Some None }
         ensures { AtIndex index self.old self.new (λ p q. Changes change p q result) }
     {
         let shared = self.shared;
-        let gate = &shared.gates[index];
-        let pass = &mut self.passes[index];
+        let gates = shared.handoff.gates();
+        let gate = &gates[index];
+        let pass = &mut self.primaries[index];
         let answered = change_and_reap(self.rt, alloc, shared, self.turnstile, gate, pass, change);
         let Answered {
             reply,
@@ -157,6 +179,86 @@ impl<'a, W: Wait, T: Turnstile, G: Ledger, P: Ledger, D: Ledger, E: Ledger, R: L
         } = answered;
         self.counter.count_answer(self.rt, quantity, reaps);
         reply
+    }
+
+    /// Answers a get at the fallback of a partition.
+    fn get_at_fallback(
+        &mut self,
+        alloc: Global,
+        index: usize,
+        fallback: &Fallback,
+        get: &GetAsk,
+    ) -> Reply
+        requires diverted { slice_get self.old.shared.fallbacks index
+            ≡ Some (Some fallback.now) }
+        requires new { IsFallback self.old.shared.run index fallback.now }
+        ensures { AtFallback index self.old self.new (λ p q. Gets get.now p q result) }
+    {
+        let shared = self.shared;
+        let kept = &mut self.fallbacks[index];
+        let (reply, quantity) = get_diverted(
+            self.rt,
+            alloc,
+            shared,
+            self.turnstile,
+            fallback,
+            kept,
+            get,
+        );
+        self.counter.count_answer(self.rt, quantity, 0);
+        reply
+    }
+
+    /// Answers what may change a vnode at the fallback of a partition.
+    fn change_at_fallback(
+        &mut self,
+        alloc: Global,
+        index: usize,
+        fallback: &Fallback,
+        change: Ask,
+    ) -> Reply
+        requires diverted { slice_get self.old.shared.fallbacks index
+            ≡ Some (Some fallback.now) }
+        requires new { IsFallback self.old.shared.run index fallback.now }
+        ensures { AtFallback index self.old self.new (λ p q. Changes change p q result) }
+    {
+        let shared = self.shared;
+        let kept = &mut self.fallbacks[index];
+        let (reply, quantity) = change_diverted(
+            self.rt,
+            alloc,
+            shared,
+            self.turnstile,
+            fallback,
+            kept,
+            change,
+        );
+        self.counter.count_answer(self.rt, quantity, 0);
+        reply
+    }
+
+    /// Answers a get, at the partition's fallback where it is diverted.
+    fn get(&mut self, alloc: Global, index: usize, get: &GetAsk) -> Reply
+        requires { index < 2 ^ self.old.shared.index_bits }
+        ensures { AtPartition index self.old self.new (λ p q. Gets get.now p q result) }
+    {
+        let shared = self.shared;
+        match shared.handoff.fallback(index) {
+            None => self.get_at_primary(alloc, index, get),
+            Some(fallback) => self.get_at_fallback(alloc, index, fallback, get),
+        }
+    }
+
+    /// Answers what may change a vnode, at the partition's fallback where it is diverted.
+    fn change(&mut self, alloc: Global, index: usize, change: Ask) -> Reply
+        requires { index < 2 ^ self.old.shared.index_bits }
+        ensures { AtPartition index self.old self.new (λ p q. Changes change p q result) }
+    {
+        let shared = self.shared;
+        match shared.handoff.fallback(index) {
+            None => self.change_at_primary(alloc, index, change),
+            Some(fallback) => self.change_at_fallback(alloc, index, fallback, change),
+        }
     }
 }
 

@@ -1,28 +1,33 @@
-//! The gates of a run, and a caller's passes of them.
-ghost use Rattle.std.specs.Prelude.{◌≡◌, ◌≤◌, ◌^◌, IfOk, IsOkUnless, All, length, map};
-ghost use Rattle.vnode_protocol.specs.Events.{IsMadeNew};
-ghost use Rattle.gate_node.specs.Gates.{AreMadeNew, AreOfNewRun, IsUnused};
+//! The gates of a run, and what all sessions over them have in common.
+ghost use Rattle.std.specs.Prelude.{◌≡◌, ◌≤◌, ◌^◌, IfOk, IsOkUnless, length};
+ghost use Rattle.handoff.specs.Partitions.{AreMadeNew, AreNone, AreOfNewRun};
+ghost use Rattle.gate_node.specs.Gates.{handoff_of};
 
 use crate::fault::PoolFault;
 use crate::turnstile::Turnstile;
-use ring_map::{Ring, vnode_id};
-use rw_gate::{Gate, Pass};
-use std::alloc::{AllocError, Global};
+use handoff::Handoff;
+use ring_map::Ring;
+use rw_gate::Gate;
+use std::alloc::Global;
 use std::marker::Model;
 use std::sync::atomic::{AtomicU64, Ordering};
 use vnode_core::Vnode;
 
-/// The first epoch of a vnode of a new run.
-const FIRST_EPOCH: u32 = 1;
-
-/// The gates of a run, one round the vnode of each partition of a ring, and what all sessions over them have in common.
-/// Threads share it by reference.
+/// The gates of a run, one round the vnode of each partition of a ring, with the fallbacks of those that are diverted, and what all
+/// sessions over them have in common. Threads share it by reference.
+///
+/// A partition is diverted between two of these: the first gives its gates back, and the second is made over them.
+///
+/// ```text
+/// let shared = Shared::new(alloc, ring, 1, 0, 100)?     no partition is diverted
+/// let mut handoff = shared.into_handoff()               once no node is over it
+/// handoff.divert(alloc, 0)?                             the calls of partition 0 are for its fallback from now on
+/// let shared = Shared::over(handoff, 0, 100)            the same primaries, with all that they hold, and the fallback
+/// ```
 pub struct Shared {
-    pub(crate) ring: Ring,
-    run: u32,
+    pub(crate) handoff: Handoff,
     pub(crate) budget: u32,
     reads: u64,
-    pub(crate) gates: Vec<Gate<Vnode>>,
     /// How many calls have got their right. It may wrap.
     calls: AtomicU64,
 }
@@ -31,92 +36,38 @@ pub struct Shared {
 impl Drop for Shared {
     fn drop(self) {
         let Shared {
-            ring: _ring,
-            run: _run,
+            handoff: _handoff,
             budget: _budget,
             reads: _reads,
-            gates: _gates,
             calls: _calls,
         } = self;
     }
 }
 
 impl Model for Shared {
-    ghost use Rattle.std.specs.Prelude.{◌≡◌, ◌≤◌, ◌^◌, length};
-    ghost use Rattle.gate_node.specs.Gates.{Gates, AreOfNewRun};
+    ghost use Rattle.std.specs.Prelude.{◌≤◌, ◌^◌};
+    ghost use Rattle.gate_node.specs.Gates.{Gates};
 
     ghost Value = { Gates };
 
     ghost view = { λ s. record {
-      index_bits = s.ring;
-      run = s.run;
+      index_bits = s.handoff.index_bits;
+      run = s.handoff.run;
       budget = s.budget;
       reads = s.reads;
-      gates = s.gates.items;
+      gates = s.handoff.gates;
+      fallbacks = s.handoff.fallbacks;
     } };
 
-    ghost invariant = { λ s. AreOfNewRun s.run s.gates.items × (length s.gates.items ≡ 2 ^ s.ring)
-        × (s.reads ≤ 2 ^ 32) };
-}
-
-/// A caller's pass of each gate of a run, in the partitions' order.
-#[derive(Drop)]
-pub struct Passes {
-    pub(crate) passes: Vec<Pass<Vnode>>,
-}
-
-impl Model for Passes {
-    ghost use Rattle.std.specs.Prelude.{List};
-    ghost use Rattle.gate_node.specs.Asked.{Sight};
-
-    ghost Value = { List Sight };
-
-    ghost view = { λ p. p.passes.items };
-}
-
-/// A gate round a new vnode.
-fn new_gate(alloc: Global, id: u64) -> Result<Gate<Vnode>, AllocError>
-    ensures { IfOk result (IsMadeNew id 0) }
-{
-    match Gate::new(alloc, Vnode::new(alloc, id, FIRST_EPOCH)) {
-        Ok(gate) => Ok(gate),
-        Err(_) => Err(AllocError),
-    }
-}
-
-/// A gate round the new vnode of each partition.
-fn new_gates(alloc: Global, ring: Ring, run: u32) -> Result<Vec<Gate<Vnode>>, AllocError>
-    requires { 1 ≤ run }
-    ensures gates { IfOk result (λ gates. AreMadeNew run 0 gates.items) }
-    ensures size { IfOk result (λ gates. length gates.items ≡ 2 ^ ring) }
-    ensures few { IfOk result (λ gates. length gates.items ≤ 1024) }
-{
-    let size = ring.size();
-    let mut gates = Vec::with_capacity(alloc, usize::from(size))?;
-    for index in 0..size {
-        gates.push(new_gate(alloc, vnode_id(run, index))?)?;
-    }
-    Ok(gates)
-}
-
-/// A pass of each gate.
-fn new_passes(alloc: Global, gates: &Vec<Gate<Vnode>>) -> Result<Vec<Pass<Vnode>>, AllocError>
-    ensures gates { IfOk result (λ passes. map (λ pass. pass.gate) passes.items ≡ gates.now.items) }
-    ensures new { IfOk result (λ passes. All IsUnused passes.items) }
-{
-    let mut passes = Vec::with_capacity(alloc, gates.len())?;
-    for gate in gates {
-        passes.push(gate.pass())?;
-    }
-    Ok(passes)
+    ghost invariant = { λ s. s.reads ≤ 2 ^ 32 };
 }
 
 impl Shared {
     /// The gates of a run, each round a new vnode: that of the partition at an index has the id `run * 65536 + index`. The
     /// run is at least 1, and its number is used once: contexts that were shown in an earlier run of the same number may
-    /// cover what their holders never saw. After each answer to a get, a put or a delete the vnode of that key forgets its
-    /// first `budget` dead keys. A session over these gates reads at most `reads` times, which is at most 4,294,967,296.
-    /// Refused where memory is.
+    /// cover what their holders never saw. No partition is diverted. After each answer to a get, a put or a delete the vnode of that
+    /// key forgets its first `budget` dead keys. A session over these gates reads at most `reads` times, which is at most
+    /// 4,294,967,296. Refused where memory is.
     pub fn new(
         alloc: Global,
         ring: Ring,
@@ -132,17 +83,48 @@ impl Shared {
         ensures reads { IfOk result (λ s. s.reads ≡ reads) }
         ensures gates { IfOk result (λ s. AreMadeNew run 0 s.gates) }
         ensures size { IfOk result (λ s. length s.gates ≡ 2 ^ ring) }
+        ensures none { IfOk result (λ s. AreNone s.fallbacks) }
         ensures only { IsOkUnless result PoolFault.NoMemory }
     {
-        let gates = new_gates(alloc, ring, run)?;
-        Ok(Shared {
-            ring,
-            run,
+        match Handoff::new(alloc, ring, run) {
+            Ok(handoff) => Ok(Shared::over(handoff, budget, reads)),
+            Err(_) => Err(PoolFault::NoMemory),
+        }
+    }
+
+    /// These gates and fallbacks, with all that their vnodes hold. It takes no memory.
+    pub fn over(handoff: Handoff, budget: u32, reads: u64) -> Shared
+        requires { reads ≤ 2 ^ 32 }
+        ensures handoff { handoff_of result ≡ handoff }
+        ensures budget { result.budget ≡ budget }
+        ensures reads { result.reads ≡ reads }
+    {
+        Shared {
+            handoff,
             budget,
             reads,
-            gates,
             calls: AtomicU64::new(0),
-        })
+        }
+    }
+
+    /// The gates and the fallbacks.
+    pub fn handoff(&self) -> &Handoff
+        ensures { result.now ≡ handoff_of self.now }
+    {
+        &self.handoff
+    }
+
+    /// The gates and the fallbacks, with all that their vnodes hold. It takes no memory.
+    pub fn into_handoff(self) -> Handoff
+        ensures { result ≡ handoff_of self }
+    {
+        let Shared {
+            handoff,
+            budget: _,
+            reads: _,
+            calls: _,
+        } = self;
+        handoff
     }
 
     /// How many times a session over these gates reads at most.
@@ -153,37 +135,18 @@ impl Shared {
         self.reads
     }
 
-    /// The gates, in the partitions' order.
+    /// The gates of the primaries, in the partitions' order.
     pub fn gates(&self) -> &[Gate<Vnode>]
         ensures gates { result.now ≡ self.now.gates }
         ensures size { length result.now ≡ 2 ^ self.now.index_bits }
         ensures new_run { AreOfNewRun self.now.run self.now.gates }
     {
-        self.gates.as_slice()
+        self.handoff.gates()
     }
 
     /// A call that has its right passes the turnstile, under the next number.
     pub(crate) fn enter<T: Turnstile>(&self, turnstile: &T) {
         let calls = self.calls.fetch_add(1, Ordering::SeqCst);
         turnstile.inside(calls.wrapping_add(1));
-    }
-}
-
-impl Passes {
-    /// A pass of each gate, which has seen nothing. Refused where memory is.
-    pub fn new(alloc: Global, shared: &Shared) -> Result<Passes, PoolFault>
-        ensures gates { IfOk result (λ passes. map (λ pass. pass.gate) passes ≡ shared.now.gates) }
-        ensures new { IfOk result (All IsUnused) }
-        ensures only { IsOkUnless result PoolFault.NoMemory }
-    {
-        let passes = new_passes(alloc, &shared.gates)?;
-        Ok(Passes { passes })
-    }
-
-    /// The passes, in the partitions' order.
-    pub fn passes(&self) -> &[Pass<Vnode>]
-        ensures { result.now ≡ self.now }
-    {
-        self.passes.as_slice()
     }
 }

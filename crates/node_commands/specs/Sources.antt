@@ -1,7 +1,8 @@
 -- What a source of connections gives.
-use Rattle.std.specs.Prelude.{◌≡◌, ◌+◌, ℕ, All, Option, Some, None, Result, Ok, Err}
+use Rattle.std.specs.Prelude.{◌≡◌, ◌+◌, ℕ, Option, Some, None, Result, Ok, Err}
 use Rattle.job_pool.specs.declared.jobs.JobFault.{JobFault}
-use Rattle.gate_node.specs.Gates.{Gates, IsUnused}
+use Rattle.gate_node.specs.Gates.{Gates}
+use Rattle.gate_node.specs.Passes.{AreUnused}
 use Rattle.worker_pool.specs.declared.job.Job.{Job}
 use Rattle.worker_pool.specs.Serving.{IsForGates}
 
@@ -9,7 +10,7 @@ module _ {I O : Type 0} where
   -- a connection by passes of these gates that have seen nothing
   pub record IsNew (gates : Gates) (job : Job I O) : Type 0 where
     pub of_gates : IsForGates gates job
-    pub unused : All IsUnused job.passes
+    pub unused : AreUnused job.passes
 
   -- a connection, and one fewer is to come; none, where none is to come; or a fault
   abbrev pub IsNext : Gates → ℕ → Result (Option (Job I O)) JobFault → ℕ → Type 0

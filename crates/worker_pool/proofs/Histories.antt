@@ -50,7 +50,7 @@ seen_each (history ∷ histories) (pass ∷ passes) is h = (record { of_gate = c
 
 module _ {I O : Type 0} where
   pub all_of_gate : (shared : Gates) (ends : List (End I O)) → AreOfRun shared ends → (index : ℕ) (gate : GateId View) → slice_get shared.gates index ≡ Some gate → AreOfGate index gate ends
-  all_of_gate shared ends all index gate at = all_more (λ (end : End I O) is. of_gate end.passes shared.gates is index gate at) ends all
+  all_of_gate shared ends all index gate at = all_more (λ (end : End I O) is. of_gate end.passes.primaries shared.gates is.primaries index gate at) ends all
 
   -- the ends of which no one met a full book have the passes
   pub whole_of_run : (shared : Gates) (ends : List (End I O)) → WereOfRun shared (map counted_whole ends) → AreOfRun shared ends
@@ -74,7 +74,7 @@ module _ {I O : Type 0} where
   -- before the first gate
   pub no_history : (ends : List (End I O)) → ShareHistories [] ends []
   no_history ends = record { histories = []; of_gates = refl; tallied = tt; seen = nothing ends } where
-    nothing : (es : List (End I O)) → Every (λ (end : End I O). HaveSeen [] end.passes) es
+    nothing : (es : List (End I O)) → Every (λ (end : End I O). HaveSeen [] end.passes.primaries) es
     nothing [] = tt
     nothing (end ∷ es) = (tt, nothing es)
 
@@ -82,9 +82,9 @@ module _ {I O : Type 0} where
   pub shared_length : (gates : List (GateId View)) (ends : List (End I O)) (tallies : List Tally) → ShareHistories gates ends tallies → length tallies ≡ length gates
   shared_length gates ends tallies h = sym (pairs_length IsTally h.histories tallies h.tallied) ∙ sym (length-map h.histories (λ (history : History). history.gate)) ∙ ap length h.of_gates
 
-  all_seen_more : (histories : List History) (history : History) (index : ℕ) → index ≡ length histories → (ends : List (End I O)) → Every (λ (end : End I O). HaveSeen histories end.passes) ends → AllHaveSeen index history.events ends → Every (λ (end : End I O). HaveSeen (histories ++ history ∷ []) end.passes) ends
+  all_seen_more : (histories : List History) (history : History) (index : ℕ) → index ≡ length histories → (ends : List (End I O)) → Every (λ (end : End I O). HaveSeen histories end.passes.primaries) ends → AllHaveSeen index history.events ends → Every (λ (end : End I O). HaveSeen (histories ++ history ∷ []) end.passes.primaries) ends
   all_seen_more histories history index is [] h more = tt
-  all_seen_more histories history index is (end ∷ ends) h more = (seen_more histories history end.passes index is h.0 more.0, all_seen_more histories history index is ends h.1 more.1)
+  all_seen_more histories history index is (end ∷ ends) h more = (seen_more histories history end.passes.primaries index is h.0 more.0, all_seen_more histories history index is ends h.1 more.1)
 
   -- the next gate, with its tally
   pub one_more : (gates : List (GateId View)) (gate : GateId View) (ends : List (End I O)) (tallies : List Tally) (tally : Tally) (index : ℕ) → index ≡ length tallies → ShareHistories gates ends tallies → SharesHistory index gate ends tally → ShareHistories (gates ++ gate ∷ []) ends (tallies ++ tally ∷ [])
@@ -98,7 +98,7 @@ module _ {I O : Type 0} where
       }
 
   -- behind the last gate
-  pub each_seen : (shared : Gates) (histories : List History) → AreOfGates shared.gates histories → (ends : List (End I O)) → AreOfRun shared ends → Every (λ (end : End I O). HaveSeen histories end.passes) ends → Every (λ (end : End I O). Pairwise IsSeen histories end.passes) ends
+  pub each_seen : (shared : Gates) (histories : List History) → AreOfGates shared.gates histories → (ends : List (End I O)) → AreOfRun shared ends → Every (λ (end : End I O). HaveSeen histories end.passes.primaries) ends → Every (λ (end : End I O). Pairwise IsSeen histories end.passes.primaries) ends
   each_seen shared histories of_gates [] are h = tt
   each_seen shared histories of_gates (end ∷ ends) are h =
-      (seen_each histories end.passes (of_gates ∙ sym are.0) h.0, each_seen shared histories of_gates ends are.1 h.1)
+      (seen_each histories end.passes.primaries (of_gates ∙ sym are.0.primaries) h.0, each_seen shared histories of_gates ends are.1 h.1)

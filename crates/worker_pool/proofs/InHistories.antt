@@ -19,13 +19,14 @@ use Rattle.node_session.specs.Answered.{Answered, AllAnswered, NextReply, IsErro
 use Rattle.node_session.specs.Session.{Given, IsEnd, Stops}
 use Rattle.gate_node.specs.Asked.{Sight, EndsReaping, Reaps, ReapsUpTo, AnswersAndReaps}
 use Rattle.gate_node.specs.Gates.{Gates}
-use Rattle.gate_node.specs.GateStep.{Node, GateStep, AtIndex}
+use Rattle.gate_node.specs.GateStep.{Node, GateStep, AtPartition}
+use Rattle.gate_node.specs.Passes.{Sights}
 use Rattle.worker_pool.specs.declared.job.Job.{Job}
 use Rattle.worker_pool.specs.declared.job.End.{End}
 use Rattle.worker_pool.specs.declared.server.Served.{Served}
 use Rattle.worker_pool.specs.Serving.{EndsAtEnd, EndsAtFault, EndsWell, Joins, counted_whole}
 use Rattle.worker_pool.specs.Tallies.{History}
-use Rattle.worker_pool.specs.OneHistory.{IsSeen, StepIn, IsAnsweredIn, AnswersIn}
+use Rattle.worker_pool.specs.OneHistory.{IsSeen, StepIn, IsAnsweredAt, AnswersIn}
 
 -- a pass only sees more
 grows : (old new : Sight) → new ≡ old → IsPrefix old.prefix new.prefix
@@ -76,9 +77,10 @@ seen_at (history ∷ histories) (pass ∷ passes) zero before after at h = (hist
 seen_at (history ∷ histories) (pass ∷ passes) (suc index) before after at h = seen_at histories passes index before after at h.1
 
 -- where a step in histories answers a request
-at_answered : (histories : List History) (index : ℕ) (old new : Node) (Says : Sight → Sight → Option Quantity → Type 0) (h : AtIndex index old new Says) → Pairwise IsSeen histories new.passes → IsAnsweredIn histories index h.before h.steps.answered
-at_answered histories index old new Says h seen =
-    let found = seen_at histories old.passes index h.before h.after h.stands (subst (λ (node : Node). Pairwise IsSeen histories node.passes) h.node seen) in
+at_answered : (histories : List History) (index : ℕ) (old new : Node) (Says : Sight → Sight → Option Quantity → Type 0) (h : AtPartition index old new Says) → Pairwise IsSeen histories new.passes.primaries → IsAnsweredAt histories index old new Says h
+at_answered histories index old new Says (inr h) seen = tt
+at_answered histories index old new Says (inl h) seen =
+    let found = seen_at histories old.passes.primaries index h.before h.after h.stands (subst (λ (node : Node). Pairwise IsSeen histories node.passes.primaries) h.node seen) in
     record {
       history = found.0;
       stands = found.1;
@@ -94,7 +96,7 @@ step_answers histories old (requests.Del del) reply new step = at_answered histo
 
 module _ (histories : List History) where
   abbrev AreSeen : Node → Type 0
-  AreSeen node = Pairwise IsSeen histories node.passes
+  AreSeen node = Pairwise IsSeen histories node.passes.primaries
 
   abbrev In : Node → Request → Reply → Node → Type 0
   In = StepIn histories
@@ -102,10 +104,11 @@ module _ (histories : List History) where
   same_seen : (old new : Node) → new ≡ old → AreSeen new → AreSeen old
   same_seen old new is seen = subst AreSeen is seen
 
-  at_seen : (index : ℕ) (old new : Node) (Says : Sight → Sight → Option Quantity → Type 0) → AtIndex index old new Says → AreSeen new → AreSeen old
-  at_seen index old new Says h seen =
+  at_seen : (index : ℕ) (old new : Node) (Says : Sight → Sight → Option Quantity → Type 0) → AtPartition index old new Says → AreSeen new → AreSeen old
+  at_seen index old new Says (inr h) seen = subst AreSeen h.node seen
+  at_seen index old new Says (inl h) seen =
       let more = answers_grow old.shared.budget h.reaps (λ p q. Says p q h.quantity) h.before h.after h.steps in
-      seen_before histories old.passes index h.before h.after h.stands h.gate more (subst AreSeen h.node seen)
+      seen_before histories old.passes.primaries index h.before h.after h.stands h.gate more (subst AreSeen h.node seen)
 
   step_seen : (old : Node) (request : Request) (reply : Reply) (new : Node) → GateStep old request reply new → AreSeen new → AreSeen old
   step_seen old requests.Ping reply new h seen = same_seen old new h.1 seen
@@ -230,7 +233,7 @@ module _ (histories : List History) where
         h.1,
       )
 
-    joins_in : (job : Job I O) (served : Served I O) (before after : Node) → Pairwise IsSeen histories served.end.passes → Joins GateStep remaining contents shared job served before after → Joins In remaining contents shared job served before after
+    joins_in : (job : Job I O) (served : Served I O) (before after : Node) → Pairwise IsSeen histories served.end.passes.primaries → Joins GateStep remaining contents shared job served before after → Joins In remaining contents shared job served before after
     joins_in job served before after seen h =
         record {
           gates = h.gates;
@@ -239,11 +242,11 @@ module _ (histories : List History) where
           left = h.left;
           kept = h.kept;
           full = h.full;
-          session = session_in job served.end before after (subst (λ (ps : List Sight). Pairwise IsSeen histories ps) (sym h.left) seen) h.session;
+          session = session_in job served.end before after (subst (λ (ps : Sights). Pairwise IsSeen histories ps.primaries) (sym h.left) seen) h.session;
         }
 
     -- so the sessions of these ends were by steps in the histories
-    pub ends_in : (jobs : List (Job I O)) (ends : List (End I O)) → Every (λ (end : End I O). Pairwise IsSeen histories end.passes) ends → Pairwise (EndsWell GateStep remaining contents shared) jobs ends → Pairwise (EndsWell In remaining contents shared) jobs ends
+    pub ends_in : (jobs : List (Job I O)) (ends : List (End I O)) → Every (λ (end : End I O). Pairwise IsSeen histories end.passes.primaries) ends → Pairwise (EndsWell GateStep remaining contents shared) jobs ends → Pairwise (EndsWell In remaining contents shared) jobs ends
     ends_in [] [] seen h = tt
     ends_in [] (end ∷ ends) seen h = absurd h
     ends_in (job ∷ jobs) [] seen h = absurd h

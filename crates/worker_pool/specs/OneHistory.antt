@@ -1,5 +1,6 @@
--- One history of each vnode of a run, of which every session has seen a beginning.
-use Rattle.std.specs.Prelude.{◌≡◌, ℕ, List, [], ◌∷◌, Some, IfSome, map, slice_get}
+-- One history of the primary of each partition of a run, of which every session has seen a beginning.
+use Rattle.std.specs.Prelude.{◌≡◌, ℕ, List, [], ◌∷◌, Option, Some, IfSome, map, slice_get}
+use mathlib.Core.Logic.{inl, inr}
 use mathlib.Core.List.{IsPrefix}
 use Rattle.job_pool.specs.Lists.{Every, Pairwise}
 use Rattle.rw_gate.specs.Views.{GateId}
@@ -9,13 +10,15 @@ use Rattle.vnode_protocol.specs.Plans.{View}
 use Rattle.riak_msgs.specs.declared.Request.{Request}
 use Rattle.riak_msgs.specs.declared.Request.TheVariants as requests
 use Rattle.riak_msgs.specs.declared.Reply.{Reply}
+use Rattle.vnode_protocol.specs.declared.ask.Ask.TheVariants as asks
 use Rattle.node_session.specs.PlainNodes.{partition_of}
-use Rattle.gate_node.specs.Asked.{Sight}
+use Rattle.gate_node.specs.Asked.{Sight, Gets, Changes}
 use Rattle.gate_node.specs.Gates.{Gates}
-use Rattle.gate_node.specs.GateStep.{Node, GateStep}
+use Rattle.gate_node.specs.GateStep.{Node, GateStep, AtPartition}
+use Rattle.gate_node.specs.Passes.{ArePassesOf}
+use Rattle.stats_book.specs.declared.quantity.Quantity.{Quantity}
 use Rattle.worker_pool.specs.declared.job.End.{End}
 use Rattle.worker_pool.specs.declared.server.Served.{Served}
-use Rattle.worker_pool.specs.Serving.{ArePassesOf}
 use Rattle.worker_pool.specs.Tallies.{History, IsTally}
 
 -- a pass of this history's gate, and what it has seen is a beginning of the history
@@ -23,9 +26,9 @@ pub record IsSeen (history : History) (pass : Sight) : Type 0 where
   pub of_gate : pass.gate ≡ history.gate
   pub begins : IsPrefix pass.prefix history.events
 
--- a step of a node over gates, after which each of its passes has seen a beginning of the history in its place
+-- a step of a node over gates, after which each of its passes of a primary has seen a beginning of the history in its place
 abbrev pub StepIn : List History → Node → Request → Reply → Node → Type 0
-StepIn histories old request reply new = GateStep old request reply new × Pairwise IsSeen histories new.passes
+StepIn histories old request reply new = GateStep old request reply new × Pairwise IsSeen histories new.passes.primaries
 
 -- at this vnode a request was answered from all that a pass had then seen, with the event that the request made: these events are a
 -- beginning of the vnode's history, and so their end is a position of it
@@ -35,12 +38,18 @@ pub record IsAnsweredIn (histories : List History) (index : ℕ) (before answere
   pub of_gate : before.gate ≡ history.gate
   pub position : IsPrefix answered.prefix history.events
 
--- so is each request that a step in these histories answers, at the vnode that its key lies in
+-- where a request is answered at a partition, that is so of its primary; one that is answered at a fallback is no position of these
+-- histories
+abbrev pub IsAnsweredAt : (histories : List History) (index : ℕ) (old new : Node) (Says : Sight → Sight → Option Quantity → Type 0) → AtPartition index old new Says → Type 0
+IsAnsweredAt histories index old new Says (inl at) = IsAnsweredIn histories index at.before at.steps.answered
+IsAnsweredAt histories index old new Says (inr at) = Unit {0}
+
+-- so is each request that a step in these histories answers, at the partition that its key lies in
 abbrev pub AnswersIn : (histories : List History) (old : Node) (request : Request) (reply : Reply) (new : Node) → StepIn histories old request reply new → Type 0
 AnswersIn histories old requests.Ping reply new step = Unit {0}
-AnswersIn histories old (requests.Get get) reply new step = IsAnsweredIn histories (partition_of old.shared.index_bits get.key) step.0.before step.0.steps.answered
-AnswersIn histories old (requests.Put put) reply new step = IsAnsweredIn histories (partition_of old.shared.index_bits put.key) step.0.before step.0.steps.answered
-AnswersIn histories old (requests.Del del) reply new step = IsAnsweredIn histories (partition_of old.shared.index_bits del.key) step.0.before step.0.steps.answered
+AnswersIn histories old (requests.Get get) reply new step = IsAnsweredAt histories (partition_of old.shared.index_bits get.key) old new (λ p q. Gets get p q reply) step.0
+AnswersIn histories old (requests.Put put) reply new step = IsAnsweredAt histories (partition_of old.shared.index_bits put.key) old new (λ p q. Changes (asks.Put put) p q reply) step.0
+AnswersIn histories old (requests.Del del) reply new step = IsAnsweredAt histories (partition_of old.shared.index_bits del.key) old new (λ p q. Changes (asks.Del del) p q reply) step.0
 
 -- these are histories of the vnodes behind these gates
 abbrev pub AreOfGates : List (GateId View) → List History → Type 0
@@ -69,10 +78,10 @@ module _ {I O : Type 0} where
   WereOfRun shared all = Every (λ (served : Served I O). ArePassesOf shared served.end.passes) all
 
   abbrev pub AreOfGate : ℕ → GateId View → List (End I O) → Type 0
-  AreOfGate index gate ends = Every (λ (end : End I O). IsOfGate index gate end.passes) ends
+  AreOfGate index gate ends = Every (λ (end : End I O). IsOfGate index gate end.passes.primaries) ends
 
   abbrev pub AllHaveSeen : ℕ → List Event → List (End I O) → Type 0
-  AllHaveSeen index events ends = Every (λ (end : End I O). HasSeen index events end.passes) ends
+  AllHaveSeen index events ends = Every (λ (end : End I O). HasSeen index events end.passes.primaries) ends
 
   -- the tally is of one history of the vnode behind this gate, and what each of these ends' passes of it has seen is a beginning of that
   pub record SharesHistory (index : ℕ) (gate : GateId View) (ends : List (End I O)) (tally : Tally) : Type 0 where
@@ -85,4 +94,4 @@ module _ {I O : Type 0} where
     pub histories : List History
     pub of_gates : AreOfGates gates histories
     pub tallied : Pairwise IsTally histories tallies
-    pub seen : Every (λ (end : End I O). HaveSeen histories end.passes) ends
+    pub seen : Every (λ (end : End I O). HaveSeen histories end.passes.primaries) ends

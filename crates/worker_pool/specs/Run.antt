@@ -12,8 +12,8 @@ use Rattle.worker_pool.specs.Tallies.{History, IsTally}
 use Rattle.worker_pool.specs.OneHistory.{AreOfGates, StepIn}
 
 module _ {I O : Type 0} (remaining : I → Option (List ℕ)) (contents : O → Option (List ℕ)) (shared : Gates) where
-  -- Each of these jobs was served by one of these workers, to its end in the jobs' order. There is one history of the vnode behind each
-  -- gate: each reply of each session is at a position of it, and the vnode's tally is of all of it. The totals are what the sessions
+  -- Each of these jobs was served by one of these workers, to its end in the jobs' order. There is one history of the primary of each
+  -- partition: each reply of each session at it is at a position of that, and the primary's tally is of all of it. The totals are what the sessions
   -- counted.
   pub record ServesAll (workers : ℕ) (jobs : List (Job I O)) (closed : Closed I O) : Type 0 where
     pub histories : List History

@@ -1,5 +1,5 @@
 -- What the end of a job says.
-use Rattle.std.specs.Prelude.{◌≡◌, ℕ, false, List, Option, IfSome, MatchResult, map}
+use Rattle.std.specs.Prelude.{◌≡◌, ℕ, false, List, Option, IfSome, MatchResult}
 use Rattle.riak_msgs.specs.declared.Request.{Request}
 use Rattle.riak_msgs.specs.declared.Reply.{Reply}
 use Rattle.node_session.specs.declared.ended.Ended.{Ended}
@@ -7,16 +7,12 @@ use Rattle.node_session.specs.declared.fault.SessionFault.{SessionFault}
 use Rattle.node_session.specs.Answered.{Answered}
 use Rattle.node_session.specs.Session.{Given, IsEnd, Stops, IsTooManyReads, MadeReads}
 use Rattle.stats_book.specs.declared.totals.Totals.{Totals}
-use Rattle.gate_node.specs.Asked.{Sight}
 use Rattle.gate_node.specs.Gates.{Gates}
 use Rattle.gate_node.specs.GateStep.{Node, GateStep}
+use Rattle.gate_node.specs.Passes.{ArePassesOf}
 use Rattle.worker_pool.specs.declared.job.Job.{Job}
 use Rattle.worker_pool.specs.declared.job.End.{End}
 use Rattle.worker_pool.specs.declared.server.Served.{Served}
-
--- these passes are of the gates of this run, in their order
-abbrev pub ArePassesOf : Gates → List Sight → Type 0
-ArePassesOf shared passes = map (λ (pass : Sight). pass.gate) passes ≡ shared.gates
 
 module _ {I O : Type 0} where
   abbrev pub IsForGates : Gates → Job I O → Type 0

@@ -3,9 +3,9 @@
 //! What it means: [`Pool::run`] takes all jobs of a source, each a connection with passes of the run's gates, and gives one end for each,
 //! in the order in which the source gave the jobs (`specs/Run`: `ServesSource`). An end is what `serve` of `node_session` makes of that
 //! job's reader and writer, by a run of the step of a node over the gates (`gate_node`) from the job's passes to the end's. All these
-//! sessions are of one history of each vnode (`specs/OneHistory`: `StepIn`), and each of their replies is at a position of it
-//! ([`replies_are_at_positions`]). With the ends come the totals of what these sessions counted, each session once
-//! (`specs/Summing`: `SumsSessions`), and the tally of each vnode at the end of that history.
+//! sessions are of one history of each primary (`specs/OneHistory`: `StepIn`), and each of their replies is at a position of it, unless its
+//! partition is diverted ([`replies_are_at_positions`]). With the ends come the totals of what these sessions counted, each session once
+//! (`specs/Summing`: `SumsSessions`), and the tally of each primary at the end of that history.
 //!
 //! What it costs: what a run of `job_pool` costs, the book's lock once for each answer that is counted, and a thread for each worker. A
 //! tally is one look under a right to read, and a comparison of two numbers for each end.

@@ -161,12 +161,13 @@ impl Pool {
     /// gates from the job's passes to the end's, which may serve a later job. The totals are what the sessions of these ends counted,
     /// each session once.
     ///
-    /// There is one history of the vnode behind each gate, legal, and after each step of each session the passes have seen beginnings
+    /// There is one history of the primary of each partition, legal, and after each step of each session the passes have seen beginnings
     /// of these histories. So each reply is at a position of the history of its key's vnode
     /// ([`replies_are_at_positions`](crate::replies_are_at_positions)), and what two connections are told of one vnode fits together. The
     /// tallies are in the order of the partitions, each of the whole of that history: of one look after the workers were joined, made
     /// again where the history had gone on past the state that was found, or where an end's pass had seen more. Order in real time isn't
-    /// said, nor any order between vnodes.
+    /// said, nor any order between vnodes. In a partition that is diverted each reply is at a position of its fallback's history; that
+    /// this is one history for all sessions isn't said, and there is no tally of it.
     ///
     /// Where it is refused, the workers that were started have been joined, and what they did to the vnodes stays:
     ///

@@ -1,4 +1,4 @@
-//! What the vnodes of a run have accepted, as one history of each of which all sessions have seen beginnings.
+//! What the primaries of a run have accepted, as one history of each of which all sessions have seen beginnings.
 ghost use Rattle.std.specs.Prelude.{◌≡◌, true, IfOk, IfSome, IfErr};
 ghost use Rattle.worker_pool.specs.OneHistory.{IsOfGate, HasSeen, AreOfRun, AreOfGate, AllHaveSeen};
 ghost use Rattle.worker_pool.specs.OneHistory.{SharesHistory, ShareHistories};
@@ -34,10 +34,10 @@ fn look<X: Wait>(rt: &X, gate: &Gate<Vnode>, pass: &mut Pass<Vnode>) -> Option<T
     }
 }
 
-/// Whether the pass at this index, where there is one, has seen no more than another one of its gate.
+/// Whether the pass of the primary at this index, where there is one, has seen no more than another one of its gate.
 fn is_behind(passes: &Passes, index: usize, other: &Pass<Vnode>) -> bool
-    requires { IsOfGate index other.now.gate passes.now }
-    ensures { result ≡ true → HasSeen index other.now.prefix passes.now }
+    requires { IsOfGate index other.now.gate passes.now.primaries }
+    ensures { result ≡ true → HasSeen index other.now.prefix passes.now.primaries }
 {
     match passes.passes().get(index) {
         None => true,
@@ -45,7 +45,7 @@ fn is_behind(passes: &Passes, index: usize, other: &Pass<Vnode>) -> bool
     }
 }
 
-/// Whether none of these ends' passes at this index has seen more than another one of their gate.
+/// Whether none of these ends' passes of the primary at this index has seen more than another one of their gate.
 fn are_behind<R, W>(ends: &[End<R, W>], index: usize, other: &Pass<Vnode>) -> bool
     requires { AreOfGate index other.now.gate ends.now }
     ensures { result ≡ true → AllHaveSeen index other.now.prefix ends.now }
@@ -76,7 +76,7 @@ fn tally_of<X: Wait, R, W>(rt: &X, gate: &Gate<Vnode>, ends: &[End<R, W>], index
     unreachable!()
 }
 
-/// The tallies of the vnodes of a run, in the order of the partitions, after sessions with these ends. It waits for each vnode in turn.
+/// The tallies of the primaries of a run, in the order of the partitions, after sessions with these ends. It waits for each vnode in turn.
 pub(crate) fn tallies_of<X: Wait, R, W>(
     rt: &X,
     alloc: Global,

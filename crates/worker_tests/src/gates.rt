@@ -1,32 +1,15 @@
 //! Sessions over two gates. The key k of the bucket b lies in partition 0 of a ring of two, b/j in partition 1, by the
 //! first bytes 56 and a6 of their digests as Python's `hashlib` gives them.
-ghost use Rattle.std.specs.Prelude.{◌≡◌, map, vec_len};
-ghost use Rattle.stats_book.specs.Holdings.{AllAre};
-
 use crate::exchanges::{GET, LIVED_TWICE, TWO_LIVES, new_shared};
-use gate_node::{GateNode, Open, Passes, Shared, Turnstile};
-use node_session::{Node, serve};
-use stats_book::{Blanks, Book, Quantity, Share, Totals, close};
+use crate::playing::{Session, play};
+use gate_node::{Open, Shared, Turnstile};
+use stats_book::Totals;
 use std::alloc::Global;
-use std::marker::Brand;
 use std::process::Abort;
 use std::sync::Wait;
 use std::sync::atomic::{AtomicU64, Ordering};
-use std::sync::ledger::Ledger;
 use std::test::*;
 use std::thread::{Threads, map_indices};
-
-/// A session by a node of its own, and what it comes to.
-struct Session {
-    /// How many gets the node's share has counted before.
-    gets_before: u64,
-    requests: &'static [u8],
-    replies: &'static [u8],
-    /// Whether the book had no room for some of what was to be counted.
-    is_book_full: bool,
-    /// What the book has when it is closed.
-    totals: Totals,
-}
 
 /// Sessions over the same new gates, each of which goes on where the one before it stopped.
 struct Sessions {
@@ -199,99 +182,6 @@ const SESSIONS: &[Sessions] = &[
         calls: 12,
     },
 ];
-
-/// The requests of a session get its replies.
-fn answers<N: Node>(alloc: Global, node: &mut N, session: &Session) -> bool {
-    let mut reader = session.requests;
-    let mut written = Vec::new(alloc);
-    let is_served = serve(alloc, &mut reader, &mut written, node, 100).is_ok();
-    is_served && written.as_slice() == session.replies
-}
-
-/// Whether a node with this share answers as the session says, and finds the book as full.
-fn serve_by<W: Wait, T: Turnstile, G: Ledger, P: Ledger, D: Ledger, E: Ledger, R: Ledger>(
-    rt: &W,
-    alloc: Global,
-    shared: &Shared,
-    turnstile: &T,
-    session: &Session,
-    book: &Book<G, P, D, E, R>,
-    share: Share<G, P, D, E, R>,
-    passes: Passes,
-) -> (Share<G, P, D, E, R>, bool)
-    requires { map (λ pass. pass.gate) passes ≡ shared.now.gates }
-{
-    let mut node = GateNode::new(rt, shared, book, share, passes, turnstile);
-    let is_answered = answers(alloc, &mut node, session);
-    let (share, _passes, is_book_full) = node.parts();
-    (share, is_answered && is_book_full == session.is_book_full)
-}
-
-/// Whether a node with the one share of this book, which has counted some gets before, answers and counts as the session says.
-fn play_in<W: Wait, T: Turnstile, G: Ledger, P: Ledger, D: Ledger, E: Ledger, R: Ledger>(
-    rt: &W,
-    alloc: Global,
-    shared: &Shared,
-    turnstile: &T,
-    session: &Session,
-    book: Book<G, P, D, E, R>,
-    mut shares: Vec<Share<G, P, D, E, R>>,
-    passes: Passes,
-) -> bool
-    requires passes { map (λ pass. pass.gate) passes ≡ shared.now.gates }
-    requires one { vec_len shares ≡ 1 }
-    requires parts { AllAre 1 G.parts P.parts D.parts E.parts R.parts }
-{
-    let mut share = shares.swap_remove(0);
-    let _ = share.add(rt, &book, Quantity::Gets, session.gets_before);
-    let (share, is_well) = serve_by(rt, alloc, shared, turnstile, session, &book, share, passes);
-    shares.push_reserved(share);
-    let totals = close(book, shares);
-    is_well && totals == session.totals
-}
-
-/// Whether a session by a new node over these gates, with these passes, comes to what it says.
-fn play_by<W: Wait, T: Turnstile, G: Ledger, P: Ledger, D: Ledger, E: Ledger, R: Ledger>(
-    rt: &W,
-    alloc: Global,
-    shared: &Shared,
-    turnstile: &T,
-    session: &Session,
-    passes: Passes,
-    blanks: Blanks,
-) -> bool
-    requires passes { map (λ pass. pass.gate) passes ≡ shared.now.gates }
-    requires gets { (blanks.gets.name ≡ G.name) × (blanks.gets.parts ≡ G.parts) }
-    requires puts { (blanks.puts.name ≡ P.name) × (blanks.puts.parts ≡ P.parts) }
-    requires deletes { (blanks.deletes.name ≡ D.name) × (blanks.deletes.parts ≡ D.parts) }
-    requires refusals { (blanks.refusals.name ≡ E.name) × (blanks.refusals.parts ≡ E.parts) }
-    requires reaps { (blanks.reaps.name ≡ R.name) × (blanks.reaps.parts ≡ R.parts) }
-    requires parts { AllAre 1 G.parts P.parts D.parts E.parts R.parts }
-{
-    match Book::<G, P, D, E, R>::new(alloc, 1, blanks) {
-        Ok((book, shares)) => play_in(rt, alloc, shared, turnstile, session, book, shares, passes),
-        Err(_) => false,
-    }
-}
-
-/// The same with new passes, by ledgers that no caller names.
-fn play<W: Wait, T: Turnstile>(
-    rt: &W,
-    alloc: Global,
-    shared: &Shared,
-    turnstile: &T,
-    session: &Session,
-) -> bool {
-    match Passes::new(alloc, shared) {
-        Ok(passes) => {
-            let blanks = Blanks::new(1);
-            play_by::<W, T, Brand, Brand, Brand, Brand, Brand>(
-                rt, alloc, shared, turnstile, session, passes, blanks,
-            )
-        }
-        Err(_) => false,
-    }
-}
 
 /// Keeps the numbers of the calls, a decimal digit each.
 #[derive(Drop)]

@@ -1,5 +1,6 @@
-use Rattle.std.proofs.Common.{◌∙◌, ap, sym}
+use Rattle.std.proofs.Common.{◌∙◌, ap, sym, subst}
 use Rattle.gate_node.specs.GateStep.{GateStep}
+use Rattle.gate_node.specs.Passes.{ArePassesOf}
 use Rattle.worker_pool.specs.declared.job.End.{End}
 use Rattle.worker_pool.specs.declared.server.Served.{Served}
 use Rattle.worker_pool.specs.Serving.{Joins}
@@ -23,7 +24,7 @@ returns g c =
       passes = c.new-node.ensures.passes;
       begins = ap (λ n. n.book_full) c.new-node.ensures.count;
       left = sym c.parts-share.ensures.passes;
-      kept = c.parts-share.ensures.gates ∙ ap (λ s. s.gates) same;
+      kept = subst (λ s. ArePassesOf s c.parts-share.result.1) same c.parts-share.ensures.gates;
       full = sym c.parts-share.ensures.full;
       session = session_kept remaining contents shared c.args.job before after c.serve-result.new.reader c.serve-result.new.writer c.reads.result c.reads.ensures.reads end c.ended.ensures c.ended-2.ensures said.ended said.all said.stopped said.too_many;
     } in

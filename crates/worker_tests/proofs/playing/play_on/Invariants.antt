@@ -1,4 +1,4 @@
-use Rattle.worker_tests.proofs.gates.play.Given as goal
+use Rattle.worker_tests.proofs.playing.play_on.Given as goal
 
 abbrev pub ghosts-play_by-G-Ledger : goal.ghosts-play_by-G-Ledger
 ghosts-play_by-G-Ledger g a = record { name = a.blanks.gets.name; parts = a.blanks.gets.parts }

@@ -1,0 +1,29 @@
+use Rattle.std.proofs.Common.{◌≡◌, ◌<◌, ◌^◌, ◌∙◌, ap, sym, subst, length}
+use Rattle.std.specs.Prelude.{Some, None, slice_get}
+use Rattle.handoff.specs.Partitions.{AreOfNewRun}
+use Rattle.gate_node.specs.Asked.{Gets}
+use Rattle.gate_node.specs.Gates.{Gates}
+use Rattle.gate_node.specs.GateStep.{Node}
+use Rattle.gate_node.proofs.Opened.{same_gates, at_index, within_passes}
+use Rattle.gate_node.proofs.node.GateNode.get_at_primary.Goals as goal
+
+pub invariant_of-self : goal.invariant_of-self
+invariant_of-self g c = record {
+  primaries = same_gates c.self.inside.primaries.items c.args.index c.index_mut-pass.result.now c.get_and_reap-answered.new.pass c.index_mut-pass.ensures.value c.get_and_reap-answered.ensures.gate ∙ c.self.invariant.primaries;
+  fallbacks = c.self.invariant.fallbacks;
+}
+
+pub returns : goal.returns
+returns g c =
+    let shared = c.self.inside.shared.now in
+    let primaries = c.self.inside.primaries.items in
+    let size : length shared.gates ≡ 2 ^ shared.index_bits
+    = subst (λ (s : Gates). length s.gates ≡ 2 ^ s.index_bits) c.shared.view_is (ap length (sym c.gates-gates.ensures.gates) ∙ c.gates-gates.ensures.size) in
+    let all = subst (λ (s : Gates). AreOfNewRun s.run s.gates) c.shared.view_is c.gates-gates.ensures.new_run in
+    let none = subst (λ (n : Node). slice_get n.shared.fallbacks c.args.index ≡ Some None) (sym c.self.view_is) c.requires.undiverted in
+    let asked = subst (λ (n : Node). c.args.index < 2 ^ n.shared.index_bits) (sym c.self.view_is) c.requires.within in
+    let within = within_passes primaries shared.gates (2 ^ shared.index_bits) c.args.index c.self.invariant.primaries size asked in
+    rw (← c.self.view_is)
+    (at_index (record { shared = shared; passes = record { primaries = primaries; fallbacks = c.self.inside.fallbacks.items }; count = c.self.inside.counter }) c.args.index c.index_mut-pass.result.now c.get_and_reap-answered.new.pass
+    (λ p q quantity. Gets c.args.get.now p q c.get_and_reap-answered.result.reply quantity) c.get_and_reap-answered.result.quantity c.get_and_reap-answered.result.reaps c.count_answer.new.self all c.self.invariant.primaries none within c.index_mut-pass.ensures.value
+    c.get_and_reap-answered.ensures.gate c.get_and_reap-answered.ensures.steps c.count_answer.ensures)

@@ -1,0 +1,113 @@
+//! A caller's passes of the gates of a run, and of the fallbacks that it met.
+ghost use Rattle.std.specs.Prelude.{◌≡◌, IfOk, IsOkUnless, All, length, map};
+ghost use Rattle.handoff.specs.Partitions.{AreNone};
+ghost use Rattle.gate_node.specs.Passes.{ArePassesOf, AreUnused, IsUnused, Fits, IsRenewed, is_of};
+
+use crate::fault::PoolFault;
+use crate::shared::Shared;
+use handoff::Fallback;
+use rw_gate::{Gate, Pass};
+use std::alloc::{AllocError, Global};
+use std::marker::Model;
+use vnode_core::Vnode;
+
+/// A pass of a partition's fallback, and the number of its diversion.
+#[derive(Drop)]
+pub struct FallbackPass {
+    pub diversion: u32,
+    pub pass: Pass<Vnode>,
+}
+
+/// A caller's pass of each gate of a run, in the partitions' order, and one of the fallback of each partition where the caller met one.
+///
+/// They outlive a diversion: by the same passes a node may go on over the gates when a partition was diverted
+/// ([`passes_outlive_diversions`](crate::passes_outlive_diversions)).
+#[derive(Drop)]
+pub struct Passes {
+    pub(crate) primaries: Vec<Pass<Vnode>>,
+    pub(crate) fallbacks: Vec<Option<FallbackPass>>,
+}
+
+impl Model for Passes {
+    ghost use Rattle.gate_node.specs.Passes.{Sights};
+
+    ghost Value = { Sights };
+
+    ghost view = { λ p. record {
+      primaries = p.primaries.items;
+      fallbacks = p.fallbacks.items;
+    } };
+}
+
+/// A pass of each gate.
+fn new_passes(alloc: Global, gates: &[Gate<Vnode>]) -> Result<Vec<Pass<Vnode>>, AllocError>
+    ensures gates { IfOk result (λ passes. map (λ pass. pass.gate) passes.items ≡ gates.now) }
+    ensures new { IfOk result (λ passes. All IsUnused passes.items) }
+{
+    let mut passes = Vec::with_capacity(alloc, gates.len())?;
+    for gate in gates {
+        passes.push(gate.pass())?;
+    }
+    Ok(passes)
+}
+
+/// The place of a fallback's pass for each of so many partitions, with nothing there.
+fn empty_places(alloc: Global, size: usize) -> Result<Vec<Option<FallbackPass>>, AllocError>
+    ensures none { IfOk result (λ places. AreNone places.items) }
+    ensures size { IfOk result (λ places. length places.items ≡ size) }
+{
+    let mut places = Vec::with_capacity(alloc, size)?;
+    for index in 0..size {
+        let _ = index;
+        places.push(None)?;
+    }
+    Ok(places)
+}
+
+/// Whether the pass that is kept is of this fallback.
+fn is_of(fallback: &Fallback, kept: &Option<FallbackPass>) -> bool
+    ensures { result ≡ is_of fallback.now kept.now }
+{
+    match kept {
+        Some(kept) => kept.diversion == fallback.diversion,
+        None => false,
+    }
+}
+
+/// Keeps a pass of this fallback: the one that is kept, where it is of this diversion, else a new one.
+pub(crate) fn renew(kept: &mut Option<FallbackPass>, fallback: &Fallback)
+    requires { Fits (Some fallback.now) kept.old }
+    ensures { IsRenewed fallback.now kept.old kept.new }
+{
+    if is_of(fallback, kept) {
+        return;
+    }
+    *kept = Some(FallbackPass {
+        diversion: fallback.diversion,
+        pass: fallback.gate.pass(),
+    });
+}
+
+impl Passes {
+    /// A pass of each gate, which has seen nothing. Refused where memory is.
+    pub fn new(alloc: Global, shared: &Shared) -> Result<Passes, PoolFault>
+        ensures gates { IfOk result (ArePassesOf shared.now) }
+        ensures new { IfOk result AreUnused }
+        ensures only { IsOkUnless result PoolFault.NoMemory }
+    {
+        let gates = shared.handoff.gates();
+        let primaries = new_passes(alloc, gates)?;
+        let fallbacks = empty_places(alloc, gates.len())?;
+        Ok(Passes {
+            primaries,
+            fallbacks,
+        })
+    }
+
+    /// The passes of the primaries, in the partitions' order.
+    pub fn passes(&self) -> &[Pass<Vnode>]
+        ensures { result.now ≡ self.now.primaries }
+    {
+        self.primaries.as_slice()
+    }
+}

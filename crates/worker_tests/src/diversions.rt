@@ -1,0 +1,255 @@
+//! Sessions over the gates of a run, before and after its partition 0 is diverted. The key k of the bucket b lies in that partition of a
+//! ring of one or of two; b/j in partition 0 of one, in partition 1 of two. The id of the primary of partition 0 is 65,536, that of its
+//! fallback 98,304.
+ghost use Rattle.std.specs.Prelude.{IfSome};
+ghost use Rattle.gate_node.specs.Passes.{Sights, ArePassesOf};
+
+use crate::exchanges::new_shared;
+use crate::playing::{Session, play_on};
+use gate_node::{Open, Passes, Shared};
+use handoff::HandoffFault;
+use stats_book::Totals;
+use std::alloc::Global;
+use std::process::Abort;
+use std::sync::Wait;
+use std::test::*;
+use vnode_core::Tally;
+
+/// A session, the diversion of partition 0, and a session over the same gates and the fallback by the passes that the first one left.
+struct Diversion {
+    shows: &'static str,
+    partitions: u16,
+    /// How many dead keys a vnode forgets after an answer.
+    budget: u32,
+    before: Session,
+    after: Session,
+    /// What the primary of partition 0 has accepted in all.
+    tally: Tally,
+}
+
+/// A put of "p" on b/k.
+const PUT_P: &[u8] = b"\0\0\0\x0c\x0b\x0a\x01b\x12\x01k\x22\x03\x0a\x01p";
+
+/// Stored.
+const STORED: &[u8] = b"\0\0\0\x01\x0c";
+
+/// A get of b/k; a put of "f" on it by the context of the primary's first dot, in version 1; a get of it; a put of "g" on b/j, and a get
+/// of that.
+const PUT_F_AND_G: &[u8] =
+    b"\0\0\0\x07\x09\x0a\x01b\x12\x01k\0\0\0\x1f\x0b\x0a\x01b\x12\x01k\x1a\x11\x01\0\0\0\0\0\x01\0\0\0\0\0\x01\0\0\0\x01\x22\x03\x0a\x01f\0\0\0\x07\x09\x0a\x01b\x12\x01k\0\0\0\x0c\x0b\x0a\x01b\x12\x01j\x22\x03\x0a\x01g\0\0\0\x07\x09\x0a\x01b\x12\x01j";
+
+/// Nothing; stored; "f", with the primary's dot and the first of the fallback's first epoch; stored; "g", with the first dot of its second.
+const F_AND_G: &[u8] =
+    b"\0\0\0\x01\x0a\0\0\0\x01\x0c\0\0\0\x31\x0a\x0a\x03\x0a\x01f\x12\x29\x02\0\0\0\0\0\x01\0\0\0\0\0\x01\0\0\0\0\0\0\0\x01\0\0\0\0\0\x01\x80\0\0\0\0\x01\0\0\0\0\0\0\0\x01\0\0\0\x01\x0c\0\0\0\x1d\x0a\x0a\x03\x0a\x01g\x12\x15\x02\0\0\0\0\0\x01\x80\0\0\0\0\x02\0\0\0\0\0\0\0\x01";
+
+/// Puts of "p" on b/k and of "u" on b/j.
+const PUT_P_AND_U: &[u8] =
+    b"\0\0\0\x0c\x0b\x0a\x01b\x12\x01k\x22\x03\x0a\x01p\0\0\0\x0c\x0b\x0a\x01b\x12\x01j\x22\x03\x0a\x01u";
+
+/// Stored, twice.
+const STORED_TWICE: &[u8] = b"\0\0\0\x01\x0c\0\0\0\x01\x0c";
+
+/// Gets of b/k and of b/j.
+const GET_BOTH: &[u8] = b"\0\0\0\x07\x09\x0a\x01b\x12\x01k\0\0\0\x07\x09\x0a\x01b\x12\x01j";
+
+/// Nothing; "u", with the first dot of the vnode 65,537.
+const NOTHING_U: &[u8] =
+    b"\0\0\0\x01\x0a\0\0\0\x1d\x0a\x0a\x03\x0a\x01u\x12\x15\x02\0\0\0\0\0\x01\0\x01\0\0\0\x01\0\0\0\0\0\0\0\x01";
+
+/// A put of "f" on b/k and a delete of it.
+const PUT_DELETE: &[u8] =
+    b"\0\0\0\x0c\x0b\x0a\x01b\x12\x01k\x22\x03\x0a\x01f\0\0\0\x07\x0d\x0a\x01b\x12\x01k";
+
+/// Stored; deleted.
+const STORED_DELETED: &[u8] = b"\0\0\0\x01\x0c\0\0\0\x01\x0e";
+
+const DIVERSIONS: &[Diversion] = &[
+    Diversion {
+        shows: "a fallback answers over a history of its own, and keeps what a context covers",
+        partitions: 1,
+        budget: 0,
+        before: Session {
+            gets_before: 0,
+            requests: PUT_P,
+            replies: STORED,
+            is_book_full: false,
+            totals: Totals {
+                gets: 0,
+                puts: 1,
+                deletes: 0,
+                refusals: 0,
+                reaps: 0,
+            },
+        },
+        after: Session {
+            gets_before: 0,
+            requests: PUT_F_AND_G,
+            replies: F_AND_G,
+            is_book_full: false,
+            totals: Totals {
+                gets: 3,
+                puts: 2,
+                deletes: 0,
+                refusals: 0,
+                reaps: 0,
+            },
+        },
+        tally: Tally {
+            writes: 1,
+            tombstones: 0,
+            reaps: 0,
+        },
+    },
+    Diversion {
+        shows: "another partition is answered at its primary still",
+        partitions: 2,
+        budget: 0,
+        before: Session {
+            gets_before: 0,
+            requests: PUT_P_AND_U,
+            replies: STORED_TWICE,
+            is_book_full: false,
+            totals: Totals {
+                gets: 0,
+                puts: 2,
+                deletes: 0,
+                refusals: 0,
+                reaps: 0,
+            },
+        },
+        after: Session {
+            gets_before: 0,
+            requests: GET_BOTH,
+            replies: NOTHING_U,
+            is_book_full: false,
+            totals: Totals {
+                gets: 2,
+                puts: 0,
+                deletes: 0,
+                refusals: 0,
+                reaps: 0,
+            },
+        },
+        tally: Tally {
+            writes: 1,
+            tombstones: 0,
+            reaps: 0,
+        },
+    },
+    Diversion {
+        shows: "no dead key is forgotten at a fallback",
+        partitions: 1,
+        budget: 1,
+        before: Session {
+            gets_before: 0,
+            requests: PUT_P,
+            replies: STORED,
+            is_book_full: false,
+            totals: Totals {
+                gets: 0,
+                puts: 1,
+                deletes: 0,
+                refusals: 0,
+                reaps: 0,
+            },
+        },
+        after: Session {
+            gets_before: 0,
+            requests: PUT_DELETE,
+            replies: STORED_DELETED,
+            is_book_full: false,
+            totals: Totals {
+                gets: 0,
+                puts: 1,
+                deletes: 1,
+                refusals: 0,
+                reaps: 0,
+            },
+        },
+        tally: Tally {
+            writes: 1,
+            tombstones: 0,
+            reaps: 0,
+        },
+    },
+];
+
+/// The gates with partition 0 diverted, which can't be diverted again; they have the passes that they had. None where memory is refused,
+/// or the second diversion isn't.
+fn divert(alloc: Global, shared: Shared, budget: u32) -> Option<Shared>
+    ensures { IfSome result (λ diverted.
+        (passes : Sights) → ArePassesOf shared passes → ArePassesOf diverted passes) }
+{
+    let mut handoff = shared.into_handoff();
+    if handoff.divert(alloc, 0).is_err() {
+        return None;
+    }
+    match handoff.divert(alloc, 0) {
+        Err(HandoffFault::AlreadyDiverted) => Some(Shared::over(handoff, budget, 100)),
+        _ => None,
+    }
+}
+
+/// What the primary of partition 0 has accepted.
+fn first_tally<W: Wait>(rt: &W, shared: &Shared) -> Option<Tally> {
+    let gate = shared.gates().first()?;
+    let mut pass = gate.pass();
+    let right = gate.read(rt);
+    let tally = match right.look(&mut pass) {
+        Ok(vnode) => Some(vnode.tally()),
+        Err(_) => None,
+    };
+    right.release();
+    tally
+}
+
+/// Whether the second session of a row, by these passes, comes to what it says, and the primary has accepted what it says.
+fn play_after<W: Wait>(
+    rt: &W,
+    alloc: Global,
+    shared: &Shared,
+    row: &Diversion,
+    passes: Passes,
+) -> bool
+    requires { ArePassesOf shared.now passes }
+{
+    play_on(rt, alloc, shared, &Open, &row.after, passes).is_some()
+        && first_tally(rt, shared) == Some(row.tally)
+}
+
+/// Whether the sessions of a row, by these passes, come to what they say.
+fn play_both<W: Wait>(
+    rt: &W,
+    alloc: Global,
+    shared: Shared,
+    row: &Diversion,
+    passes: Passes,
+) -> bool
+    requires { ArePassesOf shared passes }
+{
+    let Some(passes) = play_on(rt, alloc, &shared, &Open, &row.before, passes) else {
+        return false;
+    };
+    match divert(alloc, shared, row.budget) {
+        Some(shared) => play_after(rt, alloc, &shared, row, passes),
+        None => false,
+    }
+}
+
+/// The same over new gates by new passes.
+fn play_anew<W: Wait>(rt: &W, alloc: Global, row: &Diversion) -> bool {
+    let Some(shared) = new_shared(alloc, row.partitions, row.budget) else {
+        return false;
+    };
+    match Passes::new(alloc, &shared) {
+        Ok(passes) => play_both(rt, alloc, shared, row, passes),
+        Err(_) => false,
+    }
+}
+
+#[test]
+fn diverted_calls_are_for_the_fallback(rt: HostRuntime) {
+    for row in DIVERSIONS {
+        assert!(rt; play_anew(&rt, rt.alloc(), row), "{}", row.shows);
+    }
+}
