@@ -150,6 +150,26 @@ fn feed_all(alloc: Global, session: &mut Session, node: &mut PlainNode, pieces: 
     Pause::Idle
 }
 
+/// Feeds all pieces so many times.
+fn feed_times(
+    alloc: Global,
+    session: &mut Session,
+    node: &mut PlainNode,
+    pieces: &[&[u8]],
+    times: u32,
+) -> Pause
+    requires going { session.old.fault ≡ None }
+    requires idle { IsPartial max_request_len session.old.rest }
+{
+    for _ in 0..times {
+        match feed_all(alloc, session, node, pieces) {
+            Pause::Idle => {}
+            other => return other,
+        }
+    }
+    Pause::Idle
+}
+
 /// Whether these bytes are to be sent next. They are sent, so many at a time.
 fn is_sent(session: &mut Session, bytes: &[u8], most: usize) -> bool {
     if most == 0 {
@@ -180,13 +200,7 @@ fn stands(alloc: Global, row: &Row) -> bool {
         return false;
     };
     let mut session = Session::new(alloc);
-    let mut pause = Pause::Idle;
-    for _ in 0..row.times {
-        pause = feed_all(alloc, &mut session, &mut node, row.pieces);
-        if pause != Pause::Idle {
-            break;
-        }
-    }
+    let pause = feed_times(alloc, &mut session, &mut node, row.pieces, row.times);
     pause == row.pause && session.rest() == row.rest && is_all_sent(&mut session, row)
 }
 
