@@ -10,13 +10,12 @@ use Rattle.riak_msgs.specs.declared.Reply.{Reply}
 use Rattle.stats_book.specs.declared.quantity.Quantity.{Quantity}
 use Rattle.job_pool.specs.Lists.{Every, Pairwise}
 use Rattle.rw_gate.proofs.Prefixes.{prefix_trans}
-use Rattle.vnode_protocol.specs.declared.event.Event.{Event}
 use Rattle.node_session.specs.declared.ended.Ended.{Ended}
 use Rattle.node_session.specs.declared.fault.SessionFault.{SessionFault}
 use Rattle.node_session.specs.declared.fault.SessionFault.TheVariants.{ReadFailed, WriteFailed, BadFrame, TooManyReads, NoMemory}
 use Rattle.node_session.specs.Answers.{AnswersRead, Run}
 use Rattle.node_session.specs.Answered.{Answered, AllAnswered, NextReply, IsError, IsBad, WriteFailedAt, IsOutOfMemory, AtLastRead}
-use Rattle.node_session.specs.Session.{Given, IsEnd, Stops}
+use Rattle.node_session.specs.Session.{IsEnd, Stops}
 use Rattle.gate_node.specs.Asked.{Sight, EndsReaping, Reaps, ReapsUpTo, AnswersAndReaps}
 use Rattle.gate_node.specs.Gates.{Gates}
 use Rattle.gate_node.specs.GateStep.{Node, GateStep, AtPartition}

@@ -181,8 +181,9 @@ fn divert(alloc: Global, shared: Shared, budget: u32) -> Option<Shared>
         (passes : Sights) → ArePassesOf shared passes → ArePassesOf diverted passes) }
 {
     let mut handoff = shared.into_handoff();
-    if handoff.divert(alloc, 0).is_err() {
-        return None;
+    match handoff.divert(alloc, 0) {
+        Ok(()) => {}
+        Err(_) => return None,
     }
     match handoff.divert(alloc, 0) {
         Err(HandoffFault::AlreadyDiverted) => Some(Shared::over(handoff, budget, 100)),
