@@ -6,7 +6,7 @@ ghost use Rattle.node_session.specs.Answers.{reply_frame};
 ghost use Rattle.node_session.specs.Unsent.{PutsReply, whole, IsFront};
 
 use crate::error_frame::error_frame;
-use crate::reply::encode_reply;
+use crate::reply::fill_frame;
 use riak_msgs::{Reply, Text};
 use std::alloc::{AllocError, Global};
 use std::marker::Model;
@@ -14,7 +14,19 @@ use std::marker::Model;
 /// How many bytes that wait keep a further message from being answered.
 const GATHERED: usize = 65_536;
 
-/// The frames of replies that were not yet sent. The frame of a reply is kept in its own buffer where nothing else waits.
+/// How much of a buffer in which nothing waits is kept for the replies to come.
+const MAX_IDLE_CAPACITY: usize = 65_536;
+
+/// Lets go of what a large reply took.
+fn shrink_empty(bytes: &mut Vec<u8>)
+    ensures { bytes.new.items ≡ bytes.old.items }
+{
+    if bytes.is_empty() && bytes.capacity() > MAX_IDLE_CAPACITY {
+        bytes.shrink_to_fit();
+    }
+}
+
+/// The frames of replies that were not yet sent. Where nothing waits, a reply is encoded into the buffer of those before it.
 #[derive(Drop)]
 pub(crate) struct Outbox {
     // Those before `sent` were sent.
@@ -78,20 +90,24 @@ impl Outbox {
             self.late = &self.late[n - waits..];
             self.frames.clear();
             self.sent = 0;
+            shrink_empty(&mut self.frames);
         }
     }
 
-    /// Puts a frame behind the others.
-    fn put_frame(&mut self, frame: Vec<u8>) -> Result<(), AllocError>
+    /// Puts the frame of a reply, which is let go, behind the others.
+    fn put_frame(&mut self, alloc: Global, reply: Reply) -> Result<(), AllocError>
         requires { self.old.late ≡ [] }
-        ensures ok { OnOk result (self.new ≡ record { frames = self.old.frames ++ frame.items; late = [] }) }
+        ensures ok { OnOk result
+            (self.new ≡ record { frames = self.old.frames ++ reply_frame reply; late = [] }) }
         ensures err { OnErr result (self.new ≡ self.old) }
     {
         if self.sent == self.frames.len() {
-            self.frames = frame;
+            self.frames.clear();
             self.sent = 0;
-            return Ok(());
+            return fill_frame(&mut self.frames, reply);
         }
+        let mut frame = Vec::new(alloc);
+        fill_frame(&mut frame, reply)?;
         self.frames.extend_from_slice(&frame)
     }
 
@@ -106,7 +122,7 @@ impl Outbox {
         }
     }
 
-    /// Puts a reply behind them. The reply is let go before its frame is kept, so that no more than the two frames is held.
+    /// Puts a reply behind them, and lets it go.
     pub(crate) fn put(&mut self, alloc: Global, reply: Reply) -> Result<(), AllocError>
         requires { self.old.late ≡ [] }
         ensures { PutsReply reply self.old self.new result }
@@ -116,12 +132,7 @@ impl Outbox {
                 self.put_error(text);
                 Ok(())
             }
-            other => {
-                let Some(frame) = encode_reply(alloc, other) else {
-                    return Err(AllocError);
-                };
-                self.put_frame(frame)
-            }
+            other => self.put_frame(alloc, other),
         }
     }
 }

@@ -1,11 +1,11 @@
 //! Replies as frames.
 
-ghost use Rattle.std.specs.Prelude.{◌≡◌, IfSome};
+ghost use Rattle.std.specs.Prelude.{◌≡◌, ◌++◌, [], IfSome, OnOk, OnErr};
 ghost use Rattle.node_session.specs.Answers.{reply_frame, message_fault_text, frame_fault_text};
 
 use pb_frame::{FrameFault, HEADER_LEN, header};
 use riak_msgs::{MsgFault, Reply, Text};
-use std::alloc::Global;
+use std::alloc::AllocError;
 
 /// The text of the error for a message that is no request.
 pub(crate) fn message_fault_text(fault: MsgFault) -> Text
@@ -32,21 +32,30 @@ pub(crate) fn frame_fault_text(fault: FrameFault) -> Text
     }
 }
 
-/// The frame of a reply, which is let go. None where memory is refused.
-pub(crate) fn encode_reply(alloc: Global, reply: Reply) -> Option<Vec<u8>>
-    ensures { IfSome result (λ v. v.items ≡ reply_frame reply) }
-{
-    try_encode_reply(alloc, &reply)
-}
-
-/// The frame of a reply, in one buffer that is made at its full size: the header, and the body behind it.
-fn try_encode_reply(alloc: Global, reply: &Reply) -> Option<Vec<u8>>
-    ensures { IfSome result (λ v. v.items ≡ reply_frame reply.now) }
+/// Puts the frame of a reply behind what a buffer has, which is made large enough first: the header, and the body behind it. None where
+/// memory is refused: a part may be there then.
+fn append_frame(out: &mut Vec<u8>, reply: &Reply) -> Option<()>
+    ensures { IfSome result (λ _. out.new.items ≡ out.old.items ++ reply_frame reply.now) }
 {
     let len = reply.body_len().ok()?;
     let header = header(reply.code(), len).ok()?;
-    let mut frame = Vec::with_capacity(alloc, HEADER_LEN.saturating_add(len)).ok()?;
-    frame.extend_from_slice(&header).ok()?;
-    reply.append_body(&mut frame).ok()?;
-    Some(frame)
+    out.reserve(HEADER_LEN.saturating_add(len)).ok()?;
+    out.extend_from_slice(&header).ok()?;
+    reply.append_body(out).ok()?;
+    Some(())
+}
+
+/// Puts the frame of a reply, which is let go, into an empty buffer. Where memory is refused it stays empty.
+pub(crate) fn fill_frame(out: &mut Vec<u8>, reply: Reply) -> Result<(), AllocError>
+    requires { out.old.items ≡ [] }
+    ensures ok { OnOk result (out.new.items ≡ reply_frame reply) }
+    ensures err { OnErr result (out.new.items ≡ []) }
+{
+    match append_frame(out, &reply) {
+        Some(()) => Ok(()),
+        None => {
+            out.clear();
+            Err(AllocError)
+        }
+    }
 }
