@@ -20,6 +20,7 @@
 //! the place that was reserved, and is one search among d where the key was dead or may be. A look for a dead key is a search among d; forgetting the least
 //! one is a search among d and one among n, and forgetting the least one at or after a key also passes over the dead keys
 //! before that.
+//! The next key is a search among n, and one more where a spare place lies there. A sync costs what a write of a tombstone does.
 //! Room that a write never used is taken away by a search among n where the key was new, and a pass over the d dead keys
 //! where it was a tombstone's.
 //! A key's bytes are held once, a second time while it is dead or may be, and a second time while a new key has room.

@@ -14,10 +14,10 @@
 //! A store means the keys in their order, each with the actor of its life and its clock, the place of each, and the room
 //! that was made for one write (`Contents` in `specs/Contents`). [`ClockStore`] is what each form of storage promises over
 //! that meaning; a form says by its ghost view `shows` what its own bytes mean, and where it keeps room is its own matter.
-//! What a write leaves of the keys is `written` and `overwritten` in `specs/Keys`, what a reap leaves is in
+//! What a write leaves of the keys is `written` and `overwritten` in `specs/Keys`, what a sync leaves is `synced` there, what a reap leaves is in
 //! `specs/Forgetting`.
 //!
-//! Memory is taken by `reserve` alone, before a write is accepted: a write, a reap and a look take none and can't be
+//! Memory is taken by `reserve` and `reserve_sync` alone, before a write or a sync is accepted: these, a reap and a look take none and can't be
 //! refused. A form may be asked for room again and again without a write between: the next `reserve` or `drop_room`
 //! ends the room before it.
 //!

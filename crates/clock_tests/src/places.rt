@@ -1,6 +1,6 @@
 //! Places of keys in more than one bucket type and bucket, each call tried again where memory is refused.
 
-use place_map::PlaceMap;
+use place_map::{KeyRef, PlaceMap};
 use riak_msgs::{BucketType, Bytes, Key};
 use std::alloc::{AllocError, Global};
 
@@ -67,30 +67,33 @@ const KEYS: &[&Names] = &[
 /// The place of each of [`KEYS`].
 type Places = [Option<usize>; 6];
 
+const OTHER_KEY: &Names = &Names {
+    bucket_type: b"default",
+    bucket: b"b",
+    key: LONGER,
+};
+
+const OTHER_BUCKET: &Names = &Names {
+    bucket_type: b"default",
+    bucket: LONGER,
+    key: b"k",
+};
+
+const OTHER_TYPE: &Names = &Names {
+    bucket_type: LONGER,
+    bucket: b"b",
+    key: b"k",
+};
+
+const EXCHANGED: &Names = &Names {
+    bucket_type: b"default",
+    bucket: b"k",
+    key: b"b",
+};
+
 /// Keys that the tests never insert: one of another key, one of another bucket, one of another bucket type, and one whose
 /// bucket and key are exchanged.
-const OTHERS: &[Names] = &[
-    Names {
-        bucket_type: b"default",
-        bucket: b"b",
-        key: LONGER,
-    },
-    Names {
-        bucket_type: b"default",
-        bucket: LONGER,
-        key: b"k",
-    },
-    Names {
-        bucket_type: LONGER,
-        bucket: b"b",
-        key: b"k",
-    },
-    Names {
-        bucket_type: b"default",
-        bucket: b"k",
-        key: b"b",
-    },
-];
+const OTHERS: &[&Names] = &[OTHER_KEY, OTHER_BUCKET, OTHER_TYPE, EXCHANGED];
 
 /// What is done to a map, and what comes of it.
 enum Step {
@@ -102,9 +105,13 @@ enum Step {
     Get(&'static Names, Option<usize>),
     /// Each of [`KEYS`] has its place of these, and no other key has one.
     Holds(Places),
+    /// The least key behind this one (None: of all), with its place.
+    Next(Option<&'static Names>, Option<(&'static Names, usize)>),
+    /// All keys are removed.
+    Clear,
 }
 
-use Step::{Get, Holds, Insert, Remove};
+use Step::{Clear, Get, Holds, Insert, Next, Remove};
 
 /// Steps of a new map: first those that make it, and then others.
 struct Row {
@@ -164,6 +171,35 @@ const ROWS: &[Row] = &[
             Holds([None, None, None, None, None, None]),
             Insert(ALL_LONG, 7),
             Holds([None, None, None, None, Some(7), None]),
+        ],
+    },
+    Row {
+        shows: "behind each key comes the next, from bucket to bucket and from type to type",
+        first: SIX,
+        then: &[
+            Next(None, Some((ALL_LONG, 5))),
+            Next(Some(ALL_LONG), Some((LONGER_KEY, 6))),
+            Next(Some(LONGER_KEY), Some((LONG_TYPE, 4))),
+            Next(Some(LONG_TYPE), Some((LONG_BUCKET, 3))),
+            Next(Some(LONG_BUCKET), Some((LONG_KEY, 2))),
+            Next(Some(LONG_KEY), Some((SHORT, 1))),
+            Next(Some(SHORT), None),
+            // Keys that aren't held: of a bucket with a key behind, of a bucket and a type that aren't held, and behind all.
+            Next(Some(OTHER_KEY), Some((SHORT, 1))),
+            Next(Some(OTHER_BUCKET), Some((LONG_KEY, 2))),
+            Next(Some(OTHER_TYPE), Some((LONG_BUCKET, 3))),
+            Next(Some(EXCHANGED), None),
+        ],
+    },
+    Row {
+        shows: "where all keys are removed there is none",
+        first: SIX,
+        then: &[
+            Clear,
+            Next(None, None),
+            Holds([None, None, None, None, None, None]),
+            Insert(SHORT, 9),
+            Next(Some(ALL_LONG), Some((SHORT, 9))),
         ],
     },
     // A new key in a bucket that is held, one of a new bucket in a bucket type that is held, and one of a new bucket type.
@@ -256,6 +292,46 @@ fn removes(alloc: Global, map: &mut PlaceMap, names: &Names, place: Option<usize
     }
 }
 
+/// Whether a key is the one of these names.
+fn is_named(alloc: Global, key: KeyRef<'_>, names: &Names) -> bool {
+    match key_of(alloc, names) {
+        Ok(named) => key.to_key(alloc) == Ok(named),
+        Err(_) => false,
+    }
+}
+
+/// Whether the least key behind one is this, with this place.
+fn is_next(
+    alloc: Global,
+    map: &PlaceMap,
+    after: Option<KeyRef<'_>>,
+    wanted: Option<(&Names, usize)>,
+) -> bool {
+    match map.next(after) {
+        None => wanted.is_none(),
+        Some((key, place)) => match wanted {
+            None => false,
+            Some((names, at)) => place == at && is_named(alloc, key, names),
+        },
+    }
+}
+
+/// Whether the least key behind the one of these names is this, with this place.
+fn is_next_of(
+    alloc: Global,
+    map: &PlaceMap,
+    after: Option<&Names>,
+    wanted: Option<(&Names, usize)>,
+) -> bool {
+    let Some(names) = after else {
+        return is_next(alloc, map, None, wanted);
+    };
+    match key_of(alloc, names) {
+        Ok(key) => is_next(alloc, map, Some(KeyRef::of(&key)), wanted),
+        Err(_) => false,
+    }
+}
+
 /// Whether a step comes to what it says.
 fn takes(alloc: Global, map: &mut PlaceMap, step: &Step) -> bool {
     match step {
@@ -263,6 +339,11 @@ fn takes(alloc: Global, map: &mut PlaceMap, step: &Step) -> bool {
         Remove(names, place) => removes(alloc, map, names, *place),
         Get(names, place) => place_of(alloc, map, names) == Ok(*place),
         Holds(places) => has_places(alloc, map, *places),
+        Next(after, wanted) => is_next_of(alloc, map, *after, *wanted),
+        Clear => {
+            map.clear();
+            true
+        }
     }
 }
 

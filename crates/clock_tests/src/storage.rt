@@ -8,7 +8,7 @@ ghost use Rattle.clock_store.specs.Contents.{HasRoom};
 
 use actor_epoch::{Actor, MAX_ACTORS, MAX_COUNTER};
 use clock_map::ClockMap;
-use clock_store::{ClockStore, Reaped, StoredClock, WriteKind, place_in};
+use clock_store::{ClockStore, KeyRef, Reaped, StoredClock, WriteKind, place_in};
 use dvv_set::{Clock, Needed};
 use riak_msgs::{BoxedContent, Content, Key};
 use std::alloc::{AllocError, Global};
@@ -29,6 +29,10 @@ enum Step {
     Sweep,
     /// Whether there is a dead key.
     HasDead(bool),
+    /// The least key behind the one of this name (None: of all), and how many contents it has.
+    Next(Option<&'static [u8]>, Option<(&'static [u8], u32)>),
+    /// All keys are forgotten.
+    Clear,
 }
 
 /// What is done to a key.
@@ -46,7 +50,7 @@ enum Act {
 }
 
 use Act::{Holds, Reap, Reserve, Tombstone, Value};
-use Step::{DropRoom, HasDead, Sweep, To};
+use Step::{Clear, DropRoom, HasDead, Next, Sweep, To};
 
 /// Steps of a store of four keys.
 struct Row {
@@ -93,6 +97,29 @@ const ROWS: &[Row] = &[
             To(b"b", Value),
             To(b"e", Reap(Reaped::Absent)),
             To(b"b", Holds(Some(1))),
+        ],
+    },
+    Row {
+        shows: "behind each key comes the next, dead or not, and none that has room alone",
+        steps: &[
+            Next(None, Some((b"a", 1))),
+            Next(Some(b"a"), Some((b"b", 0))),
+            Next(Some(b"bb"), Some((b"c", 1))),
+            Next(Some(b"d"), None),
+            // Room for a key between others.
+            To(b"bb", Reserve),
+            Next(Some(b"b"), Some((b"c", 1))),
+        ],
+    },
+    Row {
+        shows: "where all keys are forgotten there is none, and none dead",
+        steps: &[
+            Clear,
+            Next(None, None),
+            HasDead(false),
+            To(b"b", Reap(Reaped::Absent)),
+            To(b"b", Value),
+            Next(None, Some((b"b", 1))),
         ],
     },
 ];
@@ -197,6 +224,40 @@ fn acts(store: &mut ClockMap, alloc: Global, key: Key, act: &Act) -> bool {
     }
 }
 
+/// Whether a key of the default type has this name, and what is stored of it so many contents.
+fn is_stored(key: KeyRef<'_>, stored: &StoredClock, name: &[u8], contents: u32) -> bool {
+    key.bucket.as_slice() == b"b".as_slice()
+        && key.key.as_slice() == name
+        && count_contents(stored) == contents
+}
+
+/// Whether the least key behind one is this, with so many contents.
+fn is_next(store: &ClockMap, after: Option<KeyRef<'_>>, wanted: Option<(&[u8], u32)>) -> bool {
+    match store.next(after) {
+        None => wanted.is_none(),
+        Some((key, stored)) => match wanted {
+            None => false,
+            Some((name, contents)) => is_stored(key, stored, name, contents),
+        },
+    }
+}
+
+/// Whether the least key behind the one of this name is this, with so many contents.
+fn is_next_of(
+    store: &ClockMap,
+    alloc: Global,
+    after: Option<&[u8]>,
+    wanted: Option<(&[u8], u32)>,
+) -> bool {
+    let Some(name) = after else {
+        return is_next(store, None, wanted);
+    };
+    match key_of(alloc, name) {
+        Ok(key) => is_next(store, Some(KeyRef::of(&key)), wanted),
+        Err(_) => false,
+    }
+}
+
 fn takes(store: &mut ClockMap, alloc: Global, step: &Step) -> bool {
     match step {
         To(name, act) => match key_of(alloc, name) {
@@ -209,6 +270,11 @@ fn takes(store: &mut ClockMap, alloc: Global, step: &Step) -> bool {
         }
         Sweep => store.forget_first_dead(None),
         HasDead(is_any) => store.has_dead(None) == *is_any,
+        Next(after, wanted) => is_next_of(store, alloc, *after, *wanted),
+        Clear => {
+            store.clear();
+            true
+        }
     }
 }
 

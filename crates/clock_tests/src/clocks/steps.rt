@@ -1,8 +1,11 @@
 //! What is done to a clock, each step tried again where memory is refused.
 
+ghost use Rattle.std.specs.Prelude.{OnOk};
+ghost use Rattle.dvv_set.specs.Held.{IsSyncReady};
+
 use actor_epoch::{Actor, Context, Counter};
-use dvv_set::{Clock, ClockFault, Rejected};
-use std::alloc::Global;
+use dvv_set::{Clock, ClockFault, CloneValue, Rejected};
+use std::alloc::{AllocError, Global};
 
 /// What is done to a clock.
 #[derive(Drop)]
@@ -163,8 +166,60 @@ fn is_refused(
         && is_held(&refused.value, other)
 }
 
-/// Takes in another clock, and again where memory is refused: then both are as before.
+/// How the value of a clock is copied.
+struct CopyByte;
+
+impl CloneValue<u8> for CopyByte {
+    fn clone_value(value: &u8, alloc: Global) -> Result<u8, AllocError> {
+        let _alloc = alloc;
+        Ok(*value)
+    }
+}
+
+/// A copy of a clock, tried twice where memory is refused.
+fn copy_of(alloc: Global, clock: &Clock<u8>) -> Result<Clock<u8>, AllocError> {
+    match clock.try_clone::<CopyByte>(alloc) {
+        Err(_) => clock.try_clone::<CopyByte>(alloc),
+        made => made,
+    }
+}
+
+/// Room for a sync, tried twice where memory is refused.
+fn reserve_sync(clock: &mut Clock<u8>, other: &Clock<u8>) -> Result<(), ClockFault>
+    ensures { OnOk result (IsSyncReady clock.new other.now.meaning) }
+{
+    match clock.reserve_sync(other) {
+        Ok(()) => Ok(()),
+        Err(_) => clock.reserve_sync(other),
+    }
+}
+
+/// Takes in another clock, in room that is made first.
+fn takes_in_room(clock: &mut Clock<u8>, other: Clock<u8>) -> bool {
+    match reserve_sync(clock, &other) {
+        Ok(()) => {
+            clock.sync_ready(other);
+            true
+        }
+        Err(_) => false,
+    }
+}
+
+/// Takes in another clock, and so does a copy of the clock, in room that is made first: both come to the same.
 pub fn takes_in(alloc: Global, clock: &mut Clock<u8>, steps: &[Step]) -> bool {
+    let Ok(mut copy) = copy_of(alloc, clock) else {
+        return false;
+    };
+    let mut other = Clock::new(alloc);
+    is_held(&copy, &held_by(clock))
+        && takes_all(&mut other, steps)
+        && takes_in_room(&mut copy, other)
+        && takes_in_at_once(alloc, clock, steps)
+        && is_held(clock, &held_by(&copy))
+}
+
+/// Takes in another clock, and again where memory is refused: then both are as before.
+fn takes_in_at_once(alloc: Global, clock: &mut Clock<u8>, steps: &[Step]) -> bool {
     let mut other = Clock::new(alloc);
     if !takes_all(&mut other, steps) {
         return false;
