@@ -1,4 +1,4 @@
--- A encoding as a row of parts, and the fields that it stands for.
+-- An encoding as a row of parts, and the fields that it stands for.
 use Rattle.std.proofs.Common.{◌≡◌, ℕ, ◌+◌, ◌*◌, ◌^◌, ◌<◌, Bool, true, false, List, [], ◌∷◌, ◌++◌, length, map, Option, Some, None, option_to_list, refl, sym, subst, ◌∙◌, arith, append_assoc, length-append, if◌then◌else◌}
 use Rattle.std.specs.List.{flat_map, AllByRecursion}
 use Rattle.std.proofs.lemmas.List.{append-nil}
@@ -57,7 +57,7 @@ encoded parts = flat_map part_encoding parts
 abbrev pub fields_of : List Part → List WireField
 fields_of parts = flat_map part_fields parts
 
--- a encoding is written part by part behind what is there
+-- an encoding is written part by part behind what is there
 abbrev pub encoded_behind : List ℕ → List Part → List ℕ
 encoded_behind bs [] = bs
 encoded_behind bs (p ∷ ps) = encoded_behind (bs ++ part_encoding p) ps

@@ -1,4 +1,5 @@
 -- Bytes stand for one content at most, and so a content has its encoding alone: laws that the bytes which are kept of it rest on.
+-- No clause names them.
 use Rattle.std.proofs.Common.{◌≡◌, ℕ, ◌^◌, ◌<◌, false, List, [], ◌∷◌, length, refl, ap, sym, subst, ◌∙◌}
 use Rattle.std.specs.Prelude.{flat_map, unwrap_or}
 use Rattle.std.specs.List.{AllZip}

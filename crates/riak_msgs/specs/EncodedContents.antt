@@ -1,4 +1,5 @@
--- The encoding of a content stands for its fields, and these are the content.
+-- The encoding of a content stands for its fields, and these are the content: laws that the bytes which are kept of it rest on.
+-- No clause names them.
 use Rattle.std.proofs.Common.{◌≡◌, ℕ, ◌+◌, ◌^◌, ◌<◌, Bool, false, List, [], ◌∷◌, ◌++◌, length, map, Option, Some, option_and_then, option_map, refl, ap, sym, subst, ◌∙◌, arith, length-append}
 use Rattle.std.specs.List.{AllZip}
 use Rattle.std.proofs.lemmas.List.{append-nil}

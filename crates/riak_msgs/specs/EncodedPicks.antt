@@ -1,4 +1,4 @@
--- What is picked from the fields of a encoding.
+-- What is picked from the fields of an encoding: laws that the bytes which are kept of a content rest on. No clause names them.
 use Rattle.std.proofs.Common.{◌≡◌, ℕ, ◌==◌, Bool, true, false, not, List, [], ◌∷◌, ◌++◌, map, Option, Some, None, option_to_list, refl, ap, ◌∙◌, if◌then◌else◌}
 use Rattle.std.specs.List.{last_or, filter_map, cons_option, flat_map}
 use Rattle.std.specs.Option.{option_map_or}

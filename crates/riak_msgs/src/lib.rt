@@ -22,13 +22,14 @@
 //! and then a copy of each kept field. A content's links and pairs are scanned once more only where the first scan met
 //! some. Writing counts the bytes first, takes one buffer of that size, and writes them once. A content is encoded when it is made,
 //! whatever the encoding that it came in, and kept so: a reply appends its bytes, and counts them by their length. A link or pair is
-//! counted once for its own length and once for that of the content. Reading and writing take time linear in the bytes. What is called for each field is marked `inline(always)`, a hint to LLVM, since its results are wide.
+//! counted once for its own length and once for that of the content. Reading and writing take time linear in the bytes. What is
+//! called for each field is marked `inline(always)`, a hint to LLVM, since its results are wide.
 //!
 //! Contracts see [`Bytes`], [`BucketType`] and [`Sequence`] as lists and [`Content`] as a record, so a request, a reply and all
 //! within them are plain data. A content's [`Details`], which most have none of, are borrowed: from what a content is made of, or
-//! from its encoding. The content of a put lies behind a pointer ([`BoxedContent`]), so that moving a request moves few bytes. A message is written down once, as the fields that it encodes to a [`pb_fields::Output`]. Keys are ordered by
-//! `key_cmp` ([`keys_are_ordered`]). What holds bytes is copied by an inherent `clone`, which takes the allocator and may
-//! be refused.
+//! from its encoding. The content of a put lies behind a pointer ([`BoxedContent`]), so that moving a request moves few bytes. A
+//! message is written down once, as the fields that it encodes to a [`pb_fields::Output`]. Keys are ordered by `key_cmp`
+//! ([`keys_are_ordered`]). What holds bytes is copied by an inherent `clone`, which takes the allocator and may be refused.
 //!
 //! Sources: the documentation of Riak's Protocol Buffers client API, the messages of `riak_kv.proto` and
 //! `riak.proto`, and the Protocol Buffers encoding.
