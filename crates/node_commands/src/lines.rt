@@ -35,7 +35,9 @@ fn write_others<W: Write>(writer: &mut W, totals: Totals) -> io::Result<()>
         (Appends (W.contents writer.old) (W.contents writer.new) (others_text totals)) }
 {
     let Totals {
-        refusals, reaps, ..
+        refusals,
+        reaps,
+        ..
     } = totals;
     writeln!(writer, " refusals {refusals} reaps {reaps}")
 }
