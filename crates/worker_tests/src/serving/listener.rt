@@ -21,6 +21,9 @@ pub const NO_BUFFER: i32 = 105;
 /// Linux's ECONNABORTED.
 pub const ABORTED: i32 = 103;
 
+/// Linux's EHOSTUNREACH.
+pub const NO_ROUTE_TO_HOST: i32 = 113;
+
 /// How many of the first accepts fail, and by which error of the system.
 #[derive(Clone, Copy)]
 pub struct Failures {

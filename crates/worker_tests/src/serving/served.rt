@@ -1,8 +1,8 @@
 //! Runs that serve all their connections, and their clients beside them.
 use crate::serving::clients::{Action, Step, take_all};
 use crate::serving::listener::{
-    Failing, Failures, NO_BUFFER, NO_FAILURES, NO_MEMORY, NO_PROCESS_DESCRIPTOR,
-    NO_SYSTEM_DESCRIPTOR, new_listener, port_of,
+    ABORTED, Failing, Failures, NO_BUFFER, NO_FAILURES, NO_MEMORY, NO_PROCESS_DESCRIPTOR,
+    NO_ROUTE_TO_HOST, NO_SYSTEM_DESCRIPTOR, new_listener, port_of,
 };
 use crate::serving::{Outcome, is_text, serve};
 use log::sink::Console;
@@ -237,6 +237,32 @@ const RUNS: &[Run] = &[
         failures: Failures {
             count: 4,
             code: NO_BUFFER,
+        },
+        connections: 2,
+        workers: 2,
+        steps: TWO_CLIENTS,
+        ends: TWO_PUT_AND_GOT,
+        tally: TWO_PUTS,
+        totals: TWO_GETS_AND_PUTS,
+    },
+    Run {
+        shows: "connections that were aborted before they were accepted are passed over, and don't count",
+        failures: Failures {
+            count: 5,
+            code: ABORTED,
+        },
+        connections: 2,
+        workers: 2,
+        steps: TWO_CLIENTS,
+        ends: TWO_PUT_AND_GOT,
+        tally: TWO_PUTS,
+        totals: TWO_GETS_AND_PUTS,
+    },
+    Run {
+        shows: "so is one whose host is out of reach",
+        failures: Failures {
+            count: 1,
+            code: NO_ROUTE_TO_HOST,
         },
         connections: 2,
         workers: 2,
