@@ -1,10 +1,11 @@
 // A load on a key-value server over loopback: so many connections, each with so many requests in flight, for some seconds.
 //
-//   load riak|redis PORT PID get|put|update KEYS CONNECTIONS DEPTH SECONDS
+//   load riak|redis PORT PID get|put|update|new|come KEYS CONNECTIONS DEPTH SECONDS
 //
 // Each connection has a thread of its own. It sends DEPTH requests in one write and reads their replies, again and again. With KEYS 1
 // all connections ask for one key, else each has KEYS keys of its own. Values have 100 bytes. A put carries the context that this
-// connection was shown last for that key, and asks for the new one; an update is a get and a put by the context that it showed.
+// connection was shown last for that key, and asks for the new one; an update is a get and a put by the context that it showed. A new key is
+// put once; what comes and goes is put, and deleted by the context that the put showed.
 // Prints requests a second, the processor time that process PID used a request, and how many replies were errors.
 #include <arpa/inet.h>
 #include <netinet/in.h>
@@ -20,7 +21,9 @@
 #include <unistd.h>
 
 enum { VALUE = 100, MAX_CONTEXT = 1281, BUFFER = 1 << 20 }; // a context: its version, and 64 entries of 20 bytes at most
-enum operation { GET, PUT, UPDATE };
+enum operation { GET, PUT, UPDATE, NEW, COME };
+enum ask { ASK_GET, ASK_PUT, ASK_DELETE };
+static const char *const operations[] = {"get", "put", "update", "new", "come"};
 
 struct context {
     int length;
@@ -30,7 +33,7 @@ struct context {
 struct connection {
     pthread_t thread;
     int number, socket;
-    uint64_t requests, errors;
+    uint64_t requests, errors, fresh;
     struct context *contexts;
     uint8_t *out, *in;
     size_t read, used;
@@ -73,31 +76,34 @@ static uint8_t *field(uint8_t *to, int number, const void *bytes, int length) {
 }
 
 static int key_name(struct connection *c, int key, char *name) {
+    if (operation == NEW) return sprintf(name, "%d+%lu", c->number, c->fresh++);
     return keys == 1 ? sprintf(name, "hot") : sprintf(name, "%d-%d", c->number, key);
 }
 
 // One request, by its frame or its RESP array.
-static uint8_t *request(struct connection *c, uint8_t *to, int is_put, int key) {
+static uint8_t *request(struct connection *c, uint8_t *to, enum ask ask, int key) {
+    static const char *const words[] = {"GET", "SET", "DEL"};
+    static const uint8_t codes[] = {9, 11, 13};
     char name[32], value[VALUE];
     int length = key_name(c, key, name);
     memset(value, 'v', VALUE);
     if (is_redis) {
-        if (!is_put) return to + sprintf((char *)to, "*2\r\n$3\r\nGET\r\n$%d\r\n%s\r\n", length, name);
+        if (ask != ASK_PUT) return to + sprintf((char *)to, "*2\r\n$3\r\n%s\r\n$%d\r\n%s\r\n", words[ask], length, name);
         return to + sprintf((char *)to, "*3\r\n$3\r\nSET\r\n$%d\r\n%s\r\n$%d\r\n%.*s\r\n", length, name, VALUE, VALUE, value);
     }
     uint8_t *body = to + 5, content[VALUE + 8];
     body = field(body, 1, "b", 1);
     body = field(body, 2, name, length);
-    if (is_put) {
-        struct context *context = &c->contexts[key];
-        if (context->length) body = field(body, 3, context->bytes, context->length);
+    struct context *context = &c->contexts[key];
+    if (ask != ASK_GET && operation != NEW && context->length) body = field(body, ask == ASK_PUT ? 3 : 4, context->bytes, context->length);
+    if (ask == ASK_PUT) {
         body = field(body, 4, content, (int)(field(content, 1, value, VALUE) - content));
         *body++ = 11 << 3;
         *body++ = 1;
     }
     uint32_t size = htonl((uint32_t)(body - to - 4));
     memcpy(to, &size, 4);
-    to[4] = is_put ? 11 : 9;
+    to[4] = codes[ask];
     return body;
 }
 
@@ -166,9 +172,9 @@ static void send_all(struct connection *c, const uint8_t *to) {
 }
 
 // So many requests in one write, for the keys from `first` on, and their replies.
-static void batch(struct connection *c, int is_put, int first, int count) {
+static void batch(struct connection *c, enum ask ask, int first, int count) {
     uint8_t *to = c->out;
-    for (int i = 0; i < count; i++) to = request(c, to, is_put, (first + i) % keys);
+    for (int i = 0; i < count; i++) to = request(c, to, ask, (first + i) % keys);
     send_all(c, to);
     for (int i = 0; i < count; i++) c->errors += !reply(c, (first + i) % keys);
     c->requests += (uint64_t)count;
@@ -190,14 +196,15 @@ static void *run(void *argument) {
     struct connection *c = argument;
     open_connection(c);
     for (int key = 0; key < keys; key++) {
-        batch(c, 0, key, 1);
-        batch(c, 1, key, 1);
+        batch(c, ASK_GET, key, 1);
+        batch(c, ASK_PUT, key, 1);
     }
     c->requests = c->errors = 0;
     pthread_barrier_wait(&begin);
     for (int key = 0; !atomic_load_explicit(&is_over, memory_order_relaxed); key = (key + depth) % keys) {
-        if (operation != PUT) batch(c, 0, key, depth);
-        if (operation != GET) batch(c, 1, key, depth);
+        if (operation == GET || operation == UPDATE) batch(c, ASK_GET, key, depth);
+        if (operation != GET) batch(c, ASK_PUT, key, depth);
+        if (operation == COME) batch(c, ASK_DELETE, key, depth);
     }
     pthread_barrier_wait(&end);
     pthread_barrier_wait(&end);
@@ -207,13 +214,13 @@ static void *run(void *argument) {
 
 int main(int count, char **words) {
     if (count != 9) {
-        fprintf(stderr, "load riak|redis PORT PID get|put|update KEYS CONNECTIONS DEPTH SECONDS\n");
+        fprintf(stderr, "load riak|redis PORT PID get|put|update|new|come KEYS CONNECTIONS DEPTH SECONDS\n");
         return 2;
     }
     is_redis = !strcmp(words[1], "redis");
     port = atoi(words[2]);
     int pid = atoi(words[3]);
-    operation = words[4][0] == 'g' ? GET : words[4][0] == 'p' ? PUT : UPDATE;
+    while (operation < COME && strcmp(words[4], operations[operation])) operation++;
     keys = atoi(words[5]);
     connections = atoi(words[6]);
     depth = atoi(words[7]);
