@@ -73,7 +73,7 @@ struct Place {
     index: u16,
 }
 
-/// By Python's `hashlib` the digests begin with 56 73, with b0 a3, and with ec 5e.
+/// By Python's `hashlib` the digests begin with 56 73, b0 a3, 1f b0, ef 9c, 78 9e, 0e 89 and ec 5e.
 const PLACES: &[Place] = &[
     Place {
         shows: "a key of the default type",
@@ -88,6 +88,34 @@ const PLACES: &[Place] = &[
         bucket: b"users",
         key: b"alice",
         index: 706,
+    },
+    Place {
+        shows: "names of 43 bytes: with their lengths and the padding one block of the digest",
+        bucket_type: None,
+        bucket: b"b",
+        key: &[b'k'; 35],
+        index: 126,
+    },
+    Place {
+        shows: "names of 44 bytes: with the padding two blocks",
+        bucket_type: None,
+        bucket: b"b",
+        key: &[b'k'; 36],
+        index: 958,
+    },
+    Place {
+        shows: "names of 52 bytes: with their lengths a whole block",
+        bucket_type: None,
+        bucket: b"b",
+        key: &[b'k'; 44],
+        index: 482,
+    },
+    Place {
+        shows: "names of 53 bytes: one more than a block",
+        bucket_type: None,
+        bucket: b"b",
+        key: &[b'k'; 45],
+        index: 58,
     },
     Place {
         shows: "a key of a thousand bytes",

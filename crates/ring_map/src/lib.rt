@@ -7,8 +7,8 @@
 //! What it costs: one SHA-1 over the key's bytes, 12 bytes more for the lengths; on a ring of one partition, nothing. No
 //! call takes memory.
 //!
-//! How it is built: the hasher is fed from the key as it lies; a ring is the number of its index bits, and an index is
-//! one shift of the digest's first two bytes.
+//! How it is built: names of up to 52 bytes are handed to the hasher at once, longer ones part by part; a ring is the number of
+//! its index bits, and an index is one shift of the digest's first two bytes.
 //!
 //! ```text
 //! digest a9 99 3e 36 ..   first two bytes 1010 1001 1001 1001
