@@ -1,4 +1,4 @@
-//! Writes, reaps and room that no write used, each tried again where memory is refused.
+//! Writes, syncs, reaps and room that no write used, each tried again where memory is refused.
 
 ghost use Rattle.std.specs.Prelude.{◌≡◌, ◌≤◌, ◌<◌, true, None, OnOk};
 ghost use Rattle.actor_epoch.specs.Limits.{max_actors, max_counter};
@@ -6,14 +6,14 @@ ghost use Rattle.dvv_set.specs.Held.{IsWithin};
 ghost use Rattle.clock_store.specs.Keys.{clock_at};
 ghost use Rattle.clock_store.specs.Contents.{HasRoom};
 
+mod syncs;
+
 use actor_epoch::{Actor, MAX_ACTORS, MAX_COUNTER};
 use clock_map::ClockMap;
 use clock_store::{ClockStore, KeyRef, Reaped, StoredClock, WriteKind, place_in};
 use dvv_set::{Clock, Needed};
 use riak_msgs::{BoxedContent, Content, Key};
 use std::alloc::{AllocError, Global};
-
-mod syncs;
 
 /// The actor of each key's life.
 const A: Actor = Actor {
