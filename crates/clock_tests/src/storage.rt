@@ -1,10 +1,12 @@
-//! Writes, reaps and room that no write used, each tried again where memory is refused.
+//! Writes, syncs, reaps and room that no write used, each tried again where memory is refused.
 
 ghost use Rattle.std.specs.Prelude.{◌≡◌, ◌≤◌, ◌<◌, true, None, OnOk};
 ghost use Rattle.actor_epoch.specs.Limits.{max_actors, max_counter};
 ghost use Rattle.dvv_set.specs.Held.{IsWithin};
 ghost use Rattle.clock_store.specs.Keys.{clock_at};
 ghost use Rattle.clock_store.specs.Contents.{HasRoom};
+
+mod syncs;
 
 use actor_epoch::{Actor, MAX_ACTORS, MAX_COUNTER};
 use clock_map::ClockMap;
@@ -18,6 +20,23 @@ const A: Actor = Actor {
     vnode: 65_536,
     epoch: 1,
 };
+
+/// The actor of another vnode.
+const B: Actor = Actor {
+    vnode: 65_537,
+    epoch: 1,
+};
+
+/// The bytes of the context (A, 1), then of that with (B, 1), and with (B, 2).
+const SEEN_A: &[u8] = b"\x01\0\0\0\0\0\x01\0\0\0\0\0\x01\0\0\0\x01";
+
+const SEEN_A_B1: &[u8] = b"\x01\
+    \0\0\0\0\0\x01\0\0\0\0\0\x01\0\0\0\x01\
+    \0\0\0\0\0\x01\0\x01\0\0\0\x01\0\0\0\x01";
+
+const SEEN_A_B2: &[u8] = b"\x01\
+    \0\0\0\0\0\x01\0\0\0\0\0\x01\0\0\0\x01\
+    \0\0\0\0\0\x01\0\x01\0\0\0\x01\0\0\0\x02";
 
 /// What is done to a store, and what comes of it.
 enum Step {
@@ -37,6 +56,8 @@ enum Step {
 
 /// What is done to a key.
 enum Act {
+    /// It takes in another clock: what the context of these bytes saw (no bytes: nothing), and a write at B.
+    Sync(&'static [u8], Option<WriteKind>),
     /// An empty content is written beside what is there.
     Value,
     /// A tombstone is written over all that is there.
@@ -49,7 +70,7 @@ enum Act {
     Holds(Option<u32>),
 }
 
-use Act::{Holds, Reap, Reserve, Tombstone, Value};
+use Act::{Holds, Reap, Reserve, Sync, Tombstone, Value};
 use Step::{Clear, DropRoom, HasDead, Next, Sweep, To};
 
 /// Steps of a store of four keys.
@@ -120,6 +141,55 @@ const ROWS: &[Row] = &[
             To(b"b", Reap(Reaped::Absent)),
             To(b"b", Value),
             Next(None, Some((b"b", 1))),
+        ],
+    },
+    Row {
+        shows: "an absent key takes in a clock, with a value or dead",
+        steps: &[
+            To(b"e", Sync(b"", Some(WriteKind::Value))),
+            To(b"e", Holds(Some(1))),
+            To(b"aa", Sync(SEEN_A, None)),
+            To(b"aa", Holds(Some(0))),
+            // The first dead key is aa, and then b.
+            Sweep,
+            To(b"aa", Holds(None)),
+            Sweep,
+            To(b"b", Holds(None)),
+            To(b"d", Holds(Some(0))),
+        ],
+    },
+    // The other clocks have seen (A, 1), the only value of c, and no longer have it.
+    Row {
+        shows: "a key dies by a sync, and lives by the next one",
+        steps: &[
+            To(b"b", Reap(Reaped::Gone)),
+            To(b"d", Reap(Reaped::Gone)),
+            HasDead(false),
+            To(b"c", Sync(SEEN_A, Some(WriteKind::Tombstone))),
+            To(b"c", Holds(Some(0))),
+            HasDead(true),
+            To(b"c", Sync(SEEN_A_B1, Some(WriteKind::Value))),
+            To(b"c", Holds(Some(1))),
+            HasDead(false),
+            To(b"c", Sync(SEEN_A_B2, None)),
+            HasDead(true),
+            Sweep,
+            To(b"c", Holds(None)),
+            To(b"a", Holds(Some(1))),
+        ],
+    },
+    Row {
+        shows: "a dead key takes in a clock, and lives where that has a value",
+        steps: &[
+            // The other clock has not seen (A, 2), the tombstone of b.
+            To(b"b", Sync(SEEN_A, Some(WriteKind::Value))),
+            To(b"b", Holds(Some(1))),
+            To(b"d", Sync(SEEN_A, Some(WriteKind::Tombstone))),
+            // The first dead key is d.
+            Sweep,
+            To(b"d", Holds(None)),
+            HasDead(false),
+            Next(Some(b"a"), Some((b"b", 1))),
         ],
     },
 ];
@@ -219,6 +289,7 @@ fn acts(store: &mut ClockMap, alloc: Global, key: Key, act: &Act) -> bool {
         Value => write_value(store, alloc, key).is_ok(),
         Tombstone => write_tombstone(store, alloc, key).is_ok(),
         Reserve => reserve(store, alloc, &key, A, WriteKind::Tombstone).is_ok(),
+        Sync(seen, written) => syncs::takes_in(store, alloc, key, seen, *written),
         Reap(reaped) => store.forget_dead(&key) == *reaped,
         Holds(contents) => count_of(store, &key) == *contents,
     }

@@ -19,3 +19,4 @@ pub mod Discards
 pub mod Emptied
 pub mod Walks
 pub mod Ahead
+pub mod SyncSizes

@@ -5,3 +5,4 @@ pub mod Held
 pub mod Laws
 pub mod References
 pub mod InlineLists
+pub mod Sizes

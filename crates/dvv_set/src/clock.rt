@@ -9,6 +9,7 @@ use crate::inline::InlineList;
 use crate::known_pairs::KnownPairs;
 use crate::needed::Needed;
 use crate::room;
+use crate::sizes::{self, Sizes};
 use crate::values::Values;
 use actor_epoch::{Actor, Context, Counter, Dot, MAX_ACTORS, MAX_COUNTER};
 use std::alloc::{AllocError, Global};
@@ -93,6 +94,20 @@ impl<V: MadeWith<Global> + Drop> Clock<V> {
         }
         self.sync_ready(other);
         Ok(())
+    }
+
+    /// How many values and actors it would have after a sync with another clock. It takes no memory.
+    pub fn sizes_after(&self, other: &Clock<V>) -> Sizes
+        ensures siblings { result.siblings
+            ≡ length (sync self.now.meaning other.now.meaning).live }
+        ensures actors { result.actors ≡ length (sync self.now.meaning other.now.meaning).known }
+    {
+        let entries: &[Entry<V>] = &self.entries;
+        let others: &[Entry<V>] = &other.entries;
+        Sizes {
+            siblings: sizes::merged_values(entries, others),
+            actors: entries.len() + room::count_new(entries, others),
+        }
     }
 
     /// Makes room for a sync with another clock; no value changes. Refused by ActorsFull exactly where both know more than

@@ -32,6 +32,7 @@ mod known_pairs;
 mod laws;
 mod needed;
 mod room;
+mod sizes;
 mod values;
 
 pub use clock::Clock;
@@ -40,4 +41,5 @@ pub use fault::{ClockFault, Rejected};
 pub use known_pairs::KnownPairs;
 pub use laws::{calls_are_set_operations, discard_of_all_leaves_no_value, sync_joins};
 pub use needed::Needed;
+pub use sizes::Sizes;
 pub use values::Values;

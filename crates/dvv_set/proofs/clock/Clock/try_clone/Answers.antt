@@ -1,4 +1,4 @@
-use Rattle.std.proofs.Common.{◌≡◌, ◌∙◌, ◌++◌, ◌∷◌, [], sym, ap, drop, length, ◌+◌, arith}
+use Rattle.std.proofs.Common.{◌≡◌, ◌∙◌, ◌++◌, ◌∷◌, [], sym, ap, drop, length, ◌+◌}
 use Rattle.std.proofs.lemmas.List.{drop_more, drop_all, append-nil, append_assoc, map-append}
 use Rattle.dvv_set.specs.ClockEntries.{dot_state_of}
 use Rattle.dvv_set.specs.Stored.{clock_entry, clock_entries}
