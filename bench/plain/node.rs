@@ -196,24 +196,38 @@ fn digest(name: &[u8]) -> u32 {
 }
 
 fn compress(h: &mut [u32; 5], block: &[u8; 64]) {
-    let mut w = [0u32; 16];
+    let mut w = [0u32; 80];
     for (word, bytes) in w.iter_mut().zip(block.chunks_exact(4)) {
         *word = u32::from_be_bytes(bytes.try_into().unwrap());
     }
-    let mut v = *h;
-    let mut round = |t: usize, f: fn(u32, u32, u32) -> u32, k: u32| {
-        if t >= 16 {
-            w[t % 16] = (w[(t + 13) % 16] ^ w[(t + 8) % 16] ^ w[(t + 2) % 16] ^ w[t % 16]).rotate_left(1);
-        }
-        let [a, b, c, d, e] = v;
-        let next = a.rotate_left(5).wrapping_add(f(b, c, d)).wrapping_add(e).wrapping_add(k).wrapping_add(w[t % 16]);
-        v = [next, a, b.rotate_left(30), c, d];
-    };
-    (0..20).for_each(|t| round(t, |b, c, d| b & c | !b & d, 0x5a827999));
-    (20..40).for_each(|t| round(t, |b, c, d| b ^ c ^ d, 0x6ed9eba1));
-    (40..60).for_each(|t| round(t, |b, c, d| b & c | b & d | c & d, 0x8f1bbcdc));
-    (60..80).for_each(|t| round(t, |b, c, d| b ^ c ^ d, 0xca62c1d6));
+    for t in 16..80 {
+        w[t] = (w[t - 3] ^ w[t - 8] ^ w[t - 14] ^ w[t - 16]).rotate_left(1);
+    }
+    let v = rounds(*h, &w[..20], |b, c, d| d ^ (b & (c ^ d)), 0x5a827999);
+    let v = rounds(v, &w[20..40], |b, c, d| b ^ c ^ d, 0x6ed9eba1);
+    let v = rounds(v, &w[40..60], |b, c, d| (b & c) | (d & (b | c)), 0x8f1bbcdc);
+    let v = rounds(v, &w[60..], |b, c, d| b ^ c ^ d, 0xca62c1d6);
     h.iter_mut().zip(v).for_each(|(sum, part)| *sum = sum.wrapping_add(part));
+}
+
+/// Twenty rounds, five at a time, so that no value moves.
+#[inline(always)]
+fn rounds(v: [u32; 5], w: &[u32], f: impl Fn(u32, u32, u32) -> u32, k: u32) -> [u32; 5] {
+    let [mut a, mut b, mut c, mut d, mut e] = v;
+    let mix = |a: u32, f: u32, e: u32, w: u32| a.rotate_left(5).wrapping_add(f).wrapping_add(e).wrapping_add(k).wrapping_add(w);
+    for w in w.chunks_exact(5) {
+        e = mix(a, f(b, c, d), e, w[0]);
+        b = b.rotate_left(30);
+        d = mix(e, f(a, b, c), d, w[1]);
+        a = a.rotate_left(30);
+        c = mix(d, f(e, a, b), c, w[2]);
+        e = e.rotate_left(30);
+        b = mix(c, f(d, e, a), b, w[3]);
+        d = d.rotate_left(30);
+        a = mix(b, f(c, d, e), a, w[4]);
+        c = c.rotate_left(30);
+    }
+    [a, b, c, d, e]
 }
 
 fn answer(vnodes: &[Mutex<Vnode>], code: u8, body: &[u8], out: &mut Vec<u8>) {

@@ -4,7 +4,7 @@ import sys
 import time
 
 VNODE = 0x10000  # the id of vnode 0 in run 1
-CALLS = 1000
+CALLS = 4500
 TIMES = 4
 ROUNDS = 3
 
