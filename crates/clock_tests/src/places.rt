@@ -292,10 +292,18 @@ fn removes(alloc: Global, map: &mut PlaceMap, names: &Names, place: Option<usize
     }
 }
 
+/// A copy of a key.
+fn copy_of(alloc: Global, key: KeyRef<'_>) -> Result<Key, AllocError> {
+    match key.to_key(alloc) {
+        Ok(copy) => Ok(copy),
+        Err(_) => key.to_key(alloc),
+    }
+}
+
 /// Whether a key is the one of these names.
 fn is_named(alloc: Global, key: KeyRef<'_>, names: &Names) -> bool {
     match key_of(alloc, names) {
-        Ok(named) => key.to_key(alloc) == Ok(named),
+        Ok(named) => copy_of(alloc, key) == Ok(named),
         Err(_) => false,
     }
 }
