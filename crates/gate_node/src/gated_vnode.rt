@@ -66,6 +66,7 @@ fn answer_get<W: Wait, T: Turnstile>(
 }
 
 /// Answers what may change the vnode, under a right to write, behind the turnstile; and what that is counted as.
+#[inline(always)]
 fn answer_change<W: Wait, T: Turnstile>(
     rt: &W,
     alloc: Global,
