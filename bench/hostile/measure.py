@@ -148,7 +148,7 @@ def measure(program, case):
 
 def forged(width, count):
     """A context of so many actors that no vnode is: each with its first dot."""
-    return b"\x01" + b"".join(struct.pack(">QI", vnode, 1) + (1).to_bytes(width - 12, "big") for vnode in range(1, count + 1))
+    return b"\x02" + b"".join(struct.pack(">QI", vnode, 1) + (1).to_bytes(width - 12, "big") for vnode in range(1, count + 1))
 
 
 def width_of(node):
