@@ -29,9 +29,9 @@ use Rattle.clock_list.specs.Places.{place_in}
 use Rattle.clock_store.specs.declared.store.WriteKind.{WriteKind}
 use Rattle.clock_store.specs.declared.store.WriteKind.TheVariants.{Value, Tombstone}
 use Rattle.clock_store.specs.Contents.{Reservation, HasPlaceIfDead, HasRoom}
-use Rattle.clock_store.specs.Keys.{Keys, stored_of, empty, clock_at, written, overwritten}
+use Rattle.clock_store.specs.Keys.{Keys, stored_of, empty, clock_at, own_at, written, overwritten}
 use Rattle.std.specs.Ordering.{eq_by_cmp}
-use Rattle.clock_list.specs.Rows.{entry_of, place_entry, first_place, FitsAt, ReadyAt, SyncFitsAt, SyncReadyAt, reservation_of, contents_in, IsRoom, IsList}
+use Rattle.clock_list.specs.Rows.{entry_of, nothing, place_entry, first_place, FitsAt, ReadyAt, SyncFitsAt, SyncReadyAt, reservation_of, contents_in, IsRoom, IsList}
 use Rattle.clock_list.proofs.Finding.{at_place, new_place}
 
 -- a key stands at its place
@@ -137,20 +137,21 @@ module _ (other : DotState (Option Content)) where
       let clock : clock_at (map entry_of items) key ≡ empty = rw (sym none) refl in
       subst (λ (m : DotState (Option Content)). length (sync m other).known ≤ max_actors) clock few
 
--- a change of a clock, at an actor
-module _ (change : DotState (Option Content) → DotState (Option Content)) (actor : Actor) where
+-- a change of a clock and its actor
+module _ (change : DotState (Option Content) → DotState (Option Content)) (own : Option Actor → Option Actor) where
   abbrev changed_to : Keys → Key → Keys
-  changed_to keys key = put key_cmp key (record { own = Some actor; clock = change (clock_at keys key) }) keys
+  changed_to keys key = put key_cmp key (record { own = own (own_at keys key); clock = change (clock_at keys key) }) keys
 
   pub changed_at : (items : List Row) (key : Key) (i : ℕ) (read new : Row) → place_in key (map entry_of items) ≡ At i → read ≡ get_or items i read
-      → new.key ≡ read.key → new.stored.actor ≡ actor → new.stored.clock.meaning ≡ change read.stored.clock.meaning
+      → new.key ≡ read.key → new.stored.actor ≡ own read.stored.actor → new.stored.clock.meaning ≡ change read.stored.clock.meaning
       → map entry_of (set items i new) ≡ changed_to (map entry_of items) key
-  changed_at items key i read new h is same own clock =
+  changed_at items key i read new h is same actor clock =
       let at = stands items key i h in
       let it : read ≡ at.row = is ∙ get_or_from_slice_get items i at.row read at.get in
       let was : clock_at (map entry_of items) key ≡ read.stored.clock.meaning = let o = at.find in rw (o, it) refl in
-      let stored : stored_of new.stored ≡ record { own = Some actor; clock = change ((clock_at (map entry_of items) key)) } =
-      (λ j. record { own = Some (own j); clock = clock j }) ∙ (λ j. record { own = Some actor; clock = change ((sym was j)) }) in
+      let owner : own_at (map entry_of items) key ≡ read.stored.actor = let o = at.find in rw (o, it) refl in
+      let stored : stored_of new.stored ≡ record { own = own (own_at (map entry_of items) key); clock = change ((clock_at (map entry_of items) key)) } =
+      (λ j. record { own = actor j; clock = clock j }) ∙ (λ j. record { own = own ((sym owner j)); clock = change ((sym was j)) }) in
       map-set entry_of items i new
       ∙ ap (λ k. set (map entry_of items) i (k, stored_of new.stored)) (same ∙ ap (λ (r : Row). r.key) it)
       ∙ sym (at.put (stored_of new.stored))
@@ -163,14 +164,16 @@ module _ (change : DotState (Option Content) → DotState (Option Content)) (act
       ∙ ap (λ back. take i (map entry_of items) ++ entry_of row ∷ back) (sym (drop-map entry_of i items))
 
   pub changed_new : (items : List Row) (i : ℕ) (made new : Row) → IsTrue (is_sorted key_cmp (map entry_of items)) → place_in made.key (map entry_of items) ≡ New i
-      → made.stored.clock.meaning ≡ empty → new.key ≡ made.key → new.stored.actor ≡ actor → new.stored.clock.meaning ≡ change made.stored.clock.meaning
+      → stored_of made.stored ≡ nothing → new.key ≡ made.key → new.stored.actor ≡ own made.stored.actor → new.stored.clock.meaning ≡ change made.stored.clock.meaning
       → map entry_of (insert items i new) ≡ changed_to (map entry_of items) made.key
-  changed_new items i made new sorted h none same own clock =
+  changed_new items i made new sorted h none same actor clock =
       let at = new_place 0 made.key (map entry_of items) i sorted h in
       let k : at.k ≡ i = omega (arith, at.is) in
       let was : clock_at (map entry_of items) made.key ≡ empty = let o = at.find in rw o refl in
-      let stored : stored_of new.stored ≡ record { own = Some actor; clock = change ((clock_at (map entry_of items) made.key)) } =
-      (λ j. record { own = Some (own j); clock = clock j }) ∙ (λ j. record { own = Some actor; clock = change (((none ∙ sym was) j)) }) in
+      let owner : own_at (map entry_of items) made.key ≡ None = let o = at.find in rw o refl in
+      let stored : stored_of new.stored ≡ record { own = own (own_at (map entry_of items) made.key); clock = change ((clock_at (map entry_of items) made.key)) } =
+      (λ j. record { own = actor j; clock = clock j }) ∙ (λ j. record { own = own (none j).own; clock = change (none j).clock })
+      ∙ (λ j. record { own = own (sym owner j); clock = change (sym was j) }) in
       mapped_insert items i new
       ∙ ap (λ key. insert (map entry_of items) i (key, stored_of new.stored)) same
       ∙ ap (λ n. insert (map entry_of items) n (made.key, stored_of new.stored)) (sym k)
@@ -183,14 +186,14 @@ module _ (left : DotState (Option Content) → DotState (Option Content)) (actor
   written_to keys key = put key_cmp key (record { own = Some actor; clock = event actor value (left (clock_at keys key)) }) keys
 
   pub written_at : (items : List Row) (key : Key) (i : ℕ) (read new : Row) → place_in key (map entry_of items) ≡ At i → read ≡ get_or items i read
-      → new.key ≡ read.key → new.stored.actor ≡ actor → new.stored.clock.meaning ≡ event actor value (left read.stored.clock.meaning)
+      → new.key ≡ read.key → new.stored.actor ≡ Some actor → new.stored.clock.meaning ≡ event actor value (left read.stored.clock.meaning)
       → map entry_of (set items i new) ≡ written_to (map entry_of items) key
-  written_at = changed_at (λ clock. event actor value (left clock)) actor
+  written_at = changed_at (λ clock. event actor value (left clock)) (λ own. Some actor)
 
   pub written_new : (items : List Row) (i : ℕ) (made new : Row) → IsTrue (is_sorted key_cmp (map entry_of items)) → place_in made.key (map entry_of items) ≡ New i
-      → made.stored.clock.meaning ≡ empty → new.key ≡ made.key → new.stored.actor ≡ actor → new.stored.clock.meaning ≡ event actor value (left made.stored.clock.meaning)
+      → stored_of made.stored ≡ nothing → new.key ≡ made.key → new.stored.actor ≡ Some actor → new.stored.clock.meaning ≡ event actor value (left made.stored.clock.meaning)
       → map entry_of (insert items i new) ≡ written_to (map entry_of items) made.key
-  written_new = changed_new (λ clock. event actor value (left clock)) actor
+  written_new = changed_new (λ clock. event actor value (left clock)) (λ own. Some actor)
 
 pub within_new : (items : List Row) (key : Key) (i : ℕ) → IsTrue (is_sorted key_cmp (map entry_of items)) → place_in key (map entry_of items) ≡ New i → i ≤ length items
 within_new items key i sorted h =

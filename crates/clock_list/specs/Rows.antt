@@ -49,16 +49,20 @@ pub record SyncReadyAt (items : List Row) (i : ℕ) (other : DotState (Option Co
   pub get : slice_get items i ≡ Some row
   pub ready : IsSyncReady row.stored.clock other
 
--- a row of this key that knows nothing and has room for a sync
+-- what is stored of a key that isn't held: no actor, and a clock that knows nothing
+abbrev pub nothing : Stored Content
+nothing = record { own = None; clock = empty }
+
+-- a row of this key in which nothing is stored, with room for a sync
 pub record IsNewSyncRow (row : Row) (key : Key) (other : DotState (Option Content)) : Type 0 where
   pub same : row.key ≡ key
-  pub none : row.stored.clock.meaning ≡ empty
+  pub none : stored_of row.stored ≡ nothing
   pub ready : IsSyncReady row.stored.clock other
 
--- a row of this key that knows nothing and has room for a write
+-- the same, with room for a write
 pub record IsNewRow (row : Row) (key : Key) (seen : Option (List Dot)) (actor : Actor) : Type 0 where
   pub same : row.key ≡ key
-  pub none : row.stored.clock.meaning ≡ empty
+  pub none : stored_of row.stored ≡ nothing
   pub ready : IsReady row.stored.clock seen actor
 
 -- a list has room for a tombstone as for a value
@@ -83,11 +87,11 @@ contents_in items room = record { keys = map entry_of items; places = map place_
 abbrev pub view_of : Inside → Contents
 view_of v = contents_in v.rows.items v.room
 
--- a new row finds room for one more in the list, at the place of its key, and knows nothing
+-- a new row finds room for one more in the list, at the place of its key, and nothing is stored in it
 pub record FitsIn (rows : Vec Row Global) (i : ℕ) (row : Row) : Type 0 where
   pub more : vec_len rows < vec_capacity rows
   pub placed : place_in row.key (map entry_of rows.items) ≡ places.New i
-  pub none : row.stored.clock.meaning ≡ empty
+  pub none : stored_of row.stored ≡ nothing
 
 abbrev pub IsRoom : Vec Row Global → Option Room → Type 0
 IsRoom rows None = Unit {0}

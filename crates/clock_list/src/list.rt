@@ -91,7 +91,6 @@ fn make_sync_room(
     rows: &mut Vec<Row>,
     alloc: Global,
     key: &Key,
-    actor: Actor,
     other: &Clock<Option<BoxedContent>>,
 ) -> Result<Room, AllocError>
     requires sorted { IsTrue (is_sorted key_cmp (map entry_of rows.old.items)) }
@@ -109,7 +108,7 @@ fn make_sync_room(
             Ok(Room::At(i, own))
         }
         Place::New(i) => {
-            let row = new_sync_row(alloc, key, actor, other)?;
+            let row = new_sync_row(alloc, key, other)?;
             rows.reserve(1)?;
             Ok(Room::New(i, row))
         }
@@ -194,20 +193,19 @@ impl ClockStore for ClockList {
         alloc: Global,
         key: &Key,
         place: Option<KeyPlace>,
-        actor: Actor,
         other: &Clock<Option<BoxedContent>>,
     ) -> Result<(), AllocError> {
         let _place = place;
         self.room = None;
-        let room = make_sync_room(&mut self.rows, alloc, key, actor, other)?;
+        let room = make_sync_room(&mut self.rows, alloc, key, other)?;
         self.room = Some(room);
         Ok(())
     }
 
-    fn sync(&mut self, key: Key, actor: Actor, other: Clock<Option<BoxedContent>>) {
+    fn sync(&mut self, key: Key, other: Clock<Option<BoxedContent>>) {
         match self.room.take() {
-            Some(Room::At(i, _)) => sync_at(&mut self.rows, i, key, actor, other),
-            Some(Room::New(i, row)) => sync_new(&mut self.rows, i, row, actor, other),
+            Some(Room::At(i, _)) => sync_at(&mut self.rows, i, key, other),
+            Some(Room::New(i, row)) => sync_new(&mut self.rows, i, row, other),
             None => unreachable!(),
         }
     }

@@ -6,13 +6,13 @@ ghost use Rattle.riak_msgs.specs.KeyOrder.{key_cmp};
 ghost use Rattle.actor_epoch.specs.Limits.{max_actors};
 ghost use Rattle.dvv_set.specs.Clocks.{sync};
 ghost use Rattle.dvv_set.specs.Held.{IsWithin, IsReady, IsSyncReady, pairs_of as seen_in};
-ghost use Rattle.clock_store.specs.Keys.{empty, written, overwritten, synced};
+ghost use Rattle.clock_store.specs.Keys.{empty, stored_of, written, overwritten, synced};
 ghost use Rattle.clock_list.specs.declared.place.Place.TheVariants as places;
 ghost use Rattle.clock_list.specs.Places.{place_in};
-ghost use Rattle.clock_list.specs.Rows.{entry_of, FitsAt, ReadyAt, SyncFitsAt, SyncReadyAt, FitsIn, IsNewRow, IsNewSyncRow};
+ghost use Rattle.clock_list.specs.Rows.{entry_of, nothing, FitsAt, ReadyAt, SyncFitsAt, SyncReadyAt, FitsIn, IsNewRow, IsNewSyncRow};
 
 use actor_epoch::{Actor, Context};
-use clock_store::StoredClock;
+use clock_store::{OwnActor, StoredClock};
 use dvv_set::Clock;
 use riak_msgs::{BoxedContent, Key};
 use std::alloc::{AllocError, Global};
@@ -51,24 +51,32 @@ pub(crate) fn reserve_sync_at(
     rows[i].stored.reserve_sync(other)
 }
 
-/// A row of a key that isn't held: its clock is empty, with room for a sync.
+/// An empty clock, without an actor.
+fn empty_clock(alloc: Global) -> StoredClock
+    ensures { stored_of result ≡ nothing }
+{
+    StoredClock {
+        actor: OwnActor::none(),
+        clock: Clock::new(alloc),
+    }
+}
+
+/// A row of a key that isn't held: its clock is empty, without an actor, with room for a sync.
 pub(crate) fn new_sync_row(
     alloc: Global,
     key: &Key,
-    actor: Actor,
     other: &Clock<Option<BoxedContent>>,
 ) -> Result<Row, AllocError>
     requires { length (sync empty other.now.meaning).known ≤ max_actors }
     ensures { IfOk result (λ row. IsNewSyncRow row key.now other.now.meaning) }
 {
     let key = key.clone(alloc)?;
-    let clock = Clock::new(alloc);
-    let mut stored = StoredClock { actor, clock };
+    let mut stored = empty_clock(alloc);
     stored.reserve_sync(other)?;
     Ok(Row { key, stored })
 }
 
-/// A row of a key that isn't held: its clock is empty, with room for a write.
+/// A row of a key that isn't held: its clock is empty, without an actor, with room for a write.
 pub(crate) fn new_row(
     alloc: Global,
     key: &Key,
@@ -79,9 +87,8 @@ pub(crate) fn new_row(
     ensures { IfOk result (λ row. IsNewRow row key.now (seen_in seen.entry) actor) }
 {
     let key = key.clone(alloc)?;
-    let mut clock = Clock::new(alloc);
-    clock.reserve(seen, actor)?;
-    let stored = StoredClock { actor, clock };
+    let mut stored = empty_clock(alloc);
+    stored.reserve(seen, actor)?;
     Ok(Row { key, stored })
 }
 
@@ -141,38 +148,31 @@ pub(crate) fn write_new(
     }
 }
 
-/// Syncs the clock of the row at a place.
-pub(crate) fn sync_at(
-    rows: &mut Vec<Row>,
-    i: usize,
-    key: Key,
-    actor: Actor,
-    other: Clock<Option<BoxedContent>>,
-)
+/// Syncs the clock of the row at a place; its actor stays.
+pub(crate) fn sync_at(rows: &mut Vec<Row>, i: usize, key: Key, other: Clock<Option<BoxedContent>>)
     requires placed { place_in key (map entry_of rows.old.items) ≡ places.At i }
     requires ready { SyncReadyAt rows.old.items i other.meaning }
     ensures { map entry_of rows.new.items
-        ≡ synced (map entry_of rows.old.items) key actor other.meaning }
+        ≡ synced (map entry_of rows.old.items) key other.meaning }
 {
     let _key = key;
-    rows[i].stored.sync(actor, other);
+    rows[i].stored.sync(other);
 }
 
-/// Puts a row in at its place, with its first clock.
+/// Puts a row in at its place, with its first clock and no actor.
 pub(crate) fn sync_new(
     rows: &mut Vec<Row>,
     i: usize,
     mut row: Row,
-    actor: Actor,
     other: Clock<Option<BoxedContent>>,
 )
     requires sorted { IsTrue (is_sorted key_cmp (map entry_of rows.old.items)) }
     requires fits { FitsIn rows.old i row }
     requires ready { IsSyncReady row.stored.clock other.meaning }
     ensures { map entry_of rows.new.items
-        ≡ synced (map entry_of rows.old.items) row.key actor other.meaning }
+        ≡ synced (map entry_of rows.old.items) row.key other.meaning }
 {
-    row.stored.sync(actor, other);
+    row.stored.sync(other);
     if rows.insert(i, row).is_err() {
         unreachable!()
     }

@@ -2,6 +2,7 @@ mod Entries
 mod Ties
 mod Marks
 mod Maps
+mod Dying
 mod NextShown
 mod Views
 mod Passed

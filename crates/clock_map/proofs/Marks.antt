@@ -1,5 +1,5 @@
 -- The index of dead keys after a change, and the least of them.
-use Rattle.std.proofs.Common.{◌≡◌, ◌∙◌, ◌⊎◌, inl, inr, refl, sym, ap, subst, List, [], ◌∷◌, Bool, true, false, cond, map}
+use Rattle.std.proofs.Common.{◌≡◌, ◌∙◌, refl, sym, ap, subst, List, [], ◌∷◌, ℕ, Bool, true, false, cond, map}
 use Rattle.std.specs.Prelude.{◌&&◌, ◌||◌, Option, Some, None, is_some, slice_get, filter}
 use Rattle.std.specs.List.{list_any}
 use Rattle.std.specs.List.Sorted.{IsStrictlySortedBy}
@@ -26,45 +26,73 @@ use Rattle.vnode_machine.proofs.Seen.{less}
 use Rattle.vnode_machine.proofs.DeadKeys.{dead_entries, dead_by}
 use Rattle.clock_store.specs.Keys.{Keys}
 use Rattle.clock_store.specs.Forgetting.{holding}
-use Rattle.clock_map.specs.declared.index.DeadMark.{DeadMark}
-use Rattle.clock_map.specs.declared.index.DeadMark.TheVariants.{Spare, Dead}
-use Rattle.clock_map.specs.Index.{Index, is_marked, is_dead_mark, mark_of, without_spare, SpareIsNew, first_marked}
+use Rattle.clock_map.specs.Index.{Index, Adds, is_mark, is_marked, kept_if, without_spare, first_marked}
 use Rattle.clock_map.specs.Maps.{is_dead}
 use Rattle.clock_map.proofs.Entries.{same_key}
 use Rattle.clock_map.proofs.Ties.{at_same, clash}
 
--- one key shows something else, and has its mark by it
-module _ (dead new : Index) (was shown : Key → Option (Stored Content)) (key : Key) (o : Option (Stored Content)) (b : Bool)
-    (marks : (q : Key) → is_marked (tree.get key_cmp dead q) ≡ is_dead (was q))
-    (shows : (q : Key) → shown q ≡ cond (is_at (key_cmp key) q) o (was q))
-    (settled : (q : Key) → tree.get key_cmp new q ≡ mark_of key b q (tree.get key_cmp dead q))
-    (is : b ≡ is_dead o) where
-  pub settled_marks : (q : Key) → is_marked (tree.get key_cmp new q) ≡ is_dead (shown q)
-  settled_marks q = ap is_marked (settled q) ∙ by (is_at (key_cmp key) q) b is ∙ ap is_dead (sym (shows q))
+pub none_from : {X : Type 0} (o : Option X) → is_some o ≡ false → o ≡ None
+none_from None h = refl
+none_from (Some x) h = cc
+
+-- without a spare place each entry marks its key
+pub marked_some : (o : Option ℕ) → is_some o ≡ true → is_marked None o ≡ true
+marked_some None h = cc
+marked_some (Some p) h = refl
+
+-- one key shows something else, and keeps its entry where it is dead then
+module _ (spare : Option ℕ) (dead new : Index) (was shown : Key → Option (Stored Content)) (key : Key) (o : Option (Stored Content)) (b : Bool)
+    (settled : (q : Key) → tree.get key_cmp new q ≡ kept_if key b q (tree.get key_cmp dead q)) where
+  pub settled_marks : ((q : Key) → is_marked spare (tree.get key_cmp dead q) ≡ is_dead (was q))
+      → ((q : Key) → shown q ≡ cond (is_at (key_cmp key) q) o (was q)) → b ≡ is_dead o → (b ≡ true → is_some (tree.get key_cmp dead key) ≡ true)
+      → ((q : Key) → is_at (key_cmp key) q ≡ false → is_marked None (tree.get key_cmp dead q) ≡ is_marked spare (tree.get key_cmp dead q))
+      → (q : Key) → is_marked None (tree.get key_cmp new q) ≡ is_dead (shown q)
+  settled_marks marks shows is there apart q = ap (is_marked None) (settled q) ∙ by (is_at (key_cmp key) q) b refl is there ∙ ap is_dead (sym (shows q))
     where
-      by : (a c : Bool) → c ≡ is_dead o → is_marked (cond a (cond c (Some Dead) None) (tree.get key_cmp dead q)) ≡ is_dead (cond a o (was q))
+      by : (a c : Bool) → is_at (key_cmp key) q ≡ a → c ≡ is_dead o → (c ≡ true → is_some (tree.get key_cmp dead key) ≡ true)
+          → is_marked None (cond a (cond c (tree.get key_cmp dead q) None) (tree.get key_cmp dead q)) ≡ is_dead (cond a o (was q))
+      by true true at h there = marked_some (tree.get key_cmp dead q) (ap (λ k. is_some (tree.get key_cmp dead k)) (sym (same_key key q at)) ∙ there refl) ∙ h
+      by true false at h there = h
+      by false c at h there = apart q at ∙ marks q
+
+  -- what has an entry then had it
+  pub settled_old : (q : Key) (p : ℕ) → tree.get key_cmp new q ≡ Some p → tree.get key_cmp dead q ≡ Some p
+  settled_old q p h = by (is_at (key_cmp key) q) b (sym (settled q) ∙ h)
+    where
+      by : (a c : Bool) → cond a (cond c (tree.get key_cmp dead q) None) (tree.get key_cmp dead q) ≡ Some p → tree.get key_cmp dead q ≡ Some p
       by true true h = h
-      by true false h = h
-      by false c h = marks q
+      by true false h = cc
+      by false c h = h
 
-  pub settled_spare : ((q : Key) → tree.get key_cmp dead q ≡ Some Spare → key ≡ q) → (q : Key) → tree.get key_cmp new q ≡ Some Spare → ⊥
-  settled_spare only q h = by (is_at (key_cmp key) q) b refl (sym (settled q) ∙ h)
+  -- and isn't the key, where that isn't dead
+  pub settled_away : b ≡ false → (q : Key) (p : ℕ) → tree.get key_cmp new q ≡ Some p → is_at (key_cmp key) q ≡ false
+  settled_away alive q p h = by (is_at (key_cmp key) q) refl (sym (settled q ∙ ap (λ c. cond (is_at (key_cmp key) q) (cond c (tree.get key_cmp dead q) None) (tree.get key_cmp dead q)) alive) ∙ h)
     where
-      by : (a c : Bool) → is_at (key_cmp key) q ≡ a → cond a (cond c (Some Dead) None) (tree.get key_cmp dead q) ≡ Some Spare → ⊥
-      by true true at h = cc
-      by true false at h = cc
-      by false c at h = clash (sym (at_same key q (only q h)) ∙ at)
+      by : (a : Bool) → is_at (key_cmp key) q ≡ a → cond a None (tree.get key_cmp dead q) ≡ Some p → a ≡ false
+      by true at h = cc
+      by false at h = refl
 
--- without spare entries the same keys are marked, and none is spare
-pub unspared : (o : Option DeadMark) → is_marked (without_spare o) ≡ is_marked o
-unspared None = refl
-unspared (Some Spare) = refl
-unspared (Some Dead) = refl
+-- without the spare entry the same keys are marked
+pub unspared : (spare : Option ℕ) (o : Option ℕ) → is_marked None (without_spare spare o) ≡ is_marked spare o
+unspared spare None = refl
+unspared spare (Some p) = by (is_mark spare p)
+  where
+    by : (b : Bool) → is_marked None (cond b (Some p) None) ≡ b
+    by true = refl
+    by false = refl
 
-pub no_spare : (o : Option DeadMark) → without_spare o ≡ Some Spare → ⊥
-no_spare None h = cc
-no_spare (Some Spare) h = cc
-no_spare (Some Dead) h = cc
+-- and what has an entry had it, and was marked
+pub unspared_old : (spare : Option ℕ) (o : Option ℕ) (p : ℕ) → without_spare spare o ≡ Some p → (o ≡ Some p) × (is_marked spare o ≡ true)
+unspared_old spare None p h = cc
+unspared_old spare (Some r) p h = by (is_mark spare r) refl h
+  where
+    by : (b : Bool) → is_mark spare r ≡ b → cond b (Some r) None ≡ Some p → (Some r ≡ Some p) × (is_mark spare r ≡ true)
+    by true is h = (h, is)
+    by false is h = cc
+
+pub no_spare_mark : (o : Option ℕ) → without_spare None o ≡ o
+no_spare_mark None = refl
+no_spare_mark (Some p) = refl
 
 -- a test that a value passes wherever it is put
 pub any_put : {K V : Type 0} (R : K → K → Ordering) (p : K × V → Bool) (k : K) (v : V) (es : List (K × V)) → ((k : K) → p (k, v) ≡ true) → list_any p (put R k v es) ≡ true
@@ -206,15 +234,15 @@ find_lookup q [] = refl
 find_lookup q (e ∷ es) = ap (cond (is_at (key_cmp q) e.0) (Some e.1)) (find_lookup q es)
 
 -- where the marks are those of the dead keys, the least marked key is the first dead one
-module _ (keys : Keys) (sorted : is_sorted key_cmp keys ≡ true) (dead : Index) (ordered : IsOrdered key_cmp dead)
-    (marks : (q : Key) → is_marked (tree.get key_cmp dead q) ≡ is_dead (find key_cmp q keys)) (from : Option Key) where
-  abbrev marked : Key × DeadMark → Bool
-  marked entry = is_from from entry.0 && is_dead_mark entry.1
+module _ (keys : Keys) (sorted : is_sorted key_cmp keys ≡ true) (dead : Index) (ordered : IsOrdered key_cmp dead) (spare : Option ℕ)
+    (marks : (q : Key) → is_marked spare (tree.get key_cmp dead q) ≡ is_dead (find key_cmp q keys)) (from : Option Key) where
+  abbrev marked : Key × ℕ → Bool
+  marked entry = is_from from entry.0 && is_mark spare entry.1
 
   abbrev dies : Key × Stored Content → Bool
   dies entry = is_from from entry.0 && dead_by (Some entry.1)
 
-  by_marks : (q : Key) → is_marked (lookup (is_at (key_cmp q)) dead.entries) ≡ dead_by (find key_cmp q keys)
+  by_marks : (q : Key) → is_marked spare (lookup (is_at (key_cmp q)) dead.entries) ≡ dead_by (find key_cmp q keys)
   by_marks q = marks q ∙ by (find key_cmp q keys)
     where
       by : (o : Option (Stored Content)) → is_dead o ≡ dead_by o
@@ -222,30 +250,30 @@ module _ (keys : Keys) (sorted : is_sorted key_cmp keys ≡ true) (dead : Index)
       by (Some s) = refl
 
   -- a key that one list has, the other has
-  marked_dies : (q : Key) (mark : DeadMark) → find key_cmp q dead.entries ≡ Some mark → marked (q, mark) ≡ true → (s : Stored Content) × (find key_cmp q keys ≡ Some s) × (dies (q, s) ≡ true)
+  marked_dies : (q : Key) (mark : ℕ) → find key_cmp q dead.entries ≡ Some mark → marked (q, mark) ≡ true → (s : Stored Content) × (find key_cmp q keys ≡ Some s) × (dies (q, s) ≡ true)
   marked_dies q mark found is = by (find key_cmp q keys) refl
     where
       is_dead_now : dead_by (find key_cmp q keys) ≡ true
-      is_dead_now = sym (by_marks q) ∙ ap is_marked (sym (find_lookup q dead.entries) ∙ found) ∙ and_right (is_from from q) _ is
+      is_dead_now = sym (by_marks q) ∙ ap (is_marked spare) (sym (find_lookup q dead.entries) ∙ found) ∙ and_right (is_from from q) _ is
 
       by : (o : Option (Stored Content)) → find key_cmp q keys ≡ o → (s : Stored Content) × (o ≡ Some s) × (dies (q, s) ≡ true)
       by None h = clash (sym is_dead_now ∙ ap dead_by h)
       by (Some s) h = (s, refl, (λ i. and_left (is_from from q) _ is i && (sym (ap dead_by h) ∙ is_dead_now) i))
 
-  dies_marked : (q : Key) (s : Stored Content) → find key_cmp q keys ≡ Some s → dies (q, s) ≡ true → (mark : DeadMark) × (find key_cmp q dead.entries ≡ Some mark) × (marked (q, mark) ≡ true)
+  dies_marked : (q : Key) (s : Stored Content) → find key_cmp q keys ≡ Some s → dies (q, s) ≡ true → (mark : ℕ) × (find key_cmp q dead.entries ≡ Some mark) × (marked (q, mark) ≡ true)
   dies_marked q s found is = by (find key_cmp q dead.entries) refl
     where
-      is_marked_now : is_marked (find key_cmp q dead.entries) ≡ true
-      is_marked_now = ap is_marked (find_lookup q dead.entries) ∙ by_marks q ∙ ap dead_by found ∙ and_right (is_from from q) _ is
+      is_marked_now : is_marked spare (find key_cmp q dead.entries) ≡ true
+      is_marked_now = ap (is_marked spare) (find_lookup q dead.entries) ∙ by_marks q ∙ ap dead_by found ∙ and_right (is_from from q) _ is
 
-      by : (o : Option DeadMark) → find key_cmp q dead.entries ≡ o → (mark : DeadMark) × (o ≡ Some mark) × (marked (q, mark) ≡ true)
-      by None h = clash (sym is_marked_now ∙ ap is_marked h)
-      by (Some mark) h = (mark, refl, (λ i. and_left (is_from from q) _ is i && (sym (ap is_marked h) ∙ is_marked_now) i))
+      by : (o : Option ℕ) → find key_cmp q dead.entries ≡ o → (mark : ℕ) × (o ≡ Some mark) × (marked (q, mark) ≡ true)
+      by None h = clash (sym is_marked_now ∙ ap (is_marked spare) h)
+      by (Some mark) h = (mark, refl, (λ i. and_left (is_from from q) _ is i && (sym (ap (is_marked spare) h) ∙ is_marked_now) i))
 
   first_dies : first_of dies keys ≡ first_dead (holding keys) from
   first_dies = sym (ap (λ ks. slice_get ks 0) (dead_entries (holding keys) from sorted))
 
-  pub first_same : first_marked from dead.entries ≡ first_dead (holding keys) from
+  pub first_same : first_marked spare from dead.entries ≡ first_dead (holding keys) from
   first_same = by (first_of marked dead.entries) (first_of dies keys) refl refl ∙ first_dies
     where
       by : (a b : Option Key) → first_of marked dead.entries ≡ a → first_of dies keys ≡ b → a ≡ b
@@ -267,84 +295,83 @@ module _ (keys : Keys) (sorted : is_sorted key_cmp keys ≡ true) (dead : Index)
 
 -- ---- one call of the index
 
-none_from : {X : Type 0} (o : Option X) → is_some o ≡ false → o ≡ None
-none_from None h = refl
-none_from (Some x) h = cc
+-- an entry for a key that has none
+pub added_mark : (dead new : Index) (key own : Key) (place : ℕ) → own ≡ key → is_some (tree.get key_cmp dead key) ≡ false
+    → ((q : Key) → tree.get key_cmp new q ≡ cond (is_at (key_cmp own) q) (Some place) (tree.get key_cmp dead q)) → Adds dead new key place true
+added_mark dead new key own place same absent put = record {
+  was = absent;
+  entries = λ q. put q ∙ ap (λ k. cond (is_at (key_cmp k) q) (Some place) (tree.get key_cmp dead q)) same;
+}
 
--- a spare entry for a key that has none
-module _ (dead new : Index) (key own : Key) (same : own ≡ key) (absent : is_some (tree.get key_cmp dead key) ≡ false)
-    (put : (q : Key) → tree.get key_cmp new q ≡ cond (is_at (key_cmp own) q) (Some Spare) (tree.get key_cmp dead q)) where
-  put_key : (q : Key) → tree.get key_cmp new q ≡ cond (is_at (key_cmp key) q) (Some Spare) (tree.get key_cmp dead q)
-  put_key q = put q ∙ ap (λ k. cond (is_at (key_cmp k) q) (Some Spare) (tree.get key_cmp dead q)) same
-
-  pub spare_marks : (q : Key) → is_marked (tree.get key_cmp new q) ≡ is_marked (tree.get key_cmp dead q)
-  spare_marks q = ap is_marked (put_key q) ∙ by (is_at (key_cmp key) q) refl
-    where
-      by : (b : Bool) → is_at (key_cmp key) q ≡ b → is_marked (cond b (Some Spare) (tree.get key_cmp dead q)) ≡ is_marked (tree.get key_cmp dead q)
-      by true at = sym (ap is_marked (ap (tree.get key_cmp dead) (sym (same_key key q at)) ∙ none_from _ absent))
-      by false at = refl
-
-  pub spare_is_new : (q : Key) → SpareIsNew dead new key q
-  spare_is_new q h = by (is_at (key_cmp key) q) refl (sym (put_key q) ∙ h)
-    where
-      by : (b : Bool) → is_at (key_cmp key) q ≡ b → cond b (Some Spare) (tree.get key_cmp dead q) ≡ Some Spare → (q ≡ key) ⊎ (tree.get key_cmp dead q ≡ Some Spare)
-      by true at h = inl (sym (same_key key q at))
-      by false at h = inr h
-
--- the same entries
-module _ (dead new : Index) (key : Key) (same : new.entries ≡ dead.entries) where
-  pub kept_marks : (q : Key) → is_marked (tree.get key_cmp new q) ≡ is_marked (tree.get key_cmp dead q)
-  kept_marks q = ap (λ es. is_marked (lookup (is_at (key_cmp q)) es)) same
-
-  pub kept_spare : (q : Key) → SpareIsNew dead new key q
-  kept_spare q h = inr (ap (λ es. lookup (is_at (key_cmp q)) es) (sym same) ∙ h)
-
--- a key without an entry that isn't dead keeps none
-pub unmarked_same : (index : Index) (key : Key) (is_dead : Bool) → is_dead ≡ false → tree.get key_cmp index key ≡ None → (q : Key)
-    → tree.get key_cmp index q ≡ mark_of key is_dead q (tree.get key_cmp index q)
-unmarked_same index key is_dead alive absent q = by (is_at (key_cmp key) q) refl
+-- the entry that a key has
+pub kept_mark : (dead : Index) (key : Key) (place : ℕ) → is_some (tree.get key_cmp dead key) ≡ true → Adds dead dead key place false
+kept_mark dead key place there = record { was = there; entries = λ q. by (is_at (key_cmp key) q) (tree.get key_cmp dead q) }
   where
-    by : (b : Bool) → is_at (key_cmp key) q ≡ b → tree.get key_cmp index q ≡ cond b (cond is_dead (Some Dead) None) (tree.get key_cmp index q)
-    by true at = ap (tree.get key_cmp index) (sym (same_key key q at)) ∙ absent ∙ sym (ap (λ b. cond b (Some Dead) None) alive)
+    by : (b : Bool) (o : Option ℕ) → o ≡ cond b o o
+    by true o = refl
+    by false o = refl
+
+-- a key that is dead keeps its entry
+pub dead_same : (index : Index) (key : Key) (is_dead : Bool) → is_dead ≡ true → (q : Key) → tree.get key_cmp index q ≡ kept_if key is_dead q (tree.get key_cmp index q)
+dead_same index key is_dead dies q = by (is_at (key_cmp key) q)
+  where
+    by : (b : Bool) → tree.get key_cmp index q ≡ cond b (cond is_dead (tree.get key_cmp index q) None) (tree.get key_cmp index q)
+    by true = sym (ap (λ b. cond b (tree.get key_cmp index q) None) dies)
+    by false = refl
+
+-- a key without an entry has none to keep
+pub absent_same : (index : Index) (key : Key) (is_dead : Bool) → tree.get key_cmp index key ≡ None → (q : Key) → tree.get key_cmp index q ≡ kept_if key is_dead q (tree.get key_cmp index q)
+absent_same index key is_dead absent q = by (is_at (key_cmp key) q) refl
+  where
+    none : (b : Bool) (o : Option ℕ) → o ≡ None → o ≡ cond b o None
+    none true o h = refl
+    none false o h = h
+
+    by : (b : Bool) → is_at (key_cmp key) q ≡ b → tree.get key_cmp index q ≡ cond b (cond is_dead (tree.get key_cmp index q) None) (tree.get key_cmp index q)
+    by true at = none is_dead _ (ap (tree.get key_cmp index) (sym (same_key key q at)) ∙ absent)
     by false at = refl
 
+-- an entry that goes as one of a key that isn't dead
+pub alive_kept : (index new : Index) (key : Key) (is_dead : Bool) → is_dead ≡ false → ((q : Key) → tree.get key_cmp new q ≡ kept_if key false q (tree.get key_cmp index q))
+    → (q : Key) → tree.get key_cmp new q ≡ kept_if key is_dead q (tree.get key_cmp index q)
+alive_kept index new key is_dead alive gone q = gone q ∙ ap (λ b. kept_if key b q (tree.get key_cmp index q)) (sym alive)
+
 -- the entries of dead keys alone
-pub filtered : (dead new : Index) → IsOrdered key_cmp dead → new.entries ≡ filter (λ e. is_dead_mark e.1) dead.entries → (q : Key)
-    → tree.get key_cmp new q ≡ without_spare (tree.get key_cmp dead q)
-filtered dead new ordered is q =
+pub filtered : (spare : Option ℕ) (dead new : Index) → IsOrdered key_cmp dead → new.entries ≡ filter (λ e. is_mark spare e.1) dead.entries → (q : Key)
+    → tree.get key_cmp new q ≡ without_spare spare (tree.get key_cmp dead q)
+filtered spare dead new ordered is q =
     ap (λ es. lookup (is_at (key_cmp q)) es) is
-    ∙ lookup-filter-values (eq_by_cmp_equiv key_cmp_total) is_dead_mark q dead.entries (IsDistinct-from_sorted key_cmp (keys_of dead.entries) ordered)
+    ∙ lookup-filter-values (eq_by_cmp_equiv key_cmp_total) (is_mark spare) q dead.entries (IsDistinct-from_sorted key_cmp (keys_of dead.entries) ordered)
     ∙ by (tree.get key_cmp dead q)
   where
-    by : (o : Option DeadMark) → option_filter is_dead_mark o ≡ without_spare o
+    by : (o : Option ℕ) → option_filter (is_mark spare) o ≡ without_spare spare o
     by None = refl
-    by (Some Spare) = refl
-    by (Some Dead) = refl
+    by (Some p) = refl
 
-pub first_head : (e : Key × DeadMark) (es : List (Key × DeadMark)) → is_dead_mark e.1 ≡ true → first_marked None (e ∷ es) ≡ Some e.0
-first_head e es h =
-    ap (λ b. slice_get (map (λ (entry : Key × DeadMark). entry.0) (cond b (e ∷ filter (λ (entry : Key × DeadMark). is_dead_mark entry.1) es) (filter (λ (entry : Key × DeadMark). is_dead_mark entry.1) es))) 0) h
+pub first_head : (spare : Option ℕ) (e : Key × ℕ) (es : List (Key × ℕ)) → is_mark spare e.1 ≡ true → first_marked spare None (e ∷ es) ≡ Some e.0
+first_head spare e es h =
+    ap (λ b. slice_get (map (λ (entry : Key × ℕ). entry.0) (cond b (e ∷ filter (λ (entry : Key × ℕ). is_mark spare entry.1) es) (filter (λ (entry : Key × ℕ). is_mark spare entry.1) es))) 0) h
 
 -- the first dead key of a part is the first one from there on
-pub first_within : (inside : Key → Bool) (from : Option Key) → ((k : Key) → inside k ≡ is_from from k) → (es : List (Key × DeadMark))
-    → first_marked None (filter (λ e. inside e.0) es) ≡ first_marked from es
-first_within inside from same es = ap (λ xs. slice_get (map (λ (e : Key × DeadMark). e.0) xs) 0) (filters es)
+pub first_within : (spare : Option ℕ) (inside : Key → Bool) (from : Option Key) → ((k : Key) → inside k ≡ is_from from k) → (es : List (Key × ℕ))
+    → first_marked spare None (filter (λ e. inside e.0) es) ≡ first_marked spare from es
+first_within spare inside from same es = ap (λ xs. slice_get (map (λ (e : Key × ℕ). e.0) xs) 0) (filters es)
   where
-    filters : (es : List (Key × DeadMark)) → filter (λ (e : Key × DeadMark). is_dead_mark e.1) (filter (λ (e : Key × DeadMark). inside e.0) es)
-        ≡ filter (λ (e : Key × DeadMark). is_from from e.0 && is_dead_mark e.1) es
+    filters : (es : List (Key × ℕ)) → filter (λ (e : Key × ℕ). is_mark spare e.1) (filter (λ (e : Key × ℕ). inside e.0) es)
+        ≡ filter (λ (e : Key × ℕ). is_from from e.0 && is_mark spare e.1) es
     filters [] = refl
     filters (e ∷ es) = by (inside e.0) refl (filters es)
       where
-        kept : List (Key × DeadMark)
-        kept = filter (λ (e : Key × DeadMark). is_from from e.0 && is_dead_mark e.1) es
+        kept : List (Key × ℕ)
+        kept = filter (λ (e : Key × ℕ). is_from from e.0 && is_mark spare e.1) es
 
-        rest : List (Key × DeadMark)
-        rest = filter (λ (e : Key × DeadMark). inside e.0) es
+        rest : List (Key × ℕ)
+        rest = filter (λ (e : Key × ℕ). inside e.0) es
 
-        by : (b : Bool) → inside e.0 ≡ b → filter (λ (e : Key × DeadMark). is_dead_mark e.1) rest ≡ kept
-            → filter (λ (e : Key × DeadMark). is_dead_mark e.1) (cond b (e ∷ rest) rest) ≡ cond (is_from from e.0 && is_dead_mark e.1) (e ∷ kept) kept
-        by true is h = (λ i. cond (is_dead_mark e.1) (e ∷ h i) (h i)) ∙ ap (λ b. cond (b && is_dead_mark e.1) (e ∷ kept) kept) (sym is ∙ same e.0)
-        by false is h = h ∙ ap (λ b. cond (b && is_dead_mark e.1) (e ∷ kept) kept) (sym is ∙ same e.0)
+        by : (b : Bool) → inside e.0 ≡ b → filter (λ (e : Key × ℕ). is_mark spare e.1) rest ≡ kept
+            → filter (λ (e : Key × ℕ). is_mark spare e.1) (cond b (e ∷ rest) rest) ≡ cond (is_from from e.0 && is_mark spare e.1) (e ∷ kept) kept
+        by true is h = (λ i. cond (is_mark spare e.1) (e ∷ h i) (h i)) ∙ ap (λ b. cond (b && is_mark spare e.1) (e ∷ kept) kept) (sym is ∙ same e.0)
+        by false is h = h ∙ ap (λ b. cond (b && is_mark spare e.1) (e ∷ kept) kept) (sym is ∙ same e.0)
 
 pub and_true : (b : Bool) → (b && true) ≡ b
 and_true true = refl
@@ -353,9 +380,3 @@ and_true false = refl
 pub some_copied : {A : Type 0} (o : Option (Bor A)) → is_some (option_map (λ (k : Bor A). k.now) o) ≡ is_some o
 some_copied None = refl
 some_copied (Some k) = refl
-
--- what is no spare entry stays
-pub without_none : (o : Option DeadMark) → (o ≡ Some Spare → ⊥) → o ≡ without_spare o
-without_none None h = refl
-without_none (Some Spare) h = absurd (h refl)
-without_none (Some Dead) h = refl

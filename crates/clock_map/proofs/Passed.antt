@@ -1,5 +1,5 @@
 -- The entries before a key, and those from it on.
-use Rattle.std.proofs.Common.{◌≡◌, ◌∙◌, refl, sym, ap, List, [], ◌∷◌, Bool, true, false, not, cond, length, drop}
+use Rattle.std.proofs.Common.{◌≡◌, ◌∙◌, refl, sym, ap, List, [], ◌∷◌, ℕ, Bool, true, false, not, cond, length, drop}
 use Rattle.std.specs.Prelude.{Some, None, filter}
 use Rattle.std.specs.List.{AllByRecursion}
 use Rattle.std.specs.List.Sorted.{IsStrictlySortedBy}
@@ -11,7 +11,6 @@ use Rattle.std.proofs.lemmas.Map.Keys.{sorted_head, sorted_tail}
 use Rattle.riak_msgs.specs.declared.Key.{Key}
 use Rattle.riak_msgs.specs.KeyOrder.{key_cmp}
 use Rattle.vnode_machine.proofs.Keys.{key_cmp_total}
-use Rattle.clock_map.specs.declared.index.DeadMark.{DeadMark}
 use Rattle.clock_map.specs.Index.{first_marked}
 use Rattle.clock_map.proofs.Marks.{first_within}
 
@@ -25,22 +24,22 @@ le_less a b c le less = by (key_cmp a b) refl le
     by Greater is h = cc
 
 module _ (from : Key) where
-  abbrev before : List (Key × DeadMark) → List (Key × DeadMark)
-  before es = filter (λ (e : Key × DeadMark). not (is_le (key_cmp from e.0))) es
+  abbrev before : List (Key × ℕ) → List (Key × ℕ)
+  before es = filter (λ (e : Key × ℕ). not (is_le (key_cmp from e.0))) es
 
-  abbrev onward : List (Key × DeadMark) → List (Key × DeadMark)
-  onward es = filter (λ (e : Key × DeadMark). is_le (key_cmp from e.0)) es
+  abbrev onward : List (Key × ℕ) → List (Key × ℕ)
+  onward es = filter (λ (e : Key × ℕ). is_le (key_cmp from e.0)) es
 
   -- after a key that isn't before it none is
-  none_before : (k : Key) (es : List (Key × DeadMark)) → is_le (key_cmp from k) ≡ true → AllByRecursion (λ y. key_cmp k y ≡ Less) (keys_of es) → before es ≡ []
+  none_before : (k : Key) (es : List (Key × ℕ)) → is_le (key_cmp from k) ≡ true → AllByRecursion (λ y. key_cmp k y ≡ Less) (keys_of es) → before es ≡ []
   none_before k [] le all = refl
   none_before k (e ∷ es) le all = ap (λ b. cond (not b) (e ∷ before es) (before es)) (le_less from k e.0 le all.0) ∙ none_before k es le all.1
 
-  all_onward : (k : Key) (es : List (Key × DeadMark)) → is_le (key_cmp from k) ≡ true → AllByRecursion (λ y. key_cmp k y ≡ Less) (keys_of es) → onward es ≡ es
+  all_onward : (k : Key) (es : List (Key × ℕ)) → is_le (key_cmp from k) ≡ true → AllByRecursion (λ y. key_cmp k y ≡ Less) (keys_of es) → onward es ≡ es
   all_onward k [] le all = refl
   all_onward k (e ∷ es) le all = ap (λ b. cond b (e ∷ onward es) (onward es)) (le_less from k e.0 le all.0) ∙ ap (λ xs. e ∷ xs) (all_onward k es le all.1)
 
-  passed : (es : List (Key × DeadMark)) → IsStrictlySortedBy key_cmp (keys_of es) → drop (length (before es)) es ≡ onward es
+  passed : (es : List (Key × ℕ)) → IsStrictlySortedBy key_cmp (keys_of es) → drop (length (before es)) es ≡ onward es
   passed [] sorted = refl
   passed (e ∷ es) sorted = by (is_le (key_cmp from e.0)) refl (passed es (sorted_tail key_cmp e.0 (keys_of es) sorted))
     where
@@ -50,10 +49,10 @@ module _ (from : Key) where
       by : (b : Bool) → is_le (key_cmp from e.0) ≡ b → drop (length (before es)) es ≡ onward es
           → drop (length (cond (not b) (e ∷ before es) (before es))) (e ∷ es) ≡ cond b (e ∷ onward es) (onward es)
       by true is rest =
-          ap (λ (xs : List (Key × DeadMark)). drop (length xs) (e ∷ es)) (none_before e.0 es is above)
+          ap (λ (xs : List (Key × ℕ)). drop (length xs) (e ∷ es)) (none_before e.0 es is above)
           ∙ ap (λ xs. e ∷ xs) (sym (all_onward e.0 es is above))
       by false is rest = rest
 
   -- the first dead key after those before a key is the first from it on
-  pub first_passed : (es : List (Key × DeadMark)) → IsStrictlySortedBy key_cmp (keys_of es) → first_marked None (drop (length (before es)) es) ≡ first_marked (Some from) es
-  first_passed es sorted = ap (first_marked None) (passed es sorted) ∙ first_within (λ k. is_le (key_cmp from k)) (Some from) (λ k. refl) es
+  pub first_passed : (es : List (Key × ℕ)) → IsStrictlySortedBy key_cmp (keys_of es) → first_marked None None (drop (length (before es)) es) ≡ first_marked None (Some from) es
+  first_passed es sorted = ap (first_marked None None) (passed es sorted) ∙ first_within None (λ k. is_le (key_cmp from k)) (Some from) (λ k. refl) es

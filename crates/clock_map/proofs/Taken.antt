@@ -23,8 +23,7 @@ use Rattle.std.proofs.lemmas.Map.Keys.{sorted_head, sorted_tail}
 use Rattle.riak_msgs.specs.declared.Key.{Key}
 use Rattle.riak_msgs.specs.KeyOrder.{key_cmp}
 use Rattle.vnode_machine.proofs.DeadKeys.{eq-itself}
-use Rattle.clock_map.specs.declared.index.DeadMark.{DeadMark}
-use Rattle.clock_map.specs.Index.{Index, is_dead_mark, first_marked, left_by}
+use Rattle.clock_map.specs.Index.{Index, is_mark, first_marked, left_by}
 use Rattle.clock_map.proofs.Entries.{same_key, past}
 use Rattle.clock_map.proofs.Ties.{at_same, clash}
 use Rattle.clock_map.proofs.Marks.{first_head}
@@ -32,14 +31,14 @@ use Rattle.std_collections.specs.Btree.Order.{until}
 use Rattle.clock_map.proofs.Until.{until-all}
 
 abbrev pub Entries : Type 0
-Entries = List (Key × DeadMark)
+Entries = List (Key × ℕ)
 
 -- an entry that isn't dead isn't the first
-first_tail : (e : Key × DeadMark) (es : Entries) → is_dead_mark e.1 ≡ false → first_marked None (e ∷ es) ≡ first_marked None es
+first_tail : (e : Key × ℕ) (es : Entries) → is_mark None e.1 ≡ false → first_marked None None (e ∷ es) ≡ first_marked None None es
 first_tail e es h =
-    ap (λ b. slice_get (map (λ (entry : Key × DeadMark). entry.0) (cond b (e ∷ filter (λ (entry : Key × DeadMark). is_dead_mark entry.1) es) (filter (λ (entry : Key × DeadMark). is_dead_mark entry.1) es))) 0) h
+    ap (λ b. slice_get (map (λ (entry : Key × ℕ). entry.0) (cond b (e ∷ filter (λ (entry : Key × ℕ). is_mark None entry.1) es) (filter (λ (entry : Key × ℕ). is_mark None entry.1) es))) 0) h
 
-filter-all : (es : Entries) → filter (λ (e : Key × DeadMark). true) es ≡ es
+filter-all : (es : Entries) → filter (λ (e : Key × ℕ). true) es ≡ es
 filter-all [] = refl
 filter-all (e ∷ es) = ap (λ rest. e ∷ rest) (filter-all es)
 
@@ -49,7 +48,7 @@ between-all es = filter-all es
 
 -- ---- the keys without one of them
 
-all_at : (P : Key → Type 0) (front : Entries) (e : Key × DeadMark) (back : Entries) → AllByRecursion P (keys_of (front ++ (e ∷ back))) → P e.0
+all_at : (P : Key → Type 0) (front : Entries) (e : Key × ℕ) (back : Entries) → AllByRecursion P (keys_of (front ++ (e ∷ back))) → P e.0
 all_at P [] e back all = all.0
 all_at P (x ∷ front) e back all = all_at P front e back all.1
 
@@ -60,7 +59,7 @@ apart_less a b less = by (is_at (key_cmp b) a) refl
     by true at = clash (sym (eq-itself a) ∙ ap is_eq (ap (key_cmp a) (sym (same_key b a at)) ∙ less))
     by false at = refl
 
-without : (q : Key) (front : Entries) (e : Key × DeadMark) (back : Entries) → IsStrictlySortedBy key_cmp (keys_of (front ++ (e ∷ back)))
+without : (q : Key) (front : Entries) (e : Key × ℕ) (back : Entries) → IsStrictlySortedBy key_cmp (keys_of (front ++ (e ∷ back)))
     → lookup (is_at (key_cmp q)) (front ++ back) ≡ cond (is_at (key_cmp e.0) q) None (lookup (is_at (key_cmp q)) (front ++ (e ∷ back)))
 without q [] e back sorted = by (is_at (key_cmp e.0) q) (is_at (key_cmp q) e.0) refl refl
   where
@@ -92,7 +91,7 @@ append_through [] ys zs = refl
 append_through (x ∷ xs) ys zs = ap (λ rest. x ∷ rest) (append_through xs ys zs)
 
 -- entries from which what was found is gone
-taken : (r : Option (Key × DeadMark)) (es fs : Entries) (i : ℕ) (kept rest : Entries) → IsStrictlySortedBy key_cmp (keys_of es) → drop i es ≡ kept ++ (option_to_list r ++ rest)
+taken : (r : Option (Key × ℕ)) (es fs : Entries) (i : ℕ) (kept rest : Entries) → IsStrictlySortedBy key_cmp (keys_of es) → drop i es ≡ kept ++ (option_to_list r ++ rest)
     → fs ≡ take i es ++ (kept ++ drop (i + length kept + length (option_to_list r)) es) → (q : Key) → lookup (is_at (key_cmp q)) fs ≡ left_by r q (lookup (is_at (key_cmp q)) es)
 taken None es fs i kept rest sorted split is q =
     ap (lookup (is_at (key_cmp q)))
@@ -110,15 +109,15 @@ taken (Some e) es fs i kept rest sorted split is q =
     subst_sorted xs ys is h = subst (λ xs. IsStrictlySortedBy key_cmp (keys_of xs)) is h
 
 -- a test that passes over so many entries, then picks the dead ones, and changes none
-module _ {P : Type 0} (left : P → ℕ) (T : P → Key → DeadMark → Bool → DeadMark → P → Type 0)
-    (keeps : (f : P) (k : Key) (v : DeadMark) (b : Bool) (w : DeadMark) (g : P) → T f k v b w g → w ≡ v)
-    (picks : (f : P) (k : Key) (v : DeadMark) (b : Bool) (w : DeadMark) (g : P) → T f k v b w g → left f ≡ 0 → (b ≡ is_dead_mark v) × (left g ≡ 0))
-    (passes : (n : ℕ) (f : P) (k : Key) (v : DeadMark) (b : Bool) (w : DeadMark) (g : P) → T f k v b w g → left f ≡ suc n → (b ≡ false) × (left g ≡ n)) where
+module _ {P : Type 0} (left : P → ℕ) (T : P → Key → ℕ → Bool → ℕ → P → Type 0)
+    (keeps : (f : P) (k : Key) (v : ℕ) (b : Bool) (w : ℕ) (g : P) → T f k v b w g → w ≡ v)
+    (picks : (f : P) (k : Key) (v : ℕ) (b : Bool) (w : ℕ) (g : P) → T f k v b w g → left f ≡ 0 → (b ≡ is_mark None v) × (left g ≡ 0))
+    (passes : (n : ℕ) (f : P) (k : Key) (v : ℕ) (b : Bool) (w : ℕ) (g : P) → T f k v b w g → left f ≡ suc n → (b ≡ false) × (left g ≡ n)) where
   -- what a step over entries found, and what lies around it
-  found : (n : ℕ) (f : P) (xs : Entries) (r : Option (Key × DeadMark)) (g : P) (kept rest : Entries) → left f ≡ n → ExtractsNext (CallAtEntry T) f xs r g kept rest
-      → (option_map (λ e. e.0) r ≡ first_marked None (drop n xs)) × (xs ≡ kept ++ (option_to_list r ++ rest))
+  found : (n : ℕ) (f : P) (xs : Entries) (r : Option (Key × ℕ)) (g : P) (kept rest : Entries) → left f ≡ n → ExtractsNext (CallAtEntry T) f xs r g kept rest
+      → (option_map (λ e. e.0) r ≡ first_marked None None (drop n xs)) × (xs ≡ kept ++ (option_to_list r ++ rest))
   found n f [] r g kept rest is e = (
-    ap (option_map (λ (e : Key × DeadMark). e.0)) e.0 ∙ sym (ap (first_marked None) (drop-nil n)),
+    ap (option_map (λ (e : Key × ℕ). e.0)) e.0 ∙ sym (ap (first_marked None None) (drop-nil n)),
     (λ i. sym e.2 i ++ (option_to_list (sym e.0 i) ++ sym e.3 i)),
   )
   found n f (x ∷ xs) r g kept rest is e = by n e.0 is e.3.1 (λ m ks at. found m u xs r g ks rest at) e.4
@@ -126,18 +125,18 @@ module _ {P : Type 0} (left : P → ℕ) (T : P → Key → DeadMark → Bool �
       u : P
       u = e.1
 
-      y : Key × DeadMark
+      y : Key × ℕ
       y = e.2
 
       same : y ≡ x
       same = λ i. (e.3.0 i, keeps f x.0 x.1 e.0 y.1 u e.3.1 i)
 
       by : (n : ℕ) (b : Bool) → left f ≡ n → T f x.0 x.1 b y.1 u
-          → ((m : ℕ) (ks : Entries) → left u ≡ m → ExtractsNext (CallAtEntry T) u xs r g ks rest → (option_map (λ e. e.0) r ≡ first_marked None (drop m xs)) × (xs ≡ ks ++ (option_to_list r ++ rest)))
+          → ((m : ℕ) (ks : Entries) → left u ≡ m → ExtractsNext (CallAtEntry T) u xs r g ks rest → (option_map (λ e. e.0) r ≡ first_marked None None (drop m xs)) × (xs ≡ ks ++ (option_to_list r ++ rest)))
           → MatchBool b ((r ≡ Some y) × (g ≡ u) × (kept ≡ []) × (rest ≡ xs)) ((ks : Entries) × ExtractsNext (CallAtEntry T) u xs r g ks rest × (kept ≡ y ∷ ks))
-          → (option_map (λ e. e.0) r ≡ first_marked None (drop n (x ∷ xs))) × (x ∷ xs ≡ kept ++ (option_to_list r ++ rest))
+          → (option_map (λ e. e.0) r ≡ first_marked None None (drop n (x ∷ xs))) × (x ∷ xs ≡ kept ++ (option_to_list r ++ rest))
       by zero true is called after h = (
-        ap (option_map (λ (e : Key × DeadMark). e.0)) (h.0 ∙ ap Some same) ∙ sym (first_head x xs (sym (picks f x.0 x.1 true y.1 u called is).0)),
+        ap (option_map (λ (e : Key × ℕ). e.0)) (h.0 ∙ ap Some same) ∙ sym (first_head None x xs (sym (picks f x.0 x.1 true y.1 u called is).0)),
         (λ i. sym same i ∷ xs) ∙ (λ i. sym h.2 i ++ (option_to_list (sym h.0 i) ++ sym h.3 i)),
       )
       by zero false is called after h =
@@ -155,15 +154,15 @@ module _ {P : Type 0} (left : P → ℕ) (T : P → Key → DeadMark → Bool �
 
   module _ {R : Type 0} (known : R → Type 0) (end : R → Key → Ordering) where
     -- a step finds the first dead key behind those that it passes over
-    pub step_first : (m n : Index) (c d : Option (Cursor R P)) (r : Option (Key × DeadMark)) (test : P) (range : R) → ((x : R) → known x) → ExtractsUp T known end m c r n d
-        → IfSome c (λ s. (s.within.test ≡ test) × (s.within.range ≡ range)) → option_map (λ e. e.0) r ≡ first_marked None (drop (left test) (extract_rest end m c))
-    step_first m n None d r test range all h holds = ap (option_map (λ (e : Key × DeadMark). e.0)) h.0 ∙ sym (ap (first_marked None) (drop-nil (left test)))
+    pub step_first : (m n : Index) (c d : Option (Cursor R P)) (r : Option (Key × ℕ)) (test : P) (range : R) → ((x : R) → known x) → ExtractsUp T known end m c r n d
+        → IfSome c (λ s. (s.within.test ≡ test) × (s.within.range ≡ range)) → option_map (λ e. e.0) r ≡ first_marked None None (drop (left test) (extract_rest end m c))
+    step_first m n None d r test range all h holds = ap (option_map (λ (e : Key × ℕ). e.0)) h.0 ∙ sym (ap (first_marked None None) (drop-nil (left test)))
     step_first m n (Some s) d r test range all h holds =
         let it = h (all s.within.range) in
         (found (left test) s.within.test (extract_rest end m (Some s)) r it.0 it.1.0 (extract_rest end n d) (ap left holds.0) it.1.1).0
 
     -- and takes it out, where its range has no end
-    pub step_taken : (m n : Index) (c d : Option (Cursor R P)) (r : Option (Key × DeadMark)) (test : P) (range : R) → ((x : R) → known x) → ExtractsUp T known end m c r n d
+    pub step_taken : (m n : Index) (c d : Option (Cursor R P)) (r : Option (Key × ℕ)) (test : P) (range : R) → ((x : R) → known x) → ExtractsUp T known end m c r n d
         → IsOrdered key_cmp m → IfSome c (λ s. (s.within.test ≡ test) × (s.within.range ≡ range)) → end range ≡ (λ k. Greater)
         → (q : Key) → tree.get key_cmp n q ≡ left_by r q (tree.get key_cmp m q)
     step_taken m n None d r test range all h ordered holds endless q = ap (lookup (is_at (key_cmp q))) h.1 ∙ ap (λ r. left_by r q (tree.get key_cmp m q)) (sym h.0)

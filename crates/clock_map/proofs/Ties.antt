@@ -4,7 +4,7 @@ use Rattle.std.specs.Prelude.{◌&&◌, ◌==◌, Option, Some, None, IsSome, is
 use Rattle.std.specs.Option.{option_map, option_map_or}
 use Rattle.std.specs.Ordering.{eq_by_cmp}
 use Rattle.std.specs.BTreeMap.{is_at}
-use Rattle.std.specs.FinMap.Entries.{put, where_key}
+use Rattle.std.specs.FinMap.Entries.{find, put, where_key}
 use Rattle.slab.specs.Slab as slab
 use Rattle.riak_msgs.specs.declared.Key.{Key}
 use Rattle.riak_msgs.specs.Contents.{Content}
@@ -15,11 +15,11 @@ use Rattle.vnode_machine.specs.Machine.{Stored}
 use Rattle.vnode_machine.proofs.DeadKeys.{eq-itself}
 use Rattle.vnode_machine.proofs.Tests.{nat_eq-same, nat_eq-refl}
 use Rattle.clock_store.specs.declared.stored_clock.StoredClock.{StoredClock}
-use Rattle.clock_store.specs.Keys.{stored_of, empty, clock_at}
+use Rattle.clock_store.specs.Keys.{Keys, stored_of, clock_at, own_at}
 use Rattle.clock_store.specs.Contents.{Reservation}
 use Rattle.clock_map.specs.declared.room.Room.{Room}
 use Rattle.clock_map.specs.declared.room.Need.{Need}
-use Rattle.clock_map.specs.Places.{Places, Clocks, place_of, stored_at, is_spare, unless_spare, IsSpareKey, IsTied, StoresSame, WritesAt, AddsAt, RemovesAt, DropsSpare}
+use Rattle.clock_map.specs.Places.{Places, Clocks, place_of, nothing, stored_at, is_spare, unless_spare, IsSpareKey, IsTied, StoresSame, ChangesAt, AddsAt, RemovesAt, DropsSpare}
 use Rattle.clock_map.specs.Maps.{shown_at, shown_of, keys_in, key_at, reserved_in}
 use Rattle.clock_map.proofs.Entries.{same_key, find_shown, keys_put, keys_without, key_at-place, key_at-some}
 
@@ -72,9 +72,9 @@ tied_stored places old new tied same =
     tied_present places old new tied
     (λ p. sym (some_map stored_of (slab.get new p)) ∙ ap is_some (same p) ∙ some_map stored_of (slab.get old p))
 
-pub tied_written : (places : Places) (old new : Clocks) (place : ℕ) (actor : Actor) (change : DotState (Option Content) → DotState (Option Content))
-    → IsTied places old → WritesAt old new place actor change → IsTied places new
-tied_written places old new place actor change tied wrote = tied_present places old new tied (λ p. by p (place == p) refl)
+pub tied_changed : (places : Places) (old new : Clocks) (place : ℕ) (own : Option Actor → Option Actor) (change : DotState (Option Content) → DotState (Option Content))
+    → IsTied places old → ChangesAt old new place own change → IsTied places new
+tied_changed places old new place own change tied wrote = tied_present places old new tied (λ p. by p (place == p) refl)
   where
     by : (p : ℕ) (b : Bool) → (place == p) ≡ b → is_some (slab.get new p) ≡ is_some (slab.get old p)
     by p true is =
@@ -134,7 +134,7 @@ module _ (old new : Places) (were are : Clocks) (key : Key) where
   removed_keys tied left = keys_without (shown_at were None) (shown_at are None) old new tied.ordered left.ordered key (removed_shown tied left)
 
   -- a key that is added has a place, which shows nothing
-  module _ (place : ℕ) (need : Need) (actor : Actor) (tied : IsTied old were) (absent : place_of old key ≡ None) (added : AddsAt old new were are key place need actor) where
+  module _ (place : ℕ) (need : Need) (tied : IsTied old were) (absent : place_of old key ≡ None) (added : AddsAt old new were are key place need) where
     vacant_apart : (q : Key) (p : ℕ) → place_of old q ≡ Some p → p ≢ place
     vacant_apart q p is same = clash (sym (tied.held q p is) ∙ ap is_some (ap (slab.get were) same ∙ added.vacant))
 
@@ -173,11 +173,11 @@ module _ (old new : Places) (were are : Clocks) (key : Key) where
             by q p is true at = absurd (not_none p (sym is ∙ ap (place_of old) (sym (same_key key q at)) ∙ absent))
             by q p is false at = is
 
-    pub added_shown : (room : Room) → room ≡ record { place = place; is_new = true; may_die = false } → (q : Key) → shown_of new are (Some room) q ≡ shown_of old were None q
+    pub added_shown : (room : Room) → room ≡ record { place = place; is_new = true; may_die = false; adds_mark = false } → (q : Key) → shown_of new are (Some room) q ≡ shown_of old were None q
     added_shown room r q = ap (λ room. shown_of new are (Some room) q) r ∙ ap (option_and_then (shown_at are (Some made))) (added.places q) ∙ by (is_at (key_cmp key) q) (place_of old q) refl refl
       where
         made : Room
-        made = record { place = place; is_new = true; may_die = false }
+        made = record { place = place; is_new = true; may_die = false; adds_mark = false }
 
         by : (b : Bool) (o : Option ℕ) → is_at (key_cmp key) q ≡ b → place_of old q ≡ o
             → option_and_then (shown_at are (Some made)) (cond b (Some place) o) ≡ option_and_then (shown_at were None) o
@@ -231,14 +231,14 @@ module _ (old new : Places) (were are : Clocks) (room : Room) (dropped : DropsSp
       by None = refl
       by (Some p) = at p (is_spare (Some room) p) refl
 
--- a write at the place of a key shows what was written there
-module _ (places : Places) (old new : Clocks) (room : Room) (key : Key) (actor : Actor) (change : DotState (Option Content) → DotState (Option Content))
-    (tied : IsTied places old) (placed : place_of places key ≡ Some room.place) (wrote : WritesAt old new room.place actor change) where
+-- a change at the place of a key shows what lies there then
+module _ (places : Places) (old new : Clocks) (room : Room) (key : Key) (own : Option Actor → Option Actor) (change : DotState (Option Content) → DotState (Option Content))
+    (tied : IsTied places old) (placed : place_of places key ≡ Some room.place) (wrote : ChangesAt old new room.place own change) where
   abbrev pub after : Stored Content
-  after = record { own = Some actor; clock = change wrote.stored.clock.meaning }
+  after = record { own = own wrote.stored.actor; clock = change wrote.stored.clock.meaning }
 
-  pub written_shown : (q : Key) → shown_of places new None q ≡ cond (is_at (key_cmp key) q) (Some after) (shown_of places old (Some room) q)
-  written_shown q = by (is_at (key_cmp key) q) (place_of places q) refl refl
+  pub changed_shown : (q : Key) → shown_of places new None q ≡ cond (is_at (key_cmp key) q) (Some after) (shown_of places old (Some room) q)
+  changed_shown q = by (is_at (key_cmp key) q) (place_of places q) refl refl
     where
       by : (b : Bool) (o : Option ℕ) → is_at (key_cmp key) q ≡ b → place_of places q ≡ o
           → option_and_then (shown_at new None) o ≡ cond b (Some after) (option_and_then (shown_at old (Some room)) o)
@@ -248,29 +248,32 @@ module _ (places : Places) (old new : Clocks) (room : Room) (key : Key) (actor :
           let away = apart places old tied key q room.place p placed is at in
           ap (option_map stored_of) (wrote.others p away) ∙ sym (ap (λ b. cond b None (stored_at old p)) (spare_apart room p away))
 
-  -- the clock of a key is the one at its place
-  pub clock_shown : (room.is_new ≡ true → (stored : Stored Content) → stored_at old room.place ≡ Some stored → stored.clock ≡ empty)
-      → clock_at (keys_in (shown_at old (Some room)) places.entries) key ≡ wrote.stored.clock.meaning
-  clock_shown new_empty =
-      ap (λ o. option_map_or (λ (s : Stored Content). s.clock) o empty)
+  abbrev keys_before : Keys
+  keys_before = keys_in (shown_at old (Some room)) places.entries
+
+  -- what is stored of a key is at its place; what isn't held has nothing, as there
+  pub stored_shown_at : (room.is_new ≡ true → (stored : Stored Content) → stored_at old room.place ≡ Some stored → stored ≡ nothing)
+      → {X : Type 0} (f : Stored Content → X) → option_map_or f (find key_cmp key keys_before) (f nothing) ≡ f (stored_of wrote.stored)
+  stored_shown_at new_is f =
+      ap (λ o. option_map_or f o (f nothing))
       (find_shown (shown_at old (Some room)) key places.entries tied.ordered ∙ ap (option_and_then (shown_at old (Some room))) placed)
       ∙ by room.is_new refl
     where
       stored : stored_at old room.place ≡ Some (stored_of wrote.stored)
       stored = ap (option_map stored_of) wrote.was
 
-      by : (b : Bool) → room.is_new ≡ b → option_map_or (λ (s : Stored Content). s.clock) (cond (b && (room.place == room.place)) None (stored_at old room.place)) empty ≡ wrote.stored.clock.meaning
+      by : (b : Bool) → room.is_new ≡ b → option_map_or f (cond (b && (room.place == room.place)) None (stored_at old room.place)) (f nothing) ≡ f (stored_of wrote.stored)
       by true is =
-          ap (λ b. option_map_or (λ (s : Stored Content). s.clock) (cond b None (stored_at old room.place)) empty) (nat_eq-refl room.place)
-          ∙ sym (new_empty is (stored_of wrote.stored) stored)
-      by false is = ap (λ o. option_map_or (λ (s : Stored Content). s.clock) o empty) stored
+          ap (λ b. option_map_or f (cond b None (stored_at old room.place)) (f nothing)) (nat_eq-refl room.place)
+          ∙ sym (ap f (new_is is (stored_of wrote.stored) stored))
+      by false is = ap (λ o. option_map_or f o (f nothing)) stored
 
-  pub written_keys : (room.is_new ≡ true → (stored : Stored Content) → stored_at old room.place ≡ Some stored → stored.clock ≡ empty)
+  pub changed_keys : (room.is_new ≡ true → (stored : Stored Content) → stored_at old room.place ≡ Some stored → stored ≡ nothing)
       → keys_in (shown_at new None) places.entries
-      ≡ put key_cmp key (record { own = Some actor; clock = change (clock_at (keys_in (shown_at old (Some room)) places.entries) key) }) (keys_in (shown_at old (Some room)) places.entries)
-  written_keys new_empty =
-      keys_put (shown_at old (Some room)) (shown_at new None) places places tied.ordered tied.ordered key after written_shown
-      ∙ ap (λ clock. put key_cmp key (record { own = Some actor; clock = change clock }) (keys_in (shown_at old (Some room)) places.entries)) (sym (clock_shown new_empty))
+      ≡ put key_cmp key (record { own = own (own_at keys_before key); clock = change (clock_at keys_before key) }) keys_before
+  changed_keys new_is =
+      keys_put (shown_at old (Some room)) (shown_at new None) places places tied.ordered tied.ordered key after changed_shown
+      ∙ (λ i. put key_cmp key (record { own = own (sym (stored_shown_at new_is (λ s. s.own)) i); clock = change (sym (stored_shown_at new_is (λ s. s.clock)) i) }) keys_before)
 
 -- the room, by what is reserved
 pub record ReservedAt (places : Places) (clocks : Clocks) (room : Room) (key : Key) (reserved : Reservation) : Type 0 where

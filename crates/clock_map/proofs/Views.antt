@@ -21,7 +21,7 @@ use Rattle.vnode_machine.proofs.DeadKeys.{first_is_dead, dead_by}
 use Rattle.vnode_machine.proofs.Tests.{and_right}
 use Rattle.clock_map.specs.declared.room.Room.{Room}
 use Rattle.clock_map.specs.Index.{Index, first_marked}
-use Rattle.clock_map.specs.Places.{Places, Clocks, place_of, DropsSpare, IsTied, is_spare, unless_spare}
+use Rattle.clock_map.specs.Places.{Places, Clocks, place_of, DropsSpare, IsTied, is_spare, spare_mark, unless_spare}
 use Rattle.clock_map.specs.Maps.{is_dead, shown_at, shown_of, keys_in, reserved_in, place_at, view_in, IsRoom, IsMap}
 use Rattle.clock_map.proofs.Entries.{find_shown, keys_same, sorted_shown}
 use Rattle.clock_map.proofs.Ties.{clash, ReservedAt, reserved_at, reserved_for}
@@ -112,17 +112,17 @@ module _ (places : Places) (clocks : Clocks) (dead : Index) (made : Option Room)
 -- the first dead key of the view
 module _ (places : Places) (clocks : Clocks) (dead : Index) (made : Option Room) (holds : IsMap places clocks dead made) (seen : Contents)
     (view_is : view_in places clocks made ≡ seen) (ordered : IsOrdered key_cmp dead) (from : Option Key) where
-  pub first_view : first_marked from dead.entries ≡ first_dead (holding seen.keys) from
+  pub first_view : first_marked (spare_mark made) from dead.entries ≡ first_dead (holding seen.keys) from
   first_view =
       first_same seen.keys (true_from _ (subst (λ ks. T (is_sorted key_cmp ks)) (keys_are places clocks dead made holds seen view_is) (sorted_shown (shown_at clocks made) places.entries holds.tied.ordered)))
-      dead ordered (λ q. holds.marks q ∙ ap is_dead (sym (find_view places clocks dead made holds seen view_is q))) from
+      dead ordered (spare_mark made) (λ q. holds.marks q ∙ ap is_dead (sym (find_view places clocks dead made holds seen view_is q))) from
     where
       true_from : (b : Bool) → T b → b ≡ true
       true_from true t = refl
       true_from false t = absurd t
 
   -- is dead there
-  pub first_is_shown : (key : Key) → first_marked from dead.entries ≡ Some key → (s : Stored Content) × (shown_of places clocks made key ≡ Some s)
+  pub first_is_shown : (key : Key) → first_marked (spare_mark made) from dead.entries ≡ Some key → (s : Stored Content) × (shown_of places clocks made key ≡ Some s)
   first_is_shown key h = by (shown_of places clocks made key) refl
     where
       dead_now : holds_dead (holding seen.keys) key ≡ true

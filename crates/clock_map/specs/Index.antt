@@ -1,46 +1,44 @@
 -- The index of dead keys: which keys it marks, and the least of them.
-use Rattle.std.specs.Prelude.{◌≡◌, ◌⊎◌, ◌&&◌, Bool, true, false, if◌then◌else◌, List, map, filter, slice_get, Option, Some, None}
+use Rattle.std.specs.Prelude.{◌≡◌, ◌&&◌, ◌==◌, ℕ, Bool, true, false, not, if◌then◌else◌, List, map, filter, slice_get, is_some, Option, Some, None}
 use Rattle.std.specs.BTreeMap.{BTreeMap, get, is_at}
 use Rattle.riak_msgs.specs.declared.Key.{Key}
 use Rattle.riak_msgs.specs.KeyOrder.{key_cmp}
 use Rattle.vnode_machine.specs.Dead.{is_from}
-use Rattle.clock_map.specs.declared.index.DeadMark.{DeadMark}
-use Rattle.clock_map.specs.declared.index.DeadMark.TheVariants.{Spare, Dead}
 
+-- keys, each with the place of its clock
 abbrev pub Index : Type 0
-Index = BTreeMap Key DeadMark
+Index = BTreeMap Key ℕ
 
-abbrev pub is_dead_mark : DeadMark → Bool
-is_dead_mark Spare = false
-is_dead_mark Dead = true
+-- an entry marks its key dead, but the one at the spare place, where there is one
+abbrev pub is_mark : Option ℕ → ℕ → Bool
+is_mark None place = true
+is_mark (Some spare) place = not (place == spare)
 
--- a spare entry marks no key
-abbrev pub is_marked : Option DeadMark → Bool
-is_marked None = false
-is_marked (Some mark) = is_dead_mark mark
+abbrev pub is_marked : Option ℕ → Option ℕ → Bool
+is_marked spare None = false
+is_marked spare (Some place) = is_mark spare place
 
-abbrev pub without_spare : Option DeadMark → Option DeadMark
-without_spare None = None
-without_spare (Some Spare) = None
-without_spare (Some Dead) = Some Dead
+abbrev pub without_spare : Option ℕ → Option ℕ → Option ℕ
+without_spare spare None = None
+without_spare spare (Some place) = if is_mark spare place then Some place else None
 
--- at this key its mark, at each other what was there
-abbrev pub mark_of : Key → Bool → Key → Option DeadMark → Option DeadMark
-mark_of key is_dead other was =
-    if is_at (key_cmp key) other then (if is_dead then Some Dead else None) else was
+-- at this key nothing, unless it is dead; at each other what was there
+abbrev pub kept_if : Key → Bool → Key → Option ℕ → Option ℕ
+kept_if key is_dead other was = if is_at (key_cmp key) other then (if is_dead then was else None) else was
 
 -- what each key has once this entry was taken out
-abbrev pub left_by : Option (Key × DeadMark) → Key → Option DeadMark → Option DeadMark
+abbrev pub left_by : Option (Key × ℕ) → Key → Option ℕ → Option ℕ
 left_by None other was = was
-left_by (Some entry) other was = mark_of entry.0 false other was
+left_by (Some entry) other was = kept_if entry.0 false other was
 
--- a spare entry stood there before, or it is this key's
-abbrev pub SpareIsNew : Index → Index → Key → Key → Type 0
-SpareIsNew old new key other =
-    get key_cmp new other ≡ Some Spare → (other ≡ key) ⊎ (get key_cmp old other ≡ Some Spare)
+-- this key has an entry: a new one for this place, or the one that it had; each other has what was there
+pub record Adds (old new : Index) (key : Key) (place : ℕ) (is_new : Bool) : Type 0 where
+  pub was : is_some (get key_cmp old key) ≡ not is_new
+  pub entries : (other : Key) → get key_cmp new other
+      ≡ (if is_at (key_cmp key) other then (if is_new then Some place else get key_cmp old other) else get key_cmp old other)
 
 -- the least marked key at or after one, or of all where none is given
-abbrev pub first_marked : Option Key → List (Key × DeadMark) → Option Key
-first_marked from entries =
-    let marked = filter (λ entry. is_from from entry.0 && is_dead_mark entry.1) entries in
+abbrev pub first_marked : Option ℕ → Option Key → List (Key × ℕ) → Option Key
+first_marked spare from entries =
+    let marked = filter (λ entry. is_from from entry.0 && is_mark spare entry.1) entries in
     slice_get (map (λ entry. entry.0) marked) 0

@@ -7,16 +7,13 @@ use Rattle.riak_msgs.specs.Contents.{Content}
 use Rattle.riak_msgs.specs.KeyOrder.{key_cmp}
 use Rattle.std.specs.BTreeMap as tree
 use Rattle.vnode_machine.specs.Machine.{Stored}
-use Rattle.clock_store.specs.Keys.{empty}
 use Rattle.clock_store.specs.declared.found.Place.{Place}
 use Rattle.clock_store.specs.Contents.{Contents, Reservation}
-use Rattle.clock_map.specs.declared.index.DeadMark.TheVariants.{Spare}
 use Rattle.clock_map.specs.declared.room.Room.{Room}
 use Rattle.clock_map.specs.declared.map.ClockMap.TheInside.{Inside}
 use Rattle.clock_map.specs.Index.{Index, is_marked}
-use Rattle.actor_epoch.specs.declared.Actor.{Actor}
 use Rattle.clock_map.specs.declared.room.Need.{Need}
-use Rattle.clock_map.specs.Places.{Places, Clocks, HasRoomFor, place_of, stored_at, is_spare, IsSpareKey, IsTied}
+use Rattle.clock_map.specs.Places.{Places, Clocks, HasRoomFor, place_of, nothing, stored_at, is_spare, spare_mark, IsSpareKey, IsTied}
 
 -- tombstones alone
 abbrev pub is_dead : Option (Stored Content) → Bool
@@ -76,37 +73,33 @@ pub record IsReservedFor (room : Option Reservation) (key : Key) : Type 0 where
   pub same : reserved.key ≡ key
 
 -- and the clock has what is needed
-pub record HasMadeRoom (contents : Contents) (key : Key) (need : Need) (actor : Actor) : Type 0 where
+pub record HasMadeRoom (contents : Contents) (key : Key) (need : Need) : Type 0 where
   pub reserved : Reservation
   pub is : contents.room ≡ Some reserved
   pub same : reserved.key ≡ key
-  pub ready : HasRoomFor need actor reserved.clock
+  pub ready : HasRoomFor need reserved.clock
 
 abbrev pub allowing_death : Option Reservation → Option Reservation
 allowing_death room =
     option_map {T = Reservation} (λ reserved. record reserved { may_die = true }) room
 
--- the room is at the place of this key; a new key's clock is empty; a key that may die has an entry in the index
+-- the room is at the place of this key; a new key's clock is empty, without an actor; a key that may die has an entry in the index,
+-- and no other has a spare one
 pub record IsRoomOf (places : Places) (clocks : Clocks) (dead : Index) (room : Room) (key : Key) : Type 0 where
   pub placed : place_of places key ≡ Some room.place
-  pub empty : room.is_new ≡ true → (stored : Stored Content) → stored_at clocks room.place ≡ Some stored → stored.clock ≡ empty
+  pub empty : room.is_new ≡ true → (stored : Stored Content) → stored_at clocks room.place ≡ Some stored → stored ≡ nothing
   pub mark : room.may_die ≡ true → IsSome (tree.get key_cmp dead key)
+  pub adds : room.adds_mark ≡ true → room.may_die ≡ true
 
 abbrev pub IsRoom : Places → Clocks → Index → Option Room → Type 0
 IsRoom places clocks dead None = Unit {0}
 IsRoom places clocks dead (Some room) = (key : Key) × IsRoomOf places clocks dead room key
 
--- a spare entry of the index is the present reservation's
-abbrev pub MayDie : Places → Option Room → Key → Type 0
-MayDie places made key =
-    (r : Room) × (made ≡ Some r) × (r.may_die ≡ true) × (place_of places key ≡ Some r.place)
-
--- each key's place names its clock alone, and the index marks the dead keys and no other; no entry of either is spare
--- but those of the room, since the keys that are shown lack only the room's
+-- each key's place names its clock alone, and the index marks the dead keys and no other, each with its place
 pub record IsMap (places : Places) (clocks : Clocks) (dead : Index) (made : Option Room) : Type 0 where
   pub tied : IsTied places clocks
-  pub marks : (key : Key) → is_marked (tree.get key_cmp dead key) ≡ is_dead (shown_of places clocks made key)
-  pub spare : (key : Key) → tree.get key_cmp dead key ≡ Some Spare → MayDie places made key
+  pub marks : (key : Key) → is_marked (spare_mark made) (tree.get key_cmp dead key) ≡ is_dead (shown_of places clocks made key)
+  pub placed : (key : Key) (place : ℕ) → tree.get key_cmp dead key ≡ Some place → place_of places key ≡ Some place
   pub room : IsRoom places clocks dead made
 
 -- and the key of the spare place is kept

@@ -31,6 +31,10 @@ Clocks = Slab StoredClock
 abbrev pub place_of : Places → Key → Option ℕ
 place_of places key = assoc.get key_cmp places key
 
+-- what is stored of a key that isn't held: no actor, and a clock that knows nothing
+abbrev pub nothing : Stored Content
+nothing = record { own = None; clock = empty }
+
 -- what is stored at a place
 abbrev pub stored_at : Clocks → ℕ → Option (Stored Content)
 stored_at clocks place = option_map stored_of (slab.get clocks place)
@@ -55,25 +59,25 @@ pub record IsTied (places : Places) (clocks : Clocks) : Type 0 where
   pub used : (place : ℕ) → IsSome (slab.get clocks place) → (key : Key) × (place_of places key ≡ Some place)
 
 -- a clock is within its limits after what room is needed for
-abbrev pub Fits : Need → Actor → DotState (Option Content) → Type 0
-Fits (Write seen) actor clock = IsWithin clock.known (seen_in seen) actor
-Fits (Sync other) actor clock = length (sync clock other.now.meaning).known ≤ max_actors
+abbrev pub Fits : Need → DotState (Option Content) → Type 0
+Fits (Write seen actor) clock = IsWithin clock.known (seen_in seen) actor
+Fits (Sync other) clock = length (sync clock other.now.meaning).known ≤ max_actors
 
 -- and has room for it
-abbrev pub HasRoomFor : Need → Actor → Held (Option Content) → Type 0
-HasRoomFor (Write seen) actor clock = IsReady clock (seen_in seen) actor
-HasRoomFor (Sync other) actor clock = IsSyncReady clock other.now.meaning
+abbrev pub HasRoomFor : Need → Held (Option Content) → Type 0
+HasRoomFor (Write seen actor) clock = IsReady clock (seen_in seen) actor
+HasRoomFor (Sync other) clock = IsSyncReady clock other.now.meaning
 
 -- the clock at a place is so
-pub record FitsAt (clocks : Clocks) (place : ℕ) (need : Need) (actor : Actor) : Type 0 where
+pub record FitsAt (clocks : Clocks) (place : ℕ) (need : Need) : Type 0 where
   pub stored : StoredClock
   pub is : slab.get clocks place ≡ Some stored
-  pub fits : Fits need actor stored.clock.meaning
+  pub fits : Fits need stored.clock.meaning
 
-pub record HasRoomAt (clocks : Clocks) (place : ℕ) (need : Need) (actor : Actor) : Type 0 where
+pub record HasRoomAt (clocks : Clocks) (place : ℕ) (need : Need) : Type 0 where
   pub stored : StoredClock
   pub is : slab.get clocks place ≡ Some stored
-  pub ready : HasRoomFor need actor stored.clock
+  pub ready : HasRoomFor need stored.clock
 
 -- the clock at a place has room for a write
 pub record IsReadyAt (clocks : Clocks) (place : ℕ) (seen : Option (List Dot)) (actor : Actor) : Type 0 where
@@ -91,22 +95,26 @@ pub record IsSyncReadyAt (clocks : Clocks) (place : ℕ) (other : DotState (Opti
 abbrev pub StoresSame : Clocks → Clocks → Type 0
 StoresSame old new = (place : ℕ) → stored_at new place ≡ stored_at old place
 
--- the clock at this place changed so, at an actor, and no other one
-pub record WritesAt (old new : Clocks) (place : ℕ) (actor : Actor) (change : DotState (Option Content) → DotState (Option Content)) : Type 0 where
+-- the clock at this place changed so, with its actor, and no other one
+pub record ChangesAt (old new : Clocks) (place : ℕ) (own : Option Actor → Option Actor) (change : DotState (Option Content) → DotState (Option Content)) : Type 0 where
   pub stored : StoredClock
   pub was : slab.get old place ≡ Some stored
-  pub now : stored_at new place ≡ Some (record { own = Some actor; clock = change stored.clock.meaning })
+  pub now : stored_at new place ≡ Some (record { own = own stored.actor; clock = change stored.clock.meaning })
   pub others : (other : ℕ) → other ≢ place → slab.get new other ≡ slab.get old other
 
--- a new key has this place, where an empty clock with room lies
-pub record AddsAt (old new : Places) (were are : Clocks) (key : Key) (place : ℕ) (need : Need) (actor : Actor) : Type 0 where
+-- a write at this actor
+abbrev pub WritesAt : Clocks → Clocks → ℕ → Actor → (DotState (Option Content) → DotState (Option Content)) → Type 0
+WritesAt old new place actor change = ChangesAt old new place (λ own. Some actor) change
+
+-- a new key has this place, where an empty clock with room lies, without an actor
+pub record AddsAt (old new : Places) (were are : Clocks) (key : Key) (place : ℕ) (need : Need) : Type 0 where
   pub ordered : IsOrdered key_cmp new
   pub places : (other : Key) → place_of new other ≡ (if is_at (key_cmp key) other then Some place else place_of old other)
   pub vacant : slab.get were place ≡ None
   pub stored : StoredClock
   pub put : slab.Updates were are place (Some stored)
-  pub empty : stored.clock.meaning ≡ empty
-  pub ready : HasRoomFor need actor stored.clock
+  pub empty : stored_of stored ≡ nothing
+  pub ready : HasRoomFor need stored.clock
 
 -- each key has the place that it had, and each place what it had
 pub record Unchanged (old new : Places) (were are : Clocks) : Type 0 where
@@ -126,6 +134,11 @@ pub record RemovesAt (old new : Places) (were are : Clocks) (key : Key) : Type 0
 abbrev pub is_spare : Option Room → ℕ → Bool
 is_spare None place = false
 is_spare (Some room) place = room.is_new && (room.place == place)
+
+-- the place of the spare entry of the index: of a key that isn't dead before its write, and may be after it
+abbrev pub spare_mark : Option Room → Option ℕ
+spare_mark None = None
+spare_mark (Some room) = if room.adds_mark then Some room.place else None
 
 -- whether the room is for a key that isn't held
 abbrev pub is_for_new : Option Room → Bool

@@ -5,9 +5,8 @@ ghost use Rattle.std.specs.FinMap.Entries.{find};
 ghost use Rattle.riak_msgs.specs.KeyOrder.{key_cmp};
 ghost use Rattle.clock_store.specs.Keys.{clock_at};
 
-use crate::index::{self, DeadMark};
-use crate::places;
-use crate::room::{Need, Room, is_spare};
+use crate::room::{Need, Room, adds_mark, is_spare, spare_mark};
+use crate::{index, places};
 use actor_epoch::{Actor, Context};
 use clock_store::{ClockStore, Found, KeyRef, Place, Reaped, StoredClock, WriteKind, stored_in};
 use dvv_set::Clock;
@@ -20,9 +19,10 @@ use std::marker::Model;
 
 /// Keys in their order, each with the place of its clock in a slab, the dead keys in theirs, and room for one write.
 ///
-/// Each key's place names its clock and no other key's, and each clock is some key's. The index has the dead keys and no
-/// other. A place or an entry of the index that was made for a write is no key and no mark; there is none but those of
-/// the present reservation, and the next `reserve` or `drop_room` takes away what its write didn't use.
+/// Each key's place names its clock and no other key's, and each clock is some key's. The index has the dead keys with
+/// their places, and no other. A place or an entry of the index that was made for a write is no key and no mark; there is
+/// none but those of the present reservation, and the next `reserve` or `drop_room` takes away what its write didn't use.
+/// The room says at which place an entry is spare: once it is used up, the entry of a key that died is its mark.
 ///
 /// A life, of the keys b/k and b/j and the actor a:
 ///
@@ -30,12 +30,13 @@ use std::marker::Model;
 /// - `write` of "v": the clock at 0 has "v", and b/k is a key.
 /// - `reserve` of b/j for a tombstone: b/j has the spare place 1, and a spare entry in the index.
 /// - `reserve` of b/k for a tombstone: both are gone, and b/k has a spare entry in the index.
-/// - `overwrite` of b/k by a tombstone: that entry marks b/k dead.
+/// - `overwrite` of b/k by a tombstone: b/k is dead, and that entry is its mark.
 /// - `forget_first_dead`: the place 0, the key and the entry are gone.
 pub struct ClockMap {
     places: PlaceMap,
     clocks: Slab<StoredClock>,
-    dead: BTreeMap<Key, DeadMark>,
+    /// The dead keys, each with its place, and the one that may die by the present write.
+    dead: BTreeMap<Key, usize>,
     room: Option<Room>,
     /// The key of the spare place, where the room is for a key that isn't held yet.
     spare: Option<Key>,
@@ -77,25 +78,24 @@ impl ClockMap {
         key: &Key,
         place: Option<Place>,
         need: Need<'_, '_>,
-        actor: Actor,
     ) -> Result<(), AllocError>
         requires none { self.old.room ≡ None }
         requires place { place ≡ find key_cmp key.now self.old.places }
-        requires fits { Fits need actor (clock_at self.old.keys key.now) }
+        requires fits { Fits need (clock_at self.old.keys key.now) }
         ensures same { self.new.keys ≡ self.old.keys }
-        ensures ok { OnOk result (HasMadeRoom self.new key.now need.entry actor) }
+        ensures ok { OnOk result (HasMadeRoom self.new key.now need.entry) }
         ensures err { OnErr result (self.new.room ≡ None) }
     {
         match place {
             Some(place) => {
-                places::reserve_at(&mut self.clocks, place.index, need, actor)?;
+                places::reserve_at(&mut self.clocks, place.index, need)?;
                 self.room = Some(Room::at(place.index, false));
                 return Ok(());
             }
             None => {}
         }
         let spare = key.clone(alloc)?;
-        let place = places::add(&mut self.places, &mut self.clocks, alloc, key, need, actor)?;
+        let place = places::add(&mut self.places, &mut self.clocks, alloc, key, need)?;
         self.spare = Some(spare);
         self.room = Some(Room::at(place, true));
         Ok(())
@@ -113,8 +113,9 @@ impl ClockMap {
             unreachable!()
         };
         let is_absent = places::has_no_mark(&self.clocks, room);
-        index::add_spare(&mut self.dead, alloc, key, is_absent)?;
+        let is_new = index::add(&mut self.dead, alloc, key, room.place, is_absent)?;
         room.may_die = true;
+        room.adds_mark = adds_mark(room, is_new);
         self.room = Some(room);
         Ok(())
     }
@@ -192,7 +193,7 @@ impl ClockStore for ClockMap {
         kind: WriteKind,
     ) -> Result<(), AllocError> {
         self.drop_room();
-        self.make_room(alloc, key, place, Need::Write(seen), actor)?;
+        self.make_room(alloc, key, place, Need::Write(seen, actor))?;
         match kind {
             WriteKind::Value => Ok(()),
             WriteKind::Tombstone => {
@@ -206,10 +207,11 @@ impl ClockStore for ClockMap {
     }
 
     fn drop_room(&mut self) {
+        let mark = spare_mark(&self.room);
         if let Some(room) = self.room.take() {
             let spare = self.spare.take();
             places::drop_spare(&mut self.places, &mut self.clocks, room, spare);
-            index::drop_spares(&mut self.dead, room.may_die);
+            index::drop_mark(&mut self.dead, mark);
         }
     }
 
@@ -226,7 +228,7 @@ impl ClockStore for ClockMap {
         self.spare = None;
         let is_absent = places::has_no_mark(&self.clocks, room);
         let lives = places::write_at(&mut self.clocks, room.place, seen, actor, value);
-        index::update_mark(&mut self.dead, &key, is_absent, !lives);
+        index::keep_if(&mut self.dead, &key, is_absent, !lives);
     }
 
     fn overwrite(&mut self, key: Key, actor: Actor, value: Option<BoxedContent>) {
@@ -235,7 +237,7 @@ impl ClockStore for ClockMap {
         };
         self.spare = None;
         let lives = places::overwrite_at(&mut self.clocks, room.place, actor, value);
-        index::set_mark(&mut self.dead, &key, !lives);
+        index::keep_if(&mut self.dead, &key, false, !lives);
     }
 
     fn reserve_sync(
@@ -243,11 +245,10 @@ impl ClockStore for ClockMap {
         alloc: Global,
         key: &Key,
         place: Option<Place>,
-        actor: Actor,
         other: &Clock<Option<BoxedContent>>,
     ) -> Result<(), AllocError> {
         self.drop_room();
-        self.make_room(alloc, key, place, Need::Sync(other), actor)?;
+        self.make_room(alloc, key, place, Need::Sync(other))?;
         if self.allow_death(alloc, key).is_err() {
             self.drop_room();
             return Err(AllocError);
@@ -255,17 +256,17 @@ impl ClockStore for ClockMap {
         Ok(())
     }
 
-    fn sync(&mut self, key: Key, actor: Actor, other: Clock<Option<BoxedContent>>) {
+    fn sync(&mut self, key: Key, other: Clock<Option<BoxedContent>>) {
         let Some(room) = self.room.take() else {
             unreachable!()
         };
         self.spare = None;
-        let lives = places::sync_at(&mut self.clocks, room.place, actor, other);
-        index::set_mark(&mut self.dead, &key, !lives);
+        let lives = places::sync_at(&mut self.clocks, room.place, other);
+        index::keep_if(&mut self.dead, &key, false, !lives);
     }
 
     fn has_dead(&self, from: Option<&Key>) -> bool {
-        index::first_dead(&self.dead, from).is_some()
+        index::first_dead(&self.dead, spare_mark(&self.room), from).is_some()
     }
 
     fn forget_dead(&mut self, key: &Key) -> Reaped {
@@ -275,7 +276,7 @@ impl ClockStore for ClockMap {
             Reaped::Kept => Reaped::Kept,
             Reaped::Gone => {
                 places::remove(&mut self.places, &mut self.clocks, key);
-                index::set_mark(&mut self.dead, key, false);
+                index::keep_if(&mut self.dead, key, false, false);
                 Reaped::Gone
             }
         }
@@ -283,7 +284,7 @@ impl ClockStore for ClockMap {
 
     fn forget_first_dead(&mut self, from: Option<&Key>) -> bool {
         self.drop_room();
-        let Some(key) = index::take_first_dead(&mut self.dead, from) else {
+        let Some(key) = index::take_first(&mut self.dead, from) else {
             return false;
         };
         places::remove(&mut self.places, &mut self.clocks, &key);

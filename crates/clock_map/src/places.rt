@@ -9,11 +9,11 @@ ghost use Rattle.place_map.specs.KeyRefs.{key_in, key_after};
 ghost use Rattle.dvv_set.specs.Clocks.{event, discard, sync};
 ghost use Rattle.dvv_set.specs.Held.{without, pairs_of as seen_in};
 ghost use Rattle.clock_store.specs.Keys.{empty, stored_of};
-ghost use Rattle.clock_map.specs.Places.{place_of, lives_at, has_no_mark, IsTied, IsSpareKey, Fits, FitsAt, HasRoomFor, HasRoomAt, IsReadyAt, IsSyncReadyAt, StoresSame, WritesAt, AddsAt, Unchanged, RemovesAt, DropsSpare, stored_at};
+ghost use Rattle.clock_map.specs.Places.{place_of, lives_at, has_no_mark, IsTied, IsSpareKey, Fits, FitsAt, HasRoomFor, HasRoomAt, IsReadyAt, IsSyncReadyAt, StoresSame, ChangesAt, WritesAt, AddsAt, Unchanged, RemovesAt, DropsSpare, nothing, stored_at};
 
 use crate::room::{Need, Room};
 use actor_epoch::{Actor, Context};
-use clock_store::{Found, KeyRef, Place, StoredClock};
+use clock_store::{Found, KeyRef, OwnActor, Place, StoredClock};
 use dvv_set::Clock;
 use place_map::PlaceMap;
 use riak_msgs::{BoxedContent, Key};
@@ -45,13 +45,13 @@ pub(crate) fn next<'a>(
 }
 
 /// Makes the room in a clock that is needed. Refused where memory is; either way what is stored stays.
-fn reserve_in(stored: &mut StoredClock, need: Need<'_, '_>, actor: Actor) -> Result<(), AllocError>
-    requires { Fits need actor stored.old.clock.meaning }
+fn reserve_in(stored: &mut StoredClock, need: Need<'_, '_>) -> Result<(), AllocError>
+    requires { Fits need stored.old.clock.meaning }
     ensures same { stored_of stored.new ≡ stored_of stored.old }
-    ensures ok { OnOk result (HasRoomFor need.entry actor stored.new.clock) }
+    ensures ok { OnOk result (HasRoomFor need.entry stored.new.clock) }
 {
     match need {
-        Need::Write(seen) => stored.reserve(seen, actor),
+        Need::Write(seen, actor) => stored.reserve(seen, actor),
         Need::Sync(other) => stored.reserve_sync(other),
     }
 }
@@ -61,16 +61,15 @@ pub(crate) fn reserve_at(
     clocks: &mut Slab<StoredClock>,
     place: usize,
     need: Need<'_, '_>,
-    actor: Actor,
 ) -> Result<(), AllocError>
-    requires { FitsAt clocks.old place need actor }
+    requires { FitsAt clocks.old place need }
     ensures same { StoresSame clocks.old clocks.new }
-    ensures ok { OnOk result (HasRoomAt clocks.new place need.entry actor) }
+    ensures ok { OnOk result (HasRoomAt clocks.new place need.entry) }
 {
     let Some(stored) = clocks.get_mut(place) else {
         unreachable!()
     };
-    reserve_in(stored, need, actor)
+    reserve_in(stored, need)
 }
 
 /// Whether the key of this room has no entry in the index of dead keys: it isn't dead, and won't be after the write.
@@ -128,34 +127,34 @@ pub(crate) fn overwrite_at(
     stored.has_value()
 }
 
-/// Syncs the clock at a place with another one, in its room; says whether there is a value now.
+/// Syncs the clock at a place with another one, in its room, and keeps its actor; says whether there is a value now.
 pub(crate) fn sync_at(
     clocks: &mut Slab<StoredClock>,
     place: usize,
-    actor: Actor,
     other: Clock<Option<BoxedContent>>,
 ) -> bool
     requires { IsSyncReadyAt clocks.old place other.meaning }
-    ensures wrote { WritesAt clocks.old clocks.new place actor
+    ensures wrote { ChangesAt clocks.old clocks.new place (λ own. own)
         (λ clock. sync clock other.meaning) }
     ensures lives { result ≡ lives_at clocks.new place }
 {
     let Some(stored) = clocks.get_mut(place) else {
         unreachable!()
     };
-    stored.sync(actor, other);
+    stored.sync(other);
     stored.has_value()
 }
 
-/// An empty clock with the room that is needed.
-fn empty_clock(alloc: Global, need: Need<'_, '_>, actor: Actor) -> Result<StoredClock, AllocError>
-    requires { Fits need actor empty }
-    ensures empty { IfOk result (λ stored. stored.clock.meaning ≡ empty) }
-    ensures ready { IfOk result (λ stored. HasRoomFor need.entry actor stored.clock) }
+/// An empty clock, without an actor, with the room that is needed.
+fn empty_clock(alloc: Global, need: Need<'_, '_>) -> Result<StoredClock, AllocError>
+    requires { Fits need empty }
+    ensures empty { IfOk result (λ stored. stored_of stored ≡ nothing) }
+    ensures ready { IfOk result (λ stored. HasRoomFor need.entry stored.clock) }
 {
+    let actor = OwnActor::none();
     let clock = Clock::new(alloc);
     let mut stored = StoredClock { actor, clock };
-    reserve_in(&mut stored, need, actor)?;
+    reserve_in(&mut stored, need)?;
     Ok(stored)
 }
 
@@ -167,17 +166,15 @@ fn put_new(
     key: &Key,
     stored: StoredClock,
     need: Need<'_, '_>,
-    actor: Actor,
 ) -> Result<usize, AllocError>
     requires ordered { IsOrdered key_cmp places.old }
-    requires empty { stored.clock.meaning ≡ empty }
-    requires ready { HasRoomFor need actor stored.clock }
+    requires empty { stored_of stored ≡ nothing }
+    requires ready { HasRoomFor need stored.clock }
     ensures ok { IfOk result (λ place.
-        AddsAt places.old places.new clocks.old clocks.new key.now place need.entry actor) }
+        AddsAt places.old places.new clocks.old clocks.new key.now place need.entry) }
     ensures err { OnErr result (Unchanged places.old places.new clocks.old clocks.new) }
 {
     let _need = need;
-    let _actor = actor;
     clocks.reserve(1)?;
     let place = clocks.vacant_key();
     places.insert(alloc, key, place)?;
@@ -185,23 +182,23 @@ fn put_new(
     Ok(place)
 }
 
-/// Adds a key with an empty clock that has the room that is needed. Refused where memory is, and then nothing changes.
+/// Adds a key without an actor, with an empty clock that has the room that is needed. Refused where memory is, and then
+/// nothing changes.
 pub(crate) fn add(
     places: &mut PlaceMap,
     clocks: &mut Slab<StoredClock>,
     alloc: Global,
     key: &Key,
     need: Need<'_, '_>,
-    actor: Actor,
 ) -> Result<usize, AllocError>
     requires ordered { IsOrdered key_cmp places.old }
-    requires fits { Fits need actor empty }
+    requires fits { Fits need empty }
     ensures ok { IfOk result (λ place.
-        AddsAt places.old places.new clocks.old clocks.new key.now place need.entry actor) }
+        AddsAt places.old places.new clocks.old clocks.new key.now place need.entry) }
     ensures err { OnErr result (Unchanged places.old places.new clocks.old clocks.new) }
 {
-    let stored = empty_clock(alloc, need, actor)?;
-    put_new(places, clocks, alloc, key, stored, need, actor)
+    let stored = empty_clock(alloc, need)?;
+    put_new(places, clocks, alloc, key, stored, need)
 }
 
 /// Removes a key that has a place, with its clock. It takes no memory.

@@ -1,3 +1,4 @@
 pub mod Contents
 pub mod Forgetting
 pub mod Keys
+pub mod Own

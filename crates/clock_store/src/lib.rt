@@ -11,7 +11,7 @@
 //! store.clear();                                              no key, no room
 //! ```
 //!
-//! A store means the keys in their order, each with the actor of its life and its clock, the place of each, and the room
+//! A store means the keys in their order, each with the actor of its life, if it has one, and its clock, the place of each, and the room
 //! that was made for one write (`Contents` in `specs/Contents`). [`ClockStore`] is what each form of storage promises over
 //! that meaning; a form says by its ghost view `shows` what its own bytes mean, and where it keeps room is its own matter.
 //! What a write leaves of the keys is `written` and `overwritten` in `specs/Keys`, what a sync leaves is `synced` there, what a reap leaves is in
@@ -26,10 +26,12 @@
 #![tactic(auto)]
 
 mod found;
+mod own_actor;
 mod store;
 mod stored_clock;
 
 pub use found::{Found, Place, place_in, stored_in};
+pub use own_actor::OwnActor;
 pub use place_map::KeyRef;
 pub use store::{ClockStore, Reaped, WriteKind};
 pub use stored_clock::StoredClock;

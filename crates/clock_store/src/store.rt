@@ -132,7 +132,6 @@ pub trait ClockStore: Drop {
         alloc: Global,
         key: &Key,
         place: Option<Place>,
-        actor: Actor,
         other: &Clock<Option<BoxedContent>>,
     ) -> Result<(), AllocError>
         requires place { place ≡ find key_cmp key.now (shows self.old).places }
@@ -142,12 +141,12 @@ pub trait ClockStore: Drop {
         ensures ok { OnOk result (HasSyncRoom (shows self.new) key.now other.now.meaning) }
         ensures none { OnErr result ((shows self.new).room ≡ None) };
 
-    /// Syncs a key's clock with another one where there is room for it; the room is used up. The actor is the one that is
-    /// stored, or that of a key that is absent. It takes no memory.
-    fn sync(&mut self, key: Key, actor: Actor, other: Clock<Option<BoxedContent>>)
+    /// Syncs a key's clock with another one where there is room for it; the room is used up. The key keeps its actor; one that
+    /// was absent has none. It takes no memory.
+    fn sync(&mut self, key: Key, other: Clock<Option<BoxedContent>>)
         requires { HasSyncRoom (shows self.old) key other.meaning }
         ensures keys { (shows self.new).keys
-            ≡ synced (shows self.old).keys key actor other.meaning }
+            ≡ synced (shows self.old).keys key other.meaning }
         ensures room { (shows self.new).room ≡ None };
 
     /// Whether a dead key stands at or after one, or anywhere where none is given. It takes no memory.

@@ -1,6 +1,6 @@
 //! What is stored of one key.
 
-ghost use Rattle.std.specs.Prelude.{◌≡◌, ◌≤◌, OnOk, None, is_some, length};
+ghost use Rattle.std.specs.Prelude.{◌≡◌, ◌≤◌, OnOk, Some, None, is_some, length};
 ghost use Rattle.std.specs.List.{list_any};
 ghost use Rattle.actor_epoch.specs.Limits.{max_actors};
 ghost use Rattle.dvv_set.specs.Clocks.{event, discard, sync};
@@ -8,20 +8,22 @@ ghost use Rattle.dvv_set.specs.Held.{IsWithin, IsReady, IsSyncReady, without, pa
 ghost use Rattle.vnode_machine.specs.Machine.{same_pairs};
 ghost use Rattle.clock_store.specs.Keys.{stored_of};
 
+use crate::own_actor::OwnActor;
 use actor_epoch::{Actor, Context};
 use dvv_set::{Clock, ClockFault};
 use riak_msgs::BoxedContent;
 use std::alloc::AllocError;
 
-/// What is stored of a key: the actor of its life, and its clock, whose live dots are its siblings, each a content or, as
+/// What is stored of a key: the actor of its life at this vnode, and its clock, whose live dots are its siblings, each a content or, as
 /// None, a tombstone.
 ///
 /// A life, at the actor a: written "v" without a context, it has a's dot 1 with "v". Written "w" by the context (a, 1),
 /// it has dot 2 with "w" alone. Overwritten by a tombstone, it has dot 3 with None alone, and is dead: `has_value` is
-/// false.
+/// false. Another, of a key that came by copies: synced with a clock of another vnode it has no actor, and its clock has that
+/// one's siblings. Written at a, it has a for its actor.
 pub struct StoredClock {
-    /// The actor of its key's life.
-    pub actor: Actor,
+    /// The actor of its key's life at this vnode; none where it came by copies alone.
+    pub actor: OwnActor,
     /// What is known of it, and its siblings.
     pub clock: Clock<Option<BoxedContent>>,
 }
@@ -81,11 +83,11 @@ impl StoredClock {
     /// Writes a value in that room, or a tombstone. It takes no memory.
     pub fn write(&mut self, seen: Option<&Context<'_>>, actor: Actor, value: Option<BoxedContent>)
         requires { IsReady self.old.clock (seen_in seen) actor }
-        ensures actor { self.new.actor ≡ actor }
+        ensures actor { self.new.actor ≡ Some actor }
         ensures clock { self.new.clock.meaning
             ≡ event actor value (without (seen_in seen.entry) self.old.clock.meaning) }
     {
-        self.actor = actor;
+        self.actor = OwnActor::of(actor);
         self.clock.put_ready(seen, actor, value);
     }
 
@@ -93,11 +95,11 @@ impl StoredClock {
     /// takes no memory.
     pub fn overwrite(&mut self, actor: Actor, value: Option<BoxedContent>)
         requires { IsReady self.old.clock None actor }
-        ensures actor { self.new.actor ≡ actor }
+        ensures actor { self.new.actor ≡ Some actor }
         ensures clock { self.new.clock.meaning
             ≡ event actor value (discard self.old.clock.meaning.known self.old.clock.meaning) }
     {
-        self.actor = actor;
+        self.actor = OwnActor::of(actor);
         self.clock.overwrite_ready(actor, value);
     }
 
@@ -115,13 +117,12 @@ impl StoredClock {
         }
     }
 
-    /// Syncs with another clock in that room. It takes no memory.
-    pub fn sync(&mut self, actor: Actor, other: Clock<Option<BoxedContent>>)
+    /// Syncs with another clock in that room; the actor stays. It takes no memory.
+    pub fn sync(&mut self, other: Clock<Option<BoxedContent>>)
         requires { IsSyncReady self.old.clock other.meaning }
-        ensures actor { self.new.actor ≡ actor }
+        ensures actor { self.new.actor ≡ self.old.actor }
         ensures clock { self.new.clock.meaning ≡ sync self.old.clock.meaning other.meaning }
     {
-        self.actor = actor;
         self.clock.sync_ready(other);
     }
 }

@@ -6,193 +6,19 @@ ghost use Rattle.dvv_set.specs.Held.{IsWithin};
 ghost use Rattle.clock_store.specs.Keys.{clock_at};
 ghost use Rattle.clock_store.specs.Contents.{HasRoom};
 
+mod rows;
 mod syncs;
 
+use crate::storage::rows::Act::{self, Holds, IsOf, Reap, Reserve, Sync, Tombstone, Value};
+use crate::storage::rows::Step::{self, Clear, DropRoom, HasDead, Next, Sweep, To};
+use crate::storage::rows::{A, FOUR, ROWS, Row};
 use actor_epoch::{Actor, MAX_ACTORS, MAX_COUNTER};
+use clock_list::ClockList;
 use clock_map::ClockMap;
-use clock_store::{ClockStore, KeyRef, Reaped, StoredClock, WriteKind, place_in};
+use clock_store::{ClockStore, KeyRef, StoredClock, WriteKind, place_in};
 use dvv_set::{Clock, Needed};
 use riak_msgs::{BoxedContent, Content, Key};
 use std::alloc::{AllocError, Global};
-
-/// The actor of each key's life.
-const A: Actor = Actor {
-    vnode: 65_536,
-    epoch: 1,
-};
-
-/// The actor of another vnode.
-const B: Actor = Actor {
-    vnode: 65_537,
-    epoch: 1,
-};
-
-/// The bytes of the context (A, 1), then of that with (B, 1), and with (B, 2).
-const SEEN_A: &[u8] = b"\x01\0\0\0\0\0\x01\0\0\0\0\0\x01\0\0\0\x01";
-
-const SEEN_A_B1: &[u8] = b"\x01\
-    \0\0\0\0\0\x01\0\0\0\0\0\x01\0\0\0\x01\
-    \0\0\0\0\0\x01\0\x01\0\0\0\x01\0\0\0\x01";
-
-const SEEN_A_B2: &[u8] = b"\x01\
-    \0\0\0\0\0\x01\0\0\0\0\0\x01\0\0\0\x01\
-    \0\0\0\0\0\x01\0\x01\0\0\0\x01\0\0\0\x02";
-
-/// What is done to a store, and what comes of it.
-enum Step {
-    /// Something is done to the key of this name.
-    To(&'static [u8], Act),
-    /// What room there is is dropped.
-    DropRoom,
-    /// The least dead key is forgotten: there is one.
-    Sweep,
-    /// Whether there is a dead key.
-    HasDead(bool),
-    /// The least key behind the one of this name (None: of all), and how many contents it has.
-    Next(Option<&'static [u8]>, Option<(&'static [u8], u32)>),
-    /// All keys are forgotten.
-    Clear,
-}
-
-/// What is done to a key.
-enum Act {
-    /// It takes in another clock: what the context of these bytes saw (no bytes: nothing), and a write at B.
-    Sync(&'static [u8], Option<WriteKind>),
-    /// An empty content is written beside what is there.
-    Value,
-    /// A tombstone is written over all that is there.
-    Tombstone,
-    /// Room is made for a tombstone, and left.
-    Reserve,
-    /// It is reaped, and this comes of it.
-    Reap(Reaped),
-    /// It has so many contents; None: it is absent. A dead key has none.
-    Holds(Option<u32>),
-}
-
-use Act::{Holds, Reap, Reserve, Sync, Tombstone, Value};
-use Step::{Clear, DropRoom, HasDead, Next, Sweep, To};
-
-/// Steps of a store of four keys.
-struct Row {
-    shows: &'static str,
-    steps: &'static [Step],
-}
-
-// a and c are written, b and d are dead; room for e is never used.
-const FOUR: &[Step] = &[
-    To(b"c", Value),
-    To(b"d", Tombstone),
-    To(b"a", Value),
-    To(b"b", Value),
-    To(b"b", Tombstone),
-    To(b"e", Reserve),
-];
-
-const ROWS: &[Row] = &[
-    Row {
-        shows: "dead keys go in their order",
-        steps: &[
-            // A sweep takes b, and leaves d.
-            To(b"b", Holds(Some(0))),
-            Sweep,
-            To(b"b", Holds(None)),
-            To(b"d", Holds(Some(0))),
-            // A reap keeps a, which has a value, and takes d, the last dead key.
-            To(b"a", Reap(Reaped::Kept)),
-            To(b"d", Reap(Reaped::Gone)),
-            HasDead(false),
-            To(b"c", Holds(Some(1))),
-        ],
-    },
-    Row {
-        shows: "room that no write used is no key",
-        steps: &[
-            To(b"e", Holds(None)),
-            // Room for a tombstone of a, then a value of it beside the one that is there.
-            To(b"a", Reserve),
-            To(b"a", Value),
-            To(b"a", Holds(Some(2))),
-            // A value of b, which was dead, after the room is dropped.
-            DropRoom,
-            To(b"b", Value),
-            To(b"e", Reap(Reaped::Absent)),
-            To(b"b", Holds(Some(1))),
-        ],
-    },
-    Row {
-        shows: "behind each key comes the next, dead or not, and none that has room alone",
-        steps: &[
-            Next(None, Some((b"a", 1))),
-            Next(Some(b"a"), Some((b"b", 0))),
-            Next(Some(b"bb"), Some((b"c", 1))),
-            Next(Some(b"d"), None),
-            // Room for a key between others.
-            To(b"bb", Reserve),
-            Next(Some(b"b"), Some((b"c", 1))),
-        ],
-    },
-    Row {
-        shows: "where all keys are forgotten there is none, and none dead",
-        steps: &[
-            Clear,
-            Next(None, None),
-            HasDead(false),
-            To(b"b", Reap(Reaped::Absent)),
-            To(b"b", Value),
-            Next(None, Some((b"b", 1))),
-        ],
-    },
-    Row {
-        shows: "an absent key takes in a clock, with a value or dead",
-        steps: &[
-            To(b"e", Sync(b"", Some(WriteKind::Value))),
-            To(b"e", Holds(Some(1))),
-            To(b"aa", Sync(SEEN_A, None)),
-            To(b"aa", Holds(Some(0))),
-            // The first dead key is aa, and then b.
-            Sweep,
-            To(b"aa", Holds(None)),
-            Sweep,
-            To(b"b", Holds(None)),
-            To(b"d", Holds(Some(0))),
-        ],
-    },
-    // The other clocks have seen (A, 1), the only value of c, and no longer have it.
-    Row {
-        shows: "a key dies by a sync, and lives by the next one",
-        steps: &[
-            To(b"b", Reap(Reaped::Gone)),
-            To(b"d", Reap(Reaped::Gone)),
-            HasDead(false),
-            To(b"c", Sync(SEEN_A, Some(WriteKind::Tombstone))),
-            To(b"c", Holds(Some(0))),
-            HasDead(true),
-            To(b"c", Sync(SEEN_A_B1, Some(WriteKind::Value))),
-            To(b"c", Holds(Some(1))),
-            HasDead(false),
-            To(b"c", Sync(SEEN_A_B2, None)),
-            HasDead(true),
-            Sweep,
-            To(b"c", Holds(None)),
-            To(b"a", Holds(Some(1))),
-        ],
-    },
-    Row {
-        shows: "a dead key takes in a clock, and lives where that has a value",
-        steps: &[
-            // The other clock has not seen (A, 2), the tombstone of b.
-            To(b"b", Sync(SEEN_A, Some(WriteKind::Value))),
-            To(b"b", Holds(Some(1))),
-            To(b"d", Sync(SEEN_A, Some(WriteKind::Tombstone))),
-            // The first dead key is d.
-            Sweep,
-            To(b"d", Holds(None)),
-            HasDead(false),
-            Next(Some(b"a"), Some((b"b", 1))),
-        ],
-    },
-];
 
 /// Whether what a write needs is within the limits.
 fn allows(needed: Needed) -> bool
@@ -203,8 +29,9 @@ fn allows(needed: Needed) -> bool
 }
 
 /// Whether a write of a key is within the limits.
-fn is_within(store: &ClockMap, alloc: Global, key: &Key, actor: Actor) -> bool
-    ensures { result ≡ true → IsWithin (clock_at store.now.keys key.now).known None actor }
+fn is_within<S: ClockStore>(store: &S, alloc: Global, key: &Key, actor: Actor) -> bool
+    ensures { result ≡ true
+        → IsWithin (clock_at (S.shows store.now).keys key.now).known None actor }
 {
     match store.get(key) {
         Some(stored) => allows(stored.clock.needed(None, actor)),
@@ -216,14 +43,14 @@ fn is_within(store: &ClockMap, alloc: Global, key: &Key, actor: Actor) -> bool
 }
 
 /// Room for a write of a key, tried twice where memory is refused.
-fn reserve(
-    store: &mut ClockMap,
+fn reserve<S: ClockStore>(
+    store: &mut S,
     alloc: Global,
     key: &Key,
     actor: Actor,
     kind: WriteKind,
 ) -> Result<(), AllocError>
-    ensures ok { OnOk result (HasRoom store.new key.now None actor kind) }
+    ensures ok { OnOk result (HasRoom (S.shows store.new) key.now None actor kind) }
 {
     if !is_within(store, alloc, key, actor) {
         return Err(AllocError);
@@ -245,14 +72,18 @@ fn content(alloc: Global) -> Result<BoxedContent, AllocError> {
 }
 
 /// Writes an empty content beside what is there.
-fn write_value(store: &mut ClockMap, alloc: Global, key: Key) -> Result<(), AllocError> {
+fn write_value<S: ClockStore>(store: &mut S, alloc: Global, key: Key) -> Result<(), AllocError> {
     reserve(store, alloc, &key, A, WriteKind::Value)?;
     store.write(key, None, A, Some(content(alloc)?));
     Ok(())
 }
 
 /// Writes a tombstone over all that is there.
-fn write_tombstone(store: &mut ClockMap, alloc: Global, key: Key) -> Result<(), AllocError> {
+fn write_tombstone<S: ClockStore>(
+    store: &mut S,
+    alloc: Global,
+    key: Key,
+) -> Result<(), AllocError> {
     reserve(store, alloc, &key, A, WriteKind::Tombstone)?;
     store.overwrite(key, A, None);
     Ok(())
@@ -276,15 +107,23 @@ fn count_contents(stored: &StoredClock) -> u32 {
 }
 
 /// How many contents the key has; None where it is absent.
-fn count_of(store: &ClockMap, key: &Key) -> Option<u32> {
+fn count_of<S: ClockStore>(store: &S, key: &Key) -> Option<u32> {
     match store.get(key) {
         None => None,
         Some(stored) => Some(count_contents(stored)),
     }
 }
 
+/// Whether a key is held with this actor.
+fn is_of<S: ClockStore>(store: &S, key: &Key, actor: Option<Actor>) -> bool {
+    match store.get(key) {
+        None => false,
+        Some(stored) => stored.actor.get() == actor,
+    }
+}
+
 /// Whether what is done to a key succeeds, and comes to what it says.
-fn acts(store: &mut ClockMap, alloc: Global, key: Key, act: &Act) -> bool {
+fn acts<S: ClockStore>(store: &mut S, alloc: Global, key: Key, act: &Act) -> bool {
     match act {
         Value => write_value(store, alloc, key).is_ok(),
         Tombstone => write_tombstone(store, alloc, key).is_ok(),
@@ -292,6 +131,7 @@ fn acts(store: &mut ClockMap, alloc: Global, key: Key, act: &Act) -> bool {
         Sync(seen, written) => syncs::takes_in(store, alloc, key, seen, *written),
         Reap(reaped) => store.forget_dead(&key) == *reaped,
         Holds(contents) => count_of(store, &key) == *contents,
+        IsOf(actor) => is_of(store, &key, *actor),
     }
 }
 
@@ -303,7 +143,11 @@ fn is_stored(key: KeyRef<'_>, stored: &StoredClock, name: &[u8], contents: u32) 
 }
 
 /// Whether the least key behind one is this, with so many contents.
-fn is_next(store: &ClockMap, after: Option<KeyRef<'_>>, wanted: Option<(&[u8], u32)>) -> bool {
+fn is_next<S: ClockStore>(
+    store: &S,
+    after: Option<KeyRef<'_>>,
+    wanted: Option<(&[u8], u32)>,
+) -> bool {
     match store.next(after) {
         None => wanted.is_none(),
         Some((key, stored)) => match wanted {
@@ -314,8 +158,8 @@ fn is_next(store: &ClockMap, after: Option<KeyRef<'_>>, wanted: Option<(&[u8], u
 }
 
 /// Whether the least key behind the one of this name is this, with so many contents.
-fn is_next_of(
-    store: &ClockMap,
+fn is_next_of<S: ClockStore>(
+    store: &S,
     alloc: Global,
     after: Option<&[u8]>,
     wanted: Option<(&[u8], u32)>,
@@ -329,7 +173,7 @@ fn is_next_of(
     }
 }
 
-fn takes(store: &mut ClockMap, alloc: Global, step: &Step) -> bool {
+fn takes<S: ClockStore>(store: &mut S, alloc: Global, step: &Step) -> bool {
     match step {
         To(name, act) => match key_of(alloc, name) {
             Ok(key) => acts(store, alloc, key, act),
@@ -349,7 +193,7 @@ fn takes(store: &mut ClockMap, alloc: Global, step: &Step) -> bool {
     }
 }
 
-fn takes_all(store: &mut ClockMap, alloc: Global, steps: &[Step]) -> bool {
+fn takes_all<S: ClockStore>(store: &mut S, alloc: Global, steps: &[Step]) -> bool {
     for step in steps {
         if !takes(store, alloc, step) {
             return false;
@@ -358,14 +202,19 @@ fn takes_all(store: &mut ClockMap, alloc: Global, steps: &[Step]) -> bool {
     true
 }
 
-fn holds(alloc: Global, row: &Row) -> bool {
-    let mut store = ClockMap::new(alloc);
+fn holds<S: ClockStore>(alloc: Global, row: &Row) -> bool {
+    let mut store = S::new(alloc);
     takes_all(&mut store, alloc, FOUR) && takes_all(&mut store, alloc, row.steps)
 }
 
 #[test]
 fn keys_live_by_their_writes_and_go_when_dead(rt: HostRuntime) {
     for row in ROWS {
-        assert!(rt; holds(rt.alloc(), row), "{}", row.shows);
+        assert!(rt; holds::<ClockMap>(rt.alloc(), row), "{}", row.shows);
+        assert!(rt;
+            holds::<ClockList>(rt.alloc(), row),
+            "a list: {}",
+            row.shows
+        );
     }
 }

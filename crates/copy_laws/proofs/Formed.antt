@@ -1,7 +1,6 @@
 -- What a clock knows at a primary or a fallback is of the form of a context, within the limits.
 use Rattle.std.proofs.Common.{◌≡◌, ◌≢◌, ℕ, suc, ◌+◌, ◌<◌, ◌≤◌, Bool, true, false, not, ◌&&◌, ◌||◌, cond, List, [], ◌∷◌, ◌++◌, length, refl, sym, ◌∙◌, ap, arith, subst}
-use Rattle.std.specs.Prelude.{◌==◌, nat_le, nat_lt, Option, Some, None, is_some, option_map}
-use Rattle.std.specs.Option.{option_map_or}
+use Rattle.std.specs.Prelude.{◌==◌, nat_le, nat_lt, Option, Some, None, is_some, option_map, unwrap_or}
 use Rattle.std.specs.List.{list_all}
 use Rattle.std.proofs.lemmas.List.{append_assoc}
 use Rattle.std.proofs.lemmas.Bool.Decides.{nat_tests}
@@ -17,7 +16,7 @@ use Rattle.actor_epoch.specs.Dots.{counter_in, insert_max, union}
 use Rattle.actor_epoch.specs.Contexts.{is_rising, is_within_limits, is_well_formed}
 use Rattle.actor_epoch.specs.Given.{Context}
 use Rattle.dvv_set.specs.Clocks.{sync}
-use Rattle.vnode_machine.specs.Machine.{Stored, State, stored, clock_of, own_of, pairs_of, is_bad_context, has_too_many_siblings, has_too_many_actors, is_out_of_epochs, is_out_of_counters, update_check, epoch_after, apply_operation}
+use Rattle.vnode_machine.specs.Machine.{Stored, State, stored, clock_of, own_of, next_actor, pairs_of, is_bad_context, has_too_many_siblings, has_too_many_actors, is_out_of_epochs, is_out_of_counters, update_check, epoch_after, apply_operation}
 use Rattle.vnode_machine.specs.Lives.{next_of, is_alive, lives_begun, latest_dot}
 use Rattle.vnode_machine.specs.Replay.{replay, HasReplay, Accepts, IsWithinLimits}
 use Rattle.vnode_machine.specs.Sound.{ArePairs, IsFormed}
@@ -71,7 +70,7 @@ fallback-formed v l limits history replays key = by (stored (replay v l history)
   where
     by : (o : Option (Stored Content)) → IsFormed o → AreFormed (clock_in o).known
     by None h = none-formed
-    by (Some s) h = record { are = h.pairs; most = h.most }
+    by (Some s) h = record { are = h.clock.pairs; most = h.clock.most }
 
 few : (n most : ℕ) → nat_lt most n ≡ false → n ≤ most
 few n most h = grind (arith, nat_tests)
@@ -178,7 +177,7 @@ module _ (partition : Partition) (limits : AreWithinLimits partition) (primary :
 
         counters : (own : Actor) → own_of state key ≡ Some own → (counter_in (clock_at v l key before).known own == max_counter) ≡ false
         counters own e =
-            sym (ap (λ o. option_map_or (λ a. counter_in (clock_at v l key before).known a == max_counter) o false) e)
+            sym (ap (λ o. counter_in (clock_at v l key before).known (unwrap_or o (next_actor state)) == max_counter) e)
             ∙ subst (λ k. is_out_of_counters state k ≡ false) same_key checks.counters
 
         by : (b : Bool) → is_alive (commands_of before) key ≡ b → dot.counter ≤ max_counter

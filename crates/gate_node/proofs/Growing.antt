@@ -1,6 +1,6 @@
 -- What a session over gates counts.
 use Rattle.std.proofs.Common.{◌≡◌, ◌≤◌, ◌+◌, ◌∙◌, ℕ, List, [], ◌∷◌, refl, sym, ap, subst, arith, inl, inr}
-use Rattle.std.specs.Prelude.{◌⊎◌, ◌&&◌, not, if◌then◌else◌, Bool, true, false, Option, Some, None, Result, Ok, Err, is_none}
+use Rattle.std.specs.Prelude.{◌⊎◌, Bool, true, false, Option, Some, None, Result, Ok, Err}
 use Rattle.pb_frame.specs.Message.{Message}
 use Rattle.riak_msgs.specs.declared.GetAsk.{GetAsk}
 use Rattle.riak_msgs.specs.declared.GetReply.{GetReply}
@@ -18,29 +18,27 @@ use Rattle.stats_book.specs.declared.totals.Totals.{Totals}
 use Rattle.stats_book.specs.declared.quantity.Quantity.{Quantity}
 use Rattle.stats_book.specs.declared.quantity.Quantity.TheVariants.{Gets, Puts, Deletes, Refusals, Reaps}
 use Rattle.stats_book.specs.Counting.{raised, number_of, zeros}
-use Rattle.sibling_register.specs.History.{Operation, Write, Tombstone}
-use Rattle.vnode_machine.specs.Machine.{State, is_held, put_check, del_check, apply_operation}
-use Rattle.vnode_machine.specs.Asks.{get_command, put_command, del_command}
-use Rattle.vnode_machine.specs.Replies.{get_reply, put_reply}
-use Rattle.vnode_machine.specs.Step.{Response, PutDone, DelDone, Refused, Answered, Accepted, unless_refused}
+use Rattle.vnode_machine.specs.Machine.{State}
+use Rattle.vnode_machine.specs.Asks.{get_command}
+use Rattle.vnode_machine.specs.Replies.{get_reply}
 use Rattle.vnode_protocol.specs.declared.ask.Ask.{Ask}
 use Rattle.vnode_protocol.specs.declared.ask.Ask.TheVariants as asks
 use Rattle.vnode_protocol.specs.declared.ask.Answer.{Answer}
 use Rattle.vnode_protocol.specs.declared.ask.Answer.TheVariants as answers
 use Rattle.clock_store.specs.declared.store.Reaped.{Reaped}
-use Rattle.clock_store.specs.declared.store.Reaped.TheVariants.{Gone, Kept, Absent}
-use Rattle.vnode_protocol.specs.declared.event.Event.{Event}
 use Rattle.vnode_protocol.specs.declared.event.Event.TheVariants as events
+use Rattle.vnode_protocol.specs.declared.entry.Entry.{Entry}
+use Rattle.vnode_protocol.specs.declared.entry.Entry.TheVariants.{Command as Commanded, Copied, Closed}
 use Rattle.vnode_protocol.specs.declared.refusal.Refusal.{Refusal}
-use Rattle.vnode_protocol.specs.Events.{AsksReap, Asks, AnsweredBy, IsAnswered}
-use Rattle.vnode_protocol.specs.Plans.{response_of}
+use Rattle.vnode_protocol.specs.Events.{AsksReap, Asks, AnsweredBy}
+use Rattle.vnode_protocol.specs.Plans.{IsAnswered, IsWrite}
 use Rattle.node_session.specs.Answers.{AnswersRead, Run, message_fault_text}
 use Rattle.node_session.specs.PlainNodes.{partition_of}
-use Rattle.node_session.specs.PlainStep.{response_reply}
+use Rattle.node_session.specs.PlainStep.{answer_reply}
 use Rattle.gate_ask.specs.declared.asking.Outcome.{Outcome}
 use Rattle.gate_ask.specs.declared.asking.Outcome.TheVariants.{Made, Told, Moved, Full}
 use Rattle.gate_ask.specs.declared.asking.Outcome.TheVariants as Outcomes
-use Rattle.gate_node.specs.Asked.{Sight, Changes, ComesOf, IsMadeBy, IsSaidOf, answer_quantity, get_quantity, outcome_quantity, outcome_reply}
+use Rattle.gate_node.specs.Asked.{Sight, Changes, ComesOf, IsMadeBy, answer_quantity, get_quantity, outcome_quantity, outcome_reply, told_quantity}
 use Rattle.gate_node.specs.Asked.{Gets as AnswersGet}
 use Rattle.gate_node.specs.Gates.{Gates}
 use Rattle.gate_node.specs.GateStep.{Node, GateStep, AtPartition}
@@ -149,36 +147,13 @@ gets-fit : (get : GetAsk) (old new : Sight) (reply : Reply) (quantity : Option Q
 gets-fit get old new reply quantity (inl said, counted) = get-fits (get_reply said.state (get_command get)) (said.state ≡ said.state) (said.state ≡ said.state) texts.NoMemory reply quantity said.says counted
 gets-fit get old new reply quantity (inr moved, counted) = subst (λ (x : Reply). Fits x quantity) (sym moved.0) (counted ∙ ap (λ (x : Reply). Some (get_quantity x)) moved.0)
 
--- a command that isn't refused is accepted
-accepted-answered : (operation : Operation Content) (response other : Response) (next : State Content) → Accepted operation response next ≡ Answered other → ⊥
-accepted-answered operation response other next h = cc
-
-refused-answered : (number : ℕ) (other : Response) → Refused number ≡ Answered other → ⊥
-refused-answered number other h = cc
-
-unless-answered : (check : Option ℕ) (operation : Operation Content) (response other : Response) (next : State Content) → unless_refused check (Accepted operation response next) ≡ Answered other → ⊥
-unless-answered None operation response other next h = accepted-answered operation response other next h
-unless-answered (Some number) operation response other next h = refused-answered number other h
-
-done-put : (reply : PutReply) → Answered DelDone ≡ Answered (PutDone reply) → ⊥
-done-put reply h = cc
-
-idle-put : (idle : Bool) (check : Option ℕ) (operation : Operation Content) (response : Response) (reply : PutReply) (next : State Content)
-    → (if idle then Answered DelDone else unless_refused check (Accepted operation response next)) ≡ Answered (PutDone reply) → ⊥
-idle-put true check operation response reply next h = done-put reply h
-idle-put false check operation response reply next h = unless-answered check operation response (PutDone reply) next h
-
--- a put or a delete
-abbrev IsCommand : Ask → Type 0
-IsCommand (asks.Put put) = Unit {0}
-IsCommand (asks.Del del) = Unit {0}
-IsCommand other = ⊥
-
-no-reap : (ask : Ask) → IsCommand ask → (key : Key) → AsksReap key ask → ⊥
-no-reap (asks.Put put) command key h = h
-no-reap (asks.Del del) command key h = h
-no-reap (asks.Reap other) command key h = command
-no-reap (asks.ReapFirst from) command key h = command
+no-reap : (ask : Ask) → IsWrite ask → (key : Key) → AsksReap key ask → ⊥
+no-reap (asks.Put put) write key h = h
+no-reap (asks.Del del) write key h = h
+no-reap (asks.Reap other) write key h = write
+no-reap (asks.ReapFirst from) write key h = write
+no-reap (asks.Copy copy) write key h = write
+no-reap (asks.Close number) write key h = write
 
 put-reaped : (reaped : Reaped) (reply : PutReply) → answers.Reaped reaped ≡ answers.Put reply → ⊥
 put-reaped reaped reply h = cc
@@ -186,42 +161,47 @@ put-reaped reaped reply h = cc
 del-reaped : (reaped : Reaped) → answers.Reaped reaped ≡ answers.Del → ⊥
 del-reaped reaped h = cc
 
-made-no-reap : (ask : Ask) → IsCommand ask → (event : Event) (reaped : Reaped) → Asks event ask → AnsweredBy event (answers.Reaped reaped) → ⊥
-made-no-reap ask command (events.Put put reply) reaped asked answered = put-reaped reaped reply answered
-made-no-reap ask command (events.Del del) reaped asked answered = del-reaped reaped answered
-made-no-reap ask command (events.Reap key) reaped asked answered = no-reap ask command key asked
+copied-reaped : (reaped : Reaped) → answers.Reaped reaped ≡ answers.Copied → ⊥
+copied-reaped reaped h = cc
 
--- what came of a command, and how it is counted
-made-fits : (ask : Ask) → IsCommand ask → (old new : Sight) (answer : Answer) → IsMadeBy ask old new answer → Fits (response_reply (response_of answer)) (Some (answer_quantity answer))
-made-fits ask command old new (answers.Put reply) made = refl
-made-fits ask command old new answers.Del made = inl refl
-made-fits ask command old new (answers.Reaped reaped) made = absurd (made-no-reap ask command made.event reaped made.asked made.answered)
+closed-reaped : (reaped : Reaped) → answers.Reaped reaped ≡ answers.Closed → ⊥
+closed-reaped reaped h = cc
 
-answered-fits : (ask : Ask) → IsCommand ask → (old new : Sight) (answer : Answer) → IsSaidOf (λ s. IsAnswered s ask answer) old new → Fits (response_reply (response_of answer)) None
-answered-fits (asks.Put put) command old new answer said =
-    let c = put_command put in let s = said.state in
-    let next = apply_operation s c.key c.context (Write c.value) in
-    absurd (unless-answered (put_check s c) (Write c.value) (PutDone (put_reply next c)) (response_of answer) next said.says.0)
-answered-fits (asks.Del del) command old new (answers.Put reply) said =
-    let c = del_command del in let s = said.state in
-    absurd (idle-put (is_none c.context && not (is_held s c.key)) (del_check s c) Tombstone DelDone reply (apply_operation s c.key c.context Tombstone) said.says.0)
-answered-fits (asks.Del del) command old new answers.Del said = inr refl
-answered-fits (asks.Del del) command old new (answers.Reaped Gone) said = inr refl
-answered-fits (asks.Del del) command old new (answers.Reaped Kept) said = inr refl
-answered-fits (asks.Del del) command old new (answers.Reaped Absent) said = inr refl
-answered-fits (asks.Reap key) command old new answer said = absurd command
-answered-fits (asks.ReapFirst from) command old new answer said = absurd command
+made-no-reap : (ask : Ask) → IsWrite ask → (entry : Entry) (reaped : Reaped) → Asks entry ask → AnsweredBy entry (answers.Reaped reaped) → ⊥
+made-no-reap ask write (Commanded (events.Put put reply)) reaped asked answered = put-reaped reaped reply answered
+made-no-reap ask write (Commanded (events.Del del)) reaped asked answered = del-reaped reaped answered
+made-no-reap ask write (Commanded (events.Reap key)) reaped asked answered = no-reap ask write key asked
+made-no-reap ask write (Copied copy) reaped asked answered = copied-reaped reaped answered
+made-no-reap ask write (Closed number) reaped asked answered = closed-reaped reaped answered
 
-outcome-fits : (ask : Ask) → IsCommand ask → (old new : Sight) (outcome : Outcome Answer Refusal) → ComesOf ask old new outcome → Fits (outcome_reply outcome) (outcome_quantity outcome)
-outcome-fits ask command old new (Made answer) comes = made-fits ask command old new answer comes
-outcome-fits ask command old new (Told answer) comes = answered-fits ask command old new answer comes
-outcome-fits ask command old new (Outcomes.Refused refusal) comes = refl
-outcome-fits ask command old new Moved comes = refl
-outcome-fits ask command old new Full comes = refl
+-- what came of a write, and how it is counted
+made-fits : (ask : Ask) → IsWrite ask → (old new : Sight) (answer : Answer) → IsMadeBy ask old new answer → Fits (answer_reply answer) (Some (answer_quantity answer))
+made-fits ask write old new (answers.Put reply) made = refl
+made-fits ask write old new answers.Del made = inl refl
+made-fits ask write old new (answers.Reaped reaped) made = absurd (made-no-reap ask write made.event reaped made.asked made.answered)
+made-fits ask write old new answers.Copied made = refl
+made-fits ask write old new answers.Stuck made = refl
+made-fits ask write old new answers.Closed made = refl
 
-changes-fit : (ask : Ask) → IsCommand ask → (old new : Sight) (reply : Reply) (quantity : Option Quantity) → Changes ask old new reply quantity → Fits reply quantity
-changes-fit ask command old new reply quantity c =
-    subst (λ (x : Reply). Fits x quantity) (sym c.replied) (subst (λ q. Fits (outcome_reply c.outcome) q) (sym c.counted) (outcome-fits ask command old new c.outcome c.comes))
+told-fits : (state : State Content) (ask : Ask) → IsWrite ask → (answer : Answer) → IsAnswered state ask answer → Fits (answer_reply answer) (told_quantity answer)
+told-fits state ask write answer (inr (closed, is)) = subst (λ (a : Answer). Fits (answer_reply a) (told_quantity a)) (sym is) refl
+told-fits state (asks.Put put) write answer (inl (opened, says)) = absurd says
+told-fits state (asks.Del del) write answer (inl (opened, (is, step))) = subst (λ (a : Answer). Fits (answer_reply a) (told_quantity a)) (sym is) (inr refl)
+told-fits state (asks.Reap key) write answer (inl h) = absurd write
+told-fits state (asks.ReapFirst from) write answer (inl h) = absurd write
+told-fits state (asks.Copy copy) write answer (inl h) = absurd write
+told-fits state (asks.Close number) write answer (inl h) = absurd write
+
+outcome-fits : (ask : Ask) → IsWrite ask → (old new : Sight) (outcome : Outcome Answer Refusal) → ComesOf ask old new outcome → Fits (outcome_reply outcome) (outcome_quantity outcome)
+outcome-fits ask write old new (Made answer) comes = made-fits ask write old new answer comes
+outcome-fits ask write old new (Told answer) comes = told-fits comes.state ask write answer comes.says
+outcome-fits ask write old new (Outcomes.Refused refusal) comes = refl
+outcome-fits ask write old new Moved comes = refl
+outcome-fits ask write old new Full comes = refl
+
+changes-fit : (ask : Ask) → IsWrite ask → (old new : Sight) (reply : Reply) (quantity : Option Quantity) → Changes ask old new reply quantity → Fits reply quantity
+changes-fit ask write old new reply quantity c =
+    subst (λ (x : Reply). Fits x quantity) (sym c.replied) (subst (λ q. Fits (outcome_reply c.outcome) q) (sym c.counted) (outcome-fits ask write old new c.outcome c.comes))
 
 within-get : (budget reaps : ℕ) (reply : GetReply) → reaps ≤ budget → (quantity : Quantity) → part Gets 1 quantity + part Reaps reaps quantity ≤ reply_most budget quantity (replies.Get reply)
 within-get budget reaps reply few Gets = omega (arith, few)

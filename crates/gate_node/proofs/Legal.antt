@@ -7,12 +7,12 @@ use Rattle.rw_gate.specs.Views.{GateId}
 use Rattle.rw_gate.specs.Histories.{RunFrom}
 use Rattle.vnode_protocol.specs.declared.event.Event.{Event}
 use Rattle.vnode_protocol.specs.Plans.{View}
-use Rattle.vnode_protocol.specs.Events.{Makes}
+use Rattle.vnode_protocol.specs.Events.{all_commands, Makes}
 use Rattle.vnode_protocol.proofs.Events.{run-is-legal}
 use Rattle.gate_node.specs.Asked.{state_of}
 use Rattle.gate_node.specs.Legal.{PositionIsLegal}
 
 pub position-is-legal : (vnode last_epoch : ℕ) (gate : GateId View) (events : List Event) (state : State Content) → PositionIsLegal vnode last_epoch gate events state
 position-is-legal vnode last_epoch gate events state limits made leads =
-    run-is-legal vnode last_epoch events state limits (subst (λ s. MachineRun Makes s events state) made.new
-    (subst (λ opened. RunFrom state_of Makes opened events state) made.made leads))
+    run-is-legal vnode last_epoch events state limits (subst (λ s. MachineRun Makes s (all_commands events) state) made.new
+    (subst (λ opened. RunFrom state_of Makes opened (all_commands events) state) made.made leads))

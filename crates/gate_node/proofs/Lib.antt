@@ -1,3 +1,4 @@
+pub mod Answering
 pub mod Fitting
 pub mod Growing
 pub mod Keeping
@@ -5,3 +6,4 @@ pub mod Legal
 pub mod Opened
 pub mod Reaping
 pub mod Registers
+pub mod Seeing

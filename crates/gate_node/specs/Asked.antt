@@ -17,20 +17,20 @@ use Rattle.vnode_protocol.specs.declared.ask.Ask.{Ask}
 use Rattle.vnode_protocol.specs.declared.ask.Ask.TheVariants as asks
 use Rattle.vnode_protocol.specs.declared.ask.Answer.{Answer}
 use Rattle.vnode_protocol.specs.declared.ask.Answer.TheVariants as answers
-use Rattle.vnode_protocol.specs.declared.event.Event.{Event}
+use Rattle.vnode_protocol.specs.declared.entry.Entry.{Entry}
 use Rattle.vnode_protocol.specs.declared.refusal.Refusal.{Refusal}
-use Rattle.vnode_protocol.specs.Plans.{View, Refuses, response_of}
+use Rattle.vnode_protocol.specs.Plans.{View, IsAnswered, Refuses}
 use Rattle.vnode_protocol.specs.Refusals.{number_of}
-use Rattle.vnode_protocol.specs.Events.{Makes, IsAnswered, Asks, AnsweredBy}
+use Rattle.vnode_protocol.specs.Events.{Makes, Asks, AnsweredBy}
 use Rattle.sibling_register.specs.Refusals.{refusal_text}
-use Rattle.node_session.specs.PlainStep.{response_reply, StepsBy}
+use Rattle.node_session.specs.PlainStep.{answer_reply, StepsBy}
 use Rattle.gate_ask.specs.declared.asking.Outcome.{Outcome}
 use Rattle.gate_ask.specs.declared.asking.Outcome.TheVariants.{Made, Told, Refused, Moved, Full}
 use Rattle.gate_ask.specs.Asking.{Comes, IsMade, IsSaid, IsOvertaken}
 
 -- what a caller has seen of a vnode's history, and at which positions of it the caller published
 abbrev pub Sight : Type 0
-Sight = PassView View Event
+Sight = PassView View Entry
 
 -- the machine's state of a vnode
 abbrev pub state_of : View → State Content
@@ -48,22 +48,30 @@ IsSaidOf = IsSaid state_of Makes IsAnswered Refuses Asks AnsweredBy
 
 -- the reply for what came of an ask
 abbrev pub outcome_reply : Outcome Answer Refusal → Reply
-outcome_reply (Made answer) = response_reply (response_of answer)
-outcome_reply (Told answer) = response_reply (response_of answer)
+outcome_reply (Made answer) = answer_reply answer
+outcome_reply (Told answer) = answer_reply answer
 outcome_reply (Refused refusal) = replies.Error (refusal_text (number_of refusal))
 outcome_reply Moved = replies.Error texts.Moved
 outcome_reply Full = replies.Error texts.HistoryFull
 
--- what an accepted command is counted as
+-- what an accepted command is counted as; a copy or a close, which no request asks for, as the error that is replied to it
 abbrev pub answer_quantity : Answer → Quantity
 answer_quantity (answers.Put reply) = quantities.Puts
 answer_quantity answers.Del = quantities.Deletes
 answer_quantity (answers.Reaped reaped) = quantities.Reaps
+answer_quantity answers.Copied = quantities.Refusals
+answer_quantity answers.Stuck = quantities.Refusals
+answer_quantity answers.Closed = quantities.Refusals
 
--- what is counted of what came of an ask: a command that was accepted, or an error; nothing where nothing was changed
+-- what an answer that changes nothing is counted as: that of a closed vnode is an error
+abbrev pub told_quantity : Answer → Option Quantity
+told_quantity answers.Closed = Some quantities.Refusals
+told_quantity other = None
+
+-- what is counted of what came of an ask: a command that was accepted, or an error; nothing where a vnode that isn't closed changes nothing
 abbrev pub outcome_quantity : Outcome Answer Refusal → Option Quantity
 outcome_quantity (Made answer) = Some (answer_quantity answer)
-outcome_quantity (Told answer) = None
+outcome_quantity (Told answer) = told_quantity answer
 outcome_quantity other = Some quantities.Refusals
 
 -- an ask gets the reply for what came of it, and that is counted
@@ -103,7 +111,7 @@ abbrev pub IsNotMade : Outcome Answer Refusal → Type 0
 IsNotMade (Made answer) = ⊥
 IsNotMade other = Unit {0}
 
--- no further one was forgotten: none is dead, or the history had gone on, or is full
+-- no further one was forgotten: none is dead, or the vnode is closed, or the history had gone on, or is full
 pub record EndsReaping (old new : Sight) : Type 0 where
   pub outcome : Outcome Answer Refusal
   pub ends : IsNotMade outcome

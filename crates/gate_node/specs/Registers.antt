@@ -18,7 +18,8 @@ use Rattle.vnode_machine.specs.Step.{Response}
 use Rattle.vnode_machine.specs.Registers.{key_of}
 use Rattle.vnode_machine.specs.Runs.{AnswersTurn}
 use Rattle.vnode_protocol.specs.declared.event.Event.{Event}
-use Rattle.vnode_protocol.specs.Events.{GoesOnTo, history_after}
+use Rattle.vnode_protocol.specs.declared.entry.Entry.{Entry}
+use Rattle.vnode_protocol.specs.Events.{AreCommands, GoesOnTo, commands_of, history_after}
 use Rattle.node_session.specs.declared.fault.SessionFault.{SessionFault}
 use Rattle.node_session.specs.Answers.{Run}
 use Rattle.node_session.specs.Answered.{Answered}
@@ -44,18 +45,26 @@ abbrev pub Seen : Type 0
 Seen = ℕ → Commands
 
 -- what a pass of this fallback has seen that is kept; nothing, where none is
-abbrev pub seen_at_fallback : Fallback → Option FallbackPass → Commands
+abbrev pub seen_at_fallback : Fallback → Option FallbackPass → List Entry
 seen_at_fallback fallback kept = if is_of fallback kept then option_map_or (λ (pass : FallbackPass). pass.pass.prefix) kept [] else []
 
 -- what is seen of a partition by a pass of its primary, or of its fallback where one stands
-abbrev pub seen_at : Option (Option Fallback) → Option Sight → Option (Option FallbackPass) → Commands
+abbrev pub seen_at : Option (Option Fallback) → Option Sight → Option (Option FallbackPass) → List Entry
 seen_at (Some (Some fallback)) primary kept = seen_at_fallback fallback (unwrap_or kept None)
 seen_at (Some None) primary kept = option_map_or (λ (pass : Sight). pass.prefix) primary []
 seen_at None primary kept = option_map_or (λ (pass : Sight). pass.prefix) primary []
 
--- what a node's passes have seen at each index, of the vnode that the calls of the partition are for
+-- what a node's passes have seen at an index, of the vnode that the calls of the partition are for
+abbrev pub entries_by : Node → ℕ → List Entry
+entries_by node index = seen_at (slice_get node.shared.fallbacks index) (slice_get node.passes.primaries index) (slice_get node.passes.fallbacks index)
+
+-- and the commands among that
 abbrev pub seen_by : Node → Seen
-seen_by node index = seen_at (slice_get node.shared.fallbacks index) (slice_get node.passes.primaries index) (slice_get node.passes.fallbacks index)
+seen_by node index = commands_of (entries_by node index)
+
+-- they have seen commands alone, at each index
+abbrev pub HasSeenCommands : Node → Type 0
+HasSeenCommands node = (index : ℕ) → AreCommands (entries_by node index)
 
 -- a vnode: its id, and the last epoch that it had given before its history began
 pub record VnodeId : Type 0 where
@@ -96,7 +105,8 @@ module _ (id : VnodeId) where
     pub replied : reply ≡ reply_of result
     pub more : IsPrefix after new
 
--- the errors by which a gate answers in the place of the register: other commands came between, or there is no room for one more
+-- the errors by which a gate answers in the place of the register: other commands came between, or its vnode is closed, or there is no
+-- room for one more
 abbrev pub IsOfGate : Reply → Type 0
 IsOfGate reply = (reply ≡ replies.Error texts.Moved) ⊎ (reply ≡ replies.Error texts.HistoryFull)
 
@@ -116,19 +126,21 @@ RegisterAmongOthers vnode_of index_of old request reply new =
 abbrev pub SharedRegister : Gates → Seen → Request → Reply → Seen → Type 0
 SharedRegister shared = RegisterAmongOthers (vnode_at shared) (partition_of shared.index_bits)
 
--- what a node over gates answers to messages, one after another, the register among others does
+-- what a node over gates answers to messages, one after another, the register among others does, where the node has seen commands
+-- alone in the end
 abbrev pub RunIsRegister : (old new : Node) → List Message → List Reply → Type 0
 RunIsRegister old new messages replies =
-    Run GateStep old messages replies new → Run (SharedRegister old.shared) (seen_by old) messages replies (seen_by new)
+    HasSeenCommands new → Run GateStep old messages replies new
+    → Run (SharedRegister old.shared) (seen_by old) messages replies (seen_by new)
 
 -- a session that comes to the end is one over the register among others
 abbrev pub EndIsRegister : (old new : Node) (input : List ℕ) (held held' : Option (List ℕ)) (count len : ℕ) → Type 0
 EndIsRegister old new input held held' count len =
-    Answered GateStep old input held held' count (IsEnd new len)
+    HasSeenCommands new → Answered GateStep old input held held' count (IsEnd new len)
     → Answered (SharedRegister old.shared) (seen_by old) input held held' count (IsEnd (seen_by new) len)
 
 -- and so is one that stops at a fault
 abbrev pub StopIsRegister : (old new : Node) (input : List ℕ) (held held' : Option (List ℕ)) → SessionFault → Type 0
 StopIsRegister old new input held held' fault =
-    Stops GateStep old new input held held' fault
+    HasSeenCommands new → Stops GateStep old new input held held' fault
     → Stops (SharedRegister old.shared) (seen_by old) (seen_by new) input held held' fault

@@ -17,8 +17,8 @@ ghost use Rattle.gate_node.specs.Registers.{RunIsRegister, EndIsRegister, StopIs
 ghost use Rattle.node_session.specs.declared.fault.SessionFault.{SessionFault};
 ghost use Rattle.std.specs.Prelude.{Option};
 
-/// Each position at which a [`GateNode`](crate::GateNode) answers is a legal history of the sibling register, and the state
-/// there is its replay. For the node's step names the position and its run (`leads` of `IsMade` and `IsSaid` in
+/// Each position at which a [`GateNode`](crate::GateNode) answers, and before which commands alone stand, is a legal history of the
+/// sibling register, and the state there is its replay. For the node's step names the position and its run (`leads` of `IsMade` and `IsSaid` in
 /// `specs/Asking`), that the gate was made round a new vnode, and that the id of this vnode is one that a vnode can have: for that of
 /// the key's partition `made_new` and `limits` of `AtIndex` in `specs/GateStep`, for the partition's fallback those of `IsFallback`
 /// (`is_new` of `AtFallback`).
@@ -56,10 +56,13 @@ pub fn sessions_count_their_replies()
 /// position of that history which has all that the node had seen of it: a get shows the siblings and the context of the position; a put or
 /// a delete is refused as the register may refuse it there, or is the next command, and its reply shows the position after it. Commands of
 /// other callers may stand between two of the session's, and the history with the command is legal. An error of the gate, that the history
-/// has moved or is full, is no command, and neither is a ping, nor a request for which memory was refused.
+/// has moved or is full, or that the vnode is closed, is no command, and neither is a ping, nor a request for which memory was refused.
 ///
 /// `run` is about messages and replies. `ended` and `stopped` are about bytes: what a session wrote for its input, however that was cut, to
 /// its end or to any fault.
+///
+/// All of this is so where the node has seen commands alone in the end: no copy of a key from another vnode, and no close. It had then seen
+/// no other entries all along.
 ///
 /// What two sessions over the gates of one run have seen of a vnode begins one history (`Pass::is_behind` of `rw_gate`).
 pub fn gate_node_is_register()

@@ -11,11 +11,11 @@
 //! What it means (`specs/GateStep`): each reply is the vnode machine's at one position of the history of the key's vnode, and
 //! not before what the caller had seen of it; an accepted put or delete is the event at that position, published once, and
 //! the caller's own; what the caller has seen of any other vnode stays. These positions are legal histories of the
-//! sibling register, since each gate was made round a new vnode ([`positions_are_legal`]). The errors `moved` and
-//! `history full` change nothing: the history had gone on past the state that was found, which no path of today's gate
-//! leads to, or it can have no further event. The share rises by one for what was answered and by one for each dead key
-//! that was forgotten, and by nothing else; where the book has no room for that, the reply is the same and the node keeps
-//! that fact.
+//! sibling register, where commands alone stand before them, since each gate was made round a new vnode
+//! ([`positions_are_legal`]). The errors `moved` and `history full` change nothing: the history had gone on past the state
+//! that was found, which no path of today's gate leads to, or the vnode is closed, which no request does, or the history can
+//! have no further event. The share rises by one for what was answered and by one for each dead key that was forgotten, and
+//! by nothing else; where the book has no room for that, the reply is the same and the node keeps that fact.
 //!
 //! Where a key's partition is diverted, all of that is so at its fallback: another vnode, which has an id and a history of its own, and at
 //! first no keys (`AtFallback`). No dead key is forgotten there, and the primary isn't asked; what it holds no request sees. A partition

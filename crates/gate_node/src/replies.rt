@@ -1,6 +1,6 @@
 //! The replies for what came of an ask, and what they are counted as.
 ghost use Rattle.std.specs.Prelude.{◌≡◌};
-ghost use Rattle.gate_node.specs.Asked.{answer_quantity, get_quantity, outcome_quantity, outcome_reply};
+ghost use Rattle.gate_node.specs.Asked.{answer_quantity, get_quantity, outcome_quantity, outcome_reply, told_quantity};
 
 use gate_ask::Outcome;
 use node_session::answer_reply;
@@ -30,7 +30,7 @@ pub(crate) fn get_quantity(reply: &Reply) -> Quantity
     }
 }
 
-/// What an accepted command is counted as.
+/// What an accepted command is counted as; a copy or a close, which no request asks for, as the error that is replied to it.
 fn answer_quantity(answer: &Answer) -> Quantity
     ensures { result ≡ answer_quantity answer.now }
 {
@@ -38,16 +38,27 @@ fn answer_quantity(answer: &Answer) -> Quantity
         Answer::Put(_) => Quantity::Puts,
         Answer::Del => Quantity::Deletes,
         Answer::Reaped(_) => Quantity::Reaps,
+        Answer::Copied | Answer::Stuck | Answer::Closed => Quantity::Refusals,
     }
 }
 
-/// What is counted of what came of an ask. A delete that changes nothing isn't.
+/// What an answer that changes nothing is counted as: that of a closed vnode is an error.
+fn told_quantity(answer: &Answer) -> Option<Quantity>
+    ensures { result ≡ told_quantity answer.now }
+{
+    match answer {
+        Answer::Closed => Some(Quantity::Refusals),
+        Answer::Put(_) | Answer::Del | Answer::Reaped(_) | Answer::Copied | Answer::Stuck => None,
+    }
+}
+
+/// What is counted of what came of an ask. A delete that changes nothing isn't, but the error that its vnode is closed is.
 pub(crate) fn outcome_quantity(outcome: &Outcome<Answer, Refusal>) -> Option<Quantity>
     ensures { result ≡ outcome_quantity outcome.now }
 {
     match outcome {
         Outcome::Made(answer) => Some(answer_quantity(answer)),
-        Outcome::Told(_) => None,
+        Outcome::Told(answer) => told_quantity(answer),
         Outcome::Refused(_) | Outcome::Moved | Outcome::Full => Some(Quantity::Refusals),
     }
 }

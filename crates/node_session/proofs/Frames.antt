@@ -59,7 +59,3 @@ read_more input rest more es x p within e =
       each = subst (λ (ms : List Message). All (IsWithin max_request_len) ms) (sym listed) (All-append (IsWithin max_request_len) (messages_of es) (message_of x ∷ []) p.each (All-cons (IsWithin max_request_len) (message_of x) [] within (All-nil (IsWithin max_request_len))));
       last = goes_on rest more (message_of x) p.last within e;
     }
-
--- what is left, as all that there was
-pub read_left : (rest : List ℕ) → EndsInPiece rest → IsRead rest [] rest
-read_left rest last = record { stream = refl; each = All-nil (IsWithin max_request_len); last = last }

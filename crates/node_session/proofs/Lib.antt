@@ -2,6 +2,7 @@ pub mod Frames
 pub mod Telling
 pub mod SentParts
 pub mod Standing
+pub mod CarryingOn
 pub mod Simulating
 pub mod Histories
 pub mod Sweeping
@@ -10,3 +11,5 @@ pub mod Piping
 pub mod Vnodes
 pub mod Asking
 pub mod Refusing
+pub mod Opens
+pub mod HandingBack

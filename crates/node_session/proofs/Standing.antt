@@ -34,7 +34,7 @@ some_piece [] none = absurd (none refl)
 some_piece (x ∷ xs) none = omega arith
 
 -- what ends a session came with the last piece
-came_in : (rest : List ℕ) → EndsInPiece rest → (IsPartial max_request_len rest → ⊥) → CameInLastRead rest
+pub came_in : (rest : List ℕ) → EndsInPiece rest → (IsPartial max_request_len rest → ⊥) → CameInLastRead rest
 came_in rest last not_partial = record {
   before = last.before;
   piece = last.piece;
@@ -184,12 +184,15 @@ module _ {S : Type 0} (Step : S → Request → Reply → S → Type 0) where
           ended error (AtLastRead (IsBad c)) (subst (Appends h' h'') sent wrote)
           (came_in s.rest read.last (faulty_not s.rest bad.bad bad.faulty), bad_error bad same)
 
+      abbrev lost_due : (lost : IsLost Step b c s t) → NextReply Step b s.rest (reply_frame lost.exchange.reply) c
+      lost_due lost = record { message = message_of lost.exchange; reply = lost.exchange.reply; more = t.rest; front = lost.front; within = lost.within; answers = lost.answers; is = refl }
+
       -- a reply was lost
       pub lost_reply : IsLost Step b c s t → Appends h' h'' [] → Stops Step a c s.input h h'' (NoMemory count)
       lost_reply lost wrote =
           ended [] (AtLastRead (IsOutOfMemory Step c)) wrote (
-            came_in s.rest read.last (λ q. q.left lost.due.message lost.due.more lost.due.within lost.due.front),
-            inl (record { nothing = refl; next = lost.next; due = lost.due; no_error = lost.no_error }),
+            came_in s.rest read.last (λ q. q.left (message_of lost.exchange) t.rest lost.within lost.front),
+            inl (record { nothing = refl; next = reply_frame lost.exchange.reply; due = lost_due lost; no_error = lost.no_error }),
           )
 
 module _ {S : Type 0} (Step : S → Request → Reply → S → Type 0) where

@@ -14,11 +14,10 @@ use Rattle.riak_msgs.specs.declared.reply.Reply.TheVariants.{Error}
 use Rattle.riak_msgs.specs.Reading.{Reads}
 use Rattle.node_session.specs.declared.exchange.Exchange.{Exchange}
 use Rattle.node_session.specs.Answers.{Answers, message_fault_text, reply_frame, IsNoError}
-use Rattle.node_session.specs.Answered.{NextReply}
 use Rattle.node_session.specs.Taking.{IsToldNext, TakesNext}
 use Rattle.node_session.specs.Nexts.{IsAnswered, IsLost}
 use Rattle.node_session.specs.Views.{IsRead, SessionView, message_of}
-use Rattle.node_session.proofs.Frames.{read_more, read_left, goes_on}
+use Rattle.node_session.proofs.Frames.{read_more}
 
 -- what `take` did where it gave a frame, and where it refused
 pub taken_at : (old new : Stream) (r : Result (Option Frame) FrameFault) (o : Option Frame) (f : Frame) → r ≡ Ok o → o ≡ Some f → Takes old r new → IsTaken old (frame_message f) new
@@ -52,23 +51,18 @@ module _ {S : Type 0} (Step : S → Request → Reply → S → Type 0) where
     pub still_read : IsRead input es framer.rest → IsRead input es' framer'.rest
     still_read p = subst (λ (l : List Exchange). IsRead input l framer'.rest) (sym told.listed) (read_more input framer.rest framer'.rest es told.exchange p within told.taken.front)
 
-    pub left_read : IsRead input es framer.rest → IsRead framer'.rest [] framer'.rest
-    left_read p = read_left framer'.rest (goes_on framer.rest framer'.rest (message_of told.exchange) p.last within told.taken.front)
-
     -- and whose reply was lost
-    abbrev pub was_due : (rest : List ℕ) → rest ≡ framer.rest → NextReply Step node rest (reply_frame reply) node'
-    was_due rest e = record {
-      message = message_of told.exchange;
-      reply = reply;
-      more = framer'.rest;
-      front = e ∙ told.taken.front;
+    pub lost : (old new : SessionView) → old.rest ≡ framer.rest → new.rest ≡ framer'.rest → new.input ≡ old.input → old.exchanges ≡ es → new.exchanges ≡ es' → new.unsent ≡ old.unsent → IsNoError reply → IsLost Step node node' old new
+    lost old new e e' input from to same none = record {
+      exchange = told.exchange;
+      front = e ∙ told.taken.front ∙ ap (λ (t : List ℕ). frame (message_of told.exchange) ++ t) (sym e');
       within = within;
-      answers = told.answers;
-      is = refl;
+      answers = subst (λ (x : Reply). Answers Step node (message_of told.exchange) x node') (sym told.replied) told.answers;
+      no_error = subst IsNoError (sym told.replied) none;
+      input = input;
+      exchanges = to ∙ told.listed ∙ ap (λ (l : List Exchange). l ++ told.exchange ∷ []) (sym from);
+      unsent = same;
     }
-
-    pub lost : (old new : SessionView) → old.rest ≡ framer.rest → new.unsent ≡ old.unsent → IsNoError reply → IsLost Step node node' old new
-    lost old new e same none = record { next = reply_frame reply; due = was_due old.rest e; no_error = none; unsent = same }
 
     pub answered : (old new : SessionView) → old.rest ≡ framer.rest → new.rest ≡ framer'.rest → framer.fault ≡ None → new.input ≡ old.input → old.exchanges ≡ es → new.exchanges ≡ es' → new.fault ≡ framer'.fault
         → new.unsent ≡ old.unsent ++ reply_frame reply → IsAnswered Step node node' old new

@@ -7,6 +7,8 @@ pub mod Unsent
 pub mod Taking
 pub mod Nexts
 pub mod Sending
+pub mod Connections
+pub mod Moves
 pub mod Report
 pub mod PlainStep
 pub mod PlainNodes

@@ -12,7 +12,6 @@ use Rattle.node_session.specs.declared.session.Next.TheVariants.{Answered, Idle,
 use Rattle.node_session.specs.declared.session.Halt.{Halt}
 use Rattle.node_session.specs.declared.session.Halt.TheVariants.{BadFrame, NoMemory}
 use Rattle.node_session.specs.Answers.{Answers, reply_frame, frame_fault_text, IsNoError}
-use Rattle.node_session.specs.Answered.{NextReply}
 use Rattle.node_session.specs.Views.{SessionView, message_of}
 
 -- a bad length stands next, and its error is to be sent
@@ -21,6 +20,7 @@ pub record IsBadNext (old new : SessionView) : Type 0 where
   pub faulty : IsFaulty max_request_len old.rest bad
   pub input : new.input ≡ old.input
   pub exchanges : new.exchanges ≡ old.exchanges
+  pub rest : new.rest ≡ old.rest
   pub unsent : new.unsent ≡ old.unsent ++ reply_frame (Error (frame_fault_text bad))
 
 module _ {S : Type 0} (Step : S → Request → Reply → S → Type 0) where
@@ -35,11 +35,15 @@ module _ {S : Type 0} (Step : S → Request → Reply → S → Type 0) where
     pub fault : new.fault ≡ None
     pub unsent : new.unsent ≡ old.unsent ++ reply_frame exchange.reply
 
-  -- a reply was lost, and is no error; what is to be sent stays
+  -- the next message was answered, but its reply was lost, and is no error; what is to be sent stays
   pub record IsLost (node node' : S) (old new : SessionView) : Type 0 where
-    pub next : List ℕ
-    pub due : NextReply Step node old.rest next node'
-    pub no_error : IsNoError due.reply
+    pub exchange : Exchange
+    pub front : old.rest ≡ frame (message_of exchange) ++ new.rest
+    pub within : IsWithin max_request_len (message_of exchange)
+    pub answers : Answers Step node (message_of exchange) exchange.reply node'
+    pub no_error : IsNoError exchange.reply
+    pub input : new.input ≡ old.input
+    pub exchanges : new.exchanges ≡ old.exchanges ++ exchange ∷ []
     pub unsent : new.unsent ≡ old.unsent
 
   abbrev pub AnswersNext : S → S → SessionView → SessionView → Result Next Halt → Type 0

@@ -1,5 +1,5 @@
 -- A node of vnodes on a ring: what it keeps, a new one, and its step.
-use Rattle.std.specs.Prelude.{◌≡◌, ◌≤◌, ◌^◌, set, List, ℕ, Some, None, MatchOption, map, length, get_or, slice_get}
+use Rattle.std.specs.Prelude.{◌≡◌, ◌≤◌, ◌^◌, set, List, [], ◌∷◌, ℕ, Some, None, MatchOption, map, length, get_or, slice_get}
 use Rattle.ring_map.specs.Ring.{digest_of, id_of, index_of}
 use Rattle.riak_msgs.specs.declared.Key.{Key}
 use Rattle.riak_msgs.specs.Contents.{Content}
@@ -13,7 +13,8 @@ use Rattle.vnode_machine.specs.Step.{StepOutcome, outcome}
 use Rattle.vnode_machine.specs.Dead.{swept}
 use Rattle.vnode_machine.specs.Registers.{key_of}
 use Rattle.vnode_protocol.specs.Plans.{View}
-use Rattle.node_session.specs.PlainStep.{StepsBy, ask_of}
+use Rattle.vnode_protocol.specs.declared.ask.Ask.{Ask as AskOfVnode}
+use Rattle.node_session.specs.PlainStep.{StepsBy, StepsByWrite, ask_of}
 
 -- how many bits number the partitions, how many dead keys a sweep forgets at most, and the state of the vnode of each
 -- partition
@@ -25,6 +26,11 @@ pub record NodeState : Type 0 where
 -- the states of vnodes
 abbrev pub states_of : List View → List (State Content)
 states_of vnodes = map (λ (vnode : View). vnode.state) vnodes
+
+-- no vnode of a plain node is ever closed
+abbrev pub AreOpen : List View → Type 0
+AreOpen [] = Unit {0}
+AreOpen (vnode ∷ vnodes) = (vnode.state.closed ≡ None) × AreOpen vnodes
 
 -- the vnode at an index in a run; beyond the ring there has been no event
 abbrev pub vnode_at : (run : ℕ) → NodeState → (index : ℕ) → State Content
@@ -50,6 +56,12 @@ pub record IsNew (run index_bits budget : ℕ) (node : NodeState) : Type 0 where
 pub record AnswersAndSweeps (budget : ℕ) (before : State Content) (came : StepOutcome) (reply : Reply) (after : State Content) : Type 0 where
   pub answered : State Content
   pub steps : StepsBy before came reply answered
+  pub sweeps : after ≡ swept answered None budget
+
+-- a put or a delete is answered, and then the first dead keys are forgotten
+pub record WritesAndSweeps (budget : ℕ) (before : State Content) (ask : AskOfVnode) (reply : Reply) (after : State Content) : Type 0 where
+  pub answered : State Content
+  pub steps : StepsByWrite before ask reply answered
   pub sweeps : after ≡ swept answered None budget
 
 -- an ask is answered by the vnode at this index, which is swept then, and the others stay

@@ -11,7 +11,11 @@ use Rattle.sibling_register.specs.Answers.{Ask, AskGet, AskPut, AskDel}
 use Rattle.actor_epoch.specs.Given.{Context}
 use Rattle.vnode_machine.specs.Machine.{State}
 use Rattle.vnode_machine.specs.Asks.{get_command, put_command, del_command}
-use Rattle.vnode_machine.specs.Step.{Response, GetDone, PutDone, DelDone, ReapDone, ReapKept, StepOutcome, Refused, Answered, Accepted}
+use Rattle.vnode_machine.specs.Step.{Response, GetDone, PutDone, DelDone, ReapDone, ReapKept, StepOutcome, Refused, Answered, Accepted, outcome}
+use Rattle.vnode_protocol.specs.declared.ask.Ask.{Ask as AskOfVnode}
+use Rattle.vnode_protocol.specs.declared.ask.Ask.TheVariants as asks
+use Rattle.vnode_protocol.specs.declared.ask.Answer.{Answer}
+use Rattle.vnode_protocol.specs.declared.ask.Answer.TheVariants as answers
 
 -- the ask that a request makes of a vnode; a ping makes none
 abbrev pub ask_of : Request → Option (Ask Content Context)
@@ -28,6 +32,16 @@ response_reply DelDone = replies.Del
 response_reply ReapDone = replies.Del
 response_reply ReapKept = replies.Del
 
+-- the reply for a vnode's answer. No request asks for a reap, which is replied to as a delete is; nor for a copy or a close, and of a
+-- vnode that is closed the caller's partition has moved on
+abbrev pub answer_reply : Answer → Reply
+answer_reply (answers.Put reply) = replies.Put reply
+answer_reply answers.Del = replies.Del
+answer_reply (answers.Reaped reaped) = replies.Del
+answer_reply answers.Copied = replies.Error texts.Moved
+answer_reply answers.Stuck = replies.Error texts.Moved
+answer_reply answers.Closed = replies.Error texts.Moved
+
 -- the reply for a response or the number of a refusal
 abbrev pub reply_of : Result Response ℕ → Reply
 reply_of (Ok response) = response_reply response
@@ -42,3 +56,12 @@ abbrev pub StepsBy : State Content → StepOutcome → Reply → State Content �
 StepsBy old (Refused number) reply new = (reply ≡ reply_of (Err number)) × (new ≡ old)
 StepsBy old (Answered response) reply new = ((reply ≡ reply_of (Ok response)) × (new ≡ old)) ⊎ GivesUp old reply new
 StepsBy old (Accepted operation response next) reply new = ((reply ≡ reply_of (Ok response)) × (new ≡ next)) ⊎ GivesUp old reply new
+
+-- a put or a delete is answered so, by what comes of it
+abbrev pub StepsByWrite : State Content → AskOfVnode → Reply → State Content → Type 0
+StepsByWrite old (asks.Put put) reply new = StepsBy old (outcome old (AskPut (put_command put))) reply new
+StepsByWrite old (asks.Del del) reply new = StepsBy old (outcome old (AskDel (del_command del))) reply new
+StepsByWrite old (asks.Reap key) reply new = Unit {0}
+StepsByWrite old (asks.ReapFirst from) reply new = Unit {0}
+StepsByWrite old (asks.Copy copy) reply new = Unit {0}
+StepsByWrite old (asks.Close number) reply new = Unit {0}

@@ -29,6 +29,7 @@
 #![tactic(auto)]
 
 mod answering;
+mod connection;
 mod ended;
 mod error_frame;
 mod exchange;
@@ -44,6 +45,7 @@ mod serving;
 mod session;
 mod vnode_reply;
 
+pub use connection::{Connection, Input, Received, Sent};
 pub use ended::Ended;
 pub use exchange::Exchange;
 pub use fault::SessionFault;

@@ -67,6 +67,13 @@ impl Outbox {
         !self.late.is_empty() || self.frames.len() - self.sent >= GATHERED
     }
 
+    /// How many bytes are to be sent.
+    pub(crate) fn len(&self) -> usize
+        ensures { result ≡ length (whole self.now) }
+    {
+        self.frames.len() - self.sent + self.late.len()
+    }
+
     /// What is to be sent first.
     pub(crate) fn next(&self) -> &[u8]
         ensures { IsFront result.now (whole self.now) }

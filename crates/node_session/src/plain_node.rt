@@ -3,7 +3,7 @@
 ghost use Rattle.std.specs.Prelude.{◌≡◌, ◌≤◌, IfOk};
 ghost use Rattle.sibling_register.specs.Answers.{AskGet, AskPut, AskDel};
 ghost use Rattle.vnode_machine.specs.Asks.{get_command, put_command, del_command};
-ghost use Rattle.node_session.specs.PlainNodes.{states_of, AnswersByKey, AreNew, IsNew};
+ghost use Rattle.node_session.specs.PlainNodes.{states_of, AnswersByKey, AreNew, AreOpen, IsNew};
 
 use crate::node::Node;
 use crate::vnode_reply::{change_and_sweep, get_and_sweep};
@@ -58,20 +58,21 @@ impl Drop for PlainNode {
 
 impl Model for PlainNode {
     ghost use Rattle.std.specs.Prelude.{◌≡◌, ◌^◌, length};
-    ghost use Rattle.node_session.specs.PlainNodes.{NodeState, states_of};
+    ghost use Rattle.node_session.specs.PlainNodes.{NodeState, states_of, AreOpen};
 
     ghost Value = { NodeState };
 
     ghost view = { λ n.
         record { index_bits = n.ring; budget = n.budget; vnodes = states_of n.vnodes.items } };
 
-    ghost invariant = { λ n. length n.vnodes.items ≡ 2 ^ n.ring };
+    ghost invariant = { λ n. (length n.vnodes.items ≡ 2 ^ n.ring) × AreOpen n.vnodes.items };
 }
 
 /// A vnode of a run for each index below `size`, before any event.
 fn new_vnodes(alloc: Global, run: u32, size: u16) -> Result<Vec<Vnode>, AllocError>
     requires { 1 ≤ run }
-    ensures { IfOk result (λ vnodes. AreNew run size (states_of vnodes.items)) }
+    ensures new { IfOk result (λ vnodes. AreNew run size (states_of vnodes.items)) }
+    ensures opened { IfOk result (λ vnodes. AreOpen vnodes.items) }
 {
     let mut vnodes = Vec::with_capacity(alloc, usize::from(size))?;
     for index in 0..size {

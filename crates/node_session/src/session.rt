@@ -82,13 +82,6 @@ impl<'a> Listing<(&'a GhostList<u8>, &'a [u8]), u8> for Fed {
     ghost list = { λ pair. pair.0.now ++ pair.1.now };
 }
 
-/// What a framer has left.
-struct Left;
-
-impl Listing<Framer, u8> for Left {
-    ghost list = { λ f. f.rest };
-}
-
 impl Session {
     /// A session that has read nothing. It takes no memory.
     pub fn new(alloc: Global) -> Session
@@ -144,6 +137,13 @@ impl Session {
         self.outbox.next()
     }
 
+    /// How many bytes are to be sent.
+    pub fn waiting(&self) -> usize
+        ensures { result ≡ length self.now.unsent }
+    {
+        self.outbox.len()
+    }
+
     /// So many bytes of what is to be sent were sent.
     pub fn sent(&mut self, n: usize)
         requires { n ≤ length self.old.unsent }
@@ -164,13 +164,7 @@ impl Session {
         match answer_next(alloc, &mut self.framer, &mut self.exchanges, node) {
             Ok(Some(reply)) => match self.outbox.put(alloc, reply) {
                 Ok(()) => Ok(Next::Answered),
-                Err(_) => {
-                    // What is left is all that it was given.
-                    let left = GhostList::listed::<Framer, Left>(&self.framer);
-                    self.input = left;
-                    self.exchanges = GhostList::new();
-                    Err(Halt::NoMemory)
-                }
+                Err(_) => Err(Halt::NoMemory),
             },
             Ok(None) => Ok(Next::Idle),
             Err(fault) => {

@@ -5,24 +5,25 @@ ghost use Rattle.sibling_register.specs.Answers.{AskGet};
 ghost use Rattle.vnode_machine.specs.Asks.{get_command};
 ghost use Rattle.vnode_machine.specs.Dead.{swept};
 ghost use Rattle.vnode_machine.specs.Step.{outcome};
-ghost use Rattle.vnode_protocol.specs.Plans.{ask_outcome, response_of};
-ghost use Rattle.node_session.specs.PlainStep.{response_reply, StepsBy};
-ghost use Rattle.node_session.specs.PlainNodes.{AnswersAndSweeps};
+ghost use Rattle.vnode_protocol.specs.Plans.{IsWrite};
+ghost use Rattle.node_session.specs.PlainStep.{answer_reply, StepsBy, StepsByWrite};
+ghost use Rattle.node_session.specs.PlainNodes.{AnswersAndSweeps, WritesAndSweeps};
 
 use riak_msgs::{GetAsk, Reply, Text};
 use std::alloc::Global;
 use tomb_reaper::sweep;
 use vnode_core::{Answer, Ask, Plan, Reaped, Vnode};
 
-/// The reply for a vnode's answer to a change. No request asks for a reap, and one is replied to as a delete is. It takes
-/// no memory.
+/// The reply for a vnode's answer to a change. No request asks for a reap, and one is replied to as a delete is; of a vnode that is
+/// closed, or that was asked for a copy, it is the error `moved`. It takes no memory.
 pub fn answer_reply(answer: Answer) -> Reply
-    ensures { result ≡ response_reply (response_of answer) }
+    ensures { result ≡ answer_reply answer }
 {
     match answer {
         Answer::Put(reply) => Reply::Put(reply),
         Answer::Del => Reply::Del,
         Answer::Reaped(Reaped::Gone | Reaped::Kept | Reaped::Absent) => Reply::Del,
+        Answer::Copied | Answer::Stuck | Answer::Closed => Reply::Error(Text::Moved),
     }
 }
 
@@ -37,9 +38,12 @@ fn answer_get(vnode: &Vnode, alloc: Global, ask: &GetAsk) -> Reply
     }
 }
 
-/// Answers what may change the vnode, and makes the change where it is accepted.
+/// Answers a put or a delete of a vnode that isn't closed, and makes the change where it is accepted.
 fn answer_change(vnode: &mut Vnode, alloc: Global, ask: Ask) -> Reply
-    ensures { StepsBy vnode.old.state (ask_outcome vnode.old.state ask) result vnode.new.state }
+    requires opened { vnode.old.state.closed ≡ None }
+    requires write { IsWrite ask }
+    ensures steps { StepsByWrite vnode.old.state ask result vnode.new.state }
+    ensures opened { vnode.new.state.closed ≡ None }
 {
     match vnode.prepare(alloc, ask) {
         Ok(Plan::Change(change)) => answer_reply(vnode.finish(change)),
@@ -50,7 +54,8 @@ fn answer_change(vnode: &mut Vnode, alloc: Global, ask: Ask) -> Reply
 
 /// Forgets the vnode's first dead keys, so many at most. With a budget of 0 no key is looked at.
 fn forget_first(vnode: &mut Vnode, budget: u32)
-    ensures { vnode.new.state ≡ swept vnode.old.state None budget }
+    ensures swept { vnode.new.state ≡ swept vnode.old.state None budget }
+    ensures closed { vnode.new.state.closed ≡ vnode.old.state.closed }
 {
     if budget > 0 {
         sweep(vnode, None, budget);
@@ -59,18 +64,21 @@ fn forget_first(vnode: &mut Vnode, budget: u32)
 
 /// Answers a get, and forgets the vnode's first dead keys, so many at most.
 pub(crate) fn get_and_sweep(vnode: &mut Vnode, alloc: Global, ask: &GetAsk, budget: u32) -> Reply
-    ensures { AnswersAndSweeps budget vnode.old.state
+    ensures steps { AnswersAndSweeps budget vnode.old.state
         (outcome vnode.old.state (AskGet (get_command ask.now))) result vnode.new.state }
+    ensures closed { vnode.new.state.closed ≡ vnode.old.state.closed }
 {
     let reply = answer_get(vnode, alloc, ask);
     forget_first(vnode, budget);
     reply
 }
 
-/// Answers what may change the vnode, and forgets the vnode's first dead keys, so many at most.
+/// Answers a put or a delete of a vnode that isn't closed, and forgets the vnode's first dead keys, so many at most.
 pub(crate) fn change_and_sweep(vnode: &mut Vnode, alloc: Global, ask: Ask, budget: u32) -> Reply
-    ensures { AnswersAndSweeps budget vnode.old.state
-        (ask_outcome vnode.old.state ask) result vnode.new.state }
+    requires opened { vnode.old.state.closed ≡ None }
+    requires write { IsWrite ask }
+    ensures steps { WritesAndSweeps budget vnode.old.state ask result vnode.new.state }
+    ensures opened { vnode.new.state.closed ≡ None }
 {
     let reply = answer_change(vnode, alloc, ask);
     forget_first(vnode, budget);

@@ -9,7 +9,8 @@ use Rattle.vnode_machine.specs.Machine.{State, opening}
 use Rattle.vnode_machine.specs.Replay.{History}
 use Rattle.rw_gate.specs.Machines.{MachineRun}
 use Rattle.vnode_protocol.specs.declared.event.Event.{Event}
-use Rattle.vnode_protocol.specs.Events.{Makes, event_command, event_deed, event_response, register_event, history_after}
+use Rattle.vnode_protocol.specs.declared.entry.Entry.TheVariants.{Command as Commanded}
+use Rattle.vnode_protocol.specs.Events.{all_commands, Makes, event_command, event_deed, event_response, register_event, history_after}
 use Rattle.node_steps.specs.World.{Word, Open, Taken, Plan, Phase, Idle, Asked, Holding, Done, Vnode, Worker, World, fresh_vnode, fresh_worker, id_of, opening_vnodes, prefix_of, history_at}
 use Rattle.node_steps.specs.Steps.{Action, Asks, Takes, Looks, Publishes, Puts, Step, Outcome, Turn, looks_by, turn_of, site_of, turned, happens, after}
 use Rattle.node_steps.specs.Schedules.{Start, world_after}
@@ -60,7 +61,7 @@ module _ (start : Start) (index id : ℕ) where
   plan_of_event event next = record { operation = event_deed event; response = event_response event; next = next }
 
   -- one event more
-  one_event : (history : History) (state next : State Content) (event : Event) → Makes state event next → IsReachable history state
+  one_event : (history : History) (state next : State Content) (event : Event) → Makes state (Commanded event) next → IsReachable history state
       → IsReachable (register_event id 0 history event ∷ history) next
   one_event history state next event makes (schedule, there) =
       let ask : Ask Content Context = event_command event in
@@ -74,7 +75,7 @@ module _ (start : Start) (index id : ℕ) where
       (λ seen. (_, refl, refl, refl)) asked in
       let w2 = after w1 (step_of_first Takes) in
       let looked = moved w2 Looks index (Holding index ask state None) (vnode_with Taken history state) (Holding index ask state (Some plan)) (vnode_with Taken history state) refl
-      (λ seen. (_, ap (λ o. Some (looks_by seen (vnode_with Taken history state) index ask state o)) makes, refl, refl)) took in
+      (λ seen. (_, ap (λ o. Some (looks_by seen (vnode_with Taken history state) index ask state o)) makes.1, refl, refl)) took in
       let w3 = after w2 (step_of_first Looks) in
       let published = moved w3 Publishes index (Holding index ask state (Some plan)) (vnode_with Taken history state) (Done index (Some next)) (vnode_with Taken longer state) refl
       (λ seen. (_, refl, refl, refl)) looked in
@@ -83,7 +84,7 @@ module _ (start : Start) (index id : ℕ) where
       (λ seen. (_, refl, refl, refl)) published in
       (step_of_first Puts ∷ step_of_first Publishes ∷ step_of_first Looks ∷ step_of_first Takes ∷ step_of_first (Asks index ask) ∷ schedule, laid)
 
-  all_events : (events : List Event) (history : History) (state last : State Content) → MachineRun Makes state events last → IsReachable history state
+  all_events : (events : List Event) (history : History) (state last : State Content) → MachineRun Makes state (all_commands events) last → IsReachable history state
       → (schedule : List Step) × (history_at (world_after start schedule) index ≡ history_after id 0 history events)
   all_events [] history state last run (schedule, there) = (schedule, ap (λ o. option_map_or (λ (v : Vnode). v.history) o []) there.3)
   all_events (event ∷ events) history state last (next, makes, run) stands =

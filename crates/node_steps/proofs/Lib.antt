@@ -14,6 +14,7 @@ mod Following
 mod Looking
 mod Looked
 mod Publishing
+mod Planning
 mod Stepping
 mod Finding
 mod Asking

@@ -4,7 +4,7 @@ use Rattle.riak_msgs.specs.Contents.{Content}
 use Rattle.vnode_machine.specs.Machine.{State, opening}
 use Rattle.rw_gate.specs.Machines.{MachineRun}
 use Rattle.vnode_protocol.specs.declared.event.Event.{Event}
-use Rattle.vnode_protocol.specs.Events.{Makes, history_after}
+use Rattle.vnode_protocol.specs.Events.{all_commands, Makes, history_after}
 use Rattle.node_steps.specs.World.{history_at, id_of}
 use Rattle.node_steps.specs.Steps.{Step}
 use Rattle.node_steps.specs.Schedules.{Start, world_after}
@@ -14,8 +14,8 @@ abbrev pub IsScheduled : Start → (index : ℕ) → List Event → Type 0
 IsScheduled start index events =
     (schedule : List Step) × (history_at (world_after start schedule) index ≡ history_after (id_of start.run index) 0 [] events)
 
--- each run of the machine from the opening state of a vnode, as a gate round it keeps one, is scheduled
+-- each run of commands from the opening state of a vnode, as a gate round it keeps one, is scheduled
 abbrev pub RunsAreScheduled : Type 0
 RunsAreScheduled =
     (start : Start) (index : ℕ) (events : List Event) (state : State Content) → 1 ≤ start.workers → index < start.vnodes
-    → MachineRun Makes (opening (id_of start.run index) 0) events state → IsScheduled start index events
+    → MachineRun Makes (opening (id_of start.run index) 0) (all_commands events) state → IsScheduled start index events

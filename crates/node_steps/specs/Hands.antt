@@ -1,13 +1,19 @@
 -- What contracts see of a vnode in a hand: its state, and the plan that was made from it.
-use Rattle.std.specs.Prelude.{◌≡◌, Option, Some, None, IfSome, MatchOption}
+use Rattle.std.specs.Prelude.{◌≡◌, Option, Some, None, IsSome, IfSome, MatchOption, option_map, option_and_then}
 use Rattle.riak_msgs.specs.Contents.{Content}
 use Rattle.riak_msgs.specs.declared.GetAsk.{GetAsk}
-use Rattle.vnode_machine.specs.Asks.{get_command}
+use Rattle.sibling_register.specs.Answers.{Ask as Command, AskPut, AskDel, AskReap}
+use Rattle.actor_epoch.specs.Given.{Context}
+use Rattle.vnode_machine.specs.Asks.{get_command, put_command, del_command}
 use Rattle.vnode_machine.specs.Machine.{State}
 use Rattle.vnode_machine.specs.Replies.{get_reply}
-use Rattle.vnode_machine.specs.Step.{GetDone, StepOutcome, Refused, Answered, Accepted}
+use Rattle.vnode_machine.specs.Step.{Response, GetDone, PutDone, DelDone, ReapDone, ReapKept, StepOutcome, Refused, Answered, Accepted, outcome}
+use Rattle.clock_store.specs.declared.store.Reaped.TheVariants.{Gone, Kept, Absent}
 use Rattle.vnode_protocol.specs.declared.ask.Ask.{Ask}
-use Rattle.vnode_protocol.specs.Plans.{ask_outcome, IsPrepared}
+use Rattle.vnode_protocol.specs.declared.ask.Ask.TheVariants.{Put, Del, Reap, ReapFirst, Copy, Close}
+use Rattle.vnode_protocol.specs.declared.ask.Answer.{Answer}
+use Rattle.vnode_protocol.specs.declared.ask.Answer.TheVariants as answers
+use Rattle.vnode_protocol.specs.Plans.{IsPrepared}
 use Rattle.node_steps.specs.declared.hand.Hand.TheInside.{Inside}
 use Rattle.node_steps.specs.declared.outcome.Outcome.{Outcome as Returned}
 use Rattle.node_steps.specs.World.{Plan}
@@ -23,17 +29,42 @@ plan_by (Refused number) = None
 plan_by (Answered response) = None
 plan_by (Accepted operation response next) = Some (record { operation = operation; response = response; next = next })
 
+-- the command of the register that a worker's call makes of a vnode. No call makes one of the others: the world has neither copies
+-- nor closes, and reaps the key that it names
+abbrev pub command_of : Ask → Option (Command Content Context)
+command_of (Put put) = Some (AskPut (put_command put))
+command_of (Del del) = Some (AskDel (del_command del))
+command_of (Reap key) = Some (AskReap key)
+command_of (ReapFirst from) = None
+command_of (Copy copy) = None
+command_of (Close number) = None
+
+-- the machine's response that an answer to such a command is
+abbrev pub response_of : Answer → Option Response
+response_of (answers.Put reply) = Some (PutDone reply)
+response_of answers.Del = Some DelDone
+response_of (answers.Reaped Gone) = Some ReapDone
+response_of (answers.Reaped Kept) = Some ReapKept
+response_of (answers.Reaped Absent) = Some ReapKept
+response_of answers.Copied = None
+response_of answers.Stuck = None
+response_of answers.Closed = None
+
+-- what a worker is returned for an answer
+abbrev pub IsReturned : Answer → Returned → Type 0
+IsReturned answer returns = option_map returned_response (response_of answer) ≡ Some returns
+
 -- the plan that a change is, in the state that it was prepared from
 abbrev pub plan_of : State Content → Option Ask → Option Plan
-plan_of state None = None
-plan_of state (Some change) = plan_by (ask_outcome state change)
+plan_of state change = option_and_then (λ ask. option_and_then (λ command. plan_by (outcome state command)) (command_of ask)) change
 
 abbrev pub hand_of : Inside → HandView
 hand_of h = record { state = h.vnode.state; plan = plan_of h.vnode.state h.change }
 
--- the change is what the vnode prepared last, and the machine accepts it
-abbrev pub IsHand : Inside → Type 0
-IsHand h = IfSome h.change (λ change. IsPrepared h.vnode change change)
+-- the vnode isn't closed; the change is what it prepared last, and the machine accepts it
+pub record IsHand (h : Inside) : Type 0 where
+  pub opened : h.vnode.state.closed ≡ None
+  pub planned : IfSome h.change (λ change. IsSome (command_of change) × IsPrepared h.vnode change change)
 
 -- a get is answered by the machine
 abbrev pub ShowsBy : State Content → GetAsk → Returned → Type 0
@@ -45,6 +76,10 @@ PlansBy (Refused number) plan answer = answer ≡ Some (returned_refusal number)
 PlansBy (Answered response) plan answer = answer ≡ Some (returned_response response)
 PlansBy (Accepted operation response next) plan answer =
     (answer ≡ None) × (plan ≡ Some (record { operation = operation; response = response; next = next }))
+
+-- by what comes of the command that is asked
+abbrev pub PlansAsk : State Content → Ask → Option Plan → Option Returned → Type 0
+PlansAsk state ask plan answer = IfSome (command_of ask) (λ command. PlansBy (outcome state command) plan answer)
 
 -- the state is the one after the plan, which is answered by its response
 abbrev pub PublishesPlan : HandView → HandView → Option Returned → Type 0

@@ -1,9 +1,8 @@
 //! A vnode as a worker holds it.
 
-ghost use Rattle.std.specs.Prelude.{◌≡◌, ◌-◌, None, IfOk, IfErr, is_some};
+ghost use Rattle.std.specs.Prelude.{◌≡◌, ◌-◌, None, IfOk, IfErr, IsSome, is_some};
 ghost use Rattle.vnode_machine.specs.Step.{outcome};
-ghost use Rattle.vnode_protocol.specs.Plans.{ask_outcome};
-ghost use Rattle.node_steps.specs.Hands.{ShowsBy, PlansBy, PublishesPlan};
+ghost use Rattle.node_steps.specs.Hands.{command_of, ShowsBy, PlansAsk, PlansBy, PublishesPlan};
 ghost use Rattle.node_steps.specs.Running.{ask_of};
 
 use crate::call::Call;
@@ -14,7 +13,7 @@ use std::alloc::Global;
 use std::marker::Model;
 use vnode_core::{Ask, Change, Plan, Refusal, Vnode};
 
-/// A vnode, and the change that was planned at a look. Contracts see its state and the plan.
+/// A vnode that isn't closed, and the change that was planned at a look. Contracts see its state and the plan.
 pub(crate) struct Hand {
     vnode: Vnode,
     change: Option<Change>,
@@ -50,6 +49,7 @@ fn replace(place: &mut Option<Change>, change: Option<Change>)
 impl Hand {
     /// A vnode of which nothing is planned.
     pub(crate) fn new(vnode: Vnode) -> Hand
+        requires { vnode.state.closed ≡ None }
         ensures state { result.state ≡ vnode.state }
         ensures plan { result.plan ≡ None }
     {
@@ -103,9 +103,10 @@ impl Hand {
 
     /// Plans a change, or answers it: what the machine refuses, and what changes nothing.
     fn plan(&mut self, alloc: Global, ask: Ask) -> Result<Option<Outcome>, StepFault>
+        requires { IsSome (command_of ask) }
         ensures state { self.new.state ≡ self.old.state }
         ensures ok { IfOk result (λ answer.
-            PlansBy (ask_outcome self.old.state ask) self.new.plan answer) }
+            PlansAsk self.old.state ask self.new.plan answer) }
         ensures err { IfErr result (λ fault. self.new.plan ≡ None) }
     {
         replace(&mut self.change, None);

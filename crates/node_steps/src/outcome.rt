@@ -1,8 +1,7 @@
 //! The outcome of a step.
 
-ghost use Rattle.std.specs.Prelude.{◌≡◌};
-ghost use Rattle.vnode_protocol.specs.Plans.{response_of};
-ghost use Rattle.node_steps.specs.Returned.{returned_response};
+ghost use Rattle.std.specs.Prelude.{IsSome};
+ghost use Rattle.node_steps.specs.Hands.{response_of, IsReturned};
 
 use riak_msgs::Reply;
 use vnode_core::{Answer, Reaped};
@@ -22,14 +21,16 @@ pub enum Outcome {
     Kept,
 }
 
-/// What a worker is returned for an answer of its vnode.
+/// What a worker is returned for an answer of its vnode to a put, a delete or a reap.
 pub(crate) fn answered(answer: Answer) -> Outcome
-    ensures { result ≡ returned_response (response_of answer) }
+    requires { IsSome (response_of answer) }
+    ensures { IsReturned answer result }
 {
     match answer {
         Answer::Put(reply) => Outcome::Reply(Reply::Put(reply)),
         Answer::Del => Outcome::Reply(Reply::Del),
         Answer::Reaped(Reaped::Gone) => Outcome::Reaped,
         Answer::Reaped(Reaped::Kept | Reaped::Absent) => Outcome::Kept,
+        Answer::Copied | Answer::Stuck | Answer::Closed => unreachable!(),
     }
 }

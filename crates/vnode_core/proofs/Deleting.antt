@@ -24,7 +24,7 @@ use Rattle.vnode_machine.proofs.Tests.{and_left, and_right, and_both}
 use Rattle.vnode_protocol.specs.declared.ask.Ask.TheVariants.{Del}
 use Rattle.vnode_protocol.specs.declared.ask.Answer.{Answer}
 use Rattle.vnode_machine.specs.Sound.{IsForm, IsFormed, IsSound}
-use Rattle.vnode_protocol.specs.Plans.{Steps}
+use Rattle.vnode_protocol.specs.Plans.{StepsOpen}
 use Rattle.clock_store.specs.Keys.{deleted}
 use Rattle.vnode_core.specs.Vnodes.{state_after}
 use Rattle.vnode_core.proofs.Putting.{find-next}
@@ -35,10 +35,10 @@ abbrev step_by : State Content → Key → Option Context → StepOutcome
 step_by state key given = del_step state (record { key = key; context = given })
 
 -- the context of a delete that the machine accepts is not malformed
-pub not-malformed : (state : State Content) (del : DelAsk) (answer : Answer) (next : State Content) → Steps state (Del del) answer next → context_of del.context ≡ Some Malformed → ⊥
+pub not-malformed : (state : State Content) (del : DelAsk) (answer : Answer) (next : State Content) → StepsOpen state (Del del) answer next → context_of del.context ≡ Some Malformed → ⊥
 not-malformed state del answer next step reads =
     let refused : step_by state del.key (Some Malformed) ≡ Refused 4 = refl in
-    let both = sym refused ∙ ap (step_by state del.key) (sym reads) ∙ step in
+    let both = sym refused ∙ ap (step_by state del.key) (sym reads) ∙ step.1 in
     cc
 
 -- its tombstone is written as the machine has it
@@ -63,7 +63,7 @@ positive (pair ∷ pairs) h =
     first false b c d h = cc
 
 -- a delete that the machine accepts
-module _ (state : State Content) (is : IsSound state) (del : DelAsk) (answer : Answer) (step : Steps state (Del del) answer (state_after state (Del del))) where
+module _ (state : State Content) (is : IsSound state) (del : DelAsk) (answer : Answer) (step : StepsOpen state (Del del) answer (state_after state (Del del))) where
   abbrev own : Actor
   own = actor_for state del.key
 
@@ -77,7 +77,7 @@ module _ (state : State Content) (is : IsSound state) (del : DelAsk) (answer : A
   form-del : IsForm (next_by (context_of del.context))
   form-del =
       subst IsFormed (find-next del.key (next_by (context_of del.context)) state.keys)
-      ((sound-next state is (AskDel (del_command del)) _ _ (state_after state (Del del)) step).keys del.key)
+      ((sound-next state is (AskDel (del_command del)) _ _ (state_after state (Del del)) step.1).keys del.key)
 
   of-all : IsForm (next_by None) → IsWithin clock.known None own
   of-all form =

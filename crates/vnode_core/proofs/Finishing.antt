@@ -10,11 +10,11 @@ use Rattle.vnode_machine.specs.Machine.{State, actor_for}
 use Rattle.sibling_register.specs.History.{Operation}
 use Rattle.vnode_machine.specs.Step.{Response, StepOutcome, Accepted}
 use Rattle.vnode_protocol.specs.declared.ask.Ask.{Ask}
-use Rattle.vnode_protocol.specs.declared.ask.Ask.TheVariants.{Put, Del, Reap, ReapFirst}
+use Rattle.vnode_protocol.specs.declared.ask.Ask.TheVariants.{Put, Del, Reap, ReapFirst, Copy, Close}
 use Rattle.vnode_protocol.specs.declared.ask.Answer.{Answer}
 use Rattle.vnode_core.specs.declared.ready.Ready.{Ready}
 use Rattle.vnode_machine.specs.Sound.{IsSound}
-use Rattle.vnode_protocol.specs.Plans.{View, AcceptsPrepared, IsAccepted, IsWrite, ask_outcome, RegistersAsk, Steps, operation_of, response_of}
+use Rattle.vnode_protocol.specs.Plans.{View, AcceptsPrepared, IsAccepted, Accepts, IsWrite, RegistersStep, Steps}
 use Rattle.vnode_machine.specs.Asks.{put_command}
 use Rattle.vnode_machine.specs.Replies.{put_reply}
 use Rattle.clock_store.specs.declared.store.WriteKind.TheVariants.{Value}
@@ -24,13 +24,13 @@ use Rattle.vnode_replies.specs.declared.checks.Writer.{Writer}
 use Rattle.clock_store.specs.Keys.{Keys}
 use Rattle.vnode_core.specs.Vnodes.{IsReady, IsReadyFor, IsVnode, state_of, view_of, key_in, written_by, state_after, writes_after, tombstones_after, Fields, fields, PutGives}
 use Rattle.vnode_replies.specs.Checks.{writer_of}
-use Rattle.vnode_protocol.proofs.Sound.{registers-ask, sound-after}
+use Rattle.vnode_protocol.proofs.Sound.{registers-step, sound-after}
 use Rattle.vnode_core.proofs.Putting.{written-put, steps-put}
 use Rattle.vnode_core.proofs.Deleting.{written-del, not-malformed}
 
 pub record IsFinished (state : State Content) (ask : Ask) (answer : Answer) (after : State Content) : Type 0 where
   pub step : Steps state ask answer after
-  pub register : RegistersAsk state ask (Accepted (operation_of ask) (response_of answer) after)
+  pub register : RegistersStep state ask answer after
   pub sound : IsSound after
 
 -- a vnode in which a command is ready
@@ -50,21 +50,25 @@ module _ (v : Fields) (is : IsSound (state_of v)) (ask : Ask) (write : IsWrite a
           → after epochs writes tombstones keys ≡ state_after (state_of v) ask
       by (Put put) write e n m k answer step = λ i. after (e i) (n i) (m i) ((k ∙ written-put (state_of v) is put) i)
       by (Del del) write e n m k answer step =
-          λ i. after (e i) (n i) (m i) ((k ∙ written-del (state_of v) del.key (context_of del.context) (not-malformed (state_of v) del answer _ step)) i)
+          λ i. after (e i) (n i) (m i) ((k ∙ written-del (state_of v) del.key (context_of del.context) (not-malformed (state_of v) del answer _ step.1)) i)
       by (Reap key) write e n m k answer step = absurd write
       by (ReapFirst from) write e n m k answer step = absurd write
+      by (Copy copy) write e n m k answer step = absurd write
+      by (Close number) write e n m k answer step = absurd write
 
   finished-here : (after : State Content) → after ≡ state_after (state_of v) ask → IsFinished (state_of v) ask ready.answer after
   finished-here after leads =
       let step : Steps (state_of v) ask ready.answer after =
       subst (λ next. Steps (state_of v) ask ready.answer next) (sym leads) (subst (λ answer. Steps (state_of v) ask answer (state_after (state_of v) ask)) (sym (ap (λ (r : Ready). r.answer) ready-is)) r.step) in
-      record { step = step; register = registers-ask (state_of v) is ask _ step; sound = sound-after (state_of v) is ask ready.answer after step }
+      record { step = step; register = registers-step (state_of v) is ask ready.answer after step; sound = sound-after (state_of v) is ask ready.answer after step }
 
 ready-write : (state : State Content) (store : Contents) (ready : Option Ready) (ask : Ask) (write : IsWrite ask) → IsReadyFor state store ready (Some ask) → IsReady state store ready ask write
 ready-write state store ready (Put put) write r = r
 ready-write state store ready (Del del) write r = r
 ready-write state store ready (Reap key) write r = absurd write
 ready-write state store ready (ReapFirst from) write r = absurd write
+ready-write state store ready (Copy copy) write r = absurd write
+ready-write state store ready (Close number) write r = absurd write
 
 -- as a caller sees it
 pub finished : (v : Fields) → IsVnode v → (seen : View) → view_of v ≡ seen → (ask : Ask) (write : IsWrite ask) → seen.prepared ≡ Some ask → (ready : Ready) → v.ready ≡ Some ready
@@ -81,11 +85,13 @@ finished v is seen sees ask write prepared ready found epochs writes tombstones 
 accepted-step : (outcome : StepOutcome) (operation : Operation Content) (response : Response) (next : State Content) → outcome ≡ Accepted operation response next → IsAccepted outcome
 accepted-step outcome operation response next h = subst IsAccepted (sym h) tt
 
-ready-accepted : (state : State Content) (store : Contents) (ready : Option Ready) (ask : Ask) → IsReadyFor state store ready (Some ask) → IsAccepted (ask_outcome state ask)
-ready-accepted state store ready (Put put) r = accepted-step _ _ _ _ r.step
-ready-accepted state store ready (Del del) r = accepted-step _ _ _ _ r.step
+ready-accepted : (state : State Content) (store : Contents) (ready : Option Ready) (ask : Ask) → IsReadyFor state store ready (Some ask) → Accepts state ask
+ready-accepted state store ready (Put put) r = (r.step.0, accepted-step _ _ _ _ r.step.1.2)
+ready-accepted state store ready (Del del) r = (r.step.0, accepted-step _ _ _ _ r.step.1.1)
 ready-accepted state store ready (Reap key) r = r
 ready-accepted state store ready (ReapFirst from) r = r
+ready-accepted state store ready (Copy copy) r = r.0
+ready-accepted state store ready (Close number) r = r
 
 -- what is prepared the machine accepts
 pub accepts-prepared : (v : Fields) → IsVnode v → AcceptsPrepared (view_of v)
@@ -96,19 +102,19 @@ read-pairs None = refl
 read-pairs (Some pairs) = refl
 
 -- a vnode in which a put that it accepts has room, and its answer is made, is one in which it is ready
-pub put-ready : (v : Fields) → IsSound (state_of v) → (seen : View) → view_of v ≡ seen → (put : PutAsk) (made : Ready) → PutGives seen.state put made
+pub put-ready : (v : Fields) → IsSound (state_of v) → (seen : View) → view_of v ≡ seen → v.closed ≡ None → (put : PutAsk) (made : Ready) → PutGives seen.state put made
     → (pairs : Option (List Dot)) → context_of put.context ≡ option_map Pairs pairs
     → (store : Contents) → store.keys ≡ v.store.keys → HasRoom store put.key pairs made.writer.actor Value
     → (ready : Option Ready) → ready ≡ Some made → (prepared : Option Ask) → prepared ≡ Some (Put put)
-    → IsVnode (fields v.id v.epochs v.writes v.tombstones v.reaps store ready prepared)
-put-ready v is seen sees put made gives pairs given store same room ready r prepared p =
+    → IsVnode (fields v.id v.epochs v.writes v.tombstones v.reaps store ready prepared v.closed)
+put-ready v is seen sees opened put made gives pairs given store same room ready r prepared p =
     let here : PutGives (state_of v) put made = subst (λ (w : View). PutGives w.state put made) (sym sees) gives in
     let next : State Content = record (state_of v) { keys = store.keys } in
     let stays : state_of v ≡ next = λ i. record (state_of v) { keys = sym same i } in
     let actor = ap (λ (w : Writer). w.actor) here.writer in
     let now : IsReady (state_of v) store (Some made) (Put put) tt = record {
       answer = answers.Put (put_reply (state_after (state_of v) (Put put)) (put_command put));
-      step = steps-put (state_of v) is put here.free;
+      step = (opened, (put_reply (state_after (state_of v) (Put put)) (put_command put), refl, steps-put (state_of v) is put here.free));
       room =
           subst (λ ps. HasRoom store put.key ps (actor_for (state_of v) put.key) Value) (sym (ap pairs_read given ∙ read-pairs pairs))
           (subst (λ (own : Actor). HasRoom store put.key pairs own Value) actor room);

@@ -18,10 +18,11 @@ use denote.Enum.Bare.{sameb}
 use Rattle.clock_store.specs.contracts.store.Reaped.{the_type}
 use Rattle.clock_store.specs.declared.store.Reaped.{Reaped}
 use Rattle.clock_store.specs.declared.store.Reaped.TheVariants.{Gone, Kept, Absent}
-use Rattle.vnode_protocol.specs.declared.ask.Ask.TheVariants.{ReapFirst}
+use Rattle.vnode_protocol.specs.declared.ask.Ask.TheVariants.{Reap as ReapAsk, ReapFirst}
 use Rattle.vnode_machine.specs.Sound.{IsSound}
 use Rattle.vnode_machine.proofs.Formed.{sound-next}
-use Rattle.vnode_protocol.specs.Plans.{IsAccepted, Registers, ask_outcome, reap_response}
+use Rattle.vnode_protocol.specs.declared.ask.Answer.TheVariants as answers
+use Rattle.vnode_protocol.specs.Plans.{IsAccepted, Accepts, Registers, Steps, first_reap}
 use Rattle.clock_store.specs.Forgetting.{holding, reap_result, after_reap, after_first_reap}
 use Rattle.vnode_protocol.specs.Reaping.{reap_outcome}
 use Rattle.clock_store.specs.Keys.{Keys}
@@ -127,15 +128,15 @@ module _ (state : State Content) (key : Key) where
   is-accepted e = subst IsAccepted (sym (outcome-is state key Gone (after_reap state key) e refl)) tt
 
   -- one that is accepted forgets its key
-  pub steps-reap : (result : Reaped) (after : State Content) → IsAccepted (outcome state (AskReap key)) → result ≡ reap_result state key → after ≡ after_reap state key
-      → outcome state (AskReap key) ≡ Accepted Reap (reap_response result) after
-  steps-reap Gone after accepted e leads = outcome-is state key Gone after e leads
-  steps-reap Kept after accepted e leads = absurd (subst IsAccepted (outcome-is state key Kept after e leads) accepted)
-  steps-reap Absent after accepted e leads = absurd (subst IsAccepted (outcome-is state key Absent after e leads) accepted)
+  pub steps-reap : (result : Reaped) (after : State Content) → Accepts state (ReapAsk key) → result ≡ reap_result state key → after ≡ after_reap state key
+      → Steps state (ReapAsk key) (answers.Reaped result) after
+  steps-reap Gone after accepted e leads = (accepted.0, (refl, outcome-is state key Gone after e leads))
+  steps-reap Kept after accepted e leads = absurd (subst IsAccepted (outcome-is state key Kept after e leads) accepted.1)
+  steps-reap Absent after accepted e leads = absurd (subst IsAccepted (outcome-is state key Absent after e leads) accepted.1)
 
 -- a reap of the first dead key that is planned
 module _ (state : State Content) (is : IsSound state) (from : Option Key) where
-  pub some-first : has_dead state from ≡ true → ask_outcome state (ReapFirst from) ≡ Accepted Reap ReapDone (after_first_reap state from)
+  pub some-first : has_dead state from ≡ true → first_reap state from ≡ Accepted Reap ReapDone (after_first_reap state from)
   some-first h = by (first_dead state from) refl h
     where
       by : (o : Option Key) → first_dead state from ≡ o → is_some o ≡ true
@@ -143,12 +144,20 @@ module _ (state : State Content) (is : IsSound state) (from : Option Key) where
       by None e h = cc
       by (Some key) e h = accepts-first state is from key e
 
-  pub accepts-some : true ≡ has_dead state from → IsAccepted (ask_outcome state (ReapFirst from))
+  pub accepts-some : true ≡ has_dead state from → IsAccepted (first_reap state from)
   accepts-some h = subst IsAccepted (sym (some-first (sym h))) tt
 
-  pub found-first : IsAccepted (ask_outcome state (ReapFirst from)) → has_dead state from ≡ true
+  pub found-first : IsAccepted (first_reap state from) → has_dead state from ≡ true
   found-first a = by (first_dead state from) a
     where
       by : (o : Option Key) → IsAccepted (option_map_or (λ key. outcome state (AskReap key)) o (Answered ReapKept)) → is_some o ≡ true
       by None a = absurd a
       by (Some key) a = refl
+
+-- there is no dead key where none is found
+pub none-first : (state : State Content) (from : Option Key) → has_dead state from ≡ false → first_dead state from ≡ None
+none-first state from h = by (first_dead state from) h
+  where
+    by : (o : Option Key) → is_some o ≡ false → o ≡ None
+    by None h = refl
+    by (Some key) h = cc

@@ -9,22 +9,24 @@ use Rattle.actor_epoch.specs.Given.{Pairs, context_of, pairs_read}
 use Rattle.actor_epoch.specs.declared.Actor.{Actor}
 use Rattle.actor_epoch.specs.declared.Dot.{Dot}
 use Rattle.dvv_set.specs.Clocks.{join}
-use Rattle.vnode_machine.specs.Asks.{put_command}
+use Rattle.vnode_machine.specs.Asks.{put_command, del_command}
+use Rattle.vnode_machine.specs.Copying.{apply_copy, apply_close}
 use Rattle.vnode_machine.specs.Dead.{reaped}
 use Rattle.vnode_machine.specs.Machine.{State, is_held, clock_of, actor_for, put_check, update_check, apply_operation, counted}
 use Rattle.vnode_machine.specs.Replies.{put_reply}
-use Rattle.vnode_machine.specs.Step.{DelDone, Answered}
+use Rattle.vnode_machine.specs.Step.{DelDone, Answered, outcome}
+use Rattle.sibling_register.specs.Answers.{AskDel}
 use Rattle.vnode_protocol.specs.declared.ask.Ask.{Ask}
-use Rattle.vnode_protocol.specs.declared.ask.Ask.TheVariants.{Put, Del, Reap, ReapFirst}
+use Rattle.vnode_protocol.specs.declared.ask.Ask.TheVariants.{Put, Del, Reap, ReapFirst, Copy, Close}
 use Rattle.vnode_protocol.specs.declared.ask.Answer.{Answer}
 use Rattle.vnode_protocol.specs.declared.ask.Answer.TheVariants as answers
 use Rattle.vnode_protocol.specs.declared.refusal.Refusal.{Refusal}
 use Rattle.vnode_core.specs.declared.ready.Ready.{Ready}
 use Rattle.vnode_replies.specs.declared.checks.Writer.{Writer}
 use Rattle.vnode_machine.specs.Sound.{IsSound}
-use Rattle.vnode_protocol.specs.Plans.{View, IsAccepted, IsWrite, Steps, Refuses, ask_outcome}
+use Rattle.vnode_protocol.specs.Plans.{View, Accepts, IsWrite, StepsOpen, Steps, RefusesOpen}
 use Rattle.clock_store.specs.declared.store.WriteKind.TheVariants.{Value, Tombstone as Dead}
-use Rattle.clock_store.specs.Contents.{Contents, HasRoom}
+use Rattle.clock_store.specs.Contents.{Contents, HasRoom, HasSyncRoom}
 use Rattle.clock_store.specs.Forgetting.{after_first_reap}
 use Rattle.clock_store.specs.Keys.{Keys, written, deleted}
 use Rattle.vnode_protocol.specs.Refusals.{RefusedBy}
@@ -40,9 +42,10 @@ pub record Fields : Type 0 where
   pub store : Contents
   pub ready : Option Ready
   pub prepared : Option Ask
+  pub closed : Option ℕ
 
-abbrev pub fields : (id epochs writes tombstones reaps : ℕ) → Contents → Option Ready → Option Ask → Fields
-fields id epochs writes tombstones reaps store ready prepared = record {
+abbrev pub fields : (id epochs writes tombstones reaps : ℕ) → Contents → Option Ready → Option Ask → Option ℕ → Fields
+fields id epochs writes tombstones reaps store ready prepared closed = record {
   id = id;
   epochs = epochs;
   writes = writes;
@@ -51,6 +54,7 @@ fields id epochs writes tombstones reaps store ready prepared = record {
   store = store;
   ready = ready;
   prepared = prepared;
+  closed = closed;
 }
 
 abbrev pub state_of : Fields → State Content
@@ -61,7 +65,7 @@ state_of v = record {
   tombstones = v.tombstones;
   reaps = v.reaps;
   keys = v.store.keys;
-  closed = None;
+  closed = v.closed;
 }
 
 abbrev pub view_of : Fields → View
@@ -73,6 +77,8 @@ key_in (Put put) write = put.key
 key_in (Del del) write = del.key
 key_in (Reap key) write = key
 key_in (ReapFirst from) write = absurd write
+key_in (Copy copy) write = copy.key
+key_in (Close number) write = absurd write
 
 -- the keys after the write of a command at this actor, and the room for it
 abbrev pub written_by : Keys → Ask → Actor → Keys
@@ -80,12 +86,16 @@ written_by keys (Put put) actor = written keys put.key (pairs_read (context_of p
 written_by keys (Del del) actor = deleted keys del.key (pairs_read (context_of del.context)) actor
 written_by keys (Reap key) actor = keys
 written_by keys (ReapFirst from) actor = keys
+written_by keys (Copy copy) actor = keys
+written_by keys (Close number) actor = keys
 
 abbrev pub HasRoomFor : Contents → Ask → Actor → Type 0
 HasRoomFor store (Put put) actor = HasRoom store put.key (pairs_read (context_of put.context)) actor Value
 HasRoomFor store (Del del) actor = HasRoom store del.key (pairs_read (context_of del.context)) actor Dead
 HasRoomFor store (Reap key) actor = ⊥
 HasRoomFor store (ReapFirst from) actor = ⊥
+HasRoomFor store (Copy copy) actor = ⊥
+HasRoomFor store (Close number) actor = ⊥
 
 -- the state after a command that is accepted
 abbrev pub state_after : State Content → Ask → State Content
@@ -93,6 +103,8 @@ state_after state (Put put) = apply_operation state put.key (context_of put.cont
 state_after state (Del del) = apply_operation state del.key (context_of del.context) Tombstone
 state_after state (Reap key) = reaped state key
 state_after state (ReapFirst from) = after_first_reap state from
+state_after state (Copy copy) = apply_copy state copy.key copy.clock
+state_after state (Close number) = apply_close state number
 
 -- how many writes and tombstones there are after a command
 abbrev pub writes_after : ℕ → Ask → ℕ
@@ -100,12 +112,16 @@ writes_after writes (Put put) = counted writes
 writes_after writes (Del del) = writes
 writes_after writes (Reap key) = writes
 writes_after writes (ReapFirst from) = writes
+writes_after writes (Copy copy) = writes
+writes_after writes (Close number) = writes
 
 abbrev pub tombstones_after : ℕ → Ask → ℕ
 tombstones_after tombstones (Put put) = tombstones
 tombstones_after tombstones (Del del) = counted tombstones
 tombstones_after tombstones (Reap key) = tombstones
 tombstones_after tombstones (ReapFirst from) = tombstones
+tombstones_after tombstones (Copy copy) = tombstones
+tombstones_after tombstones (Close number) = tombstones
 
 -- what the machine's checks refuse of a delete by a context of these pairs, and of one without
 abbrev pub del_check_by : State Content → Key → List Dot → Option ℕ
@@ -122,11 +138,11 @@ pub record PutGives (state : State Content) (put : PutAsk) (ready : Ready) : Typ
 
 -- who writes the tombstone of a delete, or nobody, where it does nothing; or its refusal
 abbrev pub DelGives : State Content → DelAsk → Result (Option Writer) Refusal → Type 0
-DelGives state del (Ok None) = ask_outcome state (Del del) ≡ Answered DelDone
+DelGives state del (Ok None) = outcome state (AskDel (del_command del)) ≡ Answered DelDone
 DelGives state del (Ok (Some writer)) =
-    Steps state (Del del) answers.Del (state_after state (Del del))
+    StepsOpen state (Del del) answers.Del (state_after state (Del del))
     × (writer ≡ writer_of state del.key)
-DelGives state del (Err refusal) = Refuses state (Del del) refusal
+DelGives state del (Err refusal) = RefusesOpen state (Del del) refusal
 
 -- the machine accepts a tombstone over all that is stored of a key, and this is who writes it
 pub record IsToOverwrite (state : State Content) (key : Key) (writer : Writer) : Type 0 where
@@ -148,13 +164,15 @@ pub record IsReady (state : State Content) (store : Contents) (ready : Option Re
   pub room : HasRoomFor store ask (actor_for state (key_in ask write))
   pub made : ready ≡ Some (record { writer = writer_of state (key_in ask write); answer = answer })
 
--- what is prepared is ready; a reap needs nothing but to be accepted
+-- what is prepared is ready; a reap and a close need nothing but to be accepted
 abbrev pub IsReadyFor : State Content → Contents → Option Ready → Option Ask → Type 0
 IsReadyFor state store ready None = Unit {0}
 IsReadyFor state store ready (Some (Put put)) = IsReady state store ready (Put put) tt
 IsReadyFor state store ready (Some (Del del)) = IsReady state store ready (Del del) tt
-IsReadyFor state store ready (Some (Reap key)) = IsAccepted (ask_outcome state (Reap key))
-IsReadyFor state store ready (Some (ReapFirst from)) = IsAccepted (ask_outcome state (ReapFirst from))
+IsReadyFor state store ready (Some (Reap key)) = Accepts state (Reap key)
+IsReadyFor state store ready (Some (ReapFirst from)) = Accepts state (ReapFirst from)
+IsReadyFor state store ready (Some (Copy copy)) = Accepts state (Copy copy) × HasSyncRoom store copy.key copy.clock
+IsReadyFor state store ready (Some (Close number)) = Accepts state (Close number)
 
 pub record IsVnode (v : Fields) : Type 0 where
   pub sound : IsSound (state_of v)

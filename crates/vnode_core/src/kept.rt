@@ -8,7 +8,7 @@ use clock_store::ClockStore;
 use rw_gate::Kept;
 use std::alloc::Global;
 use std::snapshot::Snapshot;
-use vnode_protocol::{Answer, Ask, Event, Plan, Refusal};
+use vnode_protocol::{Answer, Ask, Entry, Plan, Refusal};
 
 /// A change, and for clauses alone the vnode as it was when the change was prepared: the two fix the event that the
 /// change makes in a gate's history, its answer too.
@@ -18,9 +18,9 @@ pub struct LoggedChange<S: ClockStore> {
     before: Snapshot<VnodeOver<S>>,
 }
 
-/// The machine's states are those of the vnode machine, and its step is the machine's: an event is accepted with the
-/// answer that it holds, a command that changes nothing is answered, and a refusal is the machine's, or one for want of
-/// memory where the machine accepts. `prepare` and `apply` are the vnode's `prepare` and `finish`.
+/// The machine's states are those of the vnode machine, and its step is the machine's: a command is accepted with the
+/// answer that its event holds, an ask that changes nothing is answered, and a refusal is the machine's, or one for want of
+/// memory where the machine accepts. Copies and the close are entries beside the commands. `prepare` and `apply` are the vnode's `prepare` and `finish`.
 impl<S: ClockStore> Kept for VnodeOver<S> {
     type Ask = Ask;
 
@@ -30,13 +30,13 @@ impl<S: ClockStore> Kept for VnodeOver<S> {
 
     type Refusal = Refusal;
 
-    type Event = Event;
+    type Event = Entry;
 
     ghost use Rattle.std.specs.Prelude.{◌≡◌};
     ghost use Rattle.riak_msgs.specs.Contents.{Content};
     ghost use Rattle.vnode_machine.specs.Machine.{State};
-    ghost use Rattle.vnode_protocol.specs.Plans.{Refuses};
-    ghost use Rattle.vnode_protocol.specs.Events.{Makes, IsAnswered, Asks, AnsweredBy, event_of, IsLoggable};
+    ghost use Rattle.vnode_protocol.specs.Plans.{Refuses, IsAnswered};
+    ghost use Rattle.vnode_protocol.specs.Events.{Makes, Asks, AnsweredBy, entry_of, IsLoggable};
 
     ghost State = { State Content };
 
@@ -52,7 +52,7 @@ impl<S: ClockStore> Kept for VnodeOver<S> {
 
     ghost answered_by = { AnsweredBy };
 
-    ghost event = { λ logged. event_of logged.before.value.state logged.change };
+    ghost event = { λ logged. entry_of logged.before.value.state logged.change };
 
     ghost ready = { λ vnode logged. IsLoggable vnode logged.change logged.before.value };
 

@@ -1,10 +1,10 @@
 //! One vnode of a store that keeps siblings: gets, puts, deletes and reaps of its keys, as Riak answers them.
 //!
 //! A [`Vnode`] is the vnode machine (`State` in `specs/Machine` of `vnode_machine`), and each call is the machine's step
-//! (`outcome` in its `specs/Step`): each key that it holds has the actor of its life, and a clock whose live dots are its
-//! siblings. A command is refused, or planned by [`Vnode::prepare`] and made by [`Vnode::finish`]. At every history that
-//! may have led to its state, each call answers as the sibling register does (`Registers` in `specs/Plans` of
-//! `vnode_protocol`, which has the commands, answers, refusals and events too).
+//! (`outcome` in its `specs/Step`): each key that it holds has the actor of its life, but where it came by copies alone, and
+//! a clock whose live dots are its siblings. A command is refused, or planned by [`Vnode::prepare`] and made by
+//! [`Vnode::finish`]. At every history that may have led to its state, each call answers as the sibling register does
+//! (`Registers` in `specs/Plans` of `vnode_protocol`, which has the commands, answers, refusals and events too).
 //!
 //! What is prepared is in the vnode's model, the whole command with its options and its context as given, and a
 //! [`Change`] is that command and nothing else. Room, the actor and the answer that were made for it lie in the vnode, so
@@ -50,4 +50,6 @@ pub use laws::{
 };
 pub use rw_gate::Kept;
 pub use vnode::{Tally, Vnode, VnodeOver};
-pub use vnode_protocol::{Answer, Ask, Event, Plan, Reaped, Refusal, histories_are_legal};
+pub use vnode_protocol::{
+    Answer, Ask, Entry, Event, KeyCopy, Plan, Reaped, Refusal, histories_are_legal,
+};

@@ -31,6 +31,10 @@ pub(crate) enum Readiness {
     NothingToDelete,
     /// A reap that forgets nothing, since the key has a value, or there is none.
     NothingToReap(Reaped),
+    /// A copy after which the key would have too many siblings, or its clock too many actors.
+    Stuck,
+    /// The vnode is closed, and takes nothing.
+    Closed,
 }
 
 /// The plan of a command.
@@ -41,6 +45,8 @@ pub(crate) fn plan_of(ask: Ask, readiness: Readiness) -> Plan<Change, Answer>
         Readiness::Ready => Plan::Change(Change { ask }),
         Readiness::NothingToDelete => answered(ask, Answer::Del),
         Readiness::NothingToReap(reaped) => answered(ask, Answer::Reaped(reaped)),
+        Readiness::Stuck => answered(ask, Answer::Stuck),
+        Readiness::Closed => answered(ask, Answer::Closed),
     }
 }
 
@@ -89,7 +95,7 @@ pub(crate) fn writes_after(writes: u64, ask: &Ask) -> u64
 {
     match ask {
         Ask::Put(_) => writes.saturating_add(1),
-        Ask::Del(_) | Ask::Reap(_) | Ask::ReapFirst(_) => writes,
+        Ask::Del(_) | Ask::Reap(_) | Ask::ReapFirst(_) | Ask::Copy(_) | Ask::Close(_) => writes,
     }
 }
 
@@ -98,8 +104,8 @@ pub(crate) fn tombstones_after(tombstones: u64, ask: &Ask) -> u64
     ensures { result ≡ tombstones_after tombstones ask.now }
 {
     match ask {
-        Ask::Put(_) | Ask::Reap(_) | Ask::ReapFirst(_) => tombstones,
         Ask::Del(_) => tombstones.saturating_add(1),
+        Ask::Put(_) | Ask::Reap(_) | Ask::ReapFirst(_) | Ask::Copy(_) | Ask::Close(_) => tombstones,
     }
 }
 

@@ -8,16 +8,18 @@ ghost use Rattle.sibling_register.specs.Answers.{AskGet};
 ghost use Rattle.vnode_machine.specs.Asks.{get_command, put_command};
 ghost use Rattle.vnode_machine.specs.Machine.{opening, stored, put_check};
 ghost use Rattle.vnode_machine.specs.Replay.{IsAfter};
-ghost use Rattle.vnode_machine.specs.Step.{outcome, Answered, Accepted, GetDone};
+ghost use Rattle.vnode_machine.specs.Step.{outcome, Answered, GetDone};
 ghost use Rattle.vnode_replies.specs.Checks.{found_in, writer_of};
 ghost use Rattle.vnode_protocol.specs.declared.ask.Ask.TheVariants.{Put, Del};
 ghost use Rattle.vnode_machine.specs.Sound.{IsSound};
-ghost use Rattle.vnode_protocol.specs.Plans.{IsPrepared, Plans, Refuses, Registers, RegistersAsk, RegistersStep, Steps, planned, operation_of, response_of, AcceptsPrepared, IsWrite};
+ghost use Rattle.vnode_protocol.specs.Plans.{IsPrepared, Plans, Refuses, RefusesOpen, Registers, RegistersPlan, RegistersStep, Steps, AcceptsPrepared, IsWrite};
 ghost use Rattle.vnode_core.specs.Readiness.{plan_in};
 ghost use Rattle.vnode_protocol.specs.Refusals.{GivenBy};
 ghost use Rattle.vnode_core.specs.Vnodes.{written_by, HasRoomFor, PutGives};
 
+mod copying;
 mod deleting;
+mod keys;
 mod reaping;
 mod tally;
 
@@ -70,6 +72,7 @@ pub struct VnodeOver<S: ClockStore> {
     store: S,
     ready: Option<Ready>,
     prepared: GhostValue<Ask>,
+    closed: Option<u64>,
 }
 
 /// One call at each place where one is let go.
@@ -84,6 +87,7 @@ impl<S: ClockStore> Drop for VnodeOver<S> {
             store: _store,
             ready: _ready,
             prepared: _prepared,
+            closed: _closed,
         } = self;
     }
 }
@@ -96,10 +100,10 @@ impl<S: ClockStore> Model for VnodeOver<S> {
     ghost use Rattle.vnode_core.specs.Vnodes.{fields, view_of, IsVnode};
 
     ghost view = { λ v. view_of (fields v.id v.epochs v.writes v.tombstones v.reaps
-        (S.shows v.store) v.ready v.prepared) };
+        (S.shows v.store) v.ready v.prepared v.closed) };
 
     ghost invariant = { λ v. IsVnode (fields v.id v.epochs v.writes v.tombstones v.reaps
-        (S.shows v.store) v.ready v.prepared) };
+        (S.shows v.store) v.ready v.prepared v.closed) };
 }
 
 /// A vnode over the ordered map of clocks.
@@ -113,7 +117,7 @@ fn write<S: ClockStore>(store: &mut S, ask: Ask, actor: Actor)
     match ask {
         Ask::Put(put) => write_content(store, put, actor),
         Ask::Del(del) => write_tombstone(store, del, actor),
-        Ask::Reap(_) | Ask::ReapFirst(_) => unreachable!(),
+        Ask::Reap(_) | Ask::ReapFirst(_) | Ask::Copy(_) | Ask::Close(_) => unreachable!(),
     }
 }
 
@@ -152,16 +156,7 @@ impl<S: ClockStore> VnodeOver<S> {
         ensures prepared { result.prepared ≡ None }
         ensures register { IsAfter id (first_epoch - 1) [] result.state }
     {
-        VnodeOver {
-            id,
-            epochs: EpochSource::new(first_epoch),
-            writes: 0,
-            tombstones: 0,
-            reaps: 0,
-            store: S::new(alloc),
-            ready: None,
-            prepared: GhostValue::none(),
-        }
+        VnodeOver::after(alloc, id, first_epoch - 1)
     }
 
     /// Shows a key: copies of its siblings, the newest first, and the bytes of its context; nothing, where the key is
@@ -217,7 +212,8 @@ impl<S: ClockStore> VnodeOver<S> {
 
     /// Makes ready all that a command needs, where nothing is prepared; then it is what is prepared.
     fn make_ready(&mut self, alloc: Global, ask: &Ask) -> Result<Readiness, Refusal>
-        requires { self.old.prepared ≡ None }
+        requires ended { self.old.prepared ≡ None }
+        requires opened { self.old.state.closed ≡ None }
         ensures same { self.new.state ≡ self.old.state }
         ensures ok { IfOk result (λ r. Plans self.new ask.now (plan_in r ask.now)) }
         ensures err { IfErr result (λ refusal. Refuses self.old.state ask.now refusal) }
@@ -231,6 +227,8 @@ impl<S: ClockStore> VnodeOver<S> {
             Ask::Del(del) => self.make_del_ready(alloc, ask, del),
             Ask::Reap(key) => Ok(self.make_reap_ready(ask, key)),
             Ask::ReapFirst(from) => Ok(self.make_first_reap_ready(ask, from.as_ref())),
+            Ask::Copy(copy) => self.make_copy_ready(alloc, ask, copy),
+            Ask::Close(number) => Ok(self.make_close_ready(ask, *number)),
         }
     }
 
@@ -245,7 +243,7 @@ impl<S: ClockStore> VnodeOver<S> {
         requires given { context_of put.now.context ≡ option_map Pairs (seen_in context) }
         requires found { found_in found ≡ stored self.now.state put.now.key }
         ensures ok { IfOk result (λ ready. PutGives self.now.state put.now ready) }
-        ensures err { IfErr result (λ refusal. Refuses self.now.state (Put put.now) refusal) }
+        ensures err { IfErr result (λ refusal. RefusesOpen self.now.state (Put put.now) refusal) }
     {
         let writer = self.check_put(put, found, context)?;
         let reply = put_reply(alloc, found, put, context, writer.actor)?;
@@ -257,6 +255,7 @@ impl<S: ClockStore> VnodeOver<S> {
     fn make_put_ready(&mut self, alloc: Global, ask: &Ask, put: &PutAsk) -> Result<(), Refusal>
         requires is { ask.now ≡ Put put.now }
         requires ended { self.old.prepared ≡ None }
+        requires opened { self.old.state.closed ≡ None }
         ensures same { self.new.state ≡ self.old.state }
         ensures ok { OnOk result (IsPrepared self.new (Put put.now) (Put put.now)) }
         ensures err { IfErr result (λ refusal. Refuses self.old.state (Put put.now) refusal) }
@@ -287,7 +286,8 @@ impl<S: ClockStore> VnodeOver<S> {
 
     /// Plans a command: checks it, makes all the room that it needs, and its answer. Nothing changes until the change is
     /// finished; a change that isn't finished is as if never asked for, and the next `prepare` ends it, also one that is
-    /// refused. A delete without context of an absent key does nothing: it is `Plan::Nothing`, whatever memory there is.
+    /// refused. A delete without context of an absent key does nothing: it is `Plan::Nothing`, whatever memory there is. So is a copy
+    /// that is `Stuck`, and whatever is asked of a vnode that is closed: the answer is `Closed`.
     ///
     /// The answer to a put shows nothing, or with `return_body` all siblings after it, the newest first, and the context;
     /// with `return_head` alone the same with empty values.
@@ -298,8 +298,8 @@ impl<S: ClockStore> VnodeOver<S> {
     /// asks for an unchanged key and not for no value, and there is no value, or the context hasn't the entries of the
     /// key's clock; `TooManySiblings`, where more than 63 siblings aren't covered by the context; `ClockFull`, where the
     /// actors of the key's clock, of the context and the key's own are more than 64; `EpochsUsedUp`, where the key is
-    /// absent and the epoch 4,294,967,295 was given; `CounterUsedUp`, where the key's actor has the dot
-    /// 18,446,744,073,709,551,615.
+    /// absent or came by copies alone, and the epoch 4,294,967,295 was given; `CounterUsedUp`, where the key's actor has
+    /// the dot 18,446,744,073,709,551,615. The own actor of a key that has none is the next one.
     /// `NoMemory`, where none of these holds and a growth was refused. Each leaves the state as it was. The options are
     /// a put's alone. Without a context a put covers nothing, and a delete all that is stored: `BadContext` and
     /// `TooManySiblings` never refuse such a delete.
@@ -308,9 +308,12 @@ impl<S: ClockStore> VnodeOver<S> {
         ensures ok { IfOk result (λ plan. Plans self.new ask plan) }
         ensures err { IfErr result (λ refusal. Refuses self.old.state ask refusal) }
         ensures ended { IfErr result (λ refusal. self.new.prepared ≡ None) }
-        ensures register { RegistersAsk self.old.state ask (planned self.old.state ask result) }
+        ensures register { RegistersPlan self.old.state ask result }
     {
         self.drop_prepared();
+        if self.closed.is_some() {
+            return Ok(plan_of(ask, Readiness::Closed));
+        }
         match self.make_ready(alloc, &ask) {
             Ok(readiness) => Ok(plan_of(ask, readiness)),
             Err(refusal) => Err(refuse(ask, refusal)),
@@ -322,12 +325,13 @@ impl<S: ClockStore> VnodeOver<S> {
         requires { self.old.prepared ≡ Some change }
         ensures step { Steps self.old.state change result self.new.state }
         ensures ended { self.new.prepared ≡ None }
-        ensures register { RegistersAsk self.old.state change
-            (Accepted (operation_of change) (response_of result) self.new.state) }
+        ensures register { RegistersStep self.old.state change result self.new.state }
     {
         match change.ask {
             Ask::Reap(key) => self.finish_reap(key),
             Ask::ReapFirst(from) => self.finish_first_reap(from),
+            Ask::Copy(copy) => self.finish_copy(copy),
+            Ask::Close(number) => self.finish_close(number),
             write => self.finish_write(write),
         }
     }

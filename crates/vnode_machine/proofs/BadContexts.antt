@@ -15,8 +15,7 @@ use Rattle.actor_epoch.specs.Contexts.{is_well_formed}
 use Rattle.actor_epoch.specs.Given.{Context, Malformed, Pairs}
 use Rattle.vnode_machine.specs.Machine.{Stored, State, stored, names_unissued_dot, is_bad_context}
 use Rattle.vnode_machine.specs.Replay.{replay, naming, HasReplay, IsWithinLimits}
-use Rattle.vnode_machine.specs.Sound.{actor_of}
-use Rattle.vnode_machine.proofs.Invariants.{H, HasGrown, IsEarlier}
+use Rattle.vnode_machine.proofs.Invariants.{H, HasGrown, IsEarlier, actor_of}
 use Rattle.vnode_machine.proofs.Bases.{IsOwned}
 use Rattle.vnode_machine.proofs.Sights.{ahead_of, ahead-owned, owned-kept, same_pairs-same, Each, known_at, named-position}
 use Rattle.vnode_machine.proofs.Steps.{last_of, known}

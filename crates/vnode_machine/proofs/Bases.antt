@@ -13,8 +13,7 @@ use Rattle.actor_epoch.proofs.Pairs.{counter_in-union}
 use Rattle.actor_epoch.specs.Given.{Context}
 use Rattle.vnode_machine.specs.Machine.{Stored}
 use Rattle.vnode_machine.specs.Lives.{next_of, lives_begun, ends_in_update, is_alive, latest_dot}
-use Rattle.vnode_machine.specs.Sound.{actor_of}
-use Rattle.vnode_machine.proofs.Invariants.{H, clock_in, AreLiveOf, IsKept, IsEarlier}
+use Rattle.vnode_machine.proofs.Invariants.{H, clock_in, AreLiveOf, IsKept, IsEarlier, actor_of}
 use Rattle.vnode_machine.proofs.Counters.{is_low, are_low, are_low-more, all-union, counter_in-low}
 
 -- a key without siblings is in no life

@@ -16,7 +16,7 @@ use Rattle.dvv_set.specs.Clocks.{discard, event}
 use Rattle.actor_epoch.specs.Given.{Context}
 use Rattle.vnode_machine.specs.Machine.{Stored, State, opening, stored, clock_of, actor_for, next_actor, epoch_after, pairs_of, del_pairs, updated, apply_operation, state_after, known_by, issued_at, issued}
 use Rattle.vnode_machine.specs.Laws.{AreDifferent, NoDotTwice}
-use Rattle.vnode_machine.specs.Sound.{actor_of}
+use Rattle.vnode_machine.proofs.Invariants.{actor_of}
 use Rattle.vnode_machine.proofs.Bases.{own_in, own-owned, last-owned}
 use Rattle.vnode_machine.proofs.Keys.{find_stored, find_reaped, key_eq-same}
 use Rattle.actor_epoch.proofs.Pairs.{counter_in-insert_max, counter_in-union}

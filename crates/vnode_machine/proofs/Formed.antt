@@ -1,6 +1,6 @@
 -- Each step keeps a state sound, so every replay is: what is known of each key is of the form of a context.
-use Rattle.std.proofs.Common.{◌≡◌, ℕ, ◌≤◌, Bool, true, false, not, ◌&&◌, cond, List, [], ◌∷◌, refl, sym, ◌∙◌, subst}
-use Rattle.std.specs.Prelude.{Option, Some, None, IsTrue, is_some, is_none, if◌then◌else◌}
+use Rattle.std.proofs.Common.{◌≡◌, ℕ, ◌≤◌, Bool, true, false, not, ◌&&◌, cond, List, [], ◌∷◌, refl, sym, ◌∙◌, arith, subst}
+use Rattle.std.specs.Prelude.{Option, Some, None, is_some, is_none, if◌then◌else◌}
 use Rattle.std.specs.List.{list_any}
 use Rattle.riak_msgs.specs.declared.Key.{Key}
 use Rattle.riak_msgs.specs.Contents.{Content}
@@ -9,6 +9,7 @@ use Rattle.sibling_register.specs.History.{Operation, Write, Tombstone, Reap}
 use Rattle.sibling_register.specs.Answers.{PutCommand, DelCommand, Ask, AskGet, AskPut, AskDel, AskReap}
 use Rattle.sibling_register.specs.Refusals.{first_of}
 use Rattle.sibling_register.specs.Siblings.{is_defined}
+use Rattle.actor_epoch.specs.declared.Actor.{Actor}
 use Rattle.actor_epoch.specs.declared.Dot.{Dot}
 use Rattle.actor_epoch.specs.Limits.{max_epoch}
 use Rattle.actor_epoch.specs.Contexts.{is_well_formed}
@@ -21,13 +22,12 @@ use Rattle.vnode_machine.specs.Step.{Response, DelDone, ReapDone, ReapKept, Step
 use Rattle.vnode_machine.specs.Laws.{ShownContextIsName}
 use Rattle.vnode_machine.proofs.Keys.{find_stored, find_reaped, sorted-step}
 use Rattle.vnode_machine.proofs.Invariants.{H, clock_in}
-use Rattle.vnode_machine.proofs.Bases.{own_in, last_in, IsOwned, behind_none, behind_own}
+use Rattle.vnode_machine.proofs.Bases.{own_in, last_in}
 use Rattle.vnode_machine.proofs.Updates.{next_in}
-use Rattle.vnode_machine.proofs.Sights.{low-ahead, behind-of}
+use Rattle.vnode_machine.proofs.Sights.{behind-next}
 use Rattle.vnode_machine.proofs.Steps.{known}
 use Rattle.vnode_machine.proofs.Mirrors.{held-same}
-use Rattle.vnode_machine.proofs.Forms.{form-whole, form-parts, IsLow, AreFit, room_left}
-use Rattle.vnode_machine.proofs.Counters.{are_low}
+use Rattle.vnode_machine.proofs.Forms.{form-whole, form-parts, form-chosen, AreFit, room_left}
 use Rattle.vnode_machine.proofs.Tests.{or_left, or_right}
 
 rooms : (bad crowded full epochs counters : Bool)
@@ -43,7 +43,7 @@ rooms false false false false false h = (refl, refl, refl, refl)
 -- what is known of a stored key, or of an absent one, rises within its limits
 pub known-pairs : (o : Option (Stored Content)) → IsFormed o → ArePairs (clock_in o).known
 known-pairs None h = record { rising = refl; within = refl }
-known-pairs (Some s) h = h.pairs
+known-pairs (Some s) h = h.clock.pairs
 
 -- a put that no check refuses is an accepted write
 without_options : (bad a b c : Bool) (m i j k : ℕ) (rest : List (Bool × ℕ)) → first_of ((bad, m) ∷ (a, i) ∷ (b, j) ∷ (c, k) ∷ rest) ≡ None → first_of ((bad, m) ∷ rest) ≡ None
@@ -63,55 +63,38 @@ module _ (state : State Content) (sound : IsSound state) where
     abbrev before : Option (Stored Content)
     before = stored state at
 
-    owned : (o : Option (Stored Content)) → IsFormed o → IsOwned o
-    owned None h = tt
-    owned (Some s) h = h.owned
-
     shown_true : (b : Bool) → not b ≡ false → b ≡ true
     shown_true true h = refl
     shown_true false h = cc
 
-    low : (o : Option (Stored Content)) (pairs : List Dot) → IsTrue (are_low state.vnode state.last_epoch pairs) → IsLow state.vnode state.last_epoch o pairs
-    low None pairs h = h
-    low (Some s) pairs h = tt
+    abbrev own : Actor
+    own = own_in (next_actor state) before
 
-    fit_put : (given : Option Context) → is_bad_context state at given ≡ false → AreFit state.vnode state.last_epoch before (pairs_of given)
-    fit_put None h = record { low = low before [] refl; behind = behind_none before; are = record { rising = refl; within = refl } }
+    fit_put : (given : Option Context) → is_bad_context state at given ≡ false → AreFit own before (pairs_of given)
+    fit_put None h = record { behind = omega arith; are = record { rising = refl; within = refl } }
     fit_put (Some Malformed) h = cc
-    fit_put (Some (Pairs pairs)) h =
-        let behind = or_right (not (is_well_formed pairs)) (list_any (names_unissued_dot state at) pairs) h in
-        record {
-          low = low before pairs (low-ahead state.vnode state at pairs refl behind);
-          behind = behind-of state at pairs (owned before (sound.keys at)) behind;
-          are = form-parts pairs (shown_true (is_well_formed pairs) (or_left (not (is_well_formed pairs)) (list_any (names_unissued_dot state at) pairs) h));
-        }
+    fit_put (Some (Pairs pairs)) h = record {
+      behind = behind-next state at pairs (or_right (not (is_well_formed pairs)) (list_any (names_unissued_dot state at) pairs) h);
+      are = form-parts pairs (shown_true (is_well_formed pairs) (or_left (not (is_well_formed pairs)) (list_any (names_unissued_dot state at) pairs) h));
+    }
 
-    -- what is stored names no later epoch of a key that isn't
-    low_own : (o : Option (Stored Content)) → IsLow state.vnode state.last_epoch o (clock_in o).known
-    low_own None = refl
-    low_own (Some s) = tt
-
-    fit_del : (given : Option Context) → is_bad_context state at given ≡ false → AreFit state.vnode state.last_epoch before (del_pairs state at given)
-    fit_del None h = record { low = low_own before; behind = behind_own before; are = known-pairs before (sound.keys at) }
+    fit_del : (given : Option Context) → is_bad_context state at given ≡ false → AreFit own before (del_pairs state at given)
+    fit_del None h = record { behind = omega arith; are = known-pairs before (sound.keys at) }
     fit_del (Some Malformed) h = cc
     fit_del (Some (Pairs pairs)) h = fit_put (Some (Pairs pairs)) h
 
     abbrev next : List Dot → Option Content → Stored Content
-    next pairs value = next_in (own_in (next_actor state) before) pairs value before
+    next pairs value = next_in own pairs value before
 
-    next_fits : (given : Option Context) (pairs : List Dot) (value : Option Content) → (is_bad_context state at given ≡ false → AreFit state.vnode state.last_epoch before pairs)
+    next_fits : (given : Option Context) (pairs : List Dot) (value : Option Content) → (is_bad_context state at given ≡ false → AreFit own before pairs)
         → update_check state at given pairs ≡ None → IsForm (next pairs value) × (last_in state.last_epoch before ≤ max_epoch)
     next_fits given pairs value fit h =
         let r = rooms (is_bad_context state at given) (has_too_many_siblings state at pairs) (has_too_many_actors state at pairs) (is_out_of_epochs state at) (is_out_of_counters state at) h in
         room_left state.vnode state.last_epoch sound.limits pairs value before (sound.keys at) (fit r.0) r.1 r.2 r.3
 
-    chosen : (b : Bool) (s : Stored Content) (o : Option (Stored Content)) → IsForm s → IsFormed o → IsFormed (cond b (Some s) o)
-    chosen true s o h k = h
-    chosen false s o h k = k
-
     updated : (pairs : List Dot) (value : Option Content) (look : Key → Option (Stored Content)) → ((key : Key) → look key ≡ cond (key_eq at key) (Some (next pairs value)) (stored state key))
         → IsForm (next pairs value) → (key : Key) → IsFormed (look key)
-    updated pairs value look found h key = subst IsFormed (sym (found key)) (chosen (key_eq at key) (next pairs value) (stored state key) h (sound.keys key))
+    updated pairs value look found h key = subst IsFormed (sym (found key)) (form-chosen (key_eq at key) (next pairs value) (stored state key) h (sound.keys key))
 
     left : (b : Bool) (o : Option (Stored Content)) → IsFormed o → IsFormed (cond b None o)
     left true o h = tt

@@ -1,7 +1,6 @@
 -- What is known of each key is of the form of a context, within the limits.
-use Rattle.std.proofs.Common.{sym, ap, ◌∙◌, subst, ◌≡◌, ℕ, ◌+◌, ◌<◌, ◌≤◌, Bool, true, false, not, ◌&&◌, cond, List, [], ◌∷◌, length, refl, arith}
-use Rattle.std.specs.Prelude.{option_and_then, nat_le, nat_lt, max, ◌^◌, Option, Some, None, IsTrue, is_some, ◌==◌}
-use Rattle.std.specs.Option.{option_map_or}
+use Rattle.std.proofs.Common.{◌≡◌, ℕ, ◌+◌, ◌<◌, ◌≤◌, Bool, true, false, not, ◌&&◌, cond, List, [], ◌∷◌, length, refl, arith}
+use Rattle.std.specs.Prelude.{option_and_then, nat_le, nat_lt, max, ◌^◌, Option, Some, None, IsTrue, is_some, unwrap_or, ◌==◌}
 use Rattle.std.specs.List.{list_all}
 use Rattle.std.proofs.lemmas.Bool.Decides.{nat_tests}
 use Rattle.riak_msgs.specs.Contents.{Content}
@@ -14,20 +13,20 @@ use Rattle.actor_epoch.proofs.Pairs.{counter_in-union}
 use Rattle.dvv_set.specs.Held.{actors_after}
 use Rattle.vnode_machine.specs.Machine.{Stored}
 use Rattle.vnode_machine.specs.Replay.{IsWithinLimits}
-use Rattle.vnode_machine.specs.Sound.{actor_of, ArePairs, IsActor, IsForm, IsFormed}
+use Rattle.vnode_machine.specs.Sound.{ArePairs, IsActor, IsOwn, IsForm, IsFormed}
 use Rattle.vnode_machine.proofs.Rising.{rising-insert_max, rising-union, length-raised}
 use Rattle.vnode_machine.proofs.Invariants.{clock_in}
-use Rattle.vnode_machine.proofs.Bases.{own-owned, last-owned, own_in, last_in, IsBehind}
+use Rattle.vnode_machine.proofs.Bases.{own_in, last_in}
 use Rattle.vnode_machine.proofs.Updates.{next_in}
-use Rattle.vnode_machine.proofs.Counters.{all-insert_max, all-union, are_low, counter_in-low}
+use Rattle.vnode_machine.proofs.Counters.{all-insert_max, all-union}
 use Rattle.vnode_machine.proofs.Tests.{and_both, and_left, and_right}
 
 -- what is stored is of the form of a context
 pub form-whole : (s : Stored Content) → IsForm s → is_well_formed s.clock.known ≡ true
 form-whole s h =
     and_both (nat_le 1 (length s.clock.known) && nat_le (length s.clock.known) max_actors) (is_rising s.clock.known && list_all is_within_limits s.clock.known)
-    (and_both (nat_le 1 (length s.clock.known)) (nat_le (length s.clock.known) max_actors) (test 1 (length s.clock.known) h.some) (test (length s.clock.known) max_actors h.most))
-    (and_both (is_rising s.clock.known) (list_all is_within_limits s.clock.known) h.pairs.rising h.pairs.within)
+    (and_both (nat_le 1 (length s.clock.known)) (nat_le (length s.clock.known) max_actors) (test 1 (length s.clock.known) h.clock.some) (test (length s.clock.known) max_actors h.clock.most))
+    (and_both (is_rising s.clock.known) (list_all is_within_limits s.clock.known) h.clock.pairs.rising h.clock.pairs.within)
   where
     test : (a b : ℕ) → a ≤ b → nat_le a b ≡ true
     test a b h = grind (arith, nat_tests)
@@ -73,21 +72,26 @@ counter-most (pair ∷ pairs) actor h =
     by true n m g h k = grind (arith, nat_tests)
     by false n m g h k = k
 
--- where nothing is stored, the pairs name no later epoch
-abbrev pub IsLow : (v last : ℕ) → Option (Stored Content) → List Dot → Type 0
-IsLow v last None pairs = IsTrue (are_low v last pairs)
-IsLow v last (Some s) pairs = Unit {0}
-
--- pairs that an accepted write or tombstone discards
-pub record AreFit (v last : ℕ) (o : Option (Stored Content)) (pairs : List Dot) : Type 0 where
-  pub low : IsLow v last o pairs
-  pub behind : IsBehind pairs o
+-- pairs that an accepted write or tombstone at this actor discards
+pub record AreFit (own : Actor) (o : Option (Stored Content)) (pairs : List Dot) : Type 0 where
+  pub behind : counter_in pairs own ≤ counter_in (clock_in o).known own
   pub are : ArePairs pairs
 
-module _ (v last : ℕ) (within : IsWithinLimits v last) (pairs : List Dot) where
-  abbrev new : Actor
-  new = record { vnode = v; epoch = last + 1 }
+-- the actor of what is stored, where it has one
+pub own-formed : (o : Option (Stored Content)) → IsFormed o → IsOwn (option_and_then (λ (s : Stored Content). s.own) o)
+own-formed None h = tt
+own-formed (Some s) h = h.own
 
+known-within : (o : Option (Stored Content)) → IsFormed o → IsTrue (list_all is_within_limits (clock_in o).known)
+known-within None h = refl
+known-within (Some s) h = h.clock.pairs.within
+
+-- what is found where one key was stored
+pub form-chosen : (b : Bool) (s : Stored Content) (o : Option (Stored Content)) → IsForm s → IsFormed o → IsFormed (cond b (Some s) o)
+form-chosen true s o h k = h
+form-chosen false s o h k = k
+
+module _ (v last : ℕ) (within : IsWithinLimits v last) (pairs : List Dot) where
   -- where no check of room holds, what is stored next is of the form
   next_form : (value : Option Content) (o : Option (Stored Content)) (own : Actor) → IsFormed o → ArePairs pairs
       → IsActor own → counter_in (union (clock_in o).known pairs) own + 1 ≤ max_counter
@@ -97,45 +101,49 @@ module _ (v last : ℕ) (within : IsWithinLimits v last) (pairs : List Dot) wher
       let known : List Dot = union (clock_in o).known pairs in
       let dot : Dot = next_dot own known in
       record {
-        owned = refl;
         own = actor;
-        pairs = record {
-          rising = rising-insert_max dot known (rising-union (clock_in o).known pairs are.rising);
-          within = all-insert_max is_within_limits dot known (within-dot own (counter_in known own + 1) actor (omega arith) counter)
-              (all-union is_within_limits (clock_in o).known pairs (known_within o formed) are.within);
+        clock = record {
+          pairs = record {
+            rising = rising-insert_max dot known (rising-union (clock_in o).known pairs are.rising);
+            within = all-insert_max is_within_limits dot known (within-dot own (counter_in known own + 1) actor (omega arith) counter)
+                (all-union is_within_limits (clock_in o).known pairs (known-within o formed) are.within);
+          };
+          some = length-raised dot known;
+          most = most (length (insert_max dot known)) max_actors full;
         };
-        some = length-raised dot known;
-        most = most (length (insert_max dot known)) max_actors full;
       }
     where
-      known_within : (o : Option (Stored Content)) → IsFormed o → IsTrue (list_all is_within_limits (clock_in o).known)
-      known_within None h = refl
-      known_within (Some s) h = h.pairs.within
-
       most : (n k : ℕ) → nat_lt k n ≡ false → n ≤ k
       most n k h = grind (arith, nat_tests)
 
-  pub room_left : (value : Option Content) (o : Option (Stored Content)) → IsFormed o → AreFit v last o pairs
-      → nat_lt max_actors (actors_after (clock_in o).known (Some pairs) (own_in (record { vnode = v; epoch = last + 1 }) o)) ≡ false
+  abbrev new : Actor
+  new = record { vnode = v; epoch = last + 1 }
+
+  pub room_left : (value : Option Content) (o : Option (Stored Content)) → IsFormed o → AreFit (own_in new o) o pairs
+      → nat_lt max_actors (actors_after (clock_in o).known (Some pairs) (own_in new o)) ≡ false
       → (not (is_some (option_and_then (λ (s : Stored Content). s.own) o)) && (last == max_epoch)) ≡ false
-      → option_map_or (λ own. counter_in (clock_in o).known own == max_counter) (option_and_then (λ (s : Stored Content). s.own) o) false ≡ false
-      → IsForm (next_in (own_in (record { vnode = v; epoch = last + 1 }) o) pairs value o) × (last_in last o ≤ max_epoch)
-  room_left value None formed fit full epochs counters =
-      let zero : counter_in pairs new ≡ 0 = counter_in-low v last pairs new fit.low refl (omega arith) in
-      let left : last + 1 ≤ max_epoch = less last max_epoch within.1 epochs in
-      (next_form value None new formed fit.are (record { vnode = within.0; first = omega arith; epoch = left }) (omega (arith, zero)) full, left)
-    where
-      less : (n m : ℕ) → n ≤ m → (n == m) ≡ false → n + 1 ≤ m
-      less n m h e = grind (arith, nat_tests)
-  room_left value (Some s) formed fit full epochs counters =
-      let new : Actor = record { vnode = v; epoch = last + 1 } in
-      let own = own-owned new s formed.owned in (
-        subst (λ a. IsForm (next_in a pairs value (Some s))) (sym own) (next_form value (Some s) (actor_of s) formed fit.are formed.own
-            (less (counter_in s.clock.known (actor_of s)) (counter_in pairs (actor_of s)) (counter_in (union s.clock.known pairs) (actor_of s)) max_counter
-            (counter_in-union s.clock.known pairs (actor_of s)) fit.behind (counter-most s.clock.known (actor_of s) formed.pairs.within) (sym (ap (λ o. option_map_or (λ own. counter_in s.clock.known own == max_counter) o false) formed.owned) ∙ counters))
-            (subst (λ a. nat_lt max_actors (actors_after s.clock.known (Some pairs) a) ≡ false) own full)),
-        subst (λ n. n ≤ max_epoch) (sym (last-owned last s formed.owned)) within.1,
+      → (counter_in (clock_in o).known (own_in new o) == max_counter) ≡ false
+      → IsForm (next_in (own_in new o) pairs value o) × (last_in last o ≤ max_epoch)
+  room_left value o formed fit full epochs counters =
+      let own : Actor = own_in new o in
+      let found : Option Actor = option_and_then (λ (s : Stored Content). s.own) o in (
+        next_form value o own formed fit.are (actor found (own-formed o formed) epochs)
+            (less (counter_in (clock_in o).known own) (counter_in pairs own) (counter_in (union (clock_in o).known pairs) own) max_counter
+            (counter_in-union (clock_in o).known pairs own) fit.behind (counter-most (clock_in o).known own (known-within o formed)) counters)
+            full,
+        epoch found epochs,
       )
     where
+      more : (n m : ℕ) → n ≤ m → (n == m) ≡ false → n + 1 ≤ m
+      more n m h e = grind (arith, nat_tests)
+
+      actor : (found : Option Actor) → IsOwn found → (not (is_some found) && (last == max_epoch)) ≡ false → IsActor (unwrap_or found new)
+      actor None h e = let left = more last max_epoch within.1 e in record { vnode = within.0; first = omega arith; epoch = left }
+      actor (Some own) h e = h
+
+      epoch : (found : Option Actor) → (not (is_some found) && (last == max_epoch)) ≡ false → cond (is_some found) last (last + 1) ≤ max_epoch
+      epoch None e = more last max_epoch within.1 e
+      epoch (Some own) e = within.1
+
       less : (a b c g : ℕ) → c ≡ max a b → b ≤ a → a ≤ g → (a == g) ≡ false → c + 1 ≤ g
       less a b c g e h k d = grind (arith, nat_tests)

@@ -1,6 +1,6 @@
 -- What the machine keeps of a key, tied to the key's siblings, and what earlier positions knew.
 use Rattle.std.proofs.Common.{◌≡◌, ℕ, ◌+◌, ◌≤◌, true, cond, List, [], ◌∷◌, refl, sym, ◌∙◌, ap, arith, subst}
-use Rattle.std.specs.Prelude.{nat_eq, nat_le, Option, Some, None, IsTrue}
+use Rattle.std.specs.Prelude.{nat_eq, nat_le, Option, Some, None, IsTrue, unwrap_or}
 use Rattle.std.specs.Option.{option_map_or}
 use Rattle.std.proofs.lemmas.Bool.Decides.{nat_tests}
 use Rattle.riak_msgs.specs.declared.Key.{Key}
@@ -13,7 +13,6 @@ use Rattle.actor_epoch.specs.Dots.{counter_in}
 use Rattle.dvv_set.specs.Clocks.{DotState}
 use Rattle.actor_epoch.specs.Given.{Context}
 use Rattle.vnode_machine.specs.Machine.{Stored}
-use Rattle.vnode_machine.specs.Sound.{actor_of}
 use Rattle.vnode_machine.specs.Lives.{is_alive, latest_dot, dot_of}
 use Rattle.vnode_machine.proofs.Pairwise.{Pairwise, Pairwise-map}
 use Rattle.vnode_machine.proofs.Numbers.{count_of-more, content_of-earlier, dot_of-earlier}
@@ -29,6 +28,10 @@ Entry = Dot × Option Content
 -- the clock of what is stored or not
 abbrev pub clock_in : Option (Stored Content) → DotState (Option Content)
 clock_in o = option_map_or (λ s. s.clock) o (record { known = []; live = [] })
+
+-- the actor of what is stored; of a key without one, whichever
+abbrev pub actor_of : Stored Content → Actor
+actor_of s = unwrap_or s.own (record { vnode = 0; epoch = 0 })
 
 -- from a position that knew these pairs and counted so many events, the counter of the key's actor has grown
 abbrev pub HasGrown : List Dot → (count now : ℕ) → Option (Stored Content) → Type 0

@@ -19,6 +19,7 @@ pub mod Legals
 pub mod Rising
 pub mod Forms
 pub mod Formed
+pub mod Copying
 pub mod BadContexts
 pub mod Puts
 pub mod Dels

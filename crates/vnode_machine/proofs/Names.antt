@@ -15,8 +15,7 @@ use Rattle.actor_epoch.specs.Given.{Context, Malformed, Pairs}
 use Rattle.vnode_machine.specs.Machine.{Stored, State, stored, same_pairs, same_context, apply_operation}
 use Rattle.vnode_machine.specs.Replay.{replay, naming, HasReplay}
 use Rattle.vnode_machine.proofs.Keys.{find_stored, find_reaped}
-use Rattle.vnode_machine.specs.Sound.{actor_of}
-use Rattle.vnode_machine.proofs.Invariants.{H, clock_in, HasGrown, IsEarlier}
+use Rattle.vnode_machine.proofs.Invariants.{H, clock_in, HasGrown, IsEarlier, actor_of}
 use Rattle.vnode_machine.proofs.Sights.{same_pairs-same, Each, known_at}
 use Rattle.vnode_machine.proofs.Steps.{IsKnown, last_of, known}
 use Rattle.vnode_machine.proofs.Mirrors.{held-same}

@@ -16,8 +16,7 @@ use Rattle.vnode_machine.specs.Machine.{Stored}
 use Rattle.vnode_machine.specs.Lives.{is_alive, latest_dot}
 use Rattle.vnode_machine.proofs.Pairwise.{Pairwise, Pairwise-map}
 use Rattle.vnode_machine.proofs.Numbers.{count_of-more}
-use Rattle.vnode_machine.specs.Sound.{actor_of}
-use Rattle.vnode_machine.proofs.Invariants.{H, Entry, clock_in, IsLiveOf, AreLiveOf, live-more, IsKept, IsSplit, HasGrown, IsEarlier}
+use Rattle.vnode_machine.proofs.Invariants.{H, Entry, clock_in, IsLiveOf, AreLiveOf, live-more, IsKept, IsSplit, HasGrown, IsEarlier, actor_of}
 use Rattle.vnode_machine.proofs.Counters.{are_low-more}
 
 module _ (v l : ℕ) (last last' : ℕ) (le : last ≤ last') (event : Event Content Context) (history : H) (key : Key) where

@@ -87,8 +87,8 @@ form-within own value clock seen rising form =
     let all : List Dot = union clock.known (unwrap_or seen []) in
     let counter = ap (λ ps. counter_in ps own) (known_with-pairs seen clock.known rising) in
     let few = actors_after-pairs seen clock.known own rising in
-    let last = counter-most (known_after own all) own form.pairs.within in
+    let last = counter-most (known_after own all) own form.clock.pairs.within in
     record {
-      few = omega (arith, few, form.most);
+      few = omega (arith, few, form.clock.most);
       counter = omega (arith, counter, last, counter_in-next own all);
     }

@@ -1,6 +1,6 @@
 -- What an accepted event saw is what its pairs cover.
 use Rattle.std.proofs.Common.{◌≡◌, ℕ, ◌≤◌, Bool, true, false, not, ◌&&◌, ◌||◌, cond, List, [], ◌∷◌, refl, sym, ◌∙◌, ap, arith, subst}
-use Rattle.std.specs.Prelude.{option_and_then, nat_eq, nat_le, nat_lt, max, filter, Option, Some, None, IsTrue, ◌==◌}
+use Rattle.std.specs.Prelude.{option_and_then, nat_eq, nat_le, nat_lt, max, filter, Option, Some, None, IsTrue, unwrap_or, ◌==◌}
 use Rattle.std.specs.Option.{option_map_or}
 use Rattle.std.specs.List.{list_any}
 use Rattle.std.proofs.lemmas.Bool.Decides.{nat_tests}
@@ -14,16 +14,15 @@ use Rattle.actor_epoch.specs.declared.Actor.{Actor}
 use Rattle.actor_epoch.specs.declared.Dot.{Dot}
 use Rattle.actor_epoch.specs.Dots.{actor_eq, dot_eq, covers, counter_in}
 use Rattle.actor_epoch.specs.Given.{Context, Pairs}
-use Rattle.vnode_machine.specs.Machine.{Stored, State, clock_of, stored, same_pairs, names_unissued_dot}
+use Rattle.vnode_machine.specs.Machine.{Stored, State, clock_of, own_of, next_actor, actor_for, stored, same_pairs, names_unissued_dot}
 use Rattle.vnode_machine.specs.Lives.{dot_of}
 use Rattle.vnode_machine.specs.Replay.{replay, naming, seen_by_context}
 use Rattle.vnode_machine.proofs.Pairwise.{Pairwise, Pairwise-map, Pairwise-both}
 use Rattle.vnode_machine.proofs.Numbers.{is_among-filter}
-use Rattle.vnode_machine.specs.Sound.{actor_of}
-use Rattle.vnode_machine.proofs.Invariants.{H, Entry, clock_in, IsLiveOf, IsKept, IsSplit, IsEarlier}
+use Rattle.vnode_machine.proofs.Invariants.{H, Entry, clock_in, IsLiveOf, IsKept, IsSplit, IsEarlier, actor_of}
 use Rattle.vnode_machine.proofs.Bases.{IsBehind, IsOwned}
 use Rattle.vnode_machine.proofs.Updates.{IsSeen}
-use Rattle.vnode_machine.proofs.Counters.{actor_eq-same, covers-counter, is_low, are_low}
+use Rattle.vnode_machine.proofs.Counters.{actor_eq-same, covers-counter, counter_in-low, is_low, are_low}
 use Rattle.vnode_machine.proofs.Tests.{and_both, and_left, and_right, or_left, or_right, nat_eq-same}
 
 -- pairs that don't run ahead name no later epoch
@@ -48,20 +47,49 @@ pub owned-kept : (v l last : ℕ) (history : H) (key : Key) (o : Option (Stored 
 owned-kept v l last history key None h = tt
 owned-kept v l last history key (Some s) h = h.owned
 
-behind-ahead : (early : Dot → Bool) (o : Option (Stored Content)) (pairs : List Dot) → IsOwned o → list_any (λ pair. early pair || ahead_of o pair) pairs ≡ false → IsBehind pairs o
-behind-ahead early None pairs owned h = tt
-behind-ahead early (Some s) [] owned h = omega arith
-behind-ahead early (Some s) (pair ∷ pairs) owned h =
-    by (actor_eq pair.actor (actor_of s)) pair.counter (counter_in pairs (actor_of s)) (counter_in s.clock.known (actor_of s))
-    (sym (ahead-owned s owned pair) ∙ or_right (early pair) (ahead_of (Some s) pair) (or_left (early pair || ahead_of (Some s) pair) (list_any (λ p. early p || ahead_of (Some s) p) pairs) h))
-    (behind-ahead early (Some s) pairs owned (or_right (early pair || ahead_of (Some s) pair) (list_any (λ p. early p || ahead_of (Some s) p) pairs) h))
+-- a pair that names a later epoch
+abbrev names_later : State Content → Dot → Bool
+names_later state pair = (pair.actor.vnode == state.vnode) && nat_lt state.last_epoch pair.actor.epoch
+
+-- a pair with a later counter of this actor than is known
+abbrev later_than : List Dot → Actor → Dot → Bool
+later_than known own pair = actor_eq pair.actor own && nat_lt (counter_in known own) pair.counter
+
+behind-ahead : (early : Dot → Bool) (known : List Dot) (own : Actor) (pairs : List Dot) → list_any (λ pair. early pair || later_than known own pair) pairs ≡ false
+    → counter_in pairs own ≤ counter_in known own
+behind-ahead early known own [] h = omega arith
+behind-ahead early known own (pair ∷ pairs) h =
+    by (actor_eq pair.actor own) pair.counter (counter_in pairs own) (counter_in known own)
+    (or_right (early pair) (later_than known own pair) (or_left (early pair || later_than known own pair) (list_any (λ p. early p || later_than known own p) pairs) h))
+    (behind-ahead early known own pairs (or_right (early pair || later_than known own pair) (list_any (λ p. early p || later_than known own p) pairs) h))
   where
     by : (b : Bool) (n rest top : ℕ) → (b && nat_lt top n) ≡ false → rest ≤ top → cond b (max n rest) rest ≤ top
     by true n rest top h k = grind (arith, nat_tests)
     by false n rest top h k = k
 
 pub behind-of : (state : State Content) (key : Key) (pairs : List Dot) → IsOwned (stored state key) → list_any (names_unissued_dot state key) pairs ≡ false → IsBehind pairs (stored state key)
-behind-of state key pairs owned h = behind-ahead (λ pair. (pair.actor.vnode == state.vnode) && nat_lt state.last_epoch pair.actor.epoch) (stored state key) pairs owned h
+behind-of state key pairs owned h = by (stored state key) owned h
+  where
+    by : (o : Option (Stored Content)) → IsOwned o → list_any (λ pair. names_later state pair || ahead_of o pair) pairs ≡ false → IsBehind pairs o
+    by None owned h = tt
+    by (Some s) owned h = behind-ahead (names_later state) s.clock.known (actor_of s) pairs
+        (sym (ap (λ o. list_any (λ pair. names_later state pair || option_map_or (λ own. later_than s.clock.known own pair) o false) pairs) owned) ∙ h)
+
+-- nor a later counter than is known of the actor at which a write would happen, in a life or not
+pub behind-next : (state : State Content) (key : Key) (pairs : List Dot) → list_any (names_unissued_dot state key) pairs ≡ false
+    → counter_in pairs (actor_for state key) ≤ counter_in (clock_of state key).known (actor_for state key)
+behind-next state key pairs h = by (own_of state key) h
+  where
+    known : List Dot
+    known = (clock_of state key).known
+
+    by : (own : Option Actor)
+        → list_any (λ pair. names_later state pair || option_map_or (λ own. later_than known own pair) own false) pairs ≡ false
+        → counter_in pairs (unwrap_or own (next_actor state)) ≤ counter_in known (unwrap_or own (next_actor state))
+    by None k =
+        let zero = counter_in-low state.vnode state.last_epoch pairs (next_actor state) (low-ahead state.vnode state key pairs refl h) refl (omega arith) in
+        omega (arith, zero)
+    by (Some own) k = behind-ahead (names_later state) known own pairs k
 
 -- the same pairs are equal
 pub same_pairs-same : (a b : List Dot) → same_pairs a b ≡ true → a ≡ b

@@ -11,3 +11,4 @@ pub mod Runs
 pub mod Laws
 pub mod Leaving
 pub mod Sound
+pub mod Copying

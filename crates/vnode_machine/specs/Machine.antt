@@ -115,9 +115,9 @@ module _ {V : Type 0} where
   abbrev pub is_out_of_epochs : State V → Key → Bool
   is_out_of_epochs state key = not (is_some (own_of state key)) && (state.last_epoch == max_epoch)
 
+  -- of a key without an actor the next one has no counter, but where a copy brought a forged clock that knows it
   abbrev pub is_out_of_counters : State V → Key → Bool
-  is_out_of_counters state key =
-      option_map_or (λ own. counter_in (clock_of state key).known own == max_counter) (own_of state key) false
+  is_out_of_counters state key = counter_in (clock_of state key).known (actor_for state key) == max_counter
 
   -- whether the given context's entries are the stored clock's
   abbrev pub matches_clock : State V → Key → Option Context → Bool

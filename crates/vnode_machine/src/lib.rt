@@ -6,6 +6,8 @@
 //! `del_check`; what it shows is `get_reply` and `put_reply` (`specs/Replies`). What comes of an ask in a state is one
 //! function, `outcome` (`specs/Step`): refused, answered with nothing changed, or accepted, with the next state. The
 //! replay of a list of events is the machine's state after them (`specs/Replay`, `replay`, `HasReplay`).
+//! What a copy from another vnode and a close change is `specs/Copying`; a key that came by copies alone has a clock and no
+//! actor here. Commands, copies and closes keep a state sound (`IsSound` in `specs/Sound`, `proofs/Formed`, `proofs/Copying`).
 //!
 //! So a vnode keeps one compact clock a key and forgets it at a reap, and yet behaves as `sibling_register` does, which
 //! keeps every event for good and compares sets of numbers: that is `machine_is_register`, at each history that may have

@@ -25,8 +25,9 @@ use Rattle.vnode_protocol.specs.declared.ask.Ask.{Ask}
 use Rattle.vnode_protocol.specs.declared.ask.Ask.TheVariants as asks
 use Rattle.vnode_protocol.specs.declared.event.Event.{Event}
 use Rattle.vnode_protocol.specs.declared.event.Event.TheVariants.{Reap}
-use Rattle.vnode_protocol.specs.Plans.{View, IsAccepted, Plans, ask_outcome}
-use Rattle.vnode_protocol.specs.Events.{no_key, event_command, event_deed, event_response, Makes, Asks, event_of, IsLoggable, register_event, GoesOnTo, RunIsLegal, GateHistoryIsLegal}
+use Rattle.vnode_protocol.specs.Plans.{View, IsAccepted, AcceptsOpen, Accepts, Plans}
+use Rattle.vnode_protocol.specs.declared.entry.Entry.TheVariants.{Command as Commanded}
+use Rattle.vnode_protocol.specs.Events.{no_key, event_command, event_deed, event_response, all_commands, MakesOpen, Makes, Asks, entry_of, IsLoggable, register_event, GoesOnTo, RunIsLegal, GateHistoryIsLegal}
 
 -- no check refuses what is accepted
 unrefused : (check : Option ℕ) (operation : Operation Content) (response : Response) (next : State Content) → IsAccepted (unless_refused check (Accepted operation response next))
@@ -45,7 +46,7 @@ reaps-dead : (dead : Bool) (next : State Content) → IsAccepted (cond dead (Acc
 reaps-dead true next h = refl
 reaps-dead false next h = absurd h
 
-reap-makes : (state : State Content) (key : Key) → IsAccepted (outcome state (AskReap key)) → (next : State Content) × Makes state (Reap key) next
+reap-makes : (state : State Content) (key : Key) → IsAccepted (outcome state (AskReap key)) → (next : State Content) × MakesOpen state (Commanded (Reap key)) next
 reap-makes state key h = (_, reaps-dead (holds_dead state key) _ h)
 
 -- what a reap of the first dead key comes to, where this one was found
@@ -53,7 +54,7 @@ abbrev first_outcome : State Content → Option Key → StepOutcome
 first_outcome state found = option_map_or (λ key. outcome state (AskReap key)) found (Answered ReapKept)
 
 first-makes : (state : State Content) (found : Option Key) → IsAccepted (first_outcome state found)
-    → (next : State Content) × (first_outcome state found ≡ Accepted ReapDeed ReapDone next) × Makes state (Reap (unwrap_or found no_key)) next
+    → (next : State Content) × (first_outcome state found ≡ Accepted ReapDeed ReapDone next) × MakesOpen state (Commanded (Reap (unwrap_or found no_key))) next
 first-makes state None h = absurd h
 first-makes state (Some key) h = let made = reap-makes state key h in (made.0, made.1, made.1)
 
@@ -62,8 +63,8 @@ first-asked : (state : State Content) (from found : Option Key) → first_dead s
 first-asked state from None q h = absurd h
 first-asked state from (Some key) q h = and_left _ _ (first_is_dead state from key q)
 
--- what the machine accepts of an ask is an event
-pub accepted-makes : (state : State Content) (ask : Ask) → IsAccepted (ask_outcome state ask) → (next : State Content) × Makes state (event_of state ask) next
+-- what an open vnode takes is an entry
+accepted-makes : (state : State Content) (ask : Ask) → AcceptsOpen state ask → (next : State Content) × MakesOpen state (entry_of state ask) next
 accepted-makes state (asks.Put put) h = (_, unrefused (put_check state (put_command put)) _ _ _ h)
 accepted-makes state (asks.Del del) h =
     let command = del_command del in
@@ -71,34 +72,39 @@ accepted-makes state (asks.Del del) h =
     (_, step.0 ∙ unrefused (del_check state command) _ _ _ step.1)
 accepted-makes state (asks.Reap key) h = reap-makes state key h
 accepted-makes state (asks.ReapFirst from) h = let made = first-makes state (first_dead state from) h in (made.0, made.2)
+accepted-makes state (asks.Copy copy) h = (_, (h.0, h.1, refl))
+accepted-makes state (asks.Close number) h = (_, refl)
 
--- an event is of the ask that it is made for
-asks-own : (state : State Content) (ask : Ask) → IsAccepted (ask_outcome state ask) → Asks (event_of state ask) ask
+-- an entry is of the ask that it is made for
+asks-own : (state : State Content) (ask : Ask) → AcceptsOpen state ask → Asks (entry_of state ask) ask
 asks-own state (asks.Put put) h = refl
 asks-own state (asks.Del del) h = refl
 asks-own state (asks.Reap key) h = refl
 asks-own state (asks.ReapFirst from) h = first-asked state from (first_dead state from) refl h
+asks-own state (asks.Copy copy) h = refl
+asks-own state (asks.Close number) h = refl
 
-prepared-loggable : (vnode : View) (ask : Ask) → vnode.prepared ≡ Some ask → IsAccepted (ask_outcome vnode.state ask) → IsLoggable vnode ask vnode × Asks (event_of vnode.state ask) ask
-prepared-loggable vnode ask prepared accepted =
+prepared-loggable : (vnode : View) (ask : Ask) → vnode.prepared ≡ Some ask → Accepts vnode.state ask
+    → IsLoggable vnode ask vnode × Asks (entry_of vnode.state ask) ask
+prepared-loggable vnode ask prepared (opened, accepted) =
     let makes = accepted-makes vnode.state ask accepted in
-    (record { prepared = prepared; same = refl; next = makes.0; makes = makes.1 }, asks-own vnode.state ask accepted)
+    (record { prepared = prepared; same = refl; next = makes.0; makes = (opened, makes.1) }, asks-own vnode.state ask accepted)
 
--- what is prepared makes an event, by the change and the vnode that it was prepared from
+-- what is prepared makes an entry, by the change and the vnode that it was prepared from
 pub loggable : (vnode : View) (ask change logged : Ask) (before : View) → Plans vnode ask (Change change) → logged ≡ change → before ≡ vnode
-    → IsLoggable vnode logged before × Asks (event_of before.state logged) ask
+    → IsLoggable vnode logged before × Asks (entry_of before.state logged) ask
 loggable vnode ask change logged before is e b =
     let same = sym (e ∙ is.is) in
-    subst (λ (pair : Ask × View). IsLoggable vnode pair.0 pair.1 × Asks (event_of pair.1.state pair.0) ask) (λ i. (same i, sym b i))
+    subst (λ (pair : Ask × View). IsLoggable vnode pair.0 pair.1 × Asks (entry_of pair.1.state pair.0) ask) (λ i. (same i, sym b i))
     (prepared-loggable vnode ask is.prepared is.accepted)
 
 module _ (v l : ℕ) (limits : IsWithinLimits v l) where
-  makes-next : (history : History) (state next : State Content) (event : Event) → IsAfter v l history state → Makes state event next
+  makes-next : (history : History) (state next : State Content) (event : Event) → IsAfter v l history state → Makes state (Commanded event) next
       → IsNext v l history (event_command event) (event_deed event) (event_response event) next
   makes-next history state next event after makes =
-      subst (IsRegisters v l history (event_command event)) makes (registers-after v l limits history state (event_command event) after)
+      subst (IsRegisters v l history (event_command event)) makes.1 (registers-after v l limits history state (event_command event) after)
 
-  goes-on : (events : List Event) (history : History) (s t : State Content) → IsAfter v l history s → IsLegal (naming v l) history → MachineRun Makes s events t
+  goes-on : (events : List Event) (history : History) (s t : State Content) → IsAfter v l history s → IsLegal (naming v l) history → MachineRun Makes s (all_commands events) t
       → GoesOnTo v l history events t
   goes-on [] history s t after legal run = record { answered = tt; after = subst (IsAfter v l history) run after; legal = legal }
   goes-on (event ∷ events) history s t after legal (mid, makes, run) =
@@ -112,5 +118,5 @@ run-is-legal v l events state limits run =
 
 pub gate-history-is-legal : (vnode last_epoch : ℕ) (gate : GateId View) (events : List Event) (state : View) → GateHistoryIsLegal vnode last_epoch gate events state
 gate-history-is-legal v l gate events state limits made replay =
-    run-is-legal v l events state.state limits (subst (λ s. MachineRun Makes s events state.state) made.new
-    (subst (λ opened. RunFrom (λ (view : View). view.state) Makes opened events state.state) made.made replay))
+    run-is-legal v l events state.state limits (subst (λ s. MachineRun Makes s (all_commands events) state.state) made.new
+    (subst (λ opened. RunFrom (λ (view : View). view.state) Makes opened (all_commands events) state.state) made.made replay))

@@ -1,3 +1,4 @@
+pub mod Entries
 pub mod Events
 pub mod Sound
 pub mod Registers

@@ -1,6 +1,6 @@
 -- What the register may do where a command is refused.
 use Rattle.std.proofs.Common.{◌≡◌, ℕ, Bool, true, false, List, refl, inr}
-use Rattle.std.specs.Prelude.{MatchBool}
+use Rattle.std.specs.Prelude.{MatchBool, Result, Err}
 use Rattle.riak_msgs.specs.Contents.{Content}
 use Rattle.riak_msgs.specs.declared.PutAsk.{PutAsk}
 use Rattle.riak_msgs.specs.declared.DelAsk.{DelAsk}
@@ -16,12 +16,12 @@ use Rattle.vnode_machine.specs.Sound.{IsSound}
 use Rattle.vnode_machine.specs.Registers.{IsRegisters, next_event}
 use Rattle.vnode_machine.specs.Step.{StepOutcome, Refused, Answered, Accepted, outcome}
 use Rattle.vnode_protocol.specs.declared.ask.Ask.{Ask}
-use Rattle.vnode_protocol.specs.declared.ask.Ask.TheVariants.{Put, Del, Reap, ReapFirst}
+use Rattle.vnode_protocol.specs.declared.ask.Ask.TheVariants.{Put, Del, Reap, ReapFirst, Copy, Close}
 use Rattle.vnode_protocol.specs.declared.refusal.Refusal.{Refusal}
 use Rattle.vnode_protocol.specs.declared.refusal.Refusal.TheVariants.{NoMemory}
-use Rattle.vnode_protocol.specs.Plans.{IsAccepted, Refuses, RegistersAsk}
+use Rattle.vnode_protocol.specs.Plans.{IsAccepted, Refuses, RegistersPlan}
 use Rattle.vnode_protocol.specs.Refusals.{number_of}
-use Rattle.vnode_protocol.proofs.Sound.{registers, registers-ask}
+use Rattle.vnode_protocol.proofs.Sound.{registers}
 
 -- where it accepts a put, the register may refuse memory
 no-memory : (vnode last_epoch : ℕ) (history : History) (put : PutAsk) (result : StepOutcome) → IsAccepted result → IsRegisters vnode last_epoch history (AskPut (put_command put)) result
@@ -46,12 +46,14 @@ no-memory-del vnode last_epoch history del (Accepted operation response next) h 
     by true event told h = cc
     by false event told g = (g.0, g.1, inr (rw g.2.0 refl))
 
-pub registers-refused : (state : State Content) → IsSound state → (ask : Ask) (refusal : Refusal) → Refuses state ask refusal → RegistersAsk state ask (Refused (number_of refusal))
-registers-refused state is (Put put) NoMemory h = λ vnode last_epoch history after.
+pub registers-refused : (X : Type 0) (state : State Content) → IsSound state → (ask : Ask) (refusal : Refusal) → Refuses state ask refusal → RegistersPlan {X = X} state ask (Err refusal)
+registers-refused X state is (Put put) NoMemory (opened, h) = λ vnode last_epoch history after.
     no-memory vnode last_epoch history put (outcome state (AskPut (put_command put))) h (registers state is (AskPut (put_command put)) _ refl vnode last_epoch history after)
-registers-refused state is (Del del) NoMemory h = λ vnode last_epoch history after.
+registers-refused X state is (Del del) NoMemory (opened, h) = λ vnode last_epoch history after.
     no-memory-del vnode last_epoch history del (outcome state (AskDel (del_command del))) h (registers state is (AskDel (del_command del)) _ refl vnode last_epoch history after)
-registers-refused state is (Put put) refusal h = registers-ask state is (Put put) _ h
-registers-refused state is (Del del) refusal h = registers-ask state is (Del del) _ h
-registers-refused state is (Reap key) refusal h = absurd h
-registers-refused state is (ReapFirst from) refusal h = absurd h
+registers-refused X state is (Put put) refusal (opened, h) = registers state is (AskPut (put_command put)) _ h
+registers-refused X state is (Del del) refusal (opened, h) = registers state is (AskDel (del_command del)) _ h
+registers-refused X state is (Reap key) refusal (opened, h) = absurd h
+registers-refused X state is (ReapFirst from) refusal (opened, h) = absurd h
+registers-refused X state is (Copy copy) refusal h = tt
+registers-refused X state is (Close number) refusal h = tt

@@ -1,4 +1,5 @@
 pub mod Events
+pub mod KeyCopies
 pub mod Plans
 pub mod Reaping
 pub mod Refusals

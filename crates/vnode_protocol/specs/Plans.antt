@@ -1,23 +1,25 @@
 -- What callers see of a vnode, and what its calls say by the machine's step.
-use Rattle.std.specs.Prelude.{◌≡◌, ℕ, Option, Some, None, Result, Ok, Err}
+use Rattle.std.specs.Prelude.{◌≡◌, ◌⊎◌, not, ℕ, Option, Some, None, IsSome, IsTrue, Result, Ok, Err}
 use Rattle.std.specs.Option.{option_map_or}
 use Rattle.riak_msgs.specs.declared.Key.{Key}
 use Rattle.riak_msgs.specs.Contents.{Content}
+use Rattle.riak_msgs.specs.declared.PutReply.{PutReply}
 use Rattle.sibling_register.specs.History.{Operation, Write, Tombstone, Reap as Forget}
 use Rattle.sibling_register.specs.Answers.{Ask as Command, AskPut, AskDel, AskReap}
 use Rattle.actor_epoch.specs.Given.{Context}
 use Rattle.vnode_machine.specs.Asks.{put_command, del_command}
+use Rattle.vnode_machine.specs.Copying.{IsClock, is_stuck, apply_copy, apply_close}
 use Rattle.vnode_machine.specs.Dead.{first_dead}
 use Rattle.vnode_machine.specs.Machine.{State}
 use Rattle.vnode_machine.specs.Replay.{AtEachHistory}
 use Rattle.vnode_machine.specs.Step.{Response, PutDone, DelDone, ReapDone, ReapKept, StepOutcome, Refused, Answered, Accepted, outcome}
 use Rattle.vnode_machine.specs.Registers.{IsRegisters}
 use Rattle.vnode_protocol.specs.declared.ask.Ask.{Ask}
-use Rattle.vnode_protocol.specs.declared.ask.Ask.TheVariants.{Put, Del, Reap, ReapFirst}
+use Rattle.vnode_protocol.specs.declared.ask.Ask.TheVariants.{Put, Del, Reap, ReapFirst, Copy, Close}
 use Rattle.vnode_protocol.specs.declared.ask.Answer.{Answer}
 use Rattle.vnode_protocol.specs.declared.ask.Answer.TheVariants as answers
 use Rattle.clock_store.specs.declared.store.Reaped.{Reaped}
-use Rattle.clock_store.specs.declared.store.Reaped.TheVariants.{Gone, Kept, Absent}
+use Rattle.clock_store.specs.declared.store.Reaped.TheVariants.{Gone, Absent}
 use Rattle.rw_gate.specs.declared.kept.Plan.{Plan}
 use Rattle.rw_gate.specs.declared.kept.Plan.TheVariants.{Change, Nothing}
 use Rattle.vnode_protocol.specs.declared.refusal.Refusal.{Refusal}
@@ -30,96 +32,129 @@ pub record View : Type 0 where
   pub state : State Content
   pub prepared : Option Ask
 
--- what a command comes to at the machine
-abbrev pub ask_outcome : State Content → Ask → StepOutcome
-ask_outcome state (Put put) = outcome state (AskPut (put_command put))
-ask_outcome state (Del del) = outcome state (AskDel (del_command del))
-ask_outcome state (Reap key) = outcome state (AskReap key)
-ask_outcome state (ReapFirst from) = option_map_or (λ key. outcome state (AskReap key)) (first_dead state from) (Answered ReapKept)
+-- what a reap of the least dead key at or after one comes to at the machine
+abbrev pub first_reap : State Content → Option Key → StepOutcome
+first_reap state from = option_map_or (λ key. outcome state (AskReap key)) (first_dead state from) (Answered ReapKept)
 
--- what it does where it is accepted
-abbrev pub operation_of : Ask → Operation Content
-operation_of (Put put) = Write put.content
-operation_of (Del del) = Tombstone
-operation_of (Reap key) = Forget
-operation_of (ReapFirst from) = Forget
-
--- a command that writes
+-- a write of a client
 abbrev pub IsWrite : Ask → Type 0
 IsWrite (Put put) = Unit {0}
 IsWrite (Del del) = Unit {0}
 IsWrite (Reap key) = ⊥
 IsWrite (ReapFirst from) = ⊥
-
--- the machine's response
-abbrev pub reap_response : Reaped → Response
-reap_response Gone = ReapDone
-reap_response Kept = ReapKept
-reap_response Absent = ReapKept
-
-abbrev pub response_of : Answer → Response
-response_of (answers.Put reply) = PutDone reply
-response_of answers.Del = DelDone
-response_of (answers.Reaped reaped) = reap_response reaped
+IsWrite (Copy copy) = ⊥
+IsWrite (Close number) = ⊥
 
 abbrev pub IsAccepted : StepOutcome → Type 0
 IsAccepted (Refused number) = ⊥
 IsAccepted (Answered response) = ⊥
 IsAccepted (Accepted operation response next) = Unit {0}
 
--- the change is the command, it is what is prepared, and the machine accepts it
+-- a vnode that isn't closed takes the ask: the machine accepts the command; a copy isn't stuck
+abbrev pub AcceptsOpen : State Content → Ask → Type 0
+AcceptsOpen state (Put put) = IsAccepted (outcome state (AskPut (put_command put)))
+AcceptsOpen state (Del del) = IsAccepted (outcome state (AskDel (del_command del)))
+AcceptsOpen state (Reap key) = IsAccepted (outcome state (AskReap key))
+AcceptsOpen state (ReapFirst from) = IsAccepted (first_reap state from)
+AcceptsOpen state (Copy copy) = IsClock copy.clock × IsTrue (not (is_stuck state copy.key copy.clock))
+AcceptsOpen state (Close number) = Unit {0}
+
+-- a closed one takes none
+abbrev pub Accepts : State Content → Ask → Type 0
+Accepts state ask = (state.closed ≡ None) × AcceptsOpen state ask
+
+-- the change is the command, it is what is prepared, and the vnode takes it
 pub record IsPrepared (vnode : View) (ask : Ask) (change : Ask) : Type 0 where
   pub is : change ≡ ask
   pub prepared : vnode.prepared ≡ Some ask
-  pub accepted : IsAccepted (ask_outcome vnode.state ask)
+  pub accepted : Accepts vnode.state ask
 
--- what is prepared the machine accepts
+-- what is prepared the vnode takes
 abbrev pub AcceptsPrepared : View → Type 0
-AcceptsPrepared vnode = (ask : Ask) → vnode.prepared ≡ Some ask → IsAccepted (ask_outcome vnode.state ask)
+AcceptsPrepared vnode = (ask : Ask) → vnode.prepared ≡ Some ask → Accepts vnode.state ask
 
--- to a reap of a key that isn't dead whether it has a value, to one of the first dead key that there is none
-abbrev pub IsReapAnswer : State Content → Ask → Answer → Type 0
-IsReapAnswer state (Put put) answer = Unit {0}
-IsReapAnswer state (Del del) answer = Unit {0}
-IsReapAnswer state (Reap key) answer = answer ≡ answers.Reaped (reap_result state key)
-IsReapAnswer state (ReapFirst from) answer = answer ≡ answers.Reaped Absent
+-- what a vnode that isn't closed answers where nothing changes: to a delete without context that there was nothing to delete, to a
+-- reap of a key that isn't dead whether it has a value, to one of the least dead key that there is none, to a copy that it is stuck
+abbrev pub AnswersOpen : State Content → Ask → Answer → Type 0
+AnswersOpen state (Put put) answer = ⊥
+AnswersOpen state (Del del) answer = (answer ≡ answers.Del) × (outcome state (AskDel (del_command del)) ≡ Answered DelDone)
+AnswersOpen state (Reap key) answer = (answer ≡ answers.Reaped (reap_result state key)) × (outcome state (AskReap key) ≡ Answered ReapKept)
+AnswersOpen state (ReapFirst from) answer = (answer ≡ answers.Reaped Absent) × (first_dead state from ≡ None)
+AnswersOpen state (Copy copy) answer = (answer ≡ answers.Stuck) × IsTrue (is_stuck state copy.key copy.clock)
+AnswersOpen state (Close number) answer = ⊥
+
+-- a closed one says so to each ask
+abbrev pub IsAnswered : State Content → Ask → Answer → Type 0
+IsAnswered state ask answer = ((state.closed ≡ None) × AnswersOpen state ask answer) ⊎ (IsSome state.closed × (answer ≡ answers.Closed))
 
 -- nothing changes, and nothing is prepared
 pub record IsDone (vnode : View) (ask : Ask) (answer : Answer) : Type 0 where
   pub prepared : vnode.prepared ≡ None
-  pub answered : ask_outcome vnode.state ask ≡ Answered (response_of answer)
-  pub exact : IsReapAnswer vnode.state ask answer
+  pub answered : IsAnswered vnode.state ask answer
 
 abbrev pub Plans : View → Ask → Plan Ask Answer → Type 0
 Plans vnode ask (Change change) = IsPrepared vnode ask change
 Plans vnode ask (Nothing answer) = IsDone vnode ask answer
 
--- the refusal is the machine's; memory is refused only where it accepts; a reap is never refused
-abbrev pub Refuses : State Content → Ask → Refusal → Type 0
-Refuses state (Reap key) refusal = ⊥
-Refuses state (ReapFirst from) refusal = ⊥
-Refuses state ask NoMemory = IsAccepted (ask_outcome state ask)
-Refuses state ask refusal = ask_outcome state ask ≡ Refused (number_of refusal)
+-- the refusal is the machine's; memory is refused only where it accepts; a reap and a close are never refused
+abbrev pub RefusesOpen : State Content → Ask → Refusal → Type 0
+RefusesOpen state (Reap key) refusal = ⊥
+RefusesOpen state (ReapFirst from) refusal = ⊥
+RefusesOpen state (Close number) refusal = ⊥
+RefusesOpen state (Copy copy) refusal = (refusal ≡ NoMemory) × AcceptsOpen state (Copy copy)
+RefusesOpen state (Put put) NoMemory = AcceptsOpen state (Put put)
+RefusesOpen state (Put put) refusal = outcome state (AskPut (put_command put)) ≡ Refused (number_of refusal)
+RefusesOpen state (Del del) NoMemory = AcceptsOpen state (Del del)
+RefusesOpen state (Del del) refusal = outcome state (AskDel (del_command del)) ≡ Refused (number_of refusal)
 
--- finishing a change makes the machine's step
+-- a closed vnode refuses nothing
+abbrev pub Refuses : State Content → Ask → Refusal → Type 0
+Refuses state ask refusal = (state.closed ≡ None) × RefusesOpen state ask refusal
+
+-- finishing a change makes the machine's step: this is its answer, and the state after it
+abbrev pub StepsOpen : State Content → Ask → Answer → State Content → Type 0
+StepsOpen old (Put put) answer new =
+    (reply : PutReply) × (answer ≡ answers.Put reply) × (outcome old (AskPut (put_command put)) ≡ Accepted (Write put.content) (PutDone reply) new)
+StepsOpen old (Del del) answer new = (answer ≡ answers.Del) × (outcome old (AskDel (del_command del)) ≡ Accepted Tombstone DelDone new)
+StepsOpen old (Reap key) answer new = (answer ≡ answers.Reaped Gone) × (outcome old (AskReap key) ≡ Accepted Forget ReapDone new)
+StepsOpen old (ReapFirst from) answer new = (answer ≡ answers.Reaped Gone) × (first_reap old from ≡ Accepted Forget ReapDone new)
+StepsOpen old (Copy copy) answer new =
+    (answer ≡ answers.Copied) × AcceptsOpen old (Copy copy) × (new ≡ apply_copy old copy.key copy.clock)
+StepsOpen old (Close number) answer new = (answer ≡ answers.Closed) × (new ≡ apply_close old number)
+
 abbrev pub Steps : State Content → Ask → Answer → State Content → Type 0
-Steps old change answer new = ask_outcome old change ≡ Accepted (operation_of change) (response_of answer) new
+Steps old change answer new = (old.closed ≡ None) × StepsOpen old change answer new
+
+-- what a command comes to where it is planned, or refused
+abbrev pub planned : {X : Type 0} → StepOutcome → Result X Refusal → StepOutcome
+planned result (Ok plan) = result
+planned result (Err refusal) = Refused (number_of refusal)
 
 -- the register may do so with its command, at each history that the vnode may have had
 abbrev pub Registers : State Content → Command Content Context → StepOutcome → Type 0
 Registers state command result = AtEachHistory state (λ vnode last_epoch history. IsRegisters vnode last_epoch history command result)
 
--- the register may do so with what a vnode is asked
-abbrev pub RegistersAsk : State Content → Ask → StepOutcome → Type 0
-RegistersAsk state (Put put) result = Registers state (AskPut (put_command put)) result
-RegistersAsk state (Del del) result = Registers state (AskDel (del_command del)) result
-RegistersAsk state (Reap key) result = Registers state (AskReap key) result
-RegistersAsk state (ReapFirst from) result = (key : Key) → first_dead state from ≡ Some key → Registers state (AskReap key) result
+-- the register may do so with the command that is asked for, and so with each key that the reap of the least dead one may be of. Of a
+-- copy and a close the register says nothing
+abbrev pub RegistersPlan : {X : Type 0} → State Content → Ask → Result X Refusal → Type 0
+RegistersPlan state (Put put) result = Registers state (AskPut (put_command put)) (planned (outcome state (AskPut (put_command put))) result)
+RegistersPlan state (Del del) result = Registers state (AskDel (del_command del)) (planned (outcome state (AskDel (del_command del))) result)
+RegistersPlan state (Reap key) result = Registers state (AskReap key) (planned (outcome state (AskReap key)) result)
+RegistersPlan state (ReapFirst from) result =
+    (key : Key) → first_dead state from ≡ Some key → Registers state (AskReap key) (planned (outcome state (AskReap key)) result)
+RegistersPlan state (Copy copy) result = Unit {0}
+RegistersPlan state (Close number) result = Unit {0}
 
 -- a command that is accepted with this answer, and the state after it
 abbrev pub RegistersStep : State Content → Ask → Answer → State Content → Type 0
-RegistersStep old ask answer new =
-    RegistersAsk old ask (Accepted (operation_of ask) (response_of answer) new)
+RegistersStep old (Put put) answer new =
+    (reply : PutReply) → answer ≡ answers.Put reply → Registers old (AskPut (put_command put)) (Accepted (Write put.content) (PutDone reply) new)
+RegistersStep old (Del del) answer new = Registers old (AskDel (del_command del)) (Accepted Tombstone DelDone new)
+RegistersStep old (Reap key) answer new = Registers old (AskReap key) (Accepted Forget ReapDone new)
+RegistersStep old (ReapFirst from) answer new =
+    (key : Key) → first_dead old from ≡ Some key → Registers old (AskReap key) (Accepted Forget ReapDone new)
+RegistersStep old (Copy copy) answer new = Unit {0}
+RegistersStep old (Close number) answer new = Unit {0}
 
 -- with the reap of a key, by its result and the state after it
 abbrev pub RegistersReap : State Content → Key → Reaped → State Content → Type 0
@@ -128,8 +163,3 @@ RegistersReap old key result new = Registers old (AskReap key) (reap_outcome res
 -- and with that of the least dead key at or after one
 abbrev pub RegistersFirstReap : State Content → Option Key → State Content → Type 0
 RegistersFirstReap old from new = (key : Key) → first_dead old from ≡ Some key → RegistersReap old key Gone new
-
--- what a command comes to where it is planned, or refused
-abbrev pub planned : {X : Type 0} → State Content → Ask → Result X Refusal → StepOutcome
-planned state ask (Ok plan) = ask_outcome state ask
-planned state ask (Err refusal) = Refused (number_of refusal)

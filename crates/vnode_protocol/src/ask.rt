@@ -1,5 +1,6 @@
 //! What a vnode is asked to change, and what it answers.
 
+use crate::key_copy::KeyCopy;
 pub use clock_store::Reaped;
 use riak_msgs::{DelAsk, Key, PutAsk, PutReply};
 pub use rw_gate::Plan;
@@ -15,9 +16,13 @@ pub enum Ask {
     Reap(Key),
     /// Forget the least dead key at or after this one, or of all where none is given.
     ReapFirst(Option<Key>),
+    /// Sync a key's clock with the one that it had at another vnode.
+    Copy(KeyCopy),
+    /// Forget all keys, and take no command any more. The number goes into the close.
+    Close(u64),
 }
 
-/// The answer to an accepted command.
+/// The answer to a command that isn't refused.
 #[derive(Drop)]
 pub enum Answer {
     /// To a put: what it asked to be shown, else nothing.
@@ -26,4 +31,10 @@ pub enum Answer {
     Del,
     /// To a reap.
     Reaped(Reaped),
+    /// To a copy.
+    Copied,
+    /// To a copy after which the key would have more than 64 siblings, or its clock more than 64 actors: nothing changed.
+    Stuck,
+    /// To a close; and to whatever is asked of a vnode that is closed, where nothing changes.
+    Closed,
 }

@@ -1,4 +1,4 @@
-//! What the history of a vnode behind a gate consists of, and the law that it is a history of the register.
+//! The commands in the history of a vnode behind a gate, and the law that they are a history of the register.
 
 ghost use Rattle.std.specs.Prelude.{List, ℕ};
 ghost use Rattle.riak_msgs.specs.Contents.{Content};
@@ -20,10 +20,10 @@ pub enum Event {
     Reap(Key),
 }
 
-/// The history of a gate round a new vnode is a legal history of the sibling register. Each of its events is the
-/// register's next one, with its command's options and its context as given, and was answered as the register answers it
-/// at its place; and the vnode's state is the replay of that history. So it is of each run of the machine from the
-/// opening state of a vnode, and of each history of which a state under a right is the replay.
+/// The history of a gate round a new vnode, where it has commands alone, is a legal history of the sibling register. Each of its events
+/// is the register's next one, with its command's options and its context as given, and was answered as the register answers it at its
+/// place; and the vnode's state is the replay of that history. So it is of each run of commands from the opening state of a vnode, and of
+/// each history of commands of which a state under a right is the replay. Of histories with copies `copy_laws` speaks.
 pub fn histories_are_legal()
     ensures run { (vnode last_epoch : ℕ) (events : List Event) (state : State Content)
         → RunIsLegal vnode last_epoch events state }

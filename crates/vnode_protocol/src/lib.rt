@@ -5,8 +5,9 @@
 //! `vnode_machine`) these are outcomes of the sibling register (`RegistersAsk`). Each [`Refusal`] has its number (`specs/Refusals`)
 //! and its error text.
 //!
-//! An [`Event`] is a command that was accepted, with its answer: an entry of the history of a vnode behind a gate (`rw_gate`).
-//! [`histories_are_legal`] is the law of such a history.
+//! An [`Entry`] is what the history of a vnode behind a gate (`rw_gate`) consists of: an [`Event`], which is a command that was accepted
+//! with its answer, a copy of a key from another vnode, or the close of a vnode, after which it takes nothing more.
+//! [`histories_are_legal`] is the law of a history of commands.
 //!
 //! ```text
 //! Ask::Put(put)              planned as Plan::Change, made with Answer::Put(reply)     Event::Put(put, reply)
@@ -21,9 +22,13 @@
 #![tactic(auto)]
 
 mod ask;
+mod entry;
 mod event;
+mod key_copy;
 mod refusal;
 
 pub use ask::{Answer, Ask, Plan, Reaped};
+pub use entry::Entry;
 pub use event::{Event, histories_are_legal};
+pub use key_copy::KeyCopy;
 pub use refusal::Refusal;

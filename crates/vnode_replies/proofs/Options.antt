@@ -15,7 +15,7 @@ use Rattle.vnode_machine.specs.Asks.{put_command}
 use Rattle.vnode_machine.specs.Machine.{State, Stored, stored, is_bad_context, has_value, matches_clock, own_of, clock_of, put_check, pairs_of, room_checks}
 use Rattle.vnode_protocol.specs.declared.refusal.Refusal.{Refusal}
 use Rattle.vnode_protocol.specs.declared.refusal.Refusal.TheVariants.{NoMemory}
-use Rattle.vnode_replies.specs.Checks.{pairs_in, AreRead, is_ahead, last_dot, has_value_in, is_current_in, options_check, IsRising}
+use Rattle.vnode_replies.specs.Checks.{pairs_in, AreRead, is_ahead, last_dot, has_value_in, is_current_in, options_check}
 use Rattle.vnode_machine.specs.Sound.{IsFormed, IsSound}
 use Rattle.vnode_protocol.specs.Refusals.{RefusedBy}
 use Rattle.vnode_machine.proofs.Invariants.{clock_in}
@@ -24,10 +24,9 @@ pub pairs-given : (seen : Option (List Dot)) → pairs_of (option_map Pairs seen
 pairs-given None = refl
 pairs-given (Some pairs) = refl
 
--- what was found has pairs that strictly rise
-pub rising-found : (state : State Content) → IsSound state → (key : Key) (o : Option (Stored Content)) → o ≡ stored state key → IsRising o
-rising-found state is key None h = tt
-rising-found state is key (Some s) h = (subst IsFormed (sym h) (is.keys key)).pairs.rising
+-- what was found is of the form
+pub formed-found : (state : State Content) → IsSound state → (key : Key) (o : Option (Stored Content)) → o ≡ stored state key → IsFormed o
+formed-found state is key o h = subst IsFormed (sym h) (is.keys key)
 
 -- what one check refuses another does
 refused-map : (check other : Option ℕ) → ((n : ℕ) → check ≡ Some n → other ≡ Some n) → (refusal : Refusal) → RefusedBy refusal check → RefusedBy refusal other

@@ -53,3 +53,13 @@ fn is_ahead(vnode: u64, last_epoch: u32, last: Option<Dot>, pair: Dot) -> bool
         Some(own) => pair.actor == own.actor && own.counter < pair.counter,
     }
 }
+
+/// What was read is of the form, as its pairs say. It does nothing.
+#[inline(always)]
+pub(crate) fn is_read(context: Option<&Context<'_>>)
+    ensures { AreRead (seen_in context.entry) }
+{
+    if let Some(context) = context {
+        let _pairs = context.pairs();
+    }
+}

@@ -1,7 +1,9 @@
 //! Exchanges with a vnode. What is wanted was computed by hand.
 
 pub(crate) mod asking;
+mod closes;
 mod contexts;
+mod copies;
 mod deletes;
 mod forms;
 mod limits;

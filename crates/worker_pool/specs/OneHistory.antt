@@ -5,7 +5,7 @@ use mathlib.Core.List.{IsPrefix}
 use Rattle.job_pool.specs.Lists.{Every, Pairwise}
 use Rattle.rw_gate.specs.Views.{GateId}
 use Rattle.vnode_core.specs.declared.vnode.tally.Tally.{Tally}
-use Rattle.vnode_protocol.specs.declared.event.Event.{Event}
+use Rattle.vnode_protocol.specs.declared.entry.Entry.{Entry}
 use Rattle.vnode_protocol.specs.Plans.{View}
 use Rattle.riak_msgs.specs.declared.Request.{Request}
 use Rattle.riak_msgs.specs.declared.Request.TheVariants as requests
@@ -60,7 +60,7 @@ abbrev pub IsOfGate : ℕ → GateId View → List Sight → Type 0
 IsOfGate index gate passes = IfSome (slice_get passes index) (λ (pass : Sight). pass.gate ≡ gate)
 
 -- what the pass at this index, where there is one, has seen is a beginning of these events
-abbrev pub HasSeen : ℕ → List Event → List Sight → Type 0
+abbrev pub HasSeen : ℕ → List Entry → List Sight → Type 0
 HasSeen index events passes = IfSome (slice_get passes index) (λ (pass : Sight). IsPrefix pass.prefix events)
 
 -- so it is with each of these histories and the pass in its place, where there is one
@@ -80,12 +80,12 @@ module _ {I O : Type 0} where
   abbrev pub AreOfGate : ℕ → GateId View → List (End I O) → Type 0
   AreOfGate index gate ends = Every (λ (end : End I O). IsOfGate index gate end.passes.primaries) ends
 
-  abbrev pub AllHaveSeen : ℕ → List Event → List (End I O) → Type 0
+  abbrev pub AllHaveSeen : ℕ → List Entry → List (End I O) → Type 0
   AllHaveSeen index events ends = Every (λ (end : End I O). HasSeen index events end.passes.primaries) ends
 
   -- the tally is of one history of the vnode behind this gate, and what each of these ends' passes of it has seen is a beginning of that
   pub record SharesHistory (index : ℕ) (gate : GateId View) (ends : List (End I O)) (tally : Tally) : Type 0 where
-    pub events : List Event
+    pub events : List Entry
     pub tallied : IsTally (record { gate = gate; events = events }) tally
     pub seen : AllHaveSeen index events ends
 

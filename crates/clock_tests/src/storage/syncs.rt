@@ -6,23 +6,24 @@ ghost use Rattle.dvv_set.specs.Clocks.{sync};
 ghost use Rattle.clock_store.specs.Keys.{clock_at};
 ghost use Rattle.clock_store.specs.Contents.{HasSyncRoom};
 
-use crate::storage::{A, B, content};
+use crate::storage::content;
+use crate::storage::rows::B;
 use actor_epoch::{Context, MAX_ACTORS};
-use clock_map::ClockMap;
 use clock_store::{ClockStore, WriteKind, place_in};
 use dvv_set::Clock;
 use riak_msgs::{BoxedContent, Key};
 use std::alloc::{AllocError, Global};
 
 /// Whether a key's clock and another one know so few actors together that they can be synced.
-fn is_within(
-    store: &ClockMap,
+fn is_within<S: ClockStore>(
+    store: &S,
     alloc: Global,
     key: &Key,
     other: &Clock<Option<BoxedContent>>,
 ) -> bool
     ensures { result ≡ true
-        → length (sync (clock_at store.now.keys key.now) other.now.meaning).known ≤ max_actors }
+        → length (sync (clock_at (S.shows store.now).keys key.now) other.now.meaning).known
+        ≤ max_actors }
 {
     match store.get(key) {
         Some(stored) => stored.clock.sizes_after(other).actors <= MAX_ACTORS,
@@ -34,23 +35,23 @@ fn is_within(
 }
 
 /// Room for a sync of a key, tried twice where memory is refused.
-fn reserve_sync(
-    store: &mut ClockMap,
+fn reserve_sync<S: ClockStore>(
+    store: &mut S,
     alloc: Global,
     key: &Key,
     other: &Clock<Option<BoxedContent>>,
 ) -> Result<(), AllocError>
-    ensures ok { OnOk result (HasSyncRoom store.new key.now other.now.meaning) }
+    ensures ok { OnOk result (HasSyncRoom (S.shows store.new) key.now other.now.meaning) }
 {
     if !is_within(store, alloc, key, other) {
         return Err(AllocError);
     }
     let place = place_in(store.find(key));
-    if store.reserve_sync(alloc, key, place, A, other).is_ok() {
+    if store.reserve_sync(alloc, key, place, other).is_ok() {
         return Ok(());
     }
     let place = place_in(store.find(key));
-    store.reserve_sync(alloc, key, place, A, other)
+    store.reserve_sync(alloc, key, place, other)
 }
 
 /// Whether a clock takes in what the context of these bytes saw (no bytes: nothing).
@@ -86,15 +87,15 @@ fn has_written(
 }
 
 /// Syncs a key with another clock, in room that is made first.
-fn syncs(
-    store: &mut ClockMap,
+fn syncs<S: ClockStore>(
+    store: &mut S,
     alloc: Global,
     key: Key,
     other: Clock<Option<BoxedContent>>,
 ) -> bool {
     match reserve_sync(store, alloc, &key, &other) {
         Ok(()) => {
-            store.sync(key, A, other);
+            store.sync(key, other);
             true
         }
         Err(_) => false,
@@ -102,8 +103,8 @@ fn syncs(
 }
 
 /// Whether a key takes in another clock: what the context of these bytes saw, and a write at B.
-pub fn takes_in(
-    store: &mut ClockMap,
+pub fn takes_in<S: ClockStore>(
+    store: &mut S,
     alloc: Global,
     key: Key,
     seen: &[u8],

@@ -56,11 +56,8 @@ impl<S: ClockStore> VnodeOver<S> {
         let Some(found) = found else {
             return Ok(None);
         };
-        check_overwrite(found)?;
-        Ok(Some(Writer {
-            actor: found.actor,
-            last_epoch: self.epochs.last(),
-        }))
+        let writer = check_overwrite(self.id, self.epochs.last(), found)?;
+        Ok(Some(writer))
     }
 
     /// Who writes the tombstone of a delete, by what was found of its key; nobody, where it does nothing.
@@ -90,6 +87,7 @@ impl<S: ClockStore> VnodeOver<S> {
     ) -> Result<Readiness, Refusal>
         requires is { ask.now ≡ Del del.now }
         requires ended { self.old.prepared ≡ None }
+        requires opened { self.old.state.closed ≡ None }
         ensures same { self.new.state ≡ self.old.state }
         ensures ok { IfOk result (λ r. Plans self.new (Del del.now) (plan_in r (Del del.now))) }
         ensures err { IfErr result (λ refusal. Refuses self.old.state (Del del.now) refusal) }

@@ -60,6 +60,7 @@ impl<S: ClockStore> VnodeOver<S> {
     pub(crate) fn make_reap_ready(&mut self, ask: &Ask, key: &Key) -> Readiness
         requires is { ask.now ≡ Reap key.now }
         requires ended { self.old.prepared ≡ None }
+        requires opened { self.old.state.closed ≡ None }
         ensures same { self.new.state ≡ self.old.state }
         ensures plans { Plans self.new (Reap key.now) (plan_in result (Reap key.now)) }
     {
@@ -78,6 +79,7 @@ impl<S: ClockStore> VnodeOver<S> {
     pub(crate) fn make_first_reap_ready(&mut self, ask: &Ask, from: Option<&Key>) -> Readiness
         requires is { ask.now ≡ ReapFirst (key_given from) }
         requires ended { self.old.prepared ≡ None }
+        requires opened { self.old.state.closed ≡ None }
         ensures same { self.new.state ≡ self.old.state }
         ensures plans { Plans self.new (ReapFirst (key_given from.entry))
             (plan_in result (ReapFirst (key_given from.entry))) }

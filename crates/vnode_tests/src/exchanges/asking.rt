@@ -3,9 +3,9 @@
 ghost use Rattle.std.specs.Prelude.{◌≡◌, ◌≤◌, Some};
 
 use crate::exchanges::steps::{
-    AskTimes, Command, Counted, Counts, Done, Exchange, Get, GetOptions, GetWith, HasDead, ID,
-    Idle, LetGo, NONE, PLAIN_GET, PLAIN_PUT, PutOptions, Reap, ReapFirst, Refused, Reply, Shows,
-    Sibling, Step, Sweep, Tombstone, Unchanged, Value,
+    AskTimes, Closed, ClosedAt, Closes, Command, Counted, Counts, Done, Exchange, Get, GetOptions,
+    GetWith, HasDead, ID, Idle, LastEpoch, LetGo, NONE, PLAIN_GET, PLAIN_PUT, PutOptions, Reap,
+    ReapFirst, Refused, Reply, Shows, Sibling, Step, Sweep, Tombstone, Unchanged, Value,
 };
 use riak_msgs::{BoxedContent, BucketType, Bytes, DelAsk, GetAsk, GetReply, Key, PutAsk, Shown};
 use std::alloc::{AllocError, Global};
@@ -38,7 +38,7 @@ fn key_in(alloc: Global, place: Place<'_>, name: &[u8]) -> Result<Key, AllocErro
     }
 }
 
-fn key_of(alloc: Global, name: &[u8]) -> Result<Key, AllocError> {
+pub(crate) fn key_of(alloc: Global, name: &[u8]) -> Result<Key, AllocError> {
     key_in(alloc, B, name)
 }
 
@@ -129,6 +129,7 @@ pub(crate) fn ask_in(
         Command::Reap(name) => Ok(Ask::Reap(key_in(alloc, place, name)?)),
         Command::ReapFirst(None) => Ok(Ask::ReapFirst(None)),
         Command::ReapFirst(Some(name)) => Ok(Ask::ReapFirst(Some(key_in(alloc, place, name)?))),
+        Command::Close(number) => Ok(Ask::Close(number)),
     }
 }
 
@@ -186,6 +187,12 @@ fn is_answer(answer: &Answer, is_change: bool, reply: &Reply) -> bool {
             _ => false,
         },
         Answer::Reaped(reaped) => matches!(reply, Reply::Reaped(wanted) if wanted == reaped),
+        Answer::Closed => match reply {
+            Closes => is_change,
+            Closed => !is_change,
+            _ => false,
+        },
+        Answer::Copied | Answer::Stuck => false,
     }
 }
 
@@ -283,6 +290,8 @@ fn take_from(vnode: &mut Vnode, from: Option<&Key>, step: &Step) -> bool {
         },
         ReapFirst(wanted) => vnode.reap_first(from) == *wanted,
         Counted(wanted) => vnode.tally() == *wanted,
+        ClosedAt(wanted) => vnode.closed_at() == *wanted,
+        LastEpoch(wanted) => vnode.last_epoch() == *wanted,
         _ => false,
     }
 }

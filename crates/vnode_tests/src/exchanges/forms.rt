@@ -114,6 +114,7 @@ impl Answers {
             }
             Answer::Del => self.kind = Kind::Del,
             Answer::Reaped(reaped) => self.kind = Kind::Reaped(*reaped),
+            Answer::Copied | Answer::Stuck | Answer::Closed => self.kind = Kind::None,
         }
         Ok(())
     }

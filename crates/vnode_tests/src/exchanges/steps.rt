@@ -135,9 +135,11 @@ pub(crate) enum Command<'a> {
     Reap(&'a [u8]),
     /// The reap of the least dead key at or after one, or of all.
     ReapFirst(Option<&'a [u8]>),
+    /// The close, with its number.
+    Close(u64),
 }
 
-pub(crate) use Command::{Del, Put, PutAfterOthers, PutWith};
+pub(crate) use Command::{Close, Del, Put, PutAfterOthers, PutWith};
 
 /// What a vnode is to answer.
 pub(crate) enum Reply {
@@ -154,11 +156,15 @@ pub(crate) enum Reply {
     /// What a reap came to.
     Reaped(Reaped),
     Refused(Refusal),
+    /// That it closes the vnode.
+    Closes,
+    /// That the vnode is closed, and nothing changed.
+    Closed,
     /// A change, which is let go and not made.
     LetGo,
 }
 
-pub(crate) use Reply::{Counts, Done, Idle, LetGo, Refused, Shows, Unchanged};
+pub(crate) use Reply::{Closed, Closes, Counts, Done, Idle, LetGo, Refused, Shows, Unchanged};
 
 /// Nothing is shown of a key that is absent, nor of one that is dead.
 pub(crate) const NOTHING: Reply = Shows(&[], NONE);
@@ -183,9 +189,15 @@ pub(crate) enum Step {
     HasDead(Option<&'static [u8]>, bool),
     /// What is counted so far.
     Counted(Tally),
+    /// The number of its close, where it is closed.
+    ClosedAt(Option<u64>),
+    /// The last epoch that it gave.
+    LastEpoch(u32),
 }
 
-pub(crate) use Step::{Ask, AskTimes, Counted, Get, GetWith, HasDead, Reap, ReapFirst, Sweep};
+pub(crate) use Step::{
+    Ask, AskTimes, ClosedAt, Counted, Get, GetWith, HasDead, LastEpoch, Reap, ReapFirst, Sweep,
+};
 
 /// Steps, taken one after the other with a new vnode.
 pub(crate) struct Exchange {

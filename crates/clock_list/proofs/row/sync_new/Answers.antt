@@ -14,4 +14,4 @@ returns c =
     let wrote = c.sync.ensures in
     let put = c.insert.ensures.succeeds c.requires.fits.more in
     ap (λ (rows : List Row). map entry_of rows) (inserted _ _ _ _ put c.insert.ensures.items)
-    ∙ changed_new (λ clock. sync clock c.args.other.meaning) c.args.actor c.args.rows.now.items c.args.i c.args.row (record { key = c.args.row.key; stored = c.sync.new.self }) c.requires.sorted c.requires.fits.placed c.requires.fits.none refl wrote.actor wrote.clock
+    ∙ changed_new (λ clock. sync clock c.args.other.meaning) (λ own. own) c.args.rows.now.items c.args.i c.args.row (record { key = c.args.row.key; stored = c.sync.new.self }) c.requires.sorted c.requires.fits.placed c.requires.fits.none refl wrote.actor wrote.clock

@@ -9,7 +9,7 @@ use Rattle.clock_map.proofs.index.count_before.Goals as goal
 pub returns-in-Some : goal.returns-in-Some
 returns-in-Some c = record {
   first =
-      ap (λ n. first_marked None (drop n c.args.index.now.entries)) (count_from_yields_List c.range.result _ c.count.ensures.ran (YieldsList-from_rest _ (c.range.ensures.between tt)))
+      ap (λ n. first_marked None None (drop n c.args.index.now.entries)) (count_from_yields_List c.range.result _ c.count.ensures.ran (YieldsList-from_rest _ (c.range.ensures.between tt)))
       ∙ first_passed c.in-Some.from.now c.args.index.now.entries c.range.ensures.ordered
-      ∙ ap (λ from. first_marked (key_given from) c.args.index.now.entries) (sym c.in-Some.is);
+      ∙ ap (λ from. first_marked None (key_given from) c.args.index.now.entries) (sym c.in-Some.is);
 }

@@ -9,12 +9,12 @@ use Rattle.clock_map.proofs.index.first_dead.Goals as goal
 
 pub returns-in-None-clause-first : goal.returns-in-None-clause-first
 returns-in-None-clause-first c =
-    c.first_in.ensures ∙ ap (first_marked None) (c.range.ensures.between tt)
-    ∙ first_within _ None (λ k. refl) c.args.index.now.entries
-    ∙ ap (λ from. first_marked (key_given from) c.args.index.now.entries) (sym c.in-None.is)
+    c.first_in.ensures ∙ ap (first_marked c.args.spare None) (c.range.ensures.between tt)
+    ∙ first_within c.args.spare _ None (λ k. refl) c.args.index.now.entries
+    ∙ ap (λ from. first_marked c.args.spare (key_given from) c.args.index.now.entries) (sym c.in-None.is)
 
 pub returns-in-Some-clause-first : goal.returns-in-Some-clause-first
 returns-in-Some-clause-first c =
-    c.first_in-in-Some.ensures ∙ ap (first_marked None) (c.range-in-Some.ensures.between tt)
-    ∙ first_within _ (Some c.in-Some.from.now) (λ k. and_true (is_le (key_cmp c.in-Some.from.now k))) c.args.index.now.entries
-    ∙ ap (λ from. first_marked (key_given from) c.args.index.now.entries) (sym c.in-Some.is)
+    c.first_in-in-Some.ensures ∙ ap (first_marked c.args.spare None) (c.range-in-Some.ensures.between tt)
+    ∙ first_within c.args.spare _ (Some c.in-Some.from.now) (λ k. and_true (is_le (key_cmp c.in-Some.from.now k))) c.args.index.now.entries
+    ∙ ap (λ from. first_marked c.args.spare (key_given from) c.args.index.now.entries) (sym c.in-Some.is)

@@ -16,8 +16,8 @@ reserve_at-requires c =
     let placed = free_place v.places v.clocks v.dead v.room c.self.invariant.map c.args.self.now c.self.view_is none c.args.key.now c.args.place c.requires.place ∙ ap index_in c.in-Some.is in
     let holds = free_map v.places v.clocks v.dead v.room c.self.invariant.map c.args.self.now c.self.view_is none in
     let keys = free_keys v.places v.clocks v.dead v.room c.self.invariant.map c.args.self.now c.self.view_is none in
-    fits_at v.places v.clocks v.dead c.args.key.now holds c.in-Some.place.index c.args.need c.args.actor placed
-    (subst (λ ks. Fits c.args.need c.args.actor (clock_at ks c.args.key.now)) (sym keys) c.requires.fits)
+    fits_at v.places v.clocks v.dead c.args.key.now holds c.in-Some.place.index c.args.need placed
+    (subst (λ ks. Fits c.args.need (clock_at ks c.args.key.now)) (sym keys) c.requires.fits)
 
 pub invariant_of-self : goal.invariant_of-self
 invariant_of-self c =
@@ -55,7 +55,7 @@ returns-in-Some-clause-ok c =
     let placed = free_place v.places v.clocks v.dead v.room c.self.invariant.map c.args.self.now c.self.view_is none c.args.key.now c.args.place c.requires.place ∙ ap index_in c.in-Some.is in
     let holds = free_map v.places v.clocks v.dead v.room c.self.invariant.map c.args.self.now c.self.view_is none in
     let keys = free_keys v.places v.clocks v.dead v.room c.self.invariant.map c.args.self.now c.self.view_is none in
-    has_room v.places c.reserve_at.new.clocks v.dead (held_room v.places v.clocks c.reserve_at.new.clocks v.dead holds c.reserve_at.ensures.same c.args.key.now c.in-Some.place.index placed) c.args.key.now c.args.need c.args.actor _
+    has_room v.places c.reserve_at.new.clocks v.dead (held_room v.places v.clocks c.reserve_at.new.clocks v.dead holds c.reserve_at.ensures.same c.args.key.now c.in-Some.place.index placed) c.args.key.now c.args.need _
     (held_map v.places v.clocks c.reserve_at.new.clocks v.dead holds c.reserve_at.ensures.same c.args.key.now c.in-Some.place.index placed) (ap (λ r. reserved_in v.places c.reserve_at.new.clocks (Some r)) c.at.ensures) placed c.in_ok-reserve_at-in-Some.ensures.ok
 
 pub add-requires-clause-ordered : goal.add-requires-clause-ordered
@@ -68,8 +68,8 @@ add-requires-clause-fits c =
     let absent = free_place v.places v.clocks v.dead v.room c.self.invariant.map c.args.self.now c.self.view_is none c.args.key.now c.args.place c.requires.place ∙ ap index_in c.in-None.is in
     let holds = free_map v.places v.clocks v.dead v.room c.self.invariant.map c.args.self.now c.self.view_is none in
     let keys = free_keys v.places v.clocks v.dead v.room c.self.invariant.map c.args.self.now c.self.view_is none in
-    fits_new v.places v.clocks v.dead c.args.key.now holds c.args.need c.args.actor absent
-    (subst (λ ks. Fits c.args.need c.args.actor (clock_at ks c.args.key.now)) (sym keys) c.requires.fits)
+    fits_new v.places v.clocks v.dead c.args.key.now holds c.args.need absent
+    (subst (λ ks. Fits c.args.need (clock_at ks c.args.key.now)) (sym keys) c.requires.fits)
 
 pub returns-in_err-place-clause-same : goal.returns-in_err-place-clause-same
 returns-in_err-place-clause-same c =
@@ -93,13 +93,13 @@ invariant_of-self-2 c =
     let holds = free_map v.places v.clocks v.dead v.room c.self.invariant.map c.args.self.now c.self.view_is none in
     let keys = free_keys v.places v.clocks v.dead v.room c.self.invariant.map c.args.self.now c.self.view_is none in
     record {
-      map = subst (λ r. IsMap c.add.new.places c.add.new.clocks v.dead (Some r)) (sym c.at-2.ensures) (added_map v.places c.add.new.places v.clocks c.add.new.clocks v.dead c.args.key.now c.in_ok-place.place c.args.need c.args.actor holds absent c.in_ok-place.ensures.ok);
+      map = subst (λ r. IsMap c.add.new.places c.add.new.clocks v.dead (Some r)) (sym c.at-2.ensures) (added_map v.places c.add.new.places v.clocks c.add.new.clocks v.dead c.args.key.now c.in_ok-place.place c.args.need holds absent c.in_ok-place.ensures.ok);
       key = subst (λ r. IsSpareKey c.add.new.places (Some r) (Some c.in_ok-spare.spare)) (sym c.at-2.ensures) (
-        new_room v.places c.add.new.places v.clocks c.add.new.clocks v.dead c.args.key.now c.in_ok-place.place c.args.need c.args.actor holds absent c.in_ok-place.ensures.ok,
+        new_room v.places c.add.new.places v.clocks c.add.new.clocks v.dead c.args.key.now c.in_ok-place.place c.args.need holds absent c.in_ok-place.ensures.ok,
         refl,
         refl,
         ap (place_of c.add.new.places) c.in_ok-spare.ensures
-            ∙ added_place v.places c.add.new.places v.clocks c.add.new.clocks c.args.key.now c.in_ok-place.place c.args.need c.args.actor holds.tied absent c.in_ok-place.ensures.ok,
+            ∙ added_place v.places c.add.new.places v.clocks c.add.new.clocks c.args.key.now c.in_ok-place.place c.args.need holds.tied absent c.in_ok-place.ensures.ok,
       );
     }
 
@@ -110,7 +110,7 @@ returns-clause-same c =
     let absent = free_place v.places v.clocks v.dead v.room c.self.invariant.map c.args.self.now c.self.view_is none c.args.key.now c.args.place c.requires.place ∙ ap index_in c.in-None.is in
     let holds = free_map v.places v.clocks v.dead v.room c.self.invariant.map c.args.self.now c.self.view_is none in
     let keys = free_keys v.places v.clocks v.dead v.room c.self.invariant.map c.args.self.now c.self.view_is none in
-    ap (λ r. keys_in (shown_at c.add.new.clocks (Some r)) c.add.new.places.entries) c.at-2.ensures ∙ added_keys v.places c.add.new.places v.clocks c.add.new.clocks v.dead c.args.key.now c.in_ok-place.place c.args.need c.args.actor holds absent c.in_ok-place.ensures.ok ∙ keys
+    ap (λ r. keys_in (shown_at c.add.new.clocks (Some r)) c.add.new.places.entries) c.at-2.ensures ∙ added_keys v.places c.add.new.places v.clocks c.add.new.clocks v.dead c.args.key.now c.in_ok-place.place c.args.need holds absent c.in_ok-place.ensures.ok ∙ keys
 
 pub returns-clause-ok : goal.returns-clause-ok
 returns-clause-ok c =
@@ -120,7 +120,7 @@ returns-clause-ok c =
     let holds = free_map v.places v.clocks v.dead v.room c.self.invariant.map c.args.self.now c.self.view_is none in
     let keys = free_keys v.places v.clocks v.dead v.room c.self.invariant.map c.args.self.now c.self.view_is none in
     let added = c.in_ok-place.ensures.ok in
-    has_room c.add.new.places c.add.new.clocks v.dead (new_room v.places c.add.new.places v.clocks c.add.new.clocks v.dead c.args.key.now c.in_ok-place.place c.args.need c.args.actor holds absent c.in_ok-place.ensures.ok) c.args.key.now c.args.need c.args.actor _
-    (added_map v.places c.add.new.places v.clocks c.add.new.clocks v.dead c.args.key.now c.in_ok-place.place c.args.need c.args.actor holds absent c.in_ok-place.ensures.ok) (ap (λ r. reserved_in c.add.new.places c.add.new.clocks (Some r)) c.at-2.ensures)
-    (added_place v.places c.add.new.places v.clocks c.add.new.clocks c.args.key.now c.in_ok-place.place c.args.need c.args.actor holds.tied absent added)
+    has_room c.add.new.places c.add.new.clocks v.dead (new_room v.places c.add.new.places v.clocks c.add.new.clocks v.dead c.args.key.now c.in_ok-place.place c.args.need holds absent c.in_ok-place.ensures.ok) c.args.key.now c.args.need _
+    (added_map v.places c.add.new.places v.clocks c.add.new.clocks v.dead c.args.key.now c.in_ok-place.place c.args.need holds absent c.in_ok-place.ensures.ok) (ap (λ r. reserved_in c.add.new.places c.add.new.clocks (Some r)) c.at-2.ensures)
+    (added_place v.places c.add.new.places v.clocks c.add.new.clocks c.args.key.now c.in_ok-place.place c.args.need holds.tied absent added)
     (record { stored = added.stored; is = added.put.changed; ready = added.ready })

@@ -4,7 +4,7 @@ use Rattle.clock_store.proofs.Reaps.{reap-gone}
 use Rattle.vnode_machine.specs.Dead.{reaped}
 use Rattle.clock_map.specs.Places.{is_for_new}
 use Rattle.clock_map.specs.Maps.{keys_in, shown_at, reserved_in, IsMap}
-use Rattle.clock_map.proofs.Ties.{removed_keys}
+use Rattle.clock_map.proofs.Ties.{clash, removed_keys}
 use Rattle.clock_map.proofs.Maps.{no_key, removed_map, gone_dead, shown_placed}
 use Rattle.clock_map.proofs.Views.{now_none, free_map, free_keys, find_view}
 use Rattle.clock_map.proofs.map.ClockMapClockStore.forget_dead.Goals as goal
@@ -16,6 +16,9 @@ remove-requires c =
     let dead = gone_dead now.keys c.args.key.now (sym c.reap_result.ensures ∙ c.in-Gone.is) in
     shown_placed v.places v.clocks v.room c.args.key.now dead.0 (sym (find_view v.places v.clocks v.dead v.room c.self.invariant.map now c.self.view_is c.args.key.now) ∙ dead.1)
 
+pub keep_if-requires : goal.keep_if-requires
+keep_if-requires c = λ h. clash (sym h)
+
 pub invariant_of-self : goal.invariant_of-self
 invariant_of-self c =
     let v = c.self.inside in
@@ -24,8 +27,8 @@ invariant_of-self c =
     let holds = free_map v.places v.clocks v.dead v.room c.self.invariant.map now c.self.view_is none in
     let gone = now_none v.places v.clocks v.dead v.room c.self.invariant.map now c.self.view_is none in
     record {
-      map = subst (IsMap c.remove.new.places c.remove.new.clocks c.set_mark.new.index) (sym gone)
-          (removed_map v.places c.remove.new.places v.clocks c.remove.new.clocks v.dead c.set_mark.new.index c.args.key.now holds c.remove.ensures c.set_mark.ensures);
+      map = subst (IsMap c.remove.new.places c.remove.new.clocks c.keep_if.new.index) (sym gone)
+          (removed_map v.places c.remove.new.places v.clocks c.remove.new.clocks v.dead c.keep_if.new.index c.args.key.now holds c.remove.ensures c.keep_if.ensures);
       key = no_key v.places c.remove.new.places v.room v.room v.spare c.self.invariant.key gone (ap is_for_new gone);
     }
 

@@ -3,7 +3,7 @@ use Rattle.std.specs.Prelude.{Some, None}
 use Rattle.vnode_machine.specs.Dead.{first_dead, has_dead, reaped}
 use Rattle.clock_store.specs.Forgetting.{key_given, holding, after_first_reap}
 use Rattle.clock_map.specs.Index.{first_marked}
-use Rattle.clock_map.specs.Places.{is_for_new}
+use Rattle.clock_map.specs.Places.{is_for_new, spare_mark}
 use Rattle.clock_map.specs.Maps.{keys_in, shown_at, reserved_in, IsMap}
 use Rattle.clock_map.proofs.Ties.{removed_keys}
 use Rattle.clock_map.proofs.Maps.{no_key, same_index, removed_map, shown_placed}
@@ -13,20 +13,22 @@ use Rattle.clock_map.proofs.map.ClockMapClockStore.forget_first_dead.Goals as go
 pub returns-in_default-clause-found : goal.returns-in_default-clause-found
 returns-in_default-clause-found c =
     let v = c.self.inside in
+    let unspare = ap (λ o. first_marked (spare_mark o) (key_given c.args.from) v.dead.entries) (now_none v.places v.clocks v.dead v.room c.self.invariant.map c.drop_room.new.self c.self.view_is c.drop_room.ensures.none) in
     let from = key_given c.args.from in
     let now = c.drop_room.new.self in
     let none : first_dead (holding now.keys) from ≡ None =
-    sym (first_view v.places v.clocks v.dead v.room c.self.invariant.map c.drop_room.new.self c.self.view_is c.take_first_dead.ensures.ordered from) ∙ sym c.take_first_dead.ensures.first
+    sym (first_view v.places v.clocks v.dead v.room c.self.invariant.map c.drop_room.new.self c.self.view_is c.take_first.ensures.ordered from) ∙ unspare ∙ sym c.take_first.ensures.first
     ∙ c.in_default.is in
     (reaped_none now.keys from none).0 ∙ ap (λ ks. has_dead (holding ks) from) c.drop_room.ensures.same
 
 pub returns-in_default-clause-keys : goal.returns-in_default-clause-keys
 returns-in_default-clause-keys c =
     let v = c.self.inside in
+    let unspare = ap (λ o. first_marked (spare_mark o) (key_given c.args.from) v.dead.entries) (now_none v.places v.clocks v.dead v.room c.self.invariant.map c.drop_room.new.self c.self.view_is c.drop_room.ensures.none) in
     let from = key_given c.args.from in
     let now = c.drop_room.new.self in
     let none : first_dead (holding now.keys) from ≡ None =
-    sym (first_view v.places v.clocks v.dead v.room c.self.invariant.map c.drop_room.new.self c.self.view_is c.take_first_dead.ensures.ordered from) ∙ sym c.take_first_dead.ensures.first
+    sym (first_view v.places v.clocks v.dead v.room c.self.invariant.map c.drop_room.new.self c.self.view_is c.take_first.ensures.ordered from) ∙ unspare ∙ sym c.take_first.ensures.first
     ∙ c.in_default.is in
     keys_are v.places v.clocks v.dead v.room c.self.invariant.map now c.self.view_is
     ∙ (reaped_none now.keys from none).1 ∙ ap (λ ks. (after_first_reap (holding ks) from).keys) c.drop_room.ensures.same
@@ -34,10 +36,11 @@ returns-in_default-clause-keys c =
 pub remove-requires : goal.remove-requires
 remove-requires c =
     let v = c.self.inside in
+    let unspare = ap (λ o. first_marked (spare_mark o) (key_given c.args.from) v.dead.entries) (now_none v.places v.clocks v.dead v.room c.self.invariant.map c.drop_room.new.self c.self.view_is c.drop_room.ensures.none) in
     let from = key_given c.args.from in
     let now = c.drop_room.new.self in
-    let found : first_marked from v.dead.entries ≡ Some c.in-Some.key = sym c.take_first_dead.ensures.first ∙ c.in-Some.is in
-    let shown = first_is_shown v.places v.clocks v.dead v.room c.self.invariant.map c.drop_room.new.self c.self.view_is c.take_first_dead.ensures.ordered from c.in-Some.key found in
+    let found : first_marked (spare_mark v.room) from v.dead.entries ≡ Some c.in-Some.key = unspare ∙ sym c.take_first.ensures.first ∙ c.in-Some.is in
+    let shown = first_is_shown v.places v.clocks v.dead v.room c.self.invariant.map c.drop_room.new.self c.self.view_is c.take_first.ensures.ordered from c.in-Some.key found in
     shown_placed v.places v.clocks v.room c.in-Some.key shown.0 shown.1
 
 pub invariant_of-self-2 : goal.invariant_of-self-2
@@ -47,8 +50,8 @@ invariant_of-self-2 c =
     let holds = free_map v.places v.clocks v.dead v.room c.self.invariant.map c.drop_room.new.self c.self.view_is none in
     let gone = now_none v.places v.clocks v.dead v.room c.self.invariant.map c.drop_room.new.self c.self.view_is none in
     record {
-      map = subst (IsMap c.remove.new.places c.remove.new.clocks c.take_first_dead.new.index) (sym gone)
-          (removed_map v.places c.remove.new.places v.clocks c.remove.new.clocks v.dead c.take_first_dead.new.index c.in-Some.key holds c.remove.ensures c.in-Some.ensures.taken);
+      map = subst (IsMap c.remove.new.places c.remove.new.clocks c.take_first.new.index) (sym gone)
+          (removed_map v.places c.remove.new.places v.clocks c.remove.new.clocks v.dead c.take_first.new.index c.in-Some.key holds c.remove.ensures c.in-Some.ensures.taken);
       key = no_key v.places c.remove.new.places v.room v.room v.spare c.self.invariant.key gone (ap is_for_new gone);
     }
 
@@ -56,29 +59,31 @@ pub invariant_of-self : goal.invariant_of-self
 invariant_of-self c =
     let v = c.self.inside in
     record {
-      map = same_index v.places v.clocks v.dead c.take_first_dead.new.index v.room c.self.invariant.map c.in_default.ensures.none;
+      map = same_index v.places v.clocks v.dead c.take_first.new.index v.room c.self.invariant.map c.in_default.ensures.none;
       key = c.self.invariant.key;
     }
 
 pub returns-clause-found : goal.returns-clause-found
 returns-clause-found c =
     let v = c.self.inside in
+    let unspare = ap (λ o. first_marked (spare_mark o) (key_given c.args.from) v.dead.entries) (now_none v.places v.clocks v.dead v.room c.self.invariant.map c.drop_room.new.self c.self.view_is c.drop_room.ensures.none) in
     let from = key_given c.args.from in
     let now = c.drop_room.new.self in
     let some : first_dead (holding now.keys) from ≡ Some c.in-Some.key =
-    sym (first_view v.places v.clocks v.dead v.room c.self.invariant.map c.drop_room.new.self c.self.view_is c.take_first_dead.ensures.ordered from) ∙ sym c.take_first_dead.ensures.first
+    sym (first_view v.places v.clocks v.dead v.room c.self.invariant.map c.drop_room.new.self c.self.view_is c.take_first.ensures.ordered from) ∙ unspare ∙ sym c.take_first.ensures.first
     ∙ c.in-Some.is in
     (reaped_some now.keys from c.in-Some.key some).0 ∙ ap (λ ks. has_dead (holding ks) from) c.drop_room.ensures.same
 
 pub returns-clause-keys : goal.returns-clause-keys
 returns-clause-keys c =
     let v = c.self.inside in
+    let unspare = ap (λ o. first_marked (spare_mark o) (key_given c.args.from) v.dead.entries) (now_none v.places v.clocks v.dead v.room c.self.invariant.map c.drop_room.new.self c.self.view_is c.drop_room.ensures.none) in
     let from = key_given c.args.from in
     let now = c.drop_room.new.self in
     let none = c.drop_room.ensures.none in
     let holds = free_map v.places v.clocks v.dead v.room c.self.invariant.map c.drop_room.new.self c.self.view_is none in
     let some : first_dead (holding now.keys) from ≡ Some c.in-Some.key =
-    sym (first_view v.places v.clocks v.dead v.room c.self.invariant.map c.drop_room.new.self c.self.view_is c.take_first_dead.ensures.ordered from) ∙ sym c.take_first_dead.ensures.first
+    sym (first_view v.places v.clocks v.dead v.room c.self.invariant.map c.drop_room.new.self c.self.view_is c.take_first.ensures.ordered from) ∙ unspare ∙ sym c.take_first.ensures.first
     ∙ c.in-Some.is in
     ap (λ o. keys_in (shown_at c.remove.new.clocks o) c.remove.new.places.entries) (now_none v.places v.clocks v.dead v.room c.self.invariant.map c.drop_room.new.self c.self.view_is none)
     ∙ removed_keys v.places c.remove.new.places v.clocks c.remove.new.clocks c.in-Some.key holds.tied c.remove.ensures

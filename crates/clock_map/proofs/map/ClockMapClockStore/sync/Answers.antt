@@ -2,18 +2,13 @@ use Rattle.std.proofs.Common.{◌∙◌, refl, sym, ap, subst}
 use Rattle.dvv_set.specs.Clocks.{sync}
 use Rattle.clock_store.specs.Keys.{Keys, synced}
 use Rattle.clock_map.specs.Maps.{keys_in, shown_at, IsMap}
+use Rattle.clock_map.proofs.Ties.{clash}
 use Rattle.clock_map.proofs.Maps.{no_room_key, mark_dying, changed_map, changed_is}
 use Rattle.clock_map.proofs.Views.{with_map, with_keys, with_reserved}
 use Rattle.clock_map.proofs.map.ClockMapClockStore.sync.Goals as goal
 
-pub set_mark-requires : goal.set_mark-requires
-set_mark-requires c =
-    let was = sym c.take.ensures.value ∙ c.in-Some.is in
-    let v = c.self.inside in
-    let holds = with_map v.places v.clocks v.dead v.room c.self.invariant.map c.args.self.now c.self.view_is c.in-Some.room was in
-    let at = with_reserved v.places v.clocks v.dead v.room c.self.invariant.map c.args.self.now c.self.view_is c.in-Some.room was c.args.key c.requires.reserved c.requires.is c.requires.same in
-    λ dead. mark_dying v.places v.clocks c.sync_at-lives.new.clocks v.dead c.in-Some.room c.args.key c.args.actor (λ clock. sync clock c.args.other.meaning) holds c.requires.reserved at
-    c.sync_at-lives.ensures.wrote c.requires.dies
+pub keep_if-requires : goal.keep_if-requires
+keep_if-requires c = λ h. clash (sym h)
 
 pub invariant_of-self : goal.invariant_of-self
 invariant_of-self c =
@@ -22,9 +17,11 @@ invariant_of-self c =
     let holds = with_map v.places v.clocks v.dead v.room c.self.invariant.map c.args.self.now c.self.view_is c.in-Some.room was in
     let at = with_reserved v.places v.clocks v.dead v.room c.self.invariant.map c.args.self.now c.self.view_is c.in-Some.room was c.args.key c.requires.reserved c.requires.is c.requires.same in
     record {
-      map = subst (IsMap v.places c.sync_at-lives.new.clocks c.set_mark.new.index) (sym c.take.ensures.after)
-          (changed_map v.places v.clocks c.sync_at-lives.new.clocks v.dead c.in-Some.room c.args.key c.args.actor (λ clock. sync clock c.args.other.meaning) holds c.requires.reserved at
-          c.sync_at-lives.ensures.wrote c.set_mark.new.index c.sync_at-lives.result c.sync_at-lives.ensures.lives c.set_mark.ensures);
+      map = subst (IsMap v.places c.sync_at-lives.new.clocks c.keep_if.new.index) (sym c.take.ensures.after)
+          (changed_map v.places v.clocks c.sync_at-lives.new.clocks v.dead c.in-Some.room c.args.key (λ own. own) (λ clock. sync clock c.args.other.meaning) holds c.requires.reserved at
+          c.sync_at-lives.ensures.wrote c.keep_if.new.index c.sync_at-lives.result c.sync_at-lives.ensures.lives
+          (λ dead. mark_dying v.places v.clocks c.sync_at-lives.new.clocks v.dead c.in-Some.room c.args.key (λ own. own) (λ clock. sync clock c.args.other.meaning) holds c.requires.reserved at
+          c.sync_at-lives.ensures.wrote c.requires.dies) c.keep_if.ensures);
       key = no_room_key v.places c.take.ensures.after refl;
     }
 
@@ -35,6 +32,6 @@ returns-clause-keys c =
     let holds = with_map v.places v.clocks v.dead v.room c.self.invariant.map c.args.self.now c.self.view_is c.in-Some.room was in
     let at = with_reserved v.places v.clocks v.dead v.room c.self.invariant.map c.args.self.now c.self.view_is c.in-Some.room was c.args.key c.requires.reserved c.requires.is c.requires.same in
     ap (λ o. keys_in (shown_at c.sync_at-lives.new.clocks o) v.places.entries) c.take.ensures.after
-    ∙ changed_is v.places v.clocks c.sync_at-lives.new.clocks v.dead c.in-Some.room c.args.key c.args.actor (λ clock. sync clock c.args.other.meaning) holds c.requires.reserved at
+    ∙ changed_is v.places v.clocks c.sync_at-lives.new.clocks v.dead c.in-Some.room c.args.key (λ own. own) (λ clock. sync clock c.args.other.meaning) holds c.requires.reserved at
     c.sync_at-lives.ensures.wrote
-    ∙ ap (λ (keys : Keys). synced keys c.args.key c.args.actor c.args.other.meaning) (with_keys v.places v.clocks v.dead v.room c.self.invariant.map c.args.self.now c.self.view_is c.in-Some.room was)
+    ∙ ap (λ (keys : Keys). synced keys c.args.key c.args.other.meaning) (with_keys v.places v.clocks v.dead v.room c.self.invariant.map c.args.self.now c.self.view_is c.in-Some.room was)

@@ -2,7 +2,9 @@ use Rattle.std.proofs.Common.{◌∙◌, subst, arith, set}
 use Rattle.sibling_register.specs.Answers.{AskDel}
 use Rattle.vnode_machine.specs.Asks.{del_command}
 use Rattle.node_session.specs.PlainNodes.{NodeState, AnswersByKey, states_of}
+use Rattle.std.proofs.lemmas.List.{length-set}
 use Rattle.node_session.proofs.Asking.{asked}
+use Rattle.node_session.proofs.Opens.{open-at, open-set}
 use Rattle.node_session.proofs.plain_node.PlainNode.del.Goals as goal
 
 pub returns : goal.returns
@@ -15,4 +17,15 @@ returns c =
     } in
     subst (λ (node : NodeState). AnswersByKey node ask c.change_and_sweep.result after) c.self.view_is
     (asked c.self.inside.ring c.self.inside.budget c.self.inside.vnodes.items ask c.change_and_sweep.result c.from-index.result _ c.index_mut.result.now c.change_and_sweep.new.vnode
-    (c.from-index.ensures ∙ c.index.ensures.index) c.index_mut.ensures.value (omega (arith, c.from-index.ensures, c.index.ensures.below, c.self.invariant)) c.change_and_sweep.ensures)
+    (c.from-index.ensures ∙ c.index.ensures.index) c.index_mut.ensures.value (omega (arith, c.from-index.ensures, c.index.ensures.below, c.self.invariant.0)) (record { answered = c.change_and_sweep.ensures.steps.answered; steps = c.change_and_sweep.ensures.steps.steps; sweeps = c.change_and_sweep.ensures.steps.sweeps }))
+
+pub change_and_sweep-requires-clause-opened : goal.change_and_sweep-requires-clause-opened
+change_and_sweep-requires-clause-opened c =
+    open-at c.self.inside.vnodes.items c.from-index.result c.index_mut.result.now c.self.invariant.1
+    (omega (arith, c.from-index.ensures, c.index.ensures.below, c.self.invariant.0)) c.index_mut.ensures.value
+
+pub invariant_of-self : goal.invariant_of-self
+invariant_of-self c = (
+  length-set c.self.inside.vnodes.items c.from-index.result c.change_and_sweep.new.vnode ∙ c.self.invariant.0,
+  open-set c.self.inside.vnodes.items c.from-index.result c.change_and_sweep.new.vnode c.self.invariant.1 c.change_and_sweep.ensures.opened,
+)

@@ -1,7 +1,7 @@
-use Rattle.std.proofs.Common.{◌∙◌, ap, sym}
+use Rattle.std.proofs.Common.{◌≡◌, ◌∙◌, ap, refl, sym}
 use Rattle.node_session.specs.Unsent.{whole}
 use Rattle.node_session.specs.Views.{SessionView}
-use Rattle.node_session.proofs.Telling.{told_at, still_limit, still_read, left_read, lost}
+use Rattle.node_session.proofs.Telling.{told_at, still_limit, still_read, lost}
 use Rattle.node_session.proofs.session.Session.answer_next.Goals as goal
 
 pub invariant_of-self : goal.invariant_of-self
@@ -13,22 +13,3 @@ invariant_of-self g c =
       still_limit g.N.Node.step c.args.node.now new.node was.framer new.framer was.exchanges new.exchanges c.in-Ok-Some.reply was.input limit told,
       still_read g.N.Node.step c.args.node.now new.node was.framer new.framer was.exchanges new.exchanges c.in-Ok-Some.reply was.input limit told c.self.invariant.1,
     )
-
-pub invariant_of-self-in-Err-put : goal.invariant_of-self-in-Err-put
-invariant_of-self-in-Err-put g c =
-    let was = c.self.inside in
-    let new = c.answer_next.new in
-    let told = told_at g.N.Node.step c.args.node.now new.node was.framer new.framer was.exchanges new.exchanges c.answer_next.result c.in-Ok-Some.field-0 c.in-Ok-Some.reply c.in-Ok-Some.is c.in-Ok-Some.field-0-is c.answer_next.ensures in
-    let limit = c.self.invariant.0 in
-    rw (c.listed-left.ensures, c.new.ensures) (
-      still_limit g.N.Node.step c.args.node.now new.node was.framer new.framer was.exchanges new.exchanges c.in-Ok-Some.reply was.input limit told,
-      left_read g.N.Node.step c.args.node.now new.node was.framer new.framer was.exchanges new.exchanges c.in-Ok-Some.reply was.input limit told c.self.invariant.1,
-    )
-
-pub returns-in-Err-put : goal.returns-in-Err-put
-returns-in-Err-put g c =
-    let was = c.self.inside in
-    let new = c.answer_next.new in
-    let told = told_at g.N.Node.step c.args.node.now new.node was.framer new.framer was.exchanges new.exchanges c.answer_next.result c.in-Ok-Some.field-0 c.in-Ok-Some.reply c.in-Ok-Some.is c.in-Ok-Some.field-0-is c.answer_next.ensures in
-    lost g.N.Node.step c.args.node.now new.node was.framer new.framer was.exchanges new.exchanges c.in-Ok-Some.reply was.input c.self.invariant.0 told _ _
-    (sym (ap (λ (w : SessionView). w.rest) c.self.view_is)) (ap whole c.in-Err-put.ensures.1 ∙ ap (λ (w : SessionView). w.unsent) c.self.view_is) c.in-Err-put.ensures.0

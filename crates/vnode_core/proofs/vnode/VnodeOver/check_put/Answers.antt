@@ -10,12 +10,12 @@ use Rattle.vnode_protocol.specs.Refusals.{RefusedBy, GivenBy}
 use Rattle.clock_store.specs.Keys.{stored_of}
 use Rattle.vnode_machine.specs.Sound.{IsSound}
 use Rattle.vnode_core.specs.Vnodes.{fields, state_of}
-use Rattle.vnode_replies.proofs.Options.{options-refuse, rooms-follow, rising-found}
+use Rattle.vnode_replies.proofs.Options.{options-refuse, rooms-follow, formed-found}
 use Rattle.vnode_core.proofs.vnode.VnodeOver.check_put.Goals as goal
 
 pub returns-in_err-check_options-clause-given : goal.returns-in_err-check_options-clause-given
 returns-in_err-check_options-clause-given g c =
-    let v = fields c.self.inside.id c.self.inside.epochs c.self.inside.writes c.self.inside.tombstones c.self.inside.reaps (g.S.ClockStore.shows c.self.inside.store) c.self.inside.ready c.self.inside.prepared in
+    let v = fields c.self.inside.id c.self.inside.epochs c.self.inside.writes c.self.inside.tombstones c.self.inside.reaps (g.S.ClockStore.shows c.self.inside.store) c.self.inside.ready c.self.inside.prepared c.self.inside.closed in
     let here = c.requires.found ∙ ap (λ w. stored w.state c.args.put.now.key) (sym c.self.view_is) in
     let p = err_from_is_err_and c.from_residual.result c.from_residual.ensures.1 in
     let found = option_map (λ s. stored_of s.now) c.args.found in
@@ -28,13 +28,13 @@ returns-in_err-check_options-clause-given g c =
 
 pub check_room-requires : goal.check_room-requires
 check_room-requires g c =
-    let v = fields c.self.inside.id c.self.inside.epochs c.self.inside.writes c.self.inside.tombstones c.self.inside.reaps (g.S.ClockStore.shows c.self.inside.store) c.self.inside.ready c.self.inside.prepared in
+    let v = fields c.self.inside.id c.self.inside.epochs c.self.inside.writes c.self.inside.tombstones c.self.inside.reaps (g.S.ClockStore.shows c.self.inside.store) c.self.inside.ready c.self.inside.prepared c.self.inside.closed in
     let here = c.requires.found ∙ ap (λ w. stored w.state c.args.put.now.key) (sym c.self.view_is) in
-    rising-found (state_of v) c.self.invariant.sound c.args.put.now.key _ here
+    formed-found (state_of v) c.self.invariant.sound c.args.put.now.key _ here
 
 pub returns-clause-given : goal.returns-clause-given
 returns-clause-given g c =
-    let v = fields c.self.inside.id c.self.inside.epochs c.self.inside.writes c.self.inside.tombstones c.self.inside.reaps (g.S.ClockStore.shows c.self.inside.store) c.self.inside.ready c.self.inside.prepared in
+    let v = fields c.self.inside.id c.self.inside.epochs c.self.inside.writes c.self.inside.tombstones c.self.inside.reaps (g.S.ClockStore.shows c.self.inside.store) c.self.inside.ready c.self.inside.prepared c.self.inside.closed in
     let here = c.requires.found ∙ ap (λ w. stored w.state c.args.put.now.key) (sym c.self.view_is) in
     let found = option_map (λ s. stored_of s.now) c.args.found in
     let behind = (λ i. list_any (is_ahead v.id (sym c.last-last_epoch.ensures i) (sym c.last_of.ensures i)) (pairs_in (seen_in c.args.context)))

@@ -10,7 +10,7 @@ use Rattle.vnode_core.proofs.vnode.VnodeOver.drop_prepared.Goals as goal
 
 pub invariant_of-self : goal.invariant_of-self
 invariant_of-self g c =
-    let v = fields c.self.inside.id c.self.inside.epochs c.self.inside.writes c.self.inside.tombstones c.self.inside.reaps (g.S.ClockStore.shows c.self.inside.store) c.self.inside.ready c.self.inside.prepared in
+    let v = fields c.self.inside.id c.self.inside.epochs c.self.inside.writes c.self.inside.tombstones c.self.inside.reaps (g.S.ClockStore.shows c.self.inside.store) c.self.inside.ready c.self.inside.prepared c.self.inside.closed in
     record {
       sound = subst (λ (keys : Keys). IsSound (record (state_of v) { keys = keys })) (sym c.drop_room.ensures.same) c.self.invariant.sound;
       ready = subst (IsReadyFor _ _ _) (sym c.none.ensures) tt;
@@ -18,7 +18,7 @@ invariant_of-self g c =
 
 pub returns-clause-same : goal.returns-clause-same
 returns-clause-same g c =
-    let v = fields c.self.inside.id c.self.inside.epochs c.self.inside.writes c.self.inside.tombstones c.self.inside.reaps (g.S.ClockStore.shows c.self.inside.store) c.self.inside.ready c.self.inside.prepared in
+    let v = fields c.self.inside.id c.self.inside.epochs c.self.inside.writes c.self.inside.tombstones c.self.inside.reaps (g.S.ClockStore.shows c.self.inside.store) c.self.inside.ready c.self.inside.prepared c.self.inside.closed in
     let with : Keys → State Content = λ keys. record (state_of v) { keys = keys } in
     ap with c.drop_room.ensures.same ∙ ap (λ (w : View). w.state) c.self.view_is
 
@@ -30,5 +30,5 @@ returns-clause-sound g c = subst (λ w. IsSound w.state) c.self.view_is c.self.i
 
 pub returns-clause-accepted : goal.returns-clause-accepted
 returns-clause-accepted g c =
-    let v = fields c.self.inside.id c.self.inside.epochs c.self.inside.writes c.self.inside.tombstones c.self.inside.reaps (g.S.ClockStore.shows c.self.inside.store) c.self.inside.ready c.self.inside.prepared in
+    let v = fields c.self.inside.id c.self.inside.epochs c.self.inside.writes c.self.inside.tombstones c.self.inside.reaps (g.S.ClockStore.shows c.self.inside.store) c.self.inside.ready c.self.inside.prepared c.self.inside.closed in
     subst AcceptsPrepared c.self.view_is (accepts-prepared v c.self.invariant)

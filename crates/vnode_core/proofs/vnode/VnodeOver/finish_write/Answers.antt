@@ -5,21 +5,21 @@ use Rattle.vnode_core.proofs.vnode.VnodeOver.finish_write.Goals as goal
 
 pub invariant_of-self : goal.invariant_of-self
 invariant_of-self g c =
-    let v = fields c.self.inside.id c.self.inside.epochs c.self.inside.writes c.self.inside.tombstones c.self.inside.reaps (g.S.ClockStore.shows c.self.inside.store) c.self.inside.ready c.self.inside.prepared in
+    let v = fields c.self.inside.id c.self.inside.epochs c.self.inside.writes c.self.inside.tombstones c.self.inside.reaps (g.S.ClockStore.shows c.self.inside.store) c.self.inside.ready c.self.inside.prepared c.self.inside.closed in
     let f = finished v c.self.invariant c.args.self.now c.self.view_is c.args.ask c.requires.write c.requires.prepared c.in-Some.field-0 (sym c.take.ensures.value ∙ c.in-Some.is)
     c.after-self-inside.result c.writes_after-self-inside.result c.tombstones_after-self-inside.result (g.S.ClockStore.shows c.write.new.store).keys c.after-self-inside.ensures c.writes_after-self-inside.ensures c.tombstones_after-self-inside.ensures c.write.ensures in
     record { sound = f.sound; ready = subst (IsReadyFor _ _ _) (sym c.none.ensures) tt }
 
 pub returns-clause-step : goal.returns-clause-step
 returns-clause-step g c =
-    let v = fields c.self.inside.id c.self.inside.epochs c.self.inside.writes c.self.inside.tombstones c.self.inside.reaps (g.S.ClockStore.shows c.self.inside.store) c.self.inside.ready c.self.inside.prepared in
+    let v = fields c.self.inside.id c.self.inside.epochs c.self.inside.writes c.self.inside.tombstones c.self.inside.reaps (g.S.ClockStore.shows c.self.inside.store) c.self.inside.ready c.self.inside.prepared c.self.inside.closed in
     let f = finished v c.self.invariant c.args.self.now c.self.view_is c.args.ask c.requires.write c.requires.prepared c.in-Some.field-0 (sym c.take.ensures.value ∙ c.in-Some.is)
     c.after-self-inside.result c.writes_after-self-inside.result c.tombstones_after-self-inside.result (g.S.ClockStore.shows c.write.new.store).keys c.after-self-inside.ensures c.writes_after-self-inside.ensures c.tombstones_after-self-inside.ensures c.write.ensures in
     f.step
 
 pub returns-clause-register : goal.returns-clause-register
 returns-clause-register g c =
-    let v = fields c.self.inside.id c.self.inside.epochs c.self.inside.writes c.self.inside.tombstones c.self.inside.reaps (g.S.ClockStore.shows c.self.inside.store) c.self.inside.ready c.self.inside.prepared in
+    let v = fields c.self.inside.id c.self.inside.epochs c.self.inside.writes c.self.inside.tombstones c.self.inside.reaps (g.S.ClockStore.shows c.self.inside.store) c.self.inside.ready c.self.inside.prepared c.self.inside.closed in
     let f = finished v c.self.invariant c.args.self.now c.self.view_is c.args.ask c.requires.write c.requires.prepared c.in-Some.field-0 (sym c.take.ensures.value ∙ c.in-Some.is)
     c.after-self-inside.result c.writes_after-self-inside.result c.tombstones_after-self-inside.result (g.S.ClockStore.shows c.write.new.store).keys c.after-self-inside.ensures c.writes_after-self-inside.ensures c.tombstones_after-self-inside.ensures c.write.ensures in
     f.register

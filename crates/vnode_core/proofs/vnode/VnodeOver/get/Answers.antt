@@ -11,20 +11,20 @@ use Rattle.vnode_core.proofs.vnode.VnodeOver.get.Goals as goal
 
 pub siblings_reply-requires : goal.siblings_reply-requires
 siblings_reply-requires g c =
-    let v = fields c.self.inside.id c.self.inside.epochs c.self.inside.writes c.self.inside.tombstones c.self.inside.reaps (g.S.ClockStore.shows c.self.inside.store) c.self.inside.ready c.self.inside.prepared in
+    let v = fields c.self.inside.id c.self.inside.epochs c.self.inside.writes c.self.inside.tombstones c.self.inside.reaps (g.S.ClockStore.shows c.self.inside.store) c.self.inside.ready c.self.inside.prepared c.self.inside.closed in
     of-form (state_of v) c.self.invariant.sound c.args.ask.now.key (stored_of c.in-Some.key.now)
     (sym c.get.ensures ∙ ap (option_map (λ s. stored_of s.now)) c.in-Some.is)
 
 pub returns-in-None-clause-register : goal.returns-in-None-clause-register
 returns-in-None-clause-register g c =
-    let v = fields c.self.inside.id c.self.inside.epochs c.self.inside.writes c.self.inside.tombstones c.self.inside.reaps (g.S.ClockStore.shows c.self.inside.store) c.self.inside.ready c.self.inside.prepared in
+    let v = fields c.self.inside.id c.self.inside.epochs c.self.inside.writes c.self.inside.tombstones c.self.inside.reaps (g.S.ClockStore.shows c.self.inside.store) c.self.inside.ready c.self.inside.prepared c.self.inside.closed in
     registers-view (state_of v) c.args.self.now.state (ap (λ v. v.state) c.self.view_is) c.self.invariant.sound (AskGet (get_command c.args.ask.now)) (Answered (GetDone c.absent_reply.result))
     (ap (λ reply. Answered (GetDone reply))
     (get-absent (state_of v) c.args.ask.now (sym c.get.ensures ∙ ap (option_map (λ s. stored_of s.now)) c.in-None.is) ∙ sym c.absent_reply.ensures))
 
 pub returns-in_ok-siblings_reply-in-Some-clause-register : goal.returns-in_ok-siblings_reply-in-Some-clause-register
 returns-in_ok-siblings_reply-in-Some-clause-register g c =
-    let v = fields c.self.inside.id c.self.inside.epochs c.self.inside.writes c.self.inside.tombstones c.self.inside.reaps (g.S.ClockStore.shows c.self.inside.store) c.self.inside.ready c.self.inside.prepared in
+    let v = fields c.self.inside.id c.self.inside.epochs c.self.inside.writes c.self.inside.tombstones c.self.inside.reaps (g.S.ClockStore.shows c.self.inside.store) c.self.inside.ready c.self.inside.prepared c.self.inside.closed in
     registers-view (state_of v) c.args.self.now.state (ap (λ v. v.state) c.self.view_is) c.self.invariant.sound (AskGet (get_command c.args.ask.now)) (Answered (GetDone c.in_ok-siblings_reply-in-Some.field-0))
     (ap (λ reply. Answered (GetDone reply))
     (get-stored (state_of v) c.args.ask.now (stored_of c.in-Some.key.now) (sym c.get.ensures ∙ ap (option_map (λ s. stored_of s.now)) c.in-Some.is)

@@ -37,14 +37,14 @@ reserve-requires-clause-fits g c =
 
 pub invariant_of-self : goal.invariant_of-self
 invariant_of-self g c =
-    let v = fields c.self.inside.id c.self.inside.epochs c.self.inside.writes c.self.inside.tombstones c.self.inside.reaps (g.S.ClockStore.shows c.self.inside.store) c.self.inside.ready c.self.inside.prepared in
+    let v = fields c.self.inside.id c.self.inside.epochs c.self.inside.writes c.self.inside.tombstones c.self.inside.reaps (g.S.ClockStore.shows c.self.inside.store) c.self.inside.ready c.self.inside.prepared c.self.inside.closed in
     let given = ap context_of (sym c.as_slice.ensures) ∙ c.in_ok-context.ensures.ok ∙ ap (option_map Pairs) (sym c.as_ref-seen.ensures.value) in
-    put-ready v c.self.invariant.sound c.args.self.now c.self.view_is c.args.put.now c.in_ok-ready.ready c.in_ok-ready.ensures.ok (seen_in c.as_ref-seen.result) given
+    put-ready v c.self.invariant.sound c.args.self.now c.self.view_is (ap (λ (w : View). w.state.closed) c.self.view_is ∙ c.requires.opened) c.args.put.now c.in_ok-ready.ready c.in_ok-ready.ensures.ok (seen_in c.as_ref-seen.result) given
     (g.S.ClockStore.shows c.reserve.new.self) c.reserve.ensures.same c.in-Ok.ensures.ok c.set_ready.new.place c.set_ready.ensures c.some.result (c.some.ensures ∙ ap Some c.requires.is)
 
 pub invariant_of-self-in-Err : goal.invariant_of-self-in-Err
 invariant_of-self-in-Err g c =
-    let v = fields c.self.inside.id c.self.inside.epochs c.self.inside.writes c.self.inside.tombstones c.self.inside.reaps (g.S.ClockStore.shows c.self.inside.store) c.self.inside.ready c.self.inside.prepared in
+    let v = fields c.self.inside.id c.self.inside.epochs c.self.inside.writes c.self.inside.tombstones c.self.inside.reaps (g.S.ClockStore.shows c.self.inside.store) c.self.inside.ready c.self.inside.prepared c.self.inside.closed in
     let unprepared = ap (λ (w : View). w.prepared) c.self.view_is ∙ c.requires.ended in
     record {
       sound = subst (λ (keys : Keys). IsSound (record (state_of v) { keys = keys })) (sym c.reserve.ensures.same) c.self.invariant.sound;
@@ -53,13 +53,13 @@ invariant_of-self-in-Err g c =
 
 pub returns-in-Err-clause-same : goal.returns-in-Err-clause-same
 returns-in-Err-clause-same g c =
-    let v = fields c.self.inside.id c.self.inside.epochs c.self.inside.writes c.self.inside.tombstones c.self.inside.reaps (g.S.ClockStore.shows c.self.inside.store) c.self.inside.ready c.self.inside.prepared in
+    let v = fields c.self.inside.id c.self.inside.epochs c.self.inside.writes c.self.inside.tombstones c.self.inside.reaps (g.S.ClockStore.shows c.self.inside.store) c.self.inside.ready c.self.inside.prepared c.self.inside.closed in
     let with : Keys → State Content = λ keys. record (state_of v) { keys = keys } in
     ap with c.reserve.ensures.same ∙ ap (λ (w : View). w.state) c.self.view_is
 
 pub returns-in-Ok-clause-same : goal.returns-in-Ok-clause-same
 returns-in-Ok-clause-same g c =
-    let v = fields c.self.inside.id c.self.inside.epochs c.self.inside.writes c.self.inside.tombstones c.self.inside.reaps (g.S.ClockStore.shows c.self.inside.store) c.self.inside.ready c.self.inside.prepared in
+    let v = fields c.self.inside.id c.self.inside.epochs c.self.inside.writes c.self.inside.tombstones c.self.inside.reaps (g.S.ClockStore.shows c.self.inside.store) c.self.inside.ready c.self.inside.prepared c.self.inside.closed in
     let with : Keys → State Content = λ keys. record (state_of v) { keys = keys } in
     ap with c.reserve.ensures.same ∙ ap (λ (w : View). w.state) c.self.view_is
 

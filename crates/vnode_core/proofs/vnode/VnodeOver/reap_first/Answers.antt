@@ -10,7 +10,7 @@ use Rattle.vnode_core.proofs.vnode.VnodeOver.reap_first.Goals as goal
 
 pub invariant_of-self : goal.invariant_of-self
 invariant_of-self g c =
-    let v = fields c.self.inside.id c.self.inside.epochs c.self.inside.writes c.self.inside.tombstones c.self.inside.reaps (g.S.ClockStore.shows c.self.inside.store) c.self.inside.ready c.self.inside.prepared in
+    let v = fields c.self.inside.id c.self.inside.epochs c.self.inside.writes c.self.inside.tombstones c.self.inside.reaps (g.S.ClockStore.shows c.self.inside.store) c.self.inside.ready c.self.inside.prepared c.self.inside.closed in
     let forgot = c.forget_first_dead-found in
     let gone = first-gone v (key_given c.args.from) c.saturating_add-self-inside.result (g.S.ClockStore.shows forgot.new.self).keys c.saturating_add-self-inside.ensures
     (sym c.if-found.true ∙ forgot.ensures.found) forgot.ensures.keys in
@@ -21,7 +21,7 @@ invariant_of-self g c =
 
 pub returns-then-found-clause-left : goal.returns-then-found-clause-left
 returns-then-found-clause-left g c =
-    let v = fields c.self.inside.id c.self.inside.epochs c.self.inside.writes c.self.inside.tombstones c.self.inside.reaps (g.S.ClockStore.shows c.self.inside.store) c.self.inside.ready c.self.inside.prepared in
+    let v = fields c.self.inside.id c.self.inside.epochs c.self.inside.writes c.self.inside.tombstones c.self.inside.reaps (g.S.ClockStore.shows c.self.inside.store) c.self.inside.ready c.self.inside.prepared c.self.inside.closed in
     let forgot = c.forget_first_dead-found in
     let from = key_given c.args.from in
     let gone = first-gone v from c.saturating_add-self-inside.result (g.S.ClockStore.shows forgot.new.self).keys c.saturating_add-self-inside.ensures (sym c.if-found.true ∙ forgot.ensures.found) forgot.ensures.keys in
@@ -31,7 +31,7 @@ returns-then-found-clause-left g c =
 
 pub returns-then-found-clause-register : goal.returns-then-found-clause-register
 returns-then-found-clause-register g c =
-    let v = fields c.self.inside.id c.self.inside.epochs c.self.inside.writes c.self.inside.tombstones c.self.inside.reaps (g.S.ClockStore.shows c.self.inside.store) c.self.inside.ready c.self.inside.prepared in
+    let v = fields c.self.inside.id c.self.inside.epochs c.self.inside.writes c.self.inside.tombstones c.self.inside.reaps (g.S.ClockStore.shows c.self.inside.store) c.self.inside.ready c.self.inside.prepared c.self.inside.closed in
     let forgot = c.forget_first_dead-found in
     let from = key_given c.args.from in
     let gone = first-gone v from c.saturating_add-self-inside.result (g.S.ClockStore.shows forgot.new.self).keys c.saturating_add-self-inside.ensures (sym c.if-found.true ∙ forgot.ensures.found) forgot.ensures.keys in

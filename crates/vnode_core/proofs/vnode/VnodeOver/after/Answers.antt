@@ -5,11 +5,11 @@ use Rattle.vnode_machine.specs.Machine.{opening}
 use Rattle.vnode_machine.specs.Sound.{IsSound}
 use Rattle.vnode_machine.proofs.Formed.{sound-opening}
 use Rattle.vnode_core.specs.Vnodes.{IsReadyFor}
-use Rattle.vnode_core.proofs.vnode.VnodeOver.new.Goals as goal
+use Rattle.vnode_core.proofs.vnode.VnodeOver.after.Goals as goal
 
 pub invariant_of-result : goal.invariant_of-result
 invariant_of-result g c = record {
-  sound = subst (λ (keys : Keys). IsSound (record (opening c.args.id c.new.result) { keys = keys })) (sym c.new-2.ensures.keys)
-      (sound-opening c.args.id c.new.result (omega (arith, c.ranges.id.fits), omega (arith, c.new.ensures, c.ranges.first_epoch.fits)));
+  sound = subst (λ (keys : Keys). IsSound (record (opening c.args.id c.after.result) { keys = keys })) (sym c.new.ensures.keys)
+      (sound-opening c.args.id c.after.result (omega (arith, c.ranges.id.fits), omega (arith, c.after.ensures, c.ranges.last_epoch.fits)));
   ready = subst (IsReadyFor _ _ None) (sym c.none.ensures) tt;
 }

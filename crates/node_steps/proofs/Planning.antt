@@ -1,0 +1,127 @@
+-- What an ask comes to that is prepared, answered, refused or finished, by the command that it makes of a vnode.
+use Rattle.std.proofs.Common.{◌≡◌, ℕ, Bool, true, false, cond, not, ◌&&◌, refl, sym, ◌∙◌, ap, subst, inl, inr}
+use Rattle.std.specs.Prelude.{Option, Some, None, IsSome, IfSome, is_none, option_map}
+use Rattle.riak_msgs.specs.Contents.{Content}
+use Rattle.sibling_register.specs.History.{Operation, Write, Tombstone, Reap as Forget}
+use Rattle.sibling_register.specs.Answers.{Ask as Command, AskGet, AskPut, AskDel, AskReap}
+use Rattle.actor_epoch.specs.Given.{Context}
+use Rattle.clock_store.specs.declared.store.Reaped.TheVariants.{Gone, Kept, Absent}
+use Rattle.vnode_machine.specs.Asks.{put_command, del_command}
+use Rattle.vnode_machine.specs.Machine.{State, is_held, holds_dead, has_value, put_check, del_check, apply_operation}
+use Rattle.vnode_machine.specs.Replies.{put_reply}
+use Rattle.vnode_machine.specs.Step.{Response, PutDone, DelDone, ReapDone, ReapKept, StepOutcome, Refused, Answered, Accepted, unless_refused, outcome}
+use Rattle.vnode_protocol.specs.declared.ask.Ask.{Ask}
+use Rattle.vnode_protocol.specs.declared.ask.Ask.TheVariants.{Put, Del, Reap, ReapFirst, Copy, Close}
+use Rattle.vnode_protocol.specs.declared.ask.Answer.{Answer}
+use Rattle.vnode_protocol.specs.declared.ask.Answer.TheVariants as answers
+use Rattle.vnode_protocol.specs.Plans.{View, IsAccepted, AcceptsOpen, IsPrepared, IsAnswered, StepsOpen}
+use Rattle.node_steps.specs.declared.outcome.Outcome.{Outcome as Returned}
+use Rattle.node_steps.specs.World.{Plan}
+use Rattle.node_steps.specs.Returned.{returned_response}
+use Rattle.node_steps.specs.Hands.{command_of, response_of, IsReturned, plan_by, plan_of, PlansBy, PlansAsk}
+
+planned-outcome : (o : StepOutcome) → IsAccepted o → PlansBy o (plan_by o) None
+planned-outcome (Refused number) a = absurd a
+planned-outcome (Answered response) a = absurd a
+planned-outcome (Accepted operation response next) a = (refl, refl)
+
+-- what is prepared is planned
+pub plans_change : (vnode : View) (ask change : Ask) → IsPrepared vnode ask change → PlansAsk vnode.state ask (plan_of vnode.state (Some change)) None
+plans_change vnode ask change prepared =
+    subst (λ c. PlansAsk vnode.state ask (plan_of vnode.state (Some c)) None) (sym prepared.is) (by ask prepared.accepted.1)
+  where
+    by : (ask : Ask) → AcceptsOpen vnode.state ask → PlansAsk vnode.state ask (plan_of vnode.state (Some ask)) None
+    by (Put put) a = planned-outcome (outcome vnode.state (AskPut (put_command put))) a
+    by (Del del) a = planned-outcome (outcome vnode.state (AskDel (del_command del))) a
+    by (Reap key) a = planned-outcome (outcome vnode.state (AskReap key)) a
+    by (ReapFirst from) a = tt
+    by (Copy copy) a = tt
+    by (Close number) a = tt
+
+-- a command is answered, with nothing changed
+pub record ComesTo (o : StepOutcome) (answer : Answer) : Type 0 where
+  pub response : Response
+  pub comes : o ≡ Answered response
+  pub is : response_of answer ≡ Some response
+
+reap-kept : (dead value : Bool) (next : State Content) → cond dead (Accepted Forget ReapDone next) (Answered ReapKept) ≡ Answered ReapKept
+    → response_of (answers.Reaped (cond dead Gone (cond value Kept Absent))) ≡ Some ReapKept
+reap-kept true value next h = cc
+reap-kept false true next h = refl
+reap-kept false false next h = refl
+
+not_closed : (closed : Option ℕ) → closed ≡ None → IsSome closed → ⊥
+not_closed None e s = cc
+not_closed (Some number) e s = cc
+
+-- what an open vnode answers to a command is the machine's
+pub answers_command : (state : State Content) (ask : Ask) (answer : Answer) → state.closed ≡ None → IsAnswered state ask answer
+    → IfSome (command_of ask) (λ command. ComesTo (outcome state command) answer)
+answers_command state ask answer opened (inr closed) = absurd (not_closed state.closed opened closed.0)
+answers_command state (Put put) answer opened (inl open_one) = absurd open_one.1
+answers_command state (Del del) answer opened (inl open_one) =
+    record { response = DelDone; comes = open_one.1.1; is = ap response_of open_one.1.0 }
+answers_command state (Reap key) answer opened (inl open_one) =
+    record { response = ReapKept; comes = open_one.1.1; is = ap response_of open_one.1.0 ∙ reap-kept (holds_dead state key) (has_value state key) (apply_operation state key None Forget) open_one.1.1 }
+answers_command state (ReapFirst from) answer opened (inl open_one) = tt
+answers_command state (Copy copy) answer opened (inl open_one) = tt
+answers_command state (Close number) answer opened (inl open_one) = tt
+
+-- by which the worker is answered
+pub plans_answer : (answer : Answer) (state : State Content) (plan : Option Plan) (returns : Returned) (made : Option (Command Content Context))
+    → IfSome made (λ command. ComesTo (outcome state command) answer) → IsReturned answer returns
+    → IfSome made (λ command. PlansBy (outcome state command) plan (Some returns))
+plans_answer answer state plan returns None comes returned = tt
+plans_answer answer state plan returns (Some command) comes returned =
+    subst (λ o. PlansBy o plan (Some returns)) (sym comes.comes) (sym returned ∙ ap (λ o. option_map returned_response o) comes.is)
+
+-- a command is accepted, and makes the state after it
+pub record Finishes (o : StepOutcome) (answer : Answer) (new : State Content) : Type 0 where
+  pub operation : Operation Content
+  pub response : Response
+  pub comes : o ≡ Accepted operation response new
+  pub is : response_of answer ≡ Some response
+
+pub finishes : (old : State Content) (ask : Ask) (answer : Answer) (new : State Content) → StepsOpen old ask answer new
+    → IfSome (command_of ask) (λ command. Finishes (outcome old command) answer new)
+finishes old (Put put) answer new (reply, is, comes) =
+    record { operation = Write put.content; response = PutDone reply; comes = comes; is = ap response_of is }
+finishes old (Del del) answer new (is, comes) = record { operation = Tombstone; response = DelDone; comes = comes; is = ap response_of is }
+finishes old (Reap key) answer new (is, comes) = record { operation = Forget; response = ReapDone; comes = comes; is = ap response_of is }
+finishes old (ReapFirst from) answer new steps = tt
+finishes old (Copy copy) answer new steps = tt
+finishes old (Close number) answer new steps = tt
+
+-- whether a vnode is closed after what comes of a command
+abbrev closed_after : Option ℕ → StepOutcome → Option ℕ
+closed_after closed (Refused number) = closed
+closed_after closed (Answered response) = closed
+closed_after closed (Accepted operation response next) = next.closed
+
+either : (closed : Option ℕ) (b : Bool) (x y : StepOutcome) → closed_after closed x ≡ closed → closed_after closed y ≡ closed
+    → closed_after closed (cond b x y) ≡ closed
+either closed true x y first second = first
+either closed false x y first second = second
+
+unless : (closed : Option ℕ) (check : Option ℕ) (x : StepOutcome) → closed_after closed x ≡ closed → closed_after closed (unless_refused check x) ≡ closed
+unless closed None x h = h
+unless closed (Some number) x h = refl
+
+-- no command closes one
+keeps-open : (state : State Content) (command : Command Content Context) → closed_after state.closed (outcome state command) ≡ state.closed
+keeps-open state (AskGet get) = refl
+keeps-open state (AskPut put) =
+    let next = apply_operation state put.key put.context (Write put.value) in
+    unless state.closed (put_check state put) (Accepted (Write put.value) (PutDone (put_reply next put)) next) refl
+keeps-open state (AskDel del) =
+    let done = Accepted Tombstone DelDone (apply_operation state del.key del.context Tombstone) in
+    either state.closed (is_none del.context && not (is_held state del.key)) (Answered DelDone) (unless_refused (del_check state del) done) refl
+    (unless state.closed (del_check state del) done refl)
+keeps-open state (AskReap key) =
+    either state.closed (holds_dead state key) (Accepted Forget ReapDone (apply_operation state key None Forget)) (Answered ReapKept) refl refl
+
+-- so an open vnode stays so
+pub still_open : (old : State Content) (answer : Answer) (new : State Content) (made : Option (Command Content Context)) → IsSome made
+    → IfSome made (λ command. Finishes (outcome old command) answer new) → old.closed ≡ None → new.closed ≡ None
+still_open old answer new None s f opened = cc
+still_open old answer new (Some command) s f opened = sym (ap (closed_after old.closed) f.comes) ∙ keeps-open old command ∙ opened
