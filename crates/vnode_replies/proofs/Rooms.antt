@@ -1,5 +1,5 @@
 -- The machine's checks of room, by what is stored of the key.
-use Rattle.std.proofs.Common.{◌≡◌, ℕ, suc, ◌+◌, ◌<◌, ◌≤◌, Bool, true, false, not, ◌&&◌, List, [], ◌∷◌, length, refl, sym, ◌∙◌, ap, arith}
+use Rattle.std.proofs.Common.{◌≡◌, ℕ, suc, ◌+◌, ◌<◌, ◌≤◌, Bool, true, false, not, ◌&&◌, List, [], ◌∷◌, length, refl, sym, ◌∙◌, ap, subst, arith}
 use Rattle.std.specs.Prelude.{Option, Some, None, nat_eq, nat_lt, nat_le, ◌==◌, ◌^◌, if◌then◌else◌, is_some, unwrap_or, option_and_then, IsTrue}
 use Rattle.std.specs.List.{list_all, list_any}
 use Rattle.std.proofs.lemmas.Bool.Decides.{nat_tests}
@@ -26,11 +26,11 @@ use Rattle.vnode_replies.specs.declared.checks.Writer.{Writer}
 use Rattle.vnode_replies.specs.Checks.{pairs_in, AreRead, is_ahead, IsStored, IsFound, room_check, next_writer, siblings_check, writer_check}
 
 -- by what was computed
-pub siblings-full : (u : ℕ) → max_siblings ≤ u → first_of ((nat_le max_siblings u, too_many_siblings) ∷ []) ≡ Some too_many_siblings
-siblings-full u full = let b : nat_le 64 u ≡ true = grind (arith, nat_tests) in rw b refl
+pub siblings-full : (u count : ℕ) → u ≡ count → max_siblings ≤ u → first_of ((nat_le max_siblings count, too_many_siblings) ∷ []) ≡ Some too_many_siblings
+siblings-full u count is full = let b : nat_le 64 count ≡ true = grind (arith, nat_tests) in rw b refl
 
-pub siblings-free : (u : ℕ) → u < max_siblings → first_of ((nat_le max_siblings u, too_many_siblings) ∷ []) ≡ None
-siblings-free u few = let b : nat_le 64 u ≡ false = grind (arith, nat_tests) in rw b refl
+pub siblings-free : (u count : ℕ) → u ≡ count → u < max_siblings → first_of ((nat_le max_siblings count, too_many_siblings) ∷ []) ≡ None
+siblings-free u count is few = let b : nat_le 64 count ≡ false = grind (arith, nat_tests) in rw b refl
 
 abbrev check_of : (a n : ℕ) → (is_out_of_epochs : Bool) → Option ℕ
 check_of a n is_out_of_epochs = first_of ((nat_lt max_actors a, clock_full) ∷ (is_out_of_epochs, epochs_used_up) ∷ (n == max_counter, counter_used_up) ∷ [])
@@ -38,7 +38,7 @@ check_of a n is_out_of_epochs = first_of ((nat_lt max_actors a, clock_full) ∷ 
 pub actor-full : (a n : ℕ) (is_out_of_epochs : Bool) → max_actors < a → check_of a n is_out_of_epochs ≡ Some clock_full
 actor-full a n is_out_of_epochs full = let b : nat_lt max_actors a ≡ true = grind (arith, nat_tests) in rw b refl
 
-pub epochs-used : (a n : ℕ) → a ≤ max_actors → check_of a n true ≡ Some epochs_used_up
+epochs-used : (a n : ℕ) → a ≤ max_actors → check_of a n true ≡ Some epochs_used_up
 epochs-used a n fits = let b : nat_lt max_actors a ≡ false = grind (arith, nat_tests) in rw b refl
 
 pub counter-used : (a n : ℕ) → a ≤ max_actors → n ≡ max_counter → check_of a n false ≡ Some counter_used_up
@@ -68,7 +68,7 @@ one-more actor unknown known within = length-raise_new actor (λ pair. not (is_w
         rw first rest
 
 -- so the actor of no epoch, and that of one past the last, are alike
-pub no-epoch-alike : (id : ℕ) (known : List Dot) (seen : Option (List Dot)) → IsTrue (list_all is_within_limits known) → AreRead seen
+no-epoch-alike : (id : ℕ) (known : List Dot) (seen : Option (List Dot)) → IsTrue (list_all is_within_limits known) → AreRead seen
     → actors_after known seen (record { vnode = id; epoch = 0 }) ≡ actors_after known seen (record { vnode = id; epoch = max_epoch + 1 })
 no-epoch-alike id known seen within read =
     one-more (record { vnode = id; epoch = 0 }) (λ n. before (nat_lt id (2 ^ 64)) n) (known_with seen known) (all seen read)
@@ -85,6 +85,21 @@ no-epoch-alike id known seen within read =
     all : (seen : Option (List Dot)) → AreRead seen → IsTrue (list_all is_within_limits (known_with seen known))
     all None read = within
     all (Some pairs) read = all-union is_within_limits known pairs within (form-parts pairs read).within
+
+-- so where no epoch is left, it is full for the next actor exactly where it is for the actor of no epoch
+module _ (id : ℕ) (known : List Dot) (seen : Option (List Dot)) (within : IsTrue (list_all is_within_limits known)) (read : AreRead seen) where
+  abbrev unknown : Actor
+  unknown = record { vnode = id; epoch = 0 }
+
+  abbrev unnumbered : Actor
+  unnumbered = record { vnode = id; epoch = max_epoch + 1 }
+
+  pub no-epoch-full : max_actors < actors_after known seen unknown → check_of (actors_after known seen unnumbered) (counter_in known unnumbered) true ≡ Some clock_full
+  no-epoch-full full =
+      actor-full (actors_after known seen unnumbered) (counter_in known unnumbered) true (subst (λ a. max_actors < a) (no-epoch-alike id known seen within read) full)
+
+  pub no-epoch-used : actors_after known seen unknown ≤ max_actors → check_of (actors_after known seen unnumbered) (counter_in known unnumbered) true ≡ Some epochs_used_up
+  no-epoch-used fits = epochs-used (actors_after known seen unnumbered) (counter_in known unnumbered) (subst (λ a. a ≤ max_actors) (no-epoch-alike id known seen within read) fits)
 
 -- the checks of a stored key, by what is stored
 module _ (state : State Content) (key : Key) (id last_epoch : ℕ) (s : Stored Content) (is : IsStored state key id last_epoch s) where

@@ -15,8 +15,8 @@ use clock_store::StoredClock;
 use riak_msgs::PutAsk;
 use vnode_protocol::Refusal;
 
-/// The most siblings of a key.
-pub(crate) const MAX_SIBLINGS: u128 = 64;
+/// The most siblings of a key, as the clock counts them.
+pub const MAX_SIBLINGS: u128 = sibling_register::MAX_SIBLINGS as u128;
 
 /// Who makes a write: the actor of its key's life, or the next one's where it begins a life, as that of an absent key does
 /// and that of a key that came by copies alone; and the last epoch that is

@@ -22,6 +22,6 @@ mod checks;
 mod context;
 mod replies;
 
-pub use checks::{Writer, check_options, check_overwrite, check_room, last_of};
+pub use checks::{MAX_SIBLINGS, Writer, check_options, check_overwrite, check_room, last_of};
 pub use context::names_unissued_dot;
 pub use replies::{absent_reply, put_reply, siblings_reply};
