@@ -1,5 +1,5 @@
 -- The commands of a log.
-use Rattle.std.proofs.Common.{◌≡◌, ◌∙◌, ◌++◌, List, [], ◌∷◌, refl, sym, ap, subst}
+use Rattle.std.proofs.Common.{◌≡◌, ◌∙◌, ◌++◌, List, [], ◌∷◌, refl, sym, ap}
 use mathlib.Core.List.{IsPrefix}
 use Rattle.vnode_protocol.specs.declared.event.Event.{Event}
 use Rattle.vnode_protocol.specs.declared.entry.Entry.{Entry}

@@ -1,6 +1,6 @@
 -- What the register may do where a command is refused.
 use Rattle.std.proofs.Common.{◌≡◌, ℕ, Bool, true, false, List, refl, inr}
-use Rattle.std.specs.Prelude.{MatchBool, Result, Err}
+use Rattle.std.specs.Prelude.{MatchBool, Err}
 use Rattle.riak_msgs.specs.Contents.{Content}
 use Rattle.riak_msgs.specs.declared.PutAsk.{PutAsk}
 use Rattle.riak_msgs.specs.declared.DelAsk.{DelAsk}
@@ -20,7 +20,6 @@ use Rattle.vnode_protocol.specs.declared.ask.Ask.TheVariants.{Put, Del, Reap, Re
 use Rattle.vnode_protocol.specs.declared.refusal.Refusal.{Refusal}
 use Rattle.vnode_protocol.specs.declared.refusal.Refusal.TheVariants.{NoMemory}
 use Rattle.vnode_protocol.specs.Plans.{IsAccepted, Refuses, RegistersPlan}
-use Rattle.vnode_protocol.specs.Refusals.{number_of}
 use Rattle.vnode_protocol.proofs.Sound.{registers}
 
 -- where it accepts a put, the register may refuse memory

@@ -1,10 +1,10 @@
 -- What callers see of a vnode, and what its calls say by the machine's step.
-use Rattle.std.specs.Prelude.{◌≡◌, ◌⊎◌, not, ℕ, Option, Some, None, IsSome, IsTrue, Result, Ok, Err}
+use Rattle.std.specs.Prelude.{◌≡◌, ◌⊎◌, not, Option, Some, None, IsSome, IsTrue, Result, Ok, Err}
 use Rattle.std.specs.Option.{option_map_or}
 use Rattle.riak_msgs.specs.declared.Key.{Key}
 use Rattle.riak_msgs.specs.Contents.{Content}
 use Rattle.riak_msgs.specs.declared.PutReply.{PutReply}
-use Rattle.sibling_register.specs.History.{Operation, Write, Tombstone, Reap as Forget}
+use Rattle.sibling_register.specs.History.{Write, Tombstone, Reap as Forget}
 use Rattle.sibling_register.specs.Answers.{Ask as Command, AskPut, AskDel, AskReap}
 use Rattle.actor_epoch.specs.Given.{Context}
 use Rattle.vnode_machine.specs.Asks.{put_command, del_command}
@@ -12,7 +12,7 @@ use Rattle.vnode_machine.specs.Copying.{IsClock, is_stuck, apply_copy, apply_clo
 use Rattle.vnode_machine.specs.Dead.{first_dead}
 use Rattle.vnode_machine.specs.Machine.{State}
 use Rattle.vnode_machine.specs.Replay.{AtEachHistory}
-use Rattle.vnode_machine.specs.Step.{Response, PutDone, DelDone, ReapDone, ReapKept, StepOutcome, Refused, Answered, Accepted, outcome}
+use Rattle.vnode_machine.specs.Step.{PutDone, DelDone, ReapDone, ReapKept, StepOutcome, Refused, Answered, Accepted, outcome}
 use Rattle.vnode_machine.specs.Registers.{IsRegisters}
 use Rattle.vnode_protocol.specs.declared.ask.Ask.{Ask}
 use Rattle.vnode_protocol.specs.declared.ask.Ask.TheVariants.{Put, Del, Reap, ReapFirst, Copy, Close}
