@@ -1,5 +1,5 @@
 -- Copies that are ready, and what making one leaves.
-use Rattle.std.proofs.Common.{◌≡◌, ℕ, ◌≤◌, Bool, true, false, ◌||◌, length, refl, ap, arith}
+use Rattle.std.proofs.Common.{◌≡◌, ◌∙◌, ℕ, ◌≤◌, Bool, true, false, ◌||◌, length, refl, sym, ap, subst, arith}
 use Rattle.std.specs.Prelude.{not, nat_lt, Option, Some, None, IsTrue, option_and_then}
 use Rattle.std.specs.Option.{option_map_or}
 use Rattle.std.specs.FinMap.Entries.{put}
@@ -12,8 +12,8 @@ use Rattle.dvv_set.specs.Clocks.{DotState, sync}
 use Rattle.riak_msgs.specs.KeyOrder.{key_cmp}
 use Rattle.actor_epoch.specs.declared.Actor.{Actor}
 use Rattle.vnode_machine.specs.Machine.{State, Stored, stored, clock_of}
-use Rattle.clock_store.specs.Keys.{synced}
-use Rattle.vnode_machine.specs.Copying.{is_stuck, apply_copy}
+use Rattle.clock_store.specs.Keys.{Keys, synced}
+use Rattle.vnode_machine.specs.Copying.{IsClock, is_stuck, apply_copy}
 use Rattle.vnode_machine.specs.Sound.{IsSound}
 use Rattle.vnode_protocol.specs.declared.ask.Ask.TheVariants.{Copy}
 use Rattle.vnode_protocol.specs.declared.ask.Answer.TheVariants.{Copied}
@@ -29,9 +29,17 @@ few-actors state key clock h = few (nat_lt max_siblings (length (sync (clock_of 
     few true n most h = cc
     few false n most h = grind (arith, nat_tests)
 
-pub not-stuck : (b : Bool) → b ≡ false → IsTrue (not b)
+not-stuck : (b : Bool) → b ≡ false → IsTrue (not b)
 not-stuck true h = cc
 not-stuck false h = refl
+
+-- it is taken, by what its key and its clock were lent as, and by a vnode with the same keys
+pub takes-copy : (state : State Content) (keys : Keys) (copy : KeyCopyView) (key : Key) (clock : DotState (Option Content))
+    → key ≡ copy.key → clock ≡ copy.clock → IsClock copy.clock → state.closed ≡ None → is_stuck state key clock ≡ false → keys ≡ state.keys
+    → Accepts (record state { keys = keys }) (Copy copy)
+takes-copy state keys copy key clock of-key of-clock form opened unstuck same =
+    let free : is_stuck state copy.key copy.clock ≡ false = (λ i. is_stuck state (sym of-key i) (sym of-clock i)) ∙ unstuck in
+    subst (λ (keys : Keys). Accepts (record state { keys = keys }) (Copy copy)) (sym same) (opened, (form, not-stuck (is_stuck state copy.key copy.clock) free))
 
 -- a copy that is taken keeps the state sound
 pub sound-copied : (state : State Content) → IsSound state → (copy : KeyCopyView) → Accepts state (Copy copy) → IsSound (apply_copy state copy.key copy.clock)

@@ -2,10 +2,8 @@
 use Rattle.std.proofs.Common.{◌≡◌, ℕ, Bool, true, false, refl, sym, ◌∙◌, ap, subst, drop}
 use Rattle.std.specs.Prelude.{Option, Some, None, is_some, if◌then◌else◌}
 use Rattle.std.specs.Option.{option_map_or}
-use Rattle.std.specs.FinMap.Entries.{is_sorted}
 use Rattle.riak_msgs.specs.declared.Key.{Key}
 use Rattle.riak_msgs.specs.Contents.{Content}
-use Rattle.riak_msgs.specs.KeyOrder.{key_cmp}
 use Rattle.sibling_register.specs.History.{Reap}
 use Rattle.sibling_register.specs.Answers.{AskReap}
 use Rattle.vnode_machine.specs.Dead.{dead_keys, first_dead, has_dead, is_from, reaped}
@@ -18,7 +16,7 @@ use denote.Enum.Bare.{sameb}
 use Rattle.clock_store.specs.contracts.store.Reaped.{the_type}
 use Rattle.clock_store.specs.declared.store.Reaped.{Reaped}
 use Rattle.clock_store.specs.declared.store.Reaped.TheVariants.{Gone, Kept, Absent}
-use Rattle.vnode_protocol.specs.declared.ask.Ask.TheVariants.{Reap as ReapAsk, ReapFirst}
+use Rattle.vnode_protocol.specs.declared.ask.Ask.TheVariants.{Reap as ReapAsk}
 use Rattle.vnode_machine.specs.Sound.{IsSound}
 use Rattle.vnode_machine.proofs.Formed.{sound-next}
 use Rattle.vnode_protocol.specs.declared.ask.Answer.TheVariants as answers

@@ -1,6 +1,6 @@
 -- The next key of a walk is stored, with what the walk says of it.
 use Rattle.std.proofs.Common.{◌≡◌, Bool, true, false, cond, List, [], ◌∷◌, refl, sym, ◌∙◌, ap, subst}
-use Rattle.std.specs.Prelude.{Option, Some, None, IfSome, option_map, slice_get, filter}
+use Rattle.std.specs.Prelude.{Option, Some, None, IfSome, option_map, slice_get}
 use Rattle.std.specs.Borrow.{Bor}
 use Rattle.std.specs.Ordering.{eq_by_cmp}
 use Rattle.std.specs.FinMap.Entries.{find, is_sorted, below_all}

@@ -19,9 +19,7 @@ use ghost_state::GhostValue;
 use riak_msgs::BoxedContent;
 use std::alloc::Global;
 use vnode_protocol::{Answer, Ask, KeyCopy, Refusal};
-
-/// The most siblings of a key.
-const MAX_SIBLINGS: u128 = 64;
+use vnode_replies::MAX_SIBLINGS;
 
 /// Whether a key would have too many siblings, or its clock too many actors, once it is synced with another clock.
 fn is_stuck(alloc: Global, found: Option<&StoredClock>, other: &Clock<Option<BoxedContent>>) -> bool

@@ -1,5 +1,4 @@
 use Rattle.std.proofs.Common.{◌∙◌, sym, ap, subst}
-use Rattle.vnode_protocol.specs.declared.ask.Ask.TheVariants.{Copy}
 use Rattle.vnode_protocol.specs.Plans.{View}
 use Rattle.vnode_machine.specs.Sound.{IsSound}
 use Rattle.clock_store.specs.Keys.{Keys, synced}
