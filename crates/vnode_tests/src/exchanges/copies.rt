@@ -7,6 +7,7 @@ use crate::exchanges::steps::{
     Tombstone, V, Value,
 };
 use actor_epoch::Dot;
+use clock_store::KeyRef;
 use ghost_state::GhostList;
 use std::alloc::Global;
 use vnode_core::{Answer, Ask as VnodeAsk, KeyCopy, Plan, Reaped, Refusal, Vnode};
@@ -269,22 +270,26 @@ const ROWS: &[Row] = &[
 
 /// A copy of one of a vnode's keys, as the first diversion's; None where it has no such key.
 fn copy_of(fallback: &Vnode, alloc: Global, which: Which) -> Result<Option<KeyCopy>, Refusal> {
-    let Some((first, stored)) = fallback.next_key(None) else {
-        return Ok(None);
+    let before = match which {
+        First => None,
+        Second => first_key(fallback),
     };
-    match which {
-        First => Ok(Some(KeyCopy::of(alloc, first, stored, 1, GhostList::new())?)),
-        Second => match fallback.next_key(Some(first)) {
-            None => Ok(None),
-            Some((second, stored)) => Ok(Some(KeyCopy::of(
-                alloc,
-                second,
-                stored,
-                1,
-                GhostList::new(),
-            )?)),
-        },
+    match fallback.next_key(before) {
+        None => Ok(None),
+        Some((key, stored)) => Ok(Some(KeyCopy::of(alloc, key, stored, 1, GhostList::new())?)),
     }
+}
+
+/// The first key of a vnode.
+fn first_key(vnode: &Vnode) -> Option<KeyRef<'_>> {
+    let (key, _) = vnode.next_key(None)?;
+    Some(key)
+}
+
+/// How many siblings its first key has.
+fn first_siblings(vnode: &Vnode) -> Option<u128> {
+    let (_, stored) = vnode.next_key(None)?;
+    Some(stored.clock.uncovered(None))
 }
 
 /// What an answer says, which goes then.
@@ -297,17 +302,19 @@ fn said(answer: Answer, is_change: bool) -> Copying {
     }
 }
 
-/// Asks a vnode for a copy, and makes it.
+/// Asks a vnode for a copy, and makes it. One that is refused memory leaves as many siblings as there were.
 fn ask_copy(primary: &mut Vnode, alloc: Global, copy: KeyCopy) -> Result<Copying, Refusal> {
+    let siblings = first_siblings(primary);
     match primary.prepare(alloc, VnodeAsk::Copy(copy)) {
         Ok(Plan::Change(change)) => Ok(said(primary.finish(change), true)),
         Ok(Plan::Nothing(answer)) => Ok(said(answer, false)),
-        Err(refusal) => Err(refusal),
+        Err(refusal) if first_siblings(primary) == siblings => Err(refusal),
+        Err(_) => Ok(Copying::Other),
     }
 }
 
-/// Copies a key once; an error where memory was refused.
-fn copy_once(
+/// Copies a key; an error where memory was refused.
+fn copy(
     primary: &mut Vnode,
     fallback: &Vnode,
     alloc: Global,
@@ -316,19 +323,6 @@ fn copy_once(
     match copy_of(fallback, alloc, which)? {
         None => Ok(NoKey),
         Some(copy) => ask_copy(primary, alloc, copy),
-    }
-}
-
-/// Copies a key, and once more where memory was refused.
-fn copy(
-    primary: &mut Vnode,
-    fallback: &Vnode,
-    alloc: Global,
-    which: Which,
-) -> Result<Copying, Refusal> {
-    match copy_once(primary, fallback, alloc, which) {
-        Ok(copying) => Ok(copying),
-        Err(_) => copy_once(primary, fallback, alloc, which),
     }
 }
 
@@ -343,27 +337,32 @@ fn is_own(own: Option<Dot>, wanted: Option<(u32, u64)>) -> bool {
     }
 }
 
-/// The last dot of the key "k" at a vnode, asked once more where memory was refused.
-fn own_of(vnode: &Vnode, alloc: Global) -> Option<Dot> {
-    match key_of(alloc, b"k") {
-        Ok(key) => vnode.own(&key),
-        Err(_) => match key_of(alloc, b"k") {
-            Ok(key) => vnode.own(&key),
-            Err(_) => None,
-        },
+/// The last dot of the key "k" at a vnode; an error where memory was refused.
+fn own_of(vnode: &Vnode, alloc: Global) -> Result<Option<Dot>, Refusal> {
+    let key = key_of(alloc, b"k")?;
+    Ok(vnode.own(&key))
+}
+
+/// Whether a turn comes as expected; an error where memory was refused.
+fn goes_once(
+    primary: &mut Vnode,
+    fallback: &mut Vnode,
+    alloc: Global,
+    turn: &Turn,
+) -> Result<bool, Refusal> {
+    match turn {
+        Primary(steps) => Ok(taken(primary, alloc, steps) == steps.len()),
+        Fallback(steps) => Ok(taken(fallback, alloc, steps) == steps.len()),
+        Copy(which, wanted) => Ok(copy(primary, fallback, alloc, *which)? == *wanted),
+        Own(wanted) => Ok(is_own(own_of(primary, alloc)?, *wanted)),
     }
 }
 
-/// Whether a turn comes as expected.
+/// The same, once more where memory was refused.
 fn goes(primary: &mut Vnode, fallback: &mut Vnode, alloc: Global, turn: &Turn) -> bool {
-    match turn {
-        Primary(steps) => taken(primary, alloc, steps) == steps.len(),
-        Fallback(steps) => taken(fallback, alloc, steps) == steps.len(),
-        Copy(which, wanted) => match copy(primary, fallback, alloc, *which) {
-            Ok(copying) => copying == *wanted,
-            Err(_) => false,
-        },
-        Own(wanted) => is_own(own_of(primary, alloc), *wanted),
+    match goes_once(primary, fallback, alloc, turn) {
+        Ok(is_so) => is_so,
+        Err(_) => goes_once(primary, fallback, alloc, turn) == Ok(true),
     }
 }
 
