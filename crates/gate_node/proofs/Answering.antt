@@ -1,7 +1,7 @@
 -- What is answered at one vnode, as the sibling register answers it, by the commands that were seen of it.
 use Rattle.std.proofs.Common.{◌≡◌, ◌∙◌, ℕ, List, [], ◌∷◌, ◌++◌, refl, sym, ap, subst, inl, inr}
 use Rattle.std.proofs.lemmas.List.{append-nil}
-use Rattle.std.specs.Prelude.{◌⊎◌, if◌then◌else◌, Option, Result, Ok, Err}
+use Rattle.std.specs.Prelude.{◌⊎◌, Option, Result, Ok, Err}
 use mathlib.Core.List.{IsPrefix}
 use Rattle.rw_gate.specs.Histories.{RunFrom}
 use Rattle.riak_msgs.specs.Contents.{Content}

@@ -1,14 +1,16 @@
 -- The passes that are kept of fallbacks, and the fallbacks.
 use Rattle.std.proofs.Common.{◌≡◌, ◌<◌, ◌∙◌, ℕ, List, [], ◌∷◌, length, refl, sym, ap, subst, arith, inl}
-use Rattle.std.specs.Prelude.{Option, Some, None, true, slice_get, slice_set, zero, suc}
+use Rattle.std.specs.Prelude.{Option, Some, None, Result, Ok, Err, IfOk, true, slice_get, slice_set, zero, suc}
+use Rattle.riak_msgs.specs.declared.Reply.{Reply}
+use Rattle.stats_book.specs.declared.quantity.Quantity.{Quantity}
 use Rattle.std.proofs.lemmas.Bool.{eqb-true}
 use Rattle.std.proofs.lemmas.Option.{slice_get_within}
 use Rattle.handoff.specs.declared.gates.Fallback.{Fallback}
-use Rattle.handoff.specs.Partitions.{AreNone}
+use Rattle.handoff.specs.Partitions.{AreNone, number_in, number_of}
 use Rattle.gate_node.specs.declared.passes.FallbackPass.{FallbackPass}
 use Rattle.gate_node.specs.Asked.{Sight}
 use Rattle.gate_node.specs.Gates.{Gates}
-use Rattle.gate_node.specs.Passes.{Sights, Fits, AllFit, OutliveDiversion, AnswersAtFallback, IsRenewed, is_of, kept_of}
+use Rattle.gate_node.specs.Passes.{Sights, Fits, AllFit, OutliveDiversion, AnswersAtFallback, AnswersBy, FindsClosed, IsClosedBy, IsRenewed, Resumes, is_of, kept_of}
 
 none_some : {A : Type 0} (x : A) → None ≡ Some x → ⊥
 none_some x h = cc
@@ -54,27 +56,40 @@ pub place_at : (fallbacks : List (Option Fallback)) (all : List (Option Fallback
 place_at fallbacks all i f fit here =
     let many = fit_length fallbacks all fit in let inside = slice_get_within fallbacks i f here in omega (arith, many, inside)
 
--- a pass by which something was answered at a fallback fits
+-- a pass by which a fallback was asked fits
 pub answered_fits : (fallback : Fallback) (old new : Option FallbackPass) (Answers : Sight → Sight → Type 0) → AnswersAtFallback fallback old new Answers → Fits (Some fallback) new
 answered_fits fallback old new Answers h =
-    subst (λ (o : Option FallbackPass). Fits (Some fallback) o) (sym h.kept) (omega arith, (λ same. h.gate ∙ h.of_gate))
+    subst (λ (o : Option FallbackPass). Fits (Some fallback) o) (sym h.kept) (omega arith, (λ same. h.gate ∙ h.of_gate), tt)
 
--- where there was no fallback, nothing is kept, and that fits a new one
-new_fits : (fallback : Fallback) (kept : Option FallbackPass) → Fits None kept → Fits (Some fallback) kept
-new_fits fallback None fit = tt
-new_fits fallback (Some kept) fit = absurd fit
+pub closed_fits : (fallback : Fallback) (old new : Option FallbackPass) (number : ℕ) → FindsClosed fallback old new number → Fits (Some fallback) new
+closed_fits fallback old new number h =
+    subst (λ (o : Option FallbackPass). Fits (Some fallback) o) (sym h.kept) (omega arith, (λ same. h.closed.gate ∙ h.of_gate), h.closed.closed)
 
-fit_new : (fallbacks : List (Option Fallback)) (all : List (Option FallbackPass)) (i : ℕ) (fallback : Fallback) → AllFit fallbacks all → slice_get fallbacks i ≡ Some None → AllFit (slice_set fallbacks i (Some fallback)) all
-fit_new [] all i fallback fit here = absurd (none_some None here)
-fit_new (y ∷ ys) [] i fallback fit here = absurd fit
-fit_new (y ∷ ys) (x ∷ xs) zero fallback fit here = let a : y ≡ None = cc in (new_fits fallback x (subst (λ (o : Option Fallback). Fits o x) a fit.0), fit.1)
-fit_new (y ∷ ys) (x ∷ xs) (suc i) fallback fit here = (fit.0, fit_new ys xs i fallback fit.1 here)
+-- what is kept fits a fallback with a greater number
+later_fits : (fallback : Fallback) (earlier : Option Fallback) (kept : Option FallbackPass) → number_of earlier < fallback.diversion → Fits earlier kept → Fits (Some fallback) kept
+later_fits fallback None None later fit = tt
+later_fits fallback None (Some kept) later fit = absurd fit
+later_fits fallback (Some earlier) None later fit = tt
+later_fits fallback (Some earlier) (Some kept) later fit =
+    let before = fit.0 in
+    (omega (arith, before, later), (λ same. absurd (omega (arith, before, later, same))), fit.2)
+
+fit_later : (fallbacks : List (Option Fallback)) (all : List (Option FallbackPass)) (i : ℕ) (fallback : Fallback) → AllFit fallbacks all → number_in (slice_get fallbacks i) < fallback.diversion
+    → AllFit (slice_set fallbacks i (Some fallback)) all
+fit_later [] [] i fallback fit later = tt
+fit_later [] (x ∷ all) i fallback fit later = absurd fit
+fit_later (y ∷ ys) [] i fallback fit later = absurd fit
+fit_later (y ∷ ys) (x ∷ xs) zero fallback fit later = (later_fits fallback y x later fit.0, fit.1)
+fit_later (y ∷ ys) (x ∷ xs) (suc i) fallback fit later = (fit.0, fit_later ys xs i fallback fit.1 later)
 
 pub outlive_diversion : (index : ℕ) (old new : Gates) (passes : Sights) → OutliveDiversion index old new passes
-outlive_diversion index old new passes diverted are = record {
-  primaries = are.primaries ∙ sym (ap (λ h. h.gates) diverted.is);
-  fallbacks = subst (λ fs. AllFit fs passes.fallbacks) (sym (ap (λ h. h.fallbacks) diverted.is)) (fit_new old.fallbacks passes.fallbacks index diverted.fallback are.fallbacks diverted.undiverted);
-}
+outlive_diversion index old new passes diverted are =
+    let next = diverted.next in
+    record {
+      primaries = are.primaries ∙ sym (ap (λ h. h.gates) diverted.is);
+      fallbacks = subst (λ fs. AllFit fs passes.fallbacks) (sym (ap (λ h. h.fallbacks) diverted.is))
+          (fit_later old.fallbacks passes.fallbacks index diverted.fallback are.fallbacks (omega (arith, next)));
+    }
 
 -- a pass that is kept of this fallback
 none_kept : {A : Type 0} (fallback : Fallback) → is_of fallback None ≡ true → A
@@ -84,5 +99,49 @@ pub kept_is : (fallback : Fallback) (kept : Option FallbackPass) → Fits (Some 
 kept_is fallback None fit is = absurd (none_kept fallback is)
 kept_is fallback (Some kept) fit is =
     let same = eqb-true kept.diversion fallback.diversion is in
-    let here : Some kept ≡ kept_of fallback kept.pass = ap (λ n. Some (record { diversion = n; pass = kept.pass })) same in
-    record { pass = kept.pass; is = here; gate = fit.1 same; resumes = inl here }
+    let here : Some kept ≡ kept_of fallback kept.pass kept.closed = ap (λ n. Some (record { diversion = n; pass = kept.pass; closed = kept.closed })) same in
+    record { pass = kept.pass; closed = kept.closed; is = here; gate = fit.1 same; resumes = inl here; seen = fit.2 }
+
+-- what is kept has this number, this pass and this close
+kept_so : (fallback : Fallback) (kept : FallbackPass) (closed : Option ℕ) → kept.diversion ≡ fallback.diversion → kept.closed ≡ closed → Some kept ≡ kept_of fallback kept.pass closed
+kept_so fallback kept closed number close = λ i. Some (record { diversion = number i; pass = kept.pass; closed = close i })
+
+-- by a pass that was renewed the fallback answers, or is closed
+pub answers_at : (fallback : Fallback) (had : Option FallbackPass) (old new : FallbackPass) (Answers : Sight → Sight → Type 0) → IsRenewed fallback had (Some old) → AnswersBy old new Answers
+    → AnswersAtFallback fallback had (Some new) Answers
+answers_at fallback had old new Answers renewed h =
+    let same : old ≡ record { diversion = fallback.diversion; pass = renewed.pass; closed = renewed.closed } = cc (renewed.is) in
+    let pass : renewed.pass ≡ old.pass = sym (ap (λ (k : FallbackPass). k.pass) same) in
+    let unclosed : renewed.closed ≡ None = sym (ap (λ (k : FallbackPass). k.closed) same) ∙ h.unclosed in
+    record {
+      before = old.pass;
+      after = new.pass;
+      resumes = subst (λ (p : Sight × Option ℕ). Resumes fallback had p.0 p.1) (λ i. (pass i, unclosed i)) renewed.resumes;
+      of_gate = sym (ap (λ (p : Sight). p.gate) pass) ∙ renewed.gate;
+      gate = h.gate;
+      more = h.more;
+      answers = h.answers;
+      kept = kept_so fallback new None (h.diversion ∙ ap (λ (k : FallbackPass). k.diversion) same) h.still;
+    }
+
+pub answers_at_where : {E : Type 0} (fallback : Fallback) (had : Option FallbackPass) (old new : FallbackPass) (result : Result (Reply × Option Quantity) E) (Answers : Reply × Option Quantity → Sight → Sight → Type 0)
+    → IsRenewed fallback had (Some old) → IfOk result (λ a. AnswersBy old new (Answers a)) → IfOk result (λ a. AnswersAtFallback fallback had (Some new) (Answers a))
+answers_at_where fallback had old new (Ok a) Answers renewed h = answers_at fallback had old new (Answers a) renewed h
+answers_at_where fallback had old new (Err e) Answers renewed h = tt
+
+pub closes_at : (fallback : Fallback) (had : Option FallbackPass) (old new : FallbackPass) (number : ℕ) → IsRenewed fallback had (Some old) → IsClosedBy number old new
+    → FindsClosed fallback had (Some new) number
+closes_at fallback had old new number renewed h =
+    let same : old ≡ record { diversion = fallback.diversion; pass = renewed.pass; closed = renewed.closed } = cc (renewed.is) in
+    let pass : renewed.pass ≡ old.pass = sym (ap (λ (k : FallbackPass). k.pass) same) in
+    let known : renewed.closed ≡ old.closed = sym (ap (λ (k : FallbackPass). k.closed) same) in
+    record {
+      before = old.pass;
+      after = new.pass;
+      known = old.closed;
+      resumes = subst (λ (p : Sight × Option ℕ). Resumes fallback had p.0 p.1) (λ i. (pass i, known i)) renewed.resumes;
+      of_gate = sym (ap (λ (p : Sight). p.gate) pass) ∙ renewed.gate;
+      closed = h.closed;
+      stays = h.stays;
+      kept = kept_so fallback new (Some number) (h.diversion ∙ ap (λ (k : FallbackPass). k.diversion) same) h.kept;
+    }

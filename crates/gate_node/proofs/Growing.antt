@@ -38,14 +38,15 @@ use Rattle.node_session.specs.PlainStep.{answer_reply}
 use Rattle.gate_ask.specs.declared.asking.Outcome.{Outcome}
 use Rattle.gate_ask.specs.declared.asking.Outcome.TheVariants.{Made, Told, Moved, Full}
 use Rattle.gate_ask.specs.declared.asking.Outcome.TheVariants as Outcomes
-use Rattle.gate_node.specs.Asked.{Sight, Changes, ComesOf, IsMadeBy, answer_quantity, get_quantity, outcome_quantity, outcome_reply, told_quantity}
+use Rattle.gate_node.specs.Asked.{Sight, Changes, ChangesOpen, GetsOpen, ComesOf, IsMadeBy, answer_quantity, get_quantity, outcome_quantity, outcome_reply, told_quantity}
 use Rattle.gate_node.specs.Asked.{Gets as AnswersGet}
 use Rattle.gate_node.specs.Gates.{Gates}
-use Rattle.gate_node.specs.GateStep.{Node, GateStep, AtPartition}
+use Rattle.gate_node.specs.GateStep.{Node, GateStep, AnswersMoved, AtIndex, AtIndexFrom, AtPartition}
 use Rattle.stats_book.specs.Counter.{Count, Counts, CountsReply, CountsAnswer}
 use Rattle.gate_node.specs.Sessions.{reply_most, most_of, CountsUpTo}
 use Rattle.stats_book.proofs.Raising.{raised_none}
 use Rattle.gate_node.proofs.Keeping.{read-keeps}
+use Rattle.gate_node.proofs.Unclosed.{gets_open}
 
 -- how much of a quantity so many of another are
 abbrev part : Quantity → ℕ → Quantity → ℕ
@@ -266,15 +267,43 @@ none-counts most old gets puts = record {
   full = λ full. full;
 }
 
-at-counts : (index : ℕ) (old new : Node) (reply : Reply) (Answers : Sight → Sight → Option Quantity → Type 0) → ((p q : Sight) (quantity : Option Quantity) → Answers p q quantity → Fits reply quantity)
-    → AtPartition index old new Answers → CountsUpTo (λ q. reply_most old.shared.budget q reply) old.count new.count
-at-counts index old new reply Answers fits (inl at) =
+abbrev CountsAs : Node → Reply → Node → Type 0
+CountsAs old reply new = CountsUpTo (λ q. reply_most old.shared.budget q reply) old.count new.count
+
+index-counts : (index : ℕ) (old : Node) (reply : Reply) (new : Node) (Says : Sight → Sight → Option Quantity → Type 0) → ((p q : Sight) (quantity : Option Quantity) → Says p q quantity → Fits reply quantity)
+    → AtIndex index old new Says → CountsAs old reply new
+index-counts index old reply new Says fits at =
     let few : at.reaps ≤ old.shared.budget = at.steps.reaps.few in
-    subst (λ (n : Node). CountsUpTo (λ q. reply_most old.shared.budget q reply) old.count n.count) (sym at.node)
+    subst (λ (n : Node). CountsAs old reply n) (sym at.node)
     (one-counts old.shared.budget at.reaps reply at.quantity old.count at.count (fits at.before at.steps.answered at.quantity at.steps.answers) few at.counts)
-at-counts index old new reply Answers fits (inr at) =
-    subst (λ (n : Node). CountsUpTo (λ q. reply_most old.shared.budget q reply) old.count n.count) (sym at.node)
-    (one-counts old.shared.budget 0 reply at.quantity old.count at.count (fits at.before at.after at.quantity at.answers) (omega arith) at.counts)
+
+moved-counts : (old : Node) (reply : Reply) (new : Node) → AnswersMoved old reply new → CountsAs old reply new
+moved-counts old reply new moved =
+    subst (λ (n : Node). CountsAs old reply n) (sym moved.node)
+    (one-counts old.shared.budget 0 reply (Some Refusals) old.count moved.count (subst (λ (r : Reply). Fits r (Some Refusals)) (sym moved.replied) refl) (omega arith) moved.counts)
+
+-- a look counts nothing
+module _ (index number : ℕ) (old : Node) (reply : Reply) (new : Node) (Answers : Sight → Sight → Reply → Option Quantity → Type 0)
+    (fits : (p q : Sight) (quantity : Option Quantity) → Answers p q reply quantity → Fits reply quantity) where
+  from-counts : AtIndexFrom index number old reply new Answers → CountsAs old reply new
+  from-counts at =
+      let looked : (at.looked.shared, at.looked.count) ≡ (old.shared, old.count) = ap (λ (n : Node). (n.shared, n.count)) at.looks.node in
+      let here : CountsAs at.looked reply new = elim at.answers [
+        | inl far ↦ index-counts index at.looked reply new (λ p q. Answers p q reply) fits far.1
+        | inr short ↦ moved-counts at.looked reply new short.1
+      ] in
+      subst (λ (p : Gates × Count). CountsUpTo (λ q. reply_most p.0.budget q reply) p.1 new.count) looked here
+
+at-counts : (index : ℕ) (old : Node) (reply : Reply) (new : Node) (Answers AnswersOpen : Sight → Sight → Reply → Option Quantity → Type 0)
+    → ((p q : Sight) (quantity : Option Quantity) → Answers p q reply quantity → Fits reply quantity) → ((p q : Sight) (quantity : Option Quantity) → AnswersOpen p q reply quantity → Answers p q reply quantity)
+    → AtPartition index old reply new Answers AnswersOpen → CountsAs old reply new
+at-counts index old reply new Answers AnswersOpen fits opened (inl (none, at)) = index-counts index old reply new (λ p q. Answers p q reply) fits at
+at-counts index old reply new Answers AnswersOpen fits opened (inr (inl at)) =
+    subst (λ (n : Node). CountsAs old reply n) (sym at.node)
+    (one-counts old.shared.budget 0 reply at.quantity old.count at.count (fits at.before at.after at.quantity (opened at.before at.after at.quantity at.answers)) (omega arith) at.counts)
+at-counts index old reply new Answers AnswersOpen fits opened (inr (inr at)) =
+    subst (λ (p : Gates × Count). CountsUpTo (λ q. reply_most p.0.budget q reply) p.1 new.count) (ap (λ (n : Node). (n.shared, n.count)) at.closed.node)
+    (from-counts index at.number at.found reply new Answers fits at.answers)
 
 same-counts : (most : Quantity → ℕ) (old new : Node) → new ≡ old → most Gets ≡ 0 → most Puts ≡ 0 → CountsUpTo most old.count new.count
 same-counts most old new same gets puts = subst (λ (n : Node). CountsUpTo most old.count n.count) (sym same) (none-counts most old.count gets puts)
@@ -282,9 +311,12 @@ same-counts most old new same gets puts = subst (λ (n : Node). CountsUpTo most 
 step-counts : (old : Node) (request : Request) (reply : Reply) (new : Node) → GateStep old request reply new → CountsUpTo (λ q. reply_most old.shared.budget q reply) old.count new.count
 step-counts old requests.Ping reply new step =
     subst (λ (r : Reply). CountsUpTo (λ q. reply_most old.shared.budget q r) old.count new.count) (sym step.0) (same-counts (λ q. reply_most old.shared.budget q replies.Ping) old new step.1 refl refl)
-step-counts old (requests.Get get) reply new step = at-counts (partition_of old.shared.index_bits get.key) old new reply (λ p q. AnswersGet get p q reply) (λ p q quantity. gets-fit get p q reply quantity) step
-step-counts old (requests.Put put) reply new step = at-counts (partition_of old.shared.index_bits put.key) old new reply (λ p q. Changes (asks.Put put) p q reply) (λ p q quantity. changes-fit (asks.Put put) tt p q reply quantity) step
-step-counts old (requests.Del del) reply new step = at-counts (partition_of old.shared.index_bits del.key) old new reply (λ p q. Changes (asks.Del del) p q reply) (λ p q quantity. changes-fit (asks.Del del) tt p q reply quantity) step
+step-counts old (requests.Get get) reply new step =
+    at-counts (partition_of old.shared.index_bits get.key) old reply new (AnswersGet get) (GetsOpen get) (λ p q quantity. gets-fit get p q reply quantity) (λ p q quantity. gets_open get p q reply quantity) step
+step-counts old (requests.Put put) reply new step =
+    at-counts (partition_of old.shared.index_bits put.key) old reply new (Changes (asks.Put put)) (ChangesOpen (asks.Put put)) (λ p q quantity. changes-fit (asks.Put put) tt p q reply quantity) (λ p q quantity says. says.0) step
+step-counts old (requests.Del del) reply new step =
+    at-counts (partition_of old.shared.index_bits del.key) old reply new (Changes (asks.Del del)) (ChangesOpen (asks.Del del)) (λ p q quantity. changes-fit (asks.Del del) tt p q reply quantity) (λ p q quantity says. says.0) step
 
 error-counts : (old new : Node) (reply : Reply) (text : Text) → reply ≡ replies.Error text → new ≡ old → CountsUpTo (λ q. reply_most old.shared.budget q reply) old.count new.count
 error-counts old new reply text is same =

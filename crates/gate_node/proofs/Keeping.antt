@@ -6,20 +6,33 @@ use Rattle.riak_msgs.specs.declared.fault.MsgFault.{MsgFault}
 use Rattle.riak_msgs.specs.declared.Request.{Request}
 use Rattle.riak_msgs.specs.declared.Request.TheVariants as requests
 use Rattle.riak_msgs.specs.declared.Reply.{Reply}
+use Rattle.vnode_protocol.specs.declared.ask.Ask.TheVariants as asks
 use Rattle.node_session.specs.Answers.{AnswersRead, Run}
 use Rattle.stats_book.specs.declared.quantity.Quantity.{Quantity}
-use Rattle.gate_node.specs.Asked.{Sight}
-use Rattle.gate_node.specs.GateStep.{Node, GateStep, AtPartition}
+use Rattle.gate_node.specs.Asked.{Sight, Gets, GetsOpen, Changes, ChangesOpen}
+use Rattle.gate_node.specs.GateStep.{Node, GateStep, AtIndexFrom, AtPartition}
 
-partition-keeps : (index : ℕ) (old new : Node) (Answers : Sight → Sight → Option Quantity → Type 0) → AtPartition index old new Answers → new.shared ≡ old.shared
-partition-keeps index old new Answers (inl at) = ap (λ (n : Node). n.shared) at.node
-partition-keeps index old new Answers (inr at) = ap (λ (n : Node). n.shared) at.node
+from-keeps : (index number : ℕ) (old : Node) (reply : Reply) (new : Node) (Answers : Sight → Sight → Reply → Option Quantity → Type 0) → AtIndexFrom index number old reply new Answers
+    → new.shared ≡ old.shared
+from-keeps index number old reply new Answers at =
+    let looked = ap (λ (n : Node). n.shared) at.looks.node in
+    elim at.answers [
+      | inl far ↦ ap (λ (n : Node). n.shared) far.1.node ∙ looked
+      | inr short ↦ ap (λ (n : Node). n.shared) short.1.node ∙ looked
+    ]
+
+partition-keeps : (index : ℕ) (old : Node) (reply : Reply) (new : Node) (Answers AnswersOpen : Sight → Sight → Reply → Option Quantity → Type 0)
+    → AtPartition index old reply new Answers AnswersOpen → new.shared ≡ old.shared
+partition-keeps index old reply new Answers AnswersOpen (inl (none, at)) = ap (λ (n : Node). n.shared) at.node
+partition-keeps index old reply new Answers AnswersOpen (inr (inl at)) = ap (λ (n : Node). n.shared) at.node
+partition-keeps index old reply new Answers AnswersOpen (inr (inr at)) =
+    from-keeps index at.number at.found reply new Answers at.answers ∙ ap (λ (n : Node). n.shared) at.closed.node
 
 pub step-keeps : (old : Node) (request : Request) (reply : Reply) (new : Node) → GateStep old request reply new → new.shared ≡ old.shared
 step-keeps old requests.Ping reply new step = ap (λ (n : Node). n.shared) step.1
-step-keeps old (requests.Get get) reply new step = partition-keeps _ old new _ step
-step-keeps old (requests.Put put) reply new step = partition-keeps _ old new _ step
-step-keeps old (requests.Del del) reply new step = partition-keeps _ old new _ step
+step-keeps old (requests.Get get) reply new step = partition-keeps _ old reply new (Gets get) (GetsOpen get) step
+step-keeps old (requests.Put put) reply new step = partition-keeps _ old reply new (Changes (asks.Put put)) (ChangesOpen (asks.Put put)) step
+step-keeps old (requests.Del del) reply new step = partition-keeps _ old reply new (Changes (asks.Del del)) (ChangesOpen (asks.Del del)) step
 
 pub read-keeps : (old : Node) (said : Result Request MsgFault) (reply : Reply) (new : Node) → AnswersRead GateStep old said reply new → new.shared ≡ old.shared
 read-keeps old (Ok request) reply new (inl step) = step-keeps old request reply new step

@@ -6,4 +6,6 @@ pub mod Legal
 pub mod Opened
 pub mod Reaping
 pub mod Registers
+pub mod Resuming
 pub mod Seeing
+pub mod Unclosed

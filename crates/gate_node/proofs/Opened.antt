@@ -2,7 +2,8 @@
 use Rattle.std.proofs.Common.{◌≡◌, ◌∙◌, ◌+◌, ◌<◌, ◌≤◌, ◌^◌, ℕ, List, [], ◌∷◌, length, map, refl, sym, ap, subst, arith}
 use Rattle.std.specs.Prelude.{Option, Some, None, slice_get, slice_set, get_or, zero, suc}
 use Rattle.std.proofs.Math.Seq.{map-set_same}
-use Rattle.std.specs.Option.{option_map}
+use Rattle.std.specs.Option.{option_map, option_map_or}
+use mathlib.Core.List.{IsPrefix}
 use Rattle.std.proofs.lemmas.List.{length-map}
 use Rattle.std.proofs.lemmas.Option.{slice_get-map, slice_get_within}
 use Rattle.ring_map.specs.Ring.{id_of}
@@ -17,8 +18,9 @@ use Rattle.handoff.specs.Partitions.{AreMadeNew, AreOfNewRun, IsFallback}
 use Rattle.handoff.proofs.Opened.{got}
 use Rattle.gate_node.specs.declared.passes.FallbackPass.{FallbackPass}
 use Rattle.gate_node.specs.Asked.{Sight, AnswersAndReaps}
-use Rattle.gate_node.specs.GateStep.{Node, AtIndex, AtFallback}
-use Rattle.gate_node.specs.Passes.{AnswersAtFallback}
+use Rattle.gate_node.specs.GateStep.{Node, AtIndex, AtFallback, AtClosed, Looks, events_seen}
+use Rattle.gate_node.specs.Passes.{AnswersAtFallback, FindsClosed}
+use Rattle.gate_node.proofs.Seeing.{set_here}
 
 none_some : {A : Type 0} (x : A) → None ≡ Some x → ⊥
 none_some x h = cc
@@ -64,13 +66,13 @@ new_there run i gates passes p new of at =
 
 -- what is answered by the pass at an index is answered at that index
 pub at_index : (node : Node) (i : ℕ) (p q : Sight) (Answers : Sight → Sight → Option Quantity → Type 0) (quantity : Option Quantity) (reaps : ℕ) (count : Count)
-    → AreOfNewRun node.shared.run node.shared.gates → map (λ (s : Sight). s.gate) node.passes.primaries ≡ node.shared.gates → slice_get node.shared.fallbacks i ≡ Some None → i < length node.passes.primaries
+    → AreOfNewRun node.shared.run node.shared.gates → map (λ (s : Sight). s.gate) node.passes.primaries ≡ node.shared.gates → i < length node.passes.primaries
     → p ≡ get_or node.passes.primaries i p → q.gate ≡ p.gate → AnswersAndReaps node.shared.budget reaps (λ x y. Answers x y quantity) p q → CountsAnswer quantity reaps node.count count
     → AtIndex i node (record node { passes = record node.passes { primaries = slice_set node.passes.primaries i q }; count = count }) Answers
-at_index node i p q Answers quantity reaps count all of none within is gate steps counts =
+at_index node i p q Answers quantity reaps count all of within is gate steps counts =
     let at = got node.passes.primaries i p within is in
     let new = new_there node.shared.run i node.shared.gates node.passes.primaries p all of at in
-    record { undiverted = none; before = p; after = q; quantity = quantity; reaps = reaps; count = count; stands = at; made_new = new.0; limits = new.1; gate = gate; steps = steps; counts = counts; node = refl }
+    record { before = p; after = q; quantity = quantity; reaps = reaps; count = count; stands = at; made_new = new.0; limits = new.1; gate = gate; steps = steps; counts = counts; node = refl }
 
 -- and what is answered by the pass that is kept of a fallback, at that
 pub at_fallback : (node : Node) (i : ℕ) (fallback : Fallback) (kept new : Option FallbackPass) (Answers : Sight → Sight → Option Quantity → Type 0) (quantity : Option Quantity) (count : Count)
@@ -95,3 +97,35 @@ at_fallback node i fallback kept new Answers quantity count some is_new within i
   counts = counts;
   node = ap (λ k. record node { passes = record node.passes { fallbacks = slice_set node.passes.fallbacks i k }; count = count }) answers.kept;
 }
+
+-- or finds that closed
+pub at_closed : (node : Node) (i : ℕ) (fallback : Fallback) (kept new : Option FallbackPass) (number : ℕ)
+    → slice_get node.shared.fallbacks i ≡ Some (Some fallback) → IsFallback node.shared.run i fallback → i < length node.passes.fallbacks → kept ≡ get_or node.passes.fallbacks i kept
+    → FindsClosed fallback kept new number → AtClosed i number node (record node { passes = record node.passes { fallbacks = slice_set node.passes.fallbacks i new } })
+at_closed node i fallback kept new number some is_new within is finds = record {
+  fallback = fallback;
+  diverted = some;
+  is_new = is_new;
+  kept = kept;
+  stood = got node.passes.fallbacks i kept within is;
+  before = finds.before;
+  after = finds.after;
+  known = finds.known;
+  resumes = finds.resumes;
+  of_gate = finds.of_gate;
+  closed = finds.closed;
+  stays = finds.stays;
+  node = ap (λ k. record node { passes = record node.passes { fallbacks = slice_set node.passes.fallbacks i k } }) finds.kept;
+}
+
+-- a pass of a primary is shown what stands there
+pub looks_at : (node : Node) (i : ℕ) (p q : Sight) → i < length node.passes.primaries → p ≡ get_or node.passes.primaries i p → q.gate ≡ p.gate → IsPrefix p.prefix q.prefix → q.own ≡ p.own
+    → Looks i node (record node { passes = record node.passes { primaries = slice_set node.passes.primaries i q } })
+looks_at node i p q within is gate more own =
+    record { before = p; after = q; stands = got node.passes.primaries i p within is; gate = gate; more = more; own = own; node = refl }
+
+-- and so many events were seen of it then
+pub seen_there : (node : Node) (i : ℕ) (p q : Sight) → i < length node.passes.primaries → p ≡ get_or node.passes.primaries i p
+    → length q.prefix ≡ events_seen (record node { passes = record node.passes { primaries = slice_set node.passes.primaries i q } }) i
+seen_there node i p q within is =
+    ap (λ (o : Option Sight). option_map_or (λ (pass : Sight). length pass.prefix) o 0) (sym (set_here node.passes.primaries i p q (got node.passes.primaries i p within is)))

@@ -1,7 +1,7 @@
 -- A session over gates answers as the sibling register does, among others.
 use Rattle.std.proofs.Common.{◌≡◌, ◌∙◌, ℕ, List, [], refl, sym, ap, subst, inl, inr}
 use Rattle.std.proofs.lemmas.List.{append-nil}
-use Rattle.std.specs.Prelude.{◌⊎◌, Option, slice_get}
+use Rattle.std.specs.Prelude.{◌⊎◌, Option, Some, None, slice_get}
 use Rattle.std.specs.Option.{option_map_or}
 use mathlib.Core.List.{IsPrefix}
 use Rattle.pb_frame.specs.Message.{Message}
@@ -19,7 +19,7 @@ use Rattle.vnode_machine.specs.Replay.{IsWithinLimits}
 use Rattle.vnode_protocol.specs.declared.ask.Ask.TheVariants as asks
 use Rattle.vnode_protocol.specs.Events.{AreCommands, IsMadeNew, commands_of, all_commands}
 use Rattle.vnode_protocol.specs.Plans.{View}
-use Rattle.vnode_protocol.proofs.Entries.{all_commands-commands_of}
+use Rattle.vnode_protocol.proofs.Entries.{all_commands-commands_of, commands_before}
 use Rattle.handoff.specs.Partitions.{fallback_id}
 use Rattle.node_session.specs.Answers.{Run}
 use Rattle.node_session.specs.Answered.{Answered as Output}
@@ -28,15 +28,16 @@ use Rattle.node_session.specs.Session.{IsEnd, Stops}
 use Rattle.node_session.specs.declared.fault.SessionFault.{SessionFault}
 use Rattle.node_session.proofs.Simulating.{run_like, end_like, stops_like}
 use Rattle.stats_book.specs.declared.quantity.Quantity.{Quantity}
-use Rattle.gate_node.specs.Asked.{Sight, Gets, Changes}
+use Rattle.gate_node.specs.Asked.{Sight, Gets, GetsOpen, Changes, ChangesOpen}
 use Rattle.gate_node.specs.Gates.{Gates}
-use Rattle.gate_node.specs.GateStep.{Node, GateStep, AtIndex, AtFallback, AtPartition}
+use Rattle.gate_node.specs.GateStep.{Node, GateStep, AtIndex, AtFallback, AtClosed, AtIndexFrom, AtPartition}
 use Rattle.gate_node.specs.Passes.{kept_of}
 use Rattle.gate_node.specs.Registers.{VnodeId, vnode_at, id_at, first_epoch, seen_at, Commands, Seen, seen_by, AnswersAmongOthers, IsOfGate, AnswersAskAt, SharedRegister, RunIsRegister, EndIsRegister, StopIsRegister, entries_by, HasSeenCommands}
 use Rattle.gate_node.proofs.Keeping.{step-keeps}
 use Rattle.node_session.proofs.HandingBack.{Held, run_in, end_in, stops_in}
 use Rattle.gate_node.proofs.Answering.{put_answers, del_answers, get_answers}
-use Rattle.gate_node.proofs.Seeing.{all_reaps_more, set_here, set_there, undiverted_seen, diverted_seen, kept_seen, resumed_seen, step_commands}
+use Rattle.gate_node.proofs.Unclosed.{commands_close_nothing, gets_open}
+use Rattle.gate_node.proofs.Seeing.{all_reaps_more, from_adds, set_here, set_there, undiverted_seen, diverted_seen, kept_seen, resumed_seen, step_commands}
 
 -- the last epoch behind which a gate's vnode began
 epoch_of : (vnode last_epoch : ℕ) (gate : GateId View) → IsMadeNew vnode last_epoch gate → last_epoch ≡ first_epoch gate
@@ -56,14 +57,14 @@ module _ (index : ℕ) (command : Command Content Context) (old new : Node) (rep
   last_seen : (after : Sight) → after.prefix ≡ entries_by new index → after.prefix ≡ all_commands (commands_of after.prefix)
   last_seen after has = all_commands-commands_of after.prefix (subst AreCommands (sym has) (are index))
 
-  at_primary : AtIndex index old new Says → AnswersAskAt (vnode_at old.shared index) index command (seen_by old) reply (seen_by new)
-  at_primary at =
+  at_primary : slice_get old.shared.fallbacks index ≡ Some None → AtIndex index old new Says → AnswersAskAt (vnode_at old.shared index) index command (seen_by old) reply (seen_by new)
+  at_primary none at =
       let node = λ (i : ℕ). ap (λ (n : Node). entries_by n i) at.node in
-      let had : at.before.prefix ≡ entries_by old index = sym (undiverted_seen _ _ (slice_get old.passes.fallbacks index) at.before at.undiverted at.stands) in
+      let had : at.before.prefix ≡ entries_by old index = sym (undiverted_seen _ _ (slice_get old.passes.fallbacks index) at.before none at.stands) in
       let has : at.after.prefix ≡ entries_by new index
-      = sym (node index ∙ undiverted_seen _ _ (slice_get old.passes.fallbacks index) at.after at.undiverted (set_here old.passes.primaries index at.before at.after at.stands)) in
+      = sym (node index ∙ undiverted_seen _ _ (slice_get old.passes.fallbacks index) at.after none (set_here old.passes.primaries index at.before at.after at.stands)) in
       let id : VnodeId = record { vnode = id_of old.shared.run index; last_epoch = 0 } in
-      let is : id ≡ vnode_at old.shared index = ap (id_at old.shared.run index) (sym at.undiverted) in
+      let is : id ≡ vnode_at old.shared index = ap (id_at old.shared.run index) (sym none) in
       let more = all_reaps_more old.shared.budget at.reaps at.steps.answered at.after at.steps.reaps in
       let here = answers id at.before at.steps.answered (commands_of at.after.prefix) at.quantity at.limits at.made_new at.steps.more
       (subst (λ es. IsPrefix at.steps.answered.prefix es) (last_seen at.after has) more) at.steps.answers in
@@ -74,12 +75,12 @@ module _ (index : ℕ) (command : Command Content Context) (old new : Node) (rep
 
   at_its_fallback : AtFallback index old new Says → AnswersAskAt (vnode_at old.shared index) index command (seen_by old) reply (seen_by new)
   at_its_fallback at =
-      let kept = kept_of at.fallback at.after in
+      let kept = kept_of at.fallback at.after None in
       let node = λ (i : ℕ). ap (λ (n : Node). entries_by n i) at.node in
       let had : at.before.prefix ≡ entries_by old index
-      = sym (diverted_seen _ (slice_get old.passes.primaries index) _ at.fallback at.kept at.diverted at.stood ∙ resumed_seen at.fallback at.kept at.before at.resumes) in
+      = sym (diverted_seen _ (slice_get old.passes.primaries index) _ at.fallback at.kept at.diverted at.stood ∙ resumed_seen at.fallback at.kept at.before None at.resumes) in
       let has : at.after.prefix ≡ entries_by new index
-      = sym (node index ∙ (diverted_seen _ (slice_get old.passes.primaries index) _ at.fallback kept at.diverted (set_here old.passes.fallbacks index at.kept kept at.stood) ∙ kept_seen at.fallback at.after)) in
+      = sym (node index ∙ (diverted_seen _ (slice_get old.passes.primaries index) _ at.fallback kept at.diverted (set_here old.passes.fallbacks index at.kept kept at.stood) ∙ kept_seen at.fallback at.after None)) in
       let first : VnodeId = record { vnode = fallback_id old.shared.run index; last_epoch = at.is_new.last_epoch } in
       let is : first ≡ vnode_at old.shared index
       = ap (λ e. record { vnode = fallback_id old.shared.run index; last_epoch = e }) (epoch_of first.vnode first.last_epoch at.fallback.gate at.is_new.made_new) ∙ ap (id_at old.shared.run index) (sym at.diverted) in
@@ -90,21 +91,48 @@ module _ (index : ℕ) (command : Command Content Context) (old new : Node) (rep
         others = λ other ne. ap commands_of (node other ∙ ap (λ o. seen_at (slice_get old.shared.fallbacks other) (slice_get old.passes.primaries other) o) (set_there old.passes.fallbacks index other kept ne));
       }
 
-  at_is : AtPartition index old new Says → AnswersAskAt (vnode_at old.shared index) index command (seen_by old) reply (seen_by new)
-  at_is (inl at) = at_primary at
-  at_is (inr at) = at_its_fallback at
+-- no close was seen where commands alone were seen in the end
+no_close : (index number : ℕ) (old found new : Node) (reply : Reply) (Answers : Sight → Sight → Reply → Option Quantity → Type 0) → HasSeenCommands new → AtClosed index number old found
+    → AtIndexFrom index number found reply new Answers → ⊥
+no_close index number old found new reply Answers are c from =
+    let kept = kept_of c.fallback c.after (Some number) in
+    let has : entries_by found index ≡ c.after.prefix
+    = ap (λ (n : Node). entries_by n index) c.node
+    ∙ (diverted_seen _ (slice_get old.passes.primaries index) _ c.fallback kept c.diverted (set_here old.passes.fallbacks index c.kept kept c.stood) ∙ kept_seen c.fallback c.after (Some number)) in
+    let commands = commands_before (entries_by found index) (entries_by new index) (from_adds index index number found reply new Answers from) (are index) in
+    let made = subst (λ (g : GateId View). IsMadeNew (fallback_id old.shared.run index) c.is_new.last_epoch g) (sym (c.closed.gate ∙ c.of_gate)) c.is_new.made_new in
+    commands_close_nothing (fallback_id old.shared.run index) c.is_new.last_epoch number c.after c.is_new.limits made (subst AreCommands has commands) c.closed.closed
+
+-- what is answered of a command at one vnode
+abbrev AnswersCommand : Command Content Context → Reply → (Sight → Sight → Option Quantity → Type 0) → Type 0
+AnswersCommand command reply Says =
+    (id : VnodeId) (before after : Sight) (last : Commands) (quantity : Option Quantity) → IsWithinLimits id.vnode id.last_epoch → IsMadeNew id.vnode id.last_epoch before.gate
+    → IsPrefix before.prefix after.prefix → IsPrefix after.prefix (all_commands last) → Says before after quantity
+    → AnswersAmongOthers id command (commands_of before.prefix) reply last ⊎ (IsOfGate reply × IsPrefix (commands_of before.prefix) last)
+
+at_is : (index : ℕ) (command : Command Content Context) (old : Node) (reply : Reply) (new : Node) (Answers AnswersOpen : Sight → Sight → Reply → Option Quantity → Type 0)
+    → AnswersCommand command reply (λ p q. Answers p q reply) → ((p q : Sight) (quantity : Option Quantity) → AnswersOpen p q reply quantity → Answers p q reply quantity) → HasSeenCommands new
+    → AtPartition index old reply new Answers AnswersOpen → AnswersAskAt (vnode_at old.shared index) index command (seen_by old) reply (seen_by new)
+at_is index command old reply new Answers AnswersOpen answers opened are (inl (none, at)) = at_primary index command old new reply (λ p q. Answers p q reply) answers are none at
+at_is index command old reply new Answers AnswersOpen answers opened are (inr (inl at)) =
+    at_its_fallback index command old new reply (λ p q. AnswersOpen p q reply)
+    (λ id before after last quantity limits made begins more says. answers id before after last quantity limits made begins more (opened before after quantity says)) are at
+at_is index command old reply new Answers AnswersOpen answers opened are (inr (inr at)) = absurd (no_close index at.number old at.found new reply Answers are at.closed at.answers)
 
 step_is : (old : Node) (request : Request) (reply : Reply) (new : Node) → GateStep old request reply new → HasSeenCommands new → SharedRegister old.shared (seen_by old) request reply (seen_by new)
 step_is old requests.Ping reply new step are = (step.0, ap seen_by step.1)
 step_is old (requests.Get get) reply new step are =
-    at_is (partition_of old.shared.index_bits get.key) (AskGet (get_command get)) old new reply (λ p q. Gets get p q reply)
-    (λ id before after last quantity limits made begins more says. get_answers id limits before after last made begins more reply get quantity says) are step
+    at_is (partition_of old.shared.index_bits get.key) (AskGet (get_command get)) old reply new (Gets get) (GetsOpen get)
+    (λ id before after last quantity limits made begins more says. get_answers id limits before after last made begins more reply get quantity says)
+    (λ p q quantity says. gets_open get p q reply quantity says) are step
 step_is old (requests.Put put) reply new step are =
-    at_is (partition_of old.shared.index_bits put.key) (AskPut (put_command put)) old new reply (λ p q. Changes (asks.Put put) p q reply)
-    (λ id before after last quantity limits made begins more says. put_answers id limits before after last made begins more reply put says.outcome says.comes says.replied) are step
+    at_is (partition_of old.shared.index_bits put.key) (AskPut (put_command put)) old reply new (Changes (asks.Put put)) (ChangesOpen (asks.Put put))
+    (λ id before after last quantity limits made begins more says. put_answers id limits before after last made begins more reply put says.outcome says.comes says.replied)
+    (λ p q quantity says. says.0) are step
 step_is old (requests.Del del) reply new step are =
-    at_is (partition_of old.shared.index_bits del.key) (AskDel (del_command del)) old new reply (λ p q. Changes (asks.Del del) p q reply)
-    (λ id before after last quantity limits made begins more says. del_answers id limits before after last made begins more reply del says.outcome says.comes says.replied) are step
+    at_is (partition_of old.shared.index_bits del.key) (AskDel (del_command del)) old reply new (Changes (asks.Del del)) (ChangesOpen (asks.Del del))
+    (λ id before after last quantity limits made begins more says. del_answers id limits before after last made begins more reply del says.outcome says.comes says.replied)
+    (λ p q quantity says. says.0) are step
 
 -- the node's gates, and what it has seen
 abbrev Like : Gates → Node → Seen → Type 0

@@ -15,9 +15,10 @@ use Rattle.vnode_protocol.proofs.Entries.{commands_before}
 use Rattle.handoff.specs.declared.gates.Fallback.{Fallback}
 use Rattle.node_session.specs.PlainNodes.{partition_of}
 use Rattle.stats_book.specs.declared.quantity.Quantity.{Quantity}
-use Rattle.gate_node.specs.Asked.{Sight, Gets, Changes, Reaps, ReapsUpTo}
+use Rattle.stats_book.specs.Counter.{Count}
+use Rattle.gate_node.specs.Asked.{Sight, Gets, GetsOpen, Changes, ChangesOpen, Reaps, ReapsUpTo}
 use Rattle.gate_node.specs.declared.passes.FallbackPass.{FallbackPass}
-use Rattle.gate_node.specs.GateStep.{Node, GateStep, AtIndex, AtFallback, AtPartition}
+use Rattle.gate_node.specs.GateStep.{Node, GateStep, AtIndex, AtIndexFrom, AtPartition}
 use Rattle.gate_node.specs.Passes.{Resumes, kept_of}
 use Rattle.gate_node.specs.Registers.{seen_at, seen_at_fallback, entries_by, HasSeenCommands}
 
@@ -59,13 +60,13 @@ pub diverted_seen : (there : Option (Option Fallback)) (primary : Option Sight) 
     → seen_at there primary kept ≡ seen_at_fallback fallback had
 diverted_seen there primary kept fallback had some at = λ i. seen_at (some i) primary (at i)
 
-pub kept_seen : (fallback : Fallback) (pass : Sight) → seen_at_fallback fallback (kept_of fallback pass) ≡ pass.prefix
-kept_seen fallback pass = ap (λ b. if b then pass.prefix else []) (eq-eqb fallback.diversion fallback.diversion refl)
+pub kept_seen : (fallback : Fallback) (pass : Sight) (closed : Option ℕ) → seen_at_fallback fallback (kept_of fallback pass closed) ≡ pass.prefix
+kept_seen fallback pass closed = ap (λ b. if b then pass.prefix else []) (eq-eqb fallback.diversion fallback.diversion refl)
 
 -- what was seen by the pass by which a fallback is asked
-pub resumed_seen : (fallback : Fallback) (kept : Option FallbackPass) (pass : Sight) → Resumes fallback kept pass → seen_at_fallback fallback kept ≡ pass.prefix
-resumed_seen fallback kept pass (inl is) = ap (seen_at_fallback fallback) is ∙ kept_seen fallback pass
-resumed_seen fallback kept pass (inr (other, gate, unused)) =
+pub resumed_seen : (fallback : Fallback) (kept : Option FallbackPass) (pass : Sight) (closed : Option ℕ) → Resumes fallback kept pass closed → seen_at_fallback fallback kept ≡ pass.prefix
+resumed_seen fallback kept pass closed (inl is) = ap (seen_at_fallback fallback) is ∙ kept_seen fallback pass closed
+resumed_seen fallback kept pass closed (inr (other, gate, unused, none)) =
     ap (λ b. if b then option_map_or (λ (p : FallbackPass). p.pass.prefix) kept [] else []) other ∙ sym unused.prefix
 
 -- at an index is what was set there, at any other what was
@@ -88,42 +89,71 @@ primary_grows (Some None) kept old new more = more
 primary_grows None kept old new more = more
 
 -- a step only adds to what was seen
-module _ (index : ℕ) (old new : Node) (Says : Sight → Sight → Option Quantity → Type 0) (other : ℕ) where
-  abbrev Grows : Type 0
-  Grows = IsPrefix (entries_by old other) (entries_by new other)
+module _ (index other : ℕ) where
+  abbrev Grows : Node → Node → Type 0
+  Grows old new = IsPrefix (entries_by old other) (entries_by new other)
 
-  primary_adds : AtIndex index old new Says → Grows
-  primary_adds at =
+  then_grows : (old mid new : Node) → Grows old mid → Grows mid new → Grows old new
+  then_grows old mid new one two = prefix_trans (entries_by old other) (entries_by mid other) (entries_by new other) one two
+
+  -- by a pass of a primary that goes on
+  primary_adds : (old new : Node) (before after : Sight) (count : Count) → slice_get old.passes.primaries index ≡ Some before → IsPrefix before.prefix after.prefix
+      → new ≡ record old { passes = record old.passes { primaries = slice_set old.passes.primaries index after }; count = count } → Grows old new
+  primary_adds old new before after count stands more is =
       let there = slice_get old.shared.fallbacks other in
       let kept = slice_get old.passes.fallbacks other in
-      let answered = all_reaps_more old.shared.budget at.reaps at.steps.answered at.after at.steps.reaps in
-      let more = prefix_trans at.before.prefix at.steps.answered.prefix at.after.prefix at.steps.more answered in
-      subst (λ (node : Node). IsPrefix (entries_by old other) (entries_by node other)) (sym at.node)
-      (set_either old.passes.primaries index other at.before at.after (λ a b. IsPrefix (seen_at there a kept) (seen_at there b kept)) at.stands
-      (λ same. primary_grows there kept at.before at.after more) (λ o. whole (seen_at there o kept)))
+      subst (λ (node : Node). Grows old node) (sym is)
+      (set_either old.passes.primaries index other before after (λ a b. IsPrefix (seen_at there a kept) (seen_at there b kept)) stands
+      (λ same. primary_grows there kept before after more) (λ o. whole (seen_at there o kept)))
 
-  fallback_adds : AtFallback index old new Says → Grows
-  fallback_adds at =
+  -- and by one of a fallback
+  fallback_adds : (old new : Node) (fallback : Fallback) (had : Option FallbackPass) (before after : Sight) (known closed : Option ℕ) (count : Count)
+      → slice_get old.shared.fallbacks index ≡ Some (Some fallback) → slice_get old.passes.fallbacks index ≡ Some had → Resumes fallback had before known → IsPrefix before.prefix after.prefix
+      → new ≡ record old { passes = record old.passes { fallbacks = slice_set old.passes.fallbacks index (kept_of fallback after closed) }; count = count } → Grows old new
+  fallback_adds old new fallback had before after known closed count diverted stood resumes more node =
       let there = slice_get old.shared.fallbacks other in
       let primary = slice_get old.passes.primaries other in
-      let kept = kept_of at.fallback at.after in
-      let here : (same : other ≡ index) → IsPrefix (seen_at there primary (Some at.kept)) (seen_at there primary (Some kept)) = λ same.
-      let is : there ≡ Some (Some at.fallback) = ap (slice_get old.shared.fallbacks) same ∙ at.diverted in
-      let had = diverted_seen there primary (Some at.kept) at.fallback at.kept is refl ∙ resumed_seen at.fallback at.kept at.before at.resumes in
-      let has = diverted_seen there primary (Some kept) at.fallback kept is refl ∙ kept_seen at.fallback at.after in
-      subst (λ (p : List Entry × List Entry). IsPrefix p.0 p.1) (λ i. (sym had i, sym has i)) at.more in
-      subst (λ (node : Node). IsPrefix (entries_by old other) (entries_by node other)) (sym at.node)
-      (set_either old.passes.fallbacks index other at.kept kept (λ a b. IsPrefix (seen_at there primary a) (seen_at there primary b)) at.stood here (λ o. whole (seen_at there primary o)))
+      let kept = kept_of fallback after closed in
+      let here : (same : other ≡ index) → IsPrefix (seen_at there primary (Some had)) (seen_at there primary (Some kept)) = λ same.
+      let is : there ≡ Some (Some fallback) = ap (slice_get old.shared.fallbacks) same ∙ diverted in
+      let first = diverted_seen there primary (Some had) fallback had is refl ∙ resumed_seen fallback had before known resumes in
+      let last = diverted_seen there primary (Some kept) fallback kept is refl ∙ kept_seen fallback after closed in
+      subst (λ (p : List Entry × List Entry). IsPrefix p.0 p.1) (λ i. (sym first i, sym last i)) more in
+      subst (λ (n : Node). Grows old n) (sym node)
+      (set_either old.passes.fallbacks index other had kept (λ a b. IsPrefix (seen_at there primary a) (seen_at there primary b)) stood here (λ o. whole (seen_at there primary o)))
 
-  adds : AtPartition index old new Says → Grows
-  adds (inl at) = primary_adds at
-  adds (inr at) = fallback_adds at
+  index_adds : (old new : Node) (Says : Sight → Sight → Option Quantity → Type 0) → AtIndex index old new Says → Grows old new
+  index_adds old new Says at =
+      let answered = all_reaps_more old.shared.budget at.reaps at.steps.answered at.after at.steps.reaps in
+      let more = prefix_trans at.before.prefix at.steps.answered.prefix at.after.prefix at.steps.more answered in
+      primary_adds old new at.before at.after at.count at.stands more at.node
+
+  pub from_adds : (number : ℕ) (old : Node) (reply : Reply) (new : Node) (Answers : Sight → Sight → Reply → Option Quantity → Type 0) → AtIndexFrom index number old reply new Answers
+      → Grows old new
+  from_adds number old reply new Answers at =
+      let looked = primary_adds old at.looked at.looks.before at.looks.after old.count at.looks.stands at.looks.more at.looks.node in
+      let last : Grows at.looked new = elim at.answers [
+        | inl far ↦ index_adds at.looked new (λ p q. Answers p q reply) far.1
+        | inr short ↦ subst (λ (n : Node). Grows at.looked n) (sym short.1.node) (whole _)
+      ] in
+      then_grows old at.looked new looked last
+
+  adds : (old : Node) (reply : Reply) (new : Node) (Answers AnswersOpen : Sight → Sight → Reply → Option Quantity → Type 0) → AtPartition index old reply new Answers AnswersOpen → Grows old new
+  adds old reply new Answers AnswersOpen (inl (none, at)) = index_adds old new (λ p q. Answers p q reply) at
+  adds old reply new Answers AnswersOpen (inr (inl at)) =
+      fallback_adds old new at.fallback at.kept at.before at.after None None at.count at.diverted at.stood at.resumes at.more at.node
+  adds old reply new Answers AnswersOpen (inr (inr at)) =
+      let c = at.closed in
+      let first = fallback_adds old at.found c.fallback c.kept c.before c.after c.known (Some at.number) old.count c.diverted c.stood c.resumes c.closed.more c.node in
+      then_grows old at.found new first (from_adds at.number at.found reply new Answers at.answers)
 
 step_adds : (old : Node) (request : Request) (reply : Reply) (new : Node) → GateStep old request reply new → (index : ℕ) → IsPrefix (entries_by old index) (entries_by new index)
 step_adds old requests.Ping reply new step index = subst (λ (node : Node). IsPrefix (entries_by old index) (entries_by node index)) (sym step.1) (whole _)
-step_adds old (requests.Get get) reply new step index = adds (partition_of old.shared.index_bits get.key) old new (λ p q. Gets get p q reply) index step
-step_adds old (requests.Put put) reply new step index = adds (partition_of old.shared.index_bits put.key) old new (λ p q. Changes (asks.Put put) p q reply) index step
-step_adds old (requests.Del del) reply new step index = adds (partition_of old.shared.index_bits del.key) old new (λ p q. Changes (asks.Del del) p q reply) index step
+step_adds old (requests.Get get) reply new step index = adds (partition_of old.shared.index_bits get.key) index old reply new (Gets get) (GetsOpen get) step
+step_adds old (requests.Put put) reply new step index =
+    adds (partition_of old.shared.index_bits put.key) index old reply new (Changes (asks.Put put)) (ChangesOpen (asks.Put put)) step
+step_adds old (requests.Del del) reply new step index =
+    adds (partition_of old.shared.index_bits del.key) index old reply new (Changes (asks.Del del)) (ChangesOpen (asks.Del del)) step
 
 -- where commands alone were seen after it, so they were before
 pub step_commands : (old : Node) (request : Request) (reply : Reply) (new : Node) → GateStep old request reply new → HasSeenCommands new → HasSeenCommands old

@@ -13,6 +13,7 @@ use Rattle.vnode_machine.specs.Step.{outcome}
 use Rattle.stats_book.specs.declared.quantity.Quantity.{Quantity}
 use Rattle.stats_book.specs.declared.quantity.Quantity.TheVariants as quantities
 use Rattle.rw_gate.specs.Views.{PassView}
+use Rattle.rw_gate.specs.Histories.{RunFrom}
 use Rattle.vnode_protocol.specs.declared.ask.Ask.{Ask}
 use Rattle.vnode_protocol.specs.declared.ask.Ask.TheVariants as asks
 use Rattle.vnode_protocol.specs.declared.ask.Answer.{Answer}
@@ -74,12 +75,21 @@ outcome_quantity (Made answer) = Some (answer_quantity answer)
 outcome_quantity (Told answer) = told_quantity answer
 outcome_quantity other = Some quantities.Refusals
 
+-- the answer isn't that of a closed vnode
+abbrev pub IsOfOpenVnode : Outcome Answer Refusal → Type 0
+IsOfOpenVnode (Told answers.Closed) = ⊥
+IsOfOpenVnode other = Unit {0}
+
 -- an ask gets the reply for what came of it, and that is counted
 pub record Changes (ask : Ask) (old new : Sight) (reply : Reply) (quantity : Option Quantity) : Type 0 where
   pub outcome : Outcome Answer Refusal
   pub comes : ComesOf ask old new outcome
   pub replied : reply ≡ outcome_reply outcome
   pub counted : quantity ≡ outcome_quantity outcome
+
+-- and the vnode that answers isn't closed
+abbrev pub ChangesOpen : Ask → Sight → Sight → Reply → Option Quantity → Type 0
+ChangesOpen ask old new reply quantity = (changes : Changes ask old new reply quantity) × IsOfOpenVnode changes.outcome
 
 -- the machine's reply to a get in this state, or memory is refused
 abbrev pub Shows : GetAsk → Reply → State Content → Type 0
@@ -97,6 +107,29 @@ get_quantity reply = quantities.Gets
 -- a get is shown the state, and that is counted
 abbrev pub Gets : GetAsk → Sight → Sight → Reply → Option Quantity → Type 0
 Gets get old new reply quantity = IsShown get old new reply × (quantity ≡ Some (get_quantity reply))
+
+-- and the vnode that is shown isn't closed
+abbrev pub ShowsOpen : GetAsk → Reply → State Content → Type 0
+ShowsOpen get reply state = (state.closed ≡ None) × Shows get reply state
+
+abbrev pub IsShownOpen : GetAsk → Sight → Sight → Reply → Type 0
+IsShownOpen get old new reply = IsSaidOf (ShowsOpen get reply) old new ⊎ ((reply ≡ replies.Error texts.Moved) × IsOvertaken old new)
+
+abbrev pub GetsOpen : GetAsk → Sight → Sight → Reply → Option Quantity → Type 0
+GetsOpen get old new reply quantity = IsShownOpen get old new reply × (quantity ≡ Some (get_quantity reply))
+
+-- at the end of what the pass has seen the vnode is closed with this number
+pub record HasSeenClose (pass : Sight) (number : ℕ) : Type 0 where
+  pub state : State Content
+  pub leads : RunFrom state_of Makes pass.gate.opening pass.prefix state
+  pub closed : state.closed ≡ Some number
+
+-- so it is at the end of what the pass has then seen, and nothing was published
+pub record IsClosedWith (number : ℕ) (old new : Sight) : Type 0 where
+  pub gate : new.gate ≡ old.gate
+  pub more : IsPrefix old.prefix new.prefix
+  pub own : new.own ≡ old.own
+  pub closed : HasSeenClose new number
 
 -- what is asked to forget the first dead key
 abbrev pub first_reap : Ask

@@ -1,5 +1,6 @@
 -- The step of a node over gates.
-use Rattle.std.specs.Prelude.{◌≡◌, ◌⊎◌, ℕ, Option, Some, None, slice_get, slice_set}
+use Rattle.std.specs.Prelude.{◌≡◌, ◌<◌, ◌≤◌, ◌⊎◌, ℕ, length, Option, Some, None, IsSome, slice_get, slice_set}
+use Rattle.std.specs.Option.{option_map_or}
 use mathlib.Core.List.{IsPrefix}
 use Rattle.ring_map.specs.Ring.{id_of}
 use Rattle.riak_msgs.specs.declared.Request.{Request}
@@ -7,7 +8,9 @@ use Rattle.riak_msgs.specs.declared.Request.TheVariants as requests
 use Rattle.riak_msgs.specs.declared.Reply.{Reply}
 use Rattle.riak_msgs.specs.declared.Reply.TheVariants as replies
 use Rattle.vnode_protocol.specs.declared.ask.Ask.TheVariants as asks
+use Rattle.riak_msgs.specs.declared.Text.TheVariants as texts
 use Rattle.stats_book.specs.declared.quantity.Quantity.{Quantity}
+use Rattle.stats_book.specs.declared.quantity.Quantity.TheVariants as quantities
 use Rattle.vnode_machine.specs.Replay.{IsWithinLimits}
 use Rattle.vnode_protocol.specs.Events.{IsMadeNew}
 use Rattle.handoff.specs.declared.gates.Fallback.{Fallback}
@@ -15,7 +18,7 @@ use Rattle.handoff.specs.Partitions.{IsFallback}
 use Rattle.node_session.specs.PlainNodes.{partition_of}
 use Rattle.stats_book.specs.Counter.{Count, CountsAnswer}
 use Rattle.gate_node.specs.declared.passes.FallbackPass.{FallbackPass}
-use Rattle.gate_node.specs.Asked.{Sight, Gets, Changes, AnswersAndReaps}
+use Rattle.gate_node.specs.Asked.{Sight, Gets, GetsOpen, Changes, ChangesOpen, AnswersAndReaps, IsClosedWith}
 use Rattle.gate_node.specs.Gates.{Gates}
 use Rattle.gate_node.specs.Passes.{Sights, Resumes, kept_of}
 
@@ -25,11 +28,9 @@ pub record Node : Type 0 where
   pub passes : Sights
   pub count : Count
 
--- A request is answered at the vnode of this index, of which dead keys are forgotten then, and all of that is counted. The
--- partition isn't diverted, the gate was made round that vnode when it was new, its id is one that a vnode can have, and what was seen
--- of any other vnode stays.
+-- A request is answered at the vnode of this index, of which dead keys are forgotten then, and all of that is counted. The gate was made
+-- round that vnode when it was new, its id is one that a vnode can have, and what was seen of any other vnode stays.
 pub record AtIndex (index : ℕ) (old new : Node) (Answers : Sight → Sight → Option Quantity → Type 0) : Type 0 where
-  pub undiverted : slice_get old.shared.fallbacks index ≡ Some None
   pub before : Sight
   pub after : Sight
   pub quantity : Option Quantity
@@ -59,24 +60,95 @@ pub record AtFallback (index : ℕ) (old new : Node) (Answers : Sight → Sight 
   pub after : Sight
   pub quantity : Option Quantity
   pub count : Count
-  pub resumes : Resumes fallback kept before
+  pub resumes : Resumes fallback kept before None
   pub of_gate : before.gate ≡ fallback.gate
   pub gate : after.gate ≡ before.gate
   pub more : IsPrefix before.prefix after.prefix
   pub answers : Answers before after quantity
   pub counts : CountsAnswer quantity 0 old.count count
   pub node : new ≡ record old {
-    passes = record old.passes { fallbacks = slice_set old.passes.fallbacks index (kept_of fallback after) };
+    passes = record old.passes { fallbacks = slice_set old.passes.fallbacks index (kept_of fallback after None) };
     count = count;
   }
 
--- a request is answered at a partition: at its fallback, where it is diverted
-abbrev pub AtPartition : (index : ℕ) (old new : Node) → (Sight → Sight → Option Quantity → Type 0) → Type 0
-AtPartition index old new Answers = AtIndex index old new Answers ⊎ AtFallback index old new Answers
+-- The fallback of the partition of this index is closed with this number, at the end of what the pass of it has then seen. The pass is
+-- resumed and kept as where it answers; where it had seen the close before, it stays as it was, since the fallback isn't asked again.
+-- Nothing else changes.
+pub record AtClosed (index number : ℕ) (old new : Node) : Type 0 where
+  pub fallback : Fallback
+  pub diverted : slice_get old.shared.fallbacks index ≡ Some (Some fallback)
+  pub is_new : IsFallback old.shared.run index fallback
+  pub kept : Option FallbackPass
+  pub stood : slice_get old.passes.fallbacks index ≡ Some kept
+  pub before : Sight
+  pub after : Sight
+  pub known : Option ℕ
+  pub resumes : Resumes fallback kept before known
+  pub of_gate : before.gate ≡ fallback.gate
+  pub closed : IsClosedWith number before after
+  pub stays : IsSome known → after ≡ before
+  pub node : new ≡ record old {
+    passes = record old.passes { fallbacks = slice_set old.passes.fallbacks index (kept_of fallback after (Some number)) };
+  }
+
+-- the pass of the primary of this index goes on by a look, or stays; nothing is published, and nothing else changes
+pub record Looks (index : ℕ) (old new : Node) : Type 0 where
+  pub before : Sight
+  pub after : Sight
+  pub stands : slice_get old.passes.primaries index ≡ Some before
+  pub gate : after.gate ≡ before.gate
+  pub more : IsPrefix before.prefix after.prefix
+  pub own : after.own ≡ before.own
+  pub node : new ≡ record old { passes = record old.passes { primaries = slice_set old.passes.primaries index after } }
+
+-- how many events of the primary of this index the node has seen
+abbrev pub events_seen : Node → (index : ℕ) → ℕ
+events_seen node index = option_map_or (λ (pass : Sight). length pass.prefix) (slice_get node.passes.primaries index) 0
+
+-- a request is answered by the error `moved`, which is counted, and nothing else changes
+pub record AnswersMoved (old : Node) (reply : Reply) (new : Node) : Type 0 where
+  pub count : Count
+  pub replied : reply ≡ replies.Error texts.Moved
+  pub counts : CountsAnswer (Some quantities.Refusals) 0 old.count count
+  pub node : new ≡ record old { count = count }
+
+-- A request is answered at the primary of this index by a node that has seen at least so many events of it, and so at a position behind
+-- these. Where it hasn't seen so many, the answer is `moved`.
+abbrev pub AnswersFrom : (index number : ℕ) (old : Node) (reply : Reply) (new : Node) → (Sight → Sight → Reply → Option Quantity → Type 0) → Type 0
+AnswersFrom index number old reply new Answers =
+    ((number ≤ events_seen old index) × AtIndex index old new (λ p q. Answers p q reply))
+    ⊎ ((events_seen old index < number) × AnswersMoved old reply new)
+
+-- so it is once the node has looked at the primary
+pub record AtIndexFrom (index number : ℕ) (old : Node) (reply : Reply) (new : Node) (Answers : Sight → Sight → Reply → Option Quantity → Type 0) : Type 0 where
+  pub looked : Node
+  pub looks : Looks index old looked
+  pub answers : AnswersFrom index number looked reply new Answers
+
+-- A request is answered at the primary of this index since the diversion of its partition has ended: the fallback is closed with some
+-- number, and the request is answered behind so many events of the primary.
+pub record AtReturned (index : ℕ) (old : Node) (reply : Reply) (new : Node) (Answers : Sight → Sight → Reply → Option Quantity → Type 0) : Type 0 where
+  pub number : ℕ
+  pub found : Node
+  pub closed : AtClosed index number old found
+  pub answers : AtIndexFrom index number found reply new Answers
+
+-- a request is answered at a partition with a fallback: at that, while it isn't closed, and then at the primary
+abbrev pub AtDiverted : (index : ℕ) (old : Node) (reply : Reply) (new : Node) → (Answers AnswersOpen : Sight → Sight → Reply → Option Quantity → Type 0) → Type 0
+AtDiverted index old reply new Answers AnswersOpen =
+    AtFallback index old new (λ p q. AnswersOpen p q reply) ⊎ AtReturned index old reply new Answers
+
+-- a request is answered at a partition: at its primary, where it has no fallback
+abbrev pub AtPartition : (index : ℕ) (old : Node) (reply : Reply) (new : Node) → (Answers AnswersOpen : Sight → Sight → Reply → Option Quantity → Type 0) → Type 0
+AtPartition index old reply new Answers AnswersOpen =
+    ((slice_get old.shared.fallbacks index ≡ Some None) × AtIndex index old new (λ p q. Answers p q reply))
+    ⊎ AtDiverted index old reply new Answers AnswersOpen
 
 -- a ping is answered by a ping and changes and counts nothing; any other request is answered at the partition that its key lies in
 abbrev pub GateStep : Node → Request → Reply → Node → Type 0
 GateStep old requests.Ping reply new = (reply ≡ replies.Ping) × (new ≡ old)
-GateStep old (requests.Get get) reply new = AtPartition (partition_of old.shared.index_bits get.key) old new (λ p q. Gets get p q reply)
-GateStep old (requests.Put put) reply new = AtPartition (partition_of old.shared.index_bits put.key) old new (λ p q. Changes (asks.Put put) p q reply)
-GateStep old (requests.Del del) reply new = AtPartition (partition_of old.shared.index_bits del.key) old new (λ p q. Changes (asks.Del del) p q reply)
+GateStep old (requests.Get get) reply new = AtPartition (partition_of old.shared.index_bits get.key) old reply new (Gets get) (GetsOpen get)
+GateStep old (requests.Put put) reply new =
+    AtPartition (partition_of old.shared.index_bits put.key) old reply new (Changes (asks.Put put)) (ChangesOpen (asks.Put put))
+GateStep old (requests.Del del) reply new =
+    AtPartition (partition_of old.shared.index_bits del.key) old reply new (Changes (asks.Del del)) (ChangesOpen (asks.Del del))

@@ -1,15 +1,12 @@
 //! The requests to one vnode behind a gate.
-ghost use Rattle.std.specs.Prelude.{◌≡◌, Some};
+ghost use Rattle.std.specs.Prelude.{◌≡◌, nat_le, length};
 ghost use mathlib.Core.List.{IsPrefix};
 ghost use Rattle.gate_node.specs.Asked.{Shows, IsShown, Gets, Changes, ReapsUpTo, AnswersAndReaps};
-ghost use Rattle.gate_node.specs.Passes.{Fits, AnswersAtFallback};
 
-use crate::passes::{FallbackPass, renew};
 use crate::replies::{get_quantity, outcome_quantity, outcome_reply};
 use crate::shared::Shared;
 use crate::turnstile::Turnstile;
 use gate_ask::{Outcome, ask, ask_under};
-use handoff::Fallback;
 use riak_msgs::{GetAsk, Reply, Text};
 use rw_gate::{Gate, Pass};
 use stats_book::Quantity;
@@ -18,7 +15,7 @@ use std::sync::Wait;
 use vnode_core::{Ask, Vnode};
 
 /// Shows a vnode's state to a get.
-fn show(vnode: &Vnode, alloc: Global, get: &GetAsk) -> Reply
+pub(crate) fn show(vnode: &Vnode, alloc: Global, get: &GetAsk) -> Reply
     ensures { Shows get.now result vnode.now.state }
 {
     match vnode.get(alloc, get) {
@@ -161,52 +158,25 @@ pub(crate) fn change_and_reap<W: Wait, T: Turnstile>(
     }
 }
 
-/// Answers a get at the fallback of a partition, by the pass of it that is kept; and what that is counted as.
-pub(crate) fn get_diverted<W: Wait, T: Turnstile>(
+/// Shows the vnode to a pass that has seen fewer events of it than so many; and whether it has seen as many then.
+pub(crate) fn catch_up<W: Wait>(
     rt: &W,
-    alloc: Global,
-    shared: &Shared,
-    turnstile: &T,
-    fallback: &Fallback,
-    kept: &mut Option<FallbackPass>,
-    get: &GetAsk,
-) -> (Reply, Option<Quantity>)
-    requires { Fits (Some fallback.now) kept.old }
-    ensures { AnswersAtFallback fallback.now kept.old kept.new
-        (λ p q. Gets get.now p q result.0 result.1) }
+    gate: &Gate<Vnode>,
+    pass: &mut Pass<Vnode>,
+    number: u64,
+) -> bool
+    requires { pass.old.gate ≡ gate.now }
+    ensures gate { pass.new.gate ≡ pass.old.gate }
+    ensures more { IsPrefix pass.old.prefix pass.new.prefix }
+    ensures own { pass.new.own ≡ pass.old.own }
+    ensures far { result ≡ nat_le number (length pass.new.prefix) }
 {
-    renew(kept, fallback);
-    match kept {
-        Some(kept) => {
-            let gate = &fallback.gate;
-            let reply = answer_get(rt, alloc, shared, turnstile, gate, &mut kept.pass, get);
-            let quantity = Some(get_quantity(&reply));
-            (reply, quantity)
-        }
-        None => unreachable!(),
+    if pass.seen() >= number {
+        return true;
     }
-}
-
-/// Answers what may change a vnode at the fallback of a partition, by the pass of it that is kept; and what that is counted as.
-pub(crate) fn change_diverted<W: Wait, T: Turnstile>(
-    rt: &W,
-    alloc: Global,
-    shared: &Shared,
-    turnstile: &T,
-    fallback: &Fallback,
-    kept: &mut Option<FallbackPass>,
-    change: Ask,
-) -> (Reply, Option<Quantity>)
-    requires { Fits (Some fallback.now) kept.old }
-    ensures { AnswersAtFallback fallback.now kept.old kept.new
-        (λ p q. Changes change p q result.0 result.1) }
-{
-    renew(kept, fallback);
-    match kept {
-        Some(kept) => {
-            let gate = &fallback.gate;
-            answer_change(rt, alloc, shared, turnstile, gate, &mut kept.pass, change)
-        }
-        None => unreachable!(),
-    }
+    let right = gate.read(rt);
+    // where the history has gone on past the state, that is shown all the same
+    let _is_moved = right.look(pass).is_err();
+    right.release();
+    number <= pass.seen()
 }

@@ -21,7 +21,7 @@ ghost use Rattle.std.specs.Prelude.{Option};
 /// sibling register, and the state there is its replay. For the node's step names the position and its run (`leads` of `IsMade` and `IsSaid` in
 /// `specs/Asking`), that the gate was made round a new vnode, and that the id of this vnode is one that a vnode can have: for that of
 /// the key's partition `made_new` and `limits` of `AtIndex` in `specs/GateStep`, for the partition's fallback those of `IsFallback`
-/// (`is_new` of `AtFallback`).
+/// (`is_new` of `AtFallback` and of `AtClosed`).
 pub fn positions_are_legal()
     ensures { (vnode last_epoch : ℕ) (gate : GateId View) (events : List Event) (state : State Content)
         → PositionIsLegal vnode last_epoch gate events state }
@@ -35,7 +35,8 @@ pub fn sessions_keep_their_gates()
 {}
 
 /// A caller's passes outlive diversions: what passes of a run's gates have to be for a node over them, they are after a partition was
-/// diverted. For a pass that is kept of a fallback has the number of its diversion, and no later diversion has that number.
+/// diverted, for the first time or again. For a pass that is kept of a fallback has the number of its diversion, and no later diversion
+/// has that number.
 pub fn passes_outlive_diversions()
     ensures { (index : ℕ) (old new : Gates) (passes : Sights)
         → OutliveDiversion index old new passes }
@@ -62,7 +63,7 @@ pub fn sessions_count_their_replies()
 /// its end or to any fault.
 ///
 /// All of this is so where the node has seen commands alone in the end: no copy of a key from another vnode, and no close. It had then seen
-/// no other entries all along.
+/// no other entries all along, and so no request was answered at a primary whose partition's fallback is closed.
 ///
 /// What two sessions over the gates of one run have seen of a vnode begins one history (`Pass::is_behind` of `rw_gate`).
 pub fn gate_node_is_register()

@@ -10,17 +10,23 @@
 //!
 //! What it means (`specs/GateStep`): each reply is the vnode machine's at one position of the history of the key's vnode, and
 //! not before what the caller had seen of it; an accepted put or delete is the event at that position, published once, and
-//! the caller's own; what the caller has seen of any other vnode stays. These positions are legal histories of the
-//! sibling register, where commands alone stand before them, since each gate was made round a new vnode
-//! ([`positions_are_legal`]). The errors `moved` and `history full` change nothing: the history had gone on past the state
-//! that was found, which no path of today's gate leads to, or the vnode is closed, which no request does, or the history can
-//! have no further event. The share rises by one for what was answered and by one for each dead key that was forgotten, and
-//! by nothing else; where the book has no room for that, the reply is the same and the node keeps that fact.
+//! the caller's own; what the caller has seen of any other vnode stays. Where commands alone stand before them, these positions are
+//! legal histories of the sibling register, since each gate was made round a new vnode ([`positions_are_legal`]). The errors `moved`
+//! and `history full` change nothing: the history had gone on past the state that was found, which no path of today's gate leads to, or
+//! the vnode is closed, or the history can have no further event. The share rises by one for what was answered and by one for each
+//! dead key that was forgotten, and by nothing else; where the book has no room for that, the reply is the same and the node keeps that
+//! fact.
 //!
-//! Where a key's partition is diverted, all of that is so at its fallback: another vnode, which has an id and a history of its own, and at
-//! first no keys (`AtFallback`). No dead key is forgotten there, and the primary isn't asked; what it holds no request sees. A partition
-//! is diverted only while no node is over the gates ([`Shared::into_handoff`]), and a caller's passes outlive that
-//! ([`passes_outlive_diversions`]).
+//! Where a key's partition has a fallback, all of that is so at the fallback while it isn't closed: another vnode, which has an id and a
+//! history of its own, and at first no keys (`AtFallback`). No dead key is forgotten there, and the primary isn't asked; what it holds no
+//! request sees. A partition is diverted only while no node is over the gates ([`Shared::into_handoff`]), and a caller's passes outlive
+//! that ([`passes_outlive_diversions`]).
+//!
+//! A fallback is closed when its diversion ends, which may be while nodes answer. The close carries the number of events that the
+//! primary's history had when all keys of the fallback were copied. From then on all of that is so at the primary again, at a position
+//! behind so many events: behind the copies (`AtReturned`). Where the primary's history is found shorter, the answer is `moved`. A node
+//! sees the close by the look by which it would have answered at the fallback, gives that right back, and asks for one at the primary;
+//! so it never has two. It keeps the number, and asks the fallback no more.
 //!
 //! ```text
 //! let shared = Shared::new(alloc, ring, 1, 0, 100)?          the gates of run 1, each round a new vnode; no reaps, 100 reads a session
@@ -33,13 +39,16 @@
 //! What it costs: a request waits while another thread has its vnode's state in hand, and while another counts. What is
 //! answered lies between the taking and the giving back of a right, and so a get copies its reply while other readers may
 //! be in. Memory is taken by the vnode alone, and by `Shared::new` and `Passes::new`. Where nothing is diverted a request looks at one
-//! word more, whether its partition has a fallback, and a caller's passes have a place for the pass of each partition's fallback.
+//! word more, whether its partition has a fallback, and a caller's passes have a place for the pass of each partition's fallback. After
+//! the end of a diversion a caller takes a right at the closed fallback once, and one at the primary to see that the copies are there,
+//! where it hadn't seen as many events; later requests compare two numbers and are answered as where nothing was diverted.
 //!
 //! How it is built: a function that takes a right gives it back itself, as `gate_ask::ask` does for any state behind a gate,
 //! and what is done under a right to write is one function (`ask_under`). The reply and its quantity are made from what came of it
 //! (`specs/Asked`), so a change that was published is never answered or counted as refused.
 #![tactic(auto)]
 
+mod diverted;
 mod fault;
 mod gated_vnode;
 mod laws;

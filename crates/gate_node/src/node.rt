@@ -1,20 +1,22 @@
 //! A node over the gates of a run.
-ghost use Rattle.std.specs.Prelude.{◌≡◌, ◌<◌, ◌^◌, Some, None, false, slice_get};
+ghost use Rattle.std.specs.Prelude.{◌≡◌, ◌<◌, ◌^◌, Some, IfOk, IfErr, false, nat_le, slice_get};
 ghost use Rattle.handoff.specs.Partitions.{IsFallback};
 ghost use Rattle.node_session.specs.PlainNodes.{partition_of};
-ghost use Rattle.gate_node.specs.Asked.{Gets, Changes};
-ghost use Rattle.gate_node.specs.GateStep.{AtIndex, AtFallback, AtPartition};
+ghost use Rattle.gate_node.specs.Asked.{Gets, GetsOpen, Changes, ChangesOpen};
+ghost use Rattle.gate_node.specs.GateStep.{AtIndex, AtFallback, AtClosed, Looks, AtIndexFrom};
+ghost use Rattle.gate_node.specs.GateStep.{AnswersMoved, AtDiverted, AtPartition, events_seen};
 ghost use Rattle.gate_node.specs.Passes.{ArePassesOf};
 
-use crate::gated_vnode::{Answered, change_and_reap, change_diverted, get_and_reap, get_diverted};
+use crate::diverted::{change_diverted, get_diverted};
+use crate::gated_vnode::{Answered, catch_up, change_and_reap, get_and_reap};
 use crate::passes::{FallbackPass, Passes};
 use crate::shared::Shared;
 use crate::turnstile::Turnstile;
 use handoff::Fallback;
 use node_session::Node;
-use riak_msgs::{GetAsk, Key, Reply, Request};
+use riak_msgs::{GetAsk, Key, Reply, Request, Text};
 use rw_gate::Pass;
-use stats_book::{Book, Counter, Share};
+use stats_book::{Book, Counter, Quantity, Share};
 use std::alloc::Global;
 use std::marker::Model;
 use std::sync::Wait;
@@ -31,7 +33,8 @@ use vnode_core::{Ask, Vnode};
 /// where the book has no room, the reply is the same, and the node keeps that fact.
 ///
 /// In a partition that is diverted all of this is so at its fallback, whose history is its own, and no dead key is forgotten there; the
-/// primary is not asked.
+/// primary is not asked. Where the fallback is closed, all of this is so at the primary, at a position behind as many events as the close
+/// says, or else the answer is `moved`. A node that has seen the close asks the fallback no more.
 #[derive(Drop)]
 pub struct GateNode<
     'a,
@@ -141,10 +144,9 @@ impl<'a, W: Wait, T: Turnstile, G: Ledger, P: Ledger, D: Ledger, E: Ledger, R: L
         usize::from(shared.handoff.ring().index(key))
     }
 
-    /// Answers a get at the primary of a partition that isn't diverted.
+    /// Answers a get at the primary of a partition.
     fn get_at_primary(&mut self, alloc: Global, index: usize, get: &GetAsk) -> Reply
-        requires within { index < 2 ^ self.old.shared.index_bits }
-        requires undiverted { slice_get self.old.shared.fallbacks index ≡ Some None }
+        requires { index < 2 ^ self.old.shared.index_bits }
         ensures { AtIndex index self.old self.new (λ p q. Gets get.now p q result) }
     {
         let shared = self.shared;
@@ -161,10 +163,9 @@ impl<'a, W: Wait, T: Turnstile, G: Ledger, P: Ledger, D: Ledger, E: Ledger, R: L
         reply
     }
 
-    /// Answers what may change a vnode at the primary of a partition that isn't diverted.
+    /// Answers what may change a vnode at the primary of a partition.
     fn change_at_primary(&mut self, alloc: Global, index: usize, change: Ask) -> Reply
-        requires within { index < 2 ^ self.old.shared.index_bits }
-        requires undiverted { slice_get self.old.shared.fallbacks index ≡ Some None }
+        requires { index < 2 ^ self.old.shared.index_bits }
         ensures { AtIndex index self.old self.new (λ p q. Changes change p q result) }
     {
         let shared = self.shared;
@@ -181,50 +182,51 @@ impl<'a, W: Wait, T: Turnstile, G: Ledger, P: Ledger, D: Ledger, E: Ledger, R: L
         reply
     }
 
-    /// Answers a get at the fallback of a partition.
+    /// Answers a get at the fallback of a partition, or gives the number of its close.
     fn get_at_fallback(
         &mut self,
         alloc: Global,
         index: usize,
         fallback: &Fallback,
         get: &GetAsk,
-    ) -> Reply
+    ) -> Result<Reply, u64>
         requires diverted { slice_get self.old.shared.fallbacks index
             ≡ Some (Some fallback.now) }
         requires new { IsFallback self.old.shared.run index fallback.now }
-        ensures { AtFallback index self.old self.new (λ p q. Gets get.now p q result) }
+        ensures answers { IfOk result (λ reply. AtFallback index self.old self.new
+            (λ p q. GetsOpen get.now p q reply)) }
+        ensures closed { IfErr result (λ number. AtClosed index number self.old self.new) }
     {
         let shared = self.shared;
         let kept = &mut self.fallbacks[index];
-        let (reply, quantity) = get_diverted(
-            self.rt,
-            alloc,
-            shared,
-            self.turnstile,
-            fallback,
-            kept,
-            get,
-        );
-        self.counter.count_answer(self.rt, quantity, 0);
-        reply
+        match get_diverted(self.rt, alloc, shared, self.turnstile, fallback, kept, get) {
+            Ok((reply, quantity)) => {
+                self.counter.count_answer(self.rt, quantity, 0);
+                Ok(reply)
+            }
+            Err(number) => Err(number),
+        }
     }
 
-    /// Answers what may change a vnode at the fallback of a partition.
+    /// Answers what may change a vnode at the fallback of a partition, or gives the number of its close, and the ask.
     fn change_at_fallback(
         &mut self,
         alloc: Global,
         index: usize,
         fallback: &Fallback,
         change: Ask,
-    ) -> Reply
+    ) -> Result<Reply, (u64, Ask)>
         requires diverted { slice_get self.old.shared.fallbacks index
             ≡ Some (Some fallback.now) }
         requires new { IsFallback self.old.shared.run index fallback.now }
-        ensures { AtFallback index self.old self.new (λ p q. Changes change p q result) }
+        ensures answers { IfOk result (λ reply. AtFallback index self.old self.new
+            (λ p q. ChangesOpen change p q reply)) }
+        ensures closed { IfErr result (λ back. AtClosed index back.0 self.old self.new) }
+        ensures same { IfErr result (λ back. back.1 ≡ change) }
     {
         let shared = self.shared;
         let kept = &mut self.fallbacks[index];
-        let (reply, quantity) = change_diverted(
+        match change_diverted(
             self.rt,
             alloc,
             shared,
@@ -232,32 +234,123 @@ impl<'a, W: Wait, T: Turnstile, G: Ledger, P: Ledger, D: Ledger, E: Ledger, R: L
             fallback,
             kept,
             change,
-        );
-        self.counter.count_answer(self.rt, quantity, 0);
-        reply
+        ) {
+            Ok((reply, quantity)) => {
+                self.counter.count_answer(self.rt, quantity, 0);
+                Ok(reply)
+            }
+            Err(back) => Err(back),
+        }
     }
 
-    /// Answers a get, at the partition's fallback where it is diverted.
+    /// Shows the primary of a partition to the pass of it, where that has seen fewer events than so many; and whether it has seen as many
+    /// then.
+    fn catch_up(&mut self, index: usize, number: u64) -> bool
+        requires { index < 2 ^ self.old.shared.index_bits }
+        ensures looks { Looks index self.old self.new }
+        ensures far { result ≡ nat_le number (events_seen self.new index) }
+    {
+        let shared = self.shared;
+        let gates = shared.handoff.gates();
+        let gate = &gates[index];
+        let pass = &mut self.primaries[index];
+        catch_up(self.rt, gate, pass, number)
+    }
+
+    /// Answers that the history has moved.
+    fn answer_moved(&mut self) -> Reply
+        ensures { AnswersMoved self.old result self.new }
+    {
+        self.counter
+            .count_answer(self.rt, Some(Quantity::Refusals), 0);
+        Reply::Error(Text::Moved)
+    }
+
+    /// Answers a get at the primary of a partition whose fallback is closed with this number.
+    fn get_returned(&mut self, alloc: Global, index: usize, number: u64, get: &GetAsk) -> Reply
+        requires { index < 2 ^ self.old.shared.index_bits }
+        ensures { AtIndexFrom index number self.old result self.new (Gets get.now) }
+    {
+        if self.catch_up(index, number) {
+            self.get_at_primary(alloc, index, get)
+        } else {
+            self.answer_moved()
+        }
+    }
+
+    /// Answers what may change a vnode at the primary of a partition whose fallback is closed with this number.
+    fn change_returned(&mut self, alloc: Global, index: usize, number: u64, change: Ask) -> Reply
+        requires { index < 2 ^ self.old.shared.index_bits }
+        ensures { AtIndexFrom index number self.old result self.new (Changes change) }
+    {
+        if self.catch_up(index, number) {
+            self.change_at_primary(alloc, index, change)
+        } else {
+            self.answer_moved()
+        }
+    }
+
+    /// Answers a get at a partition with a fallback: at that, or at the primary where it is closed.
+    fn get_at_diverted(
+        &mut self,
+        alloc: Global,
+        index: usize,
+        fallback: &Fallback,
+        get: &GetAsk,
+    ) -> Reply
+        requires within { index < 2 ^ self.old.shared.index_bits }
+        requires diverted { slice_get self.old.shared.fallbacks index
+            ≡ Some (Some fallback.now) }
+        requires new { IsFallback self.old.shared.run index fallback.now }
+        ensures { AtDiverted index self.old result self.new (Gets get.now) (GetsOpen get.now) }
+    {
+        match self.get_at_fallback(alloc, index, fallback, get) {
+            Ok(reply) => reply,
+            Err(number) => self.get_returned(alloc, index, number, get),
+        }
+    }
+
+    /// Answers what may change a vnode at a partition with a fallback: at that, or at the primary where it is closed.
+    fn change_at_diverted(
+        &mut self,
+        alloc: Global,
+        index: usize,
+        fallback: &Fallback,
+        change: Ask,
+    ) -> Reply
+        requires within { index < 2 ^ self.old.shared.index_bits }
+        requires diverted { slice_get self.old.shared.fallbacks index
+            ≡ Some (Some fallback.now) }
+        requires new { IsFallback self.old.shared.run index fallback.now }
+        ensures { AtDiverted index self.old result self.new (Changes change) (ChangesOpen change) }
+    {
+        match self.change_at_fallback(alloc, index, fallback, change) {
+            Ok(reply) => reply,
+            Err((number, change)) => self.change_returned(alloc, index, number, change),
+        }
+    }
+
+    /// Answers a get, at the primary of a partition that has no fallback.
     fn get(&mut self, alloc: Global, index: usize, get: &GetAsk) -> Reply
         requires { index < 2 ^ self.old.shared.index_bits }
-        ensures { AtPartition index self.old self.new (λ p q. Gets get.now p q result) }
+        ensures { AtPartition index self.old result self.new (Gets get.now) (GetsOpen get.now) }
     {
         let shared = self.shared;
         match shared.handoff.fallback(index) {
             None => self.get_at_primary(alloc, index, get),
-            Some(fallback) => self.get_at_fallback(alloc, index, fallback, get),
+            Some(fallback) => self.get_at_diverted(alloc, index, fallback, get),
         }
     }
 
-    /// Answers what may change a vnode, at the partition's fallback where it is diverted.
+    /// Answers what may change a vnode, at the primary of a partition that has no fallback.
     fn change(&mut self, alloc: Global, index: usize, change: Ask) -> Reply
         requires { index < 2 ^ self.old.shared.index_bits }
-        ensures { AtPartition index self.old self.new (λ p q. Changes change p q result) }
+        ensures { AtPartition index self.old result self.new (Changes change) (ChangesOpen change) }
     {
         let shared = self.shared;
         match shared.handoff.fallback(index) {
             None => self.change_at_primary(alloc, index, change),
-            Some(fallback) => self.change_at_fallback(alloc, index, fallback, change),
+            Some(fallback) => self.change_at_diverted(alloc, index, fallback, change),
         }
     }
 }

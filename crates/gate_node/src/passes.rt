@@ -11,17 +11,19 @@ use std::alloc::{AllocError, Global};
 use std::marker::Model;
 use vnode_core::Vnode;
 
-/// A pass of a partition's fallback, and the number of its diversion.
+/// A pass of a partition's fallback, the number of its diversion, and that of the fallback's close, once the pass has seen it.
 #[derive(Drop)]
 pub struct FallbackPass {
     pub diversion: u32,
     pub pass: Pass<Vnode>,
+    pub closed: Option<u64>,
 }
 
 /// A caller's pass of each gate of a run, in the partitions' order, and one of the fallback of each partition where the caller met one.
 ///
 /// They outlive a diversion: by the same passes a node may go on over the gates when a partition was diverted
-/// ([`passes_outlive_diversions`](crate::passes_outlive_diversions)).
+/// ([`passes_outlive_diversions`](crate::passes_outlive_diversions)). Where a diversion has ended, the pass of the closed fallback is kept
+/// with the number of its close until the partition is diverted again, so that a caller looks at a closed fallback once.
 #[derive(Drop)]
 pub struct Passes {
     pub(crate) primaries: Vec<Pass<Vnode>>,
@@ -85,6 +87,7 @@ pub(crate) fn renew(kept: &mut Option<FallbackPass>, fallback: &Fallback)
     *kept = Some(FallbackPass {
         diversion: fallback.diversion,
         pass: fallback.gate.pass(),
+        closed: None,
     });
 }
 

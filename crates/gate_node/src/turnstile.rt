@@ -4,7 +4,8 @@
 ///
 /// Calls are numbered 1, 2, .. over all nodes of one [`Shared`](crate::Shared), in the order in which they got their right;
 /// behind 18,446,744,073,709,551,615 comes 0. No clause rests on a number. A test may hold a call here, to see which others
-/// come in beside it; who holds one holds its vnode, so `inside` is to end by itself.
+/// come in beside it; who holds one holds its vnode, so `inside` is to end by itself. A call that finds its fallback closed has passed
+/// already, and passes again at the primary.
 pub trait Turnstile {
     /// This call has its right, and hasn't looked yet.
     fn inside(&self, call: u64);

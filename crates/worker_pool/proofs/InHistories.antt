@@ -5,15 +5,16 @@ use mathlib.Core.List.{IsPrefix}
 use Rattle.riak_msgs.specs.declared.Request.{Request}
 use Rattle.riak_msgs.specs.declared.Request.TheVariants as requests
 use Rattle.riak_msgs.specs.declared.Reply.{Reply}
+use Rattle.vnode_protocol.specs.declared.ask.Ask.TheVariants as asks
 use Rattle.stats_book.specs.declared.quantity.Quantity.{Quantity}
 use Rattle.job_pool.specs.Lists.{Every, Pairwise}
 use Rattle.rw_gate.proofs.Prefixes.{prefix_trans}
 use Rattle.node_session.specs.declared.ended.Ended.{Ended}
 use Rattle.node_session.specs.declared.fault.SessionFault.{SessionFault}
 use Rattle.node_session.proofs.HandingBack.{end_in, stops_in}
-use Rattle.gate_node.specs.Asked.{Sight, AnswersAndReaps}
+use Rattle.gate_node.specs.Asked.{Sight, Gets, GetsOpen, Changes, ChangesOpen, AnswersAndReaps}
 use Rattle.gate_node.specs.Gates.{Gates}
-use Rattle.gate_node.specs.GateStep.{Node, GateStep, AtPartition}
+use Rattle.gate_node.specs.GateStep.{Node, GateStep, AnswersFrom, AtIndex, AtIndexFrom, AtPartition}
 use Rattle.gate_node.specs.Passes.{Sights}
 use Rattle.gate_node.proofs.Seeing.{all_reaps_more}
 use Rattle.worker_pool.specs.declared.job.Job.{Job}
@@ -21,7 +22,7 @@ use Rattle.worker_pool.specs.declared.job.End.{End}
 use Rattle.worker_pool.specs.declared.server.Served.{Served}
 use Rattle.worker_pool.specs.Serving.{EndsAtEnd, EndsAtFault, EndsWell, Joins, counted_whole}
 use Rattle.worker_pool.specs.Tallies.{History}
-use Rattle.worker_pool.specs.OneHistory.{IsSeen, StepIn, IsAnsweredAt, AnswersIn}
+use Rattle.worker_pool.specs.OneHistory.{IsSeen, StepIn, IsAnsweredIn, IsAnsweredFrom, IsAnsweredAt, AnswersIn}
 
 -- what was answered stands at a position of what is then seen
 answer_seen : (budget count : ℕ) (Says : Sight → Sight → Type 0) (old new : Sight) (h : AnswersAndReaps budget count Says old new) → IsPrefix h.answered.prefix new.prefix
@@ -53,9 +54,9 @@ seen_at (history ∷ histories) (pass ∷ passes) zero before after at h = (hist
 seen_at (history ∷ histories) (pass ∷ passes) (suc index) before after at h = seen_at histories passes index before after at h.1
 
 -- where a step in histories answers a request
-at_answered : (histories : List History) (index : ℕ) (old new : Node) (Says : Sight → Sight → Option Quantity → Type 0) (h : AtPartition index old new Says) → Pairwise IsSeen histories new.passes.primaries → IsAnsweredAt histories index old new Says h
-at_answered histories index old new Says (inr h) seen = tt
-at_answered histories index old new Says (inl h) seen =
+index_answered : (histories : List History) (index : ℕ) (old new : Node) (Says : Sight → Sight → Option Quantity → Type 0) (h : AtIndex index old new Says) → Pairwise IsSeen histories new.passes.primaries
+    → IsAnsweredIn histories index h.before h.steps.answered
+index_answered histories index old new Says h seen =
     let found = seen_at histories old.passes.primaries index h.before h.after h.stands (subst (λ (node : Node). Pairwise IsSeen histories node.passes.primaries) h.node seen) in
     record {
       history = found.0;
@@ -64,11 +65,22 @@ at_answered histories index old new Says (inl h) seen =
       position = prefix_trans h.steps.answered.prefix h.after.prefix found.0.events (answer_seen old.shared.budget h.reaps (λ p q. Says p q h.quantity) h.before h.after h.steps) found.2.begins;
     }
 
+from_answered : (histories : List History) (index number : ℕ) (looked : Node) (reply : Reply) (new : Node) (Answers : Sight → Sight → Reply → Option Quantity → Type 0) (h : AnswersFrom index number looked reply new Answers)
+    → Pairwise IsSeen histories new.passes.primaries → IsAnsweredFrom histories index number looked reply new Answers h
+from_answered histories index number looked reply new Answers (inl (far, h)) seen = index_answered histories index looked new (λ p q. Answers p q reply) h seen
+from_answered histories index number looked reply new Answers (inr short) seen = tt
+
+at_answered : (histories : List History) (index : ℕ) (old : Node) (reply : Reply) (new : Node) (Answers AnswersOpen : Sight → Sight → Reply → Option Quantity → Type 0) (h : AtPartition index old reply new Answers AnswersOpen)
+    → Pairwise IsSeen histories new.passes.primaries → IsAnsweredAt histories index old reply new Answers AnswersOpen h
+at_answered histories index old reply new Answers AnswersOpen (inl (none, h)) seen = index_answered histories index old new (λ p q. Answers p q reply) h seen
+at_answered histories index old reply new Answers AnswersOpen (inr (inl h)) seen = tt
+at_answered histories index old reply new Answers AnswersOpen (inr (inr h)) seen = from_answered histories index h.number h.answers.looked reply new Answers h.answers.answers seen
+
 pub step_answers : (histories : List History) (old : Node) (request : Request) (reply : Reply) (new : Node) (step : StepIn histories old request reply new) → AnswersIn histories old request reply new step
 step_answers histories old requests.Ping reply new step = tt
-step_answers histories old (requests.Get get) reply new step = at_answered histories _ old new _ step.0 step.1
-step_answers histories old (requests.Put put) reply new step = at_answered histories _ old new _ step.0 step.1
-step_answers histories old (requests.Del del) reply new step = at_answered histories _ old new _ step.0 step.1
+step_answers histories old (requests.Get get) reply new step = at_answered histories _ old reply new (Gets get) (GetsOpen get) step.0 step.1
+step_answers histories old (requests.Put put) reply new step = at_answered histories _ old reply new (Changes (asks.Put put)) (ChangesOpen (asks.Put put)) step.0 step.1
+step_answers histories old (requests.Del del) reply new step = at_answered histories _ old reply new (Changes (asks.Del del)) (ChangesOpen (asks.Del del)) step.0 step.1
 
 module _ (histories : List History) where
   abbrev AreSeen : Node → Type 0
@@ -77,17 +89,31 @@ module _ (histories : List History) where
   abbrev In : Node → Request → Reply → Node → Type 0
   In = StepIn histories
 
-  at_seen : (index : ℕ) (old new : Node) (Says : Sight → Sight → Option Quantity → Type 0) → AtPartition index old new Says → AreSeen new → AreSeen old
-  at_seen index old new Says (inr h) seen = subst AreSeen h.node seen
-  at_seen index old new Says (inl h) seen =
+  index_seen : (index : ℕ) (old new : Node) (Says : Sight → Sight → Option Quantity → Type 0) → AtIndex index old new Says → AreSeen new → AreSeen old
+  index_seen index old new Says h seen =
       let more = answers_grow old.shared.budget h.reaps (λ p q. Says p q h.quantity) h.before h.after h.steps in
       seen_before histories old.passes.primaries index h.before h.after h.stands h.gate more (subst AreSeen h.node seen)
 
+  from_seen : (index number : ℕ) (old : Node) (reply : Reply) (new : Node) (Answers : Sight → Sight → Reply → Option Quantity → Type 0) → AtIndexFrom index number old reply new Answers → AreSeen new → AreSeen old
+  from_seen index number old reply new Answers h seen =
+      let looked : AreSeen h.looked = elim h.answers [
+        | inl far ↦ index_seen index h.looked new (λ p q. Answers p q reply) far.1 seen
+        | inr short ↦ subst AreSeen short.1.node seen
+      ] in
+      seen_before histories old.passes.primaries index h.looks.before h.looks.after h.looks.stands h.looks.gate h.looks.more (subst AreSeen h.looks.node looked)
+
+  partition_seen : (index : ℕ) (old : Node) (reply : Reply) (new : Node) (Answers AnswersOpen : Sight → Sight → Reply → Option Quantity → Type 0) → AtPartition index old reply new Answers AnswersOpen → AreSeen new
+      → AreSeen old
+  partition_seen index old reply new Answers AnswersOpen (inl (none, h)) seen = index_seen index old new (λ p q. Answers p q reply) h seen
+  partition_seen index old reply new Answers AnswersOpen (inr (inl h)) seen = subst AreSeen h.node seen
+  partition_seen index old reply new Answers AnswersOpen (inr (inr h)) seen =
+      subst AreSeen h.closed.node (from_seen index h.number h.found reply new Answers h.answers seen)
+
   step_seen : (old : Node) (request : Request) (reply : Reply) (new : Node) → GateStep old request reply new → AreSeen new → AreSeen old
   step_seen old requests.Ping reply new h seen = subst AreSeen h.1 seen
-  step_seen old (requests.Get get) reply new h seen = at_seen _ old new _ h seen
-  step_seen old (requests.Put put) reply new h seen = at_seen _ old new _ h seen
-  step_seen old (requests.Del del) reply new h seen = at_seen _ old new _ h seen
+  step_seen old (requests.Get get) reply new h seen = partition_seen _ old reply new (Gets get) (GetsOpen get) h seen
+  step_seen old (requests.Put put) reply new h seen = partition_seen _ old reply new (Changes (asks.Put put)) (ChangesOpen (asks.Put put)) h seen
+  step_seen old (requests.Del del) reply new h seen = partition_seen _ old reply new (Changes (asks.Del del)) (ChangesOpen (asks.Del del)) h seen
 
   module _ {I O : Type 0} (remaining : I → Option (List ℕ)) (contents : O → Option (List ℕ)) (shared : Gates) where
     session_in : (job : Job I O) (end : End I O) (before after : Node) → AreSeen after → MatchResult end.result (EndsAtEnd GateStep remaining contents shared job end before after) (EndsAtFault GateStep remaining contents shared job end before after)

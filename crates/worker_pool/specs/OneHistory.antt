@@ -12,9 +12,9 @@ use Rattle.riak_msgs.specs.declared.Request.TheVariants as requests
 use Rattle.riak_msgs.specs.declared.Reply.{Reply}
 use Rattle.vnode_protocol.specs.declared.ask.Ask.TheVariants as asks
 use Rattle.node_session.specs.PlainNodes.{partition_of}
-use Rattle.gate_node.specs.Asked.{Sight, Gets, Changes}
+use Rattle.gate_node.specs.Asked.{Sight, Gets, GetsOpen, Changes, ChangesOpen}
 use Rattle.gate_node.specs.Gates.{Gates}
-use Rattle.gate_node.specs.GateStep.{Node, GateStep, AtPartition}
+use Rattle.gate_node.specs.GateStep.{Node, GateStep, AnswersFrom, AtPartition}
 use Rattle.gate_node.specs.Passes.{ArePassesOf}
 use Rattle.stats_book.specs.declared.quantity.Quantity.{Quantity}
 use Rattle.worker_pool.specs.declared.job.End.{End}
@@ -38,18 +38,29 @@ pub record IsAnsweredIn (histories : List History) (index : ℕ) (before answere
   pub of_gate : before.gate ≡ history.gate
   pub position : IsPrefix answered.prefix history.events
 
+-- where a request is answered at a primary since the diversion of its partition has ended, that is so of it
+abbrev pub IsAnsweredFrom : (histories : List History) (index number : ℕ) (looked : Node) (reply : Reply) (new : Node) (Answers : Sight → Sight → Reply → Option Quantity → Type 0)
+    → AnswersFrom index number looked reply new Answers → Type 0
+IsAnsweredFrom histories index number looked reply new Answers (inl (far, at)) = IsAnsweredIn histories index at.before at.steps.answered
+IsAnsweredFrom histories index number looked reply new Answers (inr short) = Unit {0}
+
 -- where a request is answered at a partition, that is so of its primary; one that is answered at a fallback is no position of these
 -- histories
-abbrev pub IsAnsweredAt : (histories : List History) (index : ℕ) (old new : Node) (Says : Sight → Sight → Option Quantity → Type 0) → AtPartition index old new Says → Type 0
-IsAnsweredAt histories index old new Says (inl at) = IsAnsweredIn histories index at.before at.steps.answered
-IsAnsweredAt histories index old new Says (inr at) = Unit {0}
+abbrev pub IsAnsweredAt : (histories : List History) (index : ℕ) (old : Node) (reply : Reply) (new : Node) (Answers AnswersOpen : Sight → Sight → Reply → Option Quantity → Type 0)
+    → AtPartition index old reply new Answers AnswersOpen → Type 0
+IsAnsweredAt histories index old reply new Answers AnswersOpen (inl (none, at)) = IsAnsweredIn histories index at.before at.steps.answered
+IsAnsweredAt histories index old reply new Answers AnswersOpen (inr (inl at)) = Unit {0}
+IsAnsweredAt histories index old reply new Answers AnswersOpen (inr (inr at)) =
+    IsAnsweredFrom histories index at.number at.answers.looked reply new Answers at.answers.answers
 
 -- so is each request that a step in these histories answers, at the partition that its key lies in
 abbrev pub AnswersIn : (histories : List History) (old : Node) (request : Request) (reply : Reply) (new : Node) → StepIn histories old request reply new → Type 0
 AnswersIn histories old requests.Ping reply new step = Unit {0}
-AnswersIn histories old (requests.Get get) reply new step = IsAnsweredAt histories (partition_of old.shared.index_bits get.key) old new (λ p q. Gets get p q reply) step.0
-AnswersIn histories old (requests.Put put) reply new step = IsAnsweredAt histories (partition_of old.shared.index_bits put.key) old new (λ p q. Changes (asks.Put put) p q reply) step.0
-AnswersIn histories old (requests.Del del) reply new step = IsAnsweredAt histories (partition_of old.shared.index_bits del.key) old new (λ p q. Changes (asks.Del del) p q reply) step.0
+AnswersIn histories old (requests.Get get) reply new step = IsAnsweredAt histories (partition_of old.shared.index_bits get.key) old reply new (Gets get) (GetsOpen get) step.0
+AnswersIn histories old (requests.Put put) reply new step =
+    IsAnsweredAt histories (partition_of old.shared.index_bits put.key) old reply new (Changes (asks.Put put)) (ChangesOpen (asks.Put put)) step.0
+AnswersIn histories old (requests.Del del) reply new step =
+    IsAnsweredAt histories (partition_of old.shared.index_bits del.key) old reply new (Changes (asks.Del del)) (ChangesOpen (asks.Del del)) step.0
 
 -- these are histories of the vnodes behind these gates
 abbrev pub AreOfGates : List (GateId View) → List History → Type 0

@@ -9,7 +9,7 @@ ghost use Rattle.worker_pool.specs.OneHistory.{StepIn, AnswersIn};
 /// Each reply of the sessions of a run is at a position of the one history of its key's vnode. For [`Pool::run`](crate::Pool::run) says
 /// that each session is a run of the step of a node in these histories, and where such a step answers a get, a put or a delete, the
 /// events of which the reply is (`answered` of `steps` of `AtIndex` in `gate_node`'s `specs/GateStep`) are a beginning of that history.
-/// These are the histories of the primaries: where the partition is diverted, the law says nothing.
+/// These are the histories of the primaries: where a fallback answers, the law says nothing.
 pub fn replies_are_at_positions()
     ensures { (histories : List History) (old : Node) (request : Request) (reply : Reply)
         (new : Node) (step : StepIn histories old request reply new)

@@ -1,0 +1,224 @@
+//! The requests to a partition's fallback, which is asked no more once it is closed.
+ghost use Rattle.std.specs.Prelude.{◌≡◌, Some, IfOk, IfErr, IfSome};
+ghost use mathlib.Core.List.{IsPrefix};
+ghost use Rattle.gate_node.specs.Asked.{ChangesOpen, GetsOpen, HasSeenClose, IsClosedWith};
+ghost use Rattle.gate_node.specs.Asked.{ComesOf, IsOfOpenVnode, IsShownOpen, ShowsOpen};
+ghost use Rattle.gate_node.specs.Passes.{AnswersAtFallback, AnswersBy, FindsClosed, Fits, IsClosedBy};
+
+use crate::gated_vnode::show;
+use crate::passes::{FallbackPass, renew};
+use crate::replies::{get_quantity, outcome_quantity, outcome_reply};
+use crate::shared::Shared;
+use crate::turnstile::Turnstile;
+use gate_ask::{Outcome, ask_shown};
+use handoff::Fallback;
+use riak_msgs::{GetAsk, Reply, Text};
+use rw_gate::{Gate, Pass, WriteRight};
+use stats_book::Quantity;
+use std::alloc::Global;
+use std::sync::Wait;
+use vnode_core::{Answer, Ask, Refusal, Vnode};
+
+/// Shows a vnode's state to a get, or the number of its close.
+fn show_open(vnode: &Vnode, alloc: Global, get: &GetAsk) -> Result<Reply, u64>
+    ensures shown { IfOk result (λ reply. ShowsOpen get.now reply vnode.now.state) }
+    ensures closed { IfErr result (λ number. vnode.now.state.closed ≡ Some number) }
+{
+    match vnode.closed_at() {
+        None => Ok(show(vnode, alloc, get)),
+        Some(number) => Err(number),
+    }
+}
+
+/// Answers a get, under a right to read, behind the turnstile; or gives the number of the vnode's close.
+fn answer_get_open<W: Wait, T: Turnstile>(
+    rt: &W,
+    alloc: Global,
+    shared: &Shared,
+    turnstile: &T,
+    gate: &Gate<Vnode>,
+    pass: &mut Pass<Vnode>,
+    get: &GetAsk,
+) -> Result<Reply, u64>
+    requires { pass.old.gate ≡ gate.now }
+    ensures gate { pass.new.gate ≡ pass.old.gate }
+    ensures more { IsPrefix pass.old.prefix pass.new.prefix }
+    ensures shown { IfOk result (λ reply. IsShownOpen get.now pass.old pass.new reply) }
+    ensures closed { IfErr result (λ number. IsClosedWith number pass.old pass.new) }
+{
+    let right = gate.read(rt);
+    shared.enter(turnstile);
+    match right.look(pass) {
+        Ok(vnode) => {
+            let found = show_open(vnode, alloc, get);
+            right.release();
+            found
+        }
+        Err(_) => {
+            right.release();
+            Ok(Reply::Error(Text::Moved))
+        }
+    }
+}
+
+/// Asks once under a right to write, which the caller gives back; or gives the number of the vnode's close, and the ask.
+fn ask_open_under(
+    right: &mut WriteRight<'_, Vnode>,
+    alloc: Global,
+    pass: &mut Pass<Vnode>,
+    change: Ask,
+) -> Result<Outcome<Answer, Refusal>, (u64, Ask)>
+    requires { pass.old.gate ≡ right.old.gate }
+    ensures gate { pass.new.gate ≡ pass.old.gate }
+    ensures more { IsPrefix pass.old.prefix pass.new.prefix }
+    ensures outcome { IfOk result (λ outcome. ComesOf change pass.old pass.new outcome) }
+    ensures unclosed { IfOk result IsOfOpenVnode }
+    ensures closed { IfErr result (λ back. IsClosedWith back.0 pass.old pass.new) }
+    ensures same { IfErr result (λ back. back.1 ≡ change) }
+{
+    let Ok(vnode) = right.look(pass) else {
+        return Ok(Outcome::Moved);
+    };
+    match vnode.closed_at() {
+        None => Ok(ask_shown(right, alloc, pass, change)),
+        Some(number) => Err((number, change)),
+    }
+}
+
+/// Answers what may change the vnode, under a right to write, behind the turnstile, and what that is counted as; or gives the number of
+/// the vnode's close, and the ask. The right is given back then, so that the caller has none while it asks for another.
+fn answer_change_open<W: Wait, T: Turnstile>(
+    rt: &W,
+    alloc: Global,
+    shared: &Shared,
+    turnstile: &T,
+    gate: &Gate<Vnode>,
+    pass: &mut Pass<Vnode>,
+    change: Ask,
+) -> Result<(Reply, Option<Quantity>), (u64, Ask)>
+    requires { pass.old.gate ≡ gate.now }
+    ensures gate { pass.new.gate ≡ pass.old.gate }
+    ensures more { IsPrefix pass.old.prefix pass.new.prefix }
+    ensures answers { IfOk result (λ a. ChangesOpen change pass.old pass.new a.0 a.1) }
+    ensures closed { IfErr result (λ back. IsClosedWith back.0 pass.old pass.new) }
+    ensures same { IfErr result (λ back. back.1 ≡ change) }
+{
+    let mut right = gate.write(rt);
+    shared.enter(turnstile);
+    let found = ask_open_under(&mut right, alloc, pass, change);
+    right.release();
+    match found {
+        Ok(outcome) => {
+            let quantity = outcome_quantity(&outcome);
+            Ok((outcome_reply(outcome), quantity))
+        }
+        Err(back) => Err(back),
+    }
+}
+
+/// Answers a get at a fallback by a pass of it, or gives the number of its close, which the pass keeps.
+fn get_by<W: Wait, T: Turnstile>(
+    rt: &W,
+    alloc: Global,
+    shared: &Shared,
+    turnstile: &T,
+    gate: &Gate<Vnode>,
+    kept: &mut FallbackPass,
+    get: &GetAsk,
+) -> Result<(Reply, Option<Quantity>), u64>
+    requires gate { kept.old.pass.gate ≡ gate.now }
+    requires seen { IfSome kept.old.closed (HasSeenClose kept.old.pass) }
+    ensures answers { IfOk result (λ a. AnswersBy kept.old kept.new
+        (λ p q. GetsOpen get.now p q a.0 a.1)) }
+    ensures closed { IfErr result (λ number. IsClosedBy number kept.old kept.new) }
+{
+    if let Some(number) = kept.closed {
+        return Err(number);
+    }
+    match answer_get_open(rt, alloc, shared, turnstile, gate, &mut kept.pass, get) {
+        Ok(reply) => {
+            let quantity = Some(get_quantity(&reply));
+            Ok((reply, quantity))
+        }
+        Err(number) => {
+            kept.closed = Some(number);
+            Err(number)
+        }
+    }
+}
+
+/// Answers what may change a vnode at a fallback by a pass of it; or gives the number of its close, which the pass keeps, and the ask.
+fn change_by<W: Wait, T: Turnstile>(
+    rt: &W,
+    alloc: Global,
+    shared: &Shared,
+    turnstile: &T,
+    gate: &Gate<Vnode>,
+    kept: &mut FallbackPass,
+    change: Ask,
+) -> Result<(Reply, Option<Quantity>), (u64, Ask)>
+    requires gate { kept.old.pass.gate ≡ gate.now }
+    requires seen { IfSome kept.old.closed (HasSeenClose kept.old.pass) }
+    ensures answers { IfOk result (λ a. AnswersBy kept.old kept.new
+        (λ p q. ChangesOpen change p q a.0 a.1)) }
+    ensures closed { IfErr result (λ back. IsClosedBy back.0 kept.old kept.new) }
+    ensures same { IfErr result (λ back. back.1 ≡ change) }
+{
+    if let Some(number) = kept.closed {
+        return Err((number, change));
+    }
+    match answer_change_open(rt, alloc, shared, turnstile, gate, &mut kept.pass, change) {
+        Ok(answered) => Ok(answered),
+        Err(back) => {
+            kept.closed = Some(back.0);
+            Err(back)
+        }
+    }
+}
+
+/// Answers a get at the fallback of a partition, by the pass of it that is kept, and what that is counted as; or gives the number of the
+/// fallback's close.
+pub(crate) fn get_diverted<W: Wait, T: Turnstile>(
+    rt: &W,
+    alloc: Global,
+    shared: &Shared,
+    turnstile: &T,
+    fallback: &Fallback,
+    kept: &mut Option<FallbackPass>,
+    get: &GetAsk,
+) -> Result<(Reply, Option<Quantity>), u64>
+    requires { Fits (Some fallback.now) kept.old }
+    ensures answers { IfOk result (λ a. AnswersAtFallback fallback.now kept.old kept.new
+        (λ p q. GetsOpen get.now p q a.0 a.1)) }
+    ensures closed { IfErr result (FindsClosed fallback.now kept.old kept.new) }
+{
+    renew(kept, fallback);
+    match kept {
+        Some(kept) => get_by(rt, alloc, shared, turnstile, &fallback.gate, kept, get),
+        None => unreachable!(),
+    }
+}
+
+/// Answers what may change a vnode at the fallback of a partition, by the pass of it that is kept, and what that is counted as; or gives
+/// the number of the fallback's close, and the ask.
+pub(crate) fn change_diverted<W: Wait, T: Turnstile>(
+    rt: &W,
+    alloc: Global,
+    shared: &Shared,
+    turnstile: &T,
+    fallback: &Fallback,
+    kept: &mut Option<FallbackPass>,
+    change: Ask,
+) -> Result<(Reply, Option<Quantity>), (u64, Ask)>
+    requires { Fits (Some fallback.now) kept.old }
+    ensures answers { IfOk result (λ a. AnswersAtFallback fallback.now kept.old kept.new
+        (λ p q. ChangesOpen change p q a.0 a.1)) }
+    ensures closed { IfErr result (λ back. FindsClosed fallback.now kept.old kept.new back.0) }
+    ensures same { IfErr result (λ back. back.1 ≡ change) }
+{
+    renew(kept, fallback);
+    match kept {
+        Some(kept) => change_by(rt, alloc, shared, turnstile, &fallback.gate, kept, change),
+        None => unreachable!(),
+    }
+}
