@@ -2,6 +2,7 @@ pub mod Frames
 pub mod Telling
 pub mod SentParts
 pub mod Standing
+pub mod Reaching
 pub mod CarryingOn
 pub mod Simulating
 pub mod Histories

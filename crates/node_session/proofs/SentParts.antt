@@ -1,5 +1,5 @@
 -- A part of what is to be sent was sent.
-use Rattle.std.proofs.Common.{◌≡◌, ◌==◌, false, ℕ, ◌+◌, ◌<◌, ◌≤◌, List, [], ◌∷◌, ◌++◌, length, take, drop, Option, refl, sym, ap, subst, ◌∙◌, append_assoc, append-nil, length-append, arith}
+use Rattle.std.proofs.Common.{◌≡◌, ◌==◌, Bool, false, ℕ, ◌+◌, ◌<◌, ◌≤◌, List, [], ◌∷◌, ◌++◌, length, take, drop, Option, refl, sym, ap, subst, ◌∙◌, append_assoc, append-nil, length-append, arith}
 use Rattle.std.specs.Io.KnownBytes.{Appends, Keeps}
 use Rattle.std.proofs.KnownBytes.{Appends-trans, Appends-nil, Appends-kept}
 use Rattle.std.proofs.lemmas.List.{take-append-le, take-append-drop, length-drop}
@@ -73,3 +73,7 @@ some_unsent front bytes is some =
 pub not_empty : (xs : List ℕ) → (length xs == 0) ≡ false → 0 < length xs
 not_empty [] e = absurd (false≢true (sym e))
 not_empty (x ∷ xs) e = omega arith
+
+-- and in what was tested not to be empty
+pub tested : (xs : List ℕ) (is : Bool) → is ≡ (length xs == 0) → is ≡ false → 0 < length xs
+tested xs is told not = not_empty xs (sym told ∙ not)

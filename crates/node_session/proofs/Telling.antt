@@ -3,7 +3,7 @@ use Rattle.std.proofs.Common.{◌≡◌, ℕ, List, [], ◌∷◌, ◌++◌, Opt
 use Rattle.pb_frame.specs.declared.fault.FrameFault.{FrameFault}
 use Rattle.pb_frame.specs.declared.frame.Frame.{Frame}
 use Rattle.pb_frame.specs.Limits.{max_request_len}
-use Rattle.pb_frame.specs.Message.{frame, IsWithin}
+use Rattle.pb_frame.specs.Message.{IsWithin}
 use Rattle.pb_frame.specs.Stream.{Stream}
 use Rattle.pb_frame.specs.Taking.{message_of as frame_message, IsTaken, Takes}
 use Rattle.riak_msgs.specs.declared.fault.MsgFault.{MsgFault}
@@ -13,10 +13,9 @@ use Rattle.riak_msgs.specs.declared.reply.Reply.{Reply}
 use Rattle.riak_msgs.specs.declared.reply.Reply.TheVariants.{Error}
 use Rattle.riak_msgs.specs.Reading.{Reads}
 use Rattle.node_session.specs.declared.exchange.Exchange.{Exchange}
-use Rattle.node_session.specs.Answers.{Answers, message_fault_text, reply_frame, IsNoError}
+use Rattle.node_session.specs.Answers.{Answers, message_fault_text}
 use Rattle.node_session.specs.Taking.{IsToldNext, TakesNext}
-use Rattle.node_session.specs.Nexts.{IsAnswered, IsLost}
-use Rattle.node_session.specs.Views.{IsRead, SessionView, message_of}
+use Rattle.node_session.specs.Views.{IsRead, message_of}
 use Rattle.node_session.proofs.Frames.{read_more}
 
 -- what `take` did where it gave a frame, and where it refused
@@ -50,29 +49,3 @@ module _ {S : Type 0} (Step : S → Request → Reply → S → Type 0) where
 
     pub still_read : IsRead input es framer.rest → IsRead input es' framer'.rest
     still_read p = subst (λ (l : List Exchange). IsRead input l framer'.rest) (sym told.listed) (read_more input framer.rest framer'.rest es told.exchange p within told.taken.front)
-
-    -- and whose reply was lost
-    pub lost : (old new : SessionView) → old.rest ≡ framer.rest → new.rest ≡ framer'.rest → new.input ≡ old.input → old.exchanges ≡ es → new.exchanges ≡ es' → new.unsent ≡ old.unsent → IsNoError reply → IsLost Step node node' old new
-    lost old new e e' input from to same none = record {
-      exchange = told.exchange;
-      front = e ∙ told.taken.front ∙ ap (λ (t : List ℕ). frame (message_of told.exchange) ++ t) (sym e');
-      within = within;
-      answers = subst (λ (x : Reply). Answers Step node (message_of told.exchange) x node') (sym told.replied) told.answers;
-      no_error = subst IsNoError (sym told.replied) none;
-      input = input;
-      exchanges = to ∙ told.listed ∙ ap (λ (l : List Exchange). l ++ told.exchange ∷ []) (sym from);
-      unsent = same;
-    }
-
-    pub answered : (old new : SessionView) → old.rest ≡ framer.rest → new.rest ≡ framer'.rest → framer.fault ≡ None → new.input ≡ old.input → old.exchanges ≡ es → new.exchanges ≡ es' → new.fault ≡ framer'.fault
-        → new.unsent ≡ old.unsent ++ reply_frame reply → IsAnswered Step node node' old new
-    answered old new e e' none same from to fault unsent = record {
-      exchange = told.exchange;
-      front = e ∙ told.taken.front ∙ ap (λ (t : List ℕ). frame (message_of told.exchange) ++ t) (sym e');
-      within = within;
-      answers = subst (λ (x : Reply). Answers Step node (message_of told.exchange) x node') (sym told.replied) told.answers;
-      input = same;
-      exchanges = to ∙ told.listed ∙ ap (λ (l : List Exchange). l ++ told.exchange ∷ []) (sym from);
-      fault = fault ∙ ap (λ (s : Stream). s.fault) told.taken.stream ∙ none;
-      unsent = unsent ∙ ap (λ (x : Reply). old.unsent ++ reply_frame x) (sym told.replied);
-    }

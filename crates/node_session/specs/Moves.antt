@@ -12,7 +12,8 @@ use Rattle.node_session.specs.declared.fault.SessionFault.TheVariants as faults
 use Rattle.node_session.specs.declared.session.Next.{Next}
 use Rattle.node_session.specs.declared.session.Halt.{Halt}
 use Rattle.node_session.specs.declared.session.Halt.TheVariants as halts
-use Rattle.node_session.specs.Connections.{Carried, ConnectionView}
+use Rattle.node_session.specs.Connections.{Carried, ConnectionView, due_of}
+use Rattle.node_session.specs.Progress.{CutShort}
 use Rattle.node_session.specs.Views.{IsRead, SessionView, new_session}
 
 -- nothing was read or written yet
@@ -94,11 +95,18 @@ module _ {R W : Type 0} where
     pub sent : c.session.unsent ≡ []
     pub counted : length carried.put < 2 ^ 64 → replies ≡ length carried.put
 
-  -- what came of the input: its end, with so many bytes behind the last whole frame, or a fault
+  -- the writer has failed: so many replies were sent whole, and of the next frame a beginning, and not all
+  pub record IsBroken (remaining : R → Option (List ℕ)) (contents : W → Option (List ℕ)) (c : ConnectionView R W) (replies : ℕ) : Type 0 where
+    pub failed : c.failed ≡ true
+    pub carried : CarriedBy remaining contents c
+    pub read : IsRead c.session.input c.session.exchanges c.session.rest
+    pub cut : CutShort (due_of carried.put carried.error) carried.done replies
+
+  -- what came of the writer, where it has failed, or of the input: its end, with so many bytes behind the last whole frame, or a fault
   abbrev pub IsOutcome : (R → Option (List ℕ)) → (W → Option (List ℕ)) → ConnectionView R W → Result Ended SessionFault → Type 0
   IsOutcome remaining contents c (Ok end) = (c.input ≡ inputs.Ended) × (end.rest ≡ length c.session.rest) × IsThrough remaining contents c end.replies
   IsOutcome remaining contents c (Err (faults.ReadFailed n)) = (c.input ≡ inputs.Failed) × IsThrough remaining contents c n
-  IsOutcome remaining contents c (Err (faults.WriteFailed n)) = ⊥
+  IsOutcome remaining contents c (Err (faults.WriteFailed n)) = IsBroken remaining contents c n
   IsOutcome remaining contents c (Err (faults.BadFrame n)) = (c.input ≡ inputs.BadFrame) × IsThrough remaining contents c n
   IsOutcome remaining contents c (Err (faults.TooManyReads n)) = ⊥
   IsOutcome remaining contents c (Err (faults.NoMemory n)) = ((c.input ≡ inputs.ReplyLost) ⊎ (c.input ≡ inputs.PieceLost)) × IsThrough remaining contents c n

@@ -11,7 +11,7 @@ use Rattle.node_session.specs.declared.session.Next.{Next}
 use Rattle.node_session.specs.declared.session.Next.TheVariants.{Answered, Idle, Full}
 use Rattle.node_session.specs.declared.session.Halt.{Halt}
 use Rattle.node_session.specs.declared.session.Halt.TheVariants.{BadFrame, NoMemory}
-use Rattle.node_session.specs.Answers.{Answers, reply_frame, frame_fault_text, IsNoError}
+use Rattle.node_session.specs.Answers.{Answers, reply_frame, frame_fault_text, IsFramed, IsNoError}
 use Rattle.node_session.specs.Views.{SessionView, message_of}
 
 -- a bad length stands next, and its error is to be sent
@@ -21,6 +21,7 @@ pub record IsBadNext (old new : SessionView) : Type 0 where
   pub input : new.input ≡ old.input
   pub exchanges : new.exchanges ≡ old.exchanges
   pub rest : new.rest ≡ old.rest
+  pub framed : IsFramed (Error (frame_fault_text bad))
   pub unsent : new.unsent ≡ old.unsent ++ reply_frame (Error (frame_fault_text bad))
 
 module _ {S : Type 0} (Step : S → Request → Reply → S → Type 0) where
@@ -33,6 +34,7 @@ module _ {S : Type 0} (Step : S → Request → Reply → S → Type 0) where
     pub input : new.input ≡ old.input
     pub exchanges : new.exchanges ≡ old.exchanges ++ exchange ∷ []
     pub fault : new.fault ≡ None
+    pub framed : IsFramed exchange.reply
     pub unsent : new.unsent ≡ old.unsent ++ reply_frame exchange.reply
 
   -- the next message was answered, but its reply was lost, and is no error; what is to be sent stays

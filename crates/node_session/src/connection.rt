@@ -13,6 +13,7 @@ ghost use Rattle.node_session.specs.declared.connection.Input.TheVariants.{Open}
 use crate::ended::Ended;
 use crate::fault::SessionFault;
 use crate::node::Node;
+use crate::progress::Progress;
 use crate::session::{Halt, Next, Session};
 use ghost_state::{GhostList, Listing};
 use std::alloc::Global;
@@ -96,6 +97,7 @@ pub struct Connection<R: Read, W: Write> {
     input: Input,
     writer_failed: bool,
     answered: u64,
+    progress: Progress,
 }
 
 impl<R: Read, W: Write> Model for Connection<R, W> {
@@ -115,7 +117,8 @@ impl<R: Read, W: Write> Model for Connection<R, W> {
     } };
 
     ghost invariant = { λ c. IsKept (R.remaining c.first_reader.value) (R.remaining c.reader)
-        (W.contents c.first_writer.value) (W.contents c.writer) c.session c.unfed c.input c.answered };
+        (W.contents c.first_writer.value) (W.contents c.writer) c.session c.unfed c.input
+        c.answered c.progress c.writer_failed };
 }
 
 /// The list of a piece.
@@ -142,6 +145,7 @@ impl<R: Read, W: Write> Connection<R, W> {
             input: Input::Open,
             writer_failed: false,
             answered: 0,
+            progress: Progress::new(),
         }
     }
 
@@ -203,6 +207,7 @@ impl<R: Read, W: Write> Connection<R, W> {
                 Sent::Failed
             }
             Ok(n) => {
+                self.progress = self.progress.after(&self.session, n);
                 self.session.sent(n);
                 Sent::Bytes(n)
             }
@@ -248,14 +253,28 @@ impl<R: Read, W: Write> Connection<R, W> {
         }
     }
 
-    /// What came of the input, once all was sent: its end or a fault, with how many replies were written, as `serve` counts
-    /// them. None while it is open.
+    /// Whether the writer has failed.
+    pub fn has_failed(&self) -> bool
+        ensures { result ≡ self.now.failed }
+    {
+        self.writer_failed
+    }
+
+    /// What came of it, once all was sent or the writer has failed: the end of the input or a fault, with how many replies were
+    /// written whole, as `serve` counts them. None while the input is open and the writer goes on.
+    ///
+    /// Where the writer has failed this is the fault, however the input stands: what it took is the frames of so many
+    /// replies and a beginning of the next frame. The node may have answered more messages, whose replies are lost.
     pub fn outcome(&self) -> Option<Result<Ended, SessionFault>>
-        requires { self.now.session.unsent ≡ [] }
+        requires { self.now.failed ≡ false → self.now.session.unsent ≡ [] }
         ensures over { IfSome result (λ outcome. IsOutcome R.remaining W.contents self.now outcome) }
         ensures none { IfNone result (self.now.input ≡ Open) }
+        ensures goes { IfNone result (self.now.failed ≡ false) }
     {
         self.session.is_read();
+        if self.writer_failed {
+            return Some(Err(SessionFault::WriteFailed(self.progress.whole())));
+        }
         let replies = self.answered;
         match self.input {
             Input::Open => None,

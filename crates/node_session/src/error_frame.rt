@@ -2,14 +2,15 @@
 
 ghost use Rattle.std.specs.Prelude.{◌≡◌};
 ghost use Rattle.riak_msgs.specs.declared.reply.Reply.TheVariants.{Error};
-ghost use Rattle.node_session.specs.Answers.{reply_frame};
+ghost use Rattle.node_session.specs.Answers.{reply_frame, IsFramed};
 
 use riak_msgs::Text;
 
 /// The frame of an error reply. It takes no memory, so that `no memory` can always be answered.
 #[tactic(auto, unfolding(pb_frame::specs::Message::frame, wire_varint::specs::Varint::encoding, wire_varint::specs::Varint::encoded))]
 pub(crate) fn error_frame(text: Text) -> &'static [u8]
-    ensures { result.now ≡ reply_frame (Error text) }
+    ensures frame { result.now ≡ reply_frame (Error text) }
+    ensures framed { IsFramed (Error text) }
 {
     match text {
         Text::UnknownCode => b"\0\0\0\x19\0\x0a\x14unknown message code\x10\x01",

@@ -38,6 +38,7 @@ mod laws;
 mod node;
 mod outbox;
 mod plain_node;
+mod progress;
 mod reply;
 mod report;
 mod sending;

@@ -1,8 +1,9 @@
 //! The frames of replies that were not yet sent.
 
-ghost use Rattle.std.specs.Prelude.{◌≡◌, ◌<◌, ◌≤◌, ◌++◌, [], length, drop, true, false, OnOk, OnErr, IfOk};
+ghost use Rattle.std.specs.Prelude.{◌≡◌, ◌+◌, ◌^◌, ◌<◌, ◌≤◌, ◌++◌, [], length, drop, get_or, true, false, OnOk, OnErr};
+ghost use Rattle.pb_frame.specs.Message.{given_length};
 ghost use Rattle.riak_msgs.specs.declared.reply.Reply.TheVariants.{Error};
-ghost use Rattle.node_session.specs.Answers.{reply_frame};
+ghost use Rattle.node_session.specs.Answers.{reply_frame, IsFramed};
 ghost use Rattle.node_session.specs.Unsent.{PutsReply, whole, IsFront};
 
 use crate::error_frame::error_frame;
@@ -26,7 +27,28 @@ fn shrink_empty(bytes: &mut Vec<u8>)
     }
 }
 
+/// So many more bytes of a buffer were sent. Where no fewer were than wait, these are moved to its front.
+fn drop_front(bytes: &mut Vec<u8>, sent: &mut usize, more: usize)
+    requires { sent.old + more ≤ length bytes.old.items }
+    ensures left { drop sent.new bytes.new.items ≡ drop (sent.old + more) bytes.old.items }
+    ensures few { sent.new + sent.new ≤ length bytes.new.items }
+{
+    let start = *sent + more;
+    let left = bytes.len() - start;
+    if start < left {
+        *sent = start;
+    } else {
+        bytes.copy_within(start.., 0);
+        bytes.truncate(left);
+        *sent = 0;
+    }
+}
+
 /// The frames of replies that were not yet sent. Where nothing waits, a reply is encoded into the buffer of those before it.
+///
+/// Of the bytes that were sent no more are held than of those that wait: once they would be more, those that wait are moved to the front.
+/// So over all calls no more bytes are moved than were sent, and as no reply is put where 65,536 bytes wait, no more is ever held than twice
+/// these and the longest reply.
 #[derive(Drop)]
 pub(crate) struct Outbox {
     // Those before `sent` were sent.
@@ -37,14 +59,14 @@ pub(crate) struct Outbox {
 }
 
 impl Model for Outbox {
-    ghost use Rattle.std.specs.Prelude.{◌≤◌, drop, vec_len};
+    ghost use Rattle.std.specs.Prelude.{◌+◌, ◌≤◌, drop, vec_len};
     ghost use Rattle.node_session.specs.Unsent.{Unsent};
 
     ghost Value = { Unsent };
 
     ghost view = { λ o. record { frames = drop o.sent o.frames.items; late = o.late.now } };
 
-    ghost invariant = { λ o. o.sent ≤ vec_len o.frames };
+    ghost invariant = { λ o. o.sent + o.sent ≤ vec_len o.frames };
 }
 
 impl Outbox {
@@ -92,7 +114,7 @@ impl Outbox {
     {
         let waits = self.frames.len() - self.sent;
         if n < waits {
-            self.sent += n;
+            drop_front(&mut self.frames, &mut self.sent, n);
         } else {
             self.late = &self.late[n - waits..];
             self.frames.clear();
@@ -101,16 +123,43 @@ impl Outbox {
         }
     }
 
+    /// The byte of what is to be sent that has so many before it; 0 where there is none.
+    fn byte(&self, at: usize) -> u8
+        ensures { result ≡ get_or (whole self.now) at 0 }
+    {
+        let waits = self.frames.len() - self.sent;
+        if at < waits {
+            return self.frames[self.sent + at];
+        }
+        match self.late.get(at - waits) {
+            Some(byte) => *byte,
+            None => 0,
+        }
+    }
+
+    /// How long the frame is that begins behind so many bytes of what is to be sent.
+    pub(crate) fn frame_len(&self, at: usize) -> usize
+        requires { (at < length (whole self.now)) × (at < 2 ^ 63) }
+        ensures { result ≡ given_length (drop at (whole self.now)) + 4 }
+    {
+        let length = u32::from_be_bytes([
+            self.byte(at),
+            self.byte(at + 1),
+            self.byte(at + 2),
+            self.byte(at + 3),
+        ]);
+        length as usize + 4
+    }
+
     /// Puts the frame of a reply, which is let go, behind the others.
     fn put_frame(&mut self, alloc: Global, reply: Reply) -> Result<(), AllocError>
         requires { self.old.late ≡ [] }
         ensures ok { OnOk result
             (self.new ≡ record { frames = self.old.frames ++ reply_frame reply; late = [] }) }
+        ensures framed { OnOk result (IsFramed reply) }
         ensures err { OnErr result (self.new ≡ self.old) }
     {
-        if self.sent == self.frames.len() {
-            self.frames.clear();
-            self.sent = 0;
+        if self.frames.is_empty() {
             return fill_frame(&mut self.frames, reply);
         }
         let mut frame = Vec::new(alloc);
@@ -121,7 +170,8 @@ impl Outbox {
     /// Puts an error behind them. It takes no memory where there is none.
     pub(crate) fn put_error(&mut self, text: Text)
         requires { self.old.late ≡ [] }
-        ensures { whole self.new ≡ whole self.old ++ reply_frame (Error text) }
+        ensures put { whole self.new ≡ whole self.old ++ reply_frame (Error text) }
+        ensures framed { IsFramed (Error text) }
     {
         let frame = error_frame(text);
         if self.frames.extend_from_slice(frame).is_err() {

@@ -1,7 +1,7 @@
 //! Replies as frames.
 
 ghost use Rattle.std.specs.Prelude.{◌≡◌, ◌++◌, [], IfSome, OnOk, OnErr};
-ghost use Rattle.node_session.specs.Answers.{reply_frame, message_fault_text, frame_fault_text};
+ghost use Rattle.node_session.specs.Answers.{reply_frame, message_fault_text, frame_fault_text, IsFramed};
 
 use pb_frame::{FrameFault, HEADER_LEN, header};
 use riak_msgs::{MsgFault, Reply, Text};
@@ -35,7 +35,8 @@ pub(crate) fn frame_fault_text(fault: FrameFault) -> Text
 /// Puts the frame of a reply behind what a buffer has, which is made large enough first: the header, and the body behind it. None where
 /// memory is refused: a part may be there then.
 fn append_frame(out: &mut Vec<u8>, reply: &Reply) -> Option<()>
-    ensures { IfSome result (λ _. out.new.items ≡ out.old.items ++ reply_frame reply.now) }
+    ensures frame { IfSome result (λ _. out.new.items ≡ out.old.items ++ reply_frame reply.now) }
+    ensures framed { IfSome result (λ _. IsFramed reply.now) }
 {
     let len = reply.body_len().ok()?;
     let header = header(reply.code(), len).ok()?;
@@ -49,6 +50,7 @@ fn append_frame(out: &mut Vec<u8>, reply: &Reply) -> Option<()>
 pub(crate) fn fill_frame(out: &mut Vec<u8>, reply: Reply) -> Result<(), AllocError>
     requires { out.old.items ≡ [] }
     ensures ok { OnOk result (out.new.items ≡ reply_frame reply) }
+    ensures framed { OnOk result (IsFramed reply) }
     ensures err { OnErr result (out.new.items ≡ []) }
 {
     match append_frame(out, &reply) {

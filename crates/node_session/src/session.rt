@@ -1,9 +1,9 @@
 //! A session in steps: bytes come in, messages are answered, bytes go out.
 
-ghost use Rattle.std.specs.Prelude.{◌≡◌, ◌≤◌, ◌<◌, ◌++◌, [], List, ℕ, drop, length, None, OnOk, OnErr};
+ghost use Rattle.std.specs.Prelude.{◌≡◌, ◌+◌, ◌^◌, ◌≤◌, ◌<◌, ◌++◌, drop, length, None, OnOk, OnErr};
 ghost use Rattle.pb_frame.specs.Limits.{max_request_len};
 ghost use Rattle.node_session.specs.Limits.{max_read_len};
-ghost use Rattle.pb_frame.specs.Message.{IsPartial};
+ghost use Rattle.pb_frame.specs.Message.{IsPartial, given_length};
 ghost use Rattle.node_session.specs.Views.{new_session, IsRead};
 ghost use Rattle.node_session.specs.Nexts.{AnswersNext};
 ghost use Rattle.node_session.specs.Unsent.{IsFront};
@@ -142,6 +142,14 @@ impl Session {
         ensures { result ≡ length self.now.unsent }
     {
         self.outbox.len()
+    }
+
+    /// How long the frame is that begins behind so many bytes of what is to be sent.
+    pub(crate) fn frame_len(&self, at: usize) -> usize
+        requires { (at < length self.now.unsent) × (at < 2 ^ 63) }
+        ensures { result ≡ given_length (drop at self.now.unsent) + 4 }
+    {
+        self.outbox.frame_len(at)
     }
 
     /// So many bytes of what is to be sent were sent.

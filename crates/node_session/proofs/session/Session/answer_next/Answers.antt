@@ -1,7 +1,4 @@
-use Rattle.std.proofs.Common.{◌≡◌, ◌∙◌, ap, refl, sym}
-use Rattle.node_session.specs.Unsent.{whole}
-use Rattle.node_session.specs.Views.{SessionView}
-use Rattle.node_session.proofs.Telling.{told_at, still_limit, still_read, lost}
+use Rattle.node_session.proofs.Telling.{told_at, still_limit, still_read}
 use Rattle.node_session.proofs.session.Session.answer_next.Goals as goal
 
 pub invariant_of-self : goal.invariant_of-self
