@@ -15,7 +15,7 @@ use Rattle.node_session.specs.declared.connection.Input.TheVariants.{Open, Ended
 use Rattle.node_session.specs.declared.exchange.Exchange.{Exchange}
 use Rattle.node_session.specs.declared.progress.Progress.{Progress}
 use Rattle.node_session.specs.Limits.{max_read_len}
-use Rattle.node_session.specs.Answers.{reply_frame, frame_fault_text, IsFramed}
+use Rattle.node_session.specs.Answers.{reply_frame, frame_fault_text}
 use Rattle.node_session.specs.Answered.{CameInLastRead}
 use Rattle.node_session.specs.Connections.{Carried, InputIs, IsKept, due_of}
 use Rattle.node_session.specs.Nexts.{IsAnswered, IsBadNext, IsLost}

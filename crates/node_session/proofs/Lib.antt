@@ -4,6 +4,7 @@ pub mod SentParts
 pub mod Standing
 pub mod Reaching
 pub mod CarryingOn
+pub mod Ending
 pub mod Simulating
 pub mod Histories
 pub mod Sweeping

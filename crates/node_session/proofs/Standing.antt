@@ -45,7 +45,7 @@ came_in rest last not_partial = record {
 }
 
 -- a bad length is not partial
-faulty_not : (rest : List ℕ) (fault : FrameFault) → IsFaulty max_request_len rest fault → IsPartial max_request_len rest → ⊥
+pub faulty_not : (rest : List ℕ) (fault : FrameFault) → IsFaulty max_request_len rest fault → IsPartial max_request_len rest → ⊥
 faulty_not rest frames.Empty is p = let s = p.short is.length.0 in omega (arith, s.0, is.length.1)
 faulty_not rest frames.TooLarge is p = let s = p.short is.length.0 in omega (arith, s.1, is.length.1)
 faulty_not rest frames.NoMemory is p = absurd is.length
@@ -87,7 +87,7 @@ module _ {S : Type 0} (Step : S → Request → Reply → S → Type 0) where
   halt_at b c s t r n n' e d p = subst (λ (x : Halt). AnswersNext Step b c s t (Err x)) d (subst (λ (x : Result Next Halt). AnswersNext Step b c s t x) e p)
 
   -- one message more
-  run_more : (a b c : S) (ms : List Message) (rs : List Reply) (m : Message) (r : Reply) → Run Step a ms rs b → Answers Step b m r c → Run Step a (ms ++ m ∷ []) (rs ++ r ∷ []) c
+  pub run_more : (a b c : S) (ms : List Message) (rs : List Reply) (m : Message) (r : Reply) → Run Step a ms rs b → Answers Step b m r c → Run Step a (ms ++ m ∷ []) (rs ++ r ∷ []) c
   run_more a b c [] [] m r p q = (c, subst (λ (x : S). Answers Step x m r c) p q, refl)
   run_more a b c (n ∷ ms) (t ∷ rs) m r p q = (p.0, p.1, run_more p.0 b c ms rs m r p.2 q)
   run_more a b c [] (t ∷ rs) m r p q = absurd p

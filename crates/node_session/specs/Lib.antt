@@ -10,6 +10,8 @@ pub mod Sending
 pub mod Progress
 pub mod Connections
 pub mod Moves
+pub mod SharedNode
+pub mod ConnectionLaws
 pub mod Report
 pub mod PlainStep
 pub mod PlainNodes

@@ -14,7 +14,7 @@ use Rattle.node_session.specs.declared.session.Halt.{Halt}
 use Rattle.node_session.specs.declared.session.Halt.TheVariants as halts
 use Rattle.node_session.specs.Connections.{Carried, ConnectionView, due_of}
 use Rattle.node_session.specs.Progress.{CutShort}
-use Rattle.node_session.specs.Views.{IsRead, SessionView, new_session}
+use Rattle.node_session.specs.Views.{IsRead, new_session}
 
 -- nothing was read or written yet
 abbrev pub new_connection : {R W : Type 0} → R → W → ConnectionView R W

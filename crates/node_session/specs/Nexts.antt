@@ -1,5 +1,5 @@
 -- What a session does with its next message.
-use Rattle.std.specs.Prelude.{◌≡◌, ℕ, ◌<◌, List, [], ◌∷◌, ◌++◌, None, Result, Ok, Err, length}
+use Rattle.std.specs.Prelude.{◌≡◌, ◌<◌, [], ◌∷◌, ◌++◌, None, Result, Ok, Err, length}
 use Rattle.pb_frame.specs.declared.fault.FrameFault.{FrameFault}
 use Rattle.pb_frame.specs.Limits.{max_request_len}
 use Rattle.pb_frame.specs.Message.{frame, IsWithin, IsPartial, IsFaulty}

@@ -30,6 +30,7 @@
 
 mod answering;
 mod connection;
+mod connection_laws;
 mod ended;
 mod error_frame;
 mod exchange;
@@ -47,6 +48,7 @@ mod session;
 mod vnode_reply;
 
 pub use connection::{Connection, Input, Received, Sent};
+pub use connection_laws::connections_are_sessions;
 pub use ended::Ended;
 pub use exchange::Exchange;
 pub use fault::SessionFault;

@@ -11,6 +11,7 @@ mod large;
 mod long;
 mod memory;
 mod messages;
+mod nonblocking;
 mod options;
 mod reports;
 mod scripts;

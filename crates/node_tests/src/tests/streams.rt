@@ -27,6 +27,10 @@ pub enum Trouble {
     Interrupts(Call, u64),
     /// Each of the first so many calls is interrupted.
     Begins(Call, u64),
+    /// Each call whose number this divides would have to wait. 0 divides none.
+    Blocks(Call, u64),
+    /// Each of the first so many calls would have to wait.
+    Holds(Call, u64),
     /// A read fails unless just the replies to what was read of the requests before were flushed.
     Awaits,
 }
@@ -52,7 +56,7 @@ pub const PLAIN: Channel<'static> = Channel {
 };
 
 /// What becomes of a call of this number.
-fn attempt(troubles: &[Trouble], call: Call, number: u64) -> io::Result<()> {
+pub fn attempt(troubles: &[Trouble], call: Call, number: u64) -> io::Result<()> {
     for trouble in troubles {
         match *trouble {
             Trouble::Fails(kind, first) => {
@@ -73,6 +77,16 @@ fn attempt(troubles: &[Trouble], call: Call, number: u64) -> io::Result<()> {
             Trouble::Begins(kind, count) => {
                 if kind == call && number < count {
                     return Err(io::Error::from(ErrorKind::Interrupted));
+                }
+            }
+            Trouble::Blocks(kind, every) => {
+                if kind == call && every != 0 && number % every == 0 {
+                    return Err(io::Error::from(ErrorKind::WouldBlock));
+                }
+            }
+            Trouble::Holds(kind, count) => {
+                if kind == call && number < count {
+                    return Err(io::Error::from(ErrorKind::WouldBlock));
                 }
             }
             Trouble::Awaits => {}
