@@ -200,7 +200,7 @@ module _ {S : Type 0} (Step : S → Request → Reply → S → Type 0) where
   pub stands_kept : (a b : S) (h h' h'' : Option (List ℕ)) (s : SessionView) → Keeps h' h'' → Stands Step a b h h' s → Stands Step a b h h'' s
   stands_kept a b h h' h'' s kept p = record { run = p.run; written = Appends-kept h h' h'' _ p.written kept }
 
-  answered_kept : (a : S) (input : List ℕ) (h h' h'' : Option (List ℕ)) (count : ℕ) (Ends : S → List ℕ → List ℕ → Type 0) → Keeps h' h'' → Answered Step a input h h' count Ends → Answered Step a input h h'' count Ends
+  pub answered_kept : (a : S) (input : List ℕ) (h h' h'' : Option (List ℕ)) (count : ℕ) (Ends : S → List ℕ → List ℕ → Type 0) → Keeps h' h'' → Answered Step a input h h' count Ends → Answered Step a input h h'' count Ends
   answered_kept a input h h' h'' count Ends kept p = record {
     messages = p.messages;
     replies = p.replies;

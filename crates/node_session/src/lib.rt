@@ -15,7 +15,9 @@
 //! end has its clause too: how many whole replies went out before it, and the state of the node (`specs/Session`).
 //!
 //! [`Session`] is one in steps, for a caller that has streams which don't wait: what was read is fed to it, each answer is lent the node, and
-//! what is to be sent is looked at and told as sent. [`serve`] is a loop over it that sends each reply before it answers on.
+//! what is to be sent is looked at and told as sent. [`serve`] is a loop over it that sends each reply before it answers on. [`Connection`]
+//! is one with its streams, each of whose calls makes one call of a stream at most: replies gather, and [`connections_are_sessions`] is
+//! the law by which many of them over one node come to the ends that `serve` promises.
 //!
 //! `serve` reads up to 4,096 bytes at a time, and answers each whole frame that has come before it reads on. Where it
 //! stops among its answers, no frame is left unanswered but those that its last 4,096 bytes at most made whole. It never

@@ -48,7 +48,7 @@ fn drop_front(bytes: &mut Vec<u8>, sent: &mut usize, more: usize)
 ///
 /// Of the bytes that were sent no more are held than of those that wait: once they would be more, those that wait are moved to the front.
 /// So over all calls no more bytes are moved than were sent, and as no reply is put where 65,536 bytes wait, no more is ever held than twice
-/// these and the longest reply.
+/// the sum of these and the longest reply.
 #[derive(Drop)]
 pub(crate) struct Outbox {
     // Those before `sent` were sent.

@@ -1,6 +1,6 @@
 //! Connections over streams that need not wait.
 
-ghost use Rattle.std.specs.Prelude.{◌≡◌, ◌×◌, ◌<◌, ◌≤◌, [], false, length};
+ghost use Rattle.std.specs.Prelude.{◌≡◌, ◌<◌, ◌≤◌, [], false, length};
 ghost use Rattle.node_session.specs.Limits.{max_read_len};
 ghost use Rattle.node_tests.specs.declared.tests.nonblocking.Turn.TheVariants.{GoesOn, Over};
 
@@ -9,27 +9,54 @@ use crate::tests::frames::{
     UNKNOWN, UNKNOWN_CODE,
 };
 use crate::tests::sessions::{Part, Session, goes, joined};
-use crate::tests::streams::{Call, Channel, PLAIN, Source, Trouble, attempt};
+use crate::tests::streams::{Call, Channel, PLAIN, Trouble, attempt};
 use node_session::{
     Connection, Ended, Input, MAX_READ_LEN, Next, PlainNode, Sent, SessionFault,
 };
 use std::alloc::Global;
 use std::cell::Cell;
 use std::io;
-use std::io::{ErrorKind, Write};
+use std::io::{ErrorKind, Read, Write};
+
+/// Gives bytes in pieces.
+#[derive(Drop)]
+struct Giving<'a> {
+    left: &'a [u8],
+    piece: usize,
+    troubles: &'a [Trouble],
+    reads: u64,
+    ghost some: { 0 < piece },
+}
+
+impl Read for Giving<'_> {
+    ghost use Rattle.std.specs.Prelude.{Some};
+
+    ghost remaining = { λ r. Some r.left.now };
+
+    fn read(&mut self, buf: &mut [u8]) -> io::Result<usize> {
+        let number = self.reads;
+        self.reads = number.saturating_add(1);
+        attempt(self.troubles, Call::Read, number)?;
+        let n = self.piece.min(self.left.len()).min(buf.len());
+        let (front, left) = self.left.split_at(n);
+        buf[..n].copy_from_slice(front);
+        self.left = left;
+        Ok(n)
+    }
+}
 
 /// Takes some bytes at a time, and fails where they aren't those that are due.
 #[derive(Drop)]
-struct Comparing<'d, 't, 'c> {
-    due: &'d [u8],
+struct Comparing<'a> {
+    due: &'a [u8],
     most: usize,
-    troubles: &'t [Trouble],
+    troubles: &'a [Trouble],
     writes: u64,
     /// How many bytes are still due.
-    left: &'c Cell<usize>,
+    left: &'a Cell<usize>,
 }
 
-impl Write for Comparing<'_, '_, '_> {
+impl Write for Comparing<'_> {
     ghost use Rattle.std.specs.Prelude.{None};
 
     ghost contents = { λ w. None };
@@ -63,7 +90,7 @@ enum Turn {
 /// Writes once, and then answers one message or, where none is whole, reads once. It counts the answers for which too much waited.
 fn take_turn(
     alloc: Global,
-    connection: &mut Connection<Source, Comparing>,
+    connection: &mut Connection<Giving, Comparing>,
     node: &mut PlainNode,
     piece: &mut [u8],
     full: &Cell<u64>,
@@ -99,7 +126,7 @@ fn take_turn(
 /// Takes turns to the end, and returns what came of the connection.
 fn outcome_of(
     alloc: Global,
-    connection: &mut Connection<Source, Comparing>,
+    connection: &mut Connection<Giving, Comparing>,
     node: &mut PlainNode,
     full: &Cell<u64>,
 ) -> Option<Result<Ended, SessionFault>>
@@ -116,6 +143,7 @@ fn outcome_of(
 }
 
 /// What a connection is given, and what comes of it.
+#[derive(Drop)]
 struct Carried<'i, 'o, 't> {
     input: &'i [u8],
     output: &'o [u8],
@@ -130,8 +158,15 @@ fn comes_so(alloc: Global, row: &Carried) -> Option<u64> {
     let Ok(mut node) = PlainNode::new(alloc, 1) else {
         return None;
     };
-    let (flushed, left, full) = (Cell::new(0), Cell::new(row.output.len()), Cell::new(0));
-    let source = Source::new(row.input, &row.channel, &flushed);
+    let left = Cell::new(row.output.len());
+    let full = Cell::new(0);
+    let (piece, _) = row.channel.pieces;
+    let source = Giving {
+        left: row.input,
+        piece: piece.max(1),
+        troubles: row.channel.troubles,
+        reads: 0,
+    };
     let sink = Comparing {
         due: row.output,
         most: row.channel.most,

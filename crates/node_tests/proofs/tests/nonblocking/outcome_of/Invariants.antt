@@ -1,4 +1,4 @@
-use Rattle.std.proofs.Common.{◌≡◌, ◌×◌, ◌<◌, ◌≤◌, false, length}
+use Rattle.std.proofs.Common.{◌≡◌, false, length}
 use Rattle.node_tests.proofs.tests.nonblocking.outcome_of.Given as goal
 
 abbrev pub invariant-loop : goal.invariant-loop
