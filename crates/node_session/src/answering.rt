@@ -1,7 +1,6 @@
 //! The answer to the next message.
 
 ghost use Rattle.std.specs.Prelude.{◌≡◌, None};
-ghost use Rattle.pb_frame.specs.Limits.{max_request_len};
 ghost use Rattle.node_session.specs.Answers.{Answers};
 ghost use Rattle.node_session.specs.Taking.{TakesNext};
 

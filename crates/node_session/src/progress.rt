@@ -27,8 +27,10 @@ impl Progress {
     pub(crate) fn after(self, session: &Session, n: usize) -> Progress
         requires some { 0 < n }
         requires room { (n ≤ length session.now.unsent) × (n < 2 ^ 63) }
-        ensures { (due : List Reply) (done : List ℕ) → SentFrames due done session.now.unsent self.begun self.left
-            → SentFrames due (done ++ take n session.now.unsent) (drop n session.now.unsent) result.begun result.left }
+        ensures { (due : List Reply) (done : List ℕ)
+            → SentFrames due done session.now.unsent self.begun self.left
+            → SentFrames due (done ++ take n session.now.unsent)
+            (drop n session.now.unsent) result.begun result.left }
     {
         // What waits fits a number, and so does the end of each frame in it.
         let _waits = session.waiting();

@@ -19,3 +19,4 @@ mod sessions;
 mod steps;
 mod stops;
 mod streams;
+mod turns;

@@ -8,7 +8,6 @@ use crate::tests::sessions::{Count, Part, Session, goes, goes_on};
 use crate::tests::streams::{Call, Channel, PLAIN, Trouble};
 use node_session::{PlainNode, SessionFault};
 use std::alloc::Global;
-use std::process::Abort;
 
 /// All of an input in one piece.
 const WHOLE: usize = 1000;

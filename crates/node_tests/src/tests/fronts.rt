@@ -10,7 +10,6 @@ use crate::tests::sessions::{Outcome, comes_to, ended};
 use crate::tests::streams::PLAIN;
 use node_session::PlainNode;
 use std::alloc::Global;
-use std::process::Abort;
 
 /// A request's frame.
 struct Frame {

@@ -7,7 +7,6 @@ use node_session::{Node, serve};
 use riak_msgs::{Bytes, GetReply, Reply, Request, Sequence, Text};
 use std::alloc::{AllocError, Global};
 use std::cell::Cell;
-use std::process::Abort;
 
 /// Shows a context of so many thousands of bytes, whatever it is asked.
 #[derive(Drop)]

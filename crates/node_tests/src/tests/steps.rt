@@ -7,7 +7,6 @@ ghost use Rattle.node_tests.specs.declared.tests.steps.Pause.TheVariants.{Idle};
 use crate::tests::frames::{PING, PONG, PUT_AND_GET, STORED_AND_SHOWN, UNKNOWN};
 use node_session::{Halt, MAX_READ_LEN, Next, PlainNode, Session};
 use std::alloc::Global;
-use std::process::Abort;
 
 /// Why no further message is answered.
 #[derive(Clone, Copy, PartialEq, Eq)]

@@ -1,5 +1,5 @@
 use Rattle.std.proofs.Common.{◌≡◌, false, length}
-use Rattle.node_tests.proofs.tests.nonblocking.outcome_of.Given as goal
+use Rattle.node_tests.proofs.tests.turns.outcome_of.Given as goal
 
 abbrev pub invariant-loop : goal.invariant-loop
 invariant-loop l = (l.connection.failed ≡ false) × (length l.piece ≡ 4096)
