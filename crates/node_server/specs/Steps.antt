@@ -1,0 +1,74 @@
+-- The steps of a connection that is served by a worker's node.
+use Rattle.std.specs.Prelude.{◌≡◌, ◌⊎◌, ◌<◌, ℕ, List, [], Option, Some, None, Result, true, false, length}
+use Rattle.pb_frame.specs.Limits.{max_request_len}
+use Rattle.pb_frame.specs.Message.{IsPartial}
+use Rattle.riak_msgs.specs.declared.request.Request.{Request}
+use Rattle.riak_msgs.specs.declared.reply.Reply.{Reply}
+use Rattle.node_session.specs.declared.connection.Input.TheVariants.{Open}
+use Rattle.node_session.specs.declared.connection.Received.{Received}
+use Rattle.node_session.specs.declared.connection.Sent.{Sent}
+use Rattle.node_session.specs.declared.session.Next.{Next}
+use Rattle.node_session.specs.declared.session.Halt.{Halt}
+use Rattle.node_session.specs.Connections.{ConnectionView}
+use Rattle.node_session.specs.Moves.{AnswersOnce, ReadsOnce, WritesOnce, IsOutcome, new_connection}
+use Rattle.node_session.specs.Nexts.{AnswersNext}
+use Rattle.node_server.specs.declared.connections.Streams.{Streams}
+use Rattle.node_server.specs.declared.end.End.{End}
+use Rattle.node_server.specs.declared.end.End.TheVariants.{Through, WriteFailed, Closed}
+
+-- a connection begins with its streams, of which nothing was read or written
+abbrev pub Begins : {R W : Type 0} → Streams R W → ConnectionView R W → Type 0
+Begins streams opened = opened ≡ new_connection streams.reader streams.writer
+
+module _ {N R W : Type 0} (Step : N → Request → Reply → N → Type 0) where
+  -- its next message was answered, or nothing more is answered
+  pub record AnswersMessage (node node' : N) (from to : ConnectionView R W) : Type 0 where
+    pub is_open : from.input ≡ Open
+    pub result : Result Next Halt
+    pub next : AnswersNext Step node node' from.session to.session result
+    pub same : AnswersOnce from to result
+
+module _ {R W : Type 0} (remaining : R → Option (List ℕ)) (contents : W → Option (List ℕ)) where
+  -- the writer, which had not failed, was called once, where something was to be sent
+  pub record Writes (from to : ConnectionView R W) : Type 0 where
+    pub works : from.failed ≡ false
+    pub sent : Sent
+    pub writes : WritesOnce contents from to sent
+
+  -- the reader was called once: all that was whole was answered, and all was sent
+  pub record Reads (from to : ConnectionView R W) : Type 0 where
+    pub is_open : from.input ≡ Open
+    pub idle : IsPartial max_request_len from.session.rest
+    pub all_sent : from.session.unsent ≡ []
+    pub buffer : List ℕ
+    pub received : Received
+    pub reads : ReadsOnce remaining from to buffer received
+
+  -- how a connection stands that ends so: all was sent, and this came of its input; its writer has failed; or it waits for its client,
+  -- with no whole message to be answered, or with something to be sent
+  abbrev pub IsEnd : ConnectionView R W → End → Type 0
+  IsEnd from (Through outcome) = IsOutcome remaining contents from outcome
+  IsEnd from WriteFailed = from.failed ≡ true
+  IsEnd from Closed = IsPartial max_request_len from.session.rest ⊎ (0 < length from.session.unsent)
+
+  -- a step that leaves the node
+  abbrev pub TakesStep : ConnectionView R W → ConnectionView R W → Option End → Type 0
+  TakesStep from to None = Writes from to ⊎ Reads from to
+  TakesStep from to (Some end) = IsEnd from end
+
+module _ {N R W : Type 0} (Step : N → Request → Reply → N → Type 0) (remaining : R → Option (List ℕ)) (contents : W → Option (List ℕ)) where
+  -- a step after which the connection is open: the node answers, or it stays and one call of a stream is made
+  abbrev pub Continues : N → ConnectionView R W → N → ConnectionView R W → Type 0
+  Continues node from node' to = AnswersMessage Step node node' from to ⊎ ((node' ≡ node) × TakesStep remaining contents from to None)
+
+module _ {N R W : Type 0} (remaining : R → Option (List ℕ)) (contents : W → Option (List ℕ)) where
+  -- a step to the end, which leaves the node
+  abbrev pub Ends : N → ConnectionView R W → N → End → Type 0
+  Ends node from node' end = (node' ≡ node) × IsEnd remaining contents from end
+
+-- a connection that would have to wait stays open, or is closed
+abbrev pub StaysOrCloses : Option End → Type 0
+StaysOrCloses None = Unit {0}
+StaysOrCloses (Some Closed) = Unit {0}
+StaysOrCloses (Some (Through outcome)) = ⊥
+StaysOrCloses (Some WriteFailed) = ⊥
