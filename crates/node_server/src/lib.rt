@@ -11,13 +11,16 @@
 mod accept_fault;
 mod accepting;
 mod connections;
+mod counting;
 mod end;
 mod fault;
 mod inbox;
 mod laws;
 mod open_connection;
+mod server;
 mod sockets;
 mod stop;
+mod totals;
 mod worker;
 
 pub use accept_fault::AcceptFault;
@@ -26,4 +29,5 @@ pub use end::End;
 pub use fault::ServerFault;
 pub use laws::{connections_have_their_exchanges, steps_are_run};
 pub use open_connection::OpenConnection;
+pub use server::{ServerOutcome, ServerSettings, serve_until};
 pub use sockets::{ReplySocket, RequestSocket};

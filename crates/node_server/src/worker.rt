@@ -242,7 +242,7 @@ impl<'a, X: Log + Clock + Wait, N: Node + Drop> Desk<'a, X, N> {
     /// Has every connection end once all that was read of it is answered and sent, or its client would have to be waited for.
     fn close_all(&mut self, poll: &Poll) {
         self.begin_arrivals(poll);
-        self.service.set_time(u64::MAX, u64::MAX);
+        self.service.set_time(0, u64::MAX);
         self.sweep(u64::MAX);
     }
 
