@@ -4,7 +4,7 @@ use Rattle.open_jobs.specs.declared.step.JobEvent.{JobEvent}
 use Rattle.open_jobs.specs.declared.step.JobEvent.TheVariants.{Began, Continued, Ended}
 use Rattle.open_jobs.specs.Interleaving.{Moves}
 use Rattle.open_jobs.specs.Lives.{Life, StaysOpen}
-use Rattle.open_jobs.specs.Runs.{with_first}
+use Rattle.open_jobs.specs.Runs.{Run, with_first}
 use Rattle.riak_msgs.specs.declared.request.Request.{Request}
 use Rattle.riak_msgs.specs.declared.reply.Reply.{Reply}
 use Rattle.node_session.specs.declared.exchange.Exchange.{Exchange}
@@ -44,3 +44,7 @@ module _ {N R W : Type 0} (Step : N → Request → Reply → N → Type 0) (rem
   HasItsExchanges life =
       Begins life.job life.opened → StaysOpen life.opened life.steps life.last → AreSteps life.steps
       → life.last.session.exchanges ≡ exchanges_at life.steps
+
+-- some messages, one after another, were answered from the first state of a node to its last
+abbrev pub IsServed : {N : Type 0} (Step : N → Request → Reply → N → Type 0) → N → N → Type 0
+IsServed Step first last = (exchanges : List Exchange) × Run (AnswersExchange Step) first exchanges last

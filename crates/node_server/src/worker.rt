@@ -1,4 +1,6 @@
 //! A worker: it serves the connections that come to it, as they are ready.
+ghost use Rattle.std.specs.Prelude.{◌≡◌};
+ghost use Rattle.node_server.specs.Exchanges.{IsServed};
 
 use crate::connections::Connections;
 use crate::end::End;
@@ -71,7 +73,9 @@ struct Desk<'a, X, N: Node + Drop> {
 
 impl<'a, X: Log + Clock + Wait, N: Node + Drop> Desk<'a, X, N> {
     /// Makes room for one connection more: a slot, a seat, and a place in each list. Later pushes for it take no memory.
-    fn reserve(&mut self) -> Result<(), AllocError> {
+    fn reserve(&mut self) -> Result<(), AllocError>
+        ensures { self.new.jobs.first ≡ self.old.jobs.first }
+    {
         let slots = self.seats.len().saturating_add(1);
         self.jobs.reserve(1)?;
         self.seats.reserve(1)?;
@@ -80,7 +84,9 @@ impl<'a, X: Log + Clock + Wait, N: Node + Drop> Desk<'a, X, N> {
     }
 
     /// Gives a seat to a slot that was given out.
-    fn set_seat(&mut self, slot: usize, peer: SocketAddr) {
+    fn set_seat(&mut self, slot: usize, peer: SocketAddr)
+        ensures { self.new.jobs.first ≡ self.old.jobs.first }
+    {
         let seat = Seat {
             peer,
             is_ready: false,
@@ -94,7 +100,9 @@ impl<'a, X: Log + Clock + Wait, N: Node + Drop> Desk<'a, X, N> {
     }
 
     /// Puts a connection into the list of those that are ready, if it isn't there.
-    fn mark_ready(&mut self, slot: usize) {
+    fn mark_ready(&mut self, slot: usize)
+        ensures { self.new.jobs.first ≡ self.old.jobs.first }
+    {
         if let Some(seat) = self.seats.get_mut(slot) {
             if !seat.is_ready {
                 seat.is_ready = self.ready.push(slot).is_ok();
@@ -103,7 +111,9 @@ impl<'a, X: Log + Clock + Wait, N: Node + Drop> Desk<'a, X, N> {
     }
 
     /// Begins a connection, and has its slot reported when bytes can be read or written.
-    fn begin(&mut self, poll: &Poll, arrival: Arrival) -> io::Result<()> {
+    fn begin(&mut self, poll: &Poll, arrival: Arrival) -> io::Result<()>
+        ensures { self.new.jobs.first ≡ self.old.jobs.first }
+    {
         let Arrival { stream, peer } = arrival;
         self.reserve()?;
         let (socket, streams) = new_streams(self.alloc, stream)?;
@@ -120,7 +130,9 @@ impl<'a, X: Log + Clock + Wait, N: Node + Drop> Desk<'a, X, N> {
     }
 
     /// Begins all connections that were handed in.
-    fn begin_arrivals(&mut self, poll: &Poll) {
+    fn begin_arrivals(&mut self, poll: &Poll)
+        ensures { self.new.jobs.first ≡ self.old.jobs.first }
+    {
         let arrivals = self.inbox.take(self.rt, self.alloc);
         for arrival in arrivals {
             let peer = arrival.peer;
@@ -155,7 +167,9 @@ impl<'a, X: Log + Clock + Wait, N: Node + Drop> Desk<'a, X, N> {
     }
 
     /// Takes steps of a connection until it ends or would have to wait. False where it can go on, and others are to have their turn.
-    fn take_turn(&mut self, slot: usize) -> bool {
+    fn take_turn(&mut self, slot: usize) -> bool
+        ensures { self.new.jobs.first ≡ self.old.jobs.first }
+    {
         for _ in 0..MAX_STEPS_PER_TURN {
             if let Some(end) = self.jobs.step(self.alloc, &self.service, slot) {
                 self.finish(slot, end);
@@ -169,7 +183,9 @@ impl<'a, X: Log + Clock + Wait, N: Node + Drop> Desk<'a, X, N> {
     }
 
     /// Gives each connection that is ready a turn. One that can go on is ready again.
-    fn take_turns(&mut self) {
+    fn take_turns(&mut self)
+        ensures { self.new.jobs.first ≡ self.old.jobs.first }
+    {
         let spare = mem::replace(&mut self.spare, Vec::new(self.alloc));
         let mut batch = mem::replace(&mut self.ready, spare);
         for &slot in batch.as_slice() {
@@ -199,7 +215,9 @@ impl<'a, X: Log + Clock + Wait, N: Node + Drop> Desk<'a, X, N> {
     }
 
     /// Has the connections that would have to wait take a step, in which those that were silent since `closes_before` end.
-    fn sweep(&mut self, closes_before: u64) {
+    fn sweep(&mut self, closes_before: u64)
+        ensures { self.new.jobs.first ≡ self.old.jobs.first }
+    {
         for slot in 0..self.seats.len() {
             let is_due = match self.jobs.get(slot) {
                 Some(opened) => opened.moved() < closes_before,
@@ -214,7 +232,9 @@ impl<'a, X: Log + Clock + Wait, N: Node + Drop> Desk<'a, X, N> {
 
 impl<'a, X: Log + Clock + Wait, N: Node + Drop> Desk<'a, X, N> {
     /// Notes which connections are ready, and begins those that came.
-    fn note_events(&mut self, poll: &Poll, events: &Events<Global>) {
+    fn note_events(&mut self, poll: &Poll, events: &Events<Global>)
+        ensures { self.new.jobs.first ≡ self.old.jobs.first }
+    {
         for event in events.iter() {
             let Token(slot) = event.token();
             if slot == WAKER {
@@ -226,7 +246,9 @@ impl<'a, X: Log + Clock + Wait, N: Node + Drop> Desk<'a, X, N> {
     }
 
     /// Looks at the clock, where connections may not be silent for ever, and closes those that were silent for too long.
-    fn keep_time(&mut self) {
+    fn keep_time(&mut self)
+        ensures { self.new.jobs.first ≡ self.old.jobs.first }
+    {
         let Some(idle_millis) = self.idle_millis else {
             return;
         };
@@ -240,7 +262,9 @@ impl<'a, X: Log + Clock + Wait, N: Node + Drop> Desk<'a, X, N> {
     }
 
     /// Has every connection end once all that was read of it is answered and sent, or its client would have to be waited for.
-    fn close_all(&mut self, poll: &Poll) {
+    fn close_all(&mut self, poll: &Poll)
+        ensures { self.new.jobs.first ≡ self.old.jobs.first }
+    {
         self.begin_arrivals(poll);
         self.service.set_time(0, u64::MAX);
         self.sweep(u64::MAX);
@@ -258,7 +282,9 @@ impl<'a, X: Log + Clock + Wait, N: Node + Drop> Desk<'a, X, N> {
     }
 
     /// One turn of the worker: it waits until something is ready, and gives each connection that is a turn.
-    fn work_once(&mut self, waits: &mut Waits) {
+    fn work_once(&mut self, waits: &mut Waits)
+        ensures { self.new.jobs.first ≡ self.old.jobs.first }
+    {
         if waits.poll.poll(&mut waits.events, self.limit()).is_err() {
             thread::sleep(self.rt, Duration::from_millis(PAUSE_MILLIS));
         }
@@ -271,7 +297,8 @@ impl<'a, X: Log + Clock + Wait, N: Node + Drop> Desk<'a, X, N> {
     }
 }
 
-/// Serves the connections that come to an inbox by a node, until the inbox is told to stop and all of them have ended. Returns the node.
+/// Serves the connections that come to an inbox by a node, until the inbox is told to stop and all of them have ended. Returns the node: all
+/// messages of all connections that were answered were answered by one run of it.
 pub(crate) fn attend<X: Log + Clock + Wait, N: Node + Drop>(
     rt: &X,
     alloc: Global,
@@ -279,7 +306,9 @@ pub(crate) fn attend<X: Log + Clock + Wait, N: Node + Drop>(
     mut waits: Waits,
     inbox: &Inbox,
     idle_seconds: Option<u32>,
-) -> N {
+) -> N
+    ensures { IsServed N.step node result }
+{
     let mut desk = Desk {
         rt,
         alloc,
