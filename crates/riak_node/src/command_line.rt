@@ -6,14 +6,17 @@ use crate::options;
 use clap::error::ErrorKind;
 use clap::{ArgMatches, Error};
 use std::alloc::{AllocError, Global};
+use std::net::{IpAddr, Ipv4Addr};
 
 /// What the program is to do.
 #[derive(Clone, Copy)]
 pub enum Command {
     /// Serve standard input to standard output.
     Pipe(PipeOptions),
-    /// Serve connections.
+    /// Serve connections until the program is ended.
     Serve(ServeOptions),
+    /// Serve so many connections.
+    ServeSome(ServeSomeOptions),
     /// Play a schedule from standard input.
     Steps(StepsOptions),
 }
@@ -33,8 +36,28 @@ pub struct PipeOptions {
 /// How connections are served.
 #[derive(Clone, Copy)]
 pub struct ServeOptions {
+    /// The address that is listened on; None where what was given is none.
+    pub address: Option<IpAddr>,
+    /// After how many seconds without a byte a connection is closed, if it is.
+    pub idle_seconds: Option<u32>,
+    /// Whether serving ends at the end of standard input.
+    pub until_eof: bool,
+    /// How the vnodes are served.
+    pub threads: ThreadOptions,
+}
+
+/// How so many connections are served.
+#[derive(Clone, Copy)]
+pub struct ServeSomeOptions {
     /// How many connections are served.
     pub connections: u16,
+    /// How the vnodes are served.
+    pub threads: ThreadOptions,
+}
+
+/// How a node serves by threads.
+#[derive(Clone, Copy)]
+pub struct ThreadOptions {
     /// The port that is listened on; with 0 a free one.
     pub port: u16,
     /// How many threads serve.
@@ -82,24 +105,27 @@ fn pipe<'a>(alloc: Global) -> Result<clap::Command<'a>, AllocError> {
 fn bare_serve<'a>(alloc: Global) -> clap::Command<'a> {
     clap::Command::new(alloc, "serve")
         .about(
-            "Serves connections to a port of 127.0.0.1, by a new node whose keys are lost with it, and ends with the last of them",
+            "Serves connections to a port, by a new node whose keys are lost with it, until it is ended",
         )
         .after_help(
             "Writes two lines to standard output: the address, as in: listening 127.0.0.1:8087, before the first\n\
-             connection, and what was done, as in: gets 2 puts 2 deletes 0 refusals 0 reaps 0, at the end. The log of the\n\
-             connections goes to standard error.\n\n\
-             Exit status: 0 when all connections were served, also those that failed; 1 where serving had to stop before,\n\
-             with one line on standard error, as in: riak_node: cannot listen; 2 for a command line that isn't one of\n\
-             these.\n\n\
-             Example: riak_node serve --connections 1000 --workers 8",
+             connection, and what was done, as in: gets 2 puts 2 deletes 0 refusals 0 reaps 0, where it ends in order. The\n\
+             log of the connections goes to standard error.\n\n\
+             Exit status: 0 at the end of standard input with --until-eof, and when all connections of --connections were\n\
+             served, also those that failed; 1 where serving had to stop before, with one line on standard error, as in:\n\
+             riak_node: cannot listen; 2 for a command line that isn't one of these.\n\n\
+             Example: riak_node serve --workers 8 --idle 600",
         )
 }
 
 /// The command that serves connections.
 fn serve<'a>(alloc: Global) -> Result<clap::Command<'a>, AllocError> {
     bare_serve(alloc)
-        .arg(options::connections(alloc))?
+        .arg(options::address(alloc)?)?
         .arg(options::port(alloc))?
+        .arg(options::idle(alloc)?)?
+        .arg(options::until_eof(alloc)?)?
+        .arg(options::connections(alloc))?
         .arg(options::workers(alloc))?
         .arg(options::ring(alloc, "64"))?
         .arg(options::run(alloc))?
@@ -133,7 +159,7 @@ fn bare_program<'a>(alloc: Global) -> clap::Command<'a> {
         .after_help(
             "Exit status: 0 where all was served; 1 where serving had to stop before, with one line on standard error;\n\
              2 for a command line that isn't one of these. See the help of each command.\n\n\
-             Example: riak_node serve --connections 1000",
+             Example: riak_node serve",
         )
         .subcommand_required(true)
 }
@@ -165,16 +191,40 @@ fn pipe_options(found: &ArgMatches<'_>) -> PipeOptions {
     }
 }
 
-/// The options of `serve`. Each has a value, since `clap` puts in the defaults and wants `--connections`, and numbers out of their ranges
-/// were refused.
-fn serve_options(found: &ArgMatches<'_>) -> ServeOptions {
-    ServeOptions {
-        connections: found.get_one::<u16>("connections").unwrap_or(1),
+/// How threads serve. Each option has a value, since `clap` puts in the defaults, and numbers out of their ranges were refused.
+fn thread_options(found: &ArgMatches<'_>) -> ThreadOptions {
+    ThreadOptions {
         port: found.get_one::<u16>("port").unwrap_or(8087),
         workers: found.get_one::<u16>("workers").unwrap_or(4).max(1).min(64),
         ring: found.get_one::<u16>("ring").unwrap_or(64),
         run: found.get_one::<u32>("run").unwrap_or(1).max(1),
         sweep: found.get_one::<u32>("sweep").unwrap_or(0),
+    }
+}
+
+/// The address that was given, or that of this machine to itself where none was; None where what was given is none.
+fn address(found: &ArgMatches<'_>) -> Option<IpAddr> {
+    if found.contains_id("address") {
+        found.get_one::<IpAddr>("address")
+    } else {
+        Some(IpAddr::V4(Ipv4Addr::LOCALHOST))
+    }
+}
+
+/// What `serve` is to do.
+fn serve_command(found: &ArgMatches<'_>) -> Command {
+    let threads = thread_options(found);
+    match found.get_one::<u16>("connections") {
+        Some(connections) => Command::ServeSome(ServeSomeOptions {
+            connections,
+            threads,
+        }),
+        None => Command::Serve(ServeOptions {
+            address: address(found),
+            idle_seconds: found.get_one::<u32>("idle"),
+            until_eof: found.get_flag("until-eof"),
+            threads,
+        }),
     }
 }
 
@@ -191,7 +241,7 @@ fn steps_options(found: &ArgMatches<'_>) -> StepsOptions {
 fn command_of(matches: &ArgMatches<'_>) -> Option<Command> {
     match matches.subcommand() {
         Some(("pipe", found)) => Some(Command::Pipe(pipe_options(found))),
-        Some(("serve", found)) => Some(Command::Serve(serve_options(found))),
+        Some(("serve", found)) => Some(serve_command(found)),
         Some(("steps", found)) => Some(Command::Steps(steps_options(found))),
         _ => None,
     }

@@ -5,7 +5,7 @@
 //! a line in and a line out.
 //!
 //! ```text
-//! $ riak_node serve --connections 2
+//! $ riak_node serve --until-eof < /dev/tty
 //! listening 127.0.0.1:8087
 //! gets 2 puts 2 deletes 0 refusals 0 reaps 0
 //! $ printf '\0\0\0\1\1' | riak_node pipe | xxd -p      a ping
@@ -19,17 +19,17 @@ mod command_line;
 mod options;
 
 use clap::error::ErrorKind;
-use command_line::{Command, PipeOptions, ServeOptions, StepsOptions};
+use command_line::{Command, PipeOptions, ServeOptions, ServeSomeOptions, StepsOptions};
 use log::sink::Console;
 use log::{Level, Log, Logged};
-use node_commands::{ServeFault, Served, Settings, pipe, serve_on};
+use node_commands::{ServeFault, Served, Settings, UntilSettings, pipe, serve_on, serve_on_until};
 use node_session::{Ended, SessionFault, exit_status, write_fault};
 use ring_map::Ring;
 use schedule_player::{StepsFault, steps_on};
 use std::alloc::Global;
 use std::io;
-use std::io::{BufWriter, Write};
-use std::net::{Net, TcpListener, TcpStream};
+use std::io::{BufWriter, Read, Write};
+use std::net::{IpAddr, Ipv4Addr, Net, TcpListener, TcpStream};
 use std::os::fd::AsRawFd;
 use std::process::ExitCode;
 use std::rt::Clock;
@@ -76,24 +76,42 @@ fn serve_streams(rt: &HostRuntime, options: PipeOptions) -> io::Result<ExitCode>
 /// The greatest descriptor of the standard streams.
 const STANDARD_ERROR: i32 = 2;
 
-/// A listener on this port. None where there is none, and where a standard stream was closed before the program began: sockets would get its
-/// descriptor, and what is printed or logged would go to clients.
+/// A listener on this address and port. None where there is none, and where a standard stream was closed before the program began: sockets
+/// would get its descriptor, and what is printed or logged would go to clients.
 fn listen<R: Net<Listener = TcpListener, Stream = TcpStream>>(
     rt: &R,
+    address: IpAddr,
     port: u16,
 ) -> Option<TcpListener> {
-    let listener = TcpListener::bind(rt, ("127.0.0.1", port)).ok()?;
+    let listener = TcpListener::bind(rt, (address, port)).ok()?;
     if listener.as_raw_fd() <= STANDARD_ERROR {
         return None;
     }
     Some(listener)
 }
 
-/// Serves connections, by a ring of the asked size if there is one.
-fn serve_connections<R, W>(
+/// The status after serving, with one line on standard error where it had to stop before its end.
+fn end_serving<R: Eprint>(rt: &R, stopped: Option<ServeFault>) -> io::Result<ExitCode> {
+    match stopped {
+        None => Ok(ExitCode::SUCCESS),
+        Some(fault) => {
+            eprintln!(rt; "riak_node: {fault}")?;
+            Ok(ExitCode::from(1))
+        }
+    }
+}
+
+/// What is to be said where there is no listener, and the status.
+fn tell_cannot_listen<R: Eprint>(rt: &R) -> io::Result<ExitCode> {
+    eprintln!(rt; "riak_node: cannot listen")?;
+    Ok(ExitCode::from(1))
+}
+
+/// Serves so many connections, by a ring of the asked size if there is one.
+fn serve_some<R, W>(
     rt: &R,
     alloc: Global,
-    options: ServeOptions,
+    options: ServeSomeOptions,
     output: &mut W,
 ) -> io::Result<ExitCode>
 where
@@ -106,27 +124,67 @@ where
         + Sync,
     W: Write,
 {
-    let Some(ring) = Ring::new(options.ring) else {
+    let threads = options.threads;
+    let Some(ring) = Ring::new(threads.ring) else {
         return tell_no_ring(rt);
     };
-    let Some(listener) = listen(rt, options.port) else {
-        eprintln!(rt; "riak_node: cannot listen")?;
-        return Ok(ExitCode::from(1));
+    let address = IpAddr::V4(Ipv4Addr::LOCALHOST);
+    let Some(listener) = listen(rt, address, threads.port) else {
+        return tell_cannot_listen(rt);
     };
     let settings = Settings {
         connections: options.connections,
-        workers: options.workers,
+        workers: threads.workers,
         ring,
-        run: options.run,
-        sweep: options.sweep,
+        run: threads.run,
+        sweep: threads.sweep,
     };
-    match fault_of(serve_on(rt, alloc, listener, &settings, output)) {
-        None => Ok(ExitCode::SUCCESS),
-        Some(fault) => {
-            eprintln!(rt; "riak_node: {fault}")?;
-            Ok(ExitCode::from(1))
-        }
-    }
+    end_serving(
+        rt,
+        fault_of(serve_on(rt, alloc, listener, &settings, output)),
+    )
+}
+
+/// Serves the connections that come, by a ring of the asked size if there is one, until the input ends, where that is asked for.
+fn serve_all<R, W, I>(
+    rt: &R,
+    alloc: Global,
+    options: ServeOptions,
+    input: I,
+    output: &mut W,
+) -> io::Result<ExitCode>
+where
+    R: Log
+        + Clock
+        + Eprint
+        + Net<Listener = TcpListener, Stream = TcpStream>
+        + Threads
+        + Wait
+        + Sync,
+    W: Write,
+    I: Read + Send + Drop,
+{
+    let threads = options.threads;
+    let Some(ring) = Ring::new(threads.ring) else {
+        return tell_no_ring(rt);
+    };
+    let Some(address) = options.address else {
+        eprintln!(rt; "riak_node: address must be an IP address, as 127.0.0.1")?;
+        return Ok(ExitCode::from(2));
+    };
+    let Some(listener) = listen(rt, address, threads.port) else {
+        return tell_cannot_listen(rt);
+    };
+    let settings = UntilSettings {
+        workers: threads.workers,
+        ring,
+        run: threads.run,
+        sweep: threads.sweep,
+        idle_seconds: options.idle_seconds,
+    };
+    let until = if options.until_eof { Some(input) } else { None };
+    let outcome = serve_on_until(rt, alloc, listener, &settings, until, output);
+    end_serving(rt, outcome.err())
 }
 
 /// Why a schedule wasn't played to its end, and the status.
@@ -164,7 +222,11 @@ fn main(rt: HostRuntime) -> io::Result<ExitCode> {
         Ok(Command::Steps(options)) => play_steps(&rt, options),
         Ok(Command::Serve(options)) => {
             let logged = Logged::new(rt, Level::Info, Console(rt));
-            serve_connections(&logged, alloc, options, &mut rt.stdout())
+            serve_all(&logged, alloc, options, rt.stdin(), &mut rt.stdout())
+        }
+        Ok(Command::ServeSome(options)) => {
+            let logged = Logged::new(rt, Level::Info, Console(rt));
+            serve_some(&logged, alloc, options, &mut rt.stdout())
         }
         Err(error) => tell(&rt, error),
     }

@@ -1,8 +1,8 @@
 //! The options of the commands.
 
 use clap::builder::ValueParser;
-use clap::{Arg, value_parser};
-use std::alloc::Global;
+use clap::{Arg, ArgAction, value_parser};
+use std::alloc::{AllocError, Global};
 
 /// An option whose value is a number, with the one that it has where it isn't given.
 fn number<'a>(
@@ -26,9 +26,44 @@ pub(crate) fn connections<'a>(alloc: Global) -> Arg<'a> {
     Arg::new(alloc, "connections")
         .long("connections")
         .value_name("N")
-        .required(true)
         .value_parser(value_parser!(u16).range(1..=65_535))
-        .help("How many connections are served before the program ends, from 1 to 65535")
+        .help(
+            "Serve so many connections, from 1 to 65535, and end with the last of them. Each thread then serves one connection from its beginning to its end",
+        )
+}
+
+/// The address.
+pub(crate) fn address<'a>(alloc: Global) -> Result<Arg<'a>, AllocError> {
+    Arg::new(alloc, "address")
+        .long("address")
+        .value_name("A")
+        .help(
+            "The IP address that is listened on, 127.0.0.1 where none is given. Whoever can reach it can read, change and delete every key: there is no authentication and no encryption",
+        )
+        .conflicts_with("connections")
+}
+
+/// After how long a silent connection is closed.
+pub(crate) fn idle<'a>(alloc: Global) -> Result<Arg<'a>, AllocError> {
+    Arg::new(alloc, "idle")
+        .long("idle")
+        .value_name("SECONDS")
+        .value_parser(value_parser!(u32).range(1..=4_294_967_295))
+        .help(
+            "Close a connection of which no byte has come or gone for so many seconds. Without it none is closed",
+        )
+        .conflicts_with("connections")
+}
+
+/// Whether the end of standard input ends serving.
+pub(crate) fn until_eof<'a>(alloc: Global) -> Result<Arg<'a>, AllocError> {
+    Arg::new(alloc, "until-eof")
+        .long("until-eof")
+        .action(ArgAction::SetTrue)
+        .help(
+            "End in order, with totals, at the end of standard input. Without it serving goes on until the program is ended from outside",
+        )
+        .conflicts_with("connections")
 }
 
 /// The port.
@@ -51,7 +86,7 @@ pub(crate) fn workers<'a>(alloc: Global) -> Arg<'a> {
         "W",
         value_parser!(u16).range(1..=64),
         "4",
-        "How many threads serve, from 1 to 64, each one connection at a time. Where more connections come they wait, so take as many workers as clients are connected at once",
+        "How many threads serve, from 1 to 64. Each serves many connections; with --connections, one at a time, and those that come in between wait",
     )
 }
 
