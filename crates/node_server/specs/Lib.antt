@@ -1,3 +1,4 @@
 -- The definitions of this crate.
 pub mod Steps
 pub mod Exchanges
+pub mod Counting

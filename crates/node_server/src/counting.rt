@@ -1,6 +1,7 @@
 //! A worker's life: a node over the gates with a book of its own.
-ghost use Rattle.std.specs.Prelude.{◌≡◌};
+ghost use Rattle.std.specs.Prelude.{◌≡◌, IfOk};
 ghost use Rattle.stats_book.specs.Holdings.{AllAre};
+ghost use Rattle.node_server.specs.Counting.{WorkerCounts};
 
 use crate::fault::ServerFault;
 use crate::inbox::Inbox;
@@ -37,6 +38,7 @@ where
     requires refusals { (blanks.refusals.name ≡ E.name) × (blanks.refusals.parts ≡ E.parts) }
     requires reaps { (blanks.reaps.name ≡ R.name) × (blanks.reaps.parts ≡ R.parts) }
     requires parts { AllAre 1 G.parts P.parts D.parts E.parts R.parts }
+    ensures { IfOk result (WorkerCounts shared.now) }
 {
     let Ok((book, mut shares)) = Book::<G, P, D, E, R>::new(alloc, 1, blanks) else {
         return Err(ServerFault::NoMemory);
@@ -70,7 +72,9 @@ pub(crate) fn work<X: Log + Clock + Wait>(
     waits: Waits,
     inbox: &Inbox,
     idle_seconds: Option<u32>,
-) -> Result<Totals, ServerFault> {
+) -> Result<Totals, ServerFault>
+    ensures { IfOk result (WorkerCounts shared.now) }
+{
     let counted = count_by::<X, Brand, Brand, Brand, Brand, Brand>(
         rt,
         alloc,
