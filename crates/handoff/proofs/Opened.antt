@@ -1,6 +1,6 @@
 -- Gates that were made round new vnodes, and fallbacks by their index.
-use Rattle.std.proofs.Common.{◌≡◌, ◌∙◌, ◌+◌, ◌<◌, ◌^◌, ℕ, List, [], ◌∷◌, ◌++◌, length, refl, sym, ap, subst, arith}
-use Rattle.std.specs.Prelude.{Option, Some, None, IfSome, slice_get, slice_set, get_or, zero, suc}
+use Rattle.std.proofs.Common.{◌≡◌, ◌∙◌, ◌+◌, ◌<◌, ℕ, List, [], ◌∷◌, ◌++◌, length, refl, sym, ap, subst, arith}
+use Rattle.std.specs.Prelude.{Option, Some, None, IfSome, IsSome, slice_get, slice_set, get_or, zero, suc}
 use Rattle.std.proofs.lemmas.Option.{slice_get-get_or}
 use Rattle.ring_map.specs.Ring.{id_of}
 use Rattle.rw_gate.specs.Views.{GateId}
@@ -8,7 +8,8 @@ use Rattle.vnode_machine.specs.Replay.{IsWithinLimits}
 use Rattle.vnode_protocol.specs.Plans.{View}
 use Rattle.vnode_protocol.specs.Events.{IsMadeNew}
 use Rattle.handoff.specs.declared.gates.Fallback.{Fallback}
-use Rattle.handoff.specs.Partitions.{AreMadeNew, AreNone, IsFallback, AreFallbacks, fallback_id}
+use Rattle.handoff.specs.Partitions.{HandoffView, AreMadeNew, AreNone, BeginsBehind, IsDiverted, IsFallback, AreFallbacks, fallback_id, number_in, number_of}
+use Rattle.handoff.specs.Sights.{IsOfVnode}
 
 -- one gate more
 pub made_new_push : (run index : ℕ) (gates : List (GateId View)) (gate : GateId View) → AreMadeNew run index gates → IsMadeNew (id_of run (index + length gates)) 0 gate
@@ -40,7 +41,7 @@ fallbacks_set run index (suc i) (x ∷ xs) fallback all one =
 none_some : {A : Type 0} (x : A) → None ≡ Some x → ⊥
 none_some x h = cc
 
-fallbacks_get : (run index i : ℕ) (all : List (Option Fallback)) (fallback : Option Fallback) → AreFallbacks run index all → slice_get all i ≡ Some fallback → IfSome fallback (IsFallback run (index + i))
+pub fallbacks_get : (run index i : ℕ) (all : List (Option Fallback)) (fallback : Option Fallback) → AreFallbacks run index all → slice_get all i ≡ Some fallback → IfSome fallback (IsFallback run (index + i))
 fallbacks_get run index i [] fallback all at = absurd (none_some fallback at)
 fallbacks_get run index zero (x ∷ xs) fallback all at =
     let same : x ≡ fallback = cc in
@@ -56,10 +57,51 @@ fallback_there run i all fallback are at =
     let here : 0 + i ≡ i = omega arith in
     subst (λ n. IfSome fallback (IsFallback run n)) here (fallbacks_get run 0 i all fallback are at)
 
--- the ids of fallbacks
-pub limits_of : (run index : ℕ) → run < 2 ^ 32 → index < 2 ^ 16 → IsWithinLimits (fallback_id run index) 0
-limits_of run index fits inside = (omega (arith, fits, inside), omega arith)
+-- the first diversion begins behind no epoch
+first-epoch : (run index number last_epoch : ℕ) (before : Option Fallback) → IfSome before (IsFallback run index) → number ≡ number_of before + 1 → BeginsBehind before last_epoch → number ≡ 1 → last_epoch ≡ 0
+first-epoch run index number last_epoch None was next begins is = begins
+first-epoch run index number last_epoch (Some before) was next begins is = let numbered = was.numbered in absurd (omega (arith, next, numbered, is))
+
+-- the fallback of a partition's next diversion
+pub next-fallback : (run index number last_epoch : ℕ) (before : Option Fallback) (fallback : Fallback) → IfSome before (IsFallback run index) → number ≡ number_of before + 1 → BeginsBehind before last_epoch
+    → fallback.diversion ≡ number → IsMadeNew (fallback_id run index) last_epoch fallback.gate → IsWithinLimits (fallback_id run index) last_epoch → IsFallback run index fallback
+next-fallback run index number last_epoch before fallback was next begins same made limits = record {
+  numbered = omega (arith, next, same);
+  last_epoch = last_epoch;
+  first = λ is. first-epoch run index number last_epoch before was next begins (sym same ∙ is);
+  made_new = made;
+  limits = limits;
+}
+
+-- so the partition is diverted
+pub next-diverted : (index number last_epoch : ℕ) (old new : HandoffView) (before : Option Fallback) (fallback : Fallback) → IfSome before (IsFallback old.run index) → number ≡ number_of before + 1
+    → BeginsBehind before last_epoch → fallback.diversion ≡ number → IsMadeNew (fallback_id old.run index) last_epoch fallback.gate → IsWithinLimits (fallback_id old.run index) last_epoch
+    → slice_get old.fallbacks index ≡ Some before → new ≡ record old { fallbacks = slice_set old.fallbacks index (Some fallback) } → IsDiverted index old new
+next-diverted index number last_epoch old new before fallback was next begins same made limits stood is = record {
+  before = before;
+  stood = stood;
+  fallback = fallback;
+  next = same ∙ next ∙ sym (ap (λ o. number_in o + 1) stood);
+  is_new = record {
+    numbered = omega (arith, next, same);
+    last_epoch = last_epoch;
+    first = λ is. first-epoch old.run index number last_epoch before was next begins (sym same ∙ is);
+    made_new = made;
+    limits = limits;
+  };
+  begins = begins;
+  is = is;
+}
+
+-- a fallback's gate was made round a vnode
+pub fallback-vnode : (run index : ℕ) (fallback : Fallback) → IsFallback run index fallback → IsOfVnode fallback.gate
+fallback-vnode run index fallback is = record { id = fallback_id run index; last_epoch = is.last_epoch; made_new = is.made_new; limits = is.limits }
 
 -- what a list has at an index within it
 pub got : {A : Type 0} (xs : List A) (i : ℕ) (x : A) → i < length xs → x ≡ get_or xs i x → slice_get xs i ≡ Some x
 got xs i x within is = slice_get-get_or xs i x within ∙ ap (λ y. Some y) (sym is)
+
+-- what is known to be there
+pub some-of : {A : Type 0} (o : Option A) → IsSome o → (x : A) × (o ≡ Some x)
+some-of None is = cc
+some-of (Some x) is = (x, refl)

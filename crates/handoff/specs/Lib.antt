@@ -1,1 +1,9 @@
+pub mod Copying
+pub mod Diverted
+pub mod Endings
+pub mod Left
+pub mod Meeting
 pub mod Partitions
+pub mod Returning
+pub mod Sights
+pub mod Steps

@@ -8,6 +8,7 @@ use Rattle.vnode_protocol.specs.Events.{IsMadeNew}
 use Rattle.handoff.specs.declared.fault.HandoffFault.{HandoffFault}
 use Rattle.handoff.specs.declared.fault.HandoffFault.TheVariants.{AlreadyDiverted, NoMemory}
 use Rattle.handoff.specs.declared.gates.Fallback.{Fallback}
+use Rattle.handoff.specs.Sights.{ClosedBehind}
 
 -- how many bits number the partitions, which run it is, the primaries' gates in the partitions' order, and the fallback of
 -- each partition that is diverted
@@ -64,12 +65,19 @@ number_in (Some fallback) = number_of fallback
 abbrev pub diversion_at : HandoffView → (index : ℕ) → ℕ
 diversion_at handoff index = number_in (slice_get handoff.fallbacks index)
 
--- a partition that had no fallback has a new one, of the next number, and all else is as it was
+-- a partition's next fallback begins its epochs behind the last one that the closed fallback before it gave; the first begins at none
+abbrev pub BeginsBehind : Option Fallback → (last_epoch : ℕ) → Type 0
+BeginsBehind None last_epoch = last_epoch ≡ 0
+BeginsBehind (Some before) last_epoch = ClosedBehind before.gate last_epoch
+
+-- a partition that had no fallback, or a closed one, has a new one of the next number, and all else is as it was
 pub record IsDiverted (index : ℕ) (old new : HandoffView) : Type 0 where
+  pub before : Option Fallback
+  pub stood : slice_get old.fallbacks index ≡ Some before
   pub fallback : Fallback
-  pub undiverted : slice_get old.fallbacks index ≡ Some None
   pub next : fallback.diversion ≡ diversion_at old index + 1
   pub is_new : IsFallback old.run index fallback
+  pub begins : BeginsBehind before is_new.last_epoch
   pub is : new ≡ record old { fallbacks = slice_set old.fallbacks index (Some fallback) }
 
 -- why a partition isn't diverted: memory was refused, or it has a fallback

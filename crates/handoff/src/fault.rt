@@ -1,8 +1,9 @@
 //! Why a call of the hand-off did not do it.
 ghost use Rattle.std.specs.Prelude.{◌≡◌};
+ghost use Rattle.handoff.specs.Steps.{fault_of};
 ghost use Rattle.handoff.specs.declared.fault.HandoffFault.TheVariants.{NoMemory};
 
-use rw_gate::Pass;
+use rw_gate::{Moved, Pass};
 use std::alloc::AllocError;
 use vnode_core::Vnode;
 
@@ -13,13 +14,12 @@ pub struct Returned {
     pub fallback: Pass<Vnode>,
 }
 
-/// Why a call of the hand-off did not do it. The second, the third and the last are for the calls that end a diversion, which
-/// aren't there yet.
+/// Why a call of the hand-off did not do it.
 #[derive(Drop)]
 pub enum HandoffFault {
-    /// The partition has a fallback already.
+    /// The partition has a fallback that one attempt didn't show closed, or it had 4,294,967,295 diversions.
     AlreadyDiverted,
-    /// The partition has no fallback.
+    /// The partition has no fallback, or a look shows it closed.
     NotDiverted,
     /// A key of the fallback isn't copied as it is now, by these passes.
     LeftOver(Returned),
@@ -34,5 +34,50 @@ impl From<AllocError> for HandoffFault {
 
     fn from(_error: AllocError) -> HandoffFault {
         HandoffFault::NoMemory
+    }
+}
+
+/// Why a step of a copy back or of a return wasn't made.
+#[derive(Clone, Copy, Drop)]
+pub(crate) enum Stop {
+    /// The fallback is closed.
+    NotDiverted,
+    /// Memory was refused.
+    NoMemory,
+    /// The history of a gate had gone on past the state that was found, or can have no further event.
+    GateStopped,
+}
+
+impl From<Stop> for HandoffFault {
+    ghost from_gives = { λ stop fault. fault ≡ fault_of stop };
+
+    fn from(stop: Stop) -> HandoffFault {
+        match stop {
+            Stop::NotDiverted => HandoffFault::NotDiverted,
+            Stop::NoMemory => HandoffFault::NoMemory,
+            Stop::GateStopped => HandoffFault::GateStopped,
+        }
+    }
+}
+
+impl From<AllocError> for Stop {
+    ghost use Rattle.std.specs.Prelude.{◌≡◌};
+    ghost use Rattle.handoff.specs.declared.fault.Stop.TheVariants as stops;
+
+    ghost from_gives = { λ _ stop. stop ≡ stops.NoMemory };
+
+    fn from(_error: AllocError) -> Stop {
+        Stop::NoMemory
+    }
+}
+
+impl From<Moved> for Stop {
+    ghost use Rattle.std.specs.Prelude.{◌≡◌};
+    ghost use Rattle.handoff.specs.declared.fault.Stop.TheVariants as stops;
+
+    ghost from_gives = { λ _ stop. stop ≡ stops.GateStopped };
+
+    fn from(_moved: Moved) -> Stop {
+        Stop::GateStopped
     }
 }

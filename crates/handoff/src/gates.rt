@@ -1,15 +1,14 @@
 //! Gates round new vnodes: those of the primaries, and that of a fallback.
-ghost use Rattle.std.specs.Prelude.{◌≡◌, ◌<◌, ◌≤◌, ◌^◌, IfOk, length};
+ghost use Rattle.std.specs.Prelude.{◌≡◌, ◌+◌, ◌≤◌, ◌^◌, IfOk, IfNone, IfSome, IsSome, length};
+ghost use Rattle.vnode_machine.specs.Replay.{IsWithinLimits};
 ghost use Rattle.vnode_protocol.specs.Events.{IsMadeNew};
-ghost use Rattle.handoff.specs.Partitions.{AreMadeNew, AreNone, IsFallback};
+ghost use Rattle.handoff.specs.Partitions.{AreMadeNew, AreNone, BeginsBehind, fallback_id, number_of};
+ghost use Rattle.handoff.specs.Sights.{ClosedBehind};
 
 use ring_map::{Ring, vnode_id};
-use rw_gate::Gate;
+use rw_gate::{Gate, Pass, ReadRight};
 use std::alloc::{AllocError, Global};
 use vnode_core::Vnode;
-
-/// The first epoch of a vnode of a new run, and of a partition's first fallback.
-const FIRST_EPOCH: u32 = 1;
 
 /// What lies between the id of a partition's primary and that of its fallback.
 const FALLBACK_IDS: u64 = 32768;
@@ -31,11 +30,11 @@ impl Drop for Fallback {
     }
 }
 
-/// A gate round a new vnode.
-fn new_gate(alloc: Global, id: u64) -> Result<Gate<Vnode>, AllocError>
-    ensures { IfOk result (IsMadeNew id 0) }
+/// A gate round a new vnode, whose first life gets the epoch behind this one.
+fn new_gate(alloc: Global, id: u64, last_epoch: u32) -> Result<Gate<Vnode>, AllocError>
+    ensures { IfOk result (IsMadeNew id last_epoch) }
 {
-    match Gate::new(alloc, Vnode::new(alloc, id, FIRST_EPOCH)) {
+    match Gate::new(alloc, Vnode::after(alloc, id, last_epoch)) {
         Ok(gate) => Ok(gate),
         Err(_) => Err(AllocError),
     }
@@ -51,7 +50,7 @@ pub(crate) fn new_gates(alloc: Global, ring: Ring, run: u32) -> Result<Vec<Gate<
     let size = ring.size();
     let mut gates = Vec::with_capacity(alloc, usize::from(size))?;
     for index in 0..size {
-        gates.push(new_gate(alloc, vnode_id(run, index))?)?;
+        gates.push(new_gate(alloc, vnode_id(run, index), 0)?)?;
     }
     Ok(gates)
 }
@@ -69,18 +68,72 @@ pub(crate) fn no_fallbacks(alloc: Global, size: u16) -> Result<Vec<Option<Fallba
     Ok(fallbacks)
 }
 
-/// The fallback of a partition's diversion of this number.
+/// What a partition's next diversion begins with: its number, and the epoch behind which its fallback's first life begins.
+#[derive(Clone, Copy, Drop)]
+pub(crate) struct NextDiversion {
+    pub(crate) number: u32,
+    pub(crate) last_epoch: u32,
+}
+
+/// The last epoch that a vnode gave, where a look shows it closed.
+fn last_if_shown(right: &ReadRight<'_, Vnode>, pass: &mut Pass<Vnode>) -> Option<u32>
+    requires { pass.old.gate ≡ right.now.gate }
+    ensures { IfSome result (ClosedBehind right.now.gate) }
+{
+    let Ok(vnode) = right.look(pass) else {
+        return None;
+    };
+    match vnode.closed_at() {
+        None => None,
+        Some(_) => Some(vnode.last_epoch()),
+    }
+}
+
+/// The same by one attempt to read it.
+fn last_if_closed(gate: &Gate<Vnode>) -> Option<u32>
+    ensures { IfSome result (ClosedBehind gate.now) }
+{
+    let right = gate.try_read()?;
+    let mut pass = gate.pass();
+    let last_epoch = last_if_shown(&right, &mut pass);
+    right.release();
+    last_epoch
+}
+
+/// What the next diversion of a partition begins with, by the fallback that stands there: the first begins behind no epoch, a later one behind
+/// the last epoch of the closed one. None where one attempt doesn't show it closed, or it was the last that can be numbered.
+pub(crate) fn next_diversion(fallback: &Option<Fallback>) -> Option<NextDiversion>
+    ensures number { IfSome result (λ next. next.number ≡ number_of fallback.now + 1) }
+    ensures begins { IfSome result (λ next. BeginsBehind fallback.now next.last_epoch) }
+    ensures none { IfNone result (IsSome fallback.now) }
+{
+    match fallback {
+        None => Some(NextDiversion {
+            number: 1,
+            last_epoch: 0,
+        }),
+        Some(fallback) => {
+            let number = fallback.diversion.checked_add(1)?;
+            let last_epoch = last_if_closed(&fallback.gate)?;
+            Some(NextDiversion { number, last_epoch })
+        }
+    }
+}
+
+/// The fallback of a partition's next diversion.
 pub(crate) fn new_fallback(
     alloc: Global,
     run: u32,
     index: u16,
-    diversion: u32,
+    next: NextDiversion,
 ) -> Result<Fallback, AllocError>
-    requires { 1 ≤ diversion }
-    ensures new { IfOk result (λ fallback. IsFallback run index fallback) }
-    ensures number { IfOk result (λ fallback. fallback.diversion ≡ diversion) }
+    ensures made { IfOk result (λ fallback.
+        IsMadeNew (fallback_id run index) next.last_epoch fallback.gate) }
+    ensures number { IfOk result (λ fallback. fallback.diversion ≡ next.number) }
+    ensures limits { IsWithinLimits (fallback_id run index) next.last_epoch }
 {
     let id = vnode_id(run, index) + FALLBACK_IDS;
-    let gate = new_gate(alloc, id)?;
+    let gate = new_gate(alloc, id, next.last_epoch)?;
+    let diversion = next.number;
     Ok(Fallback { gate, diversion })
 }

@@ -5,21 +5,48 @@
 //! own, and no keys at first. From then on the partition's calls are the fallback's, and what the primary holds stays as it is; so who
 //! answers a call asks [`Handoff::fallback`] first.
 //!
-//! What it means (`specs/Partitions`): a diversion puts a new fallback beside a partition that has none, under the next number of that
-//! partition (1, 2, ..), and leaves all else as it was (`IsDiverted`); the gate of each fallback was made round a new vnode with the
-//! id `run * 65536 + 32768 + index` (`IsFallback`), so its history is the register's, as the primary's is. No partition's index reaches 32,768,
-//! so no vnode of the run has the id of another.
+//! While calls go on, [`Handoff::copy_back`] copies the fallback's keys to the primary, each by a sync of the key's two clocks.
+//! [`Handoff::finish_return`] ends the diversion, where each key is copied as it is then: it closes the fallback, which drops its keys and
+//! takes nothing more. Who finds it closed goes to the primary, and there to a state that has as many entries as the close says. The
+//! closed fallback stays where it is until the partition is diverted again.
+//!
+//! ```text
+//! handoff.divert(alloc, 0)?                  the calls of partition 0 are for its fallback; say they put b/j and b/k there
+//! handoff.copy_back(rt, alloc, 0, 1)?        keys: 1, stuck: 0, left: 1    b/j, the first in their order, is copied
+//! handoff.finish_return(rt, alloc, 0)        Err(LeftOver(passes))         these passes show that b/k isn't
+//! handoff.copy_back(rt, alloc, 0, 10)?       keys: 1, stuck: 0, left: 0
+//! handoff.finish_return(rt, alloc, 0)?       the calls of partition 0 are for its primary again
+//! handoff.finish_return(rt, alloc, 0)        Err(NotDiverted)
+//! handoff.divert(alloc, 0)?                  a new fallback, whose epochs begin behind the last one's
+//! ```
+//!
+//! What it means: a diversion puts a new fallback beside a partition that has none or a closed one, under the next number of that
+//! partition (1, 2, ..), and leaves all else as it was (`IsDiverted` in `specs/Partitions`); the gate of each fallback was made round a new
+//! vnode with the id `run * 65536 + 32768 + index` (`IsFallback`). No partition's index reaches 32,768, so no vnode of the run has the id
+//! of another. What a copy back made is said by the passes that it gives back (`CopiesBack` in `specs/Copying`): each entry that it published
+//! at the primary is a copy (`IsCopy`) of what a look showed at the fallback. That these are the copies of which the law of copies
+//! (`copy_joins` of `vnode_core`) says that no sibling is lost or comes again is [`copies_are_true`]. So it is with the end of a diversion
+//! (`EndsDiversion` in `specs/Returning`): the close stands right behind what was looked at.
 //!
 //! What it costs: a partition that isn't diverted has a place for its fallback, and a call looks at that place. A diversion makes one
-//! gate and one vnode without keys.
+//! gate and one vnode without keys. A key that is copied, or that is looked at and isn't, is searched for once in each vnode, and is
+//! copied for that; a key that is copied back takes two rights and its clock's size in memory. A return looks at each key once, while
+//! no call is answered at the fallback.
 //!
-//! What it doesn't do yet: it copies nothing from a fallback back to the primary, and ends no diversion. So a partition is diverted once.
+//! Rights are taken in one order, the fallback's before the primary's, and no call that holds a primary's asks for a fallback's. So
+//! none of these calls waits for another that waits for it.
 #![tactic(auto)]
 
+mod copying;
 mod fault;
 mod gates;
+mod laws;
+mod left;
 mod partitions;
+mod returning;
 
+pub use copying::Copied;
 pub use fault::{HandoffFault, Returned};
 pub use gates::Fallback;
+pub use laws::copies_are_true;
 pub use partitions::Handoff;

@@ -1,16 +1,22 @@
 //! The gates of a run, and the fallbacks of partitions that are diverted.
 ghost use Rattle.std.specs.Prelude.{◌≡◌, ◌<◌, ◌≤◌, ◌^◌, Some, length, slice_get};
-ghost use Rattle.std.specs.Prelude.{IfOk, IfErr, IfSome, IsOkUnless, OnOk, OnErr};
+ghost use Rattle.std.specs.Prelude.{IfOk, IfErr, IfNone, IfSome, IsOkUnless, OnOk, OnErr, None};
 ghost use Rattle.std.specs.Option.{option_map};
 ghost use Rattle.handoff.specs.Partitions.{AreMadeNew, AreOfNewRun, AreNone, IsFallback};
 ghost use Rattle.handoff.specs.Partitions.{IsDiverted, IsRefused, diversion_at};
+ghost use Rattle.handoff.specs.Copying.{IsCopiedBack, IsCopyFault};
+ghost use Rattle.handoff.specs.Returning.{IsReturned, IsReturnFault};
+ghost use Rattle.handoff.specs.Diverted.{IsDivertedAt};
 
-use crate::fault::HandoffFault;
-use crate::gates::{Fallback, new_fallback, new_gates, no_fallbacks};
+use crate::copying::{Copied, Diverted, copy_keys};
+use crate::fault::{HandoffFault, Returned};
+use crate::gates::{Fallback, new_fallback, new_gates, next_diversion, no_fallbacks};
+use crate::returning::end_diversion;
 use ring_map::Ring;
 use rw_gate::Gate;
 use std::alloc::Global;
 use std::marker::Model;
+use std::sync::Wait;
 use vnode_core::Vnode;
 
 /// The gates of a run, one round the vnode of each partition of a ring, and beside each partition that is diverted its fallback.
@@ -24,6 +30,10 @@ use vnode_core::Vnode;
 /// handoff.fallback(0)                               the gate round that vnode, and 1; the primary's gate and its keys stay
 /// handoff.divert(alloc, 0)                          Err(AlreadyDiverted)
 /// handoff.diversion(1)                              0: the other partitions are as they were
+/// handoff.copy_back(rt, alloc, 0, 10)?              up to ten keys of that vnode, copied to the primary's
+/// handoff.finish_return(rt, alloc, 0)?              where all are copied as they are now, the calls are for the primary again
+/// handoff.divert(alloc, 0)?                         a new vnode with the id 98304, whose epochs begin behind the last one's
+/// handoff.diversion(0)                              2
 /// ```
 pub struct Handoff {
     ring: Ring,
@@ -85,8 +95,10 @@ impl Handoff {
     }
 
     /// Diverts a partition, whose index is below the ring's size: its calls are for a new vnode from now on, with the id
-    /// `run * 65536 + 32768 + index`, whose first epoch is 1. Refused, and all stays as it was, where the partition has a fallback or
-    /// memory is refused.
+    /// `run * 65536 + 32768 + index`. The first diversion's vnode begins with epoch 1, a later one's behind the last epoch of the
+    /// closed fallback before it; where none is left, it begins no life. Refused, and all stays as it was, by `NoMemory`, or by
+    /// `AlreadyDiverted` where the partition has a fallback that one attempt to read it doesn't show closed, or had
+    /// 4,294,967,295 of them.
     pub fn divert(&mut self, alloc: Global, index: u16) -> Result<(), HandoffFault>
         requires { index < 2 ^ self.old.index_bits }
         ensures ok { OnOk result (IsDiverted index self.old self.new) }
@@ -94,13 +106,79 @@ impl Handoff {
         ensures fault { IfErr result (IsRefused self.old index) }
     {
         let at = usize::from(index);
-        match &self.fallbacks[at] {
-            Some(_) => return Err(HandoffFault::AlreadyDiverted),
-            None => {}
-        }
-        let fallback = new_fallback(alloc, self.run, index, 1)?;
+        let Some(next) = next_diversion(&self.fallbacks[at]) else {
+            return Err(HandoffFault::AlreadyDiverted);
+        };
+        let fallback = new_fallback(alloc, self.run, index, next)?;
         self.fallbacks[at] = Some(fallback);
         Ok(())
+    }
+
+    /// The gates of a partition that is diverted, or was until its fallback was closed. The index is below the ring's size.
+    fn diverted(&self, index: u16) -> Option<Diverted<'_>>
+        requires { index < 2 ^ self.now.index_bits }
+        ensures none { IfNone result (slice_get self.now.fallbacks index ≡ Some None) }
+        ensures some { IfSome result (λ d. IsDivertedAt self.now index d) }
+    {
+        let at = usize::from(index);
+        let fallback = self.fallback(at)?;
+        let primary = &self.gates[at];
+        Some(Diverted { primary, fallback })
+    }
+
+    /// Copies keys of a partition's fallback back to its primary, while calls go on: in their order, the first `budget` keys that aren't
+    /// copied as they are now. Such a one is copied where the primary's clock of the key has the fallback's own actor of it with the
+    /// fallback's counter. The index is below the ring's size.
+    ///
+    /// For each key it holds a right to read at the fallback, and looks; then it takes the right to write at the primary, publishes a
+    /// copy of what the look showed, and gives both back. Whoever holds a right at a primary asks for no right at a fallback, so no
+    /// two calls wait for each other. At last it looks at both once more, and counts what is left.
+    ///
+    /// Refused, with what was copied until then copied, by `NotDiverted` where no fallback stands there, or a look shows it
+    /// closed; by `NoMemory`; by `GateStopped`. The call can be made again.
+    pub fn copy_back<R: Wait>(
+        &self,
+        rt: &R,
+        alloc: Global,
+        index: u16,
+        budget: u32,
+    ) -> Result<Copied, HandoffFault>
+        requires { index < 2 ^ self.now.index_bits }
+        ensures ok { IfOk result (IsCopiedBack self.now index budget) }
+        ensures fault { IfErr result (IsCopyFault self.now index) }
+    {
+        let Some(partition) = self.diverted(index) else {
+            return Err(HandoffFault::NotDiverted);
+        };
+        match copy_keys(rt, alloc, &partition, budget) {
+            Ok(copied) => Ok(copied),
+            Err(stop) => Err(HandoffFault::from(stop)),
+        }
+    }
+
+    /// Ends a partition's diversion, where each key of its fallback is copied as it is now: it closes the fallback, which drops its keys,
+    /// and later calls go to the primary again. The close carries how many entries the primary's history had at the look that found it
+    /// so. The index is below the ring's size.
+    ///
+    /// It takes the right to write at the fallback, and then a right to read at the primary; so no two calls wait for each
+    /// other, as with `copy_back`.
+    ///
+    /// Refused, and all stays as it was, by `NotDiverted` where no fallback stands there, or a look shows it closed; by
+    /// `LeftOver`, with the passes that show it, where a key isn't copied; by `NoMemory`; by `GateStopped`.
+    pub fn finish_return<R: Wait>(
+        &self,
+        rt: &R,
+        alloc: Global,
+        index: u16,
+    ) -> Result<Returned, HandoffFault>
+        requires { index < 2 ^ self.now.index_bits }
+        ensures ok { IfOk result (IsReturned self.now index) }
+        ensures fault { IfErr result (IsReturnFault self.now index) }
+    {
+        let Some(partition) = self.diverted(index) else {
+            return Err(HandoffFault::NotDiverted);
+        };
+        end_diversion(rt, alloc, &partition)
     }
 
     /// The number of a partition's last diversion, 0 before the first. The index is below the ring's size.

@@ -1,0 +1,103 @@
+-- Copies that a pass published stay what they are.
+use Rattle.std.proofs.Common.{◌≡◌, ◌∙◌, ◌+◌, ℕ, zero, suc, List, [], ◌∷◌, ◌++◌, length, length-append, refl, sym, ap, subst}
+use Rattle.std.specs.Prelude.{Option, Some, None, IfNone, IfSome, slice_get}
+use Rattle.std.proofs.lemmas.List.Elements.{All-weaker, All-push}
+use mathlib.Core.List.{IsPrefix}
+use Rattle.riak_msgs.specs.declared.Key.{Key}
+use Rattle.rw_gate.specs.Views.{GateId}
+use Rattle.rw_gate.proofs.Prefixes.{prefix_trans}
+use Rattle.vnode_protocol.specs.declared.ask.Ask.TheVariants as asks
+use Rattle.vnode_protocol.specs.declared.entry.Entry.{Entry}
+use Rattle.vnode_protocol.specs.declared.entry.Entry.TheVariants as entries
+use Rattle.vnode_protocol.specs.declared.event.Event.TheVariants as events
+use Rattle.vnode_protocol.specs.Events.{Asks}
+use Rattle.vnode_protocol.specs.KeyCopies.{KeyCopyView}
+use Rattle.vnode_protocol.specs.Plans.{View}
+use Rattle.handoff.specs.declared.copying.Step.{Step}
+use Rattle.handoff.specs.declared.copying.Step.TheVariants.{End, Made, Stuck}
+use Rattle.handoff.specs.Copying.{IsCopy, HasCopyAt, AreCopies, CopiesOne}
+use Rattle.handoff.specs.Sights.{Sight, LeadsTo}
+use Rattle.handoff.specs.Steps.{Steps}
+
+none_some : {A : Type 0} (x : A) → None ≡ Some x → ⊥
+none_some x h = cc
+
+get_more : {A : Type 0} (xs ys : List A) (k : ℕ) (x : A) → slice_get xs k ≡ Some x → slice_get (xs ++ ys) k ≡ Some x
+get_more [] ys k x at = absurd (none_some x at)
+get_more (y ∷ xs) ys zero x at = at
+get_more (y ∷ xs) ys (suc k) x at = get_more xs ys k x at
+
+get_last : {A : Type 0} (xs : List A) (x : A) → slice_get (xs ++ x ∷ []) (length xs) ≡ Some x
+get_last [] x = refl
+get_last (y ∷ xs) x = get_last xs x
+
+get_prefix : {A : Type 0} (xs ys : List A) (k : ℕ) (x : A) → IsPrefix xs ys → slice_get xs k ≡ Some x → slice_get ys k ≡ Some x
+get_prefix xs ys k x p at = subst (λ zs. slice_get zs k ≡ Some x) p.1 (get_more xs p.0 k x at)
+
+copy-more : (n : ℕ) (theirs theirs' : Sight) (entry : Entry) → theirs'.gate ≡ theirs.gate → IsPrefix theirs.prefix theirs'.prefix → IsCopy n theirs entry → IsCopy n theirs' entry
+copy-more n theirs theirs' entry gate more copy = record {
+  copy = copy.copy;
+  is = copy.is;
+  number = copy.number;
+  prefix = copy.prefix;
+  begins = prefix_trans copy.prefix theirs.prefix theirs'.prefix copy.begins more;
+  commands = copy.commands;
+  state = copy.state;
+  leads = subst (λ (g : GateId View). LeadsTo g copy.prefix copy.state) (sym gate) copy.leads;
+  unclosed = copy.unclosed;
+  there = copy.there;
+  held = copy.held;
+  clock = copy.clock;
+}
+
+-- where both passes see more
+pub copies-more : (n : ℕ) (mine mine' theirs theirs' : Sight) (positions : List ℕ) → IsPrefix mine.prefix mine'.prefix → theirs'.gate ≡ theirs.gate → IsPrefix theirs.prefix theirs'.prefix
+    → AreCopies n mine theirs positions → AreCopies n mine' theirs' positions
+copies-more n mine mine' theirs theirs' positions here gate there =
+    All-weaker (HasCopyAt n mine theirs) (HasCopyAt n mine' theirs')
+    (λ k has. record { entry = has.entry; stands = get_prefix mine.prefix mine'.prefix k has.entry here has.stands; copy = copy-more n theirs theirs' has.entry gate there has.copy }) positions
+
+-- one copy more
+copies-push : (n : ℕ) (old mine theirs theirs' : Sight) → theirs'.gate ≡ theirs.gate → IsPrefix theirs.prefix theirs'.prefix → AreCopies n old theirs old.own → CopiesOne n old mine theirs'
+    → AreCopies n mine theirs' mine.own
+copies-push n old mine theirs theirs' gate there all one =
+    let grown : IsPrefix old.prefix mine.prefix = prefix_trans old.prefix one.position mine.prefix one.begins (one.entry ∷ [], sym one.seen) in
+    let last : HasCopyAt n mine theirs' (length one.position) = record {
+      entry = one.entry;
+      stands = subst (λ zs. slice_get zs (length one.position) ≡ Some one.entry) (sym one.seen) (get_last one.position one.entry);
+      copy = one.copy;
+    } in
+    subst (λ (ks : List ℕ). AreCopies n mine theirs' ks) (sym one.own)
+    (All-push (HasCopyAt n mine theirs') old.own (length one.position) (copies-more n old mine theirs theirs' old.own grown gate there all) last)
+
+-- the same where nothing was published
+same-copies : (n : ℕ) (old mine theirs theirs' : Sight) → theirs'.gate ≡ theirs.gate → IsPrefix theirs.prefix theirs'.prefix → IsPrefix old.prefix mine.prefix
+    → AreCopies n old theirs old.own → mine.own ≡ old.own → AreCopies n mine theirs' mine.own
+same-copies n old mine theirs theirs' gate there here all own =
+    subst (λ (ks : List ℕ). AreCopies n mine theirs' ks) (sym own) (copies-more n old mine theirs theirs' old.own here gate there all)
+
+pub step-copies : (n : ℕ) (old mine theirs theirs' : Sight) (step : Step) → theirs'.gate ≡ theirs.gate → IsPrefix theirs.prefix theirs'.prefix → IsPrefix old.prefix mine.prefix
+    → AreCopies n old theirs old.own → Steps n old mine theirs' step → AreCopies n mine theirs' mine.own
+step-copies n old mine theirs theirs' End gate there here all own = same-copies n old mine theirs theirs' gate there here all own
+step-copies n old mine theirs theirs' (Stuck key) gate there here all own = same-copies n old mine theirs theirs' gate there here all own
+step-copies n old mine theirs theirs' (Made key) gate there here all one = copies-push n old mine theirs theirs' gate there all one
+
+pub made-length : (n : ℕ) (old mine theirs : Sight) (step : Step) (key : Key) → step ≡ Made key → Steps n old mine theirs step → length mine.own ≡ length old.own + 1
+made-length n old mine theirs step key is steps =
+    let one : CopiesOne n old mine theirs = subst (λ s. Steps n old mine theirs s) is steps in
+    ap length one.own ∙ length-append old.own (length one.position ∷ [])
+
+-- the entry of an asked copy
+pub entry-copied : (entry : Entry) (copy : KeyCopyView) → Asks entry (asks.Copy copy) → entry ≡ entries.Copied copy
+entry-copied (entries.Command (events.Put put reply)) copy h = cc
+entry-copied (entries.Command (events.Del del)) copy h = cc
+entry-copied (entries.Command (events.Reap key)) copy h = absurd h
+entry-copied (entries.Copied other) copy h = let same : copy ≡ other = cc in ap (λ c. entries.Copied c) (sym same)
+entry-copied (entries.Closed number) copy h = cc
+
+-- what holds of an option holds of what it has
+pub if-some : {A : Type 0} (P : A → Type 0) (o : Option A) (x : A) → o ≡ Some x → IfSome o P → P x
+if-some P o x is holds = subst (λ o. IfSome o P) is holds
+
+pub if-none : {A P : Type 0} (o : Option A) → o ≡ None → IfNone o P → P
+if-none {A} {P} o is holds = subst (λ (o : Option A). IfNone o P) is holds

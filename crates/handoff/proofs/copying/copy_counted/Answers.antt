@@ -1,0 +1,23 @@
+use Rattle.std.proofs.Common.{◌∙◌, ◌+◌, ap, sym, arith}
+use Rattle.handoff.proofs.Copies.{step-copies, made-length}
+use Rattle.handoff.proofs.copying.copy_counted.Goals as goal
+
+pub returns-in-End-clause-copies : goal.returns-in-End-clause-copies
+returns-in-End-clause-copies g c =
+    step-copies c.args.partition.now.fallback.now.diversion c.args.mine.now c.copy_next.new.mine c.args.theirs.now c.copy_next.new.theirs c.in_ok-step.step
+    (c.copy_next.ensures.theirs ∙ sym c.requires.theirs) c.copy_next.ensures.more_there c.copy_next.ensures.more c.requires.copies c.in_ok-step.ensures.step
+
+pub returns-in-Made-clause-copies : goal.returns-in-Made-clause-copies
+returns-in-Made-clause-copies g c =
+    step-copies c.args.partition.now.fallback.now.diversion c.args.mine.now c.copy_next.new.mine c.args.theirs.now c.copy_next.new.theirs c.in_ok-step.step
+    (c.copy_next.ensures.theirs ∙ sym c.requires.theirs) c.copy_next.ensures.more_there c.copy_next.ensures.more c.requires.copies c.in_ok-step.ensures.step
+
+pub returns-in-Stuck-clause-copies : goal.returns-in-Stuck-clause-copies
+returns-in-Stuck-clause-copies g c =
+    step-copies c.args.partition.now.fallback.now.diversion c.args.mine.now c.copy_next.new.mine c.args.theirs.now c.copy_next.new.theirs c.in_ok-step.step
+    (c.copy_next.ensures.theirs ∙ sym c.requires.theirs) c.copy_next.ensures.more_there c.copy_next.ensures.more c.requires.copies c.in_ok-step.ensures.step
+
+pub returns-in-Made-clause-more : goal.returns-in-Made-clause-more
+returns-in-Made-clause-more g c =
+    let longer = made-length c.args.partition.now.fallback.now.diversion c.args.mine.now c.copy_next.new.mine c.copy_next.new.theirs c.in_ok-step.step c.in-Made.last c.in-Made.is c.in_ok-step.ensures.step in
+    (ap (λ n. n + 1) c.requires.keys ∙ sym longer, omega arith)

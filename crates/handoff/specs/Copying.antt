@@ -1,0 +1,99 @@
+-- What a copy back says across two gates.
+use Rattle.std.specs.Prelude.{◌≡◌, ◌⊎◌, ◌≤◌, ◌+◌, ◌-◌, ◌^◌, ℕ, min, List, [], ◌∷◌, ◌++◌, length, All, Some, None, slice_get}
+use mathlib.Core.List.{IsPrefix}
+use Rattle.riak_msgs.specs.Contents.{Content}
+use Rattle.rw_gate.specs.Views.{GateId}
+use Rattle.vnode_machine.specs.Machine.{State, Stored, stored}
+use Rattle.vnode_protocol.specs.KeyCopies.{KeyCopyView}
+use Rattle.vnode_protocol.specs.declared.entry.Entry.{Entry}
+use Rattle.vnode_protocol.specs.declared.entry.Entry.TheVariants as entries
+use Rattle.vnode_protocol.specs.Events.{commands_of}
+use Rattle.vnode_protocol.specs.Plans.{View}
+use Rattle.handoff.specs.declared.copying.Copied.{Copied}
+use Rattle.handoff.specs.declared.fault.HandoffFault.{HandoffFault}
+use Rattle.handoff.specs.declared.fault.HandoffFault.TheVariants as faults
+use Rattle.handoff.specs.declared.gates.Fallback.{Fallback}
+use Rattle.handoff.specs.Left.{count_left}
+use Rattle.handoff.specs.Partitions.{HandoffView}
+use Rattle.handoff.specs.Sights.{Sight, LeadsTo, Shows, ShowsClosed}
+
+-- an entry copies what the fallback held of a key at the end of some prefix of what its pass has seen: the key's clock there, with the
+-- diversion's number and the commands of that prefix
+pub record IsCopy (diversion : ℕ) (theirs : Sight) (entry : Entry) : Type 0 where
+  pub copy : KeyCopyView
+  pub is : entry ≡ entries.Copied copy
+  pub number : copy.diversion ≡ diversion
+  pub prefix : List Entry
+  pub begins : IsPrefix prefix theirs.prefix
+  pub commands : copy.prefix ≡ commands_of prefix
+  pub state : State Content
+  pub leads : LeadsTo theirs.gate prefix state
+  pub unclosed : state.closed ≡ None
+  pub there : Stored Content
+  pub held : stored state copy.key ≡ Some there
+  pub clock : copy.clock ≡ there.clock
+
+-- what the primary's pass has seen has such an entry at a position
+pub record HasCopyAt (diversion : ℕ) (mine theirs : Sight) (position : ℕ) : Type 0 where
+  pub entry : Entry
+  pub stands : slice_get mine.prefix position ≡ Some entry
+  pub copy : IsCopy diversion theirs entry
+
+-- and at each of these
+abbrev pub AreCopies : ℕ → Sight → Sight → List ℕ → Type 0
+AreCopies diversion mine theirs = All (HasCopyAt diversion mine theirs)
+
+-- one key more was copied: the history of the primary has one entry more of the pass's own
+pub record CopiesOne (diversion : ℕ) (old mine theirs : Sight) : Type 0 where
+  pub position : List Entry
+  pub entry : Entry
+  pub begins : IsPrefix old.prefix position
+  pub seen : mine.prefix ≡ position ++ entry ∷ []
+  pub own : mine.own ≡ old.own ++ length position ∷ []
+  pub copy : IsCopy diversion theirs entry
+
+-- at the ends of what both passes have seen so many keys of the fallback aren't copied as they are now
+pub record CountsLeft (mine theirs : Sight) (left : ℕ) : Type 0 where
+  pub primary : State Content
+  pub fallback : State Content
+  pub shows : Shows mine primary
+  pub shows_there : Shows theirs fallback
+  pub unclosed : fallback.closed ≡ None
+  pub is : left ≡ min (count_left primary fallback.keys) (2 ^ 32 - 1)
+
+-- keys were copied from this fallback to this primary, by these passes: each entry that was published at the primary is a copy, and
+-- nothing was at the fallback
+pub record CopiesBack (primary : GateId View) (fallback : Fallback) (budget : ℕ) (copied : Copied) : Type 0 where
+  pub gate : copied.primary.gate ≡ primary
+  pub gate_there : copied.fallback.gate ≡ fallback.gate
+  pub copies : AreCopies fallback.diversion copied.primary copied.fallback copied.primary.own
+  pub none : copied.fallback.own ≡ []
+  pub keys : copied.keys ≡ length copied.primary.own
+  pub tried : copied.keys + copied.stuck ≤ budget
+  pub left : CountsLeft copied.primary copied.fallback copied.left
+
+-- so at the partition of an index, whose fallback stands there
+pub record IsCopiedBack (handoff : HandoffView) (index budget : ℕ) (copied : Copied) : Type 0 where
+  pub primary : GateId View
+  pub fallback : Fallback
+  pub stands : slice_get handoff.gates index ≡ Some primary
+  pub diverted : slice_get handoff.fallbacks index ≡ Some (Some fallback)
+  pub copies : CopiesBack primary fallback budget copied
+
+-- no fallback stands at an index, or some history of it leads to its close
+abbrev pub IsUndiverted : HandoffView → (index : ℕ) → Type 0
+IsUndiverted handoff index =
+    (slice_get handoff.fallbacks index ≡ Some None)
+    ⊎ ((fallback : Fallback) × (slice_get handoff.fallbacks index ≡ Some (Some fallback)) × ShowsClosed fallback.gate)
+
+-- a fallback stands there
+abbrev pub HasFallback : HandoffView → (index : ℕ) → Type 0
+HasFallback handoff index = (fallback : Fallback) × (slice_get handoff.fallbacks index ≡ Some (Some fallback))
+
+-- why keys weren't copied back, or no further ones
+abbrev pub IsCopyFault : HandoffView → (index : ℕ) → HandoffFault → Type 0
+IsCopyFault handoff index faults.AlreadyDiverted = ⊥
+IsCopyFault handoff index faults.NotDiverted = IsUndiverted handoff index
+IsCopyFault handoff index (faults.LeftOver passes) = ⊥
+IsCopyFault handoff index faults.NoMemory = HasFallback handoff index
+IsCopyFault handoff index faults.GateStopped = HasFallback handoff index

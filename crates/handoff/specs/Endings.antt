@@ -1,0 +1,29 @@
+-- How an attempt to end a diversion comes out, by the passes that made it.
+use Rattle.std.specs.Prelude.{◌≡◌, ℕ, [], ◌∷◌, ◌++◌, length}
+use Rattle.rw_gate.specs.Views.{GateId}
+use Rattle.vnode_protocol.specs.declared.entry.Entry.TheVariants as entries
+use Rattle.vnode_protocol.specs.Plans.{View}
+use Rattle.handoff.specs.declared.fault.HandoffFault.{HandoffFault}
+use Rattle.handoff.specs.declared.fault.HandoffFault.TheVariants as faults
+use Rattle.handoff.specs.declared.gates.Fallback.{Fallback}
+use Rattle.handoff.specs.declared.returning.Ending.{Ending}
+use Rattle.handoff.specs.declared.returning.Ending.TheVariants.{Closed, LeftOver}
+use Rattle.handoff.specs.Returning.{EndsDiversion, HasLeft, OfGates}
+use Rattle.handoff.specs.Sights.{Sight, ShowsClosed}
+
+-- the pass's next entry is the close with this number
+pub record ClosesWith (number : ℕ) (old new : Sight) : Type 0 where
+  pub seen : new.prefix ≡ old.prefix ++ entries.Closed number ∷ []
+  pub own : new.own ≡ old.own ++ length old.prefix ∷ []
+
+abbrev pub EndsSo : (mine theirs : Sight) → Ending → Type 0
+EndsSo mine theirs Closed = EndsDiversion mine theirs
+EndsSo mine theirs LeftOver = HasLeft mine theirs
+
+-- why a diversion between these gates didn't end
+abbrev pub IsEndFault : GateId View → Fallback → HandoffFault → Type 0
+IsEndFault primary fallback faults.AlreadyDiverted = ⊥
+IsEndFault primary fallback faults.NotDiverted = ShowsClosed fallback.gate
+IsEndFault primary fallback (faults.LeftOver passes) = OfGates primary fallback passes HasLeft
+IsEndFault primary fallback faults.NoMemory = Unit {0}
+IsEndFault primary fallback faults.GateStopped = Unit {0}

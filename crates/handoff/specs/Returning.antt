@@ -1,0 +1,71 @@
+-- What the end of a diversion says across two gates.
+use Rattle.std.specs.Prelude.{◌≡◌, ℕ, List, [], ◌∷◌, ◌++◌, length, Some, None, slice_get}
+use Rattle.riak_msgs.specs.declared.Key.{Key}
+use Rattle.riak_msgs.specs.Contents.{Content}
+use Rattle.rw_gate.specs.Views.{GateId}
+use Rattle.vnode_machine.specs.Machine.{State, Stored}
+use Rattle.vnode_protocol.specs.declared.entry.Entry.{Entry}
+use Rattle.vnode_protocol.specs.declared.entry.Entry.TheVariants.{Closed}
+use Rattle.vnode_protocol.specs.Plans.{View}
+use Rattle.handoff.specs.declared.fault.HandoffFault.{HandoffFault}
+use Rattle.handoff.specs.declared.fault.HandoffFault.TheVariants as faults
+use Rattle.handoff.specs.declared.fault.Returned.{Returned}
+use Rattle.handoff.specs.declared.gates.Fallback.{Fallback}
+use Rattle.handoff.specs.Copying.{IsUndiverted, HasFallback}
+use Rattle.handoff.specs.Left.{AreCopied, IsFirstLeft}
+use Rattle.handoff.specs.Partitions.{HandoffView}
+use Rattle.handoff.specs.Sights.{Sight, LeadsTo, Shows}
+
+-- the history of the fallback ends with a close, at a position where each of its keys was copied as it was then, by what the primary's
+-- pass has seen; the close has the length of that, and nothing was published at the primary
+pub record EndsDiversion (mine theirs : Sight) : Type 0 where
+  pub before : List Entry
+  pub primary : State Content
+  pub fallback : State Content
+  pub shows : Shows mine primary
+  pub leads : LeadsTo theirs.gate before fallback
+  pub unclosed : fallback.closed ≡ None
+  pub copied : AreCopied primary fallback.keys
+  pub seen : theirs.prefix ≡ before ++ Closed (length mine.prefix) ∷ []
+  pub own : theirs.own ≡ length before ∷ []
+  pub own_here : mine.own ≡ []
+
+-- a key of the fallback isn't copied at the ends of what the passes have seen, the first of these in their order, and nothing was
+-- published
+pub record HasLeft (mine theirs : Sight) : Type 0 where
+  pub primary : State Content
+  pub fallback : State Content
+  pub shows : Shows mine primary
+  pub shows_there : Shows theirs fallback
+  pub unclosed : fallback.closed ≡ None
+  pub key : Key
+  pub there : Stored Content
+  pub left : IsFirstLeft primary fallback.keys (key, there)
+  pub own : theirs.own ≡ []
+  pub own_here : mine.own ≡ []
+
+-- these passes are of these gates, and such is what they have seen
+pub record OfGates (primary : GateId View) (fallback : Fallback) (passes : Returned) (Sees : Sight → Sight → Type 0) : Type 0 where
+  pub gate : passes.primary.gate ≡ primary
+  pub gate_there : passes.fallback.gate ≡ fallback.gate
+  pub sees : Sees passes.primary passes.fallback
+
+-- of the gates of the partition at an index, whose fallback stands there
+pub record AtPartition (handoff : HandoffView) (index : ℕ) (passes : Returned) (Sees : Sight → Sight → Type 0) : Type 0 where
+  pub primary : GateId View
+  pub fallback : Fallback
+  pub stands : slice_get handoff.gates index ≡ Some primary
+  pub diverted : slice_get handoff.fallbacks index ≡ Some (Some fallback)
+  pub of_gates : OfGates primary fallback passes Sees
+
+-- the diversion of the partition at an index has ended
+abbrev pub IsReturned : HandoffView → (index : ℕ) → Returned → Type 0
+IsReturned handoff index passes = AtPartition handoff index passes EndsDiversion
+
+-- why it hasn't
+abbrev pub IsReturnFault : HandoffView → (index : ℕ) → HandoffFault → Type 0
+IsReturnFault handoff index faults.AlreadyDiverted = ⊥
+IsReturnFault handoff index faults.NotDiverted = IsUndiverted handoff index
+IsReturnFault handoff index (faults.LeftOver passes) = AtPartition handoff index passes HasLeft
+IsReturnFault handoff index faults.NoMemory = HasFallback handoff index
+IsReturnFault handoff index faults.GateStopped = HasFallback handoff index

@@ -1,0 +1,44 @@
+-- What the passes of a vnode's gate have seen.
+use Rattle.std.specs.Prelude.{◌≡◌, ℕ, List, IsSome}
+use Rattle.riak_msgs.specs.Contents.{Content}
+use Rattle.vnode_machine.specs.Machine.{State}
+use Rattle.vnode_machine.specs.Replay.{IsWithinLimits}
+use Rattle.rw_gate.specs.Views.{GateId, PassView}
+use Rattle.rw_gate.specs.Histories.{RunFrom}
+use Rattle.vnode_protocol.specs.declared.entry.Entry.{Entry}
+use Rattle.vnode_protocol.specs.Events.{IsMadeNew, Makes}
+use Rattle.vnode_protocol.specs.Plans.{View}
+
+-- what a caller has seen of a vnode's history, and at which positions of it the caller published
+abbrev pub Sight : Type 0
+Sight = PassView View Entry
+
+-- the machine's state of a vnode
+abbrev pub state_of : View → State Content
+state_of vnode = vnode.state
+
+-- a history of the gate leads its vnode to this state
+abbrev pub LeadsTo : GateId View → List Entry → State Content → Type 0
+LeadsTo gate history state = RunFrom state_of Makes gate.opening history state
+
+-- so does what a pass has seen
+abbrev pub Shows : Sight → State Content → Type 0
+Shows pass state = LeadsTo pass.gate pass.prefix state
+
+-- some history of the gate leads its vnode to a state in which it is closed
+pub record ShowsClosed (gate : GateId View) : Type 0 where
+  pub history : List Entry
+  pub state : State Content
+  pub leads : LeadsTo gate history state
+  pub closed : IsSome state.closed
+
+-- it had given this epoch last then
+abbrev pub ClosedBehind : GateId View → (last_epoch : ℕ) → Type 0
+ClosedBehind gate last_epoch = (shown : ShowsClosed gate) × (last_epoch ≡ shown.state.last_epoch)
+
+-- the gate was made round a new vnode, of an id and behind a last epoch that a vnode can have
+pub record IsOfVnode (gate : GateId View) : Type 0 where
+  pub id : ℕ
+  pub last_epoch : ℕ
+  pub made_new : IsMadeNew id last_epoch gate
+  pub limits : IsWithinLimits id last_epoch

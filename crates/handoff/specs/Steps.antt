@@ -1,0 +1,30 @@
+-- What became of one key more, and why no further one could be tried.
+use Rattle.std.specs.Prelude.{◌≡◌, ℕ}
+use Rattle.rw_gate.specs.Views.{GateId}
+use Rattle.vnode_protocol.specs.Plans.{View}
+use Rattle.handoff.specs.declared.copying.Step.{Step}
+use Rattle.handoff.specs.declared.copying.Step.TheVariants.{End, Made, Stuck}
+use Rattle.handoff.specs.declared.fault.Stop.{Stop}
+use Rattle.handoff.specs.declared.fault.Stop.TheVariants as stops
+use Rattle.handoff.specs.declared.fault.HandoffFault.{HandoffFault}
+use Rattle.handoff.specs.declared.fault.HandoffFault.TheVariants as faults
+use Rattle.handoff.specs.Copying.{CopiesOne}
+use Rattle.handoff.specs.Sights.{Sight, ShowsClosed}
+
+-- where it was copied, the history of the primary has that copy, and else nothing was published
+abbrev pub Steps : ℕ → (old mine theirs : Sight) → Step → Type 0
+Steps diversion old mine theirs End = mine.own ≡ old.own
+Steps diversion old mine theirs (Made key) = CopiesOne diversion old mine theirs
+Steps diversion old mine theirs (Stuck key) = mine.own ≡ old.own
+
+-- where the fallback was found closed, some history of it leads there
+abbrev pub IsStopOf : (fallback : GateId View) → Stop → Type 0
+IsStopOf fallback stops.NotDiverted = ShowsClosed fallback
+IsStopOf fallback stops.NoMemory = Unit {0}
+IsStopOf fallback stops.GateStopped = Unit {0}
+
+-- the fault that a stop is told as
+abbrev pub fault_of : Stop → HandoffFault
+fault_of stops.NotDiverted = faults.NotDiverted
+fault_of stops.NoMemory = faults.NoMemory
+fault_of stops.GateStopped = faults.GateStopped

@@ -1,0 +1,332 @@
+//! Copying the keys of a fallback back to its primary.
+ghost use Rattle.std.specs.Prelude.{◌≡◌, ◌+◌, ◌<◌, ◌≤◌, ◌^◌, IfOk, IfErr, OnOk, IfNone, IfSome, [], length};
+ghost use mathlib.Core.List.{IsPrefix};
+ghost use Rattle.vnode_protocol.specs.Events.{commands_of};
+ghost use Rattle.vnode_machine.specs.Sound.{IsSound};
+ghost use Rattle.handoff.specs.Copying.{AreCopies, CopiesBack, CopiesOne, CountsLeft};
+ghost use Rattle.handoff.specs.Sights.{IsOfVnode, Shows};
+ghost use Rattle.handoff.specs.Steps.{IsStopOf, Steps};
+
+use crate::fault::Stop;
+use crate::gates::Fallback;
+use crate::left::{count_left, first_left};
+use clock_store::KeyRef;
+use gate_ask::{Outcome, ask_shown};
+use ghost_state::{GhostList, Listing};
+use riak_msgs::Key;
+use rw_gate::{Gate, Pass, ReadRight, WriteRight};
+use std::alloc::Global;
+use std::sync::Wait;
+use vnode_core::{Ask, Event, KeyCopy, Vnode};
+
+/// What a copy back did.
+#[derive(Drop)]
+pub struct Copied {
+    /// How many keys it copied.
+    pub keys: u32,
+    /// How many keys it tried that stayed as they were: they would have had more than 64 siblings, or 64 actors.
+    pub stuck: u32,
+    /// How many keys weren't copied as they were then, at a last look at both; 4,294,967,295 where there were more.
+    pub left: u32,
+    /// The pass by which it looked and published at the primary, made for this call.
+    pub primary: Pass<Vnode>,
+    /// The pass by which it looked at the fallback, made for this call.
+    pub fallback: Pass<Vnode>,
+}
+
+/// A partition that is diverted: the gate of its primary, and its fallback.
+#[derive(Clone, Copy)]
+pub(crate) struct Diverted<'a> {
+    pub(crate) primary: &'a Gate<Vnode>,
+    pub(crate) fallback: &'a Fallback,
+}
+
+/// The commands of what a pass has seen.
+struct Commands;
+
+impl Listing<Pass<Vnode>, Event> for Commands {
+    ghost use Rattle.vnode_protocol.specs.Events.{commands_of};
+
+    ghost list = { λ pass. commands_of pass.prefix };
+}
+
+/// The commands of what a pass has seen, for clauses alone.
+fn commands_seen(pass: &Pass<Vnode>) -> GhostList<Event>
+    ensures { result ≡ commands_of pass.now.prefix }
+{
+    GhostList::listed::<Pass<Vnode>, Commands>(pass)
+}
+
+/// What became of one key more.
+#[derive(Drop)]
+pub(crate) enum Step {
+    /// Behind the last one all are copied as they are now.
+    End,
+    /// It was copied.
+    Made(Key),
+    /// It would have had too many siblings or actors, and nothing changed.
+    Stuck(Key),
+}
+
+/// One key more was tried: how many were copied with it, and which it is.
+#[derive(Drop)]
+struct Tried {
+    keys: u32,
+    last: Key,
+}
+
+/// Copies the first `budget` keys that aren't copied as they are now, in their order, and counts what is left then.
+pub(crate) fn copy_keys<R: Wait>(
+    rt: &R,
+    alloc: Global,
+    partition: &Diverted<'_>,
+    budget: u32,
+) -> Result<Copied, Stop>
+    requires { IsOfVnode partition.now.fallback.now.gate }
+    ensures ok { IfOk result (CopiesBack partition.now.primary.now partition.now.fallback.now
+        budget) }
+    ensures stop { IfErr result (IsStopOf partition.now.fallback.now.gate) }
+{
+    let mut mine = partition.primary.pass();
+    let mut theirs = partition.fallback.gate.pass();
+    let (keys, tried) = copy_some(rt, alloc, partition, budget, &mut mine, &mut theirs)?;
+    let left = look_left(rt, alloc, partition, &mut mine, &mut theirs)?;
+    Ok(Copied {
+        keys,
+        stuck: tried - keys,
+        left,
+        primary: mine,
+        fallback: theirs,
+    })
+}
+
+/// Copies at most `budget` keys; how many were copied, and how many it tried.
+fn copy_some<R: Wait>(
+    rt: &R,
+    alloc: Global,
+    partition: &Diverted<'_>,
+    budget: u32,
+    mine: &mut Pass<Vnode>,
+    theirs: &mut Pass<Vnode>,
+) -> Result<(u32, u32), Stop>
+    requires mine { mine.old.gate ≡ partition.now.primary.now }
+    requires theirs { theirs.old.gate ≡ partition.now.fallback.now.gate }
+    requires vnode { IsOfVnode partition.now.fallback.now.gate }
+    requires new { mine.old.own ≡ [] }
+    requires new_there { theirs.old.own ≡ [] }
+    ensures mine { mine.new.gate ≡ partition.now.primary.now }
+    ensures theirs { theirs.new.gate ≡ partition.now.fallback.now.gate }
+    ensures copies { IfOk result (λ made. AreCopies partition.now.fallback.now.diversion
+        mine.new theirs.new mine.new.own) }
+    ensures keys { IfOk result (λ made. made.0 ≡ length mine.new.own) }
+    ensures few { IfOk result (λ made. made.0 ≤ made.1) }
+    ensures budget { IfOk result (λ made. made.1 ≤ budget) }
+    ensures none { IfOk result (λ made. theirs.new.own ≡ []) }
+    ensures stop { IfErr result (IsStopOf partition.now.fallback.now.gate) }
+{
+    let mut keys: u32 = 0;
+    let mut tried: u32 = 0;
+    let mut last: Option<Key> = None;
+    while tried < budget {
+        let next = copy_counted(rt, alloc, partition, keys, mine, theirs, last.as_ref())?;
+        match next {
+            None => return Ok((keys, tried)),
+            Some(one) => {
+                keys = one.keys;
+                last = Some(one.last);
+            }
+        }
+        tried += 1;
+    }
+    Ok((keys, tried))
+}
+
+/// Copies one key more, behind `keys` that were copied; none where no further one is left.
+fn copy_counted<R: Wait>(
+    rt: &R,
+    alloc: Global,
+    partition: &Diverted<'_>,
+    keys: u32,
+    mine: &mut Pass<Vnode>,
+    theirs: &mut Pass<Vnode>,
+    after: Option<&Key>,
+) -> Result<Option<Tried>, Stop>
+    requires mine { mine.old.gate ≡ partition.now.primary.now }
+    requires theirs { theirs.old.gate ≡ partition.now.fallback.now.gate }
+    requires vnode { IsOfVnode partition.now.fallback.now.gate }
+    requires keys { keys ≡ length mine.old.own }
+    requires room { keys + 1 < 2 ^ 32 }
+    requires copies { AreCopies partition.now.fallback.now.diversion
+        mine.old theirs.old mine.old.own }
+    ensures mine { mine.new.gate ≡ partition.now.primary.now }
+    ensures theirs { theirs.new.gate ≡ partition.now.fallback.now.gate }
+    ensures own_there { theirs.new.own ≡ theirs.old.own }
+    ensures copies { OnOk result (AreCopies partition.now.fallback.now.diversion
+        mine.new theirs.new mine.new.own) }
+    ensures end { IfOk result (λ next. IfNone next (keys ≡ length mine.new.own)) }
+    ensures more { IfOk result (λ next. IfSome next (λ one.
+        (one.keys ≡ length mine.new.own) × (one.keys ≤ keys + 1))) }
+    ensures stop { IfErr result (IsStopOf partition.now.fallback.now.gate) }
+{
+    let step = copy_next(rt, alloc, partition, mine, theirs, after)?;
+    match step {
+        Step::End => Ok(None),
+        Step::Made(last) => Ok(Some(Tried {
+            keys: keys + 1,
+            last,
+        })),
+        Step::Stuck(last) => Ok(Some(Tried { keys, last })),
+    }
+}
+
+/// Copies the first key behind one that isn't copied as it is now, while a right to read is held at the fallback.
+fn copy_next<R: Wait>(
+    rt: &R,
+    alloc: Global,
+    partition: &Diverted<'_>,
+    mine: &mut Pass<Vnode>,
+    theirs: &mut Pass<Vnode>,
+    after: Option<&Key>,
+) -> Result<Step, Stop>
+    requires mine { mine.old.gate ≡ partition.now.primary.now }
+    requires theirs { theirs.old.gate ≡ partition.now.fallback.now.gate }
+    requires vnode { IsOfVnode partition.now.fallback.now.gate }
+    ensures mine { mine.new.gate ≡ partition.now.primary.now }
+    ensures theirs { theirs.new.gate ≡ partition.now.fallback.now.gate }
+    ensures more { IsPrefix mine.old.prefix mine.new.prefix }
+    ensures more_there { IsPrefix theirs.old.prefix theirs.new.prefix }
+    ensures own_there { theirs.new.own ≡ theirs.old.own }
+    ensures step { IfOk result (Steps partition.now.fallback.now.diversion
+        mine.old mine.new theirs.new) }
+    ensures stop { IfErr result (IsStopOf partition.now.fallback.now.gate) }
+{
+    let reader = partition.fallback.gate.read(rt);
+    let step = copy_under(rt, alloc, partition, &reader, mine, theirs, after);
+    reader.release();
+    step
+}
+
+/// The same under a right to read at the fallback, which the caller gives back.
+fn copy_under<R: Wait>(
+    rt: &R,
+    alloc: Global,
+    partition: &Diverted<'_>,
+    reader: &ReadRight<'_, Vnode>,
+    mine: &mut Pass<Vnode>,
+    theirs: &mut Pass<Vnode>,
+    after: Option<&Key>,
+) -> Result<Step, Stop>
+    requires mine { mine.old.gate ≡ partition.now.primary.now }
+    requires reader { reader.now.gate ≡ partition.now.fallback.now.gate }
+    requires theirs { theirs.old.gate ≡ partition.now.fallback.now.gate }
+    requires vnode { IsOfVnode partition.now.fallback.now.gate }
+    ensures mine { mine.new.gate ≡ partition.now.primary.now }
+    ensures theirs { theirs.new.gate ≡ partition.now.fallback.now.gate }
+    ensures more { IsPrefix mine.old.prefix mine.new.prefix }
+    ensures more_there { IsPrefix theirs.old.prefix theirs.new.prefix }
+    ensures own_there { theirs.new.own ≡ theirs.old.own }
+    ensures step { IfOk result (Steps partition.now.fallback.now.diversion
+        mine.old mine.new theirs.new) }
+    ensures stop { IfErr result (IsStopOf partition.now.fallback.now.gate) }
+{
+    let from = reader.look(theirs)?;
+    if from.closed_at().is_some() {
+        return Err(Stop::NotDiverted);
+    }
+    let mut writer = partition.primary.write(rt);
+    let diversion = partition.fallback.diversion;
+    let step = copy_to(&mut writer, alloc, from, diversion, mine, theirs, after);
+    writer.release();
+    step
+}
+
+/// The same under a right to write at the primary too, by the fallback's state, all of whose history its pass has seen.
+fn copy_to(
+    writer: &mut WriteRight<'_, Vnode>,
+    alloc: Global,
+    from: &Vnode,
+    diversion: u32,
+    mine: &mut Pass<Vnode>,
+    theirs: &Pass<Vnode>,
+    after: Option<&Key>,
+) -> Result<Step, Stop>
+    requires mine { mine.old.gate ≡ writer.old.gate }
+    requires shown { Shows theirs.now from.now.state }
+    requires sound { IsSound from.now.state }
+    requires unclosed { from.now.state.closed ≡ None }
+    ensures mine { mine.new.gate ≡ mine.old.gate }
+    ensures more { IsPrefix mine.old.prefix mine.new.prefix }
+    ensures step { IfOk result (Steps diversion mine.old mine.new theirs.now) }
+    ensures stop { IfErr result (IsStopOf theirs.now.gate) }
+{
+    let to = writer.look(mine)?;
+    let left = first_left(alloc, to, from, after)?;
+    let Some(left) = left else {
+        return Ok(Step::End);
+    };
+    let parts = KeyRef::of(&left.key);
+    let copy = KeyCopy::of(alloc, parts, left.stored, diversion, commands_seen(theirs))?;
+    match ask_shown(writer, alloc, mine, Ask::Copy(copy)) {
+        Outcome::Made(_) => Ok(Step::Made(left.key)),
+        Outcome::Told(_) => Ok(Step::Stuck(left.key)),
+        Outcome::Refused(_) => Err(Stop::NoMemory),
+        Outcome::Moved | Outcome::Full => Err(Stop::GateStopped),
+    }
+}
+
+/// How many keys aren't copied as they are now, by a look at both.
+fn look_left<R: Wait>(
+    rt: &R,
+    alloc: Global,
+    partition: &Diverted<'_>,
+    mine: &mut Pass<Vnode>,
+    theirs: &mut Pass<Vnode>,
+) -> Result<u32, Stop>
+    requires mine { mine.old.gate ≡ partition.now.primary.now }
+    requires theirs { theirs.old.gate ≡ partition.now.fallback.now.gate }
+    requires vnode { IsOfVnode partition.now.fallback.now.gate }
+    ensures mine { mine.new.gate ≡ partition.now.primary.now }
+    ensures theirs { theirs.new.gate ≡ partition.now.fallback.now.gate }
+    ensures more { IsPrefix mine.old.prefix mine.new.prefix }
+    ensures more_there { IsPrefix theirs.old.prefix theirs.new.prefix }
+    ensures own { mine.new.own ≡ mine.old.own }
+    ensures own_there { theirs.new.own ≡ theirs.old.own }
+    ensures left { IfOk result (CountsLeft mine.new theirs.new) }
+    ensures stop { IfErr result (IsStopOf partition.now.fallback.now.gate) }
+{
+    let there = partition.fallback.gate.read(rt);
+    let here = partition.primary.read(rt);
+    let left = left_under(alloc, &here, &there, mine, theirs);
+    here.release();
+    there.release();
+    left
+}
+
+/// The same under rights to read, which the caller gives back.
+fn left_under(
+    alloc: Global,
+    here: &ReadRight<'_, Vnode>,
+    there: &ReadRight<'_, Vnode>,
+    mine: &mut Pass<Vnode>,
+    theirs: &mut Pass<Vnode>,
+) -> Result<u32, Stop>
+    requires mine { mine.old.gate ≡ here.now.gate }
+    requires theirs { theirs.old.gate ≡ there.now.gate }
+    requires vnode { IsOfVnode there.now.gate }
+    ensures mine { mine.new.gate ≡ mine.old.gate }
+    ensures theirs { theirs.new.gate ≡ theirs.old.gate }
+    ensures more { IsPrefix mine.old.prefix mine.new.prefix }
+    ensures more_there { IsPrefix theirs.old.prefix theirs.new.prefix }
+    ensures own { mine.new.own ≡ mine.old.own }
+    ensures own_there { theirs.new.own ≡ theirs.old.own }
+    ensures left { IfOk result (CountsLeft mine.new theirs.new) }
+    ensures stop { IfErr result (IsStopOf there.now.gate) }
+{
+    let from = there.look(theirs)?;
+    if from.closed_at().is_some() {
+        return Err(Stop::NotDiverted);
+    }
+    let to = here.look(mine)?;
+    let left = count_left(alloc, to, from)?;
+    Ok(left)
+}

@@ -1,0 +1,104 @@
+//! The keys of a fallback that aren't copied as they are now.
+ghost use Rattle.std.specs.Prelude.{◌≡◌, ◌+◌, ◌-◌, ◌^◌, min, IfOk, IfNone, IfSome};
+ghost use Rattle.std.specs.Option.{option_map};
+ghost use Rattle.place_map.specs.KeyRefs.{key_after};
+ghost use Rattle.clock_store.specs.Keys.{stored_of};
+ghost use Rattle.vnode_machine.specs.Sound.{IsSound};
+ghost use Rattle.handoff.specs.Left.{AreCopied, IsNextLeft, count_left, is_copied, keys_behind, one_unless};
+
+use clock_store::{KeyRef, StoredClock};
+use dvv_set::Clock;
+use riak_msgs::{BoxedContent, Key};
+use std::alloc::{AllocError, Global};
+use vnode_core::Vnode;
+
+/// A key of a fallback that isn't copied as it is now, and what the fallback stores of it.
+#[derive(Drop)]
+pub(crate) struct Left<'a> {
+    pub(crate) key: Key,
+    pub(crate) stored: &'a StoredClock,
+}
+
+/// The parts of the key that is given, or none.
+fn refs_of(key: Option<&Key>) -> Option<KeyRef<'_>>
+    ensures { key_after result ≡ option_map (λ k. k.now) key.entry }
+{
+    match key {
+        None => None,
+        Some(key) => Some(KeyRef::of(key)),
+    }
+}
+
+/// Whether the primary has a key as the fallback has it now: the fallback's own actor of the key, with the fallback's counter.
+fn is_copied(primary: &Vnode, key: &Key, there: &StoredClock) -> bool
+    ensures { result ≡ is_copied primary.now.state (key.now, stored_of there.now) }
+{
+    let Some(own) = there.actor.get() else {
+        return false;
+    };
+    match primary.clock(key) {
+        None => false,
+        Some(clock) => clock.counter_of(own) == there.clock.counter_of(own),
+    }
+}
+
+/// The first key of the fallback's vnode, behind one or of all, that the primary's hasn't as it is there now. Each key on the way is
+/// copied, to be found at the primary: refused where memory is.
+pub(crate) fn first_left<'a>(
+    alloc: Global,
+    primary: &Vnode,
+    fallback: &'a Vnode,
+    after: Option<&Key>,
+) -> Result<Option<Left<'a>>, AllocError>
+    requires sound { IsSound fallback.now.state }
+    ensures none { IfOk result (λ left. IfNone left (AreCopied primary.now.state
+        (keys_behind (option_map (λ k. k.now) after.entry) fallback.now.state))) }
+    ensures some { IfOk result (λ left. IfSome left (λ l.
+        IsNextLeft primary.now.state fallback.now.state
+        (option_map (λ k. k.now) after.entry) l.key (stored_of l.stored.now))) }
+{
+    let mut at = refs_of(after);
+    loop {
+        let Some((parts, stored)) = fallback.next_key(at) else {
+            return Ok(None);
+        };
+        let key = parts.to_key(alloc)?;
+        if !is_copied(primary, &key, stored) {
+            return Ok(Some(Left { key, stored }));
+        }
+        at = Some(parts);
+    }
+}
+
+/// How many keys are left with one more that is copied or isn't; at most 4,294,967,295.
+fn add_left(count: u32, is_copied: bool) -> u32
+    ensures { result ≡ min (count + one_unless is_copied) (2 ^ 32 - 1) }
+{
+    if is_copied {
+        return count;
+    }
+    count.saturating_add(1)
+}
+
+/// How many keys of the fallback's vnode the primary's hasn't as they are there now; 4,294,967,295 where there are more. Each key is
+/// copied, to be found at the primary: refused where memory is.
+pub(crate) fn count_left(
+    alloc: Global,
+    primary: &Vnode,
+    fallback: &Vnode,
+) -> Result<u32, AllocError>
+    requires { IsSound fallback.now.state }
+    ensures { IfOk result (λ count. count
+        ≡ min (count_left primary.now.state fallback.now.state.keys) (2 ^ 32 - 1)) }
+{
+    let mut count: u32 = 0;
+    let mut at = None;
+    loop {
+        let Some((parts, stored)) = fallback.next_key(at) else {
+            return Ok(count);
+        };
+        let key = parts.to_key(alloc)?;
+        count = add_left(count, is_copied(primary, &key, stored));
+        at = Some(parts);
+    }
+}
