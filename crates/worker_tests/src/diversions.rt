@@ -28,18 +28,18 @@ struct Diversion {
 }
 
 /// A put of "p" on b/k.
-const PUT_P: &[u8] = b"\0\0\0\x0c\x0b\x0a\x01b\x12\x01k\x22\x03\x0a\x01p";
+pub const PUT_P: &[u8] = b"\0\0\0\x0c\x0b\x0a\x01b\x12\x01k\x22\x03\x0a\x01p";
 
 /// Stored.
 const STORED: &[u8] = b"\0\0\0\x01\x0c";
 
 /// A get of b/k; a put of "f" on it by the context of the primary's first dot, in version 1; a get of it; a put of "g" on b/j, and a get
 /// of that.
-const PUT_F_AND_G: &[u8] =
+pub const PUT_F_AND_G: &[u8] =
     b"\0\0\0\x07\x09\x0a\x01b\x12\x01k\0\0\0\x1f\x0b\x0a\x01b\x12\x01k\x1a\x11\x01\0\0\0\0\0\x01\0\0\0\0\0\x01\0\0\0\x01\x22\x03\x0a\x01f\0\0\0\x07\x09\x0a\x01b\x12\x01k\0\0\0\x0c\x0b\x0a\x01b\x12\x01j\x22\x03\x0a\x01g\0\0\0\x07\x09\x0a\x01b\x12\x01j";
 
 /// Nothing; stored; "f", with the primary's dot and the first of the fallback's first epoch; stored; "g", with the first dot of its second.
-const F_AND_G: &[u8] =
+pub const F_AND_G: &[u8] =
     b"\0\0\0\x01\x0a\0\0\0\x01\x0c\0\0\0\x31\x0a\x0a\x03\x0a\x01f\x12\x29\x02\0\0\0\0\0\x01\0\0\0\0\0\x01\0\0\0\0\0\0\0\x01\0\0\0\0\0\x01\x80\0\0\0\0\x01\0\0\0\0\0\0\0\x01\0\0\0\x01\x0c\0\0\0\x1d\x0a\x0a\x03\x0a\x01g\x12\x15\x02\0\0\0\0\0\x01\x80\0\0\0\0\x02\0\0\0\0\0\0\0\x01";
 
 /// Puts of "p" on b/k and of "u" on b/j.
@@ -176,7 +176,7 @@ const DIVERSIONS: &[Diversion] = &[
 
 /// The gates with partition 0 diverted, which can't be diverted again; they have the passes that they had. None where memory is refused,
 /// or the second diversion isn't.
-fn divert(alloc: Global, shared: Shared, budget: u32) -> Option<Shared>
+pub fn divert(alloc: Global, shared: Shared, budget: u32) -> Option<Shared>
     ensures { IfSome result (λ diverted.
         (passes : Sights) → ArePassesOf shared passes → ArePassesOf diverted passes) }
 {

@@ -1,11 +1,13 @@
 //! Tests of `stats_book`, `job_pool`, `handoff`, `gate_node`, `worker_pool` and `node_commands`, from outside: what is counted, jobs and who serves
-//! them, nodes over gates, also where a partition is diverted, runs of a pool, and connections served over sockets of this machine.
+//! them, nodes over gates, also where a partition is diverted, copied back and returned, runs of a pool, and connections served over sockets of this machine.
 //!
 //! They stand in a crate of their own, since a crate with tests is proved twice.
 #![tactic(auto)]
 
 #[cfg(test)]
 mod book;
+#[cfg(test)]
+mod copy_race;
 #[cfg(test)]
 mod diversions;
 #[cfg(test)]
@@ -16,6 +18,8 @@ mod gates;
 mod jobs;
 #[cfg(test)]
 mod playing;
+#[cfg(test)]
+mod returns;
 #[cfg(test)]
 mod serving;
 #[cfg(test)]
