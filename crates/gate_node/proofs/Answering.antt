@@ -36,8 +36,8 @@ use Rattle.vnode_protocol.specs.Events.{Asks, AnsweredBy, AsksEvent, AnswersEven
 use Rattle.vnode_protocol.specs.Plans.{IsAnswered, IsWrite, Refuses}
 use Rattle.vnode_protocol.specs.Refusals.{number_of}
 use Rattle.vnode_protocol.proofs.Entries.{all_commands-commands_of, commands_before, commands_begin, commands_of-all_commands, commands_of-append}
-use Rattle.gate_ask.specs.declared.asking.Outcome.{Outcome}
-use Rattle.gate_ask.specs.declared.asking.Outcome.TheVariants as Outcomes
+use Rattle.rw_gate.specs.declared.asking.Outcome.{Outcome}
+use Rattle.rw_gate.specs.declared.asking.Outcome.TheVariants as Outcomes
 use Rattle.node_session.specs.PlainStep.{answer_reply, reply_of}
 use Rattle.stats_book.specs.declared.quantity.Quantity.{Quantity}
 use Rattle.gate_node.specs.Asked.{Sight, state_of, Gets, ComesOf, IsMadeBy, IsSaidOf, Shows, outcome_reply}

@@ -35,9 +35,9 @@ use Rattle.vnode_protocol.specs.Plans.{IsAnswered, IsWrite}
 use Rattle.node_session.specs.Answers.{AnswersRead, Run, message_fault_text}
 use Rattle.node_session.specs.PlainNodes.{partition_of}
 use Rattle.node_session.specs.PlainStep.{answer_reply}
-use Rattle.gate_ask.specs.declared.asking.Outcome.{Outcome}
-use Rattle.gate_ask.specs.declared.asking.Outcome.TheVariants.{Made, Told, Moved, Full}
-use Rattle.gate_ask.specs.declared.asking.Outcome.TheVariants as Outcomes
+use Rattle.rw_gate.specs.declared.asking.Outcome.{Outcome}
+use Rattle.rw_gate.specs.declared.asking.Outcome.TheVariants.{Made, Told, Moved, Full}
+use Rattle.rw_gate.specs.declared.asking.Outcome.TheVariants as Outcomes
 use Rattle.gate_node.specs.Asked.{Sight, Changes, ChangesOpen, GetsOpen, ComesOf, IsMadeBy, answer_quantity, get_quantity, outcome_quantity, outcome_reply, told_quantity}
 use Rattle.gate_node.specs.Asked.{Gets as AnswersGet}
 use Rattle.gate_node.specs.Gates.{Gates}

@@ -22,9 +22,9 @@ use Rattle.vnode_protocol.specs.declared.entry.Entry.TheVariants.{Command as Com
 use Rattle.vnode_protocol.specs.declared.refusal.Refusal.{Refusal}
 use Rattle.vnode_protocol.specs.Events.{AnsweredBy, AreCommands, Asks, IsMadeNew, Makes, event_deed, event_response, history_after}
 use Rattle.vnode_protocol.specs.Plans.{View, AnswersOpen, IsAnswered, Refuses}
-use Rattle.gate_ask.specs.declared.asking.Outcome.{Outcome}
-use Rattle.gate_ask.specs.declared.asking.Outcome.TheVariants as Outcomes
-use Rattle.gate_ask.specs.Asking.{SeesUnder}
+use Rattle.rw_gate.specs.declared.asking.Outcome.{Outcome}
+use Rattle.rw_gate.specs.declared.asking.Outcome.TheVariants as Outcomes
+use Rattle.rw_gate.specs.Asking.{SeesUnder}
 use Rattle.stats_book.specs.declared.quantity.Quantity.{Quantity}
 use Rattle.gate_node.specs.Asked.{Sight, state_of, ComesOf, Gets, GetsOpen, HasSeenClose, IsOfOpenVnode}
 use Rattle.gate_node.proofs.Legal.{position-is-legal}

@@ -25,9 +25,9 @@ use Rattle.vnode_protocol.specs.Refusals.{number_of}
 use Rattle.vnode_protocol.specs.Events.{Makes, Asks, AnsweredBy}
 use Rattle.sibling_register.specs.Refusals.{refusal_text}
 use Rattle.node_session.specs.PlainStep.{answer_reply, StepsBy}
-use Rattle.gate_ask.specs.declared.asking.Outcome.{Outcome}
-use Rattle.gate_ask.specs.declared.asking.Outcome.TheVariants.{Made, Told, Refused, Moved, Full}
-use Rattle.gate_ask.specs.Asking.{Comes, IsMade, IsSaid, IsOvertaken}
+use Rattle.rw_gate.specs.declared.asking.Outcome.{Outcome}
+use Rattle.rw_gate.specs.declared.asking.Outcome.TheVariants.{Made, Told, Refused, Moved, Full}
+use Rattle.rw_gate.specs.Asking.{Comes, IsMade, IsSaid, IsOvertaken}
 
 -- what a caller has seen of a vnode's history, and at which positions of it the caller published
 abbrev pub Sight : Type 0

@@ -10,7 +10,7 @@ use crate::passes::{FallbackPass, renew};
 use crate::replies::{get_quantity, outcome_quantity, outcome_reply};
 use crate::shared::Shared;
 use crate::turnstile::Turnstile;
-use gate_ask::{Outcome, ask_shown};
+use rw_gate::{Outcome, ask_shown};
 use handoff::Fallback;
 use riak_msgs::{GetAsk, Reply, Text};
 use rw_gate::{Gate, Pass, WriteRight};

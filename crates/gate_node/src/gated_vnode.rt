@@ -6,7 +6,7 @@ ghost use Rattle.gate_node.specs.Asked.{Shows, IsShown, Gets, Changes, ReapsUpTo
 use crate::replies::{get_quantity, outcome_quantity, outcome_reply};
 use crate::shared::Shared;
 use crate::turnstile::Turnstile;
-use gate_ask::{Outcome, ask, ask_under};
+use rw_gate::{Outcome, ask, ask_under};
 use riak_msgs::{GetAsk, Reply, Text};
 use rw_gate::{Gate, Pass};
 use stats_book::Quantity;

@@ -43,7 +43,7 @@
 //! the end of a diversion a caller takes a right at the closed fallback once, and one at the primary to see that the copies are there,
 //! where it hadn't seen as many events; later requests compare two numbers and are answered as where nothing was diverted.
 //!
-//! How it is built: a function that takes a right gives it back itself, as `gate_ask::ask` does for any state behind a gate,
+//! How it is built: a function that takes a right gives it back itself, as `rw_gate::ask` does for any state behind a gate,
 //! and what is done under a right to write is one function (`ask_under`). The reply and its quantity are made from what came of it
 //! (`specs/Asked`), so a change that was published is never answered or counted as refused.
 #![tactic(auto)]

@@ -2,7 +2,7 @@
 ghost use Rattle.std.specs.Prelude.{◌≡◌};
 ghost use Rattle.gate_node.specs.Asked.{answer_quantity, get_quantity, outcome_quantity, outcome_reply, told_quantity};
 
-use gate_ask::Outcome;
+use rw_gate::Outcome;
 use node_session::answer_reply;
 use riak_msgs::{Reply, Text};
 use stats_book::Quantity;

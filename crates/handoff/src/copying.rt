@@ -11,7 +11,7 @@ use crate::fault::Stop;
 use crate::gates::Fallback;
 use crate::left::{count_left, first_left};
 use clock_store::KeyRef;
-use gate_ask::{Outcome, ask_shown};
+use rw_gate::{Outcome, ask_shown};
 use ghost_state::{GhostList, Listing};
 use riak_msgs::Key;
 use rw_gate::{Gate, Pass, ReadRight, WriteRight};

@@ -10,7 +10,7 @@ ghost use Rattle.handoff.specs.Steps.{IsStopOf};
 use crate::copying::Diverted;
 use crate::fault::{HandoffFault, Returned, Stop};
 use crate::left::first_left;
-use gate_ask::{Outcome, ask_shown};
+use rw_gate::{Outcome, ask_shown};
 use rw_gate::{Gate, Pass, ReadRight, WriteRight};
 use std::alloc::Global;
 use std::sync::Wait;

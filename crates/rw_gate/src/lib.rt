@@ -14,8 +14,13 @@
 //! right.release();                    // the counter 5 is in place, and may be read
 //! ```
 //!
+//! [`ask`] is that way in one call, and [`ask_under`] the part of it under a right that the caller has. What came of an ask ([`Outcome`],
+//! `specs/Asking`): one that was accepted is the event at one position of the history, behind all that the caller had seen, published once
+//! and the caller's own; one that changes nothing, or that was refused, is so by the machine's state at the end of what the caller has
+//! then seen. `Moved` and `Full` change nothing: the history had gone on past the state under the right, or it can have no further event.
+//!
 //! What it costs: an attempt is a load and an exchange, a look a load, a publish an exchange, a release an atomic step or two. A writer
-//! moves the state out of its place and back. No call but `prepare` takes memory, and none but `Gate::read` and `Gate::write` waits:
+//! moves the state out of its place and back. No call but `prepare` takes memory, and none but `Gate::read`, `Gate::write` and `ask` waits:
 //! these attempt again and again, and where many wait for long, one of each goes on attempting and the others sleep.
 //!
 //! How it is built: the state lies in place in a slot with a counting word (`counted_slot`); the steps of that word are functions, in
@@ -25,6 +30,7 @@
 //! the state may follow.
 #![tactic(auto)]
 
+mod asking;
 pub mod counter;
 mod gate;
 mod kept;
@@ -35,6 +41,7 @@ mod slot_value;
 mod words;
 mod write;
 
+pub use asking::{Outcome, ask, ask_shown, ask_under};
 pub use counted_slot::MOST_READERS;
 pub use gate::Gate;
 pub use kept::{Kept, Plan};

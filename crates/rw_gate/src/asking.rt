@@ -2,9 +2,12 @@
 ghost use Rattle.std.specs.Prelude.{◌≡◌};
 ghost use mathlib.Core.List.{IsPrefix};
 ghost use Rattle.rw_gate.specs.Histories.{IsReplayed};
-ghost use Rattle.gate_ask.specs.Asking.{Comes, Follows, SeesUnder};
+ghost use Rattle.rw_gate.specs.Asking.{Comes, Follows, SeesUnder};
 
-use rw_gate::{Gate, Kept, Pass, Plan, PublishFault, WriteRight};
+use crate::gate::Gate;
+use crate::kept::{Kept, Plan};
+use crate::pass::Pass;
+use crate::write::{PublishFault, WriteRight};
 use std::alloc::Global;
 use std::sync::Wait;
 

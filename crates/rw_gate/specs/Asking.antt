@@ -3,8 +3,8 @@ use Rattle.std.specs.Prelude.{◌≡◌, ◌<◌, ◌-◌, ◌^◌, List, [], �
 use mathlib.Core.List.{IsPrefix}
 use Rattle.rw_gate.specs.Views.{PassView}
 use Rattle.rw_gate.specs.Histories.{RunFrom, IsLonger}
-use Rattle.gate_ask.specs.declared.asking.Outcome.{Outcome}
-use Rattle.gate_ask.specs.declared.asking.Outcome.TheVariants.{Made, Told, Refused, Moved, Full}
+use Rattle.rw_gate.specs.declared.asking.Outcome.{Outcome}
+use Rattle.rw_gate.specs.declared.asking.Outcome.TheVariants.{Made, Told, Refused, Moved, Full}
 
 -- the history had gone on past the state: it has events, and none of them is by this ask
 pub record IsOvertaken {S E : Type 0} (old new : PassView S E) : Type 0 where
