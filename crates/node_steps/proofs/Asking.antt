@@ -11,7 +11,7 @@ use Rattle.node_steps.specs.declared.outcome.Outcome.TheVariants as outcomes
 use Rattle.node_steps.specs.declared.phase.Phase.{Phase as RunPhase}
 use Rattle.node_steps.specs.declared.phase.Phase.TheVariants as phases
 use Rattle.node_steps.specs.declared.site.Site.{Site}
-use Rattle.node_steps.specs.World.{Phase, Idle, Asked, Reading, Holding, Done, Vnode, Worker, World, prefix_of}
+use Rattle.node_steps.specs.World.{Phase, Idle, Asked, Reading, Holding, Done, Vnode, Worker, World, seen_at}
 use Rattle.node_steps.specs.Steps.{Asks, AsksPing, happens, turn_of}
 use Rattle.node_steps.specs.Running.{ask_of, vnode_of, worker_of, world_of}
 use Rattle.node_steps.specs.Asked.{CallsFor, asking_step, asks_by, request_ask}
@@ -51,13 +51,14 @@ module _ (sites : List Site) (workers : List RunPhase) where
         subst (λ n. TakesStep (world_of sites workers) (asking_step n index (ask_of call)) outcomes.Done (world_of sites (slice_set workers place next))) (sym number)
         (subst (λ xs. TakesStep (world_of sites workers) (asking_step (suc place) index (ask_of call)) outcomes.Done (world_of xs (slice_set workers place next)))
         (set-same sites index site there)
-        (step_taken sites workers place index phases.Idle next site site (Asks index (ask_of call)) outcomes.Done here refl there (vnode_itself site, refl, refl)))
+        (step_taken sites workers place index phases.Idle next site site (Asks index (ask_of call)) (Asks index (ask_of call)) outcomes.Done refl here refl there
+        (vnode_itself site, refl, refl)))
 
 -- nobody is asked a ping
 ping_turn : (worker : Worker) (phase : Phase) → worker.phase ≡ phase → NoTurn AsksPing worker
-ping_turn worker phase e = λ index vnode. ap (λ p. turn_of (prefix_of worker index) vnode AsksPing p) e ∙ none phase index vnode
+ping_turn worker phase e = λ index vnode. ap (λ p. turn_of (seen_at worker.seen index) vnode AsksPing p) e ∙ none phase index vnode
   where
-    none : (phase : Phase) (index : ℕ) (vnode : Vnode) → turn_of (prefix_of worker index) vnode AsksPing phase ≡ None
+    none : (phase : Phase) (index : ℕ) (vnode : Vnode) → turn_of (seen_at worker.seen index) vnode AsksPing phase ≡ None
     none Idle index vnode = refl
     none (Asked other ask) index vnode = refl
     none (Reading other get) index vnode = refl

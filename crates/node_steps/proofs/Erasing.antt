@@ -1,4 +1,4 @@
--- Steps do not look at ids, histories and what workers have seen of them.
+-- Steps do not look at ids, epochs that vnodes were opened behind, histories and what workers have seen of them.
 use Rattle.std.proofs.Common.{◌≡◌, ℕ, zero, suc, ◌≤◌, true, false, List, [], ◌∷◌, map, refl, sym, ◌∙◌, ap, arith}
 use Rattle.std.specs.Prelude.{pred, Option, Some, None, option_map, option_and_then, slice_get, slice_set}
 use Rattle.std.specs.Option.{option_map_or}
@@ -9,8 +9,8 @@ use Rattle.actor_epoch.specs.Given.{Context}
 use Rattle.vnode_machine.specs.Machine.{State}
 use Rattle.vnode_machine.specs.Replay.{History}
 use Rattle.vnode_machine.specs.Step.{StepOutcome, Refused, Answered, Accepted, outcome as outcome_of_ask}
-use Rattle.node_steps.specs.World.{Word, Open, Taken, Phase, Idle, Asked, Reading, Holding, Done, Vnode, Worker, World, worker_at, prefix_of}
-use Rattle.node_steps.specs.Steps.{Action, Asks, AsksPing, Enters, Leaves, Marks, Unmarks, Takes, Puts, Looks, Publishes, Step, Outcome, NotPossible, Turn, looks_by, turn_of, site_of, turned, happens, after, outcome}
+use Rattle.node_steps.specs.World.{Word, Open, Taken, Phase, Idle, Asked, Reading, Holding, Done, Vnode, Worker, World, worker_at, seen_at}
+use Rattle.node_steps.specs.Steps.{Action, Asks, AsksPing, Enters, Leaves, Marks, Unmarks, Takes, Puts, Looks, Publishes, Step, Outcome, NotPossible, Turn, looks_by, turn_of, site_of, action_in, seeing, turned, happens, after, outcome}
 use Rattle.node_steps.proofs.Lists.{one, how_many}
 use Rattle.node_steps.proofs.Inside.{is_reader, reads, holds, FitsWord, IsAbout, same_test}
 use Rattle.node_steps.proofs.Turns.{about_is}
@@ -25,11 +25,11 @@ place_twice (Open n mark) place = refl
 place_twice Taken place = refl
 
 vnode_twice : (vnode : Vnode) → erase_vnode (erase_vnode vnode) ≡ erase_vnode vnode
-vnode_twice vnode = ap (λ p. record { id = 0; word = vnode.word; history = []; place = p }) (place_twice vnode.word vnode.place)
+vnode_twice vnode = ap (λ p. record { id = 0; last_epoch = 0; word = vnode.word; history = []; place = p }) (place_twice vnode.word vnode.place)
 
-module _ (id : ℕ) (seen history : History) (place : State Content) where
+module _ (id epoch : ℕ) (seen history : History) (place : State Content) where
   abbrev vnode_in : Word → Vnode
-  vnode_in word = record { id = id; word = word; history = history; place = place }
+  vnode_in word = record { id = id; last_epoch = epoch; word = word; history = history; place = place }
 
   abbrev Same : Word → Action → Phase → Type 0
   Same word action phase =
@@ -181,7 +181,7 @@ turned_erased w place index turn = (
 pub turned_is : (w : World) (place index : ℕ) (worker : Worker) (turn : Turn) → erase_result (turned w place index worker turn, turn.outcome) ≡ turned_erased w place index (erase_turn turn)
 turned_is w place index worker turn =
     let vnodes = map-set erase_vnode w.vnodes index turn.vnode in
-    let workers = map-set erase_worker w.workers place (record { phase = turn.phase; seen = slice_set worker.seen index turn.seen }) in
+    let workers = map-set erase_worker w.workers place (record { phase = turn.phase; seen = seeing worker.seen index turn.seen }) in
     λ i. (record { vnodes = vnodes i; workers = workers i }, turn.outcome)
 
 erased_turned_is : (w : World) (place index : ℕ) (worker : Worker) (turn : Turn)
@@ -222,7 +222,7 @@ pub shown_at : (w : World) (orderly : IsOrderly w) (action : Action) (number ind
 shown_at w orderly action number index worker vnode here at there =
     let sound = orderly.vnodes index vnode there in
     is_placed vnode.word (how_many (reads index) w.workers) (how_many (holds index) w.workers) index worker.phase sound.word
-    (about_is vnode.id index 0 0 action worker.phase at)
+    (about_is vnode.id vnode.last_epoch index 0 0 action worker.phase at)
     (counted (reads index) w.workers (pred number) worker (at_place w number worker here))
 
 module _ (w : World) (orderly : IsOrderly w) (step : Step) where
@@ -232,29 +232,33 @@ module _ (w : World) (orderly : IsOrderly w) (step : Step) where
   abbrev result : World → Worker → ℕ → Turn → Result
   result world worker index turn = (turned world (pred step.worker) index worker turn, turn.outcome)
 
+  -- what its worker does, in either world
+  abbrev action : Action
+  action = action_in w step
+
   -- a turn of a worker at a vnode
-  at_vnode : (worker : Worker) (index : ℕ) (vnode : Vnode) → worker_at w step.worker ≡ Some worker → site_of step.action worker.phase ≡ Some index → slice_get w.vnodes index ≡ Some vnode
-      → Both (option_map (result w worker index) (turn_of (prefix_of worker index) vnode step.action worker.phase))
-      (option_map (result (erase w) (erase_worker worker) index) (turn_of [] (erase_vnode vnode) step.action worker.phase))
+  at_vnode : (worker : Worker) (index : ℕ) (vnode : Vnode) → worker_at w step.worker ≡ Some worker → site_of action worker.phase ≡ Some index → slice_get w.vnodes index ≡ Some vnode
+      → Both (option_map (result w worker index) (turn_of (seen_at worker.seen index) vnode action worker.phase))
+      (option_map (result (erase w) (erase_worker worker) index) (turn_of [] (erase_vnode vnode) action worker.phase))
   at_vnode worker index vnode here at there =
       by_turn (result w worker index) (turned_erased w (pred step.worker) index) (turned_is w (pred step.worker) index worker)
-      (turn_of (prefix_of worker index) vnode step.action worker.phase)
+      (turn_of (seen_at worker.seen index) vnode action worker.phase)
       ∙ ap (λ o. option_map (turned_erased w (pred step.worker) index) o)
-      (turn_erased vnode.id (prefix_of worker index) vnode.history vnode.place vnode.word step.action worker.phase (shown_at w orderly step.action step.worker index worker vnode here at there))
+      (turn_erased vnode.id vnode.last_epoch (seen_at worker.seen index) vnode.history vnode.place vnode.word action worker.phase (shown_at w orderly action step.worker index worker vnode here at there))
       ∙ sym (by_turn (result (erase w) (erase_worker worker) index) (turned_erased w (pred step.worker) index)
-      (erased_turned_is w (pred step.worker) index (erase_worker worker)) (turn_of [] (erase_vnode vnode) step.action worker.phase))
+      (erased_turned_is w (pred step.worker) index (erase_worker worker)) (turn_of [] (erase_vnode vnode) action worker.phase))
 
   abbrev at_index : World → Worker → ℕ → Option Vnode → Option Result
   at_index world worker index o =
       option_and_then (λ vnode. option_map (λ turn. (turned world (pred step.worker) index worker turn, turn.outcome))
-      (turn_of (prefix_of worker index) vnode step.action worker.phase)) o
+      (turn_of (seen_at worker.seen index) vnode action worker.phase)) o
 
-  by_vnode : (worker : Worker) (index : ℕ) → worker_at w step.worker ≡ Some worker → site_of step.action worker.phase ≡ Some index → (o : Option Vnode) → slice_get w.vnodes index ≡ o
+  by_vnode : (worker : Worker) (index : ℕ) → worker_at w step.worker ≡ Some worker → site_of action worker.phase ≡ Some index → (o : Option Vnode) → slice_get w.vnodes index ≡ o
       → Both (at_index w worker index o) (at_index (erase w) (erase_worker worker) index (option_map erase_vnode o))
   by_vnode worker index here at None there = refl
   by_vnode worker index here at (Some vnode) there = at_vnode worker index vnode here at there
 
-  by_index : (worker : Worker) → worker_at w step.worker ≡ Some worker → (o : Option ℕ) → site_of step.action worker.phase ≡ o
+  by_index : (worker : Worker) → worker_at w step.worker ≡ Some worker → (o : Option ℕ) → site_of action worker.phase ≡ o
       → Both (option_and_then (λ index. at_index w worker index (slice_get w.vnodes index)) o)
       (option_and_then (λ index. at_index (erase w) (erase_worker worker) index (slice_get (erase w).vnodes index)) o)
   by_index worker here None at = refl
@@ -263,15 +267,15 @@ module _ (w : World) (orderly : IsOrderly w) (step : Step) where
       ∙ ap (λ o. option_map erase_result (at_index (erase w) (erase_worker worker) index o)) (sym (slice_get-map erase_vnode w.vnodes index))
 
   by_worker : (o : Option Worker) → worker_at w step.worker ≡ o
-      → Both (option_and_then (λ worker. option_and_then (λ index. at_index w worker index (slice_get w.vnodes index)) (site_of step.action worker.phase)) o)
-      (option_and_then (λ worker. option_and_then (λ index. at_index (erase w) worker index (slice_get (erase w).vnodes index)) (site_of step.action worker.phase)) (option_map erase_worker o))
+      → Both (option_and_then (λ worker. option_and_then (λ index. at_index w worker index (slice_get w.vnodes index)) (site_of action worker.phase)) o)
+      (option_and_then (λ worker. option_and_then (λ index. at_index (erase w) worker index (slice_get (erase w).vnodes index)) (site_of action worker.phase)) (option_map erase_worker o))
   by_worker None here = refl
-  by_worker (Some worker) here = by_index worker here (site_of step.action worker.phase) refl
+  by_worker (Some worker) here = by_index worker here (site_of action worker.phase) refl
 
   happens_erased : Both (happens w step) (happens (erase w) step)
   happens_erased =
       by_worker (worker_at w step.worker) refl
-      ∙ ap (λ o. option_map erase_result (option_and_then (λ worker. option_and_then (λ index. at_index (erase w) worker index (slice_get (erase w).vnodes index)) (site_of step.action worker.phase)) o))
+      ∙ ap (λ o. option_map erase_result (option_and_then (λ worker. option_and_then (λ index. at_index (erase w) worker index (slice_get (erase w).vnodes index)) (site_of action worker.phase)) o))
       (sym (worker_erased w step.worker))
 
   -- the same comes of a step in the erased world, and it leaves the same

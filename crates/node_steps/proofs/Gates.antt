@@ -1,6 +1,6 @@
 -- Each event of a vnode behind a gate is five steps of one worker: it is asked, takes, looks, publishes, and puts back.
 use Rattle.std.proofs.Common.{◌≡◌, ℕ, zero, suc, ◌+◌, ◌<◌, ◌≤◌, List, [], ◌∷◌, refl, sym, ◌∙◌, ap, arith}
-use Rattle.std.specs.Prelude.{false, Some, None, option_map, option_and_then, slice_get, slice_set, replicate}
+use Rattle.std.specs.Prelude.{false, Some, None, option_map, option_and_then, slice_get, replicate}
 use Rattle.std.specs.Option.{option_map_or}
 use Rattle.riak_msgs.specs.Contents.{Content}
 use Rattle.sibling_register.specs.Answers.{Ask}
@@ -11,12 +11,12 @@ use Rattle.rw_gate.specs.Machines.{MachineRun}
 use Rattle.vnode_protocol.specs.declared.event.Event.{Event}
 use Rattle.vnode_protocol.specs.declared.entry.Entry.TheVariants.{Command as Commanded}
 use Rattle.vnode_protocol.specs.Events.{all_commands, Makes, event_command, event_deed, event_response, register_event, history_after}
-use Rattle.node_steps.specs.World.{Word, Open, Taken, Plan, Phase, Idle, Asked, Holding, Done, Vnode, Worker, World, fresh_vnode, fresh_worker, id_of, opening_vnodes, prefix_of, history_at}
-use Rattle.node_steps.specs.Steps.{Action, Asks, Takes, Looks, Publishes, Puts, Step, Outcome, Turn, looks_by, turn_of, site_of, turned, happens, after}
+use Rattle.node_steps.specs.World.{Word, Open, Taken, Plan, Phase, Idle, Asked, Holding, Done, Vnode, Worker, World, fresh_vnode, fresh_worker, id_of, opening_vnodes, route, history_at, seen_at}
+use Rattle.node_steps.specs.Steps.{Action, Asks, Takes, Looks, Publishes, Puts, Step, Outcome, Turn, looks_by, turn_of, routed, site_of, seeing, turned, happens, after}
 use Rattle.node_steps.specs.Schedules.{Start, world_after}
 use Rattle.node_steps.specs.Gates.{RunsAreScheduled}
 use Rattle.node_steps.proofs.Lists.{set-here}
-use Rattle.node_steps.proofs.Stepping.{result_at}
+use Rattle.node_steps.proofs.Stepping.{result_at, Steps}
 
 -- the first worker and the vnode at an index
 abbrev IsThere : World → ℕ → Phase → Vnode → Type 0
@@ -26,23 +26,23 @@ abbrev step_of_first : Action → Step
 step_of_first action = record { worker = 1; action = action }
 
 -- a turn of the first worker
-moved : (w : World) (action : Action) (index : ℕ) (phase : Phase) (vnode : Vnode) (next : Phase) (new : Vnode) → site_of action phase ≡ Some index
+moved : (w : World) (asked action : Action) (index : ℕ) (phase : Phase) (vnode : Vnode) (next : Phase) (new : Vnode) → routed (route w) asked ≡ action → site_of action phase ≡ Some index
     → ((seen : History) → (turn : Turn) × (turn_of seen vnode action phase ≡ Some turn) × (turn.phase ≡ next) × (turn.vnode ≡ new))
-    → IsThere w index phase vnode → IsThere (after w (step_of_first action)) index next new
-moved w action index phase vnode next new site turns (worker, here, is, there) =
-    let t = turns (prefix_of worker index) in
+    → IsThere w index phase vnode → IsThere (after w (step_of_first asked)) index next new
+moved w asked action index phase vnode next new sent site turns (worker, here, is, there) =
+    let t = turns (seen_at worker.seen index) in
     let turn : Turn = t.0 in
     let about : site_of action worker.phase ≡ Some index = ap (site_of action) is ∙ site in
-    let made : turn_of (prefix_of worker index) vnode action worker.phase ≡ Some turn = ap (turn_of (prefix_of worker index) vnode action) is ∙ t.1 in
-    let next_worker : Worker = record { phase = turn.phase; seen = slice_set worker.seen index turn.seen } in
-    let it : happens w (step_of_first action) ≡ Some (result_at w 0 index worker turn) =
-    ap (λ o. option_and_then (λ x. option_and_then (λ i. option_and_then (λ v. option_map (result_at w 0 i x)
-    (turn_of (prefix_of x i) v action x.phase)) (slice_get w.vnodes i)) (site_of action x.phase)) o) here
+    let made : turn_of (seen_at worker.seen index) vnode action worker.phase ≡ Some turn = ap (turn_of (seen_at worker.seen index) vnode action) is ∙ t.1 in
+    let next_worker : Worker = record { phase = turn.phase; seen = seeing worker.seen index turn.seen } in
+    let it : happens w (step_of_first asked) ≡ Some (result_at w 0 index worker turn) =
+    ap (λ a. option_and_then (Steps w a 0) (slice_get w.workers 0)) sent
+    ∙ ap (λ o. option_and_then (Steps w action 0) o) here
     ∙ ap (λ o. option_and_then (λ i. option_and_then (λ v. option_map (result_at w 0 i worker)
-    (turn_of (prefix_of worker i) v action worker.phase)) (slice_get w.vnodes i)) o) about
-    ∙ ap (λ o. option_and_then (λ v. option_map (result_at w 0 index worker) (turn_of (prefix_of worker index) v action worker.phase)) o) there
+    (turn_of (seen_at worker.seen i) v action worker.phase)) (slice_get w.vnodes i)) o) about
+    ∙ ap (λ o. option_and_then (λ v. option_map (result_at w 0 index worker) (turn_of (seen_at worker.seen index) v action worker.phase)) o) there
     ∙ ap (λ o. option_map (result_at w 0 index worker) o) made in
-    let world : after w (step_of_first action) ≡ turned w 0 index worker turn = ap (λ o. option_map_or (λ (r : World × Outcome). r.0) o w) it in (
+    let world : after w (step_of_first asked) ≡ turned w 0 index worker turn = ap (λ o. option_map_or (λ (r : World × Outcome). r.0) o w) it in (
       next_worker,
       ap (λ (x : World). slice_get x.workers 0) world ∙ set-here w.workers 0 worker next_worker here,
       t.2,
@@ -51,7 +51,7 @@ moved w action index phase vnode next new site turns (worker, here, is, there) =
 
 module _ (start : Start) (index id : ℕ) where
   abbrev vnode_with : Word → History → State Content → Vnode
-  vnode_with word history place = record { id = id; word = word; history = history; place = place }
+  vnode_with word history place = record { id = id; last_epoch = 0; word = word; history = history; place = place }
 
   -- after a schedule the first worker is idle, and the vnode is this
   abbrev IsReachable : History → State Content → Type 0
@@ -68,19 +68,19 @@ module _ (start : Start) (index id : ℕ) where
       let plan : Plan = plan_of_event event next in
       let longer : History = register_event id 0 history event ∷ history in
       let w = world_after start schedule in
-      let asked = moved w (Asks index ask) index Idle (vnode_with (Open 0 false) history state) (Asked index ask) (vnode_with (Open 0 false) history state) refl
+      let asked = moved w (Asks index ask) (Asks index ask) index Idle (vnode_with (Open 0 false) history state) (Asked index ask) (vnode_with (Open 0 false) history state) refl refl
       (λ seen. (_, refl, refl, refl)) there in
       let w1 = after w (step_of_first (Asks index ask)) in
-      let took = moved w1 Takes index (Asked index ask) (vnode_with (Open 0 false) history state) (Holding index ask state None) (vnode_with Taken history state) refl
+      let took = moved w1 Takes Takes index (Asked index ask) (vnode_with (Open 0 false) history state) (Holding index ask state None) (vnode_with Taken history state) refl refl
       (λ seen. (_, refl, refl, refl)) asked in
       let w2 = after w1 (step_of_first Takes) in
-      let looked = moved w2 Looks index (Holding index ask state None) (vnode_with Taken history state) (Holding index ask state (Some plan)) (vnode_with Taken history state) refl
+      let looked = moved w2 Looks Looks index (Holding index ask state None) (vnode_with Taken history state) (Holding index ask state (Some plan)) (vnode_with Taken history state) refl refl
       (λ seen. (_, ap (λ o. Some (looks_by seen (vnode_with Taken history state) index ask state o)) makes.1, refl, refl)) took in
       let w3 = after w2 (step_of_first Looks) in
-      let published = moved w3 Publishes index (Holding index ask state (Some plan)) (vnode_with Taken history state) (Done index (Some next)) (vnode_with Taken longer state) refl
+      let published = moved w3 Publishes Publishes index (Holding index ask state (Some plan)) (vnode_with Taken history state) (Done index (Some next)) (vnode_with Taken longer state) refl refl
       (λ seen. (_, refl, refl, refl)) looked in
       let w4 = after w3 (step_of_first Publishes) in
-      let laid = moved w4 Puts index (Done index (Some next)) (vnode_with Taken longer state) Idle (vnode_with (Open 0 false) longer next) refl
+      let laid = moved w4 Puts Puts index (Done index (Some next)) (vnode_with Taken longer state) Idle (vnode_with (Open 0 false) longer next) refl refl
       (λ seen. (_, refl, refl, refl)) published in
       (step_of_first Puts ∷ step_of_first Publishes ∷ step_of_first Looks ∷ step_of_first Takes ∷ step_of_first (Asks index ask) ∷ schedule, laid)
 
@@ -100,11 +100,11 @@ shift a b = omega arith
 plain : (n : ℕ) → n + 0 ≡ n
 plain n = omega arith
 
-vnode_there : (run from count index : ℕ) → index < count → slice_get (opening_vnodes run from count) index ≡ Some (fresh_vnode (id_of run (from + index)))
+vnode_there : (run from count index : ℕ) → index < count → slice_get (opening_vnodes run from count) index ≡ Some (fresh_vnode (id_of run (from + index)) 0)
 vnode_there run from zero index h = absurd (omega (arith, h))
-vnode_there run from (suc count) zero h = ap (λ n. Some (fresh_vnode (id_of run n))) (sym (plain from))
+vnode_there run from (suc count) zero h = ap (λ n. Some (fresh_vnode (id_of run n) 0)) (sym (plain from))
 vnode_there run from (suc count) (suc index) h =
-    vnode_there run (from + 1) count index (omega (arith, h)) ∙ ap (λ n. Some (fresh_vnode (id_of run n))) (shift from index)
+    vnode_there run (from + 1) count index (omega (arith, h)) ∙ ap (λ n. Some (fresh_vnode (id_of run n) 0)) (shift from index)
 
 from_zero : (n : ℕ) → 0 + n ≡ n
 from_zero n = omega arith
@@ -114,9 +114,9 @@ runs_are_scheduled start index events state workers vnodes run =
     all_events start index (id_of start.run index) events [] (opening (id_of start.run index) 0) state run (
       [],
       (
-        fresh_worker start.vnodes,
-        first_there start.workers (fresh_worker start.vnodes) workers,
+        fresh_worker,
+        first_there start.workers fresh_worker workers,
         refl,
-        vnode_there start.run 0 start.vnodes index vnodes ∙ ap (λ n. Some (fresh_vnode (id_of start.run n))) (from_zero index),
+        vnode_there start.run 0 start.vnodes index vnodes ∙ ap (λ n. Some (fresh_vnode (id_of start.run n) 0)) (from_zero index),
       ),
     )

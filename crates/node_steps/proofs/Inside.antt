@@ -1,6 +1,6 @@
--- Who is inside a vnode, and what is always true of words, hands and prefixes.
-use Rattle.std.proofs.Common.{◌≡◌, ◌≢◌, ℕ, Bool, true, false, List, refl, sym, ◌∙◌, arith}
-use Rattle.std.specs.Prelude.{◌==◌, Option, Some, None, slice_get}
+-- Who is inside a vnode, and what is always true of words, hands and fronts.
+use Rattle.std.proofs.Common.{◌≡◌, ◌≢◌, ℕ, Bool, true, false, refl, sym, ◌∙◌, arith}
+use Rattle.std.specs.Prelude.{◌==◌, Option, Some, None}
 use Rattle.std.proofs.lemmas.Bool.Decides.{nat_tests}
 use Rattle.riak_msgs.specs.Contents.{Content}
 use Rattle.sibling_register.specs.Answers.{Ask}
@@ -8,8 +8,8 @@ use Rattle.actor_epoch.specs.Given.{Context}
 use Rattle.vnode_machine.specs.Machine.{State}
 use Rattle.vnode_machine.specs.Replay.{History, replay, HasReplay, IsWithinLimits}
 use Rattle.vnode_machine.specs.Step.{Accepted, outcome}
-use Rattle.node_steps.specs.World.{Word, Open, Taken, Plan, Phase, Idle, Asked, Reading, Holding, Done, Vnode, Worker, fresh_vnode}
-use Rattle.node_steps.specs.Schedules.{IsPrefix}
+use Rattle.node_steps.specs.World.{Word, Open, Taken, Plan, Phase, Idle, Asked, Reading, Holding, Done, Vnode, Worker, fresh_vnode, seen_at}
+use Rattle.node_steps.specs.Schedules.{Begins}
 
 -- inside the vnode of this index as a reader
 abbrev pub is_reader : ℕ → Phase → Bool
@@ -41,9 +41,9 @@ FitsWord (Open n mark) readers holders = (readers ≡ n) × (holders ≡ 0)
 FitsWord Taken readers holders = (readers ≡ 0) × (holders ≡ 1)
 
 -- where it is not taken, the state in place is the replay
-abbrev pub IsInPlace : ℕ → Word → History → State Content → Type 0
-IsInPlace id (Open n mark) history place = place ≡ replay id 0 history
-IsInPlace id Taken history place = Unit {0}
+abbrev pub IsInPlace : (id epoch : ℕ) → Word → History → State Content → Type 0
+IsInPlace id epoch (Open n mark) history place = place ≡ replay id epoch history
+IsInPlace id epoch Taken history place = Unit {0}
 
 -- a plan is what came of the call in the state in hand
 abbrev pub IsPlanOf : Ask Content Context → State Content → Option Plan → Type 0
@@ -51,13 +51,13 @@ IsPlanOf ask hand None = Unit {0}
 IsPlanOf ask hand (Some plan) = outcome hand ask ≡ Accepted plan.operation plan.response plan.next
 
 -- the state in hand is the replay, and a plan was made from it
-abbrev pub IsInHand : ℕ → ℕ → History → Phase → Type 0
-IsInHand id index history Idle = Unit {0}
-IsInHand id index history (Asked other ask) = Unit {0}
-IsInHand id index history (Reading other get) = Unit {0}
-IsInHand id index history (Holding other ask hand plan) = other ≡ index → (hand ≡ replay id 0 history) × IsPlanOf ask hand plan
-IsInHand id index history (Done other None) = Unit {0}
-IsInHand id index history (Done other (Some hand)) = other ≡ index → hand ≡ replay id 0 history
+abbrev pub IsInHand : (id epoch index : ℕ) → History → Phase → Type 0
+IsInHand id epoch index history Idle = Unit {0}
+IsInHand id epoch index history (Asked other ask) = Unit {0}
+IsInHand id epoch index history (Reading other get) = Unit {0}
+IsInHand id epoch index history (Holding other ask hand plan) = other ≡ index → (hand ≡ replay id epoch history) × IsPlanOf ask hand plan
+IsInHand id epoch index history (Done other None) = Unit {0}
+IsInHand id epoch index history (Done other (Some hand)) = other ≡ index → hand ≡ replay id epoch history
 
 -- the phase is about this vnode alone
 abbrev pub IsAbout : ℕ → Phase → Type 0
@@ -89,34 +89,30 @@ false_true : (b : Bool) → b ≡ false → b ≡ true → ⊥
 false_true b f t = let e : false ≡ true = sym f ∙ t in cc
 
 -- a phase that holds nothing there has nothing in hand of it
-pub no_hand : (id index : ℕ) (history : History) (phase : Phase) → is_holder index phase ≡ false → IsInHand id index history phase
-no_hand id index history Idle h = tt
-no_hand id index history (Asked other ask) h = tt
-no_hand id index history (Reading other get) h = tt
-no_hand id index history (Holding other ask hand plan) h = λ e. absurd (false_true (other == index) h (same_test other index e))
-no_hand id index history (Done other None) h = tt
-no_hand id index history (Done other (Some hand)) h = λ e. absurd (false_true (other == index) h (same_test other index e))
+pub no_hand : (id epoch index : ℕ) (history : History) (phase : Phase) → is_holder index phase ≡ false → IsInHand id epoch index history phase
+no_hand id epoch index history Idle h = tt
+no_hand id epoch index history (Asked other ask) h = tt
+no_hand id epoch index history (Reading other get) h = tt
+no_hand id epoch index history (Holding other ask hand plan) h = λ e. absurd (false_true (other == index) h (same_test other index e))
+no_hand id epoch index history (Done other None) h = tt
+no_hand id epoch index history (Done other (Some hand)) h = λ e. absurd (false_true (other == index) h (same_test other index e))
 
--- what is true of a vnode of this id, by how many readers and holders there are
-pub record IsSoundAs (id readers holders : ℕ) (vnode : Vnode) : Type 0 where
-  pub limits : IsWithinLimits id 0
-  pub replays : HasReplay id 0 vnode.history
+-- what is true of a vnode of this id, opened behind this epoch, by how many readers and holders there are
+pub record IsSoundAs (id epoch readers holders : ℕ) (vnode : Vnode) : Type 0 where
+  pub limits : IsWithinLimits id epoch
+  pub replays : HasReplay id epoch vnode.history
   pub word : FitsWord vnode.word readers holders
-  pub place : IsInPlace id vnode.word vnode.history vnode.place
+  pub place : IsInPlace id epoch vnode.word vnode.history vnode.place
 
 -- what is always true of a vnode
 abbrev pub IsSound : (readers holders : ℕ) → Vnode → Type 0
-IsSound readers holders vnode = IsSoundAs vnode.id readers holders vnode
+IsSound readers holders vnode = IsSoundAs vnode.id vnode.last_epoch readers holders vnode
 
 -- it is true of a fresh vnode, where nobody is inside
-pub sound-fresh : (id readers holders : ℕ) → IsWithinLimits id 0 → readers ≡ 0 → holders ≡ 0 → IsSound readers holders (fresh_vnode id)
-sound-fresh id readers holders limits r h = record { limits = limits; replays = tt; word = (r, h); place = refl }
-
--- what a worker has seen of a history begins it
-abbrev pub HasSeen : List History → ℕ → History → Type 0
-HasSeen seen index history = (prefix : History) × (slice_get seen index ≡ Some prefix) × IsPrefix prefix history
+pub sound-fresh : (id epoch readers holders : ℕ) → IsWithinLimits id epoch → readers ≡ 0 → holders ≡ 0 → IsSound readers holders (fresh_vnode id epoch)
+sound-fresh id epoch readers holders limits r h = record { limits = limits; replays = tt; word = (r, h); place = refl }
 
 -- what is true of a worker and a vnode
-pub record IsAware (id index : ℕ) (history : History) (worker : Worker) : Type 0 where
-  pub hand : IsInHand id index history worker.phase
-  pub seen : HasSeen worker.seen index history
+pub record IsAware (id epoch index : ℕ) (history : History) (worker : Worker) : Type 0 where
+  pub hand : IsInHand id epoch index history worker.phase
+  pub seen : Begins (seen_at worker.seen index) history

@@ -1,21 +1,21 @@
 -- What is always true of a world, and that each step keeps it.
 use Rattle.std.proofs.Common.{◌≡◌, ◌≢◌, ◌⊎◌, inl, inr, ℕ, zero, suc, ◌+◌, ◌^◌, ◌<◌, ◌≤◌, Bool, true, false, List, [], ◌∷◌, refl, sym, ◌∙◌, ap, arith, subst}
-use Rattle.std.specs.Prelude.{pred, Option, Some, None, option_map, option_and_then, slice_get, slice_set, replicate}
+use Rattle.std.specs.Prelude.{pred, Option, Some, None, option_map, option_and_then, slice_get, replicate}
 use Rattle.std.specs.Option.{option_map_or}
 use Rattle.vnode_machine.specs.Replay.{History, IsWithinLimits}
-use Rattle.node_steps.specs.World.{Word, Open, Taken, Idle, Vnode, Worker, World, fresh_vnode, fresh_worker, id_of, opening_vnodes, opening_world, worker_at, prefix_of}
-use Rattle.node_steps.specs.Steps.{Step, Outcome, Turn, turn_of, site_of, turned, happens, after}
-use Rattle.node_steps.specs.Schedules.{Start, IsStart, world_after, IsPrefix}
+use Rattle.node_steps.specs.World.{Word, Open, Taken, Idle, Vnode, Worker, World, fresh_vnode, fresh_worker, id_of, opening_vnodes, opening_world, worker_at, seen_at}
+use Rattle.node_steps.specs.Steps.{Step, Outcome, Turn, turn_of, site_of, action_in, seeing, turned, happens, after}
+use Rattle.node_steps.specs.Schedules.{Start, IsStart, world_after, Begins}
 use Rattle.node_steps.proofs.Lists.{one, how_many, set-here, set-there, same_or_other, how_many-set, counted_one, counted_two, counted_none, get-replicate}
-use Rattle.node_steps.proofs.Prefixes.{prefix-whole, prefix-trans}
-use Rattle.node_steps.proofs.Inside.{is_reader, is_holder, reads, holds, FitsWord, IsInHand, IsAbout, elsewhere, no_hand, IsSoundAs, IsSound, sound-fresh, HasSeen, IsAware}
+use Rattle.node_steps.proofs.Beginnings.{begins-itself, begins-trans}
+use Rattle.node_steps.proofs.Inside.{is_reader, is_holder, reads, holds, FitsWord, IsInHand, IsAbout, elsewhere, no_hand, IsSoundAs, IsSound, sound-fresh, IsAware}
 use Rattle.node_steps.proofs.Turns.{IsTurn, turn_is, about_is}
 
 -- what is always true of a world: of each vnode, and of each worker and vnode
 pub record IsOrderly (w : World) : Type 0 where
   pub vnodes : (index : ℕ) (vnode : Vnode) → slice_get w.vnodes index ≡ Some vnode → IsSound (how_many (reads index) w.workers) (how_many (holds index) w.workers) vnode
   pub workers : (place : ℕ) (worker : Worker) → slice_get w.workers place ≡ Some worker → (index : ℕ) (vnode : Vnode) → slice_get w.vnodes index ≡ Some vnode
-      → IsAware vnode.id index vnode.history worker
+      → IsAware vnode.id vnode.last_epoch index vnode.history worker
 
 -- a step that is possible: whose, at which vnode, and its turn
 pub record IsPossible (w : World) (step : Step) (r : World × Outcome) : Type 0 where
@@ -24,9 +24,9 @@ pub record IsPossible (w : World) (step : Step) (r : World × Outcome) : Type 0 
   pub vnode : Vnode
   pub turn : Turn
   pub worker_is : worker_at w step.worker ≡ Some worker
-  pub site_is : site_of step.action worker.phase ≡ Some index
+  pub site_is : site_of (action_in w step) worker.phase ≡ Some index
   pub vnode_is : slice_get w.vnodes index ≡ Some vnode
-  pub turn_is : turn_of (prefix_of worker index) vnode step.action worker.phase ≡ Some turn
+  pub turn_is : turn_of (seen_at worker.seen index) vnode (action_in w step) worker.phase ≡ Some turn
   pub gives : (turned w (pred step.worker) index worker turn, turn.outcome) ≡ r
 
 and_then_some : {A B : Type 0} (f : A → Option B) (o : Option A) (y : B) → option_and_then f o ≡ Some y → (x : A) × (o ≡ Some x) × (f x ≡ Some y)
@@ -40,17 +40,31 @@ map_some f (Some x) y h = (x, refl, cc)
 pub possible : (w : World) (step : Step) (r : World × Outcome) → happens w step ≡ Some r → IsPossible w step r
 possible w step r h =
     let a = and_then_some _ (worker_at w step.worker) r h in
-    let b = and_then_some _ (site_of step.action a.0.phase) r a.2 in
+    let b = and_then_some _ (site_of (action_in w step) a.0.phase) r a.2 in
     let c = and_then_some _ (slice_get w.vnodes b.0) r b.2 in
-    let d = map_some _ (turn_of (prefix_of a.0 b.0) c.0 step.action a.0.phase) r c.2 in
+    let d = map_some _ (turn_of (seen_at a.0.seen b.0) c.0 (action_in w step) a.0.phase) r c.2 in
     record { worker = a.0; index = b.0; vnode = c.0; turn = d.0; worker_is = a.1; site_is = b.1; vnode_is = c.1; turn_is = d.1; gives = d.2 }
 
 pub at_place : (w : World) (number : ℕ) (worker : Worker) → worker_at w number ≡ Some worker → slice_get w.workers (pred number) ≡ Some worker
 at_place w zero worker h = cc
 at_place w (suc place) worker h = h
 
-pub seen_is : (seen : List History) (index : ℕ) (history : History) → HasSeen seen index history → (worker : Worker) → worker.seen ≡ seen → IsPrefix (prefix_of worker index) history
-seen_is seen index history h worker e = subst (λ p. IsPrefix p history) (sym (ap (λ s. option_map_or (λ x. x) (slice_get s index) []) e ∙ ap (λ o. option_map_or (λ x. x) o []) h.1)) h.2
+-- what a worker has seen where it looked, and elsewhere
+pub seeing-here : (seen : List History) (site : ℕ) (front : History) → seen_at (seeing seen site front) site ≡ front
+seeing-here [] zero front = refl
+seeing-here [] (suc site) front = seeing-here [] site front
+seeing-here (other ∷ seen) zero front = refl
+seeing-here (other ∷ seen) (suc site) front = seeing-here seen site front
+
+pub seeing-there : (seen : List History) (site other : ℕ) (front : History) → site ≢ other → seen_at (seeing seen site front) other ≡ seen_at seen other
+seeing-there [] zero zero front n = absurd (n refl)
+seeing-there [] zero (suc other) front n = refl
+seeing-there [] (suc site) zero front n = refl
+seeing-there [] (suc site) (suc other) front n = seeing-there [] site other front (λ e. n (ap suc e))
+seeing-there (x ∷ seen) zero zero front n = absurd (n refl)
+seeing-there (x ∷ seen) zero (suc other) front n = refl
+seeing-there (x ∷ seen) (suc site) zero front n = refl
+seeing-there (x ∷ seen) (suc site) (suc other) front n = seeing-there seen site other front (λ e. n (ap suc e))
 
 module _ (w : World) (orderly : IsOrderly w) (step : Step) (place index : ℕ) (worker : Worker) (vnode : Vnode) (turn : Turn) where
   abbrev readers : ℕ → ℕ
@@ -60,13 +74,13 @@ module _ (w : World) (orderly : IsOrderly w) (step : Step) (place index : ℕ) (
   holders other = how_many (holds other) w.workers
 
   abbrev next : Worker
-  next = record { phase = turn.phase; seen = slice_set worker.seen index turn.seen }
+  next = record { phase = turn.phase; seen = seeing worker.seen index turn.seen }
 
   abbrev world : World
   world = turned w place index worker turn
 
   module _ (here : slice_get w.workers place ≡ Some worker) (there : slice_get w.vnodes index ≡ Some vnode) (was : IsAbout index worker.phase)
-      (is : IsTurn vnode.id index (readers index) (holders index) step.action worker.phase vnode.history turn) where
+      (is : IsTurn vnode.id vnode.last_epoch index (readers index) (holders index) (action_in w step) worker.phase vnode.history turn) where
     none_here : (a b c d : ℕ) → a + b ≡ c + d → b ≡ 0 → d ≡ 0 → a ≡ c
     none_here a b c d h e f = omega (arith, h, e, f)
 
@@ -80,8 +94,12 @@ module _ (w : World) (orderly : IsOrderly w) (step : Step) (place index : ℕ) (
         none_here (how_many (holds other) world.workers) (one (holds other worker)) (holders other) (one (holds other next))
         (how_many-set (holds other) w.workers place worker next here) (ap one (elsewhere index other worker.phase was n).1) (ap one (elsewhere index other turn.phase is.at n).1)
 
+    -- what holds by the id and the epoch holds by the turn's
+    as_vnode : (Holds : (id epoch : ℕ) → Type 0) → Holds vnode.id vnode.last_epoch → Holds turn.vnode.id turn.vnode.last_epoch
+    as_vnode Holds h = subst (λ e. Holds turn.vnode.id e) (sym is.same_epoch) (subst (λ i. Holds i vnode.last_epoch) (sym is.same_id) h)
+
     sound_here : IsSound (how_many (reads index) world.workers) (how_many (holds index) world.workers) turn.vnode
-    sound_here = subst (λ i. IsSoundAs i (how_many (reads index) world.workers) (how_many (holds index) world.workers) turn.vnode) (sym is.same_id) (record {
+    sound_here = as_vnode (λ i e. IsSoundAs i e (how_many (reads index) world.workers) (how_many (holds index) world.workers) turn.vnode) (record {
       limits = (orderly.vnodes index vnode there).limits;
       replays = is.replays;
       word = is.word (how_many (reads index) world.workers) (how_many (holds index) world.workers)
@@ -112,17 +130,14 @@ module _ (w : World) (orderly : IsOrderly w) (step : Step) (place index : ℕ) (
         unwrapped a b h = cc
 
     -- the worker itself, at the vnode and elsewhere
-    next_here : IsAware vnode.id index turn.vnode.history next
-    next_here =
-        let had = (orderly.workers place worker here index vnode there).seen in
-        record { hand = is.hand; seen = (turn.seen, set-here worker.seen index had.0 turn.seen had.1, is.seen) }
+    next_here : IsAware vnode.id vnode.last_epoch index turn.vnode.history next
+    next_here = record { hand = is.hand; seen = subst (λ f. Begins f turn.vnode.history) (sym (seeing-here worker.seen index turn.seen)) is.seen }
 
-    next_there : (other : ℕ) (v : Vnode) → index ≢ other → slice_get w.vnodes other ≡ Some v → IsAware v.id other v.history next
+    next_there : (other : ℕ) (v : Vnode) → index ≢ other → slice_get w.vnodes other ≡ Some v → IsAware v.id v.last_epoch other v.history next
     next_there other v n h =
-        let had = (orderly.workers place worker here other v h).seen in
         record {
-          hand = no_hand v.id other v.history turn.phase (elsewhere index other turn.phase is.at n).1;
-          seen = (had.0, set-there worker.seen index other turn.seen n ∙ had.1, had.2);
+          hand = no_hand v.id v.last_epoch other v.history turn.phase (elsewhere index other turn.phase is.at n).1;
+          seen = subst (λ f. Begins f v.history) (sym (seeing-there worker.seen index other turn.seen n)) (orderly.workers place worker here other v h).seen;
         }
 
     at_most_one : (word : Word) (r h : ℕ) → FitsWord word r h → h ≤ 1
@@ -134,28 +149,27 @@ module _ (w : World) (orderly : IsOrderly w) (step : Step) (place index : ℕ) (
     bool_cases false = inr refl
 
     -- another worker at the vnode
-    other_hand : (at : ℕ) (x : Worker) → place ≢ at → slice_get w.workers at ≡ Some x → IsInHand vnode.id index turn.vnode.history x.phase
+    other_hand : (at : ℕ) (x : Worker) → place ≢ at → slice_get w.workers at ≡ Some x → IsInHand vnode.id vnode.last_epoch index turn.vnode.history x.phase
     other_hand at x n h = elim is.same [
-      | inl e ↦ subst (λ hist. IsInHand vnode.id index hist x.phase) (sym e) (orderly.workers at x h index vnode there).hand
+      | inl e ↦ subst (λ hist. IsInHand vnode.id vnode.last_epoch index hist x.phase) (sym e) (orderly.workers at x h index vnode there).hand
       | inr mine ↦ elim (bool_cases (is_holder index x.phase)) [
         | inl his ↦ absurd (too_many (holders index) (at_most_one vnode.word (readers index) (holders index) (orderly.vnodes index vnode there).word)
             (counted_two (holds index) w.workers place at worker x n here h mine his))
-        | inr nobody ↦ no_hand vnode.id index turn.vnode.history x.phase nobody
+        | inr nobody ↦ no_hand vnode.id vnode.last_epoch index turn.vnode.history x.phase nobody
       ]
     ]
       where
         too_many : (a : ℕ) → a ≤ 1 → 2 ≤ a → ⊥
         too_many a h k = omega (arith, h, k)
 
-    other_here : (at : ℕ) (x : Worker) → place ≢ at → slice_get w.workers at ≡ Some x → IsAware vnode.id index turn.vnode.history x
+    other_here : (at : ℕ) (x : Worker) → place ≢ at → slice_get w.workers at ≡ Some x → IsAware vnode.id vnode.last_epoch index turn.vnode.history x
     other_here at x n h =
-        let had = (orderly.workers at x h index vnode there).seen in
-        record { hand = other_hand at x n h; seen = (had.0, had.1, prefix-trans had.0 vnode.history turn.vnode.history had.2 is.grows) }
+        record { hand = other_hand at x n h; seen = begins-trans (seen_at x.seen index) vnode.history turn.vnode.history (orderly.workers at x h index vnode there).seen is.grows }
 
     -- any worker at the vnode
-    aware_here : (at : ℕ) (x : Worker) → slice_get world.workers at ≡ Some x → IsAware turn.vnode.id index turn.vnode.history x
-    aware_here at x k = subst (λ i. IsAware i index turn.vnode.history x) (sym is.same_id) (elim (worker_after at x k) [
-      | inl d ↦ subst (λ y. IsAware vnode.id index turn.vnode.history y) d.1 next_here
+    aware_here : (at : ℕ) (x : Worker) → slice_get world.workers at ≡ Some x → IsAware turn.vnode.id turn.vnode.last_epoch index turn.vnode.history x
+    aware_here at x k = as_vnode (λ i e. IsAware i e index turn.vnode.history x) (elim (worker_after at x k) [
+      | inl d ↦ subst (λ y. IsAware vnode.id vnode.last_epoch index turn.vnode.history y) d.1 next_here
       | inr d ↦ other_here at x d.0 d.1
     ])
 
@@ -168,9 +182,9 @@ module _ (w : World) (orderly : IsOrderly w) (step : Step) (place index : ℕ) (
             (subst (λ n. IsSound n (holders other) v) (sym (readers_other other e.0)) (orderly.vnodes other v e.1))
       ];
       workers = λ at x k other v h. elim (vnode_after other v h) [
-        | inl e ↦ subst (λ o. IsAware v.id o v.history x) e.0 (subst (λ u. IsAware u.id index u.history x) e.1 (aware_here at x k))
+        | inl e ↦ subst (λ o. IsAware v.id v.last_epoch o v.history x) e.0 (subst (λ u. IsAware u.id u.last_epoch index u.history x) e.1 (aware_here at x k))
         | inr e ↦ elim (worker_after at x k) [
-          | inl d ↦ subst (λ y. IsAware v.id other v.history y) d.1 (next_there other v e.0 e.1)
+          | inl d ↦ subst (λ y. IsAware v.id v.last_epoch other v.history y) d.1 (next_there other v e.0 e.1)
           | inr d ↦ orderly.workers at x d.1 other v e.1
         ]
       ];
@@ -186,18 +200,18 @@ counted test workers place worker h = by (test worker) refl
 
 -- the turn of a possible step
 pub turn_at : (w : World) (orderly : IsOrderly w) (step : Step) (r : World × Outcome) (p : IsPossible w step r)
-    → IsTurn p.vnode.id p.index (how_many (reads p.index) w.workers) (how_many (holds p.index) w.workers) step.action p.worker.phase p.vnode.history p.turn
+    → IsTurn p.vnode.id p.vnode.last_epoch p.index (how_many (reads p.index) w.workers) (how_many (holds p.index) w.workers) (action_in w step) p.worker.phase p.vnode.history p.turn
 turn_at w orderly step r p =
     let here = at_place w step.worker p.worker p.worker_is in
     let aware = orderly.workers (pred step.worker) p.worker here p.index p.vnode p.vnode_is in
-    turn_is p.vnode.id p.index (how_many (reads p.index) w.workers) (how_many (holds p.index) w.workers)
-    (prefix_of p.worker p.index) p.vnode refl (orderly.vnodes p.index p.vnode p.vnode_is) (seen_is p.worker.seen p.index p.vnode.history aware.seen p.worker refl)
-    step.action p.worker.phase (counted (reads p.index) w.workers (pred step.worker) p.worker here) (counted (holds p.index) w.workers (pred step.worker) p.worker here)
+    turn_is p.vnode.id p.vnode.last_epoch p.index (how_many (reads p.index) w.workers) (how_many (holds p.index) w.workers)
+    (seen_at p.worker.seen p.index) p.vnode refl refl (orderly.vnodes p.index p.vnode p.vnode_is) aware.seen
+    (action_in w step) p.worker.phase (counted (reads p.index) w.workers (pred step.worker) p.worker here) (counted (holds p.index) w.workers (pred step.worker) p.worker here)
     aware.hand p.site_is p.turn p.turn_is
 
 -- the call of a possible step's worker is of its vnode
 pub about_at : (w : World) (step : Step) (r : World × Outcome) (p : IsPossible w step r) → IsAbout p.index p.worker.phase
-about_at w step r p = about_is p.vnode.id p.index 0 0 step.action p.worker.phase p.site_is
+about_at w step r p = about_is p.vnode.id p.vnode.last_epoch p.index 0 0 (action_in w step) p.worker.phase p.site_is
 
 orderly-step : (w : World) (orderly : IsOrderly w) (step : Step) (r : World × Outcome) → happens w step ≡ Some r → IsOrderly r.0
 orderly-step w orderly step r h =
@@ -215,9 +229,9 @@ orderly-after w orderly step = by (happens w step) refl
 
 -- a vnode of the opening world is a fresh one
 pub opened : (run from count index : ℕ) (vnode : Vnode) → slice_get (opening_vnodes run from count) index ≡ Some vnode
-    → (index < count) × (vnode ≡ fresh_vnode (id_of run (from + index)))
+    → (index < count) × (vnode ≡ fresh_vnode (id_of run (from + index)) 0)
 opened run from zero index vnode h = cc
-opened run from (suc count) zero vnode h = (omega arith, sym (same h) ∙ ap (λ n. fresh_vnode (id_of run n)) (plain from))
+opened run from (suc count) zero vnode h = (omega arith, sym (same h) ∙ ap (λ n. fresh_vnode (id_of run n) 0) (plain from))
   where
     same : {a b : Vnode} → Some a ≡ Some b → a ≡ b
     same e = cc
@@ -226,7 +240,7 @@ opened run from (suc count) zero vnode h = (omega arith, sym (same h) ∙ ap (λ
     plain n = omega arith
 opened run from (suc count) (suc index) vnode h =
     let rest = opened run (from + 1) count index vnode h in
-    (omega (arith, rest.0), rest.1 ∙ ap (λ n. fresh_vnode (id_of run n)) (shift from index))
+    (omega (arith, rest.0), rest.1 ∙ ap (λ n. fresh_vnode (id_of run n) 0) (shift from index))
   where
     shift : (a b : ℕ) → (a + 1) + b ≡ a + suc b
     shift a b = omega arith
@@ -240,29 +254,20 @@ nobody index count worker h = counted_none (reads index) count worker (ap (is_re
 nobody_holds : (index : ℕ) (count : ℕ) (worker : Worker) → worker.phase ≡ Idle → how_many (holds index) (replicate count worker) ≡ 0
 nobody_holds index count worker h = counted_none (holds index) count worker (ap (is_holder index) h)
 
-abbrev nothing : History
-nothing = []
-
-blank : (count index : ℕ) → index < count → slice_get (replicate count nothing) index ≡ Some nothing
-blank zero index h = absurd (omega (arith, h))
-blank (suc count) zero h = refl
-blank (suc count) (suc index) h = blank count index (omega (arith, h))
-
 orderly-opening : (start : Start) → IsStart start → IsOrderly (opening_world start.run start.workers start.vnodes)
 orderly-opening start is =
-    let fresh : Worker = fresh_worker start.vnodes in
-    let all : List Worker = replicate start.workers fresh in
+    let all : List Worker = replicate start.workers fresh_worker in
     record {
       vnodes = λ index vnode h.
           let o = opened start.run 0 start.vnodes index vnode h in
           subst (λ v. IsSound (how_many (reads index) all) (how_many (holds index) all) v) (sym o.1)
-          (sound-fresh (id_of start.run (0 + index)) (how_many (reads index) all) (how_many (holds index) all) (within start.run index start.vnodes is.run is.vnodes o.0)
-          (nobody index start.workers fresh refl) (nobody_holds index start.workers fresh refl));
+          (sound-fresh (id_of start.run (0 + index)) 0 (how_many (reads index) all) (how_many (holds index) all) (within start.run index start.vnodes is.run is.vnodes o.0)
+          (nobody index start.workers fresh_worker refl) (nobody_holds index start.workers fresh_worker refl));
       workers = λ place worker k index vnode h.
           let o = opened start.run 0 start.vnodes index vnode h in
-          let e = get-replicate start.workers place fresh worker k in
-          subst (λ v. IsAware v.id index v.history worker) (sym o.1)
-          (subst (λ x. IsAware (id_of start.run (0 + index)) index [] x) (sym e) (record { hand = tt; seen = ([], blank start.vnodes index o.0, prefix-whole []) }));
+          let e = get-replicate start.workers place fresh_worker worker k in
+          subst (λ v. IsAware v.id v.last_epoch index v.history worker) (sym o.1)
+          (subst (λ x. IsAware (id_of start.run (0 + index)) 0 index [] x) (sym e) (record { hand = tt; seen = begins-itself [] }));
     }
 
 pub orderly : (start : Start) → IsStart start → (schedule : List Step) → IsOrderly (world_after start schedule)

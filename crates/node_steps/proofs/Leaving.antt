@@ -17,9 +17,8 @@ use Rattle.vnode_machine.proofs.Names.{replay-earlier}
 use Rattle.vnode_machine.proofs.Legals.{replay_is_legal}
 use Rattle.vnode_machine.proofs.LiveDots.{live_are_siblings}
 use Rattle.vnode_machine.proofs.LeavingLaw.{leaves_only_covered}
-use Rattle.node_steps.specs.World.{World, id_at, history_at}
-use Rattle.node_steps.specs.Steps.{Step}
-use Rattle.node_steps.specs.Claims.{Leaves, ValuesLeaveOnlyCovered}
+use Rattle.node_steps.specs.World.{World, id_at, last_epoch_at, history_at}
+use Rattle.node_steps.specs.Claims.{IsSiblingNoMore, ValuesLeaveOnlyCovered}
 use Rattle.node_steps.proofs.Kept.{IsOrderly}
 use Rattle.node_steps.proofs.Lifting.{replays_at}
 
@@ -48,29 +47,29 @@ has_dot (entry ∷ entries) (n ∷ numbers) f number e h =
     by true s g first rest = (entry.0, ap (λ k. (f k).0) (sym (same_number n number s)) ∙ ap (λ (p : Shape). p.0) first)
     by false s g first rest = rest g
 
-module _ (id : ℕ) (history between position : History) (key : Key) (number : ℕ) (replays : HasReplay id 0 history) (leaves : Leaves history between position key number) where
-  replays_there : HasReplay id 0 (between ++ position)
-  replays_there = replay-earlier id 0 leaves.later.0 (between ++ position) (subst (λ h. HasReplay id 0 h) (sym leaves.later.1) replays)
+module _ (id epoch : ℕ) (history between position : History) (key : Key) (number : ℕ) (replays : HasReplay id epoch history) (leaves : IsSiblingNoMore history between position key number) where
+  replays_there : HasReplay id epoch (between ++ position)
+  replays_there = replay-earlier id epoch leaves.later.0 (between ++ position) (subst (λ h. HasReplay id epoch h) (sym leaves.later.1) replays)
 
-  pub covered : (dot : Dot) × (dot_of id 0 position key number ≡ Some dot) × IsTrue (is_taken_in between key dot)
+  pub covered : (dot : Dot) × (dot_of id epoch position key number ≡ Some dot) × IsTrue (is_taken_in between key dot)
   covered =
-      let here : HasReplay id 0 position = replay-earlier id 0 between position replays_there in
-      let d = has_dot (clock_of (replay id 0 position) key).live (siblings position key) (λ n. (dot_of id 0 position key n, content_of position key n)) number
-      (live_are_siblings id 0 position here key) leaves.sibling in (
+      let here : HasReplay id epoch position = replay-earlier id epoch between position replays_there in
+      let d = has_dot (clock_of (replay id epoch position) key).live (siblings position key) (λ n. (dot_of id epoch position key n, content_of position key n)) number
+      (live_are_siblings id epoch position here key) leaves.sibling in (
         d.0,
         d.1,
-        elim (leaves_only_covered id 0 position between replays_there key number d.0 leaves.sibling leaves.value d.1) [
-          | inl stays ↦ absurd (not_both (is_among (siblings (between ++ position) key) number) stays leaves.left)
+        elim (leaves_only_covered id epoch position between replays_there key number d.0 leaves.sibling leaves.value d.1) [
+          | inl stays ↦ absurd (not_both (is_among (siblings (between ++ position) key) number) stays leaves.no_more)
           | inr taken ↦ taken
         ],
       )
 
   pub seen : IsTrue (is_seen_in between key number)
-  seen = elim (leaves_only_seen (naming id 0) between position (replay_is_legal id 0 (between ++ position) replays_there).accepted key number leaves.sibling leaves.value) [
-    | inl stays ↦ absurd (not_both (is_among (siblings (between ++ position) key) number) stays leaves.left)
+  seen = elim (leaves_only_seen (naming id epoch) between position (replay_is_legal id epoch (between ++ position) replays_there).accepted key number leaves.sibling leaves.value) [
+    | inl stays ↦ absurd (not_both (is_among (siblings (between ++ position) key) number) stays leaves.no_more)
     | inr saw ↦ saw
   ]
 
-pub values_leave_only_covered : (w : World) → IsOrderly w → (step : Step) → ValuesLeaveOnlyCovered w step
-values_leave_only_covered w orderly step = λ index between position key number leaves.
-    covered (id_at w index) (history_at w index) between position key number (replays_at w orderly index) leaves
+pub values_leave_only_covered : (w : World) → IsOrderly w → ValuesLeaveOnlyCovered w
+values_leave_only_covered w orderly = λ index between position key number leaves.
+    covered (id_at w index) (last_epoch_at w index) (history_at w index) between position key number (replays_at w orderly index) leaves

@@ -1,5 +1,5 @@
 pub mod Lists
-pub mod Prefixes
+pub mod Beginnings
 pub mod Shown
 pub mod Inside
 pub mod Turns

@@ -1,74 +1,77 @@
 -- The claims that speak of one step: from the turn to the world.
 use Rattle.std.proofs.Common.{◌≡◌, ◌≢◌, ◌⊎◌, inl, inr, ℕ, zero, suc, [], refl, sym, ◌∙◌, ap, subst}
-use Rattle.std.specs.Prelude.{pred, Option, Some, None, Result, slice_get, slice_set}
+use Rattle.std.specs.Prelude.{pred, Option, Some, None, Result, slice_get}
 use Rattle.std.specs.Option.{option_map_or}
 use Rattle.std.proofs.lemmas.Option.{some_pair_parts}
 use Rattle.riak_msgs.specs.Contents.{Content}
 use Rattle.vnode_machine.specs.Machine.{State, stored}
-use Rattle.vnode_machine.specs.Replay.{History, replay, HasReplay}
+use Rattle.vnode_machine.specs.Replay.{replay, HasReplay}
 use Rattle.vnode_machine.specs.Step.{Response}
 use Rattle.vnode_machine.specs.Runs.{IsAnswer}
 use Rattle.vnode_machine.proofs.Legals.{replay_is_legal}
 use Rattle.vnode_machine.proofs.DifferentDots.{no_dot_twice}
 use Rattle.vnode_machine.proofs.LiveDots.{dots_are_of_lives}
 use Rattle.vnode_machine.proofs.Steps.{known, alive, held_by}
-use Rattle.node_steps.specs.World.{Phase, Idle, Asked, Reading, Holding, Done, Vnode, Worker, World, Call, worker_at, id_at, history_at, prefix_of, prefix_at, call_of, call_at}
-use Rattle.node_steps.specs.Steps.{Step, Outcome, NotPossible, Happened, Replied, Turn, turned, happens}
-use Rattle.node_steps.specs.Schedules.{IsPrefix}
+use Rattle.node_steps.specs.World.{Phase, Idle, Asked, Reading, Holding, Done, Vnode, Worker, World, Call, worker_at, id_at, last_epoch_at, history_at, front_at, call_of, call_at, seen_at}
+use Rattle.node_steps.specs.Steps.{Step, Outcome, NotPossible, Happened, Replied, Turn, seeing, turned, action_in, happens}
+use Rattle.node_steps.specs.Schedules.{Begins}
 use Rattle.node_steps.specs.Claims.{HistoriesAreLegal, LooksShowReplays, state_shown, RepliesAreRegisters, NothingElseHappens, RepliesHaveSeen, NoDotIsIssuedTwice, LivesAreOfDefinedKeys}
 use Rattle.node_steps.proofs.Lists.{how_many, set-here, set-there, same_or_other, counted_one}
 use Rattle.node_steps.proofs.Inside.{is_reader, reads, holds, IsInHand, same_test, IsAware}
 use Rattle.node_steps.proofs.Turns.{IsReplyTo, Comes, IsTurn, place_read}
-use Rattle.node_steps.proofs.Kept.{IsOrderly, IsPossible, possible, at_place, seen_is, turn_at}
+use Rattle.node_steps.proofs.Kept.{IsOrderly, IsPossible, seeing-here, possible, at_place, turn_at}
 
-pub replays_at : (w : World) → IsOrderly w → (index : ℕ) → HasReplay (id_at w index) 0 (history_at w index)
+pub replays_at : (w : World) → IsOrderly w → (index : ℕ) → HasReplay (id_at w index) (last_epoch_at w index) (history_at w index)
 replays_at w orderly index = by (slice_get w.vnodes index) refl
   where
-    by : (o : Option Vnode) → slice_get w.vnodes index ≡ o → HasReplay (option_map_or (λ v. v.id) o 0) 0 (option_map_or (λ v. v.history) o [])
+    by : (o : Option Vnode) → slice_get w.vnodes index ≡ o → HasReplay (option_map_or (λ v. v.id) o 0) (option_map_or (λ v. v.last_epoch) o 0) (option_map_or (λ v. v.history) o [])
     by None h = tt
     by (Some vnode) h = (orderly.vnodes index vnode h).replays
 
-pub histories_are_legal : (w : World) → IsOrderly w → (step : Step) → HistoriesAreLegal w step
-histories_are_legal w orderly step = λ index. (replays_at w orderly index, replay_is_legal (id_at w index) 0 (history_at w index) (replays_at w orderly index))
+pub histories_are_legal : (w : World) → IsOrderly w → HistoriesAreLegal w
+histories_are_legal w orderly = λ index.
+    (replays_at w orderly index, replay_is_legal (id_at w index) (last_epoch_at w index) (history_at w index) (replays_at w orderly index))
 
-pub no_dots_twice : (w : World) → IsOrderly w → (step : Step) → NoDotIsIssuedTwice w step
-no_dots_twice w orderly step = λ index. (no_dot_twice (id_at w index) 0 (history_at w index), dots_are_of_lives (id_at w index) 0 (history_at w index))
+pub no_dots_twice : (w : World) → NoDotIsIssuedTwice w
+no_dots_twice w = λ index.
+    (no_dot_twice (id_at w index) (last_epoch_at w index) (history_at w index), dots_are_of_lives (id_at w index) (last_epoch_at w index) (history_at w index))
 
-pub lives_are_defined : (w : World) → IsOrderly w → (step : Step) → LivesAreOfDefinedKeys w step
-lives_are_defined w orderly step = λ index key.
+pub lives_are_defined : (w : World) → IsOrderly w → LivesAreOfDefinedKeys w
+lives_are_defined w orderly = λ index key.
     let id = id_at w index in
+    let epoch = last_epoch_at w index in
     let history = history_at w index in
-    let k = known id 0 history (replays_at w orderly index) in
-    let o = stored (replay id 0 history) key in
-    alive id 0 history k key o (k.keys key) ∙ sym (held_by id 0 history k key o (k.keys key))
+    let k = known id epoch history (replays_at w orderly index) in
+    let o = stored (replay id epoch history) key in
+    alive id epoch history k key o (k.keys key) ∙ sym (held_by id epoch history k key o (k.keys key))
 
-pub looks_show_replays : (w : World) → IsOrderly w → (step : Step) → LooksShowReplays w step
-looks_show_replays w orderly step = λ index worker vnode state worker_is vnode_is shows.
-    let here = at_place w step.worker worker worker_is in
-    let hand = (orderly.workers (pred step.worker) worker here index vnode vnode_is).hand in
-    record { replays = (orderly.vnodes index vnode vnode_is).replays; is = by index worker vnode state vnode_is here hand worker.phase refl shows }
+pub looks_show_replays : (w : World) → IsOrderly w → LooksShowReplays w
+looks_show_replays w orderly = λ number index worker vnode state worker_is vnode_is shows.
+    let here = at_place w number worker worker_is in
+    let hand = (orderly.workers (pred number) worker here index vnode vnode_is).hand in
+    record { replays = (orderly.vnodes index vnode vnode_is).replays; is = by number index worker vnode state vnode_is here hand worker.phase refl shows }
   where
-    by : (index : ℕ) (worker : Worker) (vnode : Vnode) (state : State Content) → slice_get w.vnodes index ≡ Some vnode → slice_get w.workers (pred step.worker) ≡ Some worker
-        → IsInHand vnode.id index vnode.history worker.phase
-        → (phase : Phase) → worker.phase ≡ phase → state_shown phase vnode ≡ Some (index, state) → state ≡ replay vnode.id 0 vnode.history
-    by index worker vnode state there here hand Idle e h = cc
-    by index worker vnode state there here hand (Asked other ask) e h = cc
-    by index worker vnode state there here hand (Reading other get) e h =
+    by : (number index : ℕ) (worker : Worker) (vnode : Vnode) (state : State Content) → slice_get w.vnodes index ≡ Some vnode → slice_get w.workers (pred number) ≡ Some worker
+        → IsInHand vnode.id vnode.last_epoch index vnode.history worker.phase
+        → (phase : Phase) → worker.phase ≡ phase → state_shown phase vnode ≡ Some (index, state) → state ≡ replay vnode.id vnode.last_epoch vnode.history
+    by number index worker vnode state there here hand Idle e h = cc
+    by number index worker vnode state there here hand (Asked other ask) e h = cc
+    by number index worker vnode state there here hand (Reading other get) e h =
         let p = some_pair_parts other index vnode.place state h in
         let sound = orderly.vnodes index vnode there in
-        sym p.1 ∙ place_read vnode.id index (how_many (reads index) w.workers) (how_many (holds index) w.workers) vnode.word vnode.history vnode.place sound.word
-        (counted_one (reads index) w.workers (pred step.worker) worker here (ap (is_reader index) e ∙ same_test other index p.0)) sound.place
-    by index worker vnode state there here hand (Holding other ask mine None) e h =
+        sym p.1 ∙ place_read vnode.id vnode.last_epoch index (how_many (reads index) w.workers) (how_many (holds index) w.workers) vnode.word vnode.history vnode.place sound.word
+        (counted_one (reads index) w.workers (pred number) worker here (ap (is_reader index) e ∙ same_test other index p.0)) sound.place
+    by number index worker vnode state there here hand (Holding other ask mine None) e h =
         let p = some_pair_parts other index mine state h in
-        sym p.1 ∙ (subst (λ n. IsInHand vnode.id index vnode.history n) e hand p.0).0
-    by index worker vnode state there here hand (Holding other ask mine (Some plan)) e h = cc
-    by index worker vnode state there here hand (Done other mine) e h = cc
+        sym p.1 ∙ (subst (λ n. IsInHand vnode.id vnode.last_epoch index vnode.history n) e hand p.0).0
+    by number index worker vnode state there here hand (Holding other ask mine (Some plan)) e h = cc
+    by number index worker vnode state there here hand (Done other mine) e h = cc
 
 -- the worker after its turn
 worker_next : (w : World) (number index : ℕ) (worker : Worker) (turn : Turn) → worker_at w number ≡ Some worker
-    → worker_at (turned w (pred number) index worker turn) number ≡ Some (record { phase = turn.phase; seen = slice_set worker.seen index turn.seen })
+    → worker_at (turned w (pred number) index worker turn) number ≡ Some (record { phase = turn.phase; seen = seeing worker.seen index turn.seen })
 worker_next w zero index worker turn h = cc
-worker_next w (suc place) index worker turn h = set-here w.workers place worker (record { phase = turn.phase; seen = slice_set worker.seen index turn.seen }) h
+worker_next w (suc place) index worker turn h = set-here w.workers place worker (record { phase = turn.phase; seen = seeing worker.seen index turn.seen }) h
 
 same_call : (a b : Call) → Some a ≡ Some b → a ≡ b
 same_call a b h = cc
@@ -80,10 +83,10 @@ module _ (w : World) (orderly : IsOrderly w) (step : Step) (r : World × Outcome
   pub here : slice_get w.workers (pred step.worker) ≡ Some p.worker
   here = at_place w step.worker p.worker p.worker_is
 
-  pub aware : IsAware p.vnode.id p.index p.vnode.history p.worker
+  pub aware : IsAware p.vnode.id p.vnode.last_epoch p.index p.vnode.history p.worker
   aware = orderly.workers (pred step.worker) p.worker here p.index p.vnode p.vnode_is
 
-  pub turn : IsTurn p.vnode.id p.index (how_many (reads p.index) w.workers) (how_many (holds p.index) w.workers) step.action p.worker.phase p.vnode.history p.turn
+  pub turn : IsTurn p.vnode.id p.vnode.last_epoch p.index (how_many (reads p.index) w.workers) (how_many (holds p.index) w.workers) (action_in w step) p.worker.phase p.vnode.history p.turn
   turn = turn_at w orderly step r p
 
   pub call_is : call_at w step.worker ≡ call_of p.worker.phase
@@ -91,6 +94,9 @@ module _ (w : World) (orderly : IsOrderly w) (step : Step) (r : World × Outcome
 
   pub id_before : id_at w p.index ≡ p.vnode.id
   id_before = ap (λ o. option_map_or (λ (v : Vnode). v.id) o 0) p.vnode_is
+
+  pub epoch_before : last_epoch_at w p.index ≡ p.vnode.last_epoch
+  epoch_before = ap (λ o. option_map_or (λ (v : Vnode). v.last_epoch) o 0) p.vnode_is
 
   pub before_is : history_at w p.index ≡ p.vnode.history
   before_is = ap (λ o. option_map_or (λ (v : Vnode). v.history) o []) p.vnode_is
@@ -104,68 +110,75 @@ module _ (w : World) (orderly : IsOrderly w) (step : Step) (r : World × Outcome
   pub elsewhere_is : (other : ℕ) → p.index ≢ other → history_at next other ≡ history_at w other
   elsewhere_is other n = ap (λ o. option_map_or (λ (v : Vnode). v.history) o []) (set-there w.vnodes p.index other p.turn.vnode n)
 
-  -- a vnode keeps its id
+  -- a vnode keeps its id, and the epoch that it was opened behind
   pub id_next : (other : ℕ) → id_at next other ≡ id_at w other
   id_next other = elim (same_or_other p.index other) [
     | inl e ↦ subst (λ k. id_at next k ≡ id_at w k) e (ap (λ o. option_map_or (λ (v : Vnode). v.id) o 0) vnode_next ∙ turn.same_id ∙ sym id_before)
     | inr n ↦ ap (λ o. option_map_or (λ (v : Vnode). v.id) o 0) (set-there w.vnodes p.index other p.turn.vnode n)
   ]
 
-  seen_next : prefix_at next step.worker p.index ≡ p.turn.seen
-  seen_next =
-      ap (λ o. option_map_or (λ worker. prefix_of worker p.index) o []) (worker_next w step.worker p.index p.worker p.turn p.worker_is)
-      ∙ ap (λ o. option_map_or (λ (x : History). x) o []) (set-here p.worker.seen p.index aware.seen.0 p.turn.seen aware.seen.1)
+  pub epoch_next : (other : ℕ) → last_epoch_at next other ≡ last_epoch_at w other
+  epoch_next other = elim (same_or_other p.index other) [
+    | inl e ↦ subst (λ k. last_epoch_at next k ≡ last_epoch_at w k) e (ap (λ o. option_map_or (λ (v : Vnode). v.last_epoch) o 0) vnode_next ∙ turn.same_epoch ∙ sym epoch_before)
+    | inr n ↦ ap (λ o. option_map_or (λ (v : Vnode). v.last_epoch) o 0) (set-there w.vnodes p.index other p.turn.vnode n)
+  ]
 
-  seen_before : IsPrefix (prefix_at w step.worker p.index) (history_at w p.index)
+  seen_next : front_at next step.worker p.index ≡ p.turn.seen
+  seen_next =
+      ap (λ o. option_map_or (λ worker. seen_at worker.seen p.index) o []) (worker_next w step.worker p.index p.worker p.turn p.worker_is)
+      ∙ seeing-here p.worker.seen p.index p.turn.seen
+
+  seen_before : Begins (front_at w step.worker p.index) (history_at w p.index)
   seen_before =
-      subst (λ s. IsPrefix s (history_at w p.index)) (sym (ap (λ o. option_map_or (λ worker. prefix_of worker p.index) o []) p.worker_is))
-      (subst (λ h. IsPrefix (prefix_of p.worker p.index) h) (sym before_is) (seen_is p.worker.seen p.index p.vnode.history aware.seen p.worker refl))
+      subst (λ s. Begins s (history_at w p.index)) (sym (ap (λ o. option_map_or (λ worker. seen_at worker.seen p.index) o []) p.worker_is))
+      (subst (λ h. Begins (seen_at p.worker.seen p.index) h) (sym before_is) aware.seen)
 
   -- a reply answers the call
-  pub reply_is : (reply : Result Response ℕ) → p.turn.outcome ≡ Replied reply → (call : Call) × (call_at w step.worker ≡ Some call) × IsReplyTo p.vnode.id p.index p.vnode.history p.turn reply call
+  pub reply_is : (reply : Result Response ℕ) → p.turn.outcome ≡ Replied reply → (call : Call) × (call_at w step.worker ≡ Some call) × IsReplyTo p.vnode.id p.vnode.last_epoch p.index p.vnode.history p.turn reply call
   reply_is reply o =
-      let c = subst (λ u. Comes p.vnode.id p.index (call_of p.worker.phase) p.vnode.history p.turn u) o turn.comes in
+      let c = subst (λ u. Comes p.vnode.id p.vnode.last_epoch p.index (call_of p.worker.phase) p.vnode.history p.turn u) o turn.comes in
       (c.0, call_is ∙ c.1, c.2)
 
-  answer_at : (reply : Result Response ℕ) (call : Call) → IsReplyTo p.vnode.id p.index p.vnode.history p.turn reply call
-      → IsAnswer (id_at w call.index) 0 (history_at w call.index) (record { ask = call.ask; reply = reply }) (history_at next call.index)
+  answer_at : (reply : Result Response ℕ) (call : Call) → IsReplyTo p.vnode.id p.vnode.last_epoch p.index p.vnode.history p.turn reply call
+      → IsAnswer (id_at w call.site) (last_epoch_at w call.site) (history_at w call.site) (record { ask = call.ask; reply = reply }) (history_at next call.site)
   answer_at reply call is =
-      subst (λ k. IsAnswer (id_at w k) 0 (history_at w k) (record { ask = call.ask; reply = reply }) (history_at next k)) (sym is.at)
-      (subst (λ i. IsAnswer i 0 (history_at w p.index) (record { ask = call.ask; reply = reply }) (history_at next p.index)) (sym id_before)
-      (subst (λ h. IsAnswer p.vnode.id 0 h (record { ask = call.ask; reply = reply }) (history_at next p.index)) (sym before_is)
-      (subst (λ h. IsAnswer p.vnode.id 0 p.vnode.history (record { ask = call.ask; reply = reply }) h) (sym after_is) is.answer)))
+      subst (λ k. IsAnswer (id_at w k) (last_epoch_at w k) (history_at w k) (record { ask = call.ask; reply = reply }) (history_at next k)) (sym is.at)
+      (subst (λ i. IsAnswer i (last_epoch_at w p.index) (history_at w p.index) (record { ask = call.ask; reply = reply }) (history_at next p.index)) (sym id_before)
+      (subst (λ e. IsAnswer p.vnode.id e (history_at w p.index) (record { ask = call.ask; reply = reply }) (history_at next p.index)) (sym epoch_before)
+      (subst (λ h. IsAnswer p.vnode.id p.vnode.last_epoch h (record { ask = call.ask; reply = reply }) (history_at next p.index)) (sym before_is)
+      (subst (λ h. IsAnswer p.vnode.id p.vnode.last_epoch p.vnode.history (record { ask = call.ask; reply = reply }) h) (sym after_is) is.answer))))
 
   -- what comes of the turn
   nothing_else : (index : ℕ) → p.index ≡ index → (came : Outcome) → p.turn.outcome ≡ came
       → (history_at next index ≡ history_at w index)
-      ⊎ ((call : Call) × (call_at w step.worker ≡ Some call) × (call.index ≡ index) × ((reply : Result Response ℕ) × (p.turn.outcome ≡ Replied reply)))
-  nothing_else index e NotPossible o = absurd (subst (λ u. Comes p.vnode.id p.index (call_of p.worker.phase) p.vnode.history p.turn u) o turn.comes)
+      ⊎ ((call : Call) × (call_at w step.worker ≡ Some call) × (call.site ≡ index) × ((reply : Result Response ℕ) × (p.turn.outcome ≡ Replied reply)))
+  nothing_else index e NotPossible o = absurd (subst (λ u. Comes p.vnode.id p.vnode.last_epoch p.index (call_of p.worker.phase) p.vnode.history p.turn u) o turn.comes)
   nothing_else index e Happened o =
       inl (subst (λ k. history_at next k ≡ history_at w k) e
-      (after_is ∙ subst (λ u. Comes p.vnode.id p.index (call_of p.worker.phase) p.vnode.history p.turn u) o turn.comes ∙ sym before_is))
+      (after_is ∙ subst (λ u. Comes p.vnode.id p.vnode.last_epoch p.index (call_of p.worker.phase) p.vnode.history p.turn u) o turn.comes ∙ sym before_is))
   nothing_else index e (Replied reply) o =
       let c = reply_is reply o in
       inr (c.0, c.1, c.2.at ∙ e, (reply, o))
 
   pub step_answers : (reply : Result Response ℕ) → p.turn.outcome ≡ Replied reply
       → (call : Call) × (call_at w step.worker ≡ Some call)
-      × IsAnswer (id_at w call.index) 0 (history_at w call.index) (record { ask = call.ask; reply = reply }) (history_at next call.index)
+      × IsAnswer (id_at w call.site) (last_epoch_at w call.site) (history_at w call.site) (record { ask = call.ask; reply = reply }) (history_at next call.site)
   step_answers reply o = let c = reply_is reply o in (c.0, c.1, answer_at reply c.0 c.2)
 
   pub step_nothing_else : (index : ℕ) → (history_at next index ≡ history_at w index)
-      ⊎ ((call : Call) × (call_at w step.worker ≡ Some call) × (call.index ≡ index) × ((reply : Result Response ℕ) × (p.turn.outcome ≡ Replied reply)))
+      ⊎ ((call : Call) × (call_at w step.worker ≡ Some call) × (call.site ≡ index) × ((reply : Result Response ℕ) × (p.turn.outcome ≡ Replied reply)))
   step_nothing_else index = elim (same_or_other p.index index) [
     | inl e ↦ nothing_else index e p.turn.outcome refl
     | inr n ↦ inl (elsewhere_is index n)
   ]
 
-  pub step_seen : (index : ℕ) (call : Call) → call_at w step.worker ≡ Some call → call.index ≡ index → (reply : Result Response ℕ) → p.turn.outcome ≡ Replied reply
-      → IsPrefix (prefix_at w step.worker index) (history_at w index) × (prefix_at next step.worker index ≡ history_at next index)
+  pub step_seen : (index : ℕ) (call : Call) → call_at w step.worker ≡ Some call → call.site ≡ index → (reply : Result Response ℕ) → p.turn.outcome ≡ Replied reply
+      → Begins (front_at w step.worker index) (history_at w index) × (front_at next step.worker index ≡ history_at next index)
   step_seen index call asked at reply o =
       let c = reply_is reply o in
       let same : c.0 ≡ call = same_call c.0 call (sym c.1 ∙ asked) in
-      let e : p.index ≡ index = sym c.2.at ∙ ap (λ (x : Call). x.index) same ∙ at in
-      subst (λ k. IsPrefix (prefix_at w step.worker k) (history_at w k) × (prefix_at next step.worker k ≡ history_at next k)) e
+      let e : p.index ≡ index = sym c.2.at ∙ ap (λ (x : Call). x.site) same ∙ at in
+      subst (λ k. Begins (front_at w step.worker k) (history_at w k) × (front_at next step.worker k ≡ history_at next k)) e
       (seen_before, seen_next ∙ c.2.seen ∙ sym after_is)
 
 not_replied : (reply : Result Response ℕ) → NotPossible ≡ Replied reply → ⊥
@@ -177,17 +190,17 @@ module _ (w : World) (step : Step) where
   AnswersBy q =
       (reply : Result Response ℕ) → q.1 ≡ Replied reply
       → (call : Call) × (call_at w step.worker ≡ Some call)
-      × IsAnswer (id_at w call.index) 0 (history_at w call.index) (record { ask = call.ask; reply = reply }) (history_at q.0 call.index)
+      × IsAnswer (id_at w call.site) (last_epoch_at w call.site) (history_at w call.site) (record { ask = call.ask; reply = reply }) (history_at q.0 call.site)
 
   abbrev NothingElseBy : World × Outcome → Type 0
   NothingElseBy q =
       (index : ℕ) → (history_at q.0 index ≡ history_at w index)
-      ⊎ ((call : Call) × (call_at w step.worker ≡ Some call) × (call.index ≡ index) × ((reply : Result Response ℕ) × (q.1 ≡ Replied reply)))
+      ⊎ ((call : Call) × (call_at w step.worker ≡ Some call) × (call.site ≡ index) × ((reply : Result Response ℕ) × (q.1 ≡ Replied reply)))
 
   abbrev SeenBy : World × Outcome → Type 0
   SeenBy q =
-      (index : ℕ) (call : Call) → call_at w step.worker ≡ Some call → call.index ≡ index → (reply : Result Response ℕ) → q.1 ≡ Replied reply
-      → IsPrefix (prefix_at w step.worker index) (history_at w index) × (prefix_at q.0 step.worker index ≡ history_at q.0 index)
+      (index : ℕ) (call : Call) → call_at w step.worker ≡ Some call → call.site ≡ index → (reply : Result Response ℕ) → q.1 ≡ Replied reply
+      → Begins (front_at w step.worker index) (history_at w index) × (front_at q.0 step.worker index ≡ history_at q.0 index)
 
   module _ (orderly : IsOrderly w) where
     abbrev then : Option (World × Outcome) → World × Outcome

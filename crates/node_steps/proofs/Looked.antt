@@ -1,6 +1,6 @@
 -- What comes of a look.
 use Rattle.std.proofs.Common.{◌≡◌, ℕ, refl, sym, ◌∙◌, ap, subst}
-use Rattle.std.specs.Prelude.{[], Option, Some, None}
+use Rattle.std.specs.Prelude.{[], Some, None}
 use Rattle.std.specs.Option.{option_map_or}
 use Rattle.riak_msgs.specs.Contents.{Content}
 use Rattle.sibling_register.specs.Answers.{Ask, AskGet}
@@ -8,8 +8,8 @@ use Rattle.actor_epoch.specs.Given.{Context}
 use Rattle.vnode_machine.specs.Machine.{State}
 use Rattle.vnode_machine.specs.Replay.{History, IsAfter}
 use Rattle.vnode_machine.specs.Step.{StepOutcome, Refused, Answered, Accepted, outcome as outcome_of_ask}
-use Rattle.node_steps.specs.World.{Phase, Idle, Asked, Reading, Holding, Done, Vnode, Worker, World, Call, call_of, call_at, id_at, history_at, prefix_of}
-use Rattle.node_steps.specs.Steps.{Looks, Step, Outcome, Turn, looks_by, turn_of, site_of, happens}
+use Rattle.node_steps.specs.World.{Phase, Idle, Asked, Reading, Holding, Done, Vnode, Worker, World, Call, call_of, route, id_at, last_epoch_at, history_at, seen_at}
+use Rattle.node_steps.specs.Steps.{Looks, Step, Outcome, Turn, looks_by, turn_of, site_of, routed}
 use Rattle.node_steps.specs.Claims.{state_shown, comes_of, SeesReplay, LooksSeeReplays}
 use Rattle.node_steps.proofs.Kept.{IsOrderly, IsPossible, possible}
 use Rattle.node_steps.proofs.Lifting.{looks_show_replays}
@@ -26,21 +26,23 @@ holder_comes seen vnode index ask hand (Accepted operation response next) = refl
 
 module _ (w : World) (orderly : IsOrderly w) (step : Step) (came : World × Outcome) (p : IsPossible w step came) where
   seen : History
-  seen = prefix_of p.worker p.index
+  seen = seen_at p.worker.seen p.index
 
-  sees : (call : Call) → call_of p.worker.phase ≡ Some call → call.index ≡ p.index → (state : State Content)
+  sees : (call : Call) → call_of p.worker.phase ≡ Some call → call.site ≡ p.index → (state : State Content)
       → state_shown p.worker.phase p.vnode ≡ Some (p.index, state) → p.turn.outcome ≡ comes_of (outcome_of_ask state call.ask) → SeesReplay w step came.1
   sees call asked at state shown comes =
       let id : id_at w p.index ≡ p.vnode.id = ap (λ o. option_map_or (λ (v : Vnode). v.id) o 0) p.vnode_is in
+      let epoch : last_epoch_at w p.index ≡ p.vnode.last_epoch = ap (λ o. option_map_or (λ (v : Vnode). v.last_epoch) o 0) p.vnode_is in
       let history : history_at w p.index ≡ p.vnode.history = ap (λ o. option_map_or (λ (v : Vnode). v.history) o []) p.vnode_is in
       record {
         call = call;
         asked = ap (λ o. option_map_or (λ (worker : Worker). call_of worker.phase) o None) p.worker_is ∙ asked;
         state = state;
-        replay = subst (λ j. IsAfter (id_at w j) 0 (history_at w j) state) (sym at)
-            (subst (λ i. IsAfter i 0 (history_at w p.index) state) (sym id)
-            (subst (λ h. IsAfter p.vnode.id 0 h state) (sym history)
-            (looks_show_replays w orderly step p.index p.worker p.vnode state p.worker_is p.vnode_is shown)));
+        replay = subst (λ j. IsAfter (id_at w j) (last_epoch_at w j) (history_at w j) state) (sym at)
+            (subst (λ i. IsAfter i (last_epoch_at w p.index) (history_at w p.index) state) (sym id)
+            (subst (λ e. IsAfter p.vnode.id e (history_at w p.index) state) (sym epoch)
+            (subst (λ h. IsAfter p.vnode.id p.vnode.last_epoch h state) (sym history)
+            (looks_show_replays w orderly step.worker p.index p.worker p.vnode state p.worker_is p.vnode_is shown))));
         comes = sym (ap (λ (q : World × Outcome). q.1) p.gives) ∙ comes;
       }
 
@@ -49,11 +51,11 @@ module _ (w : World) (orderly : IsOrderly w) (step : Step) (came : World × Outc
   by_phase Idle e site turn = cc
   by_phase (Asked index ask) e site turn = cc
   by_phase (Reading index get) e site turn =
-      sees (record { index = index; ask = AskGet get }) (ap call_of e) (some_same index p.index site) p.vnode.place
+      sees (record { site = index; ask = AskGet get }) (ap call_of e) (some_same index p.index site) p.vnode.place
       (ap (λ phase. state_shown phase p.vnode) e ∙ ap (λ i. Some (i, p.vnode.place)) (some_same index p.index site))
       (sym (ap (λ (t : Turn). t.outcome) (some_same _ p.turn turn)))
   by_phase (Holding index ask hand None) e site turn =
-      sees (record { index = index; ask = ask }) (ap call_of e) (some_same index p.index site) hand
+      sees (record { site = index; ask = ask }) (ap call_of e) (some_same index p.index site) hand
       (ap (λ phase. state_shown phase p.vnode) e ∙ ap (λ i. Some (i, hand)) (some_same index p.index site))
       (sym (ap (λ (t : Turn). t.outcome) (some_same _ p.turn turn)) ∙ holder_comes seen p.vnode index ask hand (outcome_of_ask hand ask))
   by_phase (Holding index ask hand (Some plan)) e site turn = cc
@@ -63,5 +65,5 @@ pub looks_see_replays : (w : World) → IsOrderly w → (step : Step) → LooksS
 looks_see_replays w orderly step = λ looks came h.
     let p = possible w step came h in
     by_phase w orderly step came p p.worker.phase refl
-    (subst (λ a. site_of a p.worker.phase ≡ Some p.index) looks p.site_is)
-    (subst (λ a. turn_of (prefix_of p.worker p.index) p.vnode a p.worker.phase ≡ Some p.turn) looks p.turn_is)
+    (subst (λ a. site_of (routed (route w) a) p.worker.phase ≡ Some p.index) looks p.site_is)
+    (subst (λ a. turn_of (seen_at p.worker.seen p.index) p.vnode (routed (route w) a) p.worker.phase ≡ Some p.turn) looks p.turn_is)

@@ -9,9 +9,9 @@ use Rattle.node_steps.specs.Erased.{erase, erase_vnode, erase_worker}
 use Rattle.node_steps.specs.Running.{vnode_of, worker_of, world_of}
 use Rattle.node_steps.specs.Kept.{IsKept}
 
-pub idle_workers : (n vnodes : ℕ) → map worker_of (replicate n phases.Idle) ≡ map erase_worker (replicate n (fresh_worker vnodes))
-idle_workers zero vnodes = refl
-idle_workers (suc n) vnodes = ap (λ rest. worker_of phases.Idle ∷ rest) (idle_workers n vnodes)
+pub idle_workers : (n : ℕ) → map worker_of (replicate n phases.Idle) ≡ map erase_worker (replicate n fresh_worker)
+idle_workers zero = refl
+idle_workers (suc n) = ap (λ rest. worker_of phases.Idle ∷ rest) (idle_workers n)
 
 pub replicate-more : {X : Type 0} (n : ℕ) (x : X) → replicate n x ++ x ∷ [] ≡ replicate (suc n) x
 replicate-more zero x = refl
@@ -27,29 +27,29 @@ plain n = omega arith
 shift : (a b : ℕ) → (a + 1) + b ≡ a + suc b
 shift a b = omega arith
 
-opening-more : (run from n : ℕ) → opening_vnodes run from n ++ fresh_vnode (id_of run (from + n)) ∷ [] ≡ opening_vnodes run from (suc n)
-opening-more run from zero = ap (λ i. fresh_vnode (id_of run i) ∷ []) (sym (plain from))
+opening-more : (run from n : ℕ) → opening_vnodes run from n ++ fresh_vnode (id_of run (from + n)) 0 ∷ [] ≡ opening_vnodes run from (suc n)
+opening-more run from zero = ap (λ i. fresh_vnode (id_of run i) 0 ∷ []) (sym (plain from))
 opening-more run from (suc n) =
-    ap (λ i. fresh_vnode (id_of run from) ∷ (opening_vnodes run (from + 1) n ++ fresh_vnode (id_of run i) ∷ [])) (sym (shift from n))
-    ∙ ap (λ rest. fresh_vnode (id_of run from) ∷ rest) (opening-more run (from + 1) n)
+    ap (λ i. fresh_vnode (id_of run from) 0 ∷ (opening_vnodes run (from + 1) n ++ fresh_vnode (id_of run i) 0 ∷ [])) (sym (shift from n))
+    ∙ ap (λ rest. fresh_vnode (id_of run from) 0 ∷ rest) (opening-more run (from + 1) n)
 
 from_zero : (n : ℕ) → n ≡ 0 + n
 from_zero n = omega arith
 
 -- one vnode more
 pub more_sites : (sites : List Site) (site : Site) (run n : ℕ) → map vnode_of sites ≡ map erase_vnode (opening_vnodes run 0 n)
-    → vnode_of site ≡ erase_vnode (fresh_vnode (id_of run n)) → map vnode_of (sites ++ site ∷ []) ≡ map erase_vnode (opening_vnodes run 0 (suc n))
+    → vnode_of site ≡ erase_vnode (fresh_vnode (id_of run n) 0) → map vnode_of (sites ++ site ∷ []) ≡ map erase_vnode (opening_vnodes run 0 (suc n))
 more_sites sites site run n h e =
     map-more vnode_of sites site ∙ (λ i. h i ++ e i ∷ [])
-    ∙ sym (map-more erase_vnode (opening_vnodes run 0 n) (fresh_vnode (id_of run n)))
-    ∙ ap (λ i. map erase_vnode (opening_vnodes run 0 n ++ fresh_vnode (id_of run i) ∷ [])) (from_zero n)
+    ∙ sym (map-more erase_vnode (opening_vnodes run 0 n) (fresh_vnode (id_of run n) 0))
+    ∙ ap (λ i. map erase_vnode (opening_vnodes run 0 n ++ fresh_vnode (id_of run i) 0 ∷ [])) (from_zero n)
     ∙ ap (λ vs. map erase_vnode vs) (opening-more run 0 n)
 
 -- sites and workers are a world before any step
 pub opening_is : (sites : List Site) (workers : List RunPhase) (run count vnodes : ℕ) → map vnode_of sites ≡ map erase_vnode (opening_vnodes run 0 vnodes)
     → workers ≡ replicate count phases.Idle → world_of sites workers ≡ erase (opening_world run count vnodes)
 opening_is sites workers run count vnodes s w =
-    let idle = ap (λ ws. map worker_of ws) w ∙ idle_workers count vnodes in
+    let idle = ap (λ ws. map worker_of ws) w ∙ idle_workers count in
     λ i. record { vnodes = s i; workers = idle i }
 
 pub opening_kept : (run count vnodes : ℕ) (world : World) → run < 2 ^ 32 → count < 2 ^ 16 → vnodes < 2 ^ 16

@@ -1,7 +1,7 @@
 -- Over a schedule in which each context that is given for a key was shown for it: the contexts of calls and of events name
 -- positions.
 use Rattle.std.proofs.Common.{◌≡◌, ◌⊎◌, inl, inr, ℕ, ◌&&◌, cond, List, [], ◌∷◌, ◌++◌, refl, sym, ◌∙◌, ap, subst}
-use Rattle.std.specs.Prelude.{pred, Option, Some, None, Ok, slice_get, slice_set, MatchOption}
+use Rattle.std.specs.Prelude.{pred, Option, Some, None, Ok, slice_get, MatchOption}
 use Rattle.std.specs.Option.{option_map_or}
 use Rattle.riak_msgs.specs.declared.Key.{Key}
 use Rattle.riak_msgs.specs.Contents.{Content}
@@ -12,18 +12,18 @@ use Rattle.vnode_machine.specs.Replay.{History, HasReplay}
 use Rattle.vnode_machine.specs.Step.{Response}
 use Rattle.vnode_machine.specs.Registers.{key_of, context_in_ask}
 use Rattle.vnode_machine.proofs.Keys.{key_eq-refl}
-use Rattle.node_steps.specs.World.{Vnode, Worker, World, Call, fresh_worker, opening_world, opening_vnodes, id_at, history_at, call_of, call_at}
-use Rattle.node_steps.specs.Steps.{Asks, Step, Outcome, NotPossible, Happened, Replied, turned, happens, outcome}
-use Rattle.node_steps.specs.Schedules.{Start, IsStart, world_after, IsPrefix}
+use Rattle.node_steps.specs.World.{Vnode, Worker, World, Call, fresh_worker, opening_world, opening_vnodes, id_at, last_epoch_at, history_at, call_of, call_at}
+use Rattle.node_steps.specs.Steps.{Asks, Step, Outcome, NotPossible, Happened, Replied, seeing, turned, action_in, happens, outcome}
+use Rattle.node_steps.specs.Schedules.{Start, IsStart, world_after, Begins}
 use Rattle.node_steps.specs.Contexts.{context_bytes, given_by, WasShown, GivesShown}
 use Rattle.node_steps.specs.Claims.{ValuesLeaveOnlySeen}
 use Rattle.node_steps.proofs.Lists.{set-here, set-there, same_or_other, get-replicate}
-use Rattle.node_steps.proofs.Prefixes.{prefix-whole}
+use Rattle.node_steps.proofs.Beginnings.{begins-itself}
 use Rattle.node_steps.proofs.Inside.{same_test}
 use Rattle.node_steps.proofs.Shown.{IsName, name-later, held_is_name, saw_position}
 use Rattle.node_steps.proofs.Turns.{CallIs, EventIs, Comes}
 use Rattle.node_steps.proofs.Kept.{IsOrderly, IsPossible, possible, opened, orderly}
-use Rattle.node_steps.proofs.Lifting.{replays_at, here, turn, reply_is, id_before, id_next, before_is, after_is, elsewhere_is}
+use Rattle.node_steps.proofs.Lifting.{replays_at, here, turn, reply_is, id_before, epoch_before, id_next, epoch_next, before_is, after_is, elsewhere_is}
 use Rattle.node_steps.proofs.Leaving.{seen}
 
 call_same : (a b : Call) → Some a ≡ Some b → a ≡ b
@@ -33,136 +33,140 @@ no_event : (event : Event Content Context) (later before : History) → later ++
 no_event event [] before h = cc
 no_event event (x ∷ later) before h = cc
 
--- a prefix, ending with an event, of a history with an event more
-prefix_cases : (event new : Event Content Context) (before history : History) → IsPrefix (event ∷ before) (new ∷ history)
-    → ((event ≡ new) × (before ≡ history)) ⊎ IsPrefix (event ∷ before) history
-prefix_cases event new before history h = by h.0 h.1
+-- a front, ending with an event, of a history with an event more
+begins_cases : (event new : Event Content Context) (before history : History) → Begins (event ∷ before) (new ∷ history)
+    → ((event ≡ new) × (before ≡ history)) ⊎ Begins (event ∷ before) history
+begins_cases event new before history h = by h.0 h.1
   where
-    by : (later : History) → later ++ (event ∷ before) ≡ new ∷ history → ((event ≡ new) × (before ≡ history)) ⊎ IsPrefix (event ∷ before) history
+    by : (later : History) → later ++ (event ∷ before) ≡ new ∷ history → ((event ≡ new) × (before ≡ history)) ⊎ Begins (event ∷ before) history
     by [] e = inl (cc, cc)
     by (x ∷ later) e = inr (later, cc)
 
 module _ (index : ℕ) (key : Key) where
   -- the context of a call of the key is the name of a position
-  abbrev NamesCall : ℕ → History → Option Call → Type 0
-  NamesCall id history call =
-      MatchOption call (Unit {0}) (λ c. c.index ≡ index → key_of c.ask ≡ key → (context : Context) → context_in_ask c.ask ≡ Some context → IsName id history key context)
+  abbrev NamesCall : (id epoch : ℕ) → History → Option Call → Type 0
+  NamesCall id epoch history call =
+      MatchOption call (Unit {0}) (λ c. c.site ≡ index → key_of c.ask ≡ key → (context : Context) → context_in_ask c.ask ≡ Some context → IsName id epoch history key context)
 
-  abbrev OfWorker : ℕ → History → Option Worker → Type 0
-  OfWorker id history o = MatchOption o (Unit {0}) (λ worker. NamesCall id history (call_of worker.phase))
+  abbrev OfWorker : (id epoch : ℕ) → History → Option Worker → Type 0
+  OfWorker id epoch history o = MatchOption o (Unit {0}) (λ worker. NamesCall id epoch history (call_of worker.phase))
 
   -- what holds of contexts, those that were shown being given by Shown
-  pub record IsNamedAs (id : ℕ) (w : World) (Shown : Context → Type 0) : Type 0 where
-    pub shown : (context : Context) → Shown context → IsName id (history_at w index) key context
-    pub calls : (place : ℕ) (worker : Worker) → slice_get w.workers place ≡ Some worker → NamesCall id (history_at w index) (call_of worker.phase)
-    pub events : (before : History) (event : Event Content Context) (context : Context) → IsPrefix (event ∷ before) (history_at w index)
-        → event.key ≡ key → event.context ≡ Some context → IsName id before key context
+  pub record IsNamedAs (id epoch : ℕ) (w : World) (Shown : Context → Type 0) : Type 0 where
+    pub shown : (context : Context) → Shown context → IsName id epoch (history_at w index) key context
+    pub calls : (place : ℕ) (worker : Worker) → slice_get w.workers place ≡ Some worker → NamesCall id epoch (history_at w index) (call_of worker.phase)
+    pub events : (before : History) (event : Event Content Context) (context : Context) → Begins (event ∷ before) (history_at w index)
+        → event.key ≡ key → event.context ≡ Some context → IsName id epoch before key context
 
   abbrev pub IsNamed : World → (Context → Type 0) → Type 0
-  IsNamed w Shown = IsNamedAs (id_at w index) w Shown
+  IsNamed w Shown = IsNamedAs (id_at w index) (last_epoch_at w index) w Shown
 
-  call_later : (id : ℕ) (history later : History) (call : Option Call) → IsPrefix history later → NamesCall id history call → NamesCall id later call
-  call_later id history later None p h = tt
-  call_later id history later (Some c) p h = λ at k context e. name-later id history later key context p (h at k context e)
+  call_later : (id epoch : ℕ) (history later : History) (call : Option Call) → Begins history later → NamesCall id epoch history call → NamesCall id epoch later call
+  call_later id epoch history later None p h = tt
+  call_later id epoch history later (Some c) p h = λ at k context e. name-later id epoch history later key context p (h at k context e)
 
   module _ (w : World) (orderly : IsOrderly w) (step : Step) (r : World × Outcome) (p : IsPossible w step r) (Shown : Context → Type 0) (named : IsNamed w Shown)
-      (gives : (context : Context) → given_by step.action index key ≡ Some context → Shown context) where
+      (gives : (context : Context) → given_by (action_in w step) index key ≡ Some context → Shown context) where
     abbrev id : ℕ
     id = id_at w index
+
+    abbrev epoch : ℕ
+    epoch = last_epoch_at w index
 
     abbrev next : World
     next = turned w (pred step.worker) p.index p.worker p.turn
 
     -- the history only grows
-    grows : IsPrefix (history_at w index) (history_at next index)
+    grows : Begins (history_at w index) (history_at next index)
     grows = elim (same_or_other p.index index) [
-      | inl e ↦ subst (λ k. IsPrefix (history_at w k) (history_at next k)) e
-          (subst (λ h. IsPrefix h (history_at next p.index)) (sym (before_is w orderly step r p))
-          (subst (λ h. IsPrefix p.vnode.history h) (sym (after_is w orderly step r p)) (turn w orderly step r p).grows))
-      | inr n ↦ subst (λ h. IsPrefix (history_at w index) h) (sym (elsewhere_is w orderly step r p index n)) (prefix-whole (history_at w index))
+      | inl e ↦ subst (λ k. Begins (history_at w k) (history_at next k)) e
+          (subst (λ h. Begins h (history_at next p.index)) (sym (before_is w orderly step r p))
+          (subst (λ h. Begins p.vnode.history h) (sym (after_is w orderly step r p)) (turn w orderly step r p).grows))
+      | inr n ↦ subst (λ h. Begins (history_at w index) h) (sym (elsewhere_is w orderly step r p index n)) (begins-itself (history_at w index))
     ]
 
     -- what the step shows
-    shows_next : (context : Context) (call : Call) → call_at w step.worker ≡ Some call → call.index ≡ index → key_of call.ask ≡ key
-        → (response : Response) → p.turn.outcome ≡ Replied (Ok response) → context_of (context_bytes response) ≡ Some context → IsName id (history_at next index) key context
+    shows_next : (context : Context) (call : Call) → call_at w step.worker ≡ Some call → call.site ≡ index → key_of call.ask ≡ key
+        → (response : Response) → p.turn.outcome ≡ Replied (Ok response) → context_of (context_bytes response) ≡ Some context → IsName id epoch (history_at next index) key context
     shows_next context call asked at of_key response replied decodes =
         let a = reply_is w orderly step r p (Ok response) replied in
         let same : a.0 ≡ call = call_same a.0 call (sym a.1 ∙ asked) in
-        let there : p.index ≡ index = sym a.2.at ∙ ap (λ (c : Call). c.index) same ∙ at in
-        let name : IsName p.vnode.id p.turn.vnode.history (key_of a.0.ask) context =
-        held_is_name p.vnode.id p.turn.vnode.history (key_of a.0.ask) (context_bytes response) context (orderly.vnodes p.index p.vnode p.vnode_is).limits
+        let there : p.index ≡ index = sym a.2.at ∙ ap (λ (c : Call). c.site) same ∙ at in
+        let name : IsName p.vnode.id p.vnode.last_epoch p.turn.vnode.history (key_of a.0.ask) context =
+        held_is_name p.vnode.id p.vnode.last_epoch p.turn.vnode.history (key_of a.0.ask) (context_bytes response) context (orderly.vnodes p.index p.vnode p.vnode_is).limits
         (turn w orderly step r p).replays a.2.shows decodes in
-        subst (λ k. IsName (id_at w k) (history_at next k) key context) there
-        (subst (λ i. IsName i (history_at next p.index) key context) (sym (id_before w orderly step r p))
-        (subst (λ hist. IsName p.vnode.id hist key context) (sym (after_is w orderly step r p))
-        (subst (λ k. IsName p.vnode.id p.turn.vnode.history k context) (ap (λ (c : Call). key_of c.ask) same ∙ of_key) name)))
+        subst (λ k. IsName (id_at w k) (last_epoch_at w k) (history_at next k) key context) there
+        (subst (λ i. IsName i (last_epoch_at w p.index) (history_at next p.index) key context) (sym (id_before w orderly step r p))
+        (subst (λ e. IsName p.vnode.id e (history_at next p.index) key context) (sym (epoch_before w orderly step r p))
+        (subst (λ hist. IsName p.vnode.id p.vnode.last_epoch hist key context) (sym (after_is w orderly step r p))
+        (subst (λ k. IsName p.vnode.id p.vnode.last_epoch p.turn.vnode.history k context) (ap (λ (c : Call). key_of c.ask) same ∙ of_key) name))))
 
     -- a context that an action gives for the key
-    given_is : (call : Call) → step.action ≡ Asks call.index call.ask → call.index ≡ index → key_of call.ask ≡ key → given_by step.action index key ≡ context_in_ask call.ask
+    given_is : (call : Call) → action_in w step ≡ Asks call.site call.ask → call.site ≡ index → key_of call.ask ≡ key → given_by (action_in w step) index key ≡ context_in_ask call.ask
     given_is call asks at k =
         ap (λ action. given_by action index key) asks
-        ∙ ap (λ b. cond (b && key_eq (key_of call.ask) key) (context_in_ask call.ask) None) (same_test call.index index at)
+        ∙ ap (λ b. cond (b && key_eq (key_of call.ask) key) (context_in_ask call.ask) None) (same_test call.site index at)
         ∙ ap (λ b. cond b (context_in_ask call.ask) None) (ap (λ other. key_eq (key_of call.ask) other) (sym k) ∙ key_eq-refl (key_of call.ask))
 
     -- the call of the step's worker afterwards
-    call_next : NamesCall id (history_at next index) (call_of p.turn.phase)
+    call_next : NamesCall id epoch (history_at next index) (call_of p.turn.phase)
     call_next = by (turn w orderly step r p).call
       where
-        mine : NamesCall id (history_at w index) (call_of p.worker.phase)
+        mine : NamesCall id epoch (history_at w index) (call_of p.worker.phase)
         mine = named.calls (pred step.worker) p.worker (here w orderly step r p)
 
-        by : CallIs step.action (call_of p.worker.phase) (call_of p.turn.phase) → NamesCall id (history_at next index) (call_of p.turn.phase)
-        by (inl e) = subst (λ c. NamesCall id (history_at next index) c) (sym e) (call_later id (history_at w index) (history_at next index) (call_of p.worker.phase) grows mine)
-        by (inr (inl e)) = subst (λ c. NamesCall id (history_at next index) c) (sym e) tt
+        by : CallIs (action_in w step) (call_of p.worker.phase) (call_of p.turn.phase) → NamesCall id epoch (history_at next index) (call_of p.turn.phase)
+        by (inl e) = subst (λ c. NamesCall id epoch (history_at next index) c) (sym e) (call_later id epoch (history_at w index) (history_at next index) (call_of p.worker.phase) grows mine)
+        by (inr (inl e)) = subst (λ c. NamesCall id epoch (history_at next index) c) (sym e) tt
         by (inr (inr asked)) =
-            subst (λ c. NamesCall id (history_at next index) c) (sym asked.1)
-            (λ at k context e. name-later id (history_at w index) (history_at next index) key context grows
+            subst (λ c. NamesCall id epoch (history_at next index) c) (sym asked.1)
+            (λ at k context e. name-later id epoch (history_at w index) (history_at next index) key context grows
             (named.shown context (gives context (given_is asked.0 asked.2 at k ∙ e))))
 
     -- the events at the step's vnode
-    events_here : p.index ≡ index → (before : History) (event : Event Content Context) (context : Context) → IsPrefix (event ∷ before) p.turn.vnode.history
-        → event.key ≡ key → event.context ≡ Some context → IsName id before key context
-    events_here at before event context prefix k e = by p.turn.outcome (turn w orderly step r p).comes
+    events_here : p.index ≡ index → (before : History) (event : Event Content Context) (context : Context) → Begins (event ∷ before) p.turn.vnode.history
+        → event.key ≡ key → event.context ≡ Some context → IsName id epoch before key context
+    events_here at before event context begins k e = by p.turn.outcome (turn w orderly step r p).comes
       where
         old_is : history_at w index ≡ p.vnode.history
         old_is = subst (λ j. history_at w j ≡ p.vnode.history) at (before_is w orderly step r p)
 
-        old : IsPrefix (event ∷ before) p.vnode.history → IsName id before key context
-        old h = named.events before event context (subst (λ hist. IsPrefix (event ∷ before) hist) (sym old_is) h) k e
+        old : Begins (event ∷ before) p.vnode.history → IsName id epoch before key context
+        old h = named.events before event context (subst (λ hist. Begins (event ∷ before) hist) (sym old_is) h) k e
 
-        mine : NamesCall id (history_at w index) (call_of p.worker.phase)
+        mine : NamesCall id epoch (history_at w index) (call_of p.worker.phase)
         mine = named.calls (pred step.worker) p.worker (here w orderly step r p)
 
         -- the event of a call
-        new : (call : Call) → NamesCall id (history_at w index) (Some call) → call.index ≡ p.index → EventIs call.ask p.vnode.history p.turn.vnode.history → IsName id before key context
-        new call names about (inl same) = old (subst (λ hist. IsPrefix (event ∷ before) hist) same prefix)
-        new call names about (inr made) = elim (prefix_cases event made.0 before p.vnode.history (subst (λ hist. IsPrefix (event ∷ before) hist) made.1 prefix)) [
-          | inl is ↦ subst (λ hist. IsName id hist key context) (old_is ∙ sym is.1)
+        new : (call : Call) → NamesCall id epoch (history_at w index) (Some call) → call.site ≡ p.index → EventIs call.ask p.vnode.history p.turn.vnode.history → IsName id epoch before key context
+        new call names about (inl same) = old (subst (λ hist. Begins (event ∷ before) hist) same begins)
+        new call names about (inr made) = elim (begins_cases event made.0 before p.vnode.history (subst (λ hist. Begins (event ∷ before) hist) made.1 begins)) [
+          | inl is ↦ subst (λ hist. IsName id epoch hist key context) (old_is ∙ sym is.1)
               (names (about ∙ at) (sym made.2 ∙ sym (ap (λ (x : Event Content Context). x.key) is.0) ∙ k) context
               (sym made.3 ∙ sym (ap (λ (x : Event Content Context). x.context) is.0) ∙ e))
           | inr h ↦ old h
         ]
 
-        by : (came : Outcome) → Comes p.vnode.id p.index (call_of p.worker.phase) p.vnode.history p.turn came → IsName id before key context
+        by : (came : Outcome) → Comes p.vnode.id p.vnode.last_epoch p.index (call_of p.worker.phase) p.vnode.history p.turn came → IsName id epoch before key context
         by NotPossible h = absurd h
-        by Happened h = old (subst (λ hist. IsPrefix (event ∷ before) hist) h prefix)
-        by (Replied reply) h = new h.0 (subst (λ c. NamesCall id (history_at w index) c) h.1 mine) h.2.at h.2.event
+        by Happened h = old (subst (λ hist. Begins (event ∷ before) hist) h begins)
+        by (Replied reply) h = new h.0 (subst (λ c. NamesCall id epoch (history_at w index) c) h.1 mine) h.2.at h.2.event
 
-    events_next : (before : History) (event : Event Content Context) (context : Context) → IsPrefix (event ∷ before) (history_at next index)
-        → event.key ≡ key → event.context ≡ Some context → IsName id before key context
-    events_next before event context prefix k e = elim (same_or_other p.index index) [
+    events_next : (before : History) (event : Event Content Context) (context : Context) → Begins (event ∷ before) (history_at next index)
+        → event.key ≡ key → event.context ≡ Some context → IsName id epoch before key context
+    events_next before event context begins k e = elim (same_or_other p.index index) [
       | inl at ↦ events_here at before event context
-          (subst (λ hist. IsPrefix (event ∷ before) hist) (subst (λ j. history_at next j ≡ p.turn.vnode.history) at (after_is w orderly step r p)) prefix) k e
-      | inr n ↦ named.events before event context (subst (λ hist. IsPrefix (event ∷ before) hist) (elsewhere_is w orderly step r p index n) prefix) k e
+          (subst (λ hist. Begins (event ∷ before) hist) (subst (λ j. history_at next j ≡ p.turn.vnode.history) at (after_is w orderly step r p)) begins) k e
+      | inr n ↦ named.events before event context (subst (λ hist. Begins (event ∷ before) hist) (elsewhere_is w orderly step r p index n) begins) k e
     ]
 
-    calls_next : (place : ℕ) (worker : Worker) → slice_get next.workers place ≡ Some worker → NamesCall id (history_at next index) (call_of worker.phase)
+    calls_next : (place : ℕ) (worker : Worker) → slice_get next.workers place ≡ Some worker → NamesCall id epoch (history_at next index) (call_of worker.phase)
     calls_next place worker h =
-        let new : Worker = record { phase = p.turn.phase; seen = slice_set p.worker.seen p.index p.turn.seen } in
+        let new : Worker = record { phase = p.turn.phase; seen = seeing p.worker.seen p.index p.turn.seen } in
         elim (same_or_other (pred step.worker) place) [
-          | inl e ↦ subst (λ o. OfWorker id (history_at next index) o)
+          | inl e ↦ subst (λ o. OfWorker id epoch (history_at next index) o)
               (sym (set-here w.workers (pred step.worker) p.worker new (here w orderly step r p)) ∙ ap (λ j. slice_get next.workers j) e ∙ h) call_next
-          | inr n ↦ call_later id (history_at w index) (history_at next index) (call_of worker.phase) grows
+          | inr n ↦ call_later id epoch (history_at w index) (history_at next index) (call_of worker.phase) grows
               (named.calls place worker (sym (set-there w.workers (pred step.worker) place new n) ∙ h))
         ]
 
@@ -170,7 +174,7 @@ module _ (index : ℕ) (key : Key) where
     pub record IsShownBy (came : Outcome) (context : Context) : Type 0 where
       pub call : Call
       pub asked : call_at w step.worker ≡ Some call
-      pub at : call.index ≡ index
+      pub at : call.site ≡ index
       pub of_key : key_of call.ask ≡ key
       pub response : Response
       pub replied : came ≡ Replied (Ok response)
@@ -178,14 +182,15 @@ module _ (index : ℕ) (key : Key) where
 
     pub named_next : (came : Outcome) → p.turn.outcome ≡ came → (Later : Context → Type 0)
         → ((context : Context) → Later context → IsShownBy came context ⊎ Shown context) → IsNamed next Later
-    named_next came same Later splits = subst (λ i. IsNamedAs i next Later) (sym (id_next w orderly step r p index)) (record {
-      shown = λ context h. elim (splits context h) [
-        | inl now ↦ shows_next context now.call now.asked now.at now.of_key now.response (same ∙ now.replied) now.decodes
-        | inr was ↦ name-later id (history_at w index) (history_at next index) key context grows (named.shown context was)
-      ];
-      calls = calls_next;
-      events = events_next;
-    })
+    named_next came same Later splits = subst (λ i. IsNamedAs i (last_epoch_at next index) next Later) (sym (id_next w orderly step r p index))
+        (subst (λ e. IsNamedAs id e next Later) (sym (epoch_next w orderly step r p index)) (record {
+          shown = λ context h. elim (splits context h) [
+            | inl now ↦ shows_next context now.call now.asked now.at now.of_key now.response (same ∙ now.replied) now.decodes
+            | inr was ↦ name-later id epoch (history_at w index) (history_at next index) key context grows (named.shown context was)
+          ];
+          calls = calls_next;
+          events = events_next;
+        }))
 
 is_some : (r : World × Outcome) → Some r ≡ None → ⊥
 is_some r h = cc
@@ -200,9 +205,9 @@ module _ (start : Start) (is : IsStart start) (index : ℕ) (key : Key) where
       record {
         shown = λ context h. absurd h;
         calls = λ place worker h.
-            subst (λ (x : Worker). NamesCall index key (id_at w index) (history_at w index) (call_of x.phase))
-            (sym (get-replicate start.workers place (fresh_worker start.vnodes) worker h)) tt;
-        events = λ before event context prefix k e. absurd (no_event event prefix.0 before (prefix.1 ∙ empty (slice_get w.vnodes index) refl));
+            subst (λ (x : Worker). NamesCall index key (id_at w index) (last_epoch_at w index) (history_at w index) (call_of x.phase))
+            (sym (get-replicate start.workers place fresh_worker worker h)) tt;
+        events = λ before event context begins k e. absurd (no_event event begins.0 before (begins.1 ∙ empty (slice_get w.vnodes index) refl));
       }
     where
       empty : (o : Option Vnode) → slice_get (opening_vnodes start.run 0 start.vnodes) index ≡ o → option_map_or (λ (v : Vnode). v.history) o [] ≡ []
@@ -237,9 +242,9 @@ module _ (start : Start) (is : IsStart start) (index : ℕ) (key : Key) where
 pub values_leave_only_seen : ValuesLeaveOnlySeen
 values_leave_only_seen = λ start is schedule index key gives.
     let w : World = world_after start schedule in
-    let replays : HasReplay (id_at w index) 0 (history_at w index) = replays_at w (orderly start is schedule) index in
+    let replays : HasReplay (id_at w index) (last_epoch_at w index) (history_at w index) = replays_at w (orderly start is schedule) index in
     let named = named_after start is index key schedule gives in (
-      λ before event context prefix k e.
-          saw_position (id_at w index) key (history_at w index) before event context replays named.events prefix k e,
-      λ between position number leaves. seen (id_at w index) (history_at w index) between position key number replays leaves,
+      λ before event context begins k e.
+          saw_position (id_at w index) (last_epoch_at w index) key (history_at w index) before event context replays named.events begins k e,
+      λ between position number leaves. seen (id_at w index) (last_epoch_at w index) (history_at w index) between position key number replays leaves,
     )

@@ -23,18 +23,18 @@ use Rattle.vnode_machine.proofs.Mirrors.{held-same}
 use Rattle.vnode_machine.proofs.Formed.{shown_context}
 use Rattle.vnode_machine.proofs.Showing.{shown_name_positions}
 use Rattle.node_steps.specs.Contexts.{context_bytes}
-use Rattle.node_steps.specs.Schedules.{IsPrefix}
-use Rattle.node_steps.proofs.Prefixes.{prefix-whole, prefix-trans}
+use Rattle.node_steps.specs.Schedules.{Begins}
+use Rattle.node_steps.proofs.Beginnings.{begins-itself, begins-trans}
 
 -- the context is the name of a position of the key
-pub record IsName (id : ℕ) (history : History) (key : Key) (context : Context) : Type 0 where
+pub record IsName (id epoch : ℕ) (history : History) (key : Key) (context : Context) : Type 0 where
   pub position : History
-  pub prefix : IsPrefix position history
+  pub earlier : Begins position history
   pub defined : is_defined position key ≡ true
-  pub is : context ≡ (naming {V = Content} id 0).name position key
+  pub is : context ≡ (naming {V = Content} id epoch).name position key
 
-pub name-later : (id : ℕ) (history later : History) (key : Key) (context : Context) → IsPrefix history later → IsName id history key context → IsName id later key context
-name-later id history later key context p n = record { position = n.position; prefix = prefix-trans n.position history later n.prefix p; defined = n.defined; is = n.is }
+pub name-later : (id epoch : ℕ) (history later : History) (key : Key) (context : Context) → Begins history later → IsName id epoch history key context → IsName id epoch later key context
+name-later id epoch history later key context p n = record { position = n.position; earlier = begins-trans n.position history later n.earlier p; defined = n.defined; is = n.is }
 
 -- the bytes are none, or those of the context of a held key
 abbrev pub AreHeld : State Content → Key → List ℕ → Type 0
@@ -108,39 +108,39 @@ same_context : (a b : Context) → Some a ≡ Some b → a ≡ b
 same_context a b h = cc
 
 -- what is shown of a held key is the name of the position
-pub held_is_name : (id : ℕ) (history : History) (key : Key) (bytes : List ℕ) (context : Context) → IsWithinLimits id 0 → HasReplay id 0 history
-    → AreHeld (replay id 0 history) key bytes → context_of bytes ≡ Some context → IsName id history key context
-held_is_name id history key bytes context limits replays (inl e) decodes = absurd (none_given context (ap context_of (sym e) ∙ decodes))
-held_is_name id history key bytes context limits replays (inr h) decodes =
-    let defined : is_defined history key ≡ true = sym (held-same id 0 history (known id 0 history replays) key) ∙ h.0 in
+pub held_is_name : (id epoch : ℕ) (history : History) (key : Key) (bytes : List ℕ) (context : Context) → IsWithinLimits id epoch → HasReplay id epoch history
+    → AreHeld (replay id epoch history) key bytes → context_of bytes ≡ Some context → IsName id epoch history key context
+held_is_name id epoch history key bytes context limits replays (inl e) decodes = absurd (none_given context (ap context_of (sym e) ∙ decodes))
+held_is_name id epoch history key bytes context limits replays (inr h) decodes =
+    let defined : is_defined history key ≡ true = sym (held-same id epoch history (known id epoch history replays) key) ∙ h.0 in
     record {
       position = history;
-      prefix = prefix-whole history;
+      earlier = begins-itself history;
       defined = defined;
-      is = same_context context ((naming {V = Content} id 0).name history key)
-          (sym decodes ∙ ap context_of h.1 ∙ shown_context id 0 history limits replays key defined);
+      is = same_context context ((naming {V = Content} id epoch).name history key)
+          (sym decodes ∙ ap context_of h.1 ∙ shown_context id epoch history limits replays key defined);
     }
 
 -- so it was shown there, as the machine has it
-was_shown : (id : ℕ) (history : History) (key : Key) (context : Context) → IsName id history key context → WasShown id 0 history key context
-was_shown id history key context n = record { later = n.prefix.0; position = n.position; is = n.prefix.1; defined = n.defined; shown = n.is }
+was_shown : (id epoch : ℕ) (history : History) (key : Key) (context : Context) → IsName id epoch history key context → WasShown id epoch history key context
+was_shown id epoch history key context n = record { later = n.earlier.0; position = n.position; is = n.earlier.1; defined = n.defined; shown = n.is }
 
-module _ (id : ℕ) (key : Key) where
+module _ (id epoch : ℕ) (key : Key) where
   -- each context that an event of the key in this history gave is the name of a position before it
   abbrev pub NamesEach : History → Type 0
   NamesEach history =
-      (before : History) (event : Event Content Context) (context : Context) → IsPrefix (event ∷ before) history
-      → event.key ≡ key → event.context ≡ Some context → IsName id before key context
+      (before : History) (event : Event Content Context) (context : Context) → Begins (event ∷ before) history
+      → event.key ≡ key → event.context ≡ Some context → IsName id epoch before key context
 
-  gives_shown : (history whole : History) → IsPrefix history whole → NamesEach whole → GivesShown id 0 history key
+  gives_shown : (history whole : History) → Begins history whole → NamesEach whole → GivesShown id epoch history key
   gives_shown [] whole p names = tt
   gives_shown (event ∷ before) whole p names = (
-    gives_shown before whole (prefix-trans before (event ∷ before) whole (event ∷ [], refl) p) names,
-    λ k context e. was_shown id before key context (names before event context p k e),
+    gives_shown before whole (begins-trans before (event ∷ before) whole (event ∷ [], refl) p) names,
+    λ k context e. was_shown id epoch before key context (names before event context p k e),
   )
 
   -- and its event saw what was there
-  pub saw_position : (history before : History) (event : Event Content Context) (context : Context) → HasReplay id 0 history → NamesEach history
-      → IsPrefix (event ∷ before) history → event.key ≡ key → event.context ≡ Some context → SawPosition id 0 before event context
+  pub saw_position : (history before : History) (event : Event Content Context) (context : Context) → HasReplay id epoch history → NamesEach history
+      → Begins (event ∷ before) history → event.key ≡ key → event.context ≡ Some context → SawPosition id epoch before event context
   saw_position history before event context replays names p k e =
-      shown_name_positions id 0 history replays key (gives_shown history history (prefix-whole history) names) p.0 before event context p.1 k e
+      shown_name_positions id epoch history replays key (gives_shown history history (begins-itself history) names) p.0 before event context p.1 k e

@@ -13,8 +13,8 @@ use Rattle.node_steps.specs.declared.phase.Phase.TheVariants as phases
 use Rattle.node_steps.specs.declared.site.Site.{Site}
 use Rattle.node_steps.specs.declared.step.Act.{Act}
 use Rattle.node_steps.specs.declared.step.Act.TheVariants as acts
-use Rattle.node_steps.specs.World.{Phase, Idle, Asked, Reading, Holding, Done, Vnode, Worker, World, prefix_of}
-use Rattle.node_steps.specs.Steps.{Action, Asks, Enters, Step, Outcome, NotPossible, Turn, turn_of, site_of, turned, happens}
+use Rattle.node_steps.specs.World.{Phase, Idle, Asked, Reading, Holding, Done, Vnode, Worker, World, route, seen_at}
+use Rattle.node_steps.specs.Steps.{Action, Asks, Enters, Step, Outcome, NotPossible, Turn, turn_of, routed, site_of, turned, happens}
 use Rattle.node_steps.specs.Erased.{erase, erase_vnode, erase_worker}
 use Rattle.node_steps.specs.Returned.{returned}
 use Rattle.node_steps.specs.Running.{phase_of, vnode_of, worker_of, world_of, Turns}
@@ -77,13 +77,20 @@ Result = World × Outcome
 abbrev pub result_at : World → (place index : ℕ) → Worker → Turn → Result
 result_at world place index worker turn = (turned world place index worker turn, turn.outcome)
 
-module _ (sites : List Site) (workers : List RunPhase) (place index : ℕ) (phase next : RunPhase) (site new : Site) (action : Action) (returns : Returned)
-    (here : slice_get workers place ≡ Some phase) (at : site_of action (phase_of phase) ≡ Some index) (there : slice_get sites index ≡ Some site) where
+-- what comes of a worker's action, its call sent to its site
+abbrev pub Steps : World → Action → ℕ → Worker → Option Result
+Steps world action place worker =
+    option_and_then (λ index. option_and_then (λ vnode. option_map (result_at world place index worker)
+    (turn_of (seen_at worker.seen index) vnode action worker.phase)) (slice_get world.vnodes index)) (site_of action worker.phase)
+
+module _ (sites : List Site) (workers : List RunPhase) (place index : ℕ) (phase next : RunPhase) (site new : Site) (asked action : Action) (returns : Returned)
+    (sent : routed (route (world_of sites workers)) asked ≡ action) (here : slice_get workers place ≡ Some phase)
+    (at : site_of action (phase_of phase) ≡ Some index) (there : slice_get sites index ≡ Some site) where
   abbrev w : World
   w = world_of sites workers
 
   abbrev step : Step
-  step = record { worker = suc place; action = action }
+  step = record { worker = suc place; action = asked }
 
   abbrev later : World
   later = world_of (slice_set sites index new) (slice_set workers place next)
@@ -112,9 +119,9 @@ module _ (sites : List Site) (workers : List RunPhase) (place index : ℕ) (phas
 
   happens_is : happens w step ≡ option_map result (turn_of [] (vnode_of site) action (phase_of phase))
   happens_is =
-      ap (λ o. option_and_then (λ (x : Worker). option_and_then (λ i. option_and_then (λ v. option_map (λ turn. (turned w place i x turn, turn.outcome))
-      (turn_of (prefix_of x i) v action x.phase)) (slice_get w.vnodes i)) (site_of action x.phase)) o) (at_some worker_of workers place phase here)
-      ∙ ap (λ o. option_and_then (λ i. option_and_then (λ v. option_map (λ turn. (turned w place i (worker_of phase) turn, turn.outcome))
+      ap (λ a. option_and_then (Steps w a place) (slice_get w.workers place)) sent
+      ∙ ap (λ o. option_and_then (Steps w action place) o) (at_some worker_of workers place phase here)
+      ∙ ap (λ o. option_and_then (λ i. option_and_then (λ v. option_map (result_at w place i (worker_of phase))
       (turn_of [] v action (phase_of phase))) (slice_get w.vnodes i)) o) at
       ∙ ap (λ o. option_and_then (λ v. option_map result (turn_of [] v action (phase_of phase))) o) (at_some vnode_of sites index site there)
 
@@ -125,7 +132,18 @@ module _ (sites : List Site) (workers : List RunPhase) (place index : ℕ) (phas
       (by_turns (turn_of [] (vnode_of site) action (phase_of phase)) turns) in
       record { returns_is = both.0; world_is = both.1 }
 
--- a worker that has a call is about its vnode, whatever it does
+-- only a call is sent anywhere
+pub sent_itself : (route : ℕ → ℕ) (act : Act) → routed route (action_of act) ≡ action_of act
+sent_itself route acts.Enter = refl
+sent_itself route acts.Leave = refl
+sent_itself route acts.Mark = refl
+sent_itself route acts.Unmark = refl
+sent_itself route acts.Take = refl
+sent_itself route acts.Put = refl
+sent_itself route acts.Look = refl
+sent_itself route acts.Publish = refl
+
+-- a worker that has a call is about its site, whatever it does
 pub same_site : (act : Act) (phase : Phase) → site_of (action_of act) phase ≡ site_of Enters phase
 same_site acts.Enter phase = refl
 same_site acts.Leave Idle = refl
@@ -164,49 +182,43 @@ same_site acts.Publish (Reading index get) = refl
 same_site acts.Publish (Holding index ask hand plan) = refl
 same_site acts.Publish (Done index hand) = refl
 
--- without such a worker, its call, or its vnode no step is possible
-abbrev Steps : World → Action → ℕ → Worker → Option Result
-Steps world action place worker =
-    option_and_then (λ index. option_and_then (λ vnode. option_map (result_at world place index worker)
-    (turn_of (prefix_of worker index) vnode action worker.phase)) (slice_get world.vnodes index)) (site_of action worker.phase)
-
 pub no_worker : (world : World) (place : ℕ) (action : Action) → slice_get world.workers place ≡ None → happens world (record { worker = suc place; action = action }) ≡ None
-no_worker world place action h = ap (λ o. option_and_then (Steps world action place) o) h
+no_worker world place action h = ap (λ o. option_and_then (Steps world (routed (route world) action) place) o) h
 
 pub at_worker : (world : World) (place : ℕ) (action : Action) (worker : Worker) → slice_get world.workers place ≡ Some worker
-    → happens world (record { worker = suc place; action = action }) ≡ Steps world action place worker
-at_worker world place action worker h = ap (λ o. option_and_then (Steps world action place) o) h
+    → happens world (record { worker = suc place; action = action }) ≡ Steps world (routed (route world) action) place worker
+at_worker world place action worker h = ap (λ o. option_and_then (Steps world (routed (route world) action) place) o) h
 
-pub no_call : (world : World) (place : ℕ) (action : Action) (worker : Worker) → slice_get world.workers place ≡ Some worker → site_of action worker.phase ≡ None
+pub no_call : (world : World) (place : ℕ) (action : Action) (worker : Worker) → slice_get world.workers place ≡ Some worker → site_of (routed (route world) action) worker.phase ≡ None
     → happens world (record { worker = suc place; action = action }) ≡ None
 no_call world place action worker h e =
     at_worker world place action worker h
     ∙ ap (λ o. option_and_then (λ index. option_and_then (λ vnode. option_map (result_at world place index worker)
-    (turn_of (prefix_of worker index) vnode action worker.phase)) (slice_get world.vnodes index)) o) e
+    (turn_of (seen_at worker.seen index) vnode (routed (route world) action) worker.phase)) (slice_get world.vnodes index)) o) e
 
-pub no_vnode : (world : World) (place index : ℕ) (action : Action) (worker : Worker) → slice_get world.workers place ≡ Some worker → site_of action worker.phase ≡ Some index
+pub no_vnode : (world : World) (place index : ℕ) (action : Action) (worker : Worker) → slice_get world.workers place ≡ Some worker → site_of (routed (route world) action) worker.phase ≡ Some index
     → slice_get world.vnodes index ≡ None → happens world (record { worker = suc place; action = action }) ≡ None
 no_vnode world place index action worker h e n =
     at_worker world place action worker h
     ∙ ap (λ o. option_and_then (λ i. option_and_then (λ vnode. option_map (result_at world place i worker)
-    (turn_of (prefix_of worker i) vnode action worker.phase)) (slice_get world.vnodes i)) o) e
+    (turn_of (seen_at worker.seen i) vnode (routed (route world) action) worker.phase)) (slice_get world.vnodes i)) o) e
     ∙ ap (λ o. option_and_then (λ vnode. option_map (result_at world place index worker)
-    (turn_of (prefix_of worker index) vnode action worker.phase)) o) n
+    (turn_of (seen_at worker.seen index) vnode (routed (route world) action) worker.phase)) o) n
 
 -- a worker that has a call gets no other
 abbrev pub NoTurn : Action → Worker → Type 0
-NoTurn action worker = (index : ℕ) (vnode : Vnode) → turn_of (prefix_of worker index) vnode action worker.phase ≡ None
+NoTurn action worker = (index : ℕ) (vnode : Vnode) → turn_of (seen_at worker.seen index) vnode action worker.phase ≡ None
 
 pub no_turn : (world : World) (place : ℕ) (action : Action) (worker : Worker) → NoTurn action worker → Steps world action place worker ≡ None
 no_turn world place action worker none = by_index (site_of action worker.phase)
   where
     by_vnode : (index : ℕ) (o : Option Vnode) → option_and_then (λ vnode. option_map (result_at world place index worker)
-        (turn_of (prefix_of worker index) vnode action worker.phase)) o ≡ None
+        (turn_of (seen_at worker.seen index) vnode action worker.phase)) o ≡ None
     by_vnode index None = refl
     by_vnode index (Some vnode) = ap (λ t. option_map (result_at world place index worker) t) (none index vnode)
 
     by_index : (o : Option ℕ) → option_and_then (λ index. option_and_then (λ vnode. option_map (result_at world place index worker)
-        (turn_of (prefix_of worker index) vnode action worker.phase)) (slice_get world.vnodes index)) o ≡ None
+        (turn_of (seen_at worker.seen index) vnode action worker.phase)) (slice_get world.vnodes index)) o ≡ None
     by_index None = refl
     by_index (Some index) = by_vnode index (slice_get world.vnodes index)
 
@@ -222,7 +234,7 @@ pub is_busy : (sites : List Site) (workers : List RunPhase) (place index : ℕ) 
 is_busy sites workers place index ask phase here busy =
     let world = world_of sites workers in
     at_worker world place (Asks index ask) (worker_of phase) (at_some worker_of workers place phase here)
-    ∙ no_turn world place (Asks index ask) (worker_of phase) (busy_turn index ask phase busy)
+    ∙ no_turn world place (Asks (route world index) ask) (worker_of phase) (busy_turn (route world index) ask phase busy)
 
 some_same : {X : Type 0} (a b : X) → Some a ≡ Some b → a ≡ b
 some_same a b h = cc
@@ -234,8 +246,8 @@ taken old new worker place index act returns at t = λ fit.
     let same = some_same at.phase t.phase (sym at.here ∙ t.here) in
     let about = ap (λ p. site_of Enters (phase_of p)) (sym same) ∙ at.about in
     let turns = t.turns (fit place index t.phase t.site t.here about t.there) in
-    let step = step_taken old.sites.items old.workers.items place index t.phase t.next t.site t.later (action_of act) returns t.here
-    (same_site act (phase_of t.phase) ∙ about) t.there turns in
+    let step = step_taken old.sites.items old.workers.items place index t.phase t.next t.site t.later (action_of act) (action_of act) returns
+    (sent_itself (route (world_in old)) act) t.here (same_site act (phase_of t.phase) ∙ about) t.there turns in
     let sites = sym t.sites_are in
     let workers = sym t.workers_are in
     subst (λ n. TakesStep (world_in old) (step_by n act) returns (world_in new)) (sym at.number)

@@ -14,16 +14,16 @@ use Rattle.vnode_machine.specs.Runs.{IsAnswer}
 use Rattle.vnode_machine.proofs.StepLaw.{registers-after}
 use Rattle.node_steps.specs.World.{Word, Open, Taken, Phase, Idle, Asked, Reading, Holding, Done, Vnode, Call, call_of}
 use Rattle.node_steps.specs.Steps.{Action, Asks, Enters, Leaves, Marks, Unmarks, Takes, Puts, Looks, Publishes, Outcome, NotPossible, Happened, Replied, Turn, left, moves, lays, answers, looks_by, publishes_by, turn_of, site_of}
-use Rattle.node_steps.specs.Schedules.{IsPrefix}
+use Rattle.node_steps.specs.Schedules.{Begins}
 use Rattle.node_steps.specs.Contexts.{context_bytes}
 use Rattle.node_steps.proofs.Lists.{one}
-use Rattle.node_steps.proofs.Prefixes.{prefix-whole, prefix-more}
+use Rattle.node_steps.proofs.Beginnings.{begins-itself, begins-longer}
 use Rattle.node_steps.proofs.Shown.{AreHeld, ShowsHeld, outcome_shows}
 use Rattle.node_steps.proofs.Inside.{is_reader, is_holder, FitsWord, IsInPlace, IsInHand, IsAbout, same_test, IsSoundAs}
 
 -- the call is as it was, or answered, or new
 abbrev pub CallIs : Action → (before later : Option Call) → Type 0
-CallIs action before later = (later ≡ before) ⊎ ((later ≡ None) ⊎ ((call : Call) × (later ≡ Some call) × (action ≡ Asks call.index call.ask)))
+CallIs action before later = (later ≡ before) ⊎ ((later ≡ None) ⊎ ((call : Call) × (later ≡ Some call) × (action ≡ Asks call.site call.ask)))
 
 -- the history is as it was, or has an event of the ask more
 abbrev pub EventIs : Ask Content Context → (before later : History) → Type 0
@@ -37,34 +37,35 @@ ReplyShows state ask (Ok response) = AreHeld state (key_of ask) (context_bytes r
 ReplyShows state ask (Err number) = Unit {0}
 
 -- the turn answers a call as the register may; its worker has then seen the history
-pub record IsReplyTo (id index : ℕ) (history : History) (t : Turn) (reply : Result Response ℕ) (call : Call) : Type 0 where
-  pub at : call.index ≡ index
-  pub answer : IsAnswer id 0 history (record { ask = call.ask; reply = reply }) t.vnode.history
+pub record IsReplyTo (id epoch index : ℕ) (history : History) (t : Turn) (reply : Result Response ℕ) (call : Call) : Type 0 where
+  pub at : call.site ≡ index
+  pub answer : IsAnswer id epoch history (record { ask = call.ask; reply = reply }) t.vnode.history
   pub seen : t.seen ≡ t.vnode.history
   pub event : EventIs call.ask history t.vnode.history
-  pub shows : ReplyShows (replay id 0 t.vnode.history) call.ask reply
+  pub shows : ReplyShows (replay id epoch t.vnode.history) call.ask reply
 
 -- a turn answers nothing, and the history stays; or it answers the call
-abbrev pub Comes : (id index : ℕ) → Option Call → History → Turn → Outcome → Type 0
-Comes id index call history t NotPossible = ⊥
-Comes id index call history t Happened = t.vnode.history ≡ history
-Comes id index call history t (Replied reply) = (c : Call) × (call ≡ Some c) × IsReplyTo id index history t reply c
+abbrev pub Comes : (id epoch index : ℕ) → Option Call → History → Turn → Outcome → Type 0
+Comes id epoch index call history t NotPossible = ⊥
+Comes id epoch index call history t Happened = t.vnode.history ≡ history
+Comes id epoch index call history t (Replied reply) = (c : Call) × (call ≡ Some c) × IsReplyTo id epoch index history t reply c
 
-module _ (id index readers holders : ℕ) where
+module _ (id epoch index readers holders : ℕ) where
   -- what a turn of a worker in this phase leaves, and what comes of it
   pub record IsTurn (action : Action) (phase : Phase) (history : History) (t : Turn) : Type 0 where
     pub same_id : t.vnode.id ≡ id
-    pub replays : HasReplay id 0 t.vnode.history
+    pub same_epoch : t.vnode.last_epoch ≡ epoch
+    pub replays : HasReplay id epoch t.vnode.history
     pub same : (t.vnode.history ≡ history) ⊎ (is_holder index phase ≡ true)
-    pub grows : IsPrefix history t.vnode.history
+    pub grows : Begins history t.vnode.history
     pub word : (r h : ℕ) → r + one (is_reader index phase) ≡ readers + one (is_reader index t.phase)
         → h + one (is_holder index phase) ≡ holders + one (is_holder index t.phase) → FitsWord t.vnode.word r h
-    pub place : IsInPlace id t.vnode.word t.vnode.history t.vnode.place
-    pub hand : IsInHand id index t.vnode.history t.phase
-    pub seen : IsPrefix t.seen t.vnode.history
+    pub place : IsInPlace id epoch t.vnode.word t.vnode.history t.vnode.place
+    pub hand : IsInHand id epoch index t.vnode.history t.phase
+    pub seen : Begins t.seen t.vnode.history
     pub at : IsAbout index t.phase
     pub call : CallIs action (call_of phase) (call_of t.phase)
-    pub comes : Comes id index (call_of phase) history t t.outcome
+    pub comes : Comes id epoch index (call_of phase) history t t.outcome
 
   one_same : (a : ℕ) → a ≡ index → one (a == index) ≡ 1
   one_same a e = ap one (same_test a index e)
@@ -82,13 +83,13 @@ module _ (id index readers holders : ℕ) where
 
   -- the state in place, where a reader is inside
   pub place_read : (word : Word) (history : History) (place : State Content) → FitsWord word readers holders → 1 ≤ readers
-      → IsInPlace id word history place → place ≡ replay id 0 history
+      → IsInPlace id epoch word history place → place ≡ replay id epoch history
   place_read (Open n mark) history place f h p = p
   place_read Taken history place f h p = absurd (omega (arith, f.0, h))
 
-  module _ (limits : IsWithinLimits id 0) (history seen : History) (place : State Content) (replays : HasReplay id 0 history) (has : IsPrefix seen history) where
+  module _ (limits : IsWithinLimits id epoch) (history seen : History) (place : State Content) (replays : HasReplay id epoch history) (has : Begins seen history) where
     abbrev vnode_in : Word → Vnode
-    vnode_in word = record { id = id; word = word; history = history; place = place }
+    vnode_in word = record { id = id; last_epoch = epoch; word = word; history = history; place = place }
 
     abbrev turns : Word → Action → Phase → Option Turn
     turns word action phase = turn_of seen (vnode_in word) action phase
@@ -99,13 +100,14 @@ module _ (id index readers holders : ℕ) where
         → h + one (is_holder index phase) ≡ holders + one (is_holder index next) → FitsWord word r h
 
     -- a turn that moves its worker, and the word
-    moved : (action : Action) (phase next : Phase) (word : Word) → Fits phase next word → IsInPlace id word history place → IsInHand id index history next
+    moved : (action : Action) (phase next : Phase) (word : Word) → Fits phase next word → IsInPlace id epoch word history place → IsInHand id epoch index history next
         → IsAbout index next → CallIs action (call_of phase) (call_of next) → (old : Word) → IsTurn action phase history (moves seen (vnode_in old) next word)
     moved action phase next word fits in_place in_hand at call old = record {
       same_id = refl;
+      same_epoch = refl;
       replays = replays;
       same = inl refl;
-      grows = prefix-whole history;
+      grows = begins-itself history;
       word = fits;
       place = in_place;
       hand = in_hand;
@@ -115,14 +117,14 @@ module _ (id index readers holders : ℕ) where
       comes = refl;
     }
 
-    asks_turn : (word : Word) → FitsWord word readers holders → IsInPlace id word history place → (other : ℕ) (ask : Ask Content Context) → other ≡ index → (t : Turn)
+    asks_turn : (word : Word) → FitsWord word readers holders → IsInPlace id epoch word history place → (other : ℕ) (ask : Ask Content Context) → other ≡ index → (t : Turn)
         → turns word (Asks other ask) Idle ≡ Some t → IsTurn (Asks other ask) Idle history t
     asks_turn word f p other ask e t h =
         subst (λ u. IsTurn (Asks other ask) Idle history u) (cc)
         (moved (Asks other ask) Idle (Asked other ask) word (λ r h p q. fits_same word f r h (no_more r readers p) (no_more h holders q)) p tt e
-        (inr (inr (record { index = other; ask = ask }, refl, refl))) word)
+        (inr (inr (record { site = other; ask = ask }, refl, refl))) word)
 
-    enter_turn : (word : Word) → FitsWord word readers holders → IsInPlace id word history place → (other : ℕ) (get : GetCommand Context) → other ≡ index → (t : Turn)
+    enter_turn : (word : Word) → FitsWord word readers holders → IsInPlace id epoch word history place → (other : ℕ) (get : GetCommand Context) → other ≡ index → (t : Turn)
         → turns word Enters (Asked other (AskGet get)) ≡ Some t → IsTurn Enters (Asked other (AskGet get)) history t
     enter_turn (Open n false) f p other get e t h =
         subst (λ u. IsTurn Enters (Asked other (AskGet get)) history u) (cc)
@@ -136,11 +138,11 @@ module _ (id index readers holders : ℕ) where
     leave_fits (Open n mark) f phase next a b c d = λ r h p q. (omega (arith, p, q, a, ap one b, f.0), omega (arith, q, ap one c, ap one d, f.1))
     leave_fits Taken f phase next a b c d = λ r h p q. absurd (omega (arith, p, a, ap one b, f.0))
 
-    left_place : (word : Word) → IsInPlace id word history place → IsInPlace id (left word) history place
+    left_place : (word : Word) → IsInPlace id epoch word history place → IsInPlace id epoch (left word) history place
     left_place (Open n mark) p = p
     left_place Taken p = p
 
-    leave_turn : (word : Word) → FitsWord word readers holders → IsInPlace id word history place → (phase : Phase) → IsAbout index phase → (t : Turn)
+    leave_turn : (word : Word) → FitsWord word readers holders → IsInPlace id epoch word history place → (phase : Phase) → IsAbout index phase → (t : Turn)
         → turns word Leaves phase ≡ Some t → IsTurn Leaves phase history t
     leave_turn word f p Idle at t h = cc
     leave_turn word f p (Asked other ask) at t h = cc
@@ -154,7 +156,7 @@ module _ (id index readers holders : ℕ) where
         (moved Leaves (Done other None) Idle (left word) (leave_fits word f (Done other None) Idle (one_same other at) refl refl refl) (left_place word p) tt tt (inl refl) word)
     leave_turn word f p (Done other (Some hand)) at t h = cc
 
-    mark_turn : (word : Word) → FitsWord word readers holders → IsInPlace id word history place → (other : ℕ) (ask : Ask Content Context) → other ≡ index → (t : Turn)
+    mark_turn : (word : Word) → FitsWord word readers holders → IsInPlace id epoch word history place → (other : ℕ) (ask : Ask Content Context) → other ≡ index → (t : Turn)
         → turns word Marks (Asked other ask) ≡ Some t → IsTurn Marks (Asked other ask) history t
     mark_turn (Open n false) f p other ask e t h =
         subst (λ u. IsTurn Marks (Asked other ask) history u) (cc)
@@ -162,7 +164,7 @@ module _ (id index readers holders : ℕ) where
     mark_turn (Open n true) f p other ask e t h = cc
     mark_turn Taken f p other ask e t h = cc
 
-    unmark_turn : (word : Word) → FitsWord word readers holders → IsInPlace id word history place → (other : ℕ) (ask : Ask Content Context) → other ≡ index → (t : Turn)
+    unmark_turn : (word : Word) → FitsWord word readers holders → IsInPlace id epoch word history place → (other : ℕ) (ask : Ask Content Context) → other ≡ index → (t : Turn)
         → turns word Unmarks (Asked other ask) ≡ Some t → IsTurn Unmarks (Asked other ask) history t
     unmark_turn (Open n false) f p other ask e t h = cc
     unmark_turn (Open n true) f p other ask e t h =
@@ -170,7 +172,7 @@ module _ (id index readers holders : ℕ) where
         (moved Unmarks (Asked other ask) (Asked other ask) (Open n false) (λ r h p q. (no_more r readers p ∙ f.0, no_more h holders q ∙ f.1)) p tt e (inl refl) (Open n true))
     unmark_turn Taken f p other ask e t h = cc
 
-    take_turn : (word : Word) → FitsWord word readers holders → IsInPlace id word history place → (other : ℕ) (ask : Ask Content Context) → other ≡ index → (t : Turn)
+    take_turn : (word : Word) → FitsWord word readers holders → IsInPlace id epoch word history place → (other : ℕ) (ask : Ask Content Context) → other ≡ index → (t : Turn)
         → turns word Takes (Asked other ask) ≡ Some t → IsTurn Takes (Asked other ask) history t
     take_turn (Open zero mark) f p other ask e t h =
         subst (λ u. IsTurn Takes (Asked other ask) history u) (cc)
@@ -184,13 +186,14 @@ module _ (id index readers holders : ℕ) where
     lay_fits (Open n mark) f phase next a b c d = λ r h p q. absurd (omega (arith, q, a, ap one b, f.1))
     lay_fits Taken f phase next a b c d = λ r h p q. (omega (arith, p, ap one c, ap one d, f.0), omega (arith, q, a, ap one b, f.1))
 
-    laid : (phase next : Phase) (word : Word) (hand : State Content) → Fits phase next (Open 0 false) → hand ≡ replay id 0 history
-        → IsInHand id index history next → IsAbout index next → CallIs Puts (call_of phase) (call_of next) → IsTurn Puts phase history (lays seen (vnode_in word) next hand)
+    laid : (phase next : Phase) (word : Word) (hand : State Content) → Fits phase next (Open 0 false) → hand ≡ replay id epoch history
+        → IsInHand id epoch index history next → IsAbout index next → CallIs Puts (call_of phase) (call_of next) → IsTurn Puts phase history (lays seen (vnode_in word) next hand)
     laid phase next word hand fits is in_hand at call = record {
       same_id = refl;
+      same_epoch = refl;
       replays = replays;
       same = inl refl;
-      grows = prefix-whole history;
+      grows = begins-itself history;
       word = fits;
       place = is;
       hand = in_hand;
@@ -200,7 +203,7 @@ module _ (id index readers holders : ℕ) where
       comes = refl;
     }
 
-    put_turn : (word : Word) → FitsWord word readers holders → (phase : Phase) → IsAbout index phase → IsInHand id index history phase → (t : Turn)
+    put_turn : (word : Word) → FitsWord word readers holders → (phase : Phase) → IsAbout index phase → IsInHand id epoch index history phase → (t : Turn)
         → turns word Puts phase ≡ Some t → IsTurn Puts phase history t
     put_turn word f Idle at mine t h = cc
     put_turn word f (Asked other ask) at mine t h = cc
@@ -215,39 +218,40 @@ module _ (id index readers holders : ℕ) where
         (laid (Done other (Some hand)) Idle word hand (lay_fits word f (Done other (Some hand)) Idle (one_same other at) refl refl refl) (mine at) tt tt (inl refl))
 
     -- what comes of an ask in the replay is the register's
-    registers : (ask : Ask Content Context) (hand : State Content) (came : StepOutcome) → hand ≡ replay id 0 history → outcome_of_ask hand ask ≡ came → IsRegisters id 0 history ask came
+    registers : (ask : Ask Content Context) (hand : State Content) (came : StepOutcome) → hand ≡ replay id epoch history → outcome_of_ask hand ask ≡ came → IsRegisters id epoch history ask came
     registers ask hand came is h =
-        subst (λ c. IsRegisters id 0 history ask c) h (registers-after id 0 limits history hand ask (record { replays = replays; is = is }))
+        subst (λ c. IsRegisters id epoch history ask c) h (registers-after id epoch limits history hand ask (record { replays = replays; is = is }))
 
     shows : (ask : Ask Content Context) (hand : State Content) (came : StepOutcome) → outcome_of_ask hand ask ≡ came → ShowsHeld hand ask came
     shows ask hand came h = subst (λ c. ShowsHeld hand ask c) h (outcome_shows hand ask)
 
     -- a look that answers: nothing but the worker changes
-    answered : (phase next : Phase) (word : Word) → FitsWord word readers holders → IsInPlace id word history place → is_reader index phase ≡ is_reader index next
-        → is_holder index phase ≡ is_holder index next → IsInHand id index history next → IsAbout index next → call_of next ≡ None
-        → (reply : Result Response ℕ) (call : Call) → call_of phase ≡ Some call → IsReplyTo id index history (answers seen (vnode_in word) next reply) reply call
+    answered : (phase next : Phase) (word : Word) → FitsWord word readers holders → IsInPlace id epoch word history place → is_reader index phase ≡ is_reader index next
+        → is_holder index phase ≡ is_holder index next → IsInHand id epoch index history next → IsAbout index next → call_of next ≡ None
+        → (reply : Result Response ℕ) (call : Call) → call_of phase ≡ Some call → IsReplyTo id epoch index history (answers seen (vnode_in word) next reply) reply call
         → IsTurn Looks phase history (answers seen (vnode_in word) next reply)
     answered phase next word f p a b in_hand at none reply call c is = record {
       same_id = refl;
+      same_epoch = refl;
       replays = replays;
       same = inl refl;
-      grows = prefix-whole history;
+      grows = begins-itself history;
       word = λ r h x y.
           fits_same word f r h (cancel r readers (is_reader index phase) (x ∙ ap (λ c. readers + one c) (sym a)))
           (cancel h holders (is_holder index phase) (y ∙ ap (λ c. holders + one c) (sym b)));
       place = p;
       hand = in_hand;
-      seen = prefix-whole history;
+      seen = begins-itself history;
       at = at;
       call = inr (inl none);
       comes = (call, c, is);
     }
 
-    look_held : (word : Word) → FitsWord word readers holders → IsInPlace id word history place → (other : ℕ) (ask : Ask Content Context) (hand : State Content) → other ≡ index
-        → hand ≡ replay id 0 history → (came : StepOutcome) → outcome_of_ask hand ask ≡ came
+    look_held : (word : Word) → FitsWord word readers holders → IsInPlace id epoch word history place → (other : ℕ) (ask : Ask Content Context) (hand : State Content) → other ≡ index
+        → hand ≡ replay id epoch history → (came : StepOutcome) → outcome_of_ask hand ask ≡ came
         → IsTurn Looks (Holding other ask hand None) history (looks_by seen (vnode_in word) other ask hand came)
     look_held word f p other ask hand e is (Refused number) h =
-        answered (Holding other ask hand None) (Done other (Some hand)) word f p refl refl (λ _. is) e refl (Err number) (record { index = other; ask = ask }) refl (record {
+        answered (Holding other ask hand None) (Done other (Some hand)) word f p refl refl (λ _. is) e refl (Err number) (record { site = other; ask = ask }) refl (record {
           at = e;
           answer = record { given = Answers (ToldRefused number); may = registers ask hand (Refused number) is h; leads = refl; shown = refl };
           seen = refl;
@@ -256,7 +260,7 @@ module _ (id index readers holders : ℕ) where
         })
     look_held word f p other ask hand e is (Answered response) h =
         let gives = registers ask hand (Answered response) is h in
-        answered (Holding other ask hand None) (Done other (Some hand)) word f p refl refl (λ _. is) e refl (Ok response) (record { index = other; ask = ask }) refl (record {
+        answered (Holding other ask hand None) (Done other (Some hand)) word f p refl refl (λ _. is) e refl (Ok response) (record { site = other; ask = ask }) refl (record {
           at = e;
           answer = record { given = Answers gives.told; may = gives.given; leads = refl; shown = gives.shown };
           seen = refl;
@@ -265,30 +269,31 @@ module _ (id index readers holders : ℕ) where
         })
     look_held word f p other ask hand e is (Accepted operation response next) h = record {
       same_id = refl;
+      same_epoch = refl;
       replays = replays;
       same = inl refl;
-      grows = prefix-whole history;
+      grows = begins-itself history;
       word = λ r h x y. fits_same word f r h (no_more r readers x) (cancel h holders (other == index) y);
       place = p;
       hand = λ _. (is, h);
-      seen = prefix-whole history;
+      seen = begins-itself history;
       at = e;
       call = inl refl;
       comes = refl;
     }
 
-    look_turn : (word : Word) → FitsWord word readers holders → IsInPlace id word history place → (phase : Phase) → one (is_reader index phase) ≤ readers → IsAbout index phase
-        → IsInHand id index history phase → (t : Turn) → turns word Looks phase ≡ Some t → IsTurn Looks phase history t
+    look_turn : (word : Word) → FitsWord word readers holders → IsInPlace id epoch word history place → (phase : Phase) → one (is_reader index phase) ≤ readers → IsAbout index phase
+        → IsInHand id epoch index history phase → (t : Turn) → turns word Looks phase ≡ Some t → IsTurn Looks phase history t
     look_turn word f p Idle n at mine t h = cc
     look_turn word f p (Asked other ask) n at mine t h = cc
     look_turn word f p (Reading other get) n at mine t h =
         let reply : Result Response ℕ = Ok (GetDone (get_reply place get)) in
         let turn : Turn = answers seen (vnode_in word) (Done other None) reply in
         let same : turn ≡ t = cc in
-        let is : place ≡ replay id 0 history = place_read word history place f (omega (arith, n, one_same other at)) p in
+        let is : place ≡ replay id epoch history = place_read word history place f (omega (arith, n, one_same other at)) p in
         let gives = registers (AskGet get) place (Answered (GetDone (get_reply place get))) is refl in
         subst (λ u. IsTurn Looks (Reading other get) history u) same
-        (answered (Reading other get) (Done other None) word f p refl refl tt at refl reply (record { index = other; ask = AskGet get }) refl (record {
+        (answered (Reading other get) (Done other None) word f p refl refl tt at refl reply (record { site = other; ask = AskGet get }) refl (record {
           at = at;
           answer = record { given = Answers gives.told; may = gives.given; leads = refl; shown = gives.shown };
           seen = refl;
@@ -302,35 +307,36 @@ module _ (id index readers holders : ℕ) where
     look_turn word f p (Done other hand) n at mine t h = cc
 
     -- while somebody holds the state, nothing is asked of what is in place
-    held_place : (word : Word) → FitsWord word readers holders → 1 ≤ holders → (later : History) → IsInPlace id word later place
+    held_place : (word : Word) → FitsWord word readers holders → 1 ≤ holders → (later : History) → IsInPlace id epoch word later place
     held_place (Open n mark) f held later = absurd (omega (arith, held, f.1))
     held_place Taken f held later = tt
 
-    publish_turn : (word : Word) → FitsWord word readers holders → (phase : Phase) → one (is_holder index phase) ≤ holders → IsAbout index phase → IsInHand id index history phase → (t : Turn)
+    publish_turn : (word : Word) → FitsWord word readers holders → (phase : Phase) → one (is_holder index phase) ≤ holders → IsAbout index phase → IsInHand id epoch index history phase → (t : Turn)
         → turns word Publishes phase ≡ Some t → IsTurn Publishes phase history t
     publish_turn word f Idle held at mine t h = cc
     publish_turn word f (Asked other ask) held at mine t h = cc
     publish_turn word f (Reading other get) held at mine t h = cc
     publish_turn word f (Holding other ask hand None) held at mine t h = cc
     publish_turn word f (Holding other ask hand (Some plan)) held at mine t h =
-        let event : Event Content Context = next_event id 0 history ask plan.operation in
+        let event : Event Content Context = next_event id epoch history ask plan.operation in
         let turn : Turn = publishes_by seen (vnode_in word) other ask plan in
         let same_turn : turn ≡ t = cc in
         let came : StepOutcome = Accepted plan.operation plan.response plan.next in
-        let next : IsNext id 0 history ask plan.operation plan.response plan.next = registers ask hand came (mine at).0 (mine at).1 in
+        let next : IsNext id epoch history ask plan.operation plan.response plan.next = registers ask hand came (mine at).0 (mine at).1 in
         subst (λ u. IsTurn Publishes (Holding other ask hand (Some plan)) history u) same_turn (record {
           same_id = refl;
+          same_epoch = refl;
           replays = next.leads.replays;
           same = inr (same_test other index at);
-          grows = prefix-more event history history (prefix-whole history);
+          grows = begins-longer event history history (begins-itself history);
           word = λ r h x y. fits_same word f r h (no_more r readers x) (cancel h holders (other == index) y);
           place = held_place word f (omega (arith, held, one_same other at)) (event ∷ history);
           hand = λ _. next.leads.is;
-          seen = prefix-whole (event ∷ history);
+          seen = begins-itself (event ∷ history);
           at = at;
           call = inr (inl refl);
           comes = (
-            record { index = other; ask = ask },
+            record { site = other; ask = ask },
             refl,
             record {
               at = at;
@@ -350,15 +356,17 @@ module _ (id index readers holders : ℕ) where
   about_is action (Holding other ask hand plan) h = cc
   about_is action (Done other hand) h = cc
 
-  pub turn_is : (seen : History) (vnode : Vnode) (same_id : vnode.id ≡ id) → IsSoundAs id readers holders vnode → IsPrefix seen vnode.history
+  pub turn_is : (seen : History) (vnode : Vnode) (same_id : vnode.id ≡ id) (same_epoch : vnode.last_epoch ≡ epoch) → IsSoundAs id epoch readers holders vnode → Begins seen vnode.history
       → (action : Action) (phase : Phase) → one (is_reader index phase) ≤ readers → one (is_holder index phase) ≤ holders
-      → IsInHand id index vnode.history phase → site_of action phase ≡ Some index → (t : Turn) → turn_of seen vnode action phase ≡ Some t → IsTurn action phase vnode.history t
-  turn_is seen vnode same_id sound has action phase reading held mine a t h =
-      by action phase reading held mine a t (subst (λ i. turn_of seen (record vnode { id = i }) action phase ≡ Some t) same_id h)
+      → IsInHand id epoch index vnode.history phase → site_of action phase ≡ Some index → (t : Turn) → turn_of seen vnode action phase ≡ Some t → IsTurn action phase vnode.history t
+  turn_is seen vnode same_id same_epoch sound has action phase reading held mine a t h =
+      by action phase reading held mine a t
+      (subst (λ e. turn_of seen (record vnode { id = id; last_epoch = e }) action phase ≡ Some t) same_epoch
+      (subst (λ i. turn_of seen (record vnode { id = i }) action phase ≡ Some t) same_id h))
     where
       by : (action : Action) (phase : Phase) → one (is_reader index phase) ≤ readers → one (is_holder index phase) ≤ holders
-          → IsInHand id index vnode.history phase → site_of action phase ≡ Some index → (t : Turn)
-          → turn_of seen (record vnode { id = id }) action phase ≡ Some t → IsTurn action phase vnode.history t
+          → IsInHand id epoch index vnode.history phase → site_of action phase ≡ Some index → (t : Turn)
+          → turn_of seen (record vnode { id = id; last_epoch = epoch }) action phase ≡ Some t → IsTurn action phase vnode.history t
       by (Asks other ask) Idle reading held mine a t h =
           asks_turn sound.limits vnode.history seen vnode.place sound.replays has vnode.word sound.word sound.place other ask (cc) t h
       by Enters (Asked other (AskGet get)) reading held mine a t h =

@@ -6,13 +6,13 @@ use Rattle.actor_epoch.specs.Given.{Context, context_of}
 use Rattle.vnode_machine.specs.Step.{Response, GetDone, PutDone, DelDone, ReapDone, ReapKept}
 use Rattle.vnode_machine.specs.Registers.{key_of, context_in_ask}
 use Rattle.node_steps.specs.World.{World, Call, call_at}
-use Rattle.node_steps.specs.Steps.{Action, Asks, Step, Replied, happens, outcome}
+use Rattle.node_steps.specs.Steps.{Action, Asks, Step, Replied, action_in, happens, outcome}
 use Rattle.node_steps.specs.Schedules.{Start, world_after}
 
--- the context by which an action's command has seen something of the key at the vnode of an index
-abbrev pub given_by : Action → (index : ℕ) → Key → Option Context
-given_by (Asks other ask) index key = if (other == index) && key_eq (key_of ask) key then context_in_ask ask else None
-given_by action index key = None
+-- the context by which an action's command has seen something of the key at a site
+abbrev pub given_by : Action → (site : ℕ) → Key → Option Context
+given_by (Asks other ask) site key = if (other == site) && key_eq (key_of ask) key then context_in_ask ask else None
+given_by action site key = None
 
 -- the bytes of the context in a response, none where it has none
 abbrev pub context_bytes : Response → List ℕ
@@ -22,21 +22,21 @@ context_bytes DelDone = []
 context_bytes ReapDone = []
 context_bytes ReapKept = []
 
--- the step answers a call of the key, and shows bytes that decode to the context
-pub record Shows (w : World) (step : Step) (index : ℕ) (key : Key) (context : Context) : Type 0 where
+-- the step answers a call of the key at a site, and shows bytes that decode to the context
+pub record Shows (w : World) (step : Step) (site : ℕ) (key : Key) (context : Context) : Type 0 where
   pub call : Call
   pub asked : call_at w step.worker ≡ Some call
-  pub at : call.index ≡ index
+  pub at : call.site ≡ site
   pub of_key : key_of call.ask ≡ key
   pub response : Response
   pub replied : outcome w step ≡ Replied (Ok response)
   pub decodes : context_of (context_bytes response) ≡ Some context
 
-module _ (start : Start) (index : ℕ) (key : Key) where
+module _ (start : Start) (site : ℕ) (key : Key) where
   -- some step of the schedule showed the context for the key
   abbrev pub WasShown : List Step → Context → Type 0
   WasShown [] context = ⊥
-  WasShown (step ∷ earlier) context = Shows (world_after start earlier) step index key context ⊎ WasShown earlier context
+  WasShown (step ∷ earlier) context = Shows (world_after start earlier) step site key context ⊎ WasShown earlier context
 
   -- each context that was given for the key had been shown for it before; a step that isn't possible gives none
   abbrev pub GivesShown : List Step → Type 0
@@ -44,4 +44,4 @@ module _ (start : Start) (index : ℕ) (key : Key) where
   GivesShown (step ∷ earlier) =
       GivesShown earlier
       × (happens (world_after start earlier) step ≢ None
-      → (context : Context) → given_by step.action index key ≡ Some context → WasShown earlier context)
+      → (context : Context) → given_by (action_in (world_after start earlier) step) site key ≡ Some context → WasShown earlier context)

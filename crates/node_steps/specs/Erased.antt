@@ -1,4 +1,5 @@
--- A world without what no step looks at: the ids, the histories and what workers have seen of them.
+-- A world without what no step looks at: the ids, the epochs that vnodes were opened behind, the histories and what workers have
+-- seen of them.
 use Rattle.std.specs.Prelude.{◌≡◌, [], map}
 use Rattle.riak_msgs.specs.Contents.{Content}
 use Rattle.vnode_machine.specs.Machine.{State, opening}
@@ -15,7 +16,7 @@ erase_place (Open readers marked) place = place
 erase_place Taken place = blank
 
 abbrev pub erase_vnode : Vnode → Vnode
-erase_vnode vnode = record { id = 0; word = vnode.word; history = []; place = erase_place vnode.word vnode.place }
+erase_vnode vnode = record { id = 0; last_epoch = 0; word = vnode.word; history = []; place = erase_place vnode.word vnode.place }
 
 abbrev pub erase_worker : Worker → Worker
 erase_worker worker = record { phase = worker.phase; seen = [] }

@@ -20,6 +20,6 @@ abbrev pub world_after : Start → List Step → World
 world_after start [] = opening_world start.run start.workers start.vnodes
 world_after start (step ∷ earlier) = after (world_after start earlier) step
 
--- a history, newest event first, begins with a prefix where that is left without some later events
-abbrev pub IsPrefix : (prefix history : History) → Type 0
-IsPrefix prefix history = (later : History) × (later ++ prefix ≡ history)
+-- a front begins a history: it is what is left of it, newest event first, without some later events
+abbrev pub Begins : (front history : History) → Type 0
+Begins front history = (later : History) × (later ++ front ≡ history)

@@ -1,5 +1,6 @@
--- The world of workers and vnodes: what each of them is at one moment.
-use Rattle.std.specs.Prelude.{Bool, false, ◌+◌, ◌*◌, List, [], ◌∷◌, ℕ, zero, suc, Option, Some, None, slice_get, replicate, unwrap_or}
+-- The world of workers and sites: what each of them is at one moment. A site is a place where a vnode stands. Today each partition
+-- has one, its own vnode's.
+use Rattle.std.specs.Prelude.{Bool, false, ◌+◌, ◌*◌, List, [], ◌∷◌, ℕ, zero, suc, Option, Some, None, slice_get, replicate}
 use Rattle.std.specs.Option.{option_map_or}
 use Rattle.riak_msgs.specs.Contents.{Content}
 use Rattle.sibling_register.specs.History.{Operation}
@@ -20,27 +21,29 @@ pub record Plan : Type 0 where
   pub response : Response
   pub next : State Content
 
--- the phase of a worker, with its call: the index of a vnode, and what it is asked
+-- the phase of a worker, with its call: the site that it goes to, and what is asked there
 pub data Phase : Type 0 where
   -- it has no call
   Idle : Phase
   -- it has a call, and is outside
-  Asked : (index : ℕ) (ask : Ask Content Context) → Phase
+  Asked : (site : ℕ) (ask : Ask Content Context) → Phase
   -- it is inside as a reader, and has not looked
-  Reading : (index : ℕ) (get : GetCommand Context) → Phase
+  Reading : (site : ℕ) (get : GetCommand Context) → Phase
   -- it is inside with the state in its hand; it has a plan where it has looked
-  Holding : (index : ℕ) (ask : Ask Content Context) (hand : State Content) (plan : Option Plan) → Phase
+  Holding : (site : ℕ) (ask : Ask Content Context) (hand : State Content) (plan : Option Plan) → Phase
   -- its call is answered, and it is inside as a reader, or with the state in its hand
-  Done : (index : ℕ) (hand : Option (State Content)) → Phase
+  Done : (site : ℕ) (hand : Option (State Content)) → Phase
 
--- a vnode: its id, its word, its history, and the state in place; while it is taken nobody is shown what was in place
+-- the vnode at a site: its id, the last epoch that had been given when it was opened, its word, its history, and the state in
+-- place; while it is taken nobody is shown what was in place
 pub record Vnode : Type 0 where
   pub id : ℕ
+  pub last_epoch : ℕ
   pub word : Word
   pub history : History
   pub place : State Content
 
--- a worker: its phase, and for each vnode the prefix of the history that it has seen
+-- a worker: its phase, and site by site the front of the history there that it has seen; of a site that it doesn't know, nothing
 pub record Worker : Type 0 where
   pub phase : Phase
   pub seen : List History
@@ -49,28 +52,29 @@ pub record World : Type 0 where
   pub vnodes : List Vnode
   pub workers : List Worker
 
--- a vnode of this id before any event
-abbrev pub fresh_vnode : (id : ℕ) → Vnode
-fresh_vnode id = record { id = id; word = Open 0 false; history = []; place = opening id 0 }
+-- a vnode of this id before any event, opened behind an epoch
+abbrev pub fresh_vnode : (id last_epoch : ℕ) → Vnode
+fresh_vnode id last_epoch =
+    record { id = id; last_epoch = last_epoch; word = Open 0 false; history = []; place = opening id last_epoch }
 
--- the id of the vnode at an index of a run's ring
+-- the id of a partition's own vnode, by the index in a run's ring
 abbrev pub id_of : (run index : ℕ) → ℕ
 id_of run index = run * 65536 + index
 
--- so many fresh vnodes from this index on
+-- so many partitions' own vnodes from this index on
 abbrev pub opening_vnodes : (run index : ℕ) → ℕ → List Vnode
 opening_vnodes run index zero = []
-opening_vnodes run index (suc more) = fresh_vnode (id_of run index) ∷ opening_vnodes run (index + 1) more
+opening_vnodes run index (suc more) = fresh_vnode (id_of run index) 0 ∷ opening_vnodes run (index + 1) more
 
--- a worker that has no call and has seen nothing of so many vnodes
-abbrev pub fresh_worker : (vnodes : ℕ) → Worker
-fresh_worker vnodes = record { phase = Idle; seen = replicate vnodes [] }
+-- a worker that has no call and has seen nothing
+abbrev pub fresh_worker : Worker
+fresh_worker = record { phase = Idle; seen = [] }
 
 -- before any step
 abbrev pub opening_world : (run workers vnodes : ℕ) → World
 opening_world run workers vnodes = record {
   vnodes = opening_vnodes run 0 vnodes;
-  workers = replicate workers (fresh_worker vnodes);
+  workers = replicate workers fresh_worker;
 }
 
 -- the worker of a number, counted from 1
@@ -78,32 +82,42 @@ abbrev pub worker_at : World → ℕ → Option Worker
 worker_at w zero = None
 worker_at w (suc place) = slice_get w.workers place
 
--- the id of the vnode at an index, and its history, empty where there is no such vnode
+-- the site that the calls of a partition go to
+abbrev pub route : World → (index : ℕ) → ℕ
+route w index = index
+
+-- the id of the vnode at a site, the epoch that it was opened behind, and its history, empty where there is no such site
 abbrev pub id_at : World → ℕ → ℕ
-id_at w index = option_map_or (λ vnode. vnode.id) (slice_get w.vnodes index) 0
+id_at w site = option_map_or (λ vnode. vnode.id) (slice_get w.vnodes site) 0
+
+abbrev pub last_epoch_at : World → ℕ → ℕ
+last_epoch_at w site = option_map_or (λ vnode. vnode.last_epoch) (slice_get w.vnodes site) 0
 
 abbrev pub history_at : World → ℕ → History
-history_at w index = option_map_or (λ vnode. vnode.history) (slice_get w.vnodes index) []
+history_at w site = option_map_or (λ vnode. vnode.history) (slice_get w.vnodes site) []
 
--- the prefix of a vnode's history that a worker has seen
-abbrev pub prefix_of : Worker → ℕ → History
-prefix_of worker index = unwrap_or (slice_get worker.seen index) []
+-- the front that was seen at a site; past the end of the list nothing was
+abbrev pub seen_at : List History → (site : ℕ) → History
+seen_at [] site = []
+seen_at (front ∷ seen) zero = front
+seen_at (front ∷ seen) (suc site) = seen_at seen site
 
-abbrev pub prefix_at : World → (number index : ℕ) → History
-prefix_at w number index = option_map_or (λ worker. prefix_of worker index) (worker_at w number) []
+-- the front of a site's history that the worker of a number has seen
+abbrev pub front_at : World → (number site : ℕ) → History
+front_at w number site = option_map_or (λ worker. seen_at worker.seen site) (worker_at w number) []
 
--- a call: the index of a vnode, and what it is asked
+-- a call: the site that it goes to, and what is asked there
 pub record Call : Type 0 where
-  pub index : ℕ
+  pub site : ℕ
   pub ask : Ask Content Context
 
 -- the call of a worker in this phase, until it is answered
 abbrev pub call_of : Phase → Option Call
 call_of Idle = None
-call_of (Asked index ask) = Some (record { index = index; ask = ask })
-call_of (Reading index get) = Some (record { index = index; ask = AskGet get })
-call_of (Holding index ask hand plan) = Some (record { index = index; ask = ask })
-call_of (Done index hand) = None
+call_of (Asked site ask) = Some (record { site = site; ask = ask })
+call_of (Reading site get) = Some (record { site = site; ask = AskGet get })
+call_of (Holding site ask hand plan) = Some (record { site = site; ask = ask })
+call_of (Done site hand) = None
 
 -- the call of the worker of a number
 abbrev pub call_at : World → ℕ → Option Call

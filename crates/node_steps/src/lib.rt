@@ -1,14 +1,16 @@
 //! The pure core of all schedules: workers over vnodes, step by step, in any order.
 //!
-//! A world (`specs/World`) has for each vnode a word (how many readers are inside and whether it is marked, or that it is
+//! A world (`specs/World`) has for each site a vnode: a word (how many readers are inside and whether it is marked, or that it is
 //! taken), its whole history, and the state in place; for each worker a phase with its call, the state in its hand and
-//! its plan, and for each vnode the prefix of the history that it has seen. A step is one worker's, at one vnode
-//! (`specs/Steps`): it gets a call, enters as a reader or leaves, marks the word or takes the mark away, takes the state
-//! into its hand or puts it back, looks, or publishes its plan. A look is a step of the vnode machine in the state shown:
-//! it answers, or what the machine accepts becomes the plan. A step that isn't possible changes nothing.
+//! its plan, and for each site the front of the history that it has seen. A call is for a partition, and one function (`route`)
+//! says to which site it goes: today each partition has one. A step is one worker's, at one site (`specs/Steps`):
+//! it gets a call, enters as a reader or leaves, marks the word or takes the mark away, takes the state into its hand or puts it
+//! back, looks, or publishes its plan. A look is a step of the vnode machine in the state shown: it answers, or what the machine
+//! accepts becomes the plan. A step that isn't possible changes nothing.
 //!
-//! A vnode has its id in its own record, and is found by its index in a list, so vnodes may be added while a world runs:
-//! what is always true of a vnode (`proofs/Inside`, `IsSound`) speaks of one vnode, and is true of a fresh one.
+//! A vnode has its id and the epoch that it was opened behind in its own record, and is found by its site in a list; of a site that
+//! it doesn't know a worker has seen nothing. So sites may be added while a world runs: what is always true of a vnode
+//! (`proofs/Inside`, `IsSound`) speaks of one vnode, and is true of a fresh one, whatever epochs were given before it.
 //!
 //! [`always`] is the theorem, over every schedule (`specs/Claims`). Its proof goes step by step: `proofs/Turns` derives what a
 //! turn makes of its worker and its vnode, and its outcome, from the machine's step; `proofs/Kept` counts readers and

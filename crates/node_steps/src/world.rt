@@ -56,7 +56,7 @@ impl Model for World {
 
 /// A vnode of an id, before any event, in place.
 fn new_site(alloc: Global, id: u64) -> Result<Site, AllocError>
-    ensures { IfOk result (λ site. vnode_of site ≡ erase_vnode (fresh_vnode id)) }
+    ensures { IfOk result (λ site. vnode_of site ≡ erase_vnode (fresh_vnode id 0)) }
 {
     let vnode = Vnode::new(alloc, id, FIRST_EPOCH);
     let hand = Box::new(alloc, Hand::new(vnode))?;

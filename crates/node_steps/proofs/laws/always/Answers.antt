@@ -7,10 +7,10 @@ use Rattle.node_steps.proofs.Showing.{values_leave_only_seen}
 use Rattle.node_steps.proofs.laws.always.Goals as goal
 
 pub returns-clause-histories : goal.returns-clause-histories
-returns-clause-histories c = λ start is schedule step. histories_are_legal (world_after start schedule) (orderly start is schedule) step
+returns-clause-histories c = λ start is schedule. histories_are_legal (world_after start schedule) (orderly start is schedule)
 
 pub returns-clause-looks : goal.returns-clause-looks
-returns-clause-looks c = λ start is schedule step. looks_show_replays (world_after start schedule) (orderly start is schedule) step
+returns-clause-looks c = λ start is schedule. looks_show_replays (world_after start schedule) (orderly start is schedule)
 
 pub returns-clause-looked : goal.returns-clause-looked
 returns-clause-looked c = λ start is schedule step. looks_see_replays (world_after start schedule) (orderly start is schedule) step
@@ -25,13 +25,13 @@ pub returns-clause-seen : goal.returns-clause-seen
 returns-clause-seen c = λ start is schedule step. replies_have_seen (world_after start schedule) step (orderly start is schedule)
 
 pub returns-clause-dots : goal.returns-clause-dots
-returns-clause-dots c = λ start is schedule step. no_dots_twice (world_after start schedule) (orderly start is schedule) step
+returns-clause-dots c = λ start is schedule. no_dots_twice (world_after start schedule)
 
 pub returns-clause-lives : goal.returns-clause-lives
-returns-clause-lives c = λ start is schedule step. lives_are_defined (world_after start schedule) (orderly start is schedule) step
+returns-clause-lives c = λ start is schedule. lives_are_defined (world_after start schedule) (orderly start is schedule)
 
 pub returns-clause-covered : goal.returns-clause-covered
-returns-clause-covered c = λ start is schedule step. values_leave_only_covered (world_after start schedule) (orderly start is schedule) step
+returns-clause-covered c = λ start is schedule. values_leave_only_covered (world_after start schedule) (orderly start is schedule)
 
 pub returns-clause-left : goal.returns-clause-left
 returns-clause-left c = values_leave_only_seen
