@@ -111,6 +111,7 @@ impl Ord for BucketType {
 
     ghost matches_eq = { Prim.search (comparing, rules) };
 
+    #[inline(always)]
     fn cmp(&self, other: &BucketType) -> Ordering {
         match (&self.content, &other.content) {
             (None, None) => Ordering::Equal,

@@ -62,6 +62,7 @@ impl Bytes {
     }
 
     /// The bytes, borrowed.
+    #[inline(always)]
     pub fn as_slice(&self) -> &[u8]
         ensures { result.now ≡ self.now }
     {
@@ -113,6 +114,7 @@ impl Ord for Bytes {
 
     ghost matches_eq = { Prim.search (comparing, rules) };
 
+    #[inline(always)]
     fn cmp(&self, other: &Bytes) -> Ordering {
         compare(self.content.as_slice(), other.content.as_slice())
     }
