@@ -1,6 +1,6 @@
 //! The order of byte strings.
 
-ghost use Rattle.std.specs.Prelude.{◌≡◌, ◌≤◌, length, drop};
+ghost use Rattle.std.specs.Prelude.{◌≡◌, ◌<◌, ◌≤◌, length, drop};
 ghost use Rattle.std.specs.declared.cmp.Ordering.TheVariants.{Equal};
 ghost use Rattle.std.specs.Cmp.Lexicographic.{slice_cmp};
 ghost use Rattle.std.specs.Ordering.{nat_cmp, ordering_then};
@@ -25,6 +25,17 @@ pub(crate) fn compare(left: &[u8], right: &[u8]) -> Ordering
     }
 }
 
+/// The same, where strings of one length with fewer than eight bytes, as most buckets, are compared where they are asked for.
+#[inline(always)]
+pub(crate) fn compare_names(left: &[u8], right: &[u8]) -> Ordering
+    ensures { result ≡ slice_cmp nat_cmp left.now right.now }
+{
+    if left.len() == right.len() && left.len() < 8 {
+        return compare_few(left, right);
+    }
+    compare_long(left, right)
+}
+
 /// How two byte strings of one length compare, up to 16, whose first eight bytes are equal: by their last eight.
 #[inline(always)]
 fn compare_last_eight(left: &[u8], right: &[u8]) -> Ordering
@@ -38,7 +49,36 @@ fn compare_last_eight(left: &[u8], right: &[u8]) -> Ordering
     compare_eight(&left[at..], &right[at..])
 }
 
-/// How two byte strings compare, eight bytes at a time.
+/// How two byte strings of one length compare that have fewer than eight bytes.
+#[inline(always)]
+fn compare_few(left: &[u8], right: &[u8]) -> Ordering
+    requires few { length left.now < 8 }
+    requires one { length left.now ≡ length right.now }
+    ensures { result ≡ slice_cmp nat_cmp left.now right.now }
+{
+    if left.len() < 4 {
+        return compare_bytes(left, right);
+    }
+    match compare_four(left, right) {
+        Ordering::Equal => compare_last_four(left, right),
+        unequal => unequal,
+    }
+}
+
+/// How two byte strings of one length compare, up to 8, whose first four bytes are equal: by their last four.
+#[inline(always)]
+fn compare_last_four(left: &[u8], right: &[u8]) -> Ordering
+    requires long { 4 ≤ length left.now }
+    requires few { length left.now ≤ 8 }
+    requires one { length left.now ≡ length right.now }
+    requires equal { nat_cmp (big_number 4 left.now) (big_number 4 right.now) ≡ Equal }
+    ensures { result ≡ slice_cmp nat_cmp left.now right.now }
+{
+    let at = left.len() - 4;
+    compare_four(&left[at..], &right[at..])
+}
+
+/// How two byte strings compare, eight bytes at a time, then four, then one.
 fn compare_long(left: &[u8], right: &[u8]) -> Ordering
     ensures { result ≡ slice_cmp nat_cmp left.now right.now }
 {
@@ -52,36 +92,13 @@ fn compare_long(left: &[u8], right: &[u8]) -> Ordering
         left = &left[8..];
         right = &right[8..];
     }
-    compare_short(left, right)
-}
-
-/// How two byte strings compare, four bytes at a time. Where they are of one length, up to 8, the last four bytes decide.
-#[inline(always)]
-fn compare_short(left: &[u8], right: &[u8]) -> Ordering
-    ensures { result ≡ slice_cmp nat_cmp left.now right.now }
-{
     if left.len() < 4 || right.len() < 4 {
         return compare_bytes(left, right);
     }
     match compare_four(left, right) {
-        Ordering::Equal => compare_behind_four(left, right),
+        Ordering::Equal => compare_bytes(&left[4..], &right[4..]),
         unequal => unequal,
     }
-}
-
-/// How two byte strings compare whose first four bytes are equal.
-#[inline(always)]
-fn compare_behind_four(left: &[u8], right: &[u8]) -> Ordering
-    requires left { 4 ≤ length left.now }
-    requires right { 4 ≤ length right.now }
-    requires equal { nat_cmp (big_number 4 left.now) (big_number 4 right.now) ≡ Equal }
-    ensures { result ≡ slice_cmp nat_cmp left.now right.now }
-{
-    if left.len() == right.len() && left.len() <= 8 {
-        let at = left.len() - 4;
-        return compare_four(&left[at..], &right[at..]);
-    }
-    compare_bytes(&left[4..], &right[4..])
 }
 
 /// How the first eight bytes compare, as numbers with the first byte highest.

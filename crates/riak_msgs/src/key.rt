@@ -49,7 +49,7 @@ impl Ord for Key {
             Ordering::Equal => {}
             unequal => return unequal,
         }
-        match self.bucket.cmp(&other.bucket) {
+        match self.bucket.compare_as_names(&other.bucket) {
             Ordering::Equal => self.key.cmp(&other.key),
             unequal => unequal,
         }
