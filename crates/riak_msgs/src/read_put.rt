@@ -80,7 +80,6 @@ impl PutFlags {
 }
 
 /// Decodes the body of a put.
-#[inline(never)]
 pub(crate) fn read_put(alloc: Global, body: &[u8]) -> Result<Request, MsgFault>
     ensures { Reads 11 body.now result }
 {
