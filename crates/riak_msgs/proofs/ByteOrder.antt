@@ -1,5 +1,5 @@
 -- Numbers of a few bytes, highest byte first, are in the order of the bytes.
-use Rattle.std.proofs.Common.{◌≡◌, ℕ, zero, suc, ◌+◌, ◌*◌, ◌^◌, ◌<◌, ◌≤◌, List, [], ◌∷◌, length, drop, refl, sym, ◌∙◌, ap, arith}
+use Rattle.std.proofs.Common.{◌≡◌, ℕ, zero, suc, ◌+◌, ◌-◌, ◌*◌, ◌^◌, ◌<◌, ◌≤◌, List, [], ◌∷◌, length, take, drop, refl, sym, ◌∙◌, ap, arith}
 use Rattle.std.specs.Prelude.{slice_index, min}
 use Rattle.std.specs.declared.cmp.Ordering.{Ordering}
 use Rattle.std.specs.declared.cmp.Ordering.TheVariants.{Less, Equal, Greater}
@@ -8,6 +8,7 @@ use Rattle.std.specs.Cmp.{nat_cmp_is}
 use Rattle.std.specs.Cmp.Lexicographic.{slice_cmp}
 use Rattle.std.proofs.lemmas.Cmp.{ranked}
 use Rattle.std.proofs.lemmas.Nat.{mul-add-lt}
+use Rattle.std.proofs.lemmas.List.{take_rest, length-drop}
 use Rattle.std.proofs.Math.Nat.{mul_comm}
 use Rattle.byteorder.specs.Endian.{big_number}
 use Rattle.byteorder.specs.Numbers.{big_from-cons, big_from-lt}
@@ -79,3 +80,48 @@ lengths_cmp zero (x ∷ xs) (y ∷ ys) h = absurd (omega arith)
 lengths_cmp (suc n) [] ys h = absurd (omega arith)
 lengths_cmp (suc n) (x ∷ xs) [] h = absurd (omega arith)
 lengths_cmp (suc n) (x ∷ xs) (y ∷ ys) h = lengths_cmp n xs ys (omega arith) ∙ next_cmp (length xs) (length ys)
+
+-- where the first n bytes are one number, bytes among them may be left out
+then_equal : (a b : Ordering) → ordering_then a b ≡ Equal → (a ≡ Equal) × (b ≡ Equal)
+then_equal Less b h = let no : Less ≡ Equal = h in cc
+then_equal Equal b h = (refl, h)
+then_equal Greater b h = let no : Greater ≡ Equal = h in cc
+
+pub rest_cmp : (n at : ℕ) (xs ys : List ℕ) → at ≤ n → n ≤ length xs → n ≤ length ys → AreBytes xs → AreBytes ys
+    → nat_cmp (big_number n xs) (big_number n ys) ≡ Equal → slice_cmp nat_cmp xs ys ≡ slice_cmp nat_cmp (drop at xs) (drop at ys)
+rest_cmp n zero xs ys within long long' bytes bytes' equal = refl
+rest_cmp zero (suc at) xs ys within long long' bytes bytes' equal = absurd (omega arith)
+rest_cmp (suc n) (suc at) [] ys within long long' bytes bytes' equal = absurd (omega arith)
+rest_cmp (suc n) (suc at) (x ∷ xs) [] within long long' bytes bytes' equal = absurd (omega arith)
+rest_cmp (suc n) (suc at) (x ∷ xs) (y ∷ ys) within long long' bytes bytes' equal =
+    let digits = digits_cmp x y (256 ^ n) (big_number n xs) (big_number n ys) (big_from-lt 0 n xs (λ k. bytes (suc k))) (big_from-lt 0 n ys (λ k. bytes' (suc k))) in
+    let both = then_equal (nat_cmp x y) (nat_cmp (big_number n xs) (big_number n ys))
+        (sym digits ∙ (λ i. nat_cmp (x * 256 ^ n + sym (big_from-cons 0 n x xs) i) (y * 256 ^ n + sym (big_from-cons 0 n y ys) i)) ∙ equal) in
+    ap (λ (o : Ordering). ordering_then o (slice_cmp nat_cmp xs ys)) both.0
+    ∙ rest_cmp n at xs ys (omega arith) (omega arith) (omega arith) (λ k. bytes (suc k)) (λ k. bytes' (suc k)) both.1
+
+then-equal : (o : Ordering) → ordering_then o Equal ≡ o
+then-equal Less = refl
+then-equal Equal = refl
+then-equal Greater = refl
+
+-- of strings of this length it decides what the number of their bytes is
+pub last_cmp : (n : ℕ) (xs ys : List ℕ) (o : Ordering) → length xs ≡ n → length ys ≡ n
+    → slice_cmp nat_cmp xs ys ≡ ordering_then o (slice_cmp nat_cmp (drop n xs) (drop n ys)) → slice_cmp nat_cmp xs ys ≡ o
+last_cmp n xs ys o long long' h =
+    h ∙ ap (ordering_then o) (lengths_cmp n xs ys (omega arith) ∙ sym (nat_cmp_is (length xs) (length ys) Equal (long ∙ sym long'))) ∙ then-equal o
+
+-- and so the last n bytes decide, where there are at most twice as many
+pub tail_cmp : (n at : ℕ) (xs ys : List ℕ) (o : Ordering) → at ≤ n → at + n ≡ length xs → at + n ≡ length ys → AreBytes xs → AreBytes ys
+    → nat_cmp (big_number n xs) (big_number n ys) ≡ Equal
+    → slice_cmp nat_cmp (take (length xs - at) (drop at xs)) (take (length ys - at) (drop at ys))
+    ≡ ordering_then o (slice_cmp nat_cmp (drop n (take (length xs - at) (drop at xs))) (drop n (take (length ys - at) (drop at ys))))
+    → o ≡ slice_cmp nat_cmp xs ys
+tail_cmp n at xs ys o within long long' bytes bytes' equal h =
+    let kept = take_rest xs at in
+    let kept' = take_rest ys at in
+    let there = length-drop at xs in
+    let there' = length-drop at ys in
+    sym (rest_cmp n at xs ys within (omega arith) (omega arith) bytes bytes' equal
+    ∙ last_cmp n (drop at xs) (drop at ys) o (omega arith) (omega arith)
+    ((λ i. slice_cmp nat_cmp (sym kept i) (sym kept' i)) ∙ h ∙ λ i. ordering_then o (slice_cmp nat_cmp (drop n (kept i)) (drop n (kept' i)))))

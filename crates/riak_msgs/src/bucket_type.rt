@@ -9,7 +9,7 @@ ghost use Rattle.std.specs.Cmp.Rules.{comparing};
 ghost use Rattle.std.specs.Ordering.{nat_cmp, as_partial_cmp};
 ghost use Rattle.riak_msgs.specs.BucketTypes.{default_type};
 
-use crate::byte_order::compare;
+use crate::byte_order::compare_names;
 use crate::bytes::Bytes;
 use std::alloc::{AllocError, Global};
 use std::cmp::Ordering;
@@ -111,10 +111,11 @@ impl Ord for BucketType {
 
     ghost matches_eq = { Prim.search (comparing, rules) };
 
+    #[inline(always)]
     fn cmp(&self, other: &BucketType) -> Ordering {
         match (&self.content, &other.content) {
             (None, None) => Ordering::Equal,
-            _ => compare(self.as_slice(), other.as_slice()),
+            _ => compare_names(self.as_slice(), other.as_slice()),
         }
     }
 }

@@ -7,7 +7,7 @@ ghost use Rattle.std.specs.Cmp.Lexicographic.{pointwise, slice_cmp};
 ghost use Rattle.std.specs.Cmp.Rules.{comparing};
 ghost use Rattle.std.specs.Ordering.{nat_cmp, as_partial_cmp};
 
-use crate::byte_order::compare;
+use crate::byte_order::{compare, compare_names};
 use smallvec::SmallVec;
 use std::alloc::{AllocError, Global};
 use std::cmp::Ordering;
@@ -62,6 +62,7 @@ impl Bytes {
     }
 
     /// The bytes, borrowed.
+    #[inline(always)]
     pub fn as_slice(&self) -> &[u8]
         ensures { result.now ≡ self.now }
     {
@@ -80,6 +81,14 @@ impl Bytes {
         ensures { result ≡ (length self.now == 0) }
     {
         self.content.is_empty()
+    }
+
+    /// How two compare, as `cmp` answers: for buckets, whose names are mostly short.
+    #[inline(always)]
+    pub(crate) fn compare_as_names(&self, other: &Bytes) -> Ordering
+        ensures { result ≡ slice_cmp nat_cmp self.now other.now }
+    {
+        compare_names(self.content.as_slice(), other.content.as_slice())
     }
 
     /// A copy. Up to 16 bytes take no memory.
@@ -113,6 +122,7 @@ impl Ord for Bytes {
 
     ghost matches_eq = { Prim.search (comparing, rules) };
 
+    #[inline(always)]
     fn cmp(&self, other: &Bytes) -> Ordering {
         compare(self.content.as_slice(), other.content.as_slice())
     }

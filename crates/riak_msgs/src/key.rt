@@ -2,16 +2,21 @@
 
 ghost use Rattle.std.specs.Prelude.{◌≡◌, ◌↔◌, ◌++◌, IsTrue, IfOk, OnOk};
 ghost use Rattle.pb_fields.specs.Encoding.{bytes_field};
-ghost use Rattle.riak_msgs.specs.KeyOrder.{key_eq};
+ghost use Rattle.std.proofs.Common.{rules};
+ghost use Rattle.std.specs.Cmp.{partial_order_from_own_ties};
+ghost use Rattle.std.specs.Cmp.Rules.{comparing};
+ghost use Rattle.std.specs.Ordering.{as_partial_cmp};
+ghost use Rattle.riak_msgs.specs.KeyOrder.{key_cmp, key_eq};
 ghost use Rattle.riak_msgs.specs.Requests.{default_key};
 
 use crate::bucket_type::BucketType;
 use crate::bytes::Bytes;
 use pb_fields::Output;
 use std::alloc::{AllocError, Global};
+use std::cmp::Ordering;
 
 /// What names a value in the store, ordered by bucket type, then bucket, then key, each by its bytes.
-#[derive(PartialEq, Eq, PartialOrd, Ord)]
+#[derive(PartialEq, Eq)]
 pub struct Key {
     pub bucket_type: BucketType,
     pub bucket: Bytes,
@@ -26,6 +31,39 @@ impl Drop for Key {
             bucket: _bucket,
             key: _key,
         } = self;
+    }
+}
+
+impl Ord for Key {
+    ghost cmp = { key_cmp };
+
+    ghost total = { Prim.search (comparing, rules) };
+
+    ghost matches_partial_cmp = { Prim.search (comparing, rules) };
+
+    ghost matches_eq = { Prim.search (comparing, rules) };
+
+    /// What a derived order answers, with the three comparisons in its own code.
+    fn cmp(&self, other: &Key) -> Ordering {
+        match self.bucket_type.cmp(&other.bucket_type) {
+            Ordering::Equal => {}
+            unequal => return unequal,
+        }
+        match self.bucket.compare_as_names(&other.bucket) {
+            Ordering::Equal => self.key.cmp(&other.key),
+            unequal => unequal,
+        }
+    }
+}
+
+impl PartialOrd for Key {
+    ghost partial_cmp = { as_partial_cmp key_cmp };
+
+    ghost laws = { partial_order_from_own_ties (Prim.search (comparing, rules))
+        (Prim.search (comparing, rules)) };
+
+    fn partial_cmp(&self, other: &Key) -> Option<Ordering> {
+        Some(self.cmp(other))
     }
 }
 

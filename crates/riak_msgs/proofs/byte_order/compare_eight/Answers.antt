@@ -5,8 +5,11 @@ use Rattle.std.specs.Cmp.Lexicographic.{slice_cmp}
 use Rattle.riak_msgs.proofs.ByteOrder.{AreBytes, numbers_cmp}
 use Rattle.riak_msgs.proofs.byte_order.compare_eight.Goals as goal
 
-pub returns : goal.returns
-returns c =
+pub returns-clause-number : goal.returns-clause-number
+returns-clause-number c = c.cmp.ensures ∙ λ i. nat_cmp (c.read_u64.ensures i) (c.read_u64-2.ensures i)
+
+pub returns-clause-order : goal.returns-clause-order
+returns-clause-order c =
     let left : AreBytes c.args.left.now = λ k. let fits = c.type_inv.left k in omega arith in
     let right : AreBytes c.args.right.now = λ k. let fits = c.type_inv.right k in omega arith in
     let rest = slice_cmp nat_cmp (drop 8 c.args.left.now) (drop 8 c.args.right.now) in
