@@ -1,6 +1,6 @@
 -- Copies that a pass published stay what they are.
 use Rattle.std.proofs.Common.{◌≡◌, ◌∙◌, ◌+◌, ℕ, zero, suc, List, [], ◌∷◌, ◌++◌, length, length-append, refl, sym, ap, subst}
-use Rattle.std.specs.Prelude.{Option, Some, None, IfNone, IfSome, slice_get}
+use Rattle.std.specs.Prelude.{Option, Some, None, IfNone, IfOk, IfSome, Result, Ok, Err, slice_get}
 use Rattle.std.proofs.lemmas.List.Elements.{All-weaker, All-push}
 use mathlib.Core.List.{IsPrefix}
 use Rattle.riak_msgs.specs.declared.Key.{Key}
@@ -14,7 +14,8 @@ use Rattle.vnode_protocol.specs.Events.{Asks}
 use Rattle.vnode_protocol.specs.KeyCopies.{KeyCopyView}
 use Rattle.vnode_protocol.specs.Plans.{View}
 use Rattle.handoff.specs.declared.copying.Step.{Step}
-use Rattle.handoff.specs.declared.copying.Step.TheVariants.{End, Made, Stuck}
+use Rattle.handoff.specs.declared.fault.Stop.{Stop}
+use Rattle.handoff.specs.declared.copying.Step.TheVariants.{End, Passed, Made, Stuck}
 use Rattle.handoff.specs.Copying.{IsCopy, HasCopyAt, AreCopies, CopiesOne}
 use Rattle.handoff.specs.Sights.{Sight, LeadsTo}
 use Rattle.handoff.specs.Steps.{Steps}
@@ -79,6 +80,7 @@ same-copies n old mine theirs theirs' gate there here all own =
 pub step-copies : (n : ℕ) (old mine theirs theirs' : Sight) (step : Step) → theirs'.gate ≡ theirs.gate → IsPrefix theirs.prefix theirs'.prefix → IsPrefix old.prefix mine.prefix
     → AreCopies n old theirs old.own → Steps n old mine theirs' step → AreCopies n mine theirs' mine.own
 step-copies n old mine theirs theirs' End gate there here all own = same-copies n old mine theirs theirs' gate there here all own
+step-copies n old mine theirs theirs' (Passed key) gate there here all own = same-copies n old mine theirs theirs' gate there here all own
 step-copies n old mine theirs theirs' (Stuck key) gate there here all own = same-copies n old mine theirs theirs' gate there here all own
 step-copies n old mine theirs theirs' (Made key) gate there here all one = copies-push n old mine theirs theirs' gate there all one
 
@@ -86,6 +88,25 @@ pub made-length : (n : ℕ) (old mine theirs : Sight) (step : Step) (key : Key) 
 made-length n old mine theirs step key is steps =
     let one : CopiesOne n old mine theirs = subst (λ s. Steps n old mine theirs s) is steps in
     ap length one.own ∙ length-append old.own (length one.position ∷ [])
+
+-- a step behind a look in which nothing was published
+later-step : (n : ℕ) (old mid mine theirs : Sight) (step : Step) → IsPrefix old.prefix mid.prefix → mid.own ≡ old.own → Steps n mid mine theirs step → Steps n old mine theirs step
+later-step n old mid mine theirs End more same steps = steps ∙ same
+later-step n old mid mine theirs (Passed key) more same steps = steps ∙ same
+later-step n old mid mine theirs (Stuck key) more same steps = steps ∙ same
+later-step n old mid mine theirs (Made key) more same one = record {
+  position = one.position;
+  entry = one.entry;
+  begins = prefix_trans old.prefix mid.prefix one.position more one.begins;
+  seen = one.seen;
+  own = one.own ∙ ap (λ ks. ks ++ length one.position ∷ []) same;
+  copy = one.copy;
+}
+
+pub later-steps : (n : ℕ) (old mid mine theirs : Sight) (result : Result Step Stop) → IsPrefix old.prefix mid.prefix → mid.own ≡ old.own → IfOk result (Steps n mid mine theirs)
+    → IfOk result (Steps n old mine theirs)
+later-steps n old mid mine theirs (Ok step) more same steps = later-step n old mid mine theirs step more same steps
+later-steps n old mid mine theirs (Err stop) more same steps = tt
 
 -- the entry of an asked copy
 pub entry-copied : (entry : Entry) (copy : KeyCopyView) → Asks entry (asks.Copy copy) → entry ≡ entries.Copied copy

@@ -44,7 +44,7 @@ module _ (v l : ℕ) where
       (later ++ grown.0, append_assoc later grown.0 here ∙ ap (λ (h : History). later ++ h) (grown.1 ∙ sym same) ∙ all)
 
   -- the state to which a prefix of commands leads is the replay of their history
-  prefix-replays : (gate : GateId View) (prefix : List Entry) (state : State Content) → IsWithinLimits v l → IsMadeNew v l gate → prefix ≡ all_commands (commands_of prefix) → LeadsTo gate prefix state
+  pub prefix-replays : (gate : GateId View) (prefix : List Entry) (state : State Content) → IsWithinLimits v l → IsMadeNew v l gate → prefix ≡ all_commands (commands_of prefix) → LeadsTo gate prefix state
       → state ≡ replay v l (history_after v l [] (commands_of prefix))
   prefix-replays gate prefix state limits made are leads =
       let vnode : View = record { state = state; prepared = None } in

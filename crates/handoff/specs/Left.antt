@@ -1,14 +1,16 @@
 -- The keys of a fallback that its primary hasn't as they are there now.
-use Rattle.std.specs.Prelude.{◌≡◌, ◌==◌, ◌+◌, ◌++◌, if◌then◌else◌, Bool, true, false, ℕ, [], ◌∷◌, Option, Some}
+use Rattle.std.specs.Prelude.{◌≡◌, ◌==◌, ◌+◌, ◌<◌, ◌++◌, if◌then◌else◌, Bool, true, false, ℕ, [], ◌∷◌, length, Option, Some}
 use Rattle.std.specs.Option.{option_map_or}
 use Rattle.riak_msgs.specs.declared.Key.{Key}
 use Rattle.riak_msgs.specs.Contents.{Content}
 use Rattle.riak_msgs.specs.KeyOrder.{key_cmp}
 use Rattle.actor_epoch.specs.Dots.{counter_in}
 use Rattle.place_map.specs.Behind.{entries_behind}
-use Rattle.clock_store.specs.Keys.{Keys}
+use Rattle.clock_store.specs.Keys.{Keys, stored_of}
 use Rattle.vnode_machine.specs.Machine.{State, Stored, stored}
 use Rattle.vnode_machine.specs.Sound.{IsClock}
+use Rattle.handoff.specs.declared.left.Found.{Found}
+use Rattle.handoff.specs.declared.left.Found.TheVariants.{End, Passed, Next}
 
 -- the first has the last dot of the second's life: it knows as much of that one's own actor
 abbrev pub has_last_dot : Stored Content → Stored Content → Bool
@@ -32,6 +34,11 @@ pub record IsFirstLeft (primary : State Content) (entries : Keys) (entry : Key �
   pub copied : AreCopied primary passed
   pub left : is_copied primary entry ≡ false
 
+-- what is found of the rest of these keys is found of the whole: those before it are copied
+pub record GoesOn (primary : State Content) (whole rest : Keys) : Type 0 where
+  pub copied : AreCopied primary rest → AreCopied primary whole
+  pub left : (entry : Key × Stored Content) → IsFirstLeft primary rest entry → IsFirstLeft primary whole entry
+
 -- how many of these aren't
 abbrev pub one_unless : Bool → ℕ
 one_unless copied = if copied then 0 else 1
@@ -44,8 +51,26 @@ count_left primary (entry ∷ entries) = one_unless (is_copied primary entry) + 
 abbrev pub keys_behind : Option Key → State Content → Keys
 keys_behind after state = entries_behind key_cmp after state.keys
 
+-- a fallback holds a key so, by a clock of the form that a vnode's clocks have
+pub record IsHeld (fallback : State Content) (key : Key) (there : Stored Content) : Type 0 where
+  pub held : stored fallback key ≡ Some there
+  pub clock : IsClock there.clock
+
 -- behind a key the first that isn't copied is this one, and a fallback holds it so
 pub record IsNextLeft (primary fallback : State Content) (after : Option Key) (key : Key) (there : Stored Content) : Type 0 where
   pub first : IsFirstLeft primary (keys_behind after fallback) (key, there)
-  pub held : stored fallback key ≡ Some there
-  pub clock : IsClock there.clock
+  pub is_held : IsHeld fallback key there
+
+-- so it holds the key that a walk found left
+abbrev pub IsHeldAt : (fallback : State Content) → Found → Type 0
+IsHeldAt fallback End = Unit {0}
+IsHeldAt fallback (Passed key) = Unit {0}
+IsHeldAt fallback (Next left) = IsHeld fallback left.key (stored_of left.stored.now)
+
+-- what a walk behind a key found, over some of the keys: none is left; all up to a later key are copied; or the first that isn't
+abbrev pub Finds : (primary fallback : State Content) (after : Option Key) → Found → Type 0
+Finds primary fallback after End = AreCopied primary (keys_behind after fallback)
+Finds primary fallback after (Passed key) =
+    GoesOn primary (keys_behind after fallback) (keys_behind (Some key) fallback)
+    × (length (keys_behind (Some key) fallback) < length (keys_behind after fallback))
+Finds primary fallback after (Next left) = IsNextLeft primary fallback after left.key (stored_of left.stored.now)

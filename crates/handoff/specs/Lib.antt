@@ -1,6 +1,7 @@
 pub mod Copying
 pub mod Diverted
 pub mod Endings
+pub mod Joined
 pub mod Left
 pub mod Meeting
 pub mod Partitions

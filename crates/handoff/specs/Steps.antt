@@ -3,7 +3,7 @@ use Rattle.std.specs.Prelude.{◌≡◌, ℕ}
 use Rattle.rw_gate.specs.Views.{GateId}
 use Rattle.vnode_protocol.specs.Plans.{View}
 use Rattle.handoff.specs.declared.copying.Step.{Step}
-use Rattle.handoff.specs.declared.copying.Step.TheVariants.{End, Made, Stuck}
+use Rattle.handoff.specs.declared.copying.Step.TheVariants.{End, Passed, Made, Stuck}
 use Rattle.handoff.specs.declared.fault.Stop.{Stop}
 use Rattle.handoff.specs.declared.fault.Stop.TheVariants as stops
 use Rattle.handoff.specs.declared.fault.HandoffFault.{HandoffFault}
@@ -14,6 +14,7 @@ use Rattle.handoff.specs.Sights.{Sight, ShowsClosed}
 -- where it was copied, the history of the primary has that copy, and else nothing was published
 abbrev pub Steps : ℕ → (old mine theirs : Sight) → Step → Type 0
 Steps diversion old mine theirs End = mine.own ≡ old.own
+Steps diversion old mine theirs (Passed key) = mine.own ≡ old.own
 Steps diversion old mine theirs (Made key) = CopiesOne diversion old mine theirs
 Steps diversion old mine theirs (Stuck key) = mine.own ≡ old.own
 

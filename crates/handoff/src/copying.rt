@@ -1,15 +1,20 @@
 //! Copying the keys of a fallback back to its primary.
 ghost use Rattle.std.specs.Prelude.{◌≡◌, ◌+◌, ◌<◌, ◌≤◌, ◌^◌, IfOk, IfErr, OnOk, IfNone, IfSome, [], length};
 ghost use mathlib.Core.List.{IsPrefix};
+ghost use Rattle.clock_store.specs.Keys.{stored_of};
+ghost use Rattle.rw_gate.specs.Views.{GateId};
 ghost use Rattle.vnode_protocol.specs.Events.{commands_of};
+ghost use Rattle.vnode_protocol.specs.Plans.{View};
 ghost use Rattle.vnode_machine.specs.Sound.{IsSound};
 ghost use Rattle.handoff.specs.Copying.{AreCopies, CopiesBack, CopiesOne, CountsLeft};
 ghost use Rattle.handoff.specs.Sights.{IsOfVnode, Shows};
+ghost use Rattle.handoff.specs.Left.{IsHeld, IsHeldAt};
 ghost use Rattle.handoff.specs.Steps.{IsStopOf, Steps};
 
+use crate::counting::look_left;
 use crate::fault::Stop;
 use crate::gates::Fallback;
-use crate::left::{count_left, first_left};
+use crate::left::{Found, Left, is_copied, next_left};
 use clock_store::KeyRef;
 use rw_gate::{Outcome, ask_shown};
 use ghost_state::{GhostList, Listing};
@@ -18,6 +23,9 @@ use rw_gate::{Gate, Pass, ReadRight, WriteRight};
 use std::alloc::Global;
 use std::sync::Wait;
 use vnode_core::{Ask, Event, KeyCopy, Vnode};
+
+/// How many keys are looked at under the same rights, but for one: so long puts at the fallback wait for a look that finds all copied.
+const STRETCH: u32 = 15;
 
 /// What a copy back did.
 #[derive(Drop)]
@@ -62,16 +70,19 @@ fn commands_seen(pass: &Pass<Vnode>) -> GhostList<Event>
 pub(crate) enum Step {
     /// Behind the last one all are copied as they are now.
     End,
+    /// All keys up to this one are copied as they are now; further ones weren't looked at.
+    Passed(Key),
     /// It was copied.
     Made(Key),
     /// It would have had too many siblings or actors, and nothing changed.
     Stuck(Key),
 }
 
-/// One key more was tried: how many were copied with it, and which it is.
+/// How many keys were copied and how many were tried by now, and the last that was looked at.
 #[derive(Drop)]
 struct Tried {
     keys: u32,
+    tried: u32,
     last: Key,
 }
 
@@ -127,26 +138,40 @@ fn copy_some<R: Wait>(
     let mut keys: u32 = 0;
     let mut tried: u32 = 0;
     let mut last: Option<Key> = None;
-    while tried < budget {
-        let next = copy_counted(rt, alloc, partition, keys, mine, theirs, last.as_ref())?;
+    for _ in 0..u64::MAX {
+        if tried >= budget {
+            return Ok((keys, tried));
+        }
+        let next = copy_counted(
+            rt,
+            alloc,
+            partition,
+            keys,
+            tried,
+            mine,
+            theirs,
+            last.as_ref(),
+        )?;
         match next {
             None => return Ok((keys, tried)),
             Some(one) => {
                 keys = one.keys;
+                tried = one.tried;
                 last = Some(one.last);
             }
         }
-        tried += 1;
     }
     Ok((keys, tried))
 }
 
-/// Copies one key more, behind `keys` that were copied; none where no further one is left.
+/// Goes on behind a key, until one more is copied or stuck, or at most a stretch of keys; none where no further one is left. So many were
+/// copied and so many tried before.
 fn copy_counted<R: Wait>(
     rt: &R,
     alloc: Global,
     partition: &Diverted<'_>,
     keys: u32,
+    tried: u32,
     mine: &mut Pass<Vnode>,
     theirs: &mut Pass<Vnode>,
     after: Option<&Key>,
@@ -155,7 +180,8 @@ fn copy_counted<R: Wait>(
     requires theirs { theirs.old.gate ≡ partition.now.fallback.now.gate }
     requires vnode { IsOfVnode partition.now.fallback.now.gate }
     requires keys { keys ≡ length mine.old.own }
-    requires room { keys + 1 < 2 ^ 32 }
+    requires few { keys ≤ tried }
+    requires room { tried + 1 < 2 ^ 32 }
     requires copies { AreCopies partition.now.fallback.now.diversion
         mine.old theirs.old mine.old.own }
     ensures mine { mine.new.gate ≡ partition.now.primary.now }
@@ -165,21 +191,27 @@ fn copy_counted<R: Wait>(
         mine.new theirs.new mine.new.own) }
     ensures end { IfOk result (λ next. IfNone next (keys ≡ length mine.new.own)) }
     ensures more { IfOk result (λ next. IfSome next (λ one.
-        (one.keys ≡ length mine.new.own) × (one.keys ≤ keys + 1))) }
+        (one.keys ≡ length mine.new.own) × (one.keys ≤ one.tried) × (one.tried ≤ tried + 1))) }
     ensures stop { IfErr result (IsStopOf partition.now.fallback.now.gate) }
 {
     let step = copy_next(rt, alloc, partition, mine, theirs, after)?;
     match step {
         Step::End => Ok(None),
+        Step::Passed(last) => Ok(Some(Tried { keys, tried, last })),
         Step::Made(last) => Ok(Some(Tried {
             keys: keys + 1,
+            tried: tried + 1,
             last,
         })),
-        Step::Stuck(last) => Ok(Some(Tried { keys, last })),
+        Step::Stuck(last) => Ok(Some(Tried {
+            keys,
+            tried: tried + 1,
+            last,
+        })),
     }
 }
 
-/// Copies the first key behind one that isn't copied as it is now, while a right to read is held at the fallback.
+/// Copies the first key behind one, within a stretch of keys, that isn't copied as it is now, while a right to read is held at the fallback.
 fn copy_next<R: Wait>(
     rt: &R,
     alloc: Global,
@@ -233,37 +265,86 @@ fn copy_under<R: Wait>(
     if from.closed_at().is_some() {
         return Err(Stop::NotDiverted);
     }
-    let mut writer = partition.primary.write(rt);
+    let left = match look_for(rt, alloc, partition, from, mine, after)? {
+        Found::End => return Ok(Step::End),
+        Found::Passed(key) => return Ok(Step::Passed(key)),
+        Found::Next(left) => left,
+    };
     let diversion = partition.fallback.diversion;
-    let step = copy_to(&mut writer, alloc, from, diversion, mine, theirs, after);
+    let mut writer = partition.primary.write(rt);
+    let step = copy_to(&mut writer, alloc, from, left, diversion, mine, theirs);
     writer.release();
     step
 }
 
-/// The same under a right to write at the primary too, by the fallback's state, all of whose history its pass has seen.
+/// Looks for a key of the fallback's vnode that isn't copied as it is now, by a right to read at the primary, over a stretch of keys.
+fn look_for<'a, R: Wait>(
+    rt: &R,
+    alloc: Global,
+    partition: &Diverted<'_>,
+    from: &'a Vnode,
+    mine: &mut Pass<Vnode>,
+    after: Option<&Key>,
+) -> Result<Found<'a>, Stop>
+    requires mine { mine.old.gate ≡ partition.now.primary.now }
+    requires sound { IsSound from.now.state }
+    ensures mine { mine.new.gate ≡ mine.old.gate }
+    ensures more { IsPrefix mine.old.prefix mine.new.prefix }
+    ensures own { mine.new.own ≡ mine.old.own }
+    ensures held { IfOk result (IsHeldAt from.now.state) }
+    ensures stop { IfErr result (IsStopOf partition.now.fallback.now.gate) }
+{
+    let here = partition.primary.read(rt);
+    let found = look_under(alloc, &here, from, mine, after);
+    here.release();
+    found
+}
+
+/// The same under the right to read, which the caller gives back.
+fn look_under<'a>(
+    alloc: Global,
+    here: &ReadRight<'_, Vnode>,
+    from: &'a Vnode,
+    mine: &mut Pass<Vnode>,
+    after: Option<&Key>,
+) -> Result<Found<'a>, Stop>
+    requires mine { mine.old.gate ≡ here.now.gate }
+    requires sound { IsSound from.now.state }
+    ensures mine { mine.new.gate ≡ mine.old.gate }
+    ensures more { IsPrefix mine.old.prefix mine.new.prefix }
+    ensures own { mine.new.own ≡ mine.old.own }
+    ensures held { IfOk result (IsHeldAt from.now.state) }
+    ensures stop { (gate : GateId View) → IfErr result (IsStopOf gate) }
+{
+    let to = here.look(mine)?;
+    let found = next_left(alloc, to, from, after, STRETCH)?;
+    Ok(found)
+}
+
+/// Copies a key that the fallback holds, under rights to read there and to write at the primary, where it isn't copied by now; of the
+/// fallback's history its pass has seen all.
 fn copy_to(
     writer: &mut WriteRight<'_, Vnode>,
     alloc: Global,
     from: &Vnode,
+    left: Left<'_>,
     diversion: u32,
     mine: &mut Pass<Vnode>,
     theirs: &Pass<Vnode>,
-    after: Option<&Key>,
 ) -> Result<Step, Stop>
     requires mine { mine.old.gate ≡ writer.old.gate }
     requires shown { Shows theirs.now from.now.state }
-    requires sound { IsSound from.now.state }
     requires unclosed { from.now.state.closed ≡ None }
+    requires held { IsHeld from.now.state left.key (stored_of left.stored.now) }
     ensures mine { mine.new.gate ≡ mine.old.gate }
     ensures more { IsPrefix mine.old.prefix mine.new.prefix }
     ensures step { IfOk result (Steps diversion mine.old mine.new theirs.now) }
     ensures stop { IfErr result (IsStopOf theirs.now.gate) }
 {
     let to = writer.look(mine)?;
-    let left = first_left(alloc, to, from, after)?;
-    let Some(left) = left else {
-        return Ok(Step::End);
-    };
+    if is_copied(to, &left.key, left.stored) {
+        return Ok(Step::Passed(left.key));
+    }
     let parts = KeyRef::of(&left.key);
     let copy = KeyCopy::of(alloc, parts, left.stored, diversion, commands_seen(theirs))?;
     match ask_shown(writer, alloc, mine, Ask::Copy(copy)) {
@@ -272,61 +353,4 @@ fn copy_to(
         Outcome::Refused(_) => Err(Stop::NoMemory),
         Outcome::Moved | Outcome::Full => Err(Stop::GateStopped),
     }
-}
-
-/// How many keys aren't copied as they are now, by a look at both.
-fn look_left<R: Wait>(
-    rt: &R,
-    alloc: Global,
-    partition: &Diverted<'_>,
-    mine: &mut Pass<Vnode>,
-    theirs: &mut Pass<Vnode>,
-) -> Result<u32, Stop>
-    requires mine { mine.old.gate ≡ partition.now.primary.now }
-    requires theirs { theirs.old.gate ≡ partition.now.fallback.now.gate }
-    requires vnode { IsOfVnode partition.now.fallback.now.gate }
-    ensures mine { mine.new.gate ≡ partition.now.primary.now }
-    ensures theirs { theirs.new.gate ≡ partition.now.fallback.now.gate }
-    ensures more { IsPrefix mine.old.prefix mine.new.prefix }
-    ensures more_there { IsPrefix theirs.old.prefix theirs.new.prefix }
-    ensures own { mine.new.own ≡ mine.old.own }
-    ensures own_there { theirs.new.own ≡ theirs.old.own }
-    ensures left { IfOk result (CountsLeft mine.new theirs.new) }
-    ensures stop { IfErr result (IsStopOf partition.now.fallback.now.gate) }
-{
-    let there = partition.fallback.gate.read(rt);
-    let here = partition.primary.read(rt);
-    let left = left_under(alloc, &here, &there, mine, theirs);
-    here.release();
-    there.release();
-    left
-}
-
-/// The same under rights to read, which the caller gives back.
-fn left_under(
-    alloc: Global,
-    here: &ReadRight<'_, Vnode>,
-    there: &ReadRight<'_, Vnode>,
-    mine: &mut Pass<Vnode>,
-    theirs: &mut Pass<Vnode>,
-) -> Result<u32, Stop>
-    requires mine { mine.old.gate ≡ here.now.gate }
-    requires theirs { theirs.old.gate ≡ there.now.gate }
-    requires vnode { IsOfVnode there.now.gate }
-    ensures mine { mine.new.gate ≡ mine.old.gate }
-    ensures theirs { theirs.new.gate ≡ theirs.old.gate }
-    ensures more { IsPrefix mine.old.prefix mine.new.prefix }
-    ensures more_there { IsPrefix theirs.old.prefix theirs.new.prefix }
-    ensures own { mine.new.own ≡ mine.old.own }
-    ensures own_there { theirs.new.own ≡ theirs.old.own }
-    ensures left { IfOk result (CountsLeft mine.new theirs.new) }
-    ensures stop { IfErr result (IsStopOf there.now.gate) }
-{
-    let from = there.look(theirs)?;
-    if from.closed_at().is_some() {
-        return Err(Stop::NotDiverted);
-    }
-    let to = here.look(mine)?;
-    let left = count_left(alloc, to, from)?;
-    Ok(left)
 }

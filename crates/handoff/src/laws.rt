@@ -2,6 +2,7 @@
 ghost use Rattle.std.specs.Prelude.{ℕ};
 ghost use Rattle.copy_laws.specs.Joining.{Log, Fallbacks};
 ghost use Rattle.copy_laws.specs.Sides.{Partition};
+ghost use Rattle.handoff.specs.Joined.{ReturnsJoin};
 ghost use Rattle.handoff.specs.Meeting.{CopiesAreTrue};
 ghost use Rattle.handoff.specs.Sights.{Sight};
 
@@ -14,4 +15,18 @@ ghost use Rattle.handoff.specs.Sights.{Sight};
 pub fn copies_are_true()
     ensures { (partition : Partition) (primary : Log) (fallbacks : Fallbacks) (diversion : ℕ)
         (mine theirs : Sight) → CopiesAreTrue partition primary fallbacks diversion mine theirs }
+{}
+
+/// Where [`Handoff::finish_return`](crate::Handoff::finish_return) has ended a diversion, the two halves meet: copies brought all that
+/// the fallbacks accepted for a key (`IsJoined` of `copy_laws`), and by `copy_joins` the key's siblings in the state that the primary's pass
+/// shows are its joint ones: the writes and tombstones of any side that no command of any side saw. So it is with each key, whether the
+/// fallback held it or not.
+///
+/// It asks that the passes are of that partition: the primary's (`IsOfPrimary`), which isn't closed, and that of its last fallback
+/// (`IsOfLastFallback`), whose gates were made round the new vnodes that the partition names, and whose fallback took commands alone before
+/// its close. And of the key (`IsHandedOff`) that the logs are a hand-off, whose sides rise and whose contexts name what was there, and that of
+/// each earlier fallback copies brought all: so this law says it of the return that ended that one's diversion.
+pub fn returns_join()
+    ensures { (partition : Partition) (primary : Log) (fallbacks : Fallbacks)
+        (mine theirs : Sight) → ReturnsJoin partition primary fallbacks mine theirs }
 {}

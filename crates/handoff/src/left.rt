@@ -1,10 +1,10 @@
 //! The keys of a fallback that aren't copied as they are now.
-ghost use Rattle.std.specs.Prelude.{◌≡◌, ◌+◌, ◌-◌, ◌^◌, min, IfOk, IfNone, IfSome};
+ghost use Rattle.std.specs.Prelude.{◌≡◌, ◌+◌, ◌-◌, ◌^◌, min, IfOk, IfNone, IfSome, None};
 ghost use Rattle.std.specs.Option.{option_map};
 ghost use Rattle.place_map.specs.KeyRefs.{key_after};
 ghost use Rattle.clock_store.specs.Keys.{stored_of};
 ghost use Rattle.vnode_machine.specs.Sound.{IsSound};
-ghost use Rattle.handoff.specs.Left.{AreCopied, IsNextLeft, count_left, is_copied, keys_behind, one_unless};
+ghost use Rattle.handoff.specs.Left.{AreCopied, Finds, IsNextLeft, count_left, is_copied, one_unless};
 
 use clock_store::{KeyRef, StoredClock};
 use dvv_set::Clock;
@@ -19,6 +19,17 @@ pub(crate) struct Left<'a> {
     pub(crate) stored: &'a StoredClock,
 }
 
+/// What a walk over some keys of a fallback found.
+#[derive(Drop)]
+pub(crate) enum Found<'a> {
+    /// No key is left, up to the last one.
+    End,
+    /// No key is left up to this one, and there it stopped.
+    Passed(Key),
+    /// The first that is.
+    Next(Left<'a>),
+}
+
 /// The parts of the key that is given, or none.
 fn refs_of(key: Option<&Key>) -> Option<KeyRef<'_>>
     ensures { key_after result ≡ option_map (λ k. k.now) key.entry }
@@ -30,7 +41,7 @@ fn refs_of(key: Option<&Key>) -> Option<KeyRef<'_>>
 }
 
 /// Whether the primary has a key as the fallback has it now: the fallback's own actor of the key, with the fallback's counter.
-fn is_copied(primary: &Vnode, key: &Key, there: &StoredClock) -> bool
+pub(crate) fn is_copied(primary: &Vnode, key: &Key, there: &StoredClock) -> bool
     ensures { result ≡ is_copied primary.now.state (key.now, stored_of there.now) }
 {
     let Some(own) = there.actor.get() else {
@@ -42,31 +53,56 @@ fn is_copied(primary: &Vnode, key: &Key, there: &StoredClock) -> bool
     }
 }
 
-/// The first key of the fallback's vnode, behind one or of all, that the primary's hasn't as it is there now. Each key on the way is
-/// copied, to be found at the primary: refused where memory is.
-pub(crate) fn first_left<'a>(
+/// The first key of the fallback's vnode, behind one or of all, that the primary's hasn't as it is there now, where it is among the
+/// first so many, and one more. Each key on the way is copied, to be found at the primary: refused where memory is.
+pub(crate) fn next_left<'a>(
     alloc: Global,
     primary: &Vnode,
     fallback: &'a Vnode,
     after: Option<&Key>,
-) -> Result<Option<Left<'a>>, AllocError>
+    most: u32,
+) -> Result<Found<'a>, AllocError>
     requires sound { IsSound fallback.now.state }
-    ensures none { IfOk result (λ left. IfNone left (AreCopied primary.now.state
-        (keys_behind (option_map (λ k. k.now) after.entry) fallback.now.state))) }
-    ensures some { IfOk result (λ left. IfSome left (λ l.
-        IsNextLeft primary.now.state fallback.now.state
-        (option_map (λ k. k.now) after.entry) l.key (stored_of l.stored.now))) }
+    ensures { IfOk result (Finds primary.now.state fallback.now.state
+        (option_map (λ k. k.now) after.entry)) }
 {
+    let mut looked: u32 = 0;
     let mut at = refs_of(after);
     loop {
         let Some((parts, stored)) = fallback.next_key(at) else {
-            return Ok(None);
+            return Ok(Found::End);
         };
         let key = parts.to_key(alloc)?;
         if !is_copied(primary, &key, stored) {
-            return Ok(Some(Left { key, stored }));
+            return Ok(Found::Next(Left { key, stored }));
         }
+        if looked >= most {
+            return Ok(Found::Passed(key));
+        }
+        looked += 1;
         at = Some(parts);
+    }
+}
+
+/// The first key of the fallback's vnode that the primary's hasn't as it is there now.
+pub(crate) fn first_left<'a>(
+    alloc: Global,
+    primary: &Vnode,
+    fallback: &'a Vnode,
+) -> Result<Option<Left<'a>>, AllocError>
+    requires sound { IsSound fallback.now.state }
+    ensures none { IfOk result (λ left. IfNone left
+        (AreCopied primary.now.state fallback.now.state.keys)) }
+    ensures some { IfOk result (λ left. IfSome left (λ l.
+        IsNextLeft primary.now.state fallback.now.state None l.key (stored_of l.stored.now))) }
+{
+    let mut at: Option<Key> = None;
+    loop {
+        match next_left(alloc, primary, fallback, at.as_ref(), u32::MAX)? {
+            Found::End => return Ok(None),
+            Found::Next(left) => return Ok(Some(left)),
+            Found::Passed(key) => at = Some(key),
+        }
     }
 }
 

@@ -38,6 +38,7 @@
 #![tactic(auto)]
 
 mod copying;
+mod counting;
 mod fault;
 mod gates;
 mod laws;
@@ -48,5 +49,5 @@ mod returning;
 pub use copying::Copied;
 pub use fault::{HandoffFault, Returned};
 pub use gates::Fallback;
-pub use laws::copies_are_true;
+pub use laws::{copies_are_true, returns_join};
 pub use partitions::Handoff;

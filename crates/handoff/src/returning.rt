@@ -102,7 +102,7 @@ fn close_shown(
         Some(_) => return Err(Stop::NotDiverted),
         None => {}
     }
-    let left = first_left(alloc, to, from, None)?;
+    let left = first_left(alloc, to, from)?;
     match left {
         Some(_) => return Ok(Ending::LeftOver),
         None => {}

@@ -12,6 +12,11 @@ returns-in-Made-clause-copies g c =
     step-copies c.args.partition.now.fallback.now.diversion c.args.mine.now c.copy_next.new.mine c.args.theirs.now c.copy_next.new.theirs c.in_ok-step.step
     (c.copy_next.ensures.theirs ∙ sym c.requires.theirs) c.copy_next.ensures.more_there c.copy_next.ensures.more c.requires.copies c.in_ok-step.ensures.step
 
+pub returns-in-Passed-clause-copies : goal.returns-in-Passed-clause-copies
+returns-in-Passed-clause-copies g c =
+    step-copies c.args.partition.now.fallback.now.diversion c.args.mine.now c.copy_next.new.mine c.args.theirs.now c.copy_next.new.theirs c.in_ok-step.step
+    (c.copy_next.ensures.theirs ∙ sym c.requires.theirs) c.copy_next.ensures.more_there c.copy_next.ensures.more c.requires.copies c.in_ok-step.ensures.step
+
 pub returns-in-Stuck-clause-copies : goal.returns-in-Stuck-clause-copies
 returns-in-Stuck-clause-copies g c =
     step-copies c.args.partition.now.fallback.now.diversion c.args.mine.now c.copy_next.new.mine c.args.theirs.now c.copy_next.new.theirs c.in_ok-step.step
@@ -20,4 +25,5 @@ returns-in-Stuck-clause-copies g c =
 pub returns-in-Made-clause-more : goal.returns-in-Made-clause-more
 returns-in-Made-clause-more g c =
     let longer = made-length c.args.partition.now.fallback.now.diversion c.args.mine.now c.copy_next.new.mine c.copy_next.new.theirs c.in_ok-step.step c.in-Made.last c.in-Made.is c.in_ok-step.ensures.step in
-    (ap (λ n. n + 1) c.requires.keys ∙ sym longer, omega arith)
+    let few = c.requires.few in
+    (ap (λ n. n + 1) c.requires.keys ∙ sym longer, omega (arith, few), omega arith)

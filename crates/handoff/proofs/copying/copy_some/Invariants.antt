@@ -1,11 +1,8 @@
-use Rattle.std.proofs.Common.{◌-◌, ◌≡◌, ◌≤◌, [], length}
+use Rattle.std.proofs.Common.{◌≡◌, ◌≤◌, [], length}
 use Rattle.handoff.specs.Copying.{AreCopies}
 use Rattle.handoff.proofs.copying.copy_some.Given as goal
 
-abbrev pub invariant-loop-tried : goal.invariant-loop-tried
-invariant-loop-tried g l =
+abbrev pub invariant-loop : goal.invariant-loop
+invariant-loop g l =
     (l.mine.gate ≡ l.partition.primary.now) × (l.theirs.gate ≡ l.partition.fallback.now.gate) × (l.theirs.own ≡ []) × (l.keys ≡ length l.mine.own) × (l.keys ≤ l.tried) × (l.tried ≤ l.budget)
     × AreCopies l.partition.fallback.now.diversion l.mine l.theirs l.mine.own
-
-abbrev pub decreases-loop-tried : goal.decreases-loop-tried
-decreases-loop-tried g l = l.budget - l.tried

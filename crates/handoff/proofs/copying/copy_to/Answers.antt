@@ -1,11 +1,8 @@
 use Rattle.std.proofs.Common.{◌∙◌, [], ◌∷◌, ◌++◌, ap, length}
-use Rattle.std.specs.Option.{option_map}
 use Rattle.std.proofs.lemmas.List.{append-nil}
 use Rattle.clock_store.specs.Keys.{stored_of}
 use Rattle.vnode_machine.specs.Machine.{stored}
-use Rattle.handoff.specs.declared.left.Left.{Left}
-use Rattle.handoff.specs.Left.{IsNextLeft}
-use Rattle.handoff.proofs.Copies.{entry-copied, if-some}
+use Rattle.handoff.proofs.Copies.{entry-copied}
 use Rattle.handoff.proofs.copying.copy_to.Goals as goal
 
 pub returns-in-Made-clause-step : goal.returns-in-Made-clause-step
@@ -13,7 +10,6 @@ returns-in-Made-clause-step c =
     let next = c.in-Made.ensures.follows in
     let copy = c.in_ok-copy.copy in
     let from = c.args.from.now.state in
-    let left = if-some (λ (l : Left). IsNextLeft c.in_ok-to.to.now.state from (option_map (λ k. k.now) c.args.after) l.key (stored_of l.stored.now)) c.in_ok-left.left c.in-Some.left c.in-Some.is c.in_ok-left.ensures.some in
     record {
       position = c.look.new.pass.prefix;
       entry = next.event;
@@ -30,8 +26,8 @@ returns-in-Made-clause-step c =
         state = from;
         leads = c.requires.shown;
         unclosed = c.requires.unclosed;
-        there = stored_of c.in-Some.left.stored.now;
-        held = ap (stored from) (c.in_ok-copy.ensures.key ∙ c.of-parts.ensures) ∙ left.held;
+        there = stored_of c.args.left.stored.now;
+        held = ap (stored from) (c.in_ok-copy.ensures.key ∙ c.of-parts.ensures) ∙ c.requires.held.held;
         clock = c.in_ok-copy.ensures.clock;
       };
     }

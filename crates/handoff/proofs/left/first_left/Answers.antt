@@ -1,29 +1,42 @@
-use Rattle.std.proofs.Common.{◌∙◌, sym}
-use Rattle.std.specs.Option.{option_map}
-use Rattle.place_map.specs.KeyRefs.{key_after, key_in}
-use Rattle.clock_store.specs.Keys.{stored_of}
-use Rattle.handoff.specs.Left.{keys_behind}
-use Rattle.handoff.proofs.Lefts.{behind-last, copied-none, next-copied, next-fewer, next-left}
+use Rattle.std.proofs.Common.{sym, subst}
+use Rattle.std.specs.Prelude.{Option, Some}
+use Rattle.clock_store.specs.Keys.{Keys}
+use Rattle.riak_msgs.specs.declared.Key.{Key}
+use Rattle.handoff.specs.Left.{Finds, GoesOn, keys_behind}
+use Rattle.handoff.specs.declared.left.Found.{Found}
+use Rattle.handoff.proofs.Lefts.{behind-none, first-found, goes-on, goes-through}
 use Rattle.handoff.proofs.left.first_left.Goals as goal
 
-pub returns-in_default-clause-none : goal.returns-in_default-clause-none
-returns-in_default-clause-none c =
+pub loop-at-init : goal.loop-at-init
+loop-at-init c =
     let fallback = c.args.fallback.now.state in
-    let at = key_after c.loop-parts.at in
-    c.loop-parts.invariant.0 (copied-none c.args.primary.now.state (keys_behind at fallback) (behind-last fallback at (sym c.in_default.ensures.next)))
+    subst (λ (keys : Keys). GoesOn c.args.primary.now.state fallback.keys keys) (sym (behind-none fallback)) (goes-on c.args.primary.now.state fallback.keys)
 
-pub returns-then-not-is_copied-clause-some : goal.returns-then-not-is_copied-clause-some
-returns-then-not-is_copied-clause-some c =
-    next-left c.args.primary.now.state c.args.fallback.now.state c.requires.sound (option_map (λ k. k.now) c.args.after) (key_after c.loop-parts.at)
-    (key_in c.in-Some.parts) c.in_ok-key.key (stored_of c.in-Some.stored.now) c.loop-parts.invariant (sym c.in-Some.ensures.next) c.in_ok-key.ensures
-    (sym c.is_copied.ensures ∙ c.if-not-is_copied.true) c.in-Some.ensures.form
+pub returns-in-End-clause-none : goal.returns-in-End-clause-none
+returns-in-End-clause-none c =
+    let primary = c.args.primary.now.state in
+    let fallback = c.args.fallback.now.state in
+    let finds = subst (λ (after : Option Key). Finds primary fallback after c.in_ok-next_left.field-0) c.as_ref.ensures.value c.in_ok-next_left.ensures in
+    c.loop-at.invariant.copied (subst (λ (found : Found). Finds primary fallback c.loop-at.at found) c.in-End.is finds)
 
-pub loop-parts-smaller : goal.loop-parts-smaller
-loop-parts-smaller c =
-    next-fewer c.args.fallback.now.state c.requires.sound (key_after c.loop-parts.at) (key_in c.in-Some.parts) (stored_of c.in-Some.stored.now) (sym c.in-Some.ensures.next)
+pub returns-in-Next-clause-some : goal.returns-in-Next-clause-some
+returns-in-Next-clause-some c =
+    let primary = c.args.primary.now.state in
+    let fallback = c.args.fallback.now.state in
+    let finds = subst (λ (after : Option Key). Finds primary fallback after c.in_ok-next_left.field-0) c.as_ref.ensures.value c.in_ok-next_left.ensures in
+    first-found primary fallback c.loop-at.at c.in-Next.left c.loop-at.invariant (subst (λ (found : Found). Finds primary fallback c.loop-at.at found) c.in-Next.is finds)
 
-pub loop-parts-preserved : goal.loop-parts-preserved
-loop-parts-preserved c =
-    next-copied c.args.primary.now.state c.args.fallback.now.state c.requires.sound (option_map (λ k. k.now) c.args.after) (key_after c.loop-parts.at)
-    (key_in c.in-Some.parts) c.in_ok-key.key (stored_of c.in-Some.stored.now) c.loop-parts.invariant (sym c.in-Some.ensures.next) c.in_ok-key.ensures
-    (sym c.is_copied.ensures ∙ c.if-not-is_copied.false)
+pub loop-at-smaller : goal.loop-at-smaller
+loop-at-smaller c =
+    let primary = c.args.primary.now.state in
+    let fallback = c.args.fallback.now.state in
+    let finds = subst (λ (after : Option Key). Finds primary fallback after c.in_ok-next_left.field-0) c.as_ref.ensures.value c.in_ok-next_left.ensures in
+    (subst (λ (found : Found). Finds primary fallback c.loop-at.at found) c.in-Passed.is finds).1
+
+pub loop-at-preserved : goal.loop-at-preserved
+loop-at-preserved c =
+    let primary = c.args.primary.now.state in
+    let fallback = c.args.fallback.now.state in
+    let finds = subst (λ (after : Option Key). Finds primary fallback after c.in_ok-next_left.field-0) c.as_ref.ensures.value c.in_ok-next_left.ensures in
+    goes-through primary fallback.keys (keys_behind c.loop-at.at fallback) (keys_behind (Some c.in-Passed.key) fallback) c.loop-at.invariant
+    (subst (λ (found : Found). Finds primary fallback c.loop-at.at found) c.in-Passed.is finds).0

@@ -1,13 +1,9 @@
 use Rattle.std.proofs.Common.{length}
-use Rattle.std.specs.Option.{option_map}
-use Rattle.place_map.specs.KeyRefs.{key_after}
-use Rattle.handoff.specs.Left.{keys_behind}
-use Rattle.handoff.proofs.Lefts.{GoesOn}
+use Rattle.handoff.specs.Left.{GoesOn, keys_behind}
 use Rattle.handoff.proofs.left.first_left.Given as goal
 
-abbrev pub invariant-loop-parts : goal.invariant-loop-parts
-invariant-loop-parts l =
-    GoesOn l.primary.state (keys_behind (option_map (λ k. k.now) l.after) l.fallback.state) (keys_behind (key_after l.at) l.fallback.state)
+abbrev pub invariant-loop-at : goal.invariant-loop-at
+invariant-loop-at l = GoesOn l.primary.state l.fallback.state.keys (keys_behind l.at l.fallback.state)
 
-abbrev pub decreases-loop-parts : goal.decreases-loop-parts
-decreases-loop-parts l = length (keys_behind (key_after l.at) l.fallback.state)
+abbrev pub decreases-loop-at : goal.decreases-loop-at
+decreases-loop-at l = length (keys_behind l.at l.fallback.state)

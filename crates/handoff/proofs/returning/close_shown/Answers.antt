@@ -5,7 +5,7 @@ use Rattle.rw_gate.specs.Views.{GateId}
 use Rattle.vnode_protocol.specs.declared.entry.Entry.TheVariants.{Closed}
 use Rattle.vnode_protocol.specs.Plans.{View}
 use Rattle.handoff.specs.declared.left.Left.{Left}
-use Rattle.handoff.specs.Left.{AreCopied, IsFirstLeft, IsNextLeft}
+use Rattle.handoff.specs.Left.{IsFirstLeft, IsNextLeft}
 use Rattle.handoff.specs.Sights.{LeadsTo}
 use Rattle.handoff.proofs.Copies.{if-none, if-some}
 use Rattle.handoff.proofs.Lefts.{behind-none}
@@ -50,7 +50,7 @@ returns-clause-ending c =
       leads = subst (λ (gate : GateId View). LeadsTo gate before fallback) (sym c.close.ensures.gate)
           (shown c.args.writer.now c.look-2.new.pass c.in_ok-from.from.now c.look-2.ensures.replay (c.look-2.ensures.gate ∙ c.requires.theirs) c.in_ok-from.ensures.seen c.in_ok-from.ensures.shown);
       unclosed = sym c.closed_at.ensures ∙ c.in-None.is;
-      copied = subst (AreCopied primary) (behind-none fallback) (if-none c.in_ok-left.left c.in-None-left.is c.in_ok-left.ensures.none);
+      copied = if-none c.in_ok-left.left c.in-None-left.is c.in_ok-left.ensures.none;
       seen = closes.seen ∙ ap (λ n. before ++ Closed n ∷ []) c.seen.ensures.length;
       own = closes.own ∙ ap (λ ks. ks ++ length before ∷ []) (c.look-2.ensures.own ∙ c.requires.own_there);
       own_here = c.look.ensures.own ∙ c.requires.own;
