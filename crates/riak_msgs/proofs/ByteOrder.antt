@@ -96,7 +96,7 @@ rest_cmp (suc n) (suc at) (x ∷ xs) [] within long long' bytes bytes' equal = a
 rest_cmp (suc n) (suc at) (x ∷ xs) (y ∷ ys) within long long' bytes bytes' equal =
     let digits = digits_cmp x y (256 ^ n) (big_number n xs) (big_number n ys) (big_from-lt 0 n xs (λ k. bytes (suc k))) (big_from-lt 0 n ys (λ k. bytes' (suc k))) in
     let both = then_equal (nat_cmp x y) (nat_cmp (big_number n xs) (big_number n ys))
-        (sym digits ∙ (λ i. nat_cmp (x * 256 ^ n + sym (big_from-cons 0 n x xs) i) (y * 256 ^ n + sym (big_from-cons 0 n y ys) i)) ∙ equal) in
+    (sym digits ∙ (λ i. nat_cmp (x * 256 ^ n + sym (big_from-cons 0 n x xs) i) (y * 256 ^ n + sym (big_from-cons 0 n y ys) i)) ∙ equal) in
     ap (λ (o : Ordering). ordering_then o (slice_cmp nat_cmp xs ys)) both.0
     ∙ rest_cmp n at xs ys (omega arith) (omega arith) (omega arith) (λ k. bytes (suc k)) (λ k. bytes' (suc k)) both.1
 
