@@ -26,12 +26,13 @@
 //! of another. What a copy back made is said by the passes that it gives back (`CopiesBack` in `specs/Copying`): each entry that it published
 //! at the primary is a copy (`IsCopy`) of what a look showed at the fallback. That these are the copies of which the law of copies
 //! (`copy_joins` of `vnode_core`) says that no sibling is lost or comes again is [`copies_are_true`]. So it is with the end of a diversion
-//! (`EndsDiversion` in `specs/Returning`): the close stands right behind what was looked at.
+//! (`EndsDiversion` in `specs/Returning`): the close stands right behind what was looked at, and then each key's siblings at the primary are
+//! the joint ones of all sides ([`returns_join`]).
 //!
 //! What it costs: a partition that isn't diverted has a place for its fallback, and a call looks at that place. A diversion makes one
 //! gate and one vnode without keys. A key that is copied, or that is looked at and isn't, is searched for once in each vnode, and is
-//! copied for that; a key that is copied back takes two rights and its clock's size in memory. A return looks at each key once, while
-//! no call is answered at the fallback.
+//! copied for that; a key that is copied back takes three rights and its clock's size in memory, and a stretch of 16 keys that are copied
+//! already takes two. A return looks at each key once, while no call is answered at the fallback.
 //!
 //! Rights are taken in one order, the fallback's before the primary's, and no call that holds a primary's asks for a fallback's. So
 //! none of these calls waits for another that waits for it.

@@ -130,9 +130,10 @@ impl Handoff {
     /// copied as they are now. Such a one is copied where the primary's clock of the key has the fallback's own actor of it with the
     /// fallback's counter. The index is below the ring's size.
     ///
-    /// For each key it holds a right to read at the fallback, and looks; then it takes the right to write at the primary, publishes a
-    /// copy of what the look showed, and gives both back. Whoever holds a right at a primary asks for no right at a fallback, so no
-    /// two calls wait for each other. At last it looks at both once more, and counts what is left.
+    /// It goes through the keys in stretches of 16: under a right to read at the fallback, and one at the primary, it looks for a key that is
+    /// left; where one is, it takes the right to write at the primary in place of that to read, looks again, and publishes a copy of what the
+    /// look at the fallback showed. Then it gives all back. Whoever holds a right at a primary asks for no right at a fallback, so no two
+    /// calls wait for each other. At last it looks at both once more, and counts what is left; writes at the fallback wait for that.
     ///
     /// Refused, with what was copied until then copied, by `NotDiverted` where no fallback stands there, or a look shows it
     /// closed; by `NoMemory`; by `GateStopped`. The call can be made again.
