@@ -1,20 +1,23 @@
 -- Steps do not look at ids, epochs that vnodes were opened behind, histories and what workers have seen of them.
-use Rattle.std.proofs.Common.{◌≡◌, ℕ, zero, suc, ◌≤◌, true, false, List, [], ◌∷◌, map, refl, sym, ◌∙◌, ap, arith}
-use Rattle.std.specs.Prelude.{pred, Option, Some, None, option_map, option_and_then, slice_get, slice_set}
+use Rattle.std.proofs.Common.{◌≡◌, ℕ, zero, suc, ◌+◌, ◌≤◌, Bool, true, false, cond, not, ◌&&◌, List, [], ◌∷◌, ◌++◌, map, refl, sym, ◌∙◌, ap, arith}
+use Rattle.std.specs.Prelude.{◌==◌, pred, Option, Some, None, option_map, option_and_then, slice_get, slice_set}
 use Rattle.std.specs.Option.{option_map_or}
 use Rattle.std.proofs.lemmas.Option.{slice_get-map}
+use Rattle.std.proofs.lemmas.List.{length-map}
+use Rattle.std.specs.List.{list_all}
 use Rattle.riak_msgs.specs.Contents.{Content}
 use Rattle.sibling_register.specs.Answers.{Ask, AskGet, AskPut, AskDel, AskReap}
 use Rattle.actor_epoch.specs.Given.{Context}
 use Rattle.vnode_machine.specs.Machine.{State}
 use Rattle.vnode_machine.specs.Replay.{History}
 use Rattle.vnode_machine.specs.Step.{StepOutcome, Refused, Answered, Accepted, outcome as outcome_of_ask}
-use Rattle.node_steps.specs.World.{Word, Open, Taken, Phase, Idle, Asked, Reading, Holding, Done, Vnode, Worker, World, worker_at, seen_at}
-use Rattle.node_steps.specs.Steps.{Action, Asks, AsksPing, Enters, Leaves, Marks, Unmarks, Takes, Puts, Looks, Publishes, Step, Outcome, NotPossible, Turn, looks_by, turn_of, site_of, action_in, seeing, turned, happens, after, outcome}
+use Rattle.node_steps.specs.World.{Word, Open, Taken, Phase, Idle, Asked, Reading, Holding, Done, Vnode, Worker, World, fresh_vnode, worker_at, route, seen_at}
+use Rattle.node_steps.specs.Steps.{Action, Asks, AsksNowhere, Enters, Leaves, Marks, Unmarks, Takes, Puts, Looks, Publishes, Step, By, Diverts, Outcome, NotPossible, Happened, Turn, looks_by, turn_of, routed, site_of, seeing, turned, does, is_about, fallback_ids, diverted_by, diverted, happens, after, outcome}
 use Rattle.node_steps.proofs.Lists.{one, how_many}
 use Rattle.node_steps.proofs.Inside.{is_reader, reads, holds, FitsWord, IsAbout, same_test}
 use Rattle.node_steps.proofs.Turns.{about_is}
 use Rattle.node_steps.proofs.Kept.{IsOrderly, at_place, counted}
+use Rattle.node_steps.proofs.Diverting.{in_place_still}
 use Rattle.node_steps.specs.Erased.{IsShown, erase_place, erase_vnode, erase_worker, erase}
 
 abbrev pub erase_turn : Turn → Turn
@@ -116,11 +119,11 @@ module _ (id epoch : ℕ) (seen history : History) (place : State Content) where
   turn_erased word (Asks index ask) (Reading other get) p = refl
   turn_erased word (Asks index ask) (Holding other was hand plan) p = refl
   turn_erased word (Asks index ask) (Done other hand) p = refl
-  turn_erased word AsksPing Idle p = refl
-  turn_erased word AsksPing (Asked other was) p = refl
-  turn_erased word AsksPing (Reading other get) p = refl
-  turn_erased word AsksPing (Holding other was hand plan) p = refl
-  turn_erased word AsksPing (Done other hand) p = refl
+  turn_erased word AsksNowhere Idle p = refl
+  turn_erased word AsksNowhere (Asked other was) p = refl
+  turn_erased word AsksNowhere (Reading other get) p = refl
+  turn_erased word AsksNowhere (Holding other was hand plan) p = refl
+  turn_erased word AsksNowhere (Done other hand) p = refl
   turn_erased word Enters (Asked index ask) p = enters word index ask
   turn_erased word Enters Idle p = refl
   turn_erased word Enters (Reading other get) p = refl
@@ -160,7 +163,7 @@ workers_twice [] = refl
 workers_twice (x ∷ workers) = let rest = workers_twice workers in λ i. record { phase = x.phase; seen = [] } ∷ rest i
 
 pub world_twice : (w : World) → erase (erase w) ≡ erase w
-world_twice w = let vnodes = vnodes_twice w.vnodes in let workers = workers_twice w.workers in λ i. record { vnodes = vnodes i; workers = workers i }
+world_twice w = let vnodes = vnodes_twice w.vnodes in let workers = workers_twice w.workers in λ i. record { vnodes = vnodes i; routes = w.routes; workers = workers i }
 
 abbrev pub Result : Type 0
 Result = World × Outcome
@@ -172,6 +175,7 @@ erase_result r = (erase r.0, r.1)
 abbrev pub turned_erased : World → (place index : ℕ) → Turn → Result
 turned_erased w place index turn = (
   record {
+    routes = w.routes;
     vnodes = slice_set (map erase_vnode w.vnodes) index turn.vnode;
     workers = slice_set (map erase_worker w.workers) place (record { phase = turn.phase; seen = [] });
   },
@@ -182,7 +186,7 @@ pub turned_is : (w : World) (place index : ℕ) (worker : Worker) (turn : Turn) 
 turned_is w place index worker turn =
     let vnodes = map-set erase_vnode w.vnodes index turn.vnode in
     let workers = map-set erase_worker w.workers place (record { phase = turn.phase; seen = seeing worker.seen index turn.seen }) in
-    λ i. (record { vnodes = vnodes i; workers = workers i }, turn.outcome)
+    λ i. (record { vnodes = vnodes i; routes = w.routes; workers = workers i }, turn.outcome)
 
 erased_turned_is : (w : World) (place index : ℕ) (worker : Worker) (turn : Turn)
     → erase_result (turned (erase w) place index worker turn, turn.outcome) ≡ turned_erased w place index (erase_turn turn)
@@ -192,6 +196,7 @@ erased_turned_is w place index worker turn =
     turned_is (erase w) place index worker turn
     ∙ (λ i. (
       record {
+        routes = w.routes;
         vnodes = slice_set (vnodes i) index (erase_vnode turn.vnode);
         workers = slice_set (workers i) place (record { phase = turn.phase; seen = [] });
       },
@@ -225,40 +230,36 @@ shown_at w orderly action number index worker vnode here at there =
     (about_is vnode.id vnode.last_epoch index 0 0 action worker.phase at)
     (counted (reads index) w.workers (pred number) worker (at_place w number worker here))
 
-module _ (w : World) (orderly : IsOrderly w) (step : Step) where
+module _ (w : World) (orderly : IsOrderly w) (number : ℕ) (action : Action) where
   abbrev Both : Option Result → Option Result → Type 0
   Both a b = option_map erase_result a ≡ option_map erase_result b
 
   abbrev result : World → Worker → ℕ → Turn → Result
-  result world worker index turn = (turned world (pred step.worker) index worker turn, turn.outcome)
-
-  -- what its worker does, in either world
-  abbrev action : Action
-  action = action_in w step
+  result world worker index turn = (turned world (pred number) index worker turn, turn.outcome)
 
   -- a turn of a worker at a vnode
-  at_vnode : (worker : Worker) (index : ℕ) (vnode : Vnode) → worker_at w step.worker ≡ Some worker → site_of action worker.phase ≡ Some index → slice_get w.vnodes index ≡ Some vnode
+  at_vnode : (worker : Worker) (index : ℕ) (vnode : Vnode) → worker_at w number ≡ Some worker → site_of action worker.phase ≡ Some index → slice_get w.vnodes index ≡ Some vnode
       → Both (option_map (result w worker index) (turn_of (seen_at worker.seen index) vnode action worker.phase))
       (option_map (result (erase w) (erase_worker worker) index) (turn_of [] (erase_vnode vnode) action worker.phase))
   at_vnode worker index vnode here at there =
-      by_turn (result w worker index) (turned_erased w (pred step.worker) index) (turned_is w (pred step.worker) index worker)
+      by_turn (result w worker index) (turned_erased w (pred number) index) (turned_is w (pred number) index worker)
       (turn_of (seen_at worker.seen index) vnode action worker.phase)
-      ∙ ap (λ o. option_map (turned_erased w (pred step.worker) index) o)
-      (turn_erased vnode.id vnode.last_epoch (seen_at worker.seen index) vnode.history vnode.place vnode.word action worker.phase (shown_at w orderly action step.worker index worker vnode here at there))
-      ∙ sym (by_turn (result (erase w) (erase_worker worker) index) (turned_erased w (pred step.worker) index)
-      (erased_turned_is w (pred step.worker) index (erase_worker worker)) (turn_of [] (erase_vnode vnode) action worker.phase))
+      ∙ ap (λ o. option_map (turned_erased w (pred number) index) o)
+      (turn_erased vnode.id vnode.last_epoch (seen_at worker.seen index) vnode.history vnode.place vnode.word action worker.phase (shown_at w orderly action number index worker vnode here at there))
+      ∙ sym (by_turn (result (erase w) (erase_worker worker) index) (turned_erased w (pred number) index)
+      (erased_turned_is w (pred number) index (erase_worker worker)) (turn_of [] (erase_vnode vnode) action worker.phase))
 
   abbrev at_index : World → Worker → ℕ → Option Vnode → Option Result
   at_index world worker index o =
-      option_and_then (λ vnode. option_map (λ turn. (turned world (pred step.worker) index worker turn, turn.outcome))
+      option_and_then (λ vnode. option_map (λ turn. (turned world (pred number) index worker turn, turn.outcome))
       (turn_of (seen_at worker.seen index) vnode action worker.phase)) o
 
-  by_vnode : (worker : Worker) (index : ℕ) → worker_at w step.worker ≡ Some worker → site_of action worker.phase ≡ Some index → (o : Option Vnode) → slice_get w.vnodes index ≡ o
+  by_vnode : (worker : Worker) (index : ℕ) → worker_at w number ≡ Some worker → site_of action worker.phase ≡ Some index → (o : Option Vnode) → slice_get w.vnodes index ≡ o
       → Both (at_index w worker index o) (at_index (erase w) (erase_worker worker) index (option_map erase_vnode o))
   by_vnode worker index here at None there = refl
   by_vnode worker index here at (Some vnode) there = at_vnode worker index vnode here at there
 
-  by_index : (worker : Worker) → worker_at w step.worker ≡ Some worker → (o : Option ℕ) → site_of action worker.phase ≡ o
+  by_index : (worker : Worker) → worker_at w number ≡ Some worker → (o : Option ℕ) → site_of action worker.phase ≡ o
       → Both (option_and_then (λ index. at_index w worker index (slice_get w.vnodes index)) o)
       (option_and_then (λ index. at_index (erase w) (erase_worker worker) index (slice_get (erase w).vnodes index)) o)
   by_index worker here None at = refl
@@ -266,22 +267,85 @@ module _ (w : World) (orderly : IsOrderly w) (step : Step) where
       by_vnode worker index here at (slice_get w.vnodes index) refl
       ∙ ap (λ o. option_map erase_result (at_index (erase w) (erase_worker worker) index o)) (sym (slice_get-map erase_vnode w.vnodes index))
 
-  by_worker : (o : Option Worker) → worker_at w step.worker ≡ o
+  by_worker : (o : Option Worker) → worker_at w number ≡ o
       → Both (option_and_then (λ worker. option_and_then (λ index. at_index w worker index (slice_get w.vnodes index)) (site_of action worker.phase)) o)
       (option_and_then (λ worker. option_and_then (λ index. at_index (erase w) worker index (slice_get (erase w).vnodes index)) (site_of action worker.phase)) (option_map erase_worker o))
   by_worker None here = refl
   by_worker (Some worker) here = by_index worker here (site_of action worker.phase) refl
 
-  happens_erased : Both (happens w step) (happens (erase w) step)
-  happens_erased =
-      by_worker (worker_at w step.worker) refl
+  does_erased : Both (does w number action) (does (erase w) number action)
+  does_erased =
+      by_worker (worker_at w number) refl
       ∙ ap (λ o. option_map erase_result (option_and_then (λ worker. option_and_then (λ index. at_index (erase w) worker index (slice_get (erase w).vnodes index)) (site_of action worker.phase)) o))
-      (sym (worker_erased w step.worker))
+      (sym (worker_erased w number))
 
+-- so it is of a partition's step
+alone_erased : (site : ℕ) (workers : List Worker) → list_all (λ worker. not (is_about site worker.phase)) (map erase_worker workers) ≡ list_all (λ worker. not (is_about site worker.phase)) workers
+alone_erased site [] = refl
+alone_erased site (worker ∷ workers) = ap (λ rest. not (is_about site worker.phase) && rest) (alone_erased site workers)
+
+map-more : {A B : Type 0} (f : A → B) (xs : List A) (x : A) → map f (xs ++ x ∷ []) ≡ map f xs ++ f x ∷ []
+map-more f [] x = refl
+map-more f (y ∷ xs) x = ap (λ rest. f y ∷ rest) (map-more f xs x)
+
+module _ (w : World) (orderly : IsOrderly w) (index : ℕ) where
+  abbrev Erases : Option World → Option World → Type 0
+  Erases a b = option_map erase a ≡ option_map erase b
+
+  same_diverted : (vnode : Vnode) → erase_place vnode.word vnode.place ≡ vnode.place → erase (diverted_by w index vnode) ≡ erase (diverted_by (erase w) index (erase_vnode vnode))
+  same_diverted vnode e =
+      let fresh : Vnode = fresh_vnode (vnode.place.vnode + fallback_ids) 0 in
+      let vnodes = map-more erase_vnode w.vnodes fresh
+      ∙ (λ i. sym (vnodes_twice w.vnodes) i ++ erase_vnode (fresh_vnode ((sym e i).vnode + fallback_ids) 0) ∷ [])
+      ∙ sym (map-more erase_vnode (map erase_vnode w.vnodes) (fresh_vnode ((erase_place vnode.word vnode.place).vnode + fallback_ids) 0)) in
+      let count = sym (length-map w.vnodes erase_vnode) in
+      let workers = sym (workers_twice w.workers) in
+      λ i. record { vnodes = vnodes i; routes = slice_set w.routes index (count i); workers = workers i }
+
+  by_tests : (vnode : Vnode) → slice_get w.vnodes index ≡ Some vnode → (same : Bool) (alone : Bool) → list_all (λ worker. not (is_about index worker.phase)) w.workers ≡ alone
+      → Erases (cond (same && alone) (Some (diverted_by w index vnode)) None) (cond (same && alone) (Some (diverted_by (erase w) index (erase_vnode vnode))) None)
+  by_tests vnode there true true h = ap (λ x. Some x) (same_diverted vnode (in_place_still w orderly index vnode there h))
+  by_tests vnode there true false h = refl
+  by_tests vnode there false alone h = refl
+
+  abbrev tested : World → (site : ℕ) → Bool → Vnode → Option World
+  tested world site alone vnode = cond ((site == index) && alone) (Some (diverted_by world index vnode)) None
+
+  abbrev is_free : Bool
+  is_free = list_all (λ worker. not (is_about index worker.phase)) w.workers
+
+  by_primary : (site : ℕ) (o : Option Vnode) → slice_get w.vnodes index ≡ o → Erases (option_and_then (tested w site is_free) o) (option_and_then (tested (erase w) site is_free) (option_map erase_vnode o))
+  by_primary site None h = refl
+  by_primary site (Some vnode) h = by_tests vnode h (site == index) is_free refl
+
+  by_route : (o : Option ℕ) → Erases (option_and_then (λ site. option_and_then (tested w site is_free) (slice_get w.vnodes index)) o)
+      (option_and_then (λ site. option_and_then (tested (erase w) site is_free) (slice_get (map erase_vnode w.vnodes) index)) o)
+  by_route None = refl
+  by_route (Some site) =
+      by_primary site (slice_get w.vnodes index) refl
+      ∙ ap (λ o. option_map erase (option_and_then (tested (erase w) site is_free) o)) (sym (slice_get-map erase_vnode w.vnodes index))
+
+  diverted_erased : Erases (diverted w index) (diverted (erase w) index)
+  diverted_erased =
+      by_route (slice_get w.routes index)
+      ∙ ap (λ b. option_map erase (option_and_then (λ site. option_and_then (tested (erase w) site b) (slice_get (map erase_vnode w.vnodes) index)) (slice_get w.routes index)))
+      (sym (alone_erased index w.workers))
+
+with_happened : (o : Option World) → option_map erase_result (option_map (λ (next : World). (next, Happened)) o) ≡ option_map (λ (next : World). (next, Happened)) (option_map erase o)
+with_happened None = refl
+with_happened (Some next) = refl
+
+happens_erased : (w : World) → IsOrderly w → (step : Step) → option_map erase_result (happens w step) ≡ option_map erase_result (happens (erase w) step)
+happens_erased w orderly (By number action) = does_erased w orderly number (routed (route w) action)
+happens_erased w orderly (Diverts index) =
+    with_happened (diverted w index) ∙ ap (λ o. option_map (λ (next : World). (next, Happened)) o) (diverted_erased w orderly index)
+    ∙ sym (with_happened (diverted (erase w) index))
+
+module _ (w : World) (orderly : IsOrderly w) (step : Step) where
   -- the same comes of a step in the erased world, and it leaves the same
   pub outcome_erased : outcome w step ≡ outcome (erase w) step
   outcome_erased =
-      same_outcome (happens w step) ∙ ap (λ o. option_map_or (λ (r : Result). r.1) o NotPossible) happens_erased ∙ sym (same_outcome (happens (erase w) step))
+      same_outcome (happens w step) ∙ ap (λ o. option_map_or (λ (r : Result). r.1) o NotPossible) (happens_erased w orderly step) ∙ sym (same_outcome (happens (erase w) step))
     where
       same_outcome : (o : Option Result) → option_map_or (λ (r : Result). r.1) o NotPossible ≡ option_map_or (λ (r : Result). r.1) (option_map erase_result o) NotPossible
       same_outcome None = refl
@@ -289,7 +353,7 @@ module _ (w : World) (orderly : IsOrderly w) (step : Step) where
 
   pub after_erased : erase (after w step) ≡ erase (after (erase w) step)
   after_erased =
-      left_by w (happens w step) ∙ ap (λ o. option_map_or (λ (r : Result). r.0) o (erase w)) happens_erased
+      left_by w (happens w step) ∙ ap (λ o. option_map_or (λ (r : Result). r.0) o (erase w)) (happens_erased w orderly step)
       ∙ ap (λ world. option_map_or (λ (r : Result). r.0) (option_map erase_result (happens (erase w) step)) world) (sym (world_twice w)) ∙ sym (left_by (erase w) (happens (erase w) step))
     where
       left_by : (world : World) (o : Option Result) → erase (option_map_or (λ (r : Result). r.0) o world) ≡ option_map_or (λ (r : Result). r.0) (option_map erase_result o) (erase world)

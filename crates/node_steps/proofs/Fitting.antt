@@ -1,19 +1,21 @@
 -- What is kept of a world is fit for every step: readers are counted, and a reader has a state to look at.
 use Rattle.std.proofs.Common.{◌≡◌, ℕ, zero, suc, ◌+◌, ◌≤◌, ◌<◌, ◌^◌, Bool, true, false, List, [], ◌∷◌, map, length, refl, sym, ◌∙◌, ap, arith, subst}
-use Rattle.std.specs.Prelude.{Option, Some, None, option_map, slice_get, slice_set, replicate}
+use Rattle.std.specs.Prelude.{Option, Some, None, option_map, slice_get, replicate}
 use Rattle.std.specs.Option.{option_map_or}
 use Rattle.std.proofs.lemmas.Option.{slice_get-map}
 use Rattle.node_steps.specs.declared.parts.Parts.{Parts}
-use Rattle.node_steps.specs.World.{Word, Open, Taken, Vnode, Worker, World}
-use Rattle.node_steps.specs.Steps.{Step, Enters, Outcome, site_of, happens, after}
+use Rattle.node_steps.specs.World.{Word, Open, Taken, Vnode, Worker, World, route}
+use Rattle.node_steps.specs.Steps.{Step, By, Diverts, Enters, Outcome, Happened, routed, site_of, does, diverted, after}
 use Rattle.node_steps.specs.Schedules.{Start, world_after}
 use Rattle.node_steps.specs.Erased.{IsShown, erase_vnode, erase_worker}
 use Rattle.node_steps.specs.Running.{HasRoom, vnode_of, worker_of}
 use Rattle.node_steps.specs.Parts.{AreFit, world_in}
 use Rattle.node_steps.specs.Kept.{IsKept}
-use Rattle.node_steps.proofs.Lists.{one, how_many}
+use Rattle.node_steps.proofs.Lists.{one, how_many, length-set}
 use Rattle.node_steps.proofs.Inside.{reads, holds, FitsWord}
-use Rattle.node_steps.proofs.Kept.{map_some, possible, orderly}
+use Rattle.node_steps.proofs.Kept.{map_some, possible}
+use Rattle.node_steps.proofs.Diverting.{diversion}
+use Rattle.node_steps.proofs.Scheduled.{orderly}
 use Rattle.node_steps.proofs.Erasing.{shown_at}
 
 pub at_some : {A B : Type 0} (f : A → B) (xs : List A) (i : ℕ) (x : A) → slice_get xs i ≡ Some x → slice_get (map f xs) i ≡ Some (f x)
@@ -22,23 +24,24 @@ at_some f xs i x h = slice_get-map f xs i ∙ ap (λ o. option_map f o) h
 from_some : {A B : Type 0} (f : A → B) (xs : List A) (i : ℕ) (y : B) → slice_get (map f xs) i ≡ Some y → (x : A) × (slice_get xs i ≡ Some x) × (f x ≡ y)
 from_some f xs i y h = map_some f (slice_get xs i) y (sym (slice_get-map f xs i) ∙ h)
 
-length-set : {X : Type 0} (xs : List X) (i : ℕ) (y : X) → length (slice_set xs i y) ≡ length xs
-length-set [] i y = refl
-length-set (x ∷ xs) zero y = refl
-length-set (x ∷ xs) (suc i) y = ap suc (length-set xs i y)
-
 length-replicate : {X : Type 0} (n : ℕ) (x : X) → length (replicate n x) ≡ n
 length-replicate zero x = refl
 length-replicate (suc n) x = ap suc (length-replicate n x)
 
 workers_stay : (w : World) (step : Step) → length (after w step).workers ≡ length w.workers
-workers_stay w step = by (happens w step) refl
+workers_stay w (By number action) = by (does w number (routed (route w) action)) refl
   where
-    by : (o : Option (World × Outcome)) → happens w step ≡ o → length (option_map_or (λ (r : World × Outcome). r.0) o w).workers ≡ length w.workers
+    by : (o : Option (World × Outcome)) → does w number (routed (route w) action) ≡ o → length (option_map_or (λ (r : World × Outcome). r.0) o w).workers ≡ length w.workers
     by None h = refl
     by (Some r) h =
-        let p = possible w step r h in
+        let p = possible w number (routed (route w) action) r h in
         ap (λ (q : World × Outcome). length q.0.workers) (sym p.gives) ∙ length-set w.workers _ _
+workers_stay w (Diverts index) = by (diverted w index) refl
+  where
+    by : (o : Option World) → diverted w index ≡ o
+        → length (option_map_or (λ (r : World × Outcome). r.0) (option_map (λ (next : World). (next, Happened)) o) w).workers ≡ length w.workers
+    by None h = refl
+    by (Some next) h = let d = diversion w index next h in ap (λ (x : World). length x.workers) (sym d.gives)
 
 -- there are as many workers as at the start
 workers_are : (start : Start) (schedule : List Step) → length (world_after start schedule).workers ≡ start.workers

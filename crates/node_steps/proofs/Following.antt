@@ -8,7 +8,7 @@ use Rattle.node_steps.specs.Erased.{erase}
 use Rattle.node_steps.specs.Returned.{returned}
 use Rattle.node_steps.specs.Parts.{TakesStep}
 use Rattle.node_steps.specs.Kept.{IsKept, Follows}
-use Rattle.node_steps.proofs.Kept.{orderly}
+use Rattle.node_steps.proofs.Scheduled.{orderly}
 use Rattle.node_steps.proofs.Erasing.{outcome_erased, after_erased}
 
 pub follows : (old : World) (step : Step) (returns : Returned) (new : World) → TakesStep old step returns new → Follows old step returns new

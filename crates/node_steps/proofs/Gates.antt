@@ -1,5 +1,5 @@
 -- Each event of a vnode behind a gate is five steps of one worker: it is asked, takes, looks, publishes, and puts back.
-use Rattle.std.proofs.Common.{◌≡◌, ℕ, zero, suc, ◌+◌, ◌<◌, ◌≤◌, List, [], ◌∷◌, refl, sym, ◌∙◌, ap, arith}
+use Rattle.std.proofs.Common.{◌≡◌, ℕ, zero, suc, ◌≤◌, List, [], ◌∷◌, refl, ◌∙◌, ap, arith}
 use Rattle.std.specs.Prelude.{false, Some, None, option_map, option_and_then, slice_get, replicate}
 use Rattle.std.specs.Option.{option_map_or}
 use Rattle.riak_msgs.specs.Contents.{Content}
@@ -11,25 +11,28 @@ use Rattle.rw_gate.specs.Machines.{MachineRun}
 use Rattle.vnode_protocol.specs.declared.event.Event.{Event}
 use Rattle.vnode_protocol.specs.declared.entry.Entry.TheVariants.{Command as Commanded}
 use Rattle.vnode_protocol.specs.Events.{all_commands, Makes, event_command, event_deed, event_response, register_event, history_after}
-use Rattle.node_steps.specs.World.{Word, Open, Taken, Plan, Phase, Idle, Asked, Holding, Done, Vnode, Worker, World, fresh_vnode, fresh_worker, id_of, opening_vnodes, route, history_at, seen_at}
-use Rattle.node_steps.specs.Steps.{Action, Asks, Takes, Looks, Publishes, Puts, Step, Outcome, Turn, looks_by, turn_of, routed, site_of, seeing, turned, happens, after}
+use Rattle.node_steps.specs.World.{Word, Open, Taken, Plan, Phase, Idle, Asked, Holding, Done, Vnode, Worker, World, fresh_vnode, fresh_worker, id_of, route, history_at, seen_at}
+use Rattle.node_steps.specs.Steps.{Action, Asks, Takes, Looks, Publishes, Puts, Step, By, Outcome, Turn, looks_by, turn_of, routed, site_of, seeing, turned, happens, after}
 use Rattle.node_steps.specs.Schedules.{Start, world_after}
 use Rattle.node_steps.specs.Gates.{RunsAreScheduled}
 use Rattle.node_steps.proofs.Lists.{set-here}
+use Rattle.node_steps.proofs.Own.{vnode_there, own_there, from_zero}
+use Rattle.node_steps.proofs.Kept.{routed_own}
 use Rattle.node_steps.proofs.Stepping.{result_at, Steps}
 
--- the first worker and the vnode at an index
+-- the first worker, and the vnode at an index, to which the calls go
 abbrev IsThere : World → ℕ → Phase → Vnode → Type 0
-IsThere w index phase vnode = (worker : Worker) × (slice_get w.workers 0 ≡ Some worker) × (worker.phase ≡ phase) × (slice_get w.vnodes index ≡ Some vnode)
+IsThere w index phase vnode =
+    (worker : Worker) × (slice_get w.workers 0 ≡ Some worker) × (worker.phase ≡ phase) × (slice_get w.vnodes index ≡ Some vnode) × (slice_get w.routes index ≡ Some index)
 
 abbrev step_of_first : Action → Step
-step_of_first action = record { worker = 1; action = action }
+step_of_first action = By 1 action
 
 -- a turn of the first worker
 moved : (w : World) (asked action : Action) (index : ℕ) (phase : Phase) (vnode : Vnode) (next : Phase) (new : Vnode) → routed (route w) asked ≡ action → site_of action phase ≡ Some index
     → ((seen : History) → (turn : Turn) × (turn_of seen vnode action phase ≡ Some turn) × (turn.phase ≡ next) × (turn.vnode ≡ new))
     → IsThere w index phase vnode → IsThere (after w (step_of_first asked)) index next new
-moved w asked action index phase vnode next new sent site turns (worker, here, is, there) =
+moved w asked action index phase vnode next new sent site turns (worker, here, is, there, own) =
     let t = turns (seen_at worker.seen index) in
     let turn : Turn = t.0 in
     let about : site_of action worker.phase ≡ Some index = ap (site_of action) is ∙ site in
@@ -47,6 +50,7 @@ moved w asked action index phase vnode next new sent site turns (worker, here, i
       ap (λ (x : World). slice_get x.workers 0) world ∙ set-here w.workers 0 worker next_worker here,
       t.2,
       ap (λ (x : World). slice_get x.vnodes index) world ∙ set-here w.vnodes index vnode turn.vnode there ∙ ap (λ v. Some v) t.3,
+      ap (λ (x : World). slice_get x.routes index) world ∙ own,
     )
 
 module _ (start : Start) (index id : ℕ) where
@@ -68,7 +72,8 @@ module _ (start : Start) (index id : ℕ) where
       let plan : Plan = plan_of_event event next in
       let longer : History = register_event id 0 history event ∷ history in
       let w = world_after start schedule in
-      let asked = moved w (Asks index ask) (Asks index ask) index Idle (vnode_with (Open 0 false) history state) (Asked index ask) (vnode_with (Open 0 false) history state) refl refl
+      let asked = moved w (Asks index ask) (Asks index ask) index Idle (vnode_with (Open 0 false) history state) (Asked index ask) (vnode_with (Open 0 false) history state)
+      (routed_own (route w) index ask there.4) refl
       (λ seen. (_, refl, refl, refl)) there in
       let w1 = after w (step_of_first (Asks index ask)) in
       let took = moved w1 Takes Takes index (Asked index ask) (vnode_with (Open 0 false) history state) (Holding index ask state None) (vnode_with Taken history state) refl refl
@@ -94,21 +99,6 @@ first_there : {X : Type 0} (n : ℕ) (x : X) → 1 ≤ n → slice_get (replicat
 first_there zero x h = absurd (omega (arith, h))
 first_there (suc n) x h = refl
 
-shift : (a b : ℕ) → (a + 1) + b ≡ a + suc b
-shift a b = omega arith
-
-plain : (n : ℕ) → n + 0 ≡ n
-plain n = omega arith
-
-vnode_there : (run from count index : ℕ) → index < count → slice_get (opening_vnodes run from count) index ≡ Some (fresh_vnode (id_of run (from + index)) 0)
-vnode_there run from zero index h = absurd (omega (arith, h))
-vnode_there run from (suc count) zero h = ap (λ n. Some (fresh_vnode (id_of run n) 0)) (sym (plain from))
-vnode_there run from (suc count) (suc index) h =
-    vnode_there run (from + 1) count index (omega (arith, h)) ∙ ap (λ n. Some (fresh_vnode (id_of run n) 0)) (shift from index)
-
-from_zero : (n : ℕ) → 0 + n ≡ n
-from_zero n = omega arith
-
 pub runs_are_scheduled : RunsAreScheduled
 runs_are_scheduled start index events state workers vnodes run =
     all_events start index (id_of start.run index) events [] (opening (id_of start.run index) 0) state run (
@@ -118,5 +108,6 @@ runs_are_scheduled start index events state workers vnodes run =
         first_there start.workers fresh_worker workers,
         refl,
         vnode_there start.run 0 start.vnodes index vnodes ∙ ap (λ n. Some (fresh_vnode (id_of start.run n) 0)) (from_zero index),
+        own_there 0 start.vnodes index vnodes ∙ ap (λ n. Some n) (from_zero index),
       ),
     )

@@ -70,7 +70,7 @@ IsAbout index (Done other hand) = other ≡ index
 pub same_test : (a b : ℕ) → a ≡ b → (a == b) ≡ true
 same_test a b h = grind (arith, nat_tests)
 
-other_test : (a b : ℕ) → a ≢ b → (a == b) ≡ false
+pub other_test : (a b : ℕ) → a ≢ b → (a == b) ≡ false
 other_test a b h = grind (arith, nat_tests)
 
 apart : (a b c : ℕ) → a ≡ b → b ≢ c → a ≢ c

@@ -1,14 +1,18 @@
 -- What is always true of a world, and that each step keeps it.
-use Rattle.std.proofs.Common.{◌≡◌, ◌≢◌, ◌⊎◌, inl, inr, ℕ, zero, suc, ◌+◌, ◌^◌, ◌<◌, ◌≤◌, Bool, true, false, List, [], ◌∷◌, refl, sym, ◌∙◌, ap, arith, subst}
+use Rattle.std.proofs.Common.{◌≡◌, ◌≢◌, ◌⊎◌, inl, inr, ℕ, zero, suc, ◌+◌, ◌^◌, ◌<◌, ◌≤◌, Bool, true, false, cond, not, ◌&&◌, List, [], ◌∷◌, length, refl, sym, ◌∙◌, ap, arith, subst}
 use Rattle.std.specs.Prelude.{pred, Option, Some, None, option_map, option_and_then, slice_get, replicate}
 use Rattle.std.specs.Option.{option_map_or}
+use Rattle.riak_msgs.specs.Contents.{Content}
+use Rattle.sibling_register.specs.Answers.{Ask}
+use Rattle.actor_epoch.specs.Given.{Context}
 use Rattle.vnode_machine.specs.Replay.{History, IsWithinLimits}
-use Rattle.node_steps.specs.World.{Word, Open, Taken, Idle, Vnode, Worker, World, fresh_vnode, fresh_worker, id_of, opening_vnodes, opening_world, worker_at, seen_at}
-use Rattle.node_steps.specs.Steps.{Step, Outcome, Turn, turn_of, site_of, action_in, seeing, turned, happens, after}
-use Rattle.node_steps.specs.Schedules.{Start, IsStart, world_after, Begins}
-use Rattle.node_steps.proofs.Lists.{one, how_many, set-here, set-there, same_or_other, how_many-set, counted_one, counted_two, counted_none, get-replicate}
+use Rattle.node_steps.specs.World.{Word, Open, Taken, Phase, Idle, Asked, Reading, Holding, Done, Vnode, Worker, World, fresh_vnode, fresh_worker, id_of, opening_vnodes, own_sites, opening_world, worker_at, seen_at}
+use Rattle.node_steps.specs.Steps.{Action, Asks, AsksNowhere, is_reap, sent, routed, Enters, Outcome, Turn, turn_of, site_of, seeing, turned, fallback_ids, does}
+use Rattle.node_steps.specs.Schedules.{Start, IsStart, Begins}
+use Rattle.node_steps.proofs.Lists.{one, how_many, set-here, set-there, same_or_other, how_many-set, counted_one, counted_two, counted_none, get-replicate, get-below, length-set}
+use Rattle.node_steps.proofs.Own.{length-own, length-opening}
 use Rattle.node_steps.proofs.Beginnings.{begins-itself, begins-trans}
-use Rattle.node_steps.proofs.Inside.{is_reader, is_holder, reads, holds, FitsWord, IsInHand, IsAbout, elsewhere, no_hand, IsSoundAs, IsSound, sound-fresh, IsAware}
+use Rattle.node_steps.proofs.Inside.{is_reader, is_holder, reads, holds, FitsWord, IsInHand, IsAbout, same_test, elsewhere, no_hand, IsSoundAs, IsSound, sound-fresh, IsAware}
 use Rattle.node_steps.proofs.Turns.{IsTurn, turn_is, about_is}
 
 -- what is always true of a world: of each vnode, and of each worker and vnode
@@ -16,20 +20,26 @@ pub record IsOrderly (w : World) : Type 0 where
   pub vnodes : (index : ℕ) (vnode : Vnode) → slice_get w.vnodes index ≡ Some vnode → IsSound (how_many (reads index) w.workers) (how_many (holds index) w.workers) vnode
   pub workers : (place : ℕ) (worker : Worker) → slice_get w.workers place ≡ Some worker → (index : ℕ) (vnode : Vnode) → slice_get w.vnodes index ≡ Some vnode
       → IsAware vnode.id vnode.last_epoch index vnode.history worker
+  -- a fallback of each partition can have an id
+  pub bounds : (index : ℕ) (vnode : Vnode) → index < length w.routes → slice_get w.vnodes index ≡ Some vnode → vnode.id + fallback_ids < 2 ^ 64
+  -- a partition has a site, a worker has a call at one, and has seen nothing of what isn't one
+  pub sites : length w.routes ≤ length w.vnodes
+  pub about : (place : ℕ) (worker : Worker) → slice_get w.workers place ≡ Some worker → (site : ℕ) → site_of Enters worker.phase ≡ Some site → site < length w.vnodes
+  pub unseen : (place : ℕ) (worker : Worker) → slice_get w.workers place ≡ Some worker → (site : ℕ) → length w.vnodes ≤ site → seen_at worker.seen site ≡ []
 
--- a step that is possible: whose, at which vnode, and its turn
-pub record IsPossible (w : World) (step : Step) (r : World × Outcome) : Type 0 where
+-- what a worker does, its call being sent, where that is possible: who it is, at which site, and its turn
+pub record IsPossible (w : World) (number : ℕ) (action : Action) (r : World × Outcome) : Type 0 where
   pub worker : Worker
   pub index : ℕ
   pub vnode : Vnode
   pub turn : Turn
-  pub worker_is : worker_at w step.worker ≡ Some worker
-  pub site_is : site_of (action_in w step) worker.phase ≡ Some index
+  pub worker_is : worker_at w number ≡ Some worker
+  pub site_is : site_of action worker.phase ≡ Some index
   pub vnode_is : slice_get w.vnodes index ≡ Some vnode
-  pub turn_is : turn_of (seen_at worker.seen index) vnode (action_in w step) worker.phase ≡ Some turn
-  pub gives : (turned w (pred step.worker) index worker turn, turn.outcome) ≡ r
+  pub turn_is : turn_of (seen_at worker.seen index) vnode action worker.phase ≡ Some turn
+  pub gives : (turned w (pred number) index worker turn, turn.outcome) ≡ r
 
-and_then_some : {A B : Type 0} (f : A → Option B) (o : Option A) (y : B) → option_and_then f o ≡ Some y → (x : A) × (o ≡ Some x) × (f x ≡ Some y)
+pub and_then_some : {A B : Type 0} (f : A → Option B) (o : Option A) (y : B) → option_and_then f o ≡ Some y → (x : A) × (o ≡ Some x) × (f x ≡ Some y)
 and_then_some f None y h = cc
 and_then_some f (Some x) y h = (x, refl, h)
 
@@ -37,17 +47,24 @@ pub map_some : {A B : Type 0} (f : A → B) (o : Option A) (y : B) → option_ma
 map_some f None y h = cc
 map_some f (Some x) y h = (x, refl, cc)
 
-pub possible : (w : World) (step : Step) (r : World × Outcome) → happens w step ≡ Some r → IsPossible w step r
-possible w step r h =
-    let a = and_then_some _ (worker_at w step.worker) r h in
-    let b = and_then_some _ (site_of (action_in w step) a.0.phase) r a.2 in
+pub possible : (w : World) (number : ℕ) (action : Action) (r : World × Outcome) → does w number action ≡ Some r → IsPossible w number action r
+possible w number action r h =
+    let a = and_then_some _ (worker_at w number) r h in
+    let b = and_then_some _ (site_of action a.0.phase) r a.2 in
     let c = and_then_some _ (slice_get w.vnodes b.0) r b.2 in
-    let d = map_some _ (turn_of (seen_at a.0.seen b.0) c.0 (action_in w step) a.0.phase) r c.2 in
+    let d = map_some _ (turn_of (seen_at a.0.seen b.0) c.0 action a.0.phase) r c.2 in
     record { worker = a.0; index = b.0; vnode = c.0; turn = d.0; worker_is = a.1; site_is = b.1; vnode_is = c.1; turn_is = d.1; gives = d.2 }
 
 pub at_place : (w : World) (number : ℕ) (worker : Worker) → worker_at w number ≡ Some worker → slice_get w.workers (pred number) ≡ Some worker
 at_place w zero worker h = cc
 at_place w (suc place) worker h = h
+
+-- an ask for a partition whose calls go to its own site
+pub sent_own : (index : ℕ) (ask : Ask Content Context) → sent index index ask ≡ Asks index ask
+sent_own index ask = ap (λ b. cond (not b && is_reap ask) AsksNowhere (Asks index ask)) (same_test index index refl)
+
+pub routed_own : (route : ℕ → Option ℕ) (index : ℕ) (ask : Ask Content Context) → route index ≡ Some index → routed route (Asks index ask) ≡ Asks index ask
+routed_own route index ask h = ap (λ o. option_map_or (λ site. sent index site ask) o AsksNowhere) h ∙ sent_own index ask
 
 -- what a worker has seen where it looked, and elsewhere
 pub seeing-here : (seen : List History) (site : ℕ) (front : History) → seen_at (seeing seen site front) site ≡ front
@@ -66,7 +83,18 @@ seeing-there (x ∷ seen) zero (suc other) front n = refl
 seeing-there (x ∷ seen) (suc site) zero front n = refl
 seeing-there (x ∷ seen) (suc site) (suc other) front n = seeing-there seen site other front (λ e. n (ap suc e))
 
-module _ (w : World) (orderly : IsOrderly w) (step : Step) (place index : ℕ) (worker : Worker) (vnode : Vnode) (turn : Turn) where
+-- a phase that is about a site has its call there
+pub about_site : (index : ℕ) (phase : Phase) → IsAbout index phase → (site : ℕ) → site_of Enters phase ≡ Some site → index ≡ site
+about_site index Idle about site h = cc
+about_site index (Asked other ask) about site h = cc
+about_site index (Reading other get) about site h = cc
+about_site index (Holding other ask hand plan) about site h = cc
+about_site index (Done other hand) about site h = cc
+
+not_past : (index n site : ℕ) → index < n → n ≤ site → index ≢ site
+not_past index n site h k = λ e. absurd (omega (arith, e, h, k))
+
+module _ (w : World) (orderly : IsOrderly w) (action : Action) (place index : ℕ) (worker : Worker) (vnode : Vnode) (turn : Turn) where
   abbrev readers : ℕ → ℕ
   readers other = how_many (reads other) w.workers
 
@@ -80,7 +108,7 @@ module _ (w : World) (orderly : IsOrderly w) (step : Step) (place index : ℕ) (
   world = turned w place index worker turn
 
   module _ (here : slice_get w.workers place ≡ Some worker) (there : slice_get w.vnodes index ≡ Some vnode) (was : IsAbout index worker.phase)
-      (is : IsTurn vnode.id vnode.last_epoch index (readers index) (holders index) (action_in w step) worker.phase vnode.history turn) where
+      (is : IsTurn vnode.id vnode.last_epoch index (readers index) (holders index) action worker.phase vnode.history turn) where
     none_here : (a b c d : ℕ) → a + b ≡ c + d → b ≡ 0 → d ≡ 0 → a ≡ c
     none_here a b c d h e f = omega (arith, h, e, f)
 
@@ -188,6 +216,24 @@ module _ (w : World) (orderly : IsOrderly w) (step : Step) (place index : ℕ) (
           | inr d ↦ orderly.workers at x d.1 other v e.1
         ]
       ];
+      bounds = λ other v below h. elim (vnode_after other v h) [
+        | inl e ↦ subst (λ (u : Vnode). u.id + fallback_ids < 2 ^ 64) e.1
+            (subst (λ i. i + fallback_ids < 2 ^ 64) (sym is.same_id) (orderly.bounds index vnode (subst (λ k. k < length w.routes) (sym e.0) below) there))
+        | inr e ↦ orderly.bounds other v below e.1
+      ];
+      sites = subst (λ n. length w.routes ≤ n) (sym (length-set w.vnodes index turn.vnode)) orderly.sites;
+      about = λ at x k site h. subst (λ n. site < n) (sym (length-set w.vnodes index turn.vnode)) (elim (worker_after at x k) [
+        | inl d ↦ subst (λ i. i < length w.vnodes) (about_site index turn.phase is.at site (ap (λ (y : Worker). site_of Enters y.phase) d.1 ∙ h)) (get-below w.vnodes index vnode there)
+        | inr d ↦ orderly.about at x d.1 site h
+      ]);
+      unseen = λ at x k site past.
+          let old_past : length w.vnodes ≤ site = subst (λ n. n ≤ site) (length-set w.vnodes index turn.vnode) past in
+          elim (worker_after at x k) [
+            | inl d ↦ ap (λ (y : Worker). seen_at y.seen site) (sym d.1)
+                ∙ seeing-there worker.seen index site turn.seen (not_past index (length w.vnodes) site (get-below w.vnodes index vnode there) old_past)
+                ∙ orderly.unseen place worker here site old_past
+            | inr d ↦ orderly.unseen at x d.1 site old_past
+          ];
     }
 
 -- one that passes is counted
@@ -199,33 +245,26 @@ counted test workers place worker h = by (test worker) refl
     by false e = omega arith
 
 -- the turn of a possible step
-pub turn_at : (w : World) (orderly : IsOrderly w) (step : Step) (r : World × Outcome) (p : IsPossible w step r)
-    → IsTurn p.vnode.id p.vnode.last_epoch p.index (how_many (reads p.index) w.workers) (how_many (holds p.index) w.workers) (action_in w step) p.worker.phase p.vnode.history p.turn
-turn_at w orderly step r p =
-    let here = at_place w step.worker p.worker p.worker_is in
-    let aware = orderly.workers (pred step.worker) p.worker here p.index p.vnode p.vnode_is in
+pub turn_at : (w : World) (orderly : IsOrderly w) (number : ℕ) (action : Action) (r : World × Outcome) (p : IsPossible w number action r)
+    → IsTurn p.vnode.id p.vnode.last_epoch p.index (how_many (reads p.index) w.workers) (how_many (holds p.index) w.workers) action p.worker.phase p.vnode.history p.turn
+turn_at w orderly number action r p =
+    let here = at_place w number p.worker p.worker_is in
+    let aware = orderly.workers (pred number) p.worker here p.index p.vnode p.vnode_is in
     turn_is p.vnode.id p.vnode.last_epoch p.index (how_many (reads p.index) w.workers) (how_many (holds p.index) w.workers)
     (seen_at p.worker.seen p.index) p.vnode refl refl (orderly.vnodes p.index p.vnode p.vnode_is) aware.seen
-    (action_in w step) p.worker.phase (counted (reads p.index) w.workers (pred step.worker) p.worker here) (counted (holds p.index) w.workers (pred step.worker) p.worker here)
+    action p.worker.phase (counted (reads p.index) w.workers (pred number) p.worker here) (counted (holds p.index) w.workers (pred number) p.worker here)
     aware.hand p.site_is p.turn p.turn_is
 
 -- the call of a possible step's worker is of its vnode
-pub about_at : (w : World) (step : Step) (r : World × Outcome) (p : IsPossible w step r) → IsAbout p.index p.worker.phase
-about_at w step r p = about_is p.vnode.id p.vnode.last_epoch p.index 0 0 (action_in w step) p.worker.phase p.site_is
+pub about_at : (w : World) (number : ℕ) (action : Action) (r : World × Outcome) (p : IsPossible w number action r) → IsAbout p.index p.worker.phase
+about_at w number action r p = about_is p.vnode.id p.vnode.last_epoch p.index 0 0 action p.worker.phase p.site_is
 
-orderly-step : (w : World) (orderly : IsOrderly w) (step : Step) (r : World × Outcome) → happens w step ≡ Some r → IsOrderly r.0
-orderly-step w orderly step r h =
-    let p = possible w step r h in
+pub orderly-does : (w : World) (orderly : IsOrderly w) (number : ℕ) (action : Action) (r : World × Outcome) → does w number action ≡ Some r → IsOrderly r.0
+orderly-does w orderly number action r h =
+    let p = possible w number action r h in
     subst (λ q. IsOrderly q.0) p.gives
-    (orderly_after w orderly step (pred step.worker) p.index p.worker p.vnode p.turn (at_place w step.worker p.worker p.worker_is) p.vnode_is
-    (about_at w step r p) (turn_at w orderly step r p))
-
-orderly-after : (w : World) → IsOrderly w → (step : Step) → IsOrderly (after w step)
-orderly-after w orderly step = by (happens w step) refl
-  where
-    by : (o : Option (World × Outcome)) → happens w step ≡ o → IsOrderly (option_map_or (λ r. r.0) o w)
-    by None h = orderly
-    by (Some r) h = orderly-step w orderly step r h
+    (orderly_after w orderly action (pred number) p.index p.worker p.vnode p.turn (at_place w number p.worker p.worker_is) p.vnode_is
+    (about_at w number action r p) (turn_at w orderly number action r p))
 
 -- a vnode of the opening world is a fresh one
 pub opened : (run from count index : ℕ) (vnode : Vnode) → slice_get (opening_vnodes run from count) index ≡ Some vnode
@@ -248,13 +287,22 @@ opened run from (suc count) (suc index) vnode h =
 within : (run index count : ℕ) → run < 2 ^ 32 → count < 2 ^ 16 → index < count → IsWithinLimits (id_of run (0 + index)) 0
 within run index count r c h = (omega (arith, r, c, h), omega arith)
 
+bounded : (run index count : ℕ) → run < 2 ^ 32 → count < 2 ^ 16 → index < count → id_of run (0 + index) + fallback_ids < 2 ^ 64
+bounded run index count r c h = omega (arith, r, c, h)
+
+same_length : (a b n : ℕ) → a ≡ n → b ≡ n → a ≤ b
+same_length a b n h k = omega (arith, h, k)
+
+idle_nowhere : (site : ℕ) → site_of Enters Idle ≡ Some site → ⊥
+idle_nowhere site h = cc
+
 nobody : (index : ℕ) (count : ℕ) (worker : Worker) → worker.phase ≡ Idle → how_many (reads index) (replicate count worker) ≡ 0
 nobody index count worker h = counted_none (reads index) count worker (ap (is_reader index) h)
 
 nobody_holds : (index : ℕ) (count : ℕ) (worker : Worker) → worker.phase ≡ Idle → how_many (holds index) (replicate count worker) ≡ 0
 nobody_holds index count worker h = counted_none (holds index) count worker (ap (is_holder index) h)
 
-orderly-opening : (start : Start) → IsStart start → IsOrderly (opening_world start.run start.workers start.vnodes)
+pub orderly-opening : (start : Start) → IsStart start → IsOrderly (opening_world start.run start.workers start.vnodes)
 orderly-opening start is =
     let all : List Worker = replicate start.workers fresh_worker in
     record {
@@ -268,8 +316,13 @@ orderly-opening start is =
           let e = get-replicate start.workers place fresh_worker worker k in
           subst (λ v. IsAware v.id v.last_epoch index v.history worker) (sym o.1)
           (subst (λ x. IsAware (id_of start.run (0 + index)) 0 index [] x) (sym e) (record { hand = tt; seen = begins-itself [] }));
+      bounds = λ index vnode below h.
+          let o = opened start.run 0 start.vnodes index vnode h in
+          subst (λ (v : Vnode). v.id + fallback_ids < 2 ^ 64) (sym o.1) (bounded start.run index start.vnodes is.run is.vnodes o.0);
+      sites = same_length (length (own_sites 0 start.vnodes)) (length (opening_vnodes start.run 0 start.vnodes)) start.vnodes
+          (length-own 0 start.vnodes) (length-opening start.run 0 start.vnodes);
+      about = λ place worker k site h.
+          let e = get-replicate start.workers place fresh_worker worker k in
+          absurd (idle_nowhere site (ap (λ (x : Worker). site_of Enters x.phase) (sym e) ∙ h));
+      unseen = λ place worker k site past. ap (λ (x : Worker). seen_at x.seen site) (get-replicate start.workers place fresh_worker worker k);
     }
-
-pub orderly : (start : Start) → IsStart start → (schedule : List Step) → IsOrderly (world_after start schedule)
-orderly start is [] = orderly-opening start is
-orderly start is (step ∷ earlier) = orderly-after (world_after start earlier) (orderly start is earlier) step

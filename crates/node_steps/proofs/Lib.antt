@@ -3,11 +3,18 @@ pub mod Beginnings
 pub mod Shown
 pub mod Inside
 pub mod Turns
+pub mod Own
 pub mod Kept
+pub mod Diverting
+pub mod Scheduled
 pub mod Lifting
 pub mod Leaving
 pub mod Showing
 pub mod Erasing
+pub mod Unmixed
+pub mod Coursing
+pub mod CourseSteps
+pub mod CourseLaw
 pub mod Rows
 mod Fitting
 mod Following

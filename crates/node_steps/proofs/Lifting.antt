@@ -1,6 +1,6 @@
 -- The claims that speak of one step: from the turn to the world.
-use Rattle.std.proofs.Common.{◌≡◌, ◌≢◌, ◌⊎◌, inl, inr, ℕ, zero, suc, [], refl, sym, ◌∙◌, ap, subst}
-use Rattle.std.specs.Prelude.{pred, Option, Some, None, Result, slice_get}
+use Rattle.std.proofs.Common.{◌≡◌, ◌≢◌, ◌⊎◌, inl, inr, ℕ, zero, suc, ◌+◌, List, [], ◌∷◌, ◌++◌, refl, sym, ◌∙◌, ap, subst}
+use Rattle.std.specs.Prelude.{pred, Option, Some, None, Result, option_map, slice_get}
 use Rattle.std.specs.Option.{option_map_or}
 use Rattle.std.proofs.lemmas.Option.{some_pair_parts}
 use Rattle.riak_msgs.specs.Contents.{Content}
@@ -12,14 +12,15 @@ use Rattle.vnode_machine.proofs.Legals.{replay_is_legal}
 use Rattle.vnode_machine.proofs.DifferentDots.{no_dot_twice}
 use Rattle.vnode_machine.proofs.LiveDots.{dots_are_of_lives}
 use Rattle.vnode_machine.proofs.Steps.{known, alive, held_by}
-use Rattle.node_steps.specs.World.{Phase, Idle, Asked, Reading, Holding, Done, Vnode, Worker, World, Call, worker_at, id_at, last_epoch_at, history_at, front_at, call_of, call_at, seen_at}
-use Rattle.node_steps.specs.Steps.{Step, Outcome, NotPossible, Happened, Replied, Turn, seeing, turned, action_in, happens}
+use Rattle.node_steps.specs.World.{Phase, Idle, Asked, Reading, Holding, Done, Vnode, Worker, World, Call, fresh_vnode, worker_at, route, id_at, last_epoch_at, history_at, front_at, call_of, call_at, seen_at}
+use Rattle.node_steps.specs.Steps.{Action, Step, By, Diverts, Outcome, NotPossible, Happened, Replied, Turn, routed, seeing, turned, fallback_ids, does, diverted, after}
 use Rattle.node_steps.specs.Schedules.{Begins}
 use Rattle.node_steps.specs.Claims.{HistoriesAreLegal, LooksShowReplays, state_shown, RepliesAreRegisters, NothingElseHappens, RepliesHaveSeen, NoDotIsIssuedTwice, LivesAreOfDefinedKeys}
 use Rattle.node_steps.proofs.Lists.{how_many, set-here, set-there, same_or_other, counted_one}
 use Rattle.node_steps.proofs.Inside.{is_reader, reads, holds, IsInHand, same_test, IsAware}
 use Rattle.node_steps.proofs.Turns.{IsReplyTo, Comes, IsTurn, place_read}
 use Rattle.node_steps.proofs.Kept.{IsOrderly, IsPossible, seeing-here, possible, at_place, turn_at}
+use Rattle.node_steps.proofs.Diverting.{diversion}
 
 pub replays_at : (w : World) → IsOrderly w → (index : ℕ) → HasReplay (id_at w index) (last_epoch_at w index) (history_at w index)
 replays_at w orderly index = by (slice_get w.vnodes index) refl
@@ -76,20 +77,20 @@ worker_next w (suc place) index worker turn h = set-here w.workers place worker 
 same_call : (a b : Call) → Some a ≡ Some b → a ≡ b
 same_call a b h = cc
 
-module _ (w : World) (orderly : IsOrderly w) (step : Step) (r : World × Outcome) (p : IsPossible w step r) where
+module _ (w : World) (orderly : IsOrderly w) (number : ℕ) (action : Action) (r : World × Outcome) (p : IsPossible w number action r) where
   abbrev next : World
-  next = turned w (pred step.worker) p.index p.worker p.turn
+  next = turned w (pred number) p.index p.worker p.turn
 
-  pub here : slice_get w.workers (pred step.worker) ≡ Some p.worker
-  here = at_place w step.worker p.worker p.worker_is
+  pub here : slice_get w.workers (pred number) ≡ Some p.worker
+  here = at_place w number p.worker p.worker_is
 
   pub aware : IsAware p.vnode.id p.vnode.last_epoch p.index p.vnode.history p.worker
-  aware = orderly.workers (pred step.worker) p.worker here p.index p.vnode p.vnode_is
+  aware = orderly.workers (pred number) p.worker here p.index p.vnode p.vnode_is
 
-  pub turn : IsTurn p.vnode.id p.vnode.last_epoch p.index (how_many (reads p.index) w.workers) (how_many (holds p.index) w.workers) (action_in w step) p.worker.phase p.vnode.history p.turn
-  turn = turn_at w orderly step r p
+  pub turn : IsTurn p.vnode.id p.vnode.last_epoch p.index (how_many (reads p.index) w.workers) (how_many (holds p.index) w.workers) action p.worker.phase p.vnode.history p.turn
+  turn = turn_at w orderly number action r p
 
-  pub call_is : call_at w step.worker ≡ call_of p.worker.phase
+  pub call_is : call_at w number ≡ call_of p.worker.phase
   call_is = ap (λ o. option_map_or (λ (worker : Worker). call_of worker.phase) o None) p.worker_is
 
   pub id_before : id_at w p.index ≡ p.vnode.id
@@ -123,18 +124,18 @@ module _ (w : World) (orderly : IsOrderly w) (step : Step) (r : World × Outcome
     | inr n ↦ ap (λ o. option_map_or (λ (v : Vnode). v.last_epoch) o 0) (set-there w.vnodes p.index other p.turn.vnode n)
   ]
 
-  seen_next : front_at next step.worker p.index ≡ p.turn.seen
+  seen_next : front_at next number p.index ≡ p.turn.seen
   seen_next =
-      ap (λ o. option_map_or (λ worker. seen_at worker.seen p.index) o []) (worker_next w step.worker p.index p.worker p.turn p.worker_is)
+      ap (λ o. option_map_or (λ worker. seen_at worker.seen p.index) o []) (worker_next w number p.index p.worker p.turn p.worker_is)
       ∙ seeing-here p.worker.seen p.index p.turn.seen
 
-  seen_before : Begins (front_at w step.worker p.index) (history_at w p.index)
+  seen_before : Begins (front_at w number p.index) (history_at w p.index)
   seen_before =
       subst (λ s. Begins s (history_at w p.index)) (sym (ap (λ o. option_map_or (λ worker. seen_at worker.seen p.index) o []) p.worker_is))
       (subst (λ h. Begins (seen_at p.worker.seen p.index) h) (sym before_is) aware.seen)
 
   -- a reply answers the call
-  pub reply_is : (reply : Result Response ℕ) → p.turn.outcome ≡ Replied reply → (call : Call) × (call_at w step.worker ≡ Some call) × IsReplyTo p.vnode.id p.vnode.last_epoch p.index p.vnode.history p.turn reply call
+  pub reply_is : (reply : Result Response ℕ) → p.turn.outcome ≡ Replied reply → (call : Call) × (call_at w number ≡ Some call) × IsReplyTo p.vnode.id p.vnode.last_epoch p.index p.vnode.history p.turn reply call
   reply_is reply o =
       let c = subst (λ u. Comes p.vnode.id p.vnode.last_epoch p.index (call_of p.worker.phase) p.vnode.history p.turn u) o turn.comes in
       (c.0, call_is ∙ c.1, c.2)
@@ -151,7 +152,7 @@ module _ (w : World) (orderly : IsOrderly w) (step : Step) (r : World × Outcome
   -- what comes of the turn
   nothing_else : (index : ℕ) → p.index ≡ index → (came : Outcome) → p.turn.outcome ≡ came
       → (history_at next index ≡ history_at w index)
-      ⊎ ((call : Call) × (call_at w step.worker ≡ Some call) × (call.site ≡ index) × ((reply : Result Response ℕ) × (p.turn.outcome ≡ Replied reply)))
+      ⊎ ((call : Call) × (call_at w number ≡ Some call) × (call.site ≡ index) × ((reply : Result Response ℕ) × (p.turn.outcome ≡ Replied reply)))
   nothing_else index e NotPossible o = absurd (subst (λ u. Comes p.vnode.id p.vnode.last_epoch p.index (call_of p.worker.phase) p.vnode.history p.turn u) o turn.comes)
   nothing_else index e Happened o =
       inl (subst (λ k. history_at next k ≡ history_at w k) e
@@ -161,71 +162,107 @@ module _ (w : World) (orderly : IsOrderly w) (step : Step) (r : World × Outcome
       inr (c.0, c.1, c.2.at ∙ e, (reply, o))
 
   pub step_answers : (reply : Result Response ℕ) → p.turn.outcome ≡ Replied reply
-      → (call : Call) × (call_at w step.worker ≡ Some call)
+      → (call : Call) × (call_at w number ≡ Some call)
       × IsAnswer (id_at w call.site) (last_epoch_at w call.site) (history_at w call.site) (record { ask = call.ask; reply = reply }) (history_at next call.site)
   step_answers reply o = let c = reply_is reply o in (c.0, c.1, answer_at reply c.0 c.2)
 
   pub step_nothing_else : (index : ℕ) → (history_at next index ≡ history_at w index)
-      ⊎ ((call : Call) × (call_at w step.worker ≡ Some call) × (call.site ≡ index) × ((reply : Result Response ℕ) × (p.turn.outcome ≡ Replied reply)))
+      ⊎ ((call : Call) × (call_at w number ≡ Some call) × (call.site ≡ index) × ((reply : Result Response ℕ) × (p.turn.outcome ≡ Replied reply)))
   step_nothing_else index = elim (same_or_other p.index index) [
     | inl e ↦ nothing_else index e p.turn.outcome refl
     | inr n ↦ inl (elsewhere_is index n)
   ]
 
-  pub step_seen : (index : ℕ) (call : Call) → call_at w step.worker ≡ Some call → call.site ≡ index → (reply : Result Response ℕ) → p.turn.outcome ≡ Replied reply
-      → Begins (front_at w step.worker index) (history_at w index) × (front_at next step.worker index ≡ history_at next index)
+  pub step_seen : (index : ℕ) (call : Call) → call_at w number ≡ Some call → call.site ≡ index → (reply : Result Response ℕ) → p.turn.outcome ≡ Replied reply
+      → Begins (front_at w number index) (history_at w index) × (front_at next number index ≡ history_at next index)
   step_seen index call asked at reply o =
       let c = reply_is reply o in
       let same : c.0 ≡ call = same_call c.0 call (sym c.1 ∙ asked) in
       let e : p.index ≡ index = sym c.2.at ∙ ap (λ (x : Call). x.site) same ∙ at in
-      subst (λ k. Begins (front_at w step.worker k) (history_at w k) × (front_at next step.worker k ≡ history_at next k)) e
+      subst (λ k. Begins (front_at w number k) (history_at w k) × (front_at next number k ≡ history_at next k)) e
       (seen_before, seen_next ∙ c.2.seen ∙ sym after_is)
 
 not_replied : (reply : Result Response ℕ) → NotPossible ≡ Replied reply → ⊥
 not_replied reply h = cc
 
--- the claims, by the world after the step and what comes of it
-module _ (w : World) (step : Step) where
+only_happened : (reply : Result Response ℕ) → Happened ≡ Replied reply → ⊥
+only_happened reply h = cc
+
+abbrev then : World → Option (World × Outcome) → World × Outcome
+then w o = (option_map_or (λ r. r.0) o w, option_map_or (λ r. r.1) o NotPossible)
+
+-- a partition's step replies nothing
+pub no_reply : (o : Option World) (reply : Result Response ℕ)
+    → option_map_or (λ (r : World × Outcome). r.1) (option_map (λ (next : World). (next, Happened)) o) NotPossible ≡ Replied reply → ⊥
+no_reply None reply h = not_replied reply h
+no_reply (Some after_it) reply h = only_happened reply h
+
+pub history-more : (vnodes : List Vnode) (fresh : Vnode) → fresh.history ≡ [] → (site : ℕ)
+    → option_map_or (λ (v : Vnode). v.history) (slice_get (vnodes ++ fresh ∷ []) site) [] ≡ option_map_or (λ (v : Vnode). v.history) (slice_get vnodes site) []
+history-more [] fresh e zero = e
+history-more [] fresh e (suc site) = refl
+history-more (v ∷ vnodes) fresh e zero = refl
+history-more (v ∷ vnodes) fresh e (suc site) = history-more vnodes fresh e site
+
+-- and changes no history
+pub history-diverted : (w : World) (index site : ℕ) → history_at (after w (Diverts index)) site ≡ history_at w site
+history-diverted w index site = by (diverted w index) refl
+  where
+    by : (o : Option World) → diverted w index ≡ o
+        → history_at (option_map_or (λ (r : World × Outcome). r.0) (option_map (λ (next : World). (next, Happened)) o) w) site ≡ history_at w site
+    by None h = refl
+    by (Some next) h =
+        let d = diversion w index next h in
+        subst (λ (x : World). history_at x site ≡ history_at w site) d.gives
+        (history-more w.vnodes (fresh_vnode (d.primary.place.vnode + fallback_ids) 0) refl site)
+
+-- the claims, by the world after what a worker does and what comes of it
+module _ (w : World) (number : ℕ) where
   abbrev AnswersBy : World × Outcome → Type 0
   AnswersBy q =
       (reply : Result Response ℕ) → q.1 ≡ Replied reply
-      → (call : Call) × (call_at w step.worker ≡ Some call)
+      → (call : Call) × (call_at w number ≡ Some call)
       × IsAnswer (id_at w call.site) (last_epoch_at w call.site) (history_at w call.site) (record { ask = call.ask; reply = reply }) (history_at q.0 call.site)
 
   abbrev NothingElseBy : World × Outcome → Type 0
   NothingElseBy q =
       (index : ℕ) → (history_at q.0 index ≡ history_at w index)
-      ⊎ ((call : Call) × (call_at w step.worker ≡ Some call) × (call.site ≡ index) × ((reply : Result Response ℕ) × (q.1 ≡ Replied reply)))
+      ⊎ ((call : Call) × (call_at w number ≡ Some call) × (call.site ≡ index) × ((reply : Result Response ℕ) × (q.1 ≡ Replied reply)))
 
   abbrev SeenBy : World × Outcome → Type 0
   SeenBy q =
-      (index : ℕ) (call : Call) → call_at w step.worker ≡ Some call → call.site ≡ index → (reply : Result Response ℕ) → q.1 ≡ Replied reply
-      → Begins (front_at w step.worker index) (history_at w index) × (front_at q.0 step.worker index ≡ history_at q.0 index)
+      (index : ℕ) (call : Call) → call_at w number ≡ Some call → call.site ≡ index → (reply : Result Response ℕ) → q.1 ≡ Replied reply
+      → Begins (front_at w number index) (history_at w index) × (front_at q.0 number index ≡ history_at q.0 index)
 
-  module _ (orderly : IsOrderly w) where
-    abbrev then : Option (World × Outcome) → World × Outcome
-    then o = (option_map_or (λ r. r.0) o w, option_map_or (λ r. r.1) o NotPossible)
+  module _ (orderly : IsOrderly w) (action : Action) where
+    answers_by : (o : Option (World × Outcome)) → does w number action ≡ o → AnswersBy (then w o)
+    answers_by None h = λ reply e. absurd (not_replied reply e)
+    answers_by (Some r) h = let p = possible w number action r h in subst AnswersBy p.gives (step_answers w orderly number action r p)
 
-    pub replies_are_registers : RepliesAreRegisters w step
-    replies_are_registers reply replied = let a = by (happens w step) refl reply replied in record { call = a.0; asked = a.1; answer = a.2 }
-      where
-        by : (o : Option (World × Outcome)) → happens w step ≡ o → AnswersBy (then o)
-        by None h = λ reply e. absurd (not_replied reply e)
-        by (Some r) h = let p = possible w step r h in subst AnswersBy p.gives (step_answers w orderly step r p)
+    nothing_else_by : (o : Option (World × Outcome)) → does w number action ≡ o → NothingElseBy (then w o)
+    nothing_else_by None h = λ index. inl refl
+    nothing_else_by (Some r) h = let p = possible w number action r h in subst NothingElseBy p.gives (step_nothing_else w orderly number action r p)
 
-    pub nothing_else_happens : NothingElseHappens w step
-    nothing_else_happens index = elim (by (happens w step) refl index) [
+    seen_by : (o : Option (World × Outcome)) → does w number action ≡ o → SeenBy (then w o)
+    seen_by None h = λ index call asked at reply e. absurd (not_replied reply e)
+    seen_by (Some r) h = let p = possible w number action r h in subst SeenBy p.gives (step_seen w orderly number action r p)
+
+pub replies_are_registers : (w : World) → IsOrderly w → (step : Step) → RepliesAreRegisters w step
+replies_are_registers w orderly (By number action) reply replied =
+    let sent = routed (route w) action in
+    let a = answers_by w number orderly sent (does w number sent) refl reply replied in record { call = a.0; asked = a.1; answer = a.2 }
+replies_are_registers w orderly (Diverts index) reply replied = absurd (no_reply (diverted w index) reply replied)
+
+pub nothing_else_happens : (w : World) → IsOrderly w → (step : Step) → NothingElseHappens w step
+nothing_else_happens w orderly (By number action) index =
+    let sent = routed (route w) action in
+    elim (nothing_else_by w number orderly sent (does w number sent) refl index) [
       | inl same ↦ inl same
       | inr a ↦ inr (record { call = a.0; asked = a.1; at = a.2; reply = a.3.0; replied = a.3.1 })
     ]
-      where
-        by : (o : Option (World × Outcome)) → happens w step ≡ o → NothingElseBy (then o)
-        by None h = λ index. inl refl
-        by (Some r) h = let p = possible w step r h in subst NothingElseBy p.gives (step_nothing_else w orderly step r p)
+nothing_else_happens w orderly (Diverts other) index = inl (history-diverted w other index)
 
-    pub replies_have_seen : RepliesHaveSeen w step
-    replies_have_seen index a = by (happens w step) refl index a.call a.asked a.at a.reply a.replied
-      where
-        by : (o : Option (World × Outcome)) → happens w step ≡ o → SeenBy (then o)
-        by None h = λ index call asked at reply e. absurd (not_replied reply e)
-        by (Some r) h = let p = possible w step r h in subst SeenBy p.gives (step_seen w orderly step r p)
+pub replies_have_seen : (w : World) → IsOrderly w → (step : Step) → RepliesHaveSeen w step
+replies_have_seen w orderly (By number action) index a =
+    let sent = routed (route w) action in seen_by w number orderly sent (does w number sent) refl index a.call a.asked a.at a.reply a.replied
+replies_have_seen w orderly (Diverts other) index a = absurd (no_reply (diverted w other) a.reply a.replied)

@@ -8,8 +8,8 @@ use Rattle.actor_epoch.specs.Given.{Context}
 use Rattle.vnode_machine.specs.Machine.{State}
 use Rattle.vnode_machine.specs.Replay.{History, IsAfter}
 use Rattle.vnode_machine.specs.Step.{StepOutcome, Refused, Answered, Accepted, outcome as outcome_of_ask}
-use Rattle.node_steps.specs.World.{Phase, Idle, Asked, Reading, Holding, Done, Vnode, Worker, World, Call, call_of, route, id_at, last_epoch_at, history_at, seen_at}
-use Rattle.node_steps.specs.Steps.{Looks, Step, Outcome, Turn, looks_by, turn_of, site_of, routed}
+use Rattle.node_steps.specs.World.{Phase, Idle, Asked, Reading, Holding, Done, Vnode, Worker, World, Call, call_of, id_at, last_epoch_at, history_at, seen_at}
+use Rattle.node_steps.specs.Steps.{Looks, Step, By, Outcome, Turn, looks_by, turn_of, site_of, happens}
 use Rattle.node_steps.specs.Claims.{state_shown, comes_of, SeesReplay, LooksSeeReplays}
 use Rattle.node_steps.proofs.Kept.{IsOrderly, IsPossible, possible}
 use Rattle.node_steps.proofs.Lifting.{looks_show_replays}
@@ -24,12 +24,12 @@ holder_comes seen vnode index ask hand (Refused number) = refl
 holder_comes seen vnode index ask hand (Answered response) = refl
 holder_comes seen vnode index ask hand (Accepted operation response next) = refl
 
-module _ (w : World) (orderly : IsOrderly w) (step : Step) (came : World × Outcome) (p : IsPossible w step came) where
+module _ (w : World) (orderly : IsOrderly w) (number : ℕ) (came : World × Outcome) (p : IsPossible w number Looks came) where
   seen : History
   seen = seen_at p.worker.seen p.index
 
   sees : (call : Call) → call_of p.worker.phase ≡ Some call → call.site ≡ p.index → (state : State Content)
-      → state_shown p.worker.phase p.vnode ≡ Some (p.index, state) → p.turn.outcome ≡ comes_of (outcome_of_ask state call.ask) → SeesReplay w step came.1
+      → state_shown p.worker.phase p.vnode ≡ Some (p.index, state) → p.turn.outcome ≡ comes_of (outcome_of_ask state call.ask) → SeesReplay w (By number Looks) came.1
   sees call asked at state shown comes =
       let id : id_at w p.index ≡ p.vnode.id = ap (λ o. option_map_or (λ (v : Vnode). v.id) o 0) p.vnode_is in
       let epoch : last_epoch_at w p.index ≡ p.vnode.last_epoch = ap (λ o. option_map_or (λ (v : Vnode). v.last_epoch) o 0) p.vnode_is in
@@ -42,12 +42,12 @@ module _ (w : World) (orderly : IsOrderly w) (step : Step) (came : World × Outc
             (subst (λ i. IsAfter i (last_epoch_at w p.index) (history_at w p.index) state) (sym id)
             (subst (λ e. IsAfter p.vnode.id e (history_at w p.index) state) (sym epoch)
             (subst (λ h. IsAfter p.vnode.id p.vnode.last_epoch h state) (sym history)
-            (looks_show_replays w orderly step.worker p.index p.worker p.vnode state p.worker_is p.vnode_is shown))));
+            (looks_show_replays w orderly number p.index p.worker p.vnode state p.worker_is p.vnode_is shown))));
         comes = sym (ap (λ (q : World × Outcome). q.1) p.gives) ∙ comes;
       }
 
   by_phase : (phase : Phase) → p.worker.phase ≡ phase → site_of Looks phase ≡ Some p.index → turn_of seen p.vnode Looks phase ≡ Some p.turn
-      → SeesReplay w step came.1
+      → SeesReplay w (By number Looks) came.1
   by_phase Idle e site turn = cc
   by_phase (Asked index ask) e site turn = cc
   by_phase (Reading index get) e site turn =
@@ -62,8 +62,5 @@ module _ (w : World) (orderly : IsOrderly w) (step : Step) (came : World × Outc
   by_phase (Done index hand) e site turn = cc
 
 pub looks_see_replays : (w : World) → IsOrderly w → (step : Step) → LooksSeeReplays w step
-looks_see_replays w orderly step = λ looks came h.
-    let p = possible w step came h in
-    by_phase w orderly step came p p.worker.phase refl
-    (subst (λ a. site_of (routed (route w) a) p.worker.phase ≡ Some p.index) looks p.site_is)
-    (subst (λ a. turn_of (seen_at p.worker.seen p.index) p.vnode (routed (route w) a) p.worker.phase ≡ Some p.turn) looks p.turn_is)
+looks_see_replays w orderly step = λ number is. subst (λ s. (came : World × Outcome) → happens w s ≡ Some came → SeesReplay w s came.1) (sym is) (λ came h.
+    let p = possible w number Looks came h in by_phase w orderly number came p p.worker.phase refl p.site_is p.turn_is)

@@ -1,13 +1,15 @@
 -- The parts of a world before any step.
-use Rattle.std.proofs.Common.{◌≡◌, ℕ, zero, suc, ◌+◌, ◌<◌, ◌^◌, List, [], ◌∷◌, ◌++◌, map, refl, sym, ◌∙◌, ap, arith}
+use Rattle.std.proofs.Common.{◌≡◌, ℕ, zero, suc, ◌+◌, ◌<◌, ◌^◌, List, [], ◌∷◌, ◌++◌, map, length, refl, sym, ◌∙◌, ap, arith}
 use Rattle.std.specs.Prelude.{replicate}
+use Rattle.std.proofs.lemmas.List.{length-map}
 use Rattle.node_steps.specs.declared.phase.Phase.TheVariants as phases
 use Rattle.node_steps.specs.declared.phase.Phase.{Phase as RunPhase}
 use Rattle.node_steps.specs.declared.site.Site.{Site}
-use Rattle.node_steps.specs.World.{World, fresh_vnode, fresh_worker, id_of, opening_vnodes, opening_world}
+use Rattle.node_steps.specs.World.{World, fresh_vnode, fresh_worker, id_of, opening_vnodes, own_sites, opening_world}
 use Rattle.node_steps.specs.Erased.{erase, erase_vnode, erase_worker}
 use Rattle.node_steps.specs.Running.{vnode_of, worker_of, world_of}
 use Rattle.node_steps.specs.Kept.{IsKept}
+use Rattle.node_steps.proofs.Own.{length-opening}
 
 pub idle_workers : (n : ℕ) → map worker_of (replicate n phases.Idle) ≡ map erase_worker (replicate n fresh_worker)
 idle_workers zero = refl
@@ -50,7 +52,8 @@ pub opening_is : (sites : List Site) (workers : List RunPhase) (run count vnodes
     → workers ≡ replicate count phases.Idle → world_of sites workers ≡ erase (opening_world run count vnodes)
 opening_is sites workers run count vnodes s w =
     let idle = ap (λ ws. map worker_of ws) w ∙ idle_workers count in
-    λ i. record { vnodes = s i; workers = idle i }
+    let count = sym (length-map sites vnode_of) ∙ ap (λ vs. length vs) s ∙ length-map (opening_vnodes run 0 vnodes) erase_vnode ∙ length-opening run 0 vnodes in
+    λ i. record { vnodes = s i; routes = own_sites 0 (count i); workers = idle i }
 
 pub opening_kept : (run count vnodes : ℕ) (world : World) → run < 2 ^ 32 → count < 2 ^ 16 → vnodes < 2 ^ 16
     → world ≡ erase (opening_world run count vnodes) → IsKept world

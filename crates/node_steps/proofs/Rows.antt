@@ -9,7 +9,7 @@ use Rattle.sibling_register.specs.Answers.{Ask, AskGet, AskPut, AskDel, AskReap}
 use Rattle.actor_epoch.specs.Given.{Context, Malformed}
 use Rattle.vnode_machine.specs.Step.{GetDone, PutDone, DelDone, ReapDone, ReapKept}
 use Rattle.node_steps.specs.World.{World, opening_world}
-use Rattle.node_steps.specs.Steps.{Step, Action, Asks, AsksPing, Enters, Leaves, Marks, Unmarks, Takes, Puts, Looks, Publishes, Outcome, NotPossible, Happened, Replied, after, outcome}
+use Rattle.node_steps.specs.Steps.{Step, By, Diverts, Action, Asks, AsksNowhere, Enters, Leaves, Marks, Unmarks, Takes, Puts, Looks, Publishes, Outcome, NotPossible, Happened, Replied, after, outcome}
 
 -- what comes of steps that are taken in this order
 abbrev outcomes : World → List Step → List Outcome
@@ -36,7 +36,7 @@ put_malformed = AskPut (record { key = k; context = Some Malformed; value = v; r
 
 -- the worker of this number does this
 abbrev does : ℕ → Action → Step
-does worker action = record { worker = worker; action = action }
+does worker action = By worker action
 
 abbrev nothing : Outcome
 nothing = Replied (Ok (GetDone (record { contents = []; context = []; unchanged = false })))
@@ -108,6 +108,26 @@ not_possible = refl
 
 -- a ping, a vnode that isn't there, and each step of a worker that has no call
 no_call : outcomes (opening_world 1 1 1)
-    (does 1 AsksPing ∷ does 1 (Asks 1 get) ∷ does 1 Enters ∷ does 1 Leaves ∷ does 1 Marks ∷ does 1 Unmarks ∷ does 1 Takes ∷ does 1 Puts ∷ does 1 Looks ∷ does 1 Publishes ∷ [])
+    (does 1 AsksNowhere ∷ does 1 (Asks 1 get) ∷ does 1 Enters ∷ does 1 Leaves ∷ does 1 Marks ∷ does 1 Unmarks ∷ does 1 Takes ∷ does 1 Puts ∷ does 1 Looks ∷ does 1 Publishes ∷ [])
     ≡ NotPossible ∷ NotPossible ∷ NotPossible ∷ NotPossible ∷ NotPossible ∷ NotPossible ∷ NotPossible ∷ NotPossible ∷ NotPossible ∷ NotPossible ∷ []
 no_call = refl
+
+-- a partition that is diverted: it isn't while a worker has a call there, and not twice; its calls go to the fallback, whose dots
+-- are its own, and what the primary had isn't shown; no reap is asked there
+abbrev shows_f : Outcome
+shows_f = Replied (Ok (GetDone (record {
+  contents = record { content = v; deleted = false } ∷ [];
+  context = 2 ∷ 0 ∷ 0 ∷ 0 ∷ 0 ∷ 0 ∷ 1 ∷ 128 ∷ 0 ∷ 0 ∷ 0 ∷ 0 ∷ 1 ∷ 0 ∷ 0 ∷ 0 ∷ 0 ∷ 0 ∷ 0 ∷ 0 ∷ 1 ∷ [];
+  unchanged = false;
+})))
+
+diverted_once : outcomes (opening_world 1 1 1)
+    (does 1 (Asks 0 put) ∷ Diverts 0 ∷ does 1 Takes ∷ does 1 Looks ∷ does 1 Publishes ∷ Diverts 0 ∷ does 1 Puts ∷ Diverts 1 ∷ Diverts 0 ∷ Diverts 0 ∷ Diverts 1
+    ∷ does 1 (Asks 1 get) ∷ does 1 (Asks 0 (AskReap k)) ∷ does 1 (Asks 0 get) ∷ does 1 Enters ∷ does 1 Looks ∷ does 1 Leaves
+    ∷ does 1 (Asks 0 put) ∷ does 1 Takes ∷ does 1 Looks ∷ does 1 Publishes ∷ does 1 Puts
+    ∷ does 1 (Asks 0 get) ∷ does 1 Enters ∷ does 1 Looks ∷ [])
+    ≡ Happened ∷ NotPossible ∷ Happened ∷ Happened ∷ stored ∷ NotPossible ∷ Happened ∷ NotPossible ∷ Happened ∷ NotPossible ∷ NotPossible
+    ∷ NotPossible ∷ NotPossible ∷ Happened ∷ Happened ∷ nothing ∷ Happened
+    ∷ Happened ∷ Happened ∷ Happened ∷ stored ∷ Happened
+    ∷ Happened ∷ Happened ∷ shows_f ∷ []
+diverted_once = refl

@@ -1,29 +1,32 @@
 -- Over a schedule in which each context that is given for a key was shown for it: the contexts of calls and of events name
 -- positions.
-use Rattle.std.proofs.Common.{◌≡◌, ◌⊎◌, inl, inr, ℕ, ◌&&◌, cond, List, [], ◌∷◌, ◌++◌, refl, sym, ◌∙◌, ap, subst}
-use Rattle.std.specs.Prelude.{pred, Option, Some, None, Ok, slice_get, MatchOption}
+use Rattle.std.proofs.Common.{◌≡◌, ◌⊎◌, inl, inr, ℕ, ◌+◌, ◌&&◌, true, cond, List, [], ◌∷◌, ◌++◌, refl, sym, ◌∙◌, ap, subst}
+use Rattle.std.specs.Prelude.{pred, Option, Some, None, Ok, option_map, slice_get, MatchOption}
 use Rattle.std.specs.Option.{option_map_or}
 use Rattle.riak_msgs.specs.declared.Key.{Key}
 use Rattle.riak_msgs.specs.Contents.{Content}
 use Rattle.riak_msgs.specs.KeyOrder.{key_eq}
 use Rattle.sibling_register.specs.History.{Event}
+use Rattle.sibling_register.specs.Siblings.{is_defined}
 use Rattle.actor_epoch.specs.Given.{Context, context_of}
 use Rattle.vnode_machine.specs.Replay.{History, HasReplay}
 use Rattle.vnode_machine.specs.Step.{Response}
 use Rattle.vnode_machine.specs.Registers.{key_of, context_in_ask}
 use Rattle.vnode_machine.proofs.Keys.{key_eq-refl}
-use Rattle.node_steps.specs.World.{Vnode, Worker, World, Call, fresh_worker, opening_world, opening_vnodes, id_at, last_epoch_at, history_at, call_of, call_at}
-use Rattle.node_steps.specs.Steps.{Asks, Step, Outcome, NotPossible, Happened, Replied, seeing, turned, action_in, happens, outcome}
+use Rattle.node_steps.specs.World.{Vnode, Worker, World, Call, fresh_vnode, fresh_worker, opening_world, opening_vnodes, route, id_at, last_epoch_at, history_at, call_of, call_at}
+use Rattle.node_steps.specs.Steps.{Action, Asks, Step, By, Diverts, Outcome, NotPossible, Happened, Replied, routed, seeing, turned, fallback_ids, does, diverted_by, diverted, outcome}
 use Rattle.node_steps.specs.Schedules.{Start, IsStart, world_after, Begins}
-use Rattle.node_steps.specs.Contexts.{context_bytes, given_by, WasShown, GivesShown}
+use Rattle.node_steps.specs.Contexts.{context_bytes, given_in, WasShown, GivesShown}
 use Rattle.node_steps.specs.Claims.{ValuesLeaveOnlySeen}
-use Rattle.node_steps.proofs.Lists.{set-here, set-there, same_or_other, get-replicate}
+use Rattle.node_steps.proofs.Lists.{set-here, set-there, same_or_other, get-first, get-replicate}
 use Rattle.node_steps.proofs.Beginnings.{begins-itself}
 use Rattle.node_steps.proofs.Inside.{same_test}
 use Rattle.node_steps.proofs.Shown.{IsName, name-later, held_is_name, saw_position}
 use Rattle.node_steps.proofs.Turns.{CallIs, EventIs, Comes}
-use Rattle.node_steps.proofs.Kept.{IsOrderly, IsPossible, possible, opened, orderly}
-use Rattle.node_steps.proofs.Lifting.{replays_at, here, turn, reply_is, id_before, epoch_before, id_next, epoch_next, before_is, after_is, elsewhere_is}
+use Rattle.node_steps.proofs.Kept.{IsOrderly, IsPossible, possible, opened}
+use Rattle.node_steps.proofs.Diverting.{IsDiversion, diversion}
+use Rattle.node_steps.proofs.Scheduled.{orderly}
+use Rattle.node_steps.proofs.Lifting.{replays_at, no_reply, history-more, here, turn, reply_is, id_before, epoch_before, id_next, epoch_next, before_is, after_is, elsewhere_is}
 use Rattle.node_steps.proofs.Leaving.{seen}
 
 call_same : (a b : Call) → Some a ≡ Some b → a ≡ b
@@ -65,8 +68,8 @@ module _ (index : ℕ) (key : Key) where
   call_later id epoch history later None p h = tt
   call_later id epoch history later (Some c) p h = λ at k context e. name-later id epoch history later key context p (h at k context e)
 
-  module _ (w : World) (orderly : IsOrderly w) (step : Step) (r : World × Outcome) (p : IsPossible w step r) (Shown : Context → Type 0) (named : IsNamed w Shown)
-      (gives : (context : Context) → given_by (action_in w step) index key ≡ Some context → Shown context) where
+  module _ (w : World) (orderly : IsOrderly w) (number : ℕ) (action : Action) (r : World × Outcome) (p : IsPossible w number action r) (Shown : Context → Type 0) (named : IsNamed w Shown)
+      (gives : (context : Context) → given_in action index key ≡ Some context → Shown context) where
     abbrev id : ℕ
     id = id_at w index
 
@@ -74,48 +77,48 @@ module _ (index : ℕ) (key : Key) where
     epoch = last_epoch_at w index
 
     abbrev next : World
-    next = turned w (pred step.worker) p.index p.worker p.turn
+    next = turned w (pred number) p.index p.worker p.turn
 
     -- the history only grows
     grows : Begins (history_at w index) (history_at next index)
     grows = elim (same_or_other p.index index) [
       | inl e ↦ subst (λ k. Begins (history_at w k) (history_at next k)) e
-          (subst (λ h. Begins h (history_at next p.index)) (sym (before_is w orderly step r p))
-          (subst (λ h. Begins p.vnode.history h) (sym (after_is w orderly step r p)) (turn w orderly step r p).grows))
-      | inr n ↦ subst (λ h. Begins (history_at w index) h) (sym (elsewhere_is w orderly step r p index n)) (begins-itself (history_at w index))
+          (subst (λ h. Begins h (history_at next p.index)) (sym (before_is w orderly number action r p))
+          (subst (λ h. Begins p.vnode.history h) (sym (after_is w orderly number action r p)) (turn w orderly number action r p).grows))
+      | inr n ↦ subst (λ h. Begins (history_at w index) h) (sym (elsewhere_is w orderly number action r p index n)) (begins-itself (history_at w index))
     ]
 
     -- what the step shows
-    shows_next : (context : Context) (call : Call) → call_at w step.worker ≡ Some call → call.site ≡ index → key_of call.ask ≡ key
+    shows_next : (context : Context) (call : Call) → call_at w number ≡ Some call → call.site ≡ index → key_of call.ask ≡ key
         → (response : Response) → p.turn.outcome ≡ Replied (Ok response) → context_of (context_bytes response) ≡ Some context → IsName id epoch (history_at next index) key context
     shows_next context call asked at of_key response replied decodes =
-        let a = reply_is w orderly step r p (Ok response) replied in
+        let a = reply_is w orderly number action r p (Ok response) replied in
         let same : a.0 ≡ call = call_same a.0 call (sym a.1 ∙ asked) in
         let there : p.index ≡ index = sym a.2.at ∙ ap (λ (c : Call). c.site) same ∙ at in
         let name : IsName p.vnode.id p.vnode.last_epoch p.turn.vnode.history (key_of a.0.ask) context =
         held_is_name p.vnode.id p.vnode.last_epoch p.turn.vnode.history (key_of a.0.ask) (context_bytes response) context (orderly.vnodes p.index p.vnode p.vnode_is).limits
-        (turn w orderly step r p).replays a.2.shows decodes in
+        (turn w orderly number action r p).replays a.2.shows decodes in
         subst (λ k. IsName (id_at w k) (last_epoch_at w k) (history_at next k) key context) there
-        (subst (λ i. IsName i (last_epoch_at w p.index) (history_at next p.index) key context) (sym (id_before w orderly step r p))
-        (subst (λ e. IsName p.vnode.id e (history_at next p.index) key context) (sym (epoch_before w orderly step r p))
-        (subst (λ hist. IsName p.vnode.id p.vnode.last_epoch hist key context) (sym (after_is w orderly step r p))
+        (subst (λ i. IsName i (last_epoch_at w p.index) (history_at next p.index) key context) (sym (id_before w orderly number action r p))
+        (subst (λ e. IsName p.vnode.id e (history_at next p.index) key context) (sym (epoch_before w orderly number action r p))
+        (subst (λ hist. IsName p.vnode.id p.vnode.last_epoch hist key context) (sym (after_is w orderly number action r p))
         (subst (λ k. IsName p.vnode.id p.vnode.last_epoch p.turn.vnode.history k context) (ap (λ (c : Call). key_of c.ask) same ∙ of_key) name))))
 
     -- a context that an action gives for the key
-    given_is : (call : Call) → action_in w step ≡ Asks call.site call.ask → call.site ≡ index → key_of call.ask ≡ key → given_by (action_in w step) index key ≡ context_in_ask call.ask
+    given_is : (call : Call) → action ≡ Asks call.site call.ask → call.site ≡ index → key_of call.ask ≡ key → given_in action index key ≡ context_in_ask call.ask
     given_is call asks at k =
-        ap (λ action. given_by action index key) asks
+        ap (λ a. given_in a index key) asks
         ∙ ap (λ b. cond (b && key_eq (key_of call.ask) key) (context_in_ask call.ask) None) (same_test call.site index at)
         ∙ ap (λ b. cond b (context_in_ask call.ask) None) (ap (λ other. key_eq (key_of call.ask) other) (sym k) ∙ key_eq-refl (key_of call.ask))
 
     -- the call of the step's worker afterwards
     call_next : NamesCall id epoch (history_at next index) (call_of p.turn.phase)
-    call_next = by (turn w orderly step r p).call
+    call_next = by (turn w orderly number action r p).call
       where
         mine : NamesCall id epoch (history_at w index) (call_of p.worker.phase)
-        mine = named.calls (pred step.worker) p.worker (here w orderly step r p)
+        mine = named.calls (pred number) p.worker (here w orderly number action r p)
 
-        by : CallIs (action_in w step) (call_of p.worker.phase) (call_of p.turn.phase) → NamesCall id epoch (history_at next index) (call_of p.turn.phase)
+        by : CallIs action (call_of p.worker.phase) (call_of p.turn.phase) → NamesCall id epoch (history_at next index) (call_of p.turn.phase)
         by (inl e) = subst (λ c. NamesCall id epoch (history_at next index) c) (sym e) (call_later id epoch (history_at w index) (history_at next index) (call_of p.worker.phase) grows mine)
         by (inr (inl e)) = subst (λ c. NamesCall id epoch (history_at next index) c) (sym e) tt
         by (inr (inr asked)) =
@@ -126,16 +129,16 @@ module _ (index : ℕ) (key : Key) where
     -- the events at the step's vnode
     events_here : p.index ≡ index → (before : History) (event : Event Content Context) (context : Context) → Begins (event ∷ before) p.turn.vnode.history
         → event.key ≡ key → event.context ≡ Some context → IsName id epoch before key context
-    events_here at before event context begins k e = by p.turn.outcome (turn w orderly step r p).comes
+    events_here at before event context begins k e = by p.turn.outcome (turn w orderly number action r p).comes
       where
         old_is : history_at w index ≡ p.vnode.history
-        old_is = subst (λ j. history_at w j ≡ p.vnode.history) at (before_is w orderly step r p)
+        old_is = subst (λ j. history_at w j ≡ p.vnode.history) at (before_is w orderly number action r p)
 
         old : Begins (event ∷ before) p.vnode.history → IsName id epoch before key context
         old h = named.events before event context (subst (λ hist. Begins (event ∷ before) hist) (sym old_is) h) k e
 
         mine : NamesCall id epoch (history_at w index) (call_of p.worker.phase)
-        mine = named.calls (pred step.worker) p.worker (here w orderly step r p)
+        mine = named.calls (pred number) p.worker (here w orderly number action r p)
 
         -- the event of a call
         new : (call : Call) → NamesCall id epoch (history_at w index) (Some call) → call.site ≡ p.index → EventIs call.ask p.vnode.history p.turn.vnode.history → IsName id epoch before key context
@@ -156,24 +159,24 @@ module _ (index : ℕ) (key : Key) where
         → event.key ≡ key → event.context ≡ Some context → IsName id epoch before key context
     events_next before event context begins k e = elim (same_or_other p.index index) [
       | inl at ↦ events_here at before event context
-          (subst (λ hist. Begins (event ∷ before) hist) (subst (λ j. history_at next j ≡ p.turn.vnode.history) at (after_is w orderly step r p)) begins) k e
-      | inr n ↦ named.events before event context (subst (λ hist. Begins (event ∷ before) hist) (elsewhere_is w orderly step r p index n) begins) k e
+          (subst (λ hist. Begins (event ∷ before) hist) (subst (λ j. history_at next j ≡ p.turn.vnode.history) at (after_is w orderly number action r p)) begins) k e
+      | inr n ↦ named.events before event context (subst (λ hist. Begins (event ∷ before) hist) (elsewhere_is w orderly number action r p index n) begins) k e
     ]
 
     calls_next : (place : ℕ) (worker : Worker) → slice_get next.workers place ≡ Some worker → NamesCall id epoch (history_at next index) (call_of worker.phase)
     calls_next place worker h =
         let new : Worker = record { phase = p.turn.phase; seen = seeing p.worker.seen p.index p.turn.seen } in
-        elim (same_or_other (pred step.worker) place) [
+        elim (same_or_other (pred number) place) [
           | inl e ↦ subst (λ o. OfWorker id epoch (history_at next index) o)
-              (sym (set-here w.workers (pred step.worker) p.worker new (here w orderly step r p)) ∙ ap (λ j. slice_get next.workers j) e ∙ h) call_next
+              (sym (set-here w.workers (pred number) p.worker new (here w orderly number action r p)) ∙ ap (λ j. slice_get next.workers j) e ∙ h) call_next
           | inr n ↦ call_later id epoch (history_at w index) (history_at next index) (call_of worker.phase) grows
-              (named.calls place worker (sym (set-there w.workers (pred step.worker) place new n) ∙ h))
+              (named.calls place worker (sym (set-there w.workers (pred number) place new n) ∙ h))
         ]
 
     -- a context that is shown for the key by a step with this outcome
     pub record IsShownBy (came : Outcome) (context : Context) : Type 0 where
       pub call : Call
-      pub asked : call_at w step.worker ≡ Some call
+      pub asked : call_at w number ≡ Some call
       pub at : call.site ≡ index
       pub of_key : key_of call.ask ≡ key
       pub response : Response
@@ -182,8 +185,8 @@ module _ (index : ℕ) (key : Key) where
 
     pub named_next : (came : Outcome) → p.turn.outcome ≡ came → (Later : Context → Type 0)
         → ((context : Context) → Later context → IsShownBy came context ⊎ Shown context) → IsNamed next Later
-    named_next came same Later splits = subst (λ i. IsNamedAs i (last_epoch_at next index) next Later) (sym (id_next w orderly step r p index))
-        (subst (λ e. IsNamedAs id e next Later) (sym (epoch_next w orderly step r p index)) (record {
+    named_next came same Later splits = subst (λ i. IsNamedAs i (last_epoch_at next index) next Later) (sym (id_next w orderly number action r p index))
+        (subst (λ e. IsNamedAs id e next Later) (sym (epoch_next w orderly number action r p index)) (record {
           shown = λ context h. elim (splits context h) [
             | inl now ↦ shows_next context now.call now.asked now.at now.of_key now.response (same ∙ now.replied) now.decodes
             | inr was ↦ name-later id epoch (history_at w index) (history_at next index) key context grows (named.shown context was)
@@ -197,6 +200,29 @@ is_some r h = cc
 
 not_shown : (response : Response) → NotPossible ≡ Replied (Ok response) → ⊥
 not_shown response h = cc
+
+abbrev id_in : Option Vnode → ℕ
+id_in o = option_map_or (λ (v : Vnode). v.id) o 0
+
+abbrev epoch_in : Option Vnode → ℕ
+epoch_in o = option_map_or (λ (v : Vnode). v.last_epoch) o 0
+
+abbrev history_in : Option Vnode → History
+history_in o = option_map_or (λ (v : Vnode). v.history) o []
+
+-- before any event nothing has a name
+nothing_named : (id epoch : ℕ) (key : Key) (context : Context) → IsName id epoch [] key context → ⊥
+nothing_named id epoch key context n = by n.earlier.0 n.position n.earlier.1 n.defined
+  where
+    by : (later position : History) → later ++ position ≡ [] → is_defined position key ≡ true → ⊥
+    by [] [] e d = cc
+    by [] (event ∷ position) e d = cc
+    by (event ∷ later) position e d = cc
+
+names_nothing : (index : ℕ) (key : Key) (old_id old_epoch new_id new_epoch : ℕ) (history : History) (call : Option Call)
+    → NamesCall index key old_id old_epoch [] call → NamesCall index key new_id new_epoch history call
+names_nothing index key old_id old_epoch new_id new_epoch history None h = tt
+names_nothing index key old_id old_epoch new_id new_epoch history (Some c) h = λ at k context e. absurd (nothing_named old_id old_epoch key context (h at k context e))
 
 module _ (start : Start) (is : IsStart start) (index : ℕ) (key : Key) where
   named_opening : IsNamed index key (opening_world start.run start.workers start.vnodes) (λ _. ⊥)
@@ -214,12 +240,44 @@ module _ (start : Start) (is : IsStart start) (index : ℕ) (key : Key) where
       empty None h = refl
       empty (Some v) h = ap (λ (u : Vnode). u.history) (opened start.run 0 start.vnodes index v h).1
 
+  -- a site that is opened: nothing was named there
+  named_diverted : (w diverted_w : World) (other : ℕ) (Shown : Context → Type 0) → IsDiversion w other diverted_w → IsNamed index key w Shown → IsNamed index key diverted_w Shown
+  named_diverted w diverted_w other Shown d named = subst (λ (x : World). IsNamed index key x Shown) d.gives (by (slice_get w.vnodes index) refl)
+    where
+      fresh : Vnode
+      fresh = fresh_vnode (d.primary.place.vnode + fallback_ids) 0
+
+      later : World
+      later = diverted_by w other d.primary
+
+      by : (o : Option Vnode) → slice_get w.vnodes index ≡ o → IsNamed index key later Shown
+      by (Some v) h = let same : slice_get later.vnodes index ≡ slice_get w.vnodes index = get-first w.vnodes fresh index v h ∙ sym h in record {
+        shown = λ context s. subst (λ o. IsName (id_in o) (epoch_in o) (history_in o) key context) (sym same) (named.shown context s);
+        calls = λ place worker k. subst (λ o. NamesCall index key (id_in o) (epoch_in o) (history_in o) (call_of worker.phase)) (sym same) (named.calls place worker k);
+        events = λ before event context begins k e.
+            subst (λ o. IsName (id_in o) (epoch_in o) before key context) (sym same)
+            (named.events before event context (subst (λ o. Begins (event ∷ before) (history_in o)) same begins) k e);
+      }
+      by None h =
+          let was : history_at w index ≡ [] = ap history_in h in
+          let is_empty : history_at later index ≡ [] = history-more w.vnodes fresh refl index ∙ was in
+          record {
+            shown = λ context s. absurd (nothing_named (id_at w index) (last_epoch_at w index) key context
+                (subst (λ hist. IsName (id_at w index) (last_epoch_at w index) hist key context) was (named.shown context s)));
+            calls = λ place worker k. names_nothing index key (id_at w index) (last_epoch_at w index) (id_at later index) (last_epoch_at later index) (history_at later index) (call_of worker.phase)
+                (subst (λ hist. NamesCall index key (id_at w index) (last_epoch_at w index) hist (call_of worker.phase)) was (named.calls place worker k));
+            events = λ before event context begins k e. absurd (no_event event begins.0 before (begins.1 ∙ is_empty));
+          }
+
   named_after : (schedule : List Step) → GivesShown start index key schedule → IsNamed index key (world_after start schedule) (WasShown start index key schedule)
   named_after [] gives = named_opening
-  named_after (step ∷ earlier) gives = by (happens (world_after start earlier) step) refl (named_after earlier gives.0)
+  named_after (By number action ∷ earlier) gives = by (does (world_after start earlier) number sent) refl (named_after earlier gives.0)
     where
-      by : (o : Option (World × Outcome)) → happens (world_after start earlier) step ≡ o → IsNamed index key (world_after start earlier) (WasShown start index key earlier)
-          → IsNamed index key (option_map_or (λ r. r.0) o (world_after start earlier)) (WasShown start index key (step ∷ earlier))
+      sent : Action
+      sent = routed (route (world_after start earlier)) action
+
+      by : (o : Option (World × Outcome)) → does (world_after start earlier) number sent ≡ o → IsNamed index key (world_after start earlier) (WasShown start index key earlier)
+          → IsNamed index key (option_map_or (λ r. r.0) o (world_after start earlier)) (WasShown start index key (By number action ∷ earlier))
       by None h named = record {
         shown = λ context s. elim s [
           | inl now ↦ absurd (not_shown now.response (sym (ap (λ o. option_map_or (λ (r : World × Outcome). r.1) o NotPossible) h) ∙ now.replied))
@@ -230,14 +288,30 @@ module _ (start : Start) (is : IsStart start) (index : ℕ) (key : Key) where
       }
       by (Some r) h named =
           let w : World = world_after start earlier in
-          let p = possible w step r h in
-          subst (λ q. IsNamed index key q.0 (WasShown start index key (step ∷ earlier))) p.gives
-          (named_next index key w (orderly start is earlier) step r p (WasShown start index key earlier) named (gives.1 (λ none. is_some r (sym h ∙ none))) (outcome w step)
-          (ap (λ (q : World × Outcome). q.1) p.gives ∙ sym (ap (λ o. option_map_or (λ (r : World × Outcome). r.1) o NotPossible) h)) (WasShown start index key (step ∷ earlier))
+          let p = possible w number sent r h in
+          subst (λ q. IsNamed index key q.0 (WasShown start index key (By number action ∷ earlier))) p.gives
+          (named_next index key w (orderly start is earlier) number sent r p (WasShown start index key earlier) named (gives.1 (λ none. is_some r (sym h ∙ none))) (outcome w (By number action))
+          (ap (λ (q : World × Outcome). q.1) p.gives ∙ sym (ap (λ o. option_map_or (λ (r : World × Outcome). r.1) o NotPossible) h)) (WasShown start index key (By number action ∷ earlier))
           (λ context s. elim s [
             | inl now ↦ inl (record { call = now.call; asked = now.asked; at = now.at; of_key = now.of_key; response = now.response; replied = now.replied; decodes = now.decodes })
             | inr was ↦ inr was
           ]))
+  named_after (Diverts other ∷ earlier) gives = by (diverted (world_after start earlier) other) refl (named_after earlier gives.0)
+    where
+      -- what was shown was shown before
+      before : (context : Context) → WasShown start index key (Diverts other ∷ earlier) context → WasShown start index key earlier context
+      before context s = elim s [
+        | inl now ↦ absurd (no_reply (diverted (world_after start earlier) other) (Ok now.response) now.replied)
+        | inr was ↦ was
+      ]
+
+      by : (o : Option World) → diverted (world_after start earlier) other ≡ o → IsNamed index key (world_after start earlier) (WasShown start index key earlier)
+          → IsNamed index key (option_map_or (λ (r : World × Outcome). r.0) (option_map (λ (next : World). (next, Happened)) o) (world_after start earlier)) (WasShown start index key (Diverts other ∷ earlier))
+      by None h named = record { shown = λ context s. named.shown context (before context s); calls = named.calls; events = named.events }
+      by (Some next) h named =
+          let w : World = world_after start earlier in
+          let later = named_diverted w next other (WasShown start index key earlier) (diversion w other next h) named in
+          record { shown = λ context s. later.shown context (before context s); calls = later.calls; events = later.events }
 
 pub values_leave_only_seen : ValuesLeaveOnlySeen
 values_leave_only_seen = λ start is schedule index key gives.

@@ -7,7 +7,7 @@ use Rattle.riak_msgs.specs.KeyOrder.{key_eq}
 use Rattle.riak_msgs.specs.declared.Shown.{Shown}
 use Rattle.riak_msgs.specs.declared.GetReply.{GetReply}
 use Rattle.riak_msgs.specs.declared.PutReply.{PutReply}
-use Rattle.sibling_register.specs.History.{Event, Write, Tombstone, Reap}
+use Rattle.sibling_register.specs.History.{Event, Write, Tombstone, Reap, is_update}
 use Rattle.sibling_register.specs.Siblings.{is_defined}
 use Rattle.sibling_register.specs.Answers.{Ask, AskGet, AskPut, AskDel, AskReap, PutCommand, DelCommand}
 use Rattle.actor_epoch.specs.Given.{Context, context_of}
@@ -15,13 +15,14 @@ use Rattle.vnode_machine.specs.Machine.{State, is_held, holds_dead, matches_cloc
 use Rattle.vnode_machine.specs.Replay.{History, replay, naming, HasReplay, IsWithinLimits}
 use Rattle.vnode_machine.specs.Replies.{contents_in, context_in, put_reply}
 use Rattle.vnode_machine.specs.Contexts.{WasShown, GivesShown, SawPosition}
-use Rattle.vnode_machine.specs.Step.{DelDone, PutDone, ReapDone, ReapKept, StepOutcome, Refused, Answered, Accepted, unless_refused, outcome}
+use Rattle.vnode_machine.specs.Step.{Response, DelDone, PutDone, ReapDone, ReapKept, StepOutcome, Refused, Answered, Accepted, unless_refused, outcome}
 use Rattle.vnode_machine.specs.Registers.{key_of}
 use Rattle.vnode_machine.proofs.Keys.{find_stored, key_eq-refl}
 use Rattle.vnode_machine.proofs.Steps.{known}
 use Rattle.vnode_machine.proofs.Mirrors.{held-same}
 use Rattle.vnode_machine.proofs.Formed.{shown_context}
 use Rattle.vnode_machine.proofs.Showing.{shown_name_positions}
+use Rattle.node_steps.specs.Steps.{is_reap}
 use Rattle.node_steps.specs.Contexts.{context_bytes}
 use Rattle.node_steps.specs.Schedules.{Begins}
 use Rattle.node_steps.proofs.Beginnings.{begins-itself, begins-trans}
@@ -100,6 +101,29 @@ module _ (state : State Content) where
   outcome_shows (AskDel del) = del_shows del (is_none del.context && not (is_held state del.key)) (del_check state del)
   outcome_shows (AskReap key) = reap_shows key (holds_dead state key)
 
+-- what is accepted of a put or a delete is a write or a tombstone
+abbrev pub updates : StepOutcome → Bool
+updates (Refused number) = true
+updates (Answered response) = true
+updates (Accepted operation response next) = is_update operation
+
+pub accepts_update : (state : State Content) (ask : Ask Content Context) → is_reap ask ≡ false → updates (outcome state ask) ≡ true
+accepts_update state (AskGet get) h = refl
+accepts_update state (AskPut put) h =
+    let next : State Content = apply_operation state put.key put.context (Write put.value) in by (put_check state put) (PutDone (put_reply next put)) next
+  where
+    by : (o : Option ℕ) (response : Response) (next : State Content) → updates (unless_refused o (Accepted (Write put.value) response next)) ≡ true
+    by None response next = refl
+    by (Some number) response next = refl
+accepts_update state (AskDel del) h =
+    by (is_none del.context && not (is_held state del.key)) (del_check state del) (apply_operation state del.key del.context Tombstone)
+  where
+    by : (b : Bool) (o : Option ℕ) (next : State Content) → updates (cond b (Answered DelDone) (unless_refused o (Accepted Tombstone DelDone next))) ≡ true
+    by true o next = refl
+    by false None next = refl
+    by false (Some number) next = refl
+accepts_update state (AskReap key) h = cc
+
 none_given : (context : Context) → context_of [] ≡ Some context → ⊥
 unfolding context_of
 none_given context h = cc
@@ -107,7 +131,16 @@ none_given context h = cc
 same_context : (a b : Context) → Some a ≡ Some b → a ≡ b
 same_context a b h = cc
 
--- what is shown of a held key is the name of the position
+-- what is shown of a held key is the name of the whole history
+pub held_shows : (id epoch : ℕ) (history : History) (key : Key) (bytes : List ℕ) (context : Context) → IsWithinLimits id epoch → HasReplay id epoch history
+    → AreHeld (replay id epoch history) key bytes → context_of bytes ≡ Some context → context ≡ (naming {V = Content} id epoch).name history key
+held_shows id epoch history key bytes context limits replays (inl e) decodes = absurd (none_given context (ap context_of (sym e) ∙ decodes))
+held_shows id epoch history key bytes context limits replays (inr h) decodes =
+    let defined : is_defined history key ≡ true = sym (held-same id epoch history (known id epoch history replays) key) ∙ h.0 in
+    same_context context ((naming {V = Content} id epoch).name history key)
+    (sym decodes ∙ ap context_of h.1 ∙ shown_context id epoch history limits replays key defined)
+
+-- and of a position
 pub held_is_name : (id epoch : ℕ) (history : History) (key : Key) (bytes : List ℕ) (context : Context) → IsWithinLimits id epoch → HasReplay id epoch history
     → AreHeld (replay id epoch history) key bytes → context_of bytes ≡ Some context → IsName id epoch history key context
 held_is_name id epoch history key bytes context limits replays (inl e) decodes = absurd (none_given context (ap context_of (sym e) ∙ decodes))
@@ -117,8 +150,7 @@ held_is_name id epoch history key bytes context limits replays (inr h) decodes =
       position = history;
       earlier = begins-itself history;
       defined = defined;
-      is = same_context context ((naming {V = Content} id epoch).name history key)
-          (sym decodes ∙ ap context_of h.1 ∙ shown_context id epoch history limits replays key defined);
+      is = held_shows id epoch history key bytes context limits replays (inr h) decodes;
     }
 
 -- so it was shown there, as the machine has it

@@ -1,6 +1,6 @@
 -- From a turn of running values at their places to the step of the world that they are.
-use Rattle.std.proofs.Common.{◌≡◌, ℕ, zero, suc, List, [], ◌∷◌, map, refl, sym, ◌∙◌, ap, subst}
-use Rattle.std.specs.Prelude.{Option, Some, None, Result as OkOrErr, Ok, Err, IfOk, OnErr, option_map, option_and_then, slice_get, slice_set, MatchOption}
+use Rattle.std.proofs.Common.{◌≡◌, ℕ, zero, suc, Bool, true, false, cond, not, ◌&&◌, List, [], ◌∷◌, map, length, refl, sym, ◌∙◌, ap, subst}
+use Rattle.std.specs.Prelude.{◌==◌, Option, Some, None, Result as OkOrErr, Ok, Err, IfOk, OnErr, option_map, option_and_then, slice_get, slice_set, MatchOption}
 use Rattle.std.specs.Option.{option_map_or}
 use Rattle.riak_msgs.specs.Contents.{Content}
 use Rattle.sibling_register.specs.Answers.{Ask}
@@ -13,13 +13,14 @@ use Rattle.node_steps.specs.declared.phase.Phase.TheVariants as phases
 use Rattle.node_steps.specs.declared.site.Site.{Site}
 use Rattle.node_steps.specs.declared.step.Act.{Act}
 use Rattle.node_steps.specs.declared.step.Act.TheVariants as acts
-use Rattle.node_steps.specs.World.{Phase, Idle, Asked, Reading, Holding, Done, Vnode, Worker, World, route, seen_at}
-use Rattle.node_steps.specs.Steps.{Action, Asks, Enters, Step, Outcome, NotPossible, Turn, turn_of, routed, site_of, turned, happens}
+use Rattle.node_steps.specs.World.{Phase, Idle, Asked, Reading, Holding, Done, Vnode, Worker, World, own_sites, route, seen_at}
+use Rattle.node_steps.specs.Steps.{Action, Asks, AsksNowhere, is_reap, sent, Enters, Step, By, Outcome, NotPossible, Turn, turn_of, routed, site_of, turned, happens}
 use Rattle.node_steps.specs.Erased.{erase, erase_vnode, erase_worker}
 use Rattle.node_steps.specs.Returned.{returned}
 use Rattle.node_steps.specs.Running.{phase_of, vnode_of, worker_of, world_of, Turns}
 use Rattle.node_steps.specs.Asked.{action_of, step_by, asking_step}
 use Rattle.node_steps.specs.Parts.{IsAt, IsBusy, TurnsAt, TakesStep, TakesFitStep, world_in}
+use Rattle.node_steps.proofs.Lists.{length-set}
 use Rattle.node_steps.proofs.Erasing.{map-set, turned_is}
 use Rattle.node_steps.specs.Kept.{IsKept}
 use Rattle.node_steps.proofs.Fitting.{at_some, are_fit}
@@ -37,7 +38,7 @@ workers_itself (phase ∷ workers) = ap (λ rest. worker_of phase ∷ rest) (wor
 -- what is kept of a world is all that it is
 pub world_itself : (sites : List Site) (workers : List RunPhase) → world_of sites workers ≡ erase (world_of sites workers)
 world_itself sites workers =
-    let vnodes = vnodes_itself sites in let phases = workers_itself workers in λ i. record { vnodes = vnodes i; workers = phases i }
+    let vnodes = vnodes_itself sites in let phases = workers_itself workers in λ i. record { vnodes = vnodes i; routes = own_sites 0 (length sites); workers = phases i }
 
 pub set-same : {A : Type 0} (xs : List A) (i : ℕ) (x : A) → slice_get xs i ≡ Some x → slice_set xs i x ≡ xs
 set-same [] i x h = refl
@@ -68,7 +69,8 @@ put_back sites workers place index phase next site new here there e d =
     ∙ set-same (map vnode_of sites) index (vnode_of site) (at_some vnode_of sites index site there) in
     let phases = map-set worker_of workers place next ∙ ap (λ q. slice_set (map worker_of workers) place (record { phase = q; seen = [] })) d
     ∙ set-same (map worker_of workers) place (worker_of phase) (at_some worker_of workers place phase here) in
-    λ i. record { vnodes = vnodes i; workers = phases i }
+    let count = length-set sites index new in
+    λ i. record { vnodes = vnodes i; routes = own_sites 0 (count i); workers = phases i }
 
 abbrev Result : Type 0
 Result = World × Outcome
@@ -90,7 +92,7 @@ module _ (sites : List Site) (workers : List RunPhase) (place index : ℕ) (phas
   w = world_of sites workers
 
   abbrev step : Step
-  step = record { worker = suc place; action = asked }
+  step = By (suc place) asked
 
   abbrev later : World
   later = world_of (slice_set sites index new) (slice_set workers place next)
@@ -100,12 +102,13 @@ module _ (sites : List Site) (workers : List RunPhase) (place index : ℕ) (phas
 
   -- the world after, by its parts
   later_is : (vnode : Vnode) (p : Phase) → vnode_of new ≡ vnode → phase_of next ≡ p
-      → later ≡ record { vnodes = slice_set (map erase_vnode w.vnodes) index vnode; workers = slice_set (map erase_worker w.workers) place (record { phase = p; seen = [] }) }
+      → later ≡ record { vnodes = slice_set (map erase_vnode w.vnodes) index vnode; routes = w.routes; workers = slice_set (map erase_worker w.workers) place (record { phase = p; seen = [] }) }
   later_is vnode p e d =
       let vnodes = map-set vnode_of sites index new ∙ ap (λ v. slice_set (map vnode_of sites) index v) e ∙ ap (λ vs. slice_set vs index vnode) (vnodes_itself sites) in
       let phases = map-set worker_of workers place next ∙ ap (λ q. slice_set (map worker_of workers) place (record { phase = q; seen = [] })) d
       ∙ ap (λ xs. slice_set xs place (record { phase = p; seen = [] })) (workers_itself workers) in
-      λ i. record { vnodes = vnodes i; workers = phases i }
+      let count = length-set sites index new in
+      λ i. record { vnodes = vnodes i; routes = own_sites 0 (count i); workers = phases i }
 
   stayed : vnode_of new ≡ vnode_of site → phase_of next ≡ phase_of phase → later ≡ erase w
   stayed e d = put_back sites workers place index phase next site new here there e d ∙ world_itself sites workers
@@ -133,7 +136,7 @@ module _ (sites : List Site) (workers : List RunPhase) (place index : ℕ) (phas
       record { returns_is = both.0; world_is = both.1 }
 
 -- only a call is sent anywhere
-pub sent_itself : (route : ℕ → ℕ) (act : Act) → routed route (action_of act) ≡ action_of act
+pub sent_itself : (route : ℕ → Option ℕ) (act : Act) → routed route (action_of act) ≡ action_of act
 sent_itself route acts.Enter = refl
 sent_itself route acts.Leave = refl
 sent_itself route acts.Mark = refl
@@ -182,22 +185,22 @@ same_site acts.Publish (Reading index get) = refl
 same_site acts.Publish (Holding index ask hand plan) = refl
 same_site acts.Publish (Done index hand) = refl
 
-pub no_worker : (world : World) (place : ℕ) (action : Action) → slice_get world.workers place ≡ None → happens world (record { worker = suc place; action = action }) ≡ None
+pub no_worker : (world : World) (place : ℕ) (action : Action) → slice_get world.workers place ≡ None → happens world (By (suc place) action) ≡ None
 no_worker world place action h = ap (λ o. option_and_then (Steps world (routed (route world) action) place) o) h
 
 pub at_worker : (world : World) (place : ℕ) (action : Action) (worker : Worker) → slice_get world.workers place ≡ Some worker
-    → happens world (record { worker = suc place; action = action }) ≡ Steps world (routed (route world) action) place worker
+    → happens world (By (suc place) action) ≡ Steps world (routed (route world) action) place worker
 at_worker world place action worker h = ap (λ o. option_and_then (Steps world (routed (route world) action) place) o) h
 
 pub no_call : (world : World) (place : ℕ) (action : Action) (worker : Worker) → slice_get world.workers place ≡ Some worker → site_of (routed (route world) action) worker.phase ≡ None
-    → happens world (record { worker = suc place; action = action }) ≡ None
+    → happens world (By (suc place) action) ≡ None
 no_call world place action worker h e =
     at_worker world place action worker h
     ∙ ap (λ o. option_and_then (λ index. option_and_then (λ vnode. option_map (result_at world place index worker)
     (turn_of (seen_at worker.seen index) vnode (routed (route world) action) worker.phase)) (slice_get world.vnodes index)) o) e
 
 pub no_vnode : (world : World) (place index : ℕ) (action : Action) (worker : Worker) → slice_get world.workers place ≡ Some worker → site_of (routed (route world) action) worker.phase ≡ Some index
-    → slice_get world.vnodes index ≡ None → happens world (record { worker = suc place; action = action }) ≡ None
+    → slice_get world.vnodes index ≡ None → happens world (By (suc place) action) ≡ None
 no_vnode world place index action worker h e n =
     at_worker world place action worker h
     ∙ ap (λ o. option_and_then (λ i. option_and_then (λ vnode. option_map (result_at world place i worker)
@@ -222,19 +225,39 @@ no_turn world place action worker none = by_index (site_of action worker.phase)
     by_index None = refl
     by_index (Some index) = by_vnode index (slice_get world.vnodes index)
 
-busy_turn : (index : ℕ) (ask : Ask Content Context) (phase : RunPhase) → IsBusy phase → NoTurn (Asks index ask) (worker_of phase)
-busy_turn index ask phases.Idle busy = absurd busy
-busy_turn index ask (phases.Asked other call) busy = λ i v. refl
-busy_turn index ask (phases.Reading other get) busy = λ i v. refl
-busy_turn index ask (phases.Holding other call hand) busy = λ i v. refl
-busy_turn index ask (phases.Done other hand) busy = λ i v. refl
+-- an ask that is sent
+abbrev IsAsking : Action → Type 0
+IsAsking (Asks site ask) = Unit {0}
+IsAsking AsksNowhere = Unit {0}
+IsAsking action = ⊥
+
+asking_sent : (index : ℕ) (ask : Ask Content Context) (o : Option ℕ) → IsAsking (option_map_or (λ site. sent index site ask) o AsksNowhere)
+asking_sent index ask None = tt
+asking_sent index ask (Some site) = by (not (site == index) && is_reap ask)
+  where
+    by : (b : Bool) → IsAsking (cond b AsksNowhere (Asks site ask))
+    by true = tt
+    by false = tt
+
+busy_turn : (action : Action) (phase : RunPhase) → IsBusy phase → IsAsking action → NoTurn action (worker_of phase)
+busy_turn (Asks site ask) phases.Idle busy asking = absurd busy
+busy_turn (Asks site ask) (phases.Asked other call) busy asking = λ i v. refl
+busy_turn (Asks site ask) (phases.Reading other get) busy asking = λ i v. refl
+busy_turn (Asks site ask) (phases.Holding other call hand) busy asking = λ i v. refl
+busy_turn (Asks site ask) (phases.Done other hand) busy asking = λ i v. refl
+busy_turn AsksNowhere phases.Idle busy asking = absurd busy
+busy_turn AsksNowhere (phases.Asked other call) busy asking = λ i v. refl
+busy_turn AsksNowhere (phases.Reading other get) busy asking = λ i v. refl
+busy_turn AsksNowhere (phases.Holding other call hand) busy asking = λ i v. refl
+busy_turn AsksNowhere (phases.Done other hand) busy asking = λ i v. refl
+busy_turn action phase busy asking = absurd asking
 
 pub is_busy : (sites : List Site) (workers : List RunPhase) (place index : ℕ) (ask : Ask Content Context) (phase : RunPhase)
     → slice_get workers place ≡ Some phase → IsBusy phase → happens (world_of sites workers) (asking_step (suc place) index ask) ≡ None
 is_busy sites workers place index ask phase here busy =
     let world = world_of sites workers in
     at_worker world place (Asks index ask) (worker_of phase) (at_some worker_of workers place phase here)
-    ∙ no_turn world place (Asks (route world index) ask) (worker_of phase) (busy_turn (route world index) ask phase busy)
+    ∙ no_turn world place (routed (route world) (Asks index ask)) (worker_of phase) (busy_turn (routed (route world) (Asks index ask)) phase busy (asking_sent index ask (route world index)))
 
 some_same : {X : Type 0} (a b : X) → Some a ≡ Some b → a ≡ b
 some_same a b h = cc

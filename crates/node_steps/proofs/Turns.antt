@@ -2,7 +2,7 @@
 use Rattle.std.proofs.Common.{◌≡◌, ◌⊎◌, inl, inr, ℕ, zero, suc, ◌+◌, ◌≤◌, Bool, true, false, ◌∷◌, refl, sym, ◌∙◌, ap, arith, subst}
 use Rattle.std.specs.Prelude.{◌==◌, Option, Some, None, Result, Ok, Err}
 use Rattle.riak_msgs.specs.Contents.{Content}
-use Rattle.sibling_register.specs.History.{Event}
+use Rattle.sibling_register.specs.History.{Event, is_update}
 use Rattle.sibling_register.specs.Answers.{Ask, AskGet, GetCommand, Refused as ToldRefused, Answers, Accepts}
 use Rattle.actor_epoch.specs.Given.{Context}
 use Rattle.vnode_machine.specs.Machine.{State}
@@ -13,12 +13,12 @@ use Rattle.vnode_machine.specs.Registers.{key_of, context_in_ask, next_event, Is
 use Rattle.vnode_machine.specs.Runs.{IsAnswer}
 use Rattle.vnode_machine.proofs.StepLaw.{registers-after}
 use Rattle.node_steps.specs.World.{Word, Open, Taken, Phase, Idle, Asked, Reading, Holding, Done, Vnode, Call, call_of}
-use Rattle.node_steps.specs.Steps.{Action, Asks, Enters, Leaves, Marks, Unmarks, Takes, Puts, Looks, Publishes, Outcome, NotPossible, Happened, Replied, Turn, left, moves, lays, answers, looks_by, publishes_by, turn_of, site_of}
+use Rattle.node_steps.specs.Steps.{Action, Asks, Enters, Leaves, Marks, Unmarks, Takes, Puts, Looks, Publishes, is_reap, Outcome, NotPossible, Happened, Replied, Turn, left, moves, lays, answers, looks_by, publishes_by, turn_of, site_of}
 use Rattle.node_steps.specs.Schedules.{Begins}
 use Rattle.node_steps.specs.Contexts.{context_bytes}
 use Rattle.node_steps.proofs.Lists.{one}
 use Rattle.node_steps.proofs.Beginnings.{begins-itself, begins-longer}
-use Rattle.node_steps.proofs.Shown.{AreHeld, ShowsHeld, outcome_shows}
+use Rattle.node_steps.proofs.Shown.{AreHeld, ShowsHeld, outcome_shows, updates, accepts_update}
 use Rattle.node_steps.proofs.Inside.{is_reader, is_holder, FitsWord, IsInPlace, IsInHand, IsAbout, same_test, IsSoundAs}
 
 -- the call is as it was, or answered, or new
@@ -29,7 +29,8 @@ CallIs action before later = (later ≡ before) ⊎ ((later ≡ None) ⊎ ((call
 abbrev pub EventIs : Ask Content Context → (before later : History) → Type 0
 EventIs ask before later =
     (later ≡ before)
-    ⊎ ((event : Event Content Context) × (later ≡ event ∷ before) × (event.key ≡ key_of ask) × (event.context ≡ context_in_ask ask))
+    ⊎ ((event : Event Content Context) × (later ≡ event ∷ before) × (event.key ≡ key_of ask) × (event.context ≡ context_in_ask ask)
+    × (is_reap ask ≡ false → is_update event.operation ≡ true))
 
 -- what a reply shows in this state
 abbrev pub ReplyShows : State Content → Ask Content Context → Result Response ℕ → Type 0
@@ -342,7 +343,7 @@ module _ (id epoch index readers holders : ℕ) where
               at = at;
               answer = record { given = Accepts event next.told; may = next.given; leads = refl; shown = next.shown };
               seen = refl;
-              event = inr (event, refl, refl, refl);
+              event = inr (event, refl, refl, refl, λ r. ap updates (sym (mine at).1) ∙ accepts_update hand ask r);
               shows = subst (λ s. AreHeld s (key_of ask) (context_bytes plan.response)) next.leads.is (shows ask hand came (mine at).1);
             },
           );

@@ -11,7 +11,7 @@ use Rattle.node_steps.specs.declared.step.Step.{Step as RunStep}
 use Rattle.node_steps.specs.declared.step.Step.TheVariants as steps
 use Rattle.node_steps.specs.declared.step.Act.{Act}
 use Rattle.node_steps.specs.declared.step.Act.TheVariants as acts
-use Rattle.node_steps.specs.Steps.{Action, Asks, AsksPing, Enters, Leaves, Marks, Unmarks, Takes, Puts, Looks, Publishes, Step}
+use Rattle.node_steps.specs.Steps.{Action, Asks, AsksNowhere, Enters, Leaves, Marks, Unmarks, Takes, Puts, Looks, Publishes, Step, By}
 use Rattle.node_steps.specs.Running.{ask_of}
 
 -- the ask that a request makes of a vnode; a ping makes none
@@ -27,7 +27,7 @@ CallsFor request call = option_map ask_of call ≡ request_ask request
 
 -- to ask what a request does
 abbrev pub asks_by : ℕ → Option (Ask Content Context) → Action
-asks_by index None = AsksPing
+asks_by index None = AsksNowhere
 asks_by index (Some ask) = Asks index ask
 
 abbrev pub action_of : Act → Action
@@ -41,20 +41,20 @@ action_of acts.Look = Looks
 action_of acts.Publish = Publishes
 
 abbrev pub step_by : ℕ → Act → Step
-step_by worker act = record { worker = worker; action = action_of act }
+step_by worker act = By worker (action_of act)
 
 abbrev pub asking_step : ℕ → ℕ → Ask Content Context → Step
-asking_step worker index ask = record { worker = worker; action = Asks index ask }
+asking_step worker index ask = By worker (Asks index ask)
 
 -- the step of the theorem's world
 abbrev pub step_of : RunStep → Step
-step_of (steps.Ask worker index request) = record { worker = worker; action = asks_by index (request_ask request) }
-step_of (steps.Reap worker index key) = record { worker = worker; action = Asks index (AskReap key) }
-step_of (steps.Enter worker) = record { worker = worker; action = Enters }
-step_of (steps.Leave worker) = record { worker = worker; action = Leaves }
-step_of (steps.Mark worker) = record { worker = worker; action = Marks }
-step_of (steps.Unmark worker) = record { worker = worker; action = Unmarks }
-step_of (steps.Take worker) = record { worker = worker; action = Takes }
-step_of (steps.Put worker) = record { worker = worker; action = Puts }
-step_of (steps.Look worker) = record { worker = worker; action = Looks }
-step_of (steps.Publish worker) = record { worker = worker; action = Publishes }
+step_of (steps.Ask worker index request) = By worker (asks_by index (request_ask request))
+step_of (steps.Reap worker index key) = By worker (Asks index (AskReap key))
+step_of (steps.Enter worker) = By worker Enters
+step_of (steps.Leave worker) = By worker Leaves
+step_of (steps.Mark worker) = By worker Marks
+step_of (steps.Unmark worker) = By worker Unmarks
+step_of (steps.Take worker) = By worker Takes
+step_of (steps.Put worker) = By worker Puts
+step_of (steps.Look worker) = By worker Looks
+step_of (steps.Publish worker) = By worker Publishes

@@ -18,7 +18,7 @@ use Rattle.vnode_machine.specs.Runs.{IsAnswer}
 use Rattle.vnode_machine.specs.Laws.{NoDotTwice, DotsAreOfLives}
 use Rattle.vnode_machine.specs.Leaving.{is_taken_in}
 use Rattle.node_steps.specs.World.{Phase, Reading, Holding, Vnode, Worker, World, Call, worker_at, id_at, last_epoch_at, history_at, front_at, call_at}
-use Rattle.node_steps.specs.Steps.{Looks, Step, Outcome, Happened, Replied, happens, after, outcome}
+use Rattle.node_steps.specs.Steps.{Looks, Step, By, number_of, Outcome, Happened, Replied, happens, after, outcome}
 use Rattle.node_steps.specs.Schedules.{Start, IsStart, world_after, Begins}
 use Rattle.node_steps.specs.Contexts.{GivesShown}
 
@@ -58,19 +58,19 @@ comes_of (Accepted operation response next) = Happened
 -- the worker's call in that state
 pub record SeesReplay (w : World) (step : Step) (came : Outcome) : Type 0 where
   pub call : Call
-  pub asked : call_at w step.worker ≡ Some call
+  pub asked : call_at w (number_of step) ≡ Some call
   pub state : State Content
   pub replay : IsAfter (id_at w call.site) (last_epoch_at w call.site) (history_at w call.site) state
   pub comes : came ≡ comes_of (outcome_of_ask state call.ask)
 
 -- each look that is possible does
 abbrev pub LooksSeeReplays : World → Step → Type 0
-LooksSeeReplays w step = step.action ≡ Looks → (came : World × Outcome) → happens w step ≡ Some came → SeesReplay w step came.1
+LooksSeeReplays w step = (number : ℕ) → step ≡ By number Looks → (came : World × Outcome) → happens w step ≡ Some came → SeesReplay w step came.1
 
 -- a reply answers the worker's call as the register may at the end of the history there, which then is the one after
 pub record IsRegisters (w : World) (step : Step) (reply : Result Response ℕ) : Type 0 where
   pub call : Call
-  pub asked : call_at w step.worker ≡ Some call
+  pub asked : call_at w (number_of step) ≡ Some call
   pub answer : IsAnswer (id_at w call.site) (last_epoch_at w call.site) (history_at w call.site) (record { ask = call.ask; reply = reply })
       (history_at (after w step) call.site)
 
@@ -81,7 +81,7 @@ RepliesAreRegisters w step = (reply : Result Response ℕ) → outcome w step �
 -- the step answers a call at this site
 pub record RepliesAt (w : World) (step : Step) (site : ℕ) : Type 0 where
   pub call : Call
-  pub asked : call_at w step.worker ≡ Some call
+  pub asked : call_at w (number_of step) ≡ Some call
   pub at : call.site ≡ site
   pub reply : Result Response ℕ
   pub replied : outcome w step ≡ Replied reply
@@ -95,8 +95,8 @@ NothingElseHappens w step = (site : ℕ) → (history_at (after w step) site ≡
 abbrev pub RepliesHaveSeen : World → Step → Type 0
 RepliesHaveSeen w step =
     (site : ℕ) → RepliesAt w step site
-    → Begins (front_at w step.worker site) (history_at w site)
-    × (front_at (after w step) step.worker site ≡ history_at (after w step) site)
+    → Begins (front_at w (number_of step) site) (history_at w site)
+    × (front_at (after w step) (number_of step) site ≡ history_at (after w step) site)
 
 -- two writes or tombstones of one vnode have different dots, whatever their keys and lives; the dots are the lives'
 abbrev pub NoDotIsIssuedTwice : World → Type 0

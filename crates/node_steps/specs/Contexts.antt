@@ -5,14 +5,18 @@ use Rattle.riak_msgs.specs.KeyOrder.{key_eq}
 use Rattle.actor_epoch.specs.Given.{Context, context_of}
 use Rattle.vnode_machine.specs.Step.{Response, GetDone, PutDone, DelDone, ReapDone, ReapKept}
 use Rattle.vnode_machine.specs.Registers.{key_of, context_in_ask}
-use Rattle.node_steps.specs.World.{World, Call, call_at}
-use Rattle.node_steps.specs.Steps.{Action, Asks, Step, Replied, action_in, happens, outcome}
+use Rattle.node_steps.specs.World.{World, Call, route, call_at}
+use Rattle.node_steps.specs.Steps.{Action, Asks, Step, By, Diverts, number_of, Replied, routed, happens, outcome}
 use Rattle.node_steps.specs.Schedules.{Start, world_after}
 
--- the context by which an action's command has seen something of the key at a site
-abbrev pub given_by : Action → (site : ℕ) → Key → Option Context
-given_by (Asks other ask) site key = if (other == site) && key_eq (key_of ask) key then context_in_ask ask else None
-given_by action site key = None
+-- the context by which the command of an action that is sent has seen something of the key at a site
+abbrev pub given_in : Action → (site : ℕ) → Key → Option Context
+given_in (Asks other ask) site key = if (other == site) && key_eq (key_of ask) key then context_in_ask ask else None
+given_in action site key = None
+
+abbrev pub given_by : World → Step → (site : ℕ) → Key → Option Context
+given_by w (By number action) site key = given_in (routed (route w) action) site key
+given_by w (Diverts index) site key = None
 
 -- the bytes of the context in a response, none where it has none
 abbrev pub context_bytes : Response → List ℕ
@@ -25,7 +29,7 @@ context_bytes ReapKept = []
 -- the step answers a call of the key at a site, and shows bytes that decode to the context
 pub record Shows (w : World) (step : Step) (site : ℕ) (key : Key) (context : Context) : Type 0 where
   pub call : Call
-  pub asked : call_at w step.worker ≡ Some call
+  pub asked : call_at w (number_of step) ≡ Some call
   pub at : call.site ≡ site
   pub of_key : key_of call.ask ≡ key
   pub response : Response
@@ -44,4 +48,4 @@ module _ (start : Start) (site : ℕ) (key : Key) where
   GivesShown (step ∷ earlier) =
       GivesShown earlier
       × (happens (world_after start earlier) step ≢ None
-      → (context : Context) → given_by (action_in (world_after start earlier) step) site key ≡ Some context → WasShown earlier context)
+      → (context : Context) → given_by (world_after start earlier) step site key ≡ Some context → WasShown earlier context)

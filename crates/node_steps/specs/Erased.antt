@@ -22,7 +22,7 @@ abbrev pub erase_worker : Worker → Worker
 erase_worker worker = record { phase = worker.phase; seen = [] }
 
 abbrev pub erase : World → World
-erase w = record { vnodes = map erase_vnode w.vnodes; workers = map erase_worker w.workers }
+erase w = record { vnodes = map erase_vnode w.vnodes; routes = w.routes; workers = map erase_worker w.workers }
 
 -- a state is in place, where a reader is to be shown one
 abbrev pub IsShown : Word → Phase → Type 0

@@ -2,6 +2,7 @@ pub mod World
 pub mod Steps
 pub mod Schedules
 pub mod Contexts
+pub mod Courses
 pub mod Claims
 pub mod Erased
 pub mod Returned

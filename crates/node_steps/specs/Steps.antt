@@ -1,4 +1,4 @@
--- The steps: where each is possible, and what it changes. A step is one worker's, and is about the vnode at one site.
+-- The steps: where each is possible, and what it changes. A step is one worker's, at the vnode of one site, or one partition's.
 --
 -- A line of a schedule's text, the action that it asks of its worker W, and the equations below that say where it is possible and
 -- what it changes (no equation: it is never possible in that phase):
@@ -12,23 +12,26 @@
 --   put W               Puts        turn_of Puts (Holding, and Done with a state in hand), lays
 --   look W              Looks       turn_of Looks (Reading, and Holding without a plan), answers, looks_by
 --   publish W           Publishes   turn_of Publishes (Holding with a plan), publishes_by
-use Rattle.std.specs.Prelude.{true, false, ◌+◌, ◌-◌, List, [], ◌∷◌, ℕ, zero, suc, pred, Option, Some, None, Result, Ok, Err, option_map, option_and_then, slice_get, slice_set}
+--
+-- A partition's step has no line yet: Diverts, diverted.
+use Rattle.std.specs.Prelude.{Bool, true, false, not, if◌then◌else◌, ◌==◌, ◌&&◌, ◌+◌, ◌-◌, ◌++◌, List, [], ◌∷◌, ℕ, length, zero, suc, pred, Option, Some, None, Result, Ok, Err, option_map, option_and_then, slice_get, slice_set}
 use Rattle.std.specs.Option.{option_map_or}
+use Rattle.std.specs.List.{list_all}
 use Rattle.riak_msgs.specs.Contents.{Content}
-use Rattle.sibling_register.specs.Answers.{Ask, AskGet}
+use Rattle.sibling_register.specs.Answers.{Ask, AskGet, AskReap}
 use Rattle.actor_epoch.specs.Given.{Context}
 use Rattle.vnode_machine.specs.Machine.{State}
 use Rattle.vnode_machine.specs.Replay.{History}
 use Rattle.vnode_machine.specs.Replies.{get_reply}
 use Rattle.vnode_machine.specs.Step.{Response, GetDone, StepOutcome, Refused, Answered, Accepted, outcome as outcome_of_ask}
 use Rattle.vnode_machine.specs.Registers.{next_event}
-use Rattle.node_steps.specs.World.{Word, Open, Taken, Plan, Phase, Idle, Asked, Reading, Holding, Done, Vnode, Worker, World, seen_at, worker_at, route}
+use Rattle.node_steps.specs.World.{Word, Open, Taken, Plan, Phase, Idle, Asked, Reading, Holding, Done, Vnode, Worker, World, fresh_vnode, seen_at, worker_at, route}
 
 -- what a worker does
 pub data Action : Type 0 where
-  -- it gets a call for the partition at this index; to ask a ping is never possible
+  -- it gets a call for the partition at this index; an ask that no vnode answers, as of a ping, is never possible
   Asks : (index : ℕ) (ask : Ask Content Context) → Action
-  AsksPing : Action
+  AsksNowhere : Action
   -- it enters as a reader, and leaves
   Enters : Action
   Leaves : Action
@@ -42,10 +45,16 @@ pub data Action : Type 0 where
   Looks : Action
   Publishes : Action
 
--- a worker's number, and what it does
-pub record Step : Type 0 where
-  pub worker : ℕ
-  pub action : Action
+pub data Step : Type 0 where
+  -- the worker of a number does something
+  By : (number : ℕ) (action : Action) → Step
+  -- the partition at this index is diverted to a fallback
+  Diverts : (index : ℕ) → Step
+
+-- the number of a step's worker; 0, which no worker has, of a partition's step
+abbrev pub number_of : Step → ℕ
+number_of (By number action) = number
+number_of (Diverts index) = 0
 
 -- what comes of a step: it isn't possible; it happened, and answers nothing; or it answers the worker's call, by a
 -- response or by the number of a refusal
@@ -140,9 +149,17 @@ module _ (seen : History) (vnode : Vnode) where
   turn_of Publishes (Holding site ask hand (Some plan)) = Some (publishes_by site ask plan)
   turn_of action phase = None
 
+abbrev pub is_reap : Ask Content Context → Bool
+is_reap (AskReap key) = true
+is_reap ask = false
+
+-- an ask for a partition, sent to this site; a reap is asked at the partition's own site alone
+abbrev pub sent : (index site : ℕ) → Ask Content Context → Action
+sent index site ask = if not (site == index) && is_reap ask then AsksNowhere else Asks site ask
+
 -- the action with its call sent to the site that the partition's calls go to
-abbrev pub routed : (route : ℕ → ℕ) → Action → Action
-routed route (Asks index ask) = Asks (route index) ask
+abbrev pub routed : (route : ℕ → Option ℕ) → Action → Action
+routed route (Asks index ask) = option_map_or (λ site. sent index site ask) (route index) AsksNowhere
 routed route action = action
 
 -- the site that an action is about: that of the call
@@ -163,26 +180,53 @@ seeing (other ∷ seen) (suc site) front = other ∷ seeing seen site front
 
 -- the world after a worker's turn at a site
 abbrev pub turned : World → (place site : ℕ) → Worker → Turn → World
-turned w place site worker turn = record {
+turned w place site worker turn = record w {
   vnodes = slice_set w.vnodes site turn.vnode;
   workers = slice_set w.workers place (record { phase = turn.phase; seen = seeing worker.seen site turn.seen });
 }
 
--- what a step's worker does, by the site that its calls go to
-abbrev pub action_in : World → Step → Action
-action_in w step = routed (route w) step.action
-
--- a step: the world after it and what comes of it, or nothing where it isn't possible, as without such a worker or site
-abbrev pub happens : World → Step → Option (World × Outcome)
-happens w step =
+-- what a worker does, its call being sent: the world after it and what comes of it, or nothing where it isn't possible, as without
+-- such a worker or site
+abbrev pub does : World → (number : ℕ) → Action → Option (World × Outcome)
+does w number action =
     option_and_then (λ worker.
     option_and_then (λ site.
     option_and_then (λ vnode.
-    option_map (λ turn. (turned w (pred step.worker) site worker turn, turn.outcome))
-    (turn_of (seen_at worker.seen site) vnode (action_in w step) worker.phase))
+    option_map (λ turn. (turned w (pred number) site worker turn, turn.outcome))
+    (turn_of (seen_at worker.seen site) vnode action worker.phase))
     (slice_get w.vnodes site))
-    (site_of (action_in w step) worker.phase))
-    (worker_at w step.worker)
+    (site_of action worker.phase))
+    (worker_at w number)
+
+-- a worker in this phase has a call at the site
+abbrev pub is_about : (site : ℕ) → Phase → Bool
+is_about site phase = option_map_or (λ other. other == site) (site_of Enters phase) false
+
+-- by how much the id of a fallback is above its primary's
+abbrev pub fallback_ids : ℕ
+fallback_ids = 32768
+
+-- the partition's primary stands at its own site: then a fallback is opened at a new site, and the calls go there
+abbrev pub diverted_by : World → (index : ℕ) → Vnode → World
+diverted_by w index primary = record {
+  vnodes = w.vnodes ++ fresh_vnode (primary.place.vnode + fallback_ids) 0 ∷ [];
+  routes = slice_set w.routes index (length w.vnodes);
+  workers = w.workers;
+}
+
+-- a partition is diverted where its calls go to its own site, and no worker has one there
+abbrev pub diverted : World → (index : ℕ) → Option World
+diverted w index =
+    option_and_then (λ site.
+    option_and_then (λ vnode.
+    if (site == index) && list_all (λ worker. not (is_about index worker.phase)) w.workers then Some (diverted_by w index vnode) else None)
+    (slice_get w.vnodes index))
+    (slice_get w.routes index)
+
+-- a step: the world after it and what comes of it, or nothing where it isn't possible
+abbrev pub happens : World → Step → Option (World × Outcome)
+happens w (By number action) = does w number (routed (route w) action)
+happens w (Diverts index) = option_map (λ next. (next, Happened)) (diverted w index)
 
 -- a step that isn't possible changes nothing
 abbrev pub after : World → Step → World

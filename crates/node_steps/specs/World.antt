@@ -1,5 +1,5 @@
--- The world of workers and sites: what each of them is at one moment. A site is a place where a vnode stands. Today each partition
--- has one, its own vnode's.
+-- The world of workers and sites: what each of them is at one moment. A site is a place where a vnode stands. Each partition has one
+-- for its own vnode, the primary; where it is diverted it has one more, for a fallback, to which its calls go.
 use Rattle.std.specs.Prelude.{Bool, false, ◌+◌, ◌*◌, List, [], ◌∷◌, ℕ, zero, suc, Option, Some, None, slice_get, replicate}
 use Rattle.std.specs.Option.{option_map_or}
 use Rattle.riak_msgs.specs.Contents.{Content}
@@ -50,6 +50,8 @@ pub record Worker : Type 0 where
 
 pub record World : Type 0 where
   pub vnodes : List Vnode
+  -- for each partition the site that its calls go to
+  pub routes : List ℕ
   pub workers : List Worker
 
 -- a vnode of this id before any event, opened behind an epoch
@@ -66,6 +68,11 @@ abbrev pub opening_vnodes : (run index : ℕ) → ℕ → List Vnode
 opening_vnodes run index zero = []
 opening_vnodes run index (suc more) = fresh_vnode (id_of run index) 0 ∷ opening_vnodes run (index + 1) more
 
+-- so many partitions' own sites from this index on
+abbrev pub own_sites : (index : ℕ) → ℕ → List ℕ
+own_sites index zero = []
+own_sites index (suc more) = index ∷ own_sites (index + 1) more
+
 -- a worker that has no call and has seen nothing
 abbrev pub fresh_worker : Worker
 fresh_worker = record { phase = Idle; seen = [] }
@@ -74,6 +81,7 @@ fresh_worker = record { phase = Idle; seen = [] }
 abbrev pub opening_world : (run workers vnodes : ℕ) → World
 opening_world run workers vnodes = record {
   vnodes = opening_vnodes run 0 vnodes;
+  routes = own_sites 0 vnodes;
   workers = replicate workers fresh_worker;
 }
 
@@ -82,9 +90,9 @@ abbrev pub worker_at : World → ℕ → Option Worker
 worker_at w zero = None
 worker_at w (suc place) = slice_get w.workers place
 
--- the site that the calls of a partition go to
-abbrev pub route : World → (index : ℕ) → ℕ
-route w index = index
+-- the site that the calls of a partition go to; none where there is no such partition
+abbrev pub route : World → (index : ℕ) → Option ℕ
+route w index = slice_get w.routes index
 
 -- the id of the vnode at a site, the epoch that it was opened behind, and its history, empty where there is no such site
 abbrev pub id_at : World → ℕ → ℕ

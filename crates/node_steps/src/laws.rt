@@ -3,6 +3,7 @@
 ghost use Rattle.node_steps.specs.Claims.{AfterEvery, AtEveryStep, HistoriesAreLegal, LooksSeeReplays, LooksShowReplays};
 ghost use Rattle.node_steps.specs.Claims.{RepliesAreRegisters, NothingElseHappens, RepliesHaveSeen, NoDotIsIssuedTwice};
 ghost use Rattle.node_steps.specs.Claims.{LivesAreOfDefinedKeys, ValuesLeaveOnlyCovered, ValuesLeaveOnlySeen};
+ghost use Rattle.node_steps.specs.Courses.{RunsAreCourses};
 ghost use Rattle.node_steps.specs.Erased.{NeedsNoHistory};
 ghost use Rattle.node_steps.specs.Gates.{RunsAreScheduled};
 
@@ -11,15 +12,16 @@ ghost use Rattle.node_steps.specs.Gates.{RunsAreScheduled};
 /// never issued a second time, not even after its key was reaped. And no value leaves a key's siblings unless an accepted write
 /// or delete had seen it.**
 ///
-/// *Whatever order*: in every run, for any number of workers and vnodes, and after every list of steps. *One thread*: the
-/// history is legal and has a replay (`histories`), which is the state that any look shows (`looks`); what comes of a look is
-/// what the vnode machine does with the worker's call in that state (`looked`). *Is answered*: each reply, a refusal too, the register may
-/// give at the end of the history at its look, or, of an accepted command, at its publish, by which the history has just that
-/// event more (`answers`); no other step changes a history (`nothing_else`). *Had seen*: the worker had seen no more than that
-/// history, and has seen all of it afterwards, its own event too (`seen`). *No second time*: whatever the keys and lives (`dots`);
-/// a key is in a life exactly where it is defined (`lives`). *Unless .. had seen it*: a value leaves only by a write or delete whose context covers its
-/// dot, or by a delete without context (`covered`); and where each context that was given for its key had been shown for it,
-/// such a write or delete had seen the value (`left`).
+/// *Whatever order*: in every run, for any number of workers and partitions, and after every list of steps, also of such that
+/// divert a partition to a fallback, which has a history of its own. *One thread*: the history is legal and has a replay
+/// (`histories`), which is the state that any look shows (`looks`); what comes of a look is what the vnode machine does with the
+/// worker's call in that state (`looked`). *Is answered*: each reply, a refusal too, the register may give at the end of the
+/// history at its look, or, of an accepted command, at its publish, by which the history has just that event more (`answers`);
+/// no other step changes a history (`nothing_else`). *Had seen*: the worker had seen no more than that history, and has seen all
+/// of it afterwards, its own event too (`seen`). *No second time*: whatever the keys and lives (`dots`); a key is in a life
+/// exactly where it is defined (`lives`). *Unless .. had seen it*: a value leaves only by a write or delete whose context covers
+/// its dot, or by a delete without context (`covered`); and where each context that was given for its key at a site had been
+/// shown for it there, such a write or delete had seen the value (`left`).
 pub fn always()
     ensures histories { AfterEvery HistoriesAreLegal }
     ensures looks { AfterEvery LooksShowReplays }
@@ -31,6 +33,14 @@ pub fn always()
     ensures lives { AfterEvery LivesAreOfDefinedKeys }
     ensures covered { AfterEvery ValuesLeaveOnlyCovered }
     ensures left { ValuesLeaveOnlySeen }
+{}
+
+/// Where each context that was given for a key at a site of a partition had been shown for it at one of them, each run of the
+/// partition is a course of the law of copies: what its primary and its fallback accepted may happen so, one after another. So
+/// what `courses_are_hand_offs` of `copy_laws` says of courses holds of it: each key is handed off as it has to be, and what the
+/// fallback's contexts cover of the primary is just what had come.
+pub fn runs_are_courses()
+    ensures { RunsAreCourses }
 {}
 
 /// A world may be kept without its history: after every schedule, the outcome of any step needs the words, the states in

@@ -3,7 +3,8 @@
 //! A world (`specs/World`) has for each site a vnode: a word (how many readers are inside and whether it is marked, or that it is
 //! taken), its whole history, and the state in place; for each worker a phase with its call, the state in its hand and
 //! its plan, and for each site the front of the history that it has seen. A call is for a partition, and one function (`route`)
-//! says to which site it goes: today each partition has one. A step is one worker's, at one site (`specs/Steps`):
+//! says to which site it goes: to that of the partition's own vnode, its primary, or, where the partition is diverted, to that of a
+//! fallback. A step is one partition's, which is diverted, or one worker's, at one site (`specs/Steps`):
 //! it gets a call, enters as a reader or leaves, marks the word or takes the mark away, takes the state into its hand or puts it
 //! back, looks, or publishes its plan. A look is a step of the vnode machine in the state shown: it answers, or what the machine
 //! accepts becomes the plan. A step that isn't possible changes nothing.
@@ -14,7 +15,9 @@
 //!
 //! [`always`] is the theorem, over every schedule (`specs/Claims`). Its proof goes step by step: `proofs/Turns` derives what a
 //! turn makes of its worker and its vnode, and its outcome, from the machine's step; `proofs/Kept` counts readers and
-//! holders, so that what is always true stays so; `proofs/Lifting`, `proofs/Leaving` and `proofs/Showing` draw the claims.
+//! holders, so that what is always true stays so; `proofs/Lifting`, `proofs/Leaving` and `proofs/Showing` draw the claims. `proofs/Diverting` is
+//! for a partition that is diverted; `proofs/Coursing` and those behind it make each run of a partition a course of `copy_laws`
+//! ([`runs_are_courses`], `specs/Courses`).
 //!
 //! One exchange, of three workers over one vnode (`proofs/Rows` evaluates it):
 //!
@@ -32,7 +35,7 @@
 //! A world may be kept without its histories: no step looks at them ([`needs_no_history`], `specs/Erased`).
 //!
 //! A [`World`] runs it: [`World::step`] takes any step, and what it returns and the world after it are those of the
-//! theorem's world, whatever schedule led there (`specs/Kept`).
+//! theorem's world, whatever schedule led there (`specs/Kept`). No step of it diverts a partition.
 #![tactic(auto)]
 
 mod acts;
@@ -50,7 +53,7 @@ mod step;
 mod world;
 
 pub use fault::StepFault;
-pub use laws::{always, gates_are_scheduled, needs_no_history};
+pub use laws::{always, gates_are_scheduled, needs_no_history, runs_are_courses};
 pub use outcome::Outcome;
 pub use step::Step;
 pub use world::World;

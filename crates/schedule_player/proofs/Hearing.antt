@@ -11,13 +11,13 @@ use Rattle.node_steps.specs.declared.outcome.Outcome.{Outcome as Returned}
 use Rattle.node_steps.specs.declared.outcome.Outcome.TheVariants as outcomes
 use Rattle.node_steps.specs.declared.step.Step.{Step as RunStep}
 use Rattle.node_steps.specs.World.{World}
-use Rattle.node_steps.specs.Steps.{Step}
+use Rattle.node_steps.specs.Steps.{Step, number_of}
 use Rattle.node_steps.specs.Kept.{Follows}
 use Rattle.schedule_player.specs.declared.fault.StepsFault.{StepsFault}
 use Rattle.schedule_player.specs.declared.fault.StepsFault.TheVariants.{BadStep, ReadFailed, WriteFailed, NoMemory}
 use Rattle.schedule_player.specs.declared.player.Player.{Player}
 use Rattle.schedule_player.specs.Calls.{call_in, call_of}
-use Rattle.schedule_player.specs.Heard.{Heard, Calls, after_line, asked_by, last_call, reaped, replied, with_call}
+use Rattle.schedule_player.specs.Heard.{Heard, Calls, after_line, asked_in, last_call, reaped, replied, with_call}
 use Rattle.schedule_player.specs.Lines.{AnswersStep, WritesLine}
 use Rattle.schedule_player.proofs.Calls.{compared_is}
 
@@ -45,7 +45,7 @@ module _ (calls : Calls) (known : Compared) (line worker : ℕ) (asked : Option 
 
 -- a step's line, where its call was kept
 pub step_answered : (old : Player) (w : World) (new : Player) (step : Step) (worker : ℕ) (asked : Option (Ask Content Context)) (outcome : Returned)
-    (held held' : Option (List ℕ)) (result : Result (Unit {0}) StepsFault) → worker ≡ step.worker → asked ≡ asked_by step.action → Follows old.world step outcome w
+    (held held' : Option (List ℕ)) (result : Result (Unit {0}) StepsFault) → worker ≡ number_of step → asked ≡ asked_in step → Follows old.world step outcome w
     → WritesLine (record old { world = w }) worker asked outcome held held' new result → AnswersStep old step held held' new result
 step_answered old w new step worker asked outcome held held' (Ok u) at is follows written = record {
   outcome = outcome;
@@ -54,7 +54,7 @@ step_answered old w new step worker asked outcome held held' (Ok u) at is follow
   ring = written.ring;
   lines = written.lines;
   heard = written.heard ∙ ap (λ n. after_line (old.lines + 1) n asked outcome old.referee) at
-      ∙ ap (λ a. after_line (old.lines + 1) step.worker a outcome old.referee) is;
+      ∙ ap (λ a. after_line (old.lines + 1) (number_of step) a outcome old.referee) is;
   written = written.written;
 }
 step_answered old w new step worker asked outcome held held' (Err (BadStep line)) at is follows written = written

@@ -12,7 +12,7 @@ use Rattle.node_steps.specs.declared.outcome.Outcome.{Outcome as Returned}
 use Rattle.node_steps.specs.declared.outcome.Outcome.TheVariants as outcomes
 use Rattle.node_steps.specs.Returned.{returned}
 use Rattle.node_steps.specs.Schedules.{Start, world_after}
-use Rattle.node_steps.specs.Steps.{Action, Asks, Step, outcome}
+use Rattle.node_steps.specs.Steps.{Action, Asks, Step, By, Diverts, number_of, outcome}
 
 -- the last call of each worker, from worker 1 on; none before the first
 abbrev pub Calls : Type 0
@@ -34,6 +34,11 @@ with_call calls worker ask = slice_set calls (worker - 1) (Some ask)
 abbrev pub asked_by : Action → Option (Ask Content Context)
 asked_by (Asks index ask) = Some ask
 asked_by action = None
+
+-- what a step asks, if it gives its worker a call
+abbrev pub asked_in : Step → Option (Ask Content Context)
+asked_in (By number action) = asked_by action
+asked_in (Diverts index) = None
 
 -- a get, put or delete was answered by this reply, at the line of this number
 abbrev pub replied : ℕ → Reply → Ask Content Context → Compared → Compared
@@ -68,7 +73,7 @@ nothing_heard workers = record { calls = replicate workers None; compared = noth
 abbrev pub heard_after : Start → List Step → Heard
 heard_after start [] = nothing_heard start.workers
 heard_after start (step ∷ earlier) =
-    after_line (length earlier + 1) step.worker (asked_by step.action)
+    after_line (length earlier + 1) (number_of step) (asked_in step)
     (returned (outcome (world_after start earlier) step)) (heard_after start earlier)
 
 -- the last line of a run

@@ -5,14 +5,14 @@ use Rattle.riak_msgs.specs.Contents.{Content}
 use Rattle.sibling_register.specs.Answers.{Ask}
 use Rattle.actor_epoch.specs.Given.{Context}
 use Rattle.node_steps.specs.declared.outcome.Outcome.{Outcome as Returned}
-use Rattle.node_steps.specs.Steps.{Step}
+use Rattle.node_steps.specs.Steps.{Step, number_of}
 use Rattle.node_steps.specs.Kept.{Follows}
 use Rattle.schedule_player.specs.declared.fault.StepsFault.{StepsFault}
 use Rattle.schedule_player.specs.declared.fault.StepsFault.TheVariants.{BadStep, ReadFailed, WriteFailed, NoMemory}
 use Rattle.schedule_player.specs.declared.player.Player.{Player}
 use Rattle.schedule_player.specs.Answers.{answer_line}
 use Rattle.schedule_player.specs.Asked.{AsksFor, AsksForNone}
-use Rattle.schedule_player.specs.Heard.{after_line, asked_by}
+use Rattle.schedule_player.specs.Heard.{after_line, asked_in}
 
 -- one line more was written and counted, of a worker that got this call or none; the world is the same
 pub record IsWritten (old : Player) (worker : ℕ) (asked : Option (Ask Content Context)) (outcome : Returned) (held held' : Option (List ℕ)) (new : Player) : Type 0 where
@@ -42,7 +42,7 @@ pub record IsAnswered (old : Player) (step : Step) (held held' : Option (List �
   pub workers : new.workers ≡ old.workers
   pub ring : new.ring ≡ old.ring
   pub lines : new.lines ≡ old.lines + 1
-  pub heard : new.referee ≡ after_line (old.lines + 1) step.worker (asked_by step.action) outcome old.referee
+  pub heard : new.referee ≡ after_line (old.lines + 1) (number_of step) (asked_in step) outcome old.referee
   pub written : Appends held held' (answer_line (old.lines + 1) outcome)
 
 -- a step was taken, and a beginning of its line was written

@@ -4,6 +4,7 @@ ghost use Rattle.std.specs.Prelude.{◌≡◌, IfOk, is_some};
 ghost use Rattle.schedule_player.specs.Asked.{gate_step, index_for, line_step};
 ghost use Rattle.schedule_player.specs.Calls.{call_in, call_of};
 ghost use Rattle.schedule_player.specs.Reads.{ReadsStep};
+ghost use Rattle.node_steps.specs.Steps.{number_of};
 ghost use Rattle.node_steps.specs.Asked.{step_of};
 
 use crate::fault::StepsFault;
@@ -113,7 +114,7 @@ pub(crate) fn kept_call(alloc: Global, step: &Step) -> Result<Option<Box<Step>>,
 
 /// The number of the worker that takes a step.
 pub(crate) fn worker_of(step: &Step) -> u16
-    ensures { result ≡ (step_of step.now).worker }
+    ensures { result ≡ number_of (step_of step.now) }
 {
     match step {
         Step::Ask(worker, _, _) => *worker,

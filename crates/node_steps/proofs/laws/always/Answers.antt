@@ -1,5 +1,5 @@
 use Rattle.node_steps.specs.Schedules.{world_after}
-use Rattle.node_steps.proofs.Kept.{orderly}
+use Rattle.node_steps.proofs.Scheduled.{orderly}
 use Rattle.node_steps.proofs.Lifting.{histories_are_legal, looks_show_replays, replies_are_registers, nothing_else_happens, replies_have_seen, no_dots_twice, lives_are_defined}
 use Rattle.node_steps.proofs.Looked.{looks_see_replays}
 use Rattle.node_steps.proofs.Leaving.{values_leave_only_covered}
@@ -16,13 +16,13 @@ pub returns-clause-looked : goal.returns-clause-looked
 returns-clause-looked c = λ start is schedule step. looks_see_replays (world_after start schedule) (orderly start is schedule) step
 
 pub returns-clause-answers : goal.returns-clause-answers
-returns-clause-answers c = λ start is schedule step. replies_are_registers (world_after start schedule) step (orderly start is schedule)
+returns-clause-answers c = λ start is schedule step. replies_are_registers (world_after start schedule) (orderly start is schedule) step
 
 pub returns-clause-nothing_else : goal.returns-clause-nothing_else
-returns-clause-nothing_else c = λ start is schedule step. nothing_else_happens (world_after start schedule) step (orderly start is schedule)
+returns-clause-nothing_else c = λ start is schedule step. nothing_else_happens (world_after start schedule) (orderly start is schedule) step
 
 pub returns-clause-seen : goal.returns-clause-seen
-returns-clause-seen c = λ start is schedule step. replies_have_seen (world_after start schedule) step (orderly start is schedule)
+returns-clause-seen c = λ start is schedule step. replies_have_seen (world_after start schedule) (orderly start is schedule) step
 
 pub returns-clause-dots : goal.returns-clause-dots
 returns-clause-dots c = λ start is schedule. no_dots_twice (world_after start schedule)

@@ -1,0 +1,276 @@
+-- Each run of a partition is a course: what is true of a world and the course so far, and that a worker's step keeps it.
+use Rattle.std.proofs.Common.{◌≡◌, ◌≢◌, ◌⊎◌, inl, inr, ℕ, ◌<◌, ◌≤◌, true, false, not, ◌&&◌, [], ◌∷◌, length, refl, sym, ◌∙◌, ap, arith, subst}
+use Rattle.std.specs.Prelude.{◌==◌, pred, Some, None, slice_get}
+use Rattle.riak_msgs.specs.declared.Key.{Key}
+use Rattle.riak_msgs.specs.Contents.{Content}
+use Rattle.sibling_register.specs.History.{Event, is_update}
+use Rattle.sibling_register.specs.Answers.{Ask}
+use Rattle.actor_epoch.specs.Given.{Context, Pairs}
+use Rattle.vnode_machine.specs.Machine.{clock_of}
+use Rattle.vnode_machine.specs.Replay.{History, replay, naming, seen_by, HasReplay, Accepts}
+use Rattle.vnode_machine.specs.Registers.{key_of, context_in_ask}
+use Rattle.copy_laws.specs.Copies.{Command, all_commands}
+use Rattle.copy_laws.specs.Sides.{Partition}
+use Rattle.copy_laws.specs.CopyReplay.{name_at, AcceptsEntry}
+use Rattle.copy_laws.specs.Diversions.{Course, Happening, AtPrimary, AtFallback, diversions_of, is_diverted, fallback_of, fallback_state, primary_of, WasShown, MayHappen, Happens}
+use Rattle.copy_laws.proofs.Fallback.{log-replay}
+use Rattle.node_steps.specs.World.{Phase, Idle, Asked, Reading, Holding, Done, Vnode, Worker, World, Call, call_of}
+use Rattle.node_steps.specs.Steps.{Action, Asks, Enters, is_reap, Outcome, NotPossible, Happened, Replied, seeing, turned, site_of}
+use Rattle.node_steps.specs.Contexts.{given_in}
+use Rattle.node_steps.specs.Courses.{partition_of, IsSiteOf}
+use Rattle.node_steps.proofs.Lists.{set-here, set-there, same_or_other, get-below}
+use Rattle.node_steps.proofs.Inside.{other_test}
+use Rattle.node_steps.proofs.Turns.{CallIs, Comes}
+use Rattle.node_steps.proofs.Kept.{IsOrderly, IsPossible, about_site}
+use Rattle.node_steps.proofs.Lifting.{here, turn}
+use Rattle.node_steps.proofs.Unmixed.{seen-same}
+
+pub some_same : {X : Type 0} (a b : X) → Some a ≡ Some b → a ≡ b
+some_same a b h = cc
+
+-- the vnode at a site has this id, was opened behind no epoch, and has this history
+pub record IsVnode (w : World) (site id : ℕ) (history : History) : Type 0 where
+  pub vnode : Vnode
+  pub there : slice_get w.vnodes site ≡ Some vnode
+  pub id_is : vnode.id ≡ id
+  pub epoch_is : vnode.last_epoch ≡ 0
+  pub history_is : vnode.history ≡ history
+
+pub none_call : (call : Call) → None ≡ Some call → ⊥
+none_call call h = cc
+
+too_far : (site away other n : ℕ) → site ≡ away → n ≤ away → other < n → site ≢ other
+too_far site away other n e h k = λ f. absurd (omega (arith, e, h, k, f))
+
+-- a worker that does something at a site has a call there, or gets it
+had_call : (action : Action) (phase : Phase) (site : ℕ) → site_of action phase ≡ Some site → (site_of Enters phase ≡ Some site) ⊎ ((ask : Ask Content Context) × (action ≡ Asks site ask))
+had_call (Asks other ask) Idle site h = inr (ask, ap (λ s. Asks s ask) (some_same other site h))
+had_call action Idle site h = cc
+had_call action (Asked other ask) site h = inl h
+had_call action (Reading other get) site h = inl h
+had_call action (Holding other ask hand plan) site h = inl h
+had_call action (Done other hand) site h = inl h
+
+module _ (run index : ℕ) where
+  abbrev partition : Partition
+  partition = partition_of run index
+
+  abbrev pub partition_at : Partition
+  partition_at = partition_of run index
+
+  -- the partition isn't diverted
+  pub record IsOwn (w : World) (course : Course) : Type 0 where
+    pub route_is : slice_get w.routes index ≡ Some index
+    pub not_diverted : is_diverted course ≡ false
+    pub none : diversions_of course ≡ 0
+    pub empty : (n : ℕ) → fallback_of course n ≡ []
+
+  -- or it is, to the vnode at another site; no worker has a call at its own, nor a reap at the other
+  pub record IsAway (w : World) (course : Course) : Type 0 where
+    pub site : ℕ
+    pub route_is : slice_get w.routes index ≡ Some site
+    pub other : index ≢ site
+    pub diverted : is_diverted course ≡ true
+    pub one : diversions_of course ≡ 1
+    pub vnode : IsVnode w site partition.fallback (fallback_of course 1)
+    pub alone : (place : ℕ) (worker : Worker) → slice_get w.workers place ≡ Some worker → site_of Enters worker.phase ≡ Some index → ⊥
+    pub updates : (place : ℕ) (worker : Worker) → slice_get w.workers place ≡ Some worker → (call : Call) → call_of worker.phase ≡ Some call
+        → call.site ≡ site → is_reap call.ask ≡ false
+
+  -- what is true of a world and the course so far, those contexts having been shown that are given by Shown
+  pub record IsRun (w : World) (course : Course) (Shown : Key → Context → Type 0) : Type 0 where
+    pub known : index < length w.routes
+    pub apart : (other site : ℕ) → slice_get w.routes other ≡ Some site → (site ≡ other) ⊎ (length w.routes ≤ site)
+    pub history : History
+    pub vnode : IsVnode w index partition.primary history
+    pub may_happen : Happens partition course
+    pub log : primary_of partition course ≡ all_commands history
+    pub side : IsOwn w course ⊎ IsAway w course
+    pub shown : (key : Key) (context : Context) → Shown key context → WasShown partition course key context
+    pub calls : (place : ℕ) (worker : Worker) → slice_get w.workers place ≡ Some worker → (call : Call) → call_of worker.phase ≡ Some call
+        → IsSiteOf w index call.site → (context : Context) → context_in_ask call.ask ≡ Some context → WasShown partition course (key_of call.ask) context
+
+  -- what was shown still was
+  pub shown-later : (happening : Happening) (course : Course) (key : Key) (context : Context) → WasShown partition course key context → WasShown partition (happening ∷ course) key context
+  shown-later happening course key context s =
+      record { later = happening ∷ s.later; moment = s.moment; is = ap (λ (c : Course). happening ∷ c) s.is; shown = s.shown }
+
+  -- the names of a course's primary and fallback
+  pub name-primary : (course : Course) (history : History) (key : Key) → primary_of partition course ≡ all_commands history
+      → name_at partition (primary_of partition course) key ≡ (naming {V = Content} partition.primary 0).name history key
+  name-primary course history key e = ap (λ log. name_at partition log key) e ∙ ap (λ s. Pairs (clock_of s key).known) (log-replay partition.primary 0 history)
+
+  pub state-fallback : (course : Course) (history : History) → diversions_of course ≡ 1 → fallback_of course 1 ≡ history → fallback_state partition course ≡ replay partition.fallback 0 history
+  state-fallback course history one e = ap (λ n. replay partition.fallback 0 (fallback_of course n)) one ∙ ap (replay partition.fallback 0) e
+
+  module _ (w : World) (orderly : IsOrderly w) (number : ℕ) (action : Action) (r : World × Outcome) (p : IsPossible w number action r) where
+    abbrev pub next_of : World
+    next_of = turned w (pred number) p.index p.worker p.turn
+
+    abbrev next : World
+    next = turned w (pred number) p.index p.worker p.turn
+
+    -- what becomes of a vnode: elsewhere nothing
+    pub vnode-there : (site id : ℕ) (history : History) → p.index ≢ site → IsVnode w site id history → IsVnode next site id history
+    vnode-there site id history n v = record {
+      vnode = v.vnode;
+      there = set-there w.vnodes p.index site p.turn.vnode n ∙ v.there;
+      id_is = v.id_is;
+      epoch_is = v.epoch_is;
+      history_is = v.history_is;
+    }
+
+    pub is_there : (site id : ℕ) (history : History) → p.index ≡ site → (v : IsVnode w site id history) → p.vnode ≡ v.vnode
+    is_there site id history e v = some_same p.vnode v.vnode (sym p.vnode_is ∙ ap (λ k. slice_get w.vnodes k) e ∙ v.there)
+
+    pub vnode-here : (site id : ℕ) (history : History) → p.index ≡ site → IsVnode w site id history → IsVnode next site id p.turn.vnode.history
+    vnode-here site id history e v =
+        let same = is_there site id history e v in
+        record {
+          vnode = p.turn.vnode;
+          there = ap (λ k. slice_get next.vnodes k) (sym e) ∙ set-here w.vnodes p.index p.vnode p.turn.vnode p.vnode_is;
+          id_is = (turn w orderly number action r p).same_id ∙ ap (λ (x : Vnode). x.id) same ∙ v.id_is;
+          epoch_is = (turn w orderly number action r p).same_epoch ∙ ap (λ (x : Vnode). x.last_epoch) same ∙ v.epoch_is;
+          history_is = refl;
+        }
+
+    -- the history has an event of the worker's call more
+    pub record Grows : Type 0 where
+      pub event : Event Content Context
+      pub call : Call
+      pub asked : call_of p.worker.phase ≡ Some call
+      pub at : call.site ≡ p.index
+      pub is : p.turn.vnode.history ≡ event ∷ p.vnode.history
+      pub key_is : event.key ≡ key_of call.ask
+      pub context_is : event.context ≡ context_in_ask call.ask
+      pub update : is_reap call.ask ≡ false → is_update event.operation ≡ true
+
+    pub grown : (p.turn.vnode.history ≡ p.vnode.history) ⊎ Grows
+    grown = by p.turn.outcome (turn w orderly number action r p).comes
+      where
+        by : (came : Outcome) → Comes p.vnode.id p.vnode.last_epoch p.index (call_of p.worker.phase) p.vnode.history p.turn came
+            → (p.turn.vnode.history ≡ p.vnode.history) ⊎ Grows
+        by NotPossible h = absurd h
+        by Happened h = inl h
+        by (Replied reply) h = elim h.2.event [
+          | inl same ↦ inl same
+          | inr made ↦ inr (record {
+            event = made.0;
+            call = h.0;
+            asked = h.1;
+            at = h.2.at;
+            is = made.1;
+            key_is = made.2;
+            context_is = made.3;
+            update = made.4;
+          })
+        ]
+
+    replays-event : (g : Grows) (id : ℕ) (history : History) → p.vnode.id ≡ id → p.vnode.last_epoch ≡ 0 → p.vnode.history ≡ history → HasReplay id 0 (g.event ∷ history)
+    replays-event g id history i e h =
+        subst (λ hist. HasReplay id 0 (g.event ∷ hist)) h
+        (subst (λ last. HasReplay id last (g.event ∷ p.vnode.history)) e
+        (subst (λ j. HasReplay j p.vnode.last_epoch (g.event ∷ p.vnode.history)) i
+        (subst (λ hist. HasReplay p.vnode.id p.vnode.last_epoch hist) g.is (turn w orderly number action r p).replays)))
+
+    module _ (course : Course) (Shown : Key → Context → Type 0) (run_is : IsRun w course Shown)
+        (gives : (site : ℕ) → IsSiteOf w index site → (key : Key) (context : Context) → given_in action site key ≡ Some context → Shown key context)
+        (sends : (site : ℕ) (ask : Ask Content Context) → action ≡ Asks site ask
+        → (other : ℕ) × (slice_get w.routes other ≡ Some site) × ((not (site == other) && is_reap ask) ≡ false)) where
+      gives-event : (g : Grows) → IsSiteOf w index p.index → (context : Context) → g.event.context ≡ Some context → WasShown partition course g.event.key context
+      gives-event g at context e =
+          subst (λ k. WasShown partition course k context) (sym g.key_is)
+          (run_is.calls (pred number) p.worker (here w orderly number action r p) g.call g.asked (subst (λ s. IsSiteOf w index s) (sym g.at) at) context (sym g.context_is ∙ e))
+
+      -- an event at the primary may happen
+      pub at-primary : (g : Grows) → p.index ≡ index → IsOwn w course → MayHappen partition course (AtPrimary g.event)
+      at-primary g at own =
+          let same = is_there index partition.primary run_is.history at run_is.vnode in
+          let event = g.event in
+          let replays : HasReplay partition.primary 0 (event ∷ run_is.history) = replays-event g partition.primary run_is.history
+          (ap (λ (x : Vnode). x.id) same ∙ run_is.vnode.id_is) (ap (λ (x : Vnode). x.last_epoch) same ∙ run_is.vnode.epoch_is)
+          (ap (λ (x : Vnode). x.history) same ∙ run_is.vnode.history_is) in (
+            own.not_diverted,
+            subst (λ log. AcceptsEntry partition log (Command event)) (sym run_is.log) (
+              subst (λ s. Accepts s event.key event.context event.operation) (sym (log-replay partition.primary 0 run_is.history)) replays.1,
+              replays.2 ∙ sym (seen-same run index run_is.history event.key event.context event.operation),
+            ),
+            gives-event g (inl at),
+          )
+
+      -- and one at the fallback
+      pub at-fallback : (g : Grows) (away : IsAway w course) → p.index ≡ away.site → MayHappen partition course (AtFallback g.event)
+      at-fallback g away at =
+          let same = is_there away.site partition.fallback (fallback_of course 1) at away.vnode in
+          let event = g.event in
+          let replays : HasReplay partition.fallback 0 (event ∷ fallback_of course 1) = replays-event g partition.fallback (fallback_of course 1)
+          (ap (λ (x : Vnode). x.id) same ∙ away.vnode.id_is) (ap (λ (x : Vnode). x.last_epoch) same ∙ away.vnode.epoch_is)
+          (ap (λ (x : Vnode). x.history) same ∙ away.vnode.history_is) in (
+            away.diverted,
+            g.update (away.updates (pred number) p.worker (here w orderly number action r p) g.call g.asked (g.at ∙ at)),
+            subst (λ s. Accepts s event.key event.context event.operation) (sym (state-fallback course (fallback_of course 1) away.one refl)) replays.1,
+            replays.2 ∙ ap (λ n. seen_by partition.fallback 0 (fallback_of course n) event.key event.context event.operation) (sym away.one),
+            gives-event g (inr (away.route_is ∙ ap (λ s. Some s) (sym at))),
+          )
+
+      abbrev new_worker : Worker
+      new_worker = record { phase = p.turn.phase; seen = seeing p.worker.seen p.index p.turn.seen }
+
+      -- the worker at a place afterwards
+      pub worker-next : (place : ℕ) (worker : Worker) → slice_get next.workers place ≡ Some worker → (new_worker ≡ worker) ⊎ (slice_get w.workers place ≡ Some worker)
+      worker-next place worker h = elim (same_or_other (pred number) place) [
+        | inl e ↦ inl (some_same new_worker worker (sym (set-here w.workers (pred number) p.worker new_worker (here w orderly number action r p)) ∙ ap (λ k. slice_get next.workers k) e ∙ h))
+        | inr n ↦ inr (sym (set-there w.workers (pred number) place new_worker n) ∙ h)
+      ]
+
+      -- no ask is sent to the own site of a partition that is diverted
+      not_sent : (away : IsAway w course) (ask : Ask Content Context) → action ≡ Asks index ask → ⊥
+      not_sent away ask is =
+          let s = sends index ask is in
+          elim (run_is.apart s.0 index s.1) [
+            | inl e ↦ away.other (some_same index away.site (sym s.1 ∙ ap (λ k. slice_get w.routes k) (sym e) ∙ away.route_is))
+            | inr past ↦ absurd (omega (arith, past, run_is.known))
+          ]
+
+      pub alone-next : (away : IsAway w course) (place : ℕ) (worker : Worker) → slice_get next.workers place ≡ Some worker → site_of Enters worker.phase ≡ Some index → ⊥
+      alone-next away place worker h about = elim (worker-next place worker h) [
+        | inl e ↦
+            let at : p.index ≡ index = about_site p.index p.turn.phase (turn w orderly number action r p).at index (ap (λ (x : Worker). site_of Enters x.phase) e ∙ about) in
+            elim (had_call action p.worker.phase index (p.site_is ∙ ap (λ s. Some s) at)) [
+              | inl had ↦ away.alone (pred number) p.worker (here w orderly number action r p) had
+              | inr asks ↦ not_sent away asks.0 asks.1
+            ]
+        | inr old ↦ away.alone place worker old about
+      ]
+
+      pub updates-next : (away : IsAway w course) (place : ℕ) (worker : Worker) → slice_get next.workers place ≡ Some worker → (call : Call) → call_of worker.phase ≡ Some call
+          → call.site ≡ away.site → is_reap call.ask ≡ false
+      updates-next away place worker h call asked at = elim (worker-next place worker h) [
+        | inl e ↦ by (turn w orderly number action r p).call (ap (λ (x : Worker). call_of x.phase) e ∙ asked)
+        | inr old ↦ away.updates place worker old call asked at
+      ]
+        where
+          by : CallIs action (call_of p.worker.phase) (call_of p.turn.phase) → call_of p.turn.phase ≡ Some call → is_reap call.ask ≡ false
+          by (inl same) k = away.updates (pred number) p.worker (here w orderly number action r p) call (sym same ∙ k) at
+          by (inr (inl none)) k = absurd (none_call call (sym none ∙ k))
+          by (inr (inr new)) k =
+              let same : new.0 ≡ call = some_same new.0 call (sym new.1 ∙ k) in
+              let s = sends new.0.site new.0.ask new.2 in
+              let site : new.0.site ≡ away.site = ap (λ (c : Call). c.site) same ∙ at in
+              let below : s.0 < length w.routes = get-below w.routes s.0 new.0.site s.1 in
+              let far : length w.routes ≤ away.site = elim (run_is.apart index away.site away.route_is) [
+                | inl e ↦ absurd (away.other (sym e))
+                | inr past ↦ past
+              ] in
+              ap (λ (c : Call). is_reap c.ask) (sym same)
+              ∙ sym (ap (λ b. not b && is_reap new.0.ask) (other_test new.0.site s.0 (too_far new.0.site away.site s.0 (length w.routes) site far below)))
+              ∙ s.2
+
+      -- what comes of the course
+      pub record IsNext (later : Course) : Type 0 where
+        pub still : (key : Key) (context : Context) → WasShown partition course key context → WasShown partition later key context
+        pub may_happen : Happens partition later
+        pub history : History
+        pub vnode : IsVnode next index partition.primary history
+        pub log : primary_of partition later ≡ all_commands history
+        pub side : IsOwn next later ⊎ IsAway next later
