@@ -28,7 +28,7 @@ pub struct Shared {
     pub(crate) handoff: Handoff,
     pub(crate) budget: u32,
     reads: u64,
-    /// How many calls have got their right. It may wrap.
+    /// How many calls have passed a turnstile that sees them. It may wrap.
     calls: AtomicU64,
 }
 
@@ -144,8 +144,11 @@ impl Shared {
         self.handoff.gates()
     }
 
-    /// A call that has its right passes the turnstile, under the next number.
+    /// A call that has its right passes the turnstile, under the next number, if that sees calls.
     pub(crate) fn enter<T: Turnstile>(&self, turnstile: &T) {
+        if !turnstile.sees_calls() {
+            return;
+        }
         let calls = self.calls.fetch_add(1, Ordering::SeqCst);
         turnstile.inside(calls.wrapping_add(1));
     }
