@@ -6,9 +6,8 @@ ghost use Rattle.gate_node.specs.Asked.{Shows, IsShown, Gets, Changes, ReapsUpTo
 use crate::replies::{get_quantity, outcome_quantity, outcome_reply};
 use crate::shared::Shared;
 use crate::turnstile::Turnstile;
-use rw_gate::{Outcome, ask, ask_under};
 use riak_msgs::{GetAsk, Reply, Text};
-use rw_gate::{Gate, Pass};
+use rw_gate::{Gate, Outcome, Pass, ask, ask_under};
 use stats_book::Quantity;
 use std::alloc::Global;
 use std::sync::Wait;

@@ -19,7 +19,7 @@ ghost use Rattle.std.specs.Prelude.{Option};
 
 /// Each position at which a [`GateNode`](crate::GateNode) answers, and before which commands alone stand, is a legal history of the
 /// sibling register, and the state there is its replay. For the node's step names the position and its run (`leads` of `IsMade` and `IsSaid` in
-/// `specs/Asking`), that the gate was made round a new vnode, and that the id of this vnode is one that a vnode can have: for that of
+/// `specs/Asking` of `rw_gate`), that the gate was made round a new vnode, and that the id of this vnode is one that a vnode can have: for that of
 /// the key's partition `made_new` and `limits` of `AtIndex` in `specs/GateStep`, for the partition's fallback those of `IsFallback`
 /// (`is_new` of `AtFallback` and of `AtClosed`).
 pub fn positions_are_legal()

@@ -2,9 +2,9 @@
 ghost use Rattle.std.specs.Prelude.{◌≡◌};
 ghost use Rattle.gate_node.specs.Asked.{answer_quantity, get_quantity, outcome_quantity, outcome_reply, told_quantity};
 
-use rw_gate::Outcome;
 use node_session::answer_reply;
 use riak_msgs::{Reply, Text};
+use rw_gate::Outcome;
 use stats_book::Quantity;
 use vnode_core::{Answer, Refusal};
 

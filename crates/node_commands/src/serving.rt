@@ -135,9 +135,9 @@ fn report<T: Log, W: Write>(rt: &T, served: &Served, writer: &mut W) -> io::Resu
 /// fault, after the last one has ended.
 ///
 /// A session that ends by a fault (a failed read or write, a bad length, too many reads, or no memory for what it reads or answers) ends
-/// its own connection alone. Serving as a whole ends, after the connections that were accepted, where the listener fails or memory is
-/// refused for a new connection; and it ends where memory is refused to the run, or for the outcome of a connection, where the system
-/// refuses a thread, and where a total has no room ([`ServeFault`]).
+/// its own connection alone. A new one for which memory is refused is closed and logged, and isn't one of those that are served. Serving as
+/// a whole ends, after the connections that were accepted, where the listener fails; and it ends where memory is refused to the run, or
+/// for the outcome of a connection, where the system refuses a thread, and where a total has no room ([`ServeFault`]).
 ///
 /// Where the system has no descriptor or no memory for a further connection, the log has a warning, and it is accepted again every 10 ms
 /// until there is one, [`MAX_ACCEPT_TRIES`](crate::MAX_ACCEPT_TRIES) times at most.

@@ -53,7 +53,7 @@ pub fn needs_no_history()
 
 /// What [`always`] claims of histories it claims of the running gate's: each run of commands of the vnode machine from the opening state
 /// of a vnode, which is what a gate round a new vnode keeps as its history, is the history of that vnode after some schedule, by
-/// one definition (`history_after` in `specs/Events` of `vnode_core`).
+/// one definition (`history_after` in `specs/Events` of `vnode_protocol`).
 pub fn gates_are_scheduled()
     ensures { RunsAreScheduled }
 {}

@@ -12,7 +12,8 @@
 //! 0000000102
 //! ```
 //!
-//! Each ends with status 0 at the end of its input, with 1 and one line on standard error where it had to stop before, and with 2 where the command line is none of its own.
+//! Each ends with status 0 at the end of its input, or of its last connection, with 1 and one line on standard error where it had to stop before, and with 2 where the command line is
+//! none of its own. A signal ends `serve` at once.
 #![tactic(auto)]
 
 mod command_line;

@@ -74,7 +74,7 @@ pub(crate) fn port<'a>(alloc: Global) -> Arg<'a> {
         "P",
         value_parser!(u16),
         "8087",
-        "The port of 127.0.0.1 that is listened on. With 0 the system picks a free one, which the first line names",
+        "The port that is listened on. With 0 the system picks a free one, which the first line names",
     )
 }
 
