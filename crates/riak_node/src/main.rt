@@ -17,11 +17,12 @@
 #![tactic(auto)]
 
 mod command_line;
+mod drained_console;
 mod options;
 
 use clap::error::ErrorKind;
 use command_line::{Command, PipeOptions, ServeOptions, ServeSomeOptions, StepsOptions};
-use log::sink::Console;
+use drained_console::DrainedConsole;
 use log::{Level, Log, Logged};
 use node_commands::{ServeFault, Served, Settings, UntilSettings, pipe, serve_on, serve_on_until};
 use node_session::{Ended, SessionFault, exit_status, write_fault};
@@ -222,11 +223,11 @@ fn main(rt: HostRuntime) -> io::Result<ExitCode> {
         Ok(Command::Pipe(options)) => serve_streams(&rt, options),
         Ok(Command::Steps(options)) => play_steps(&rt, options),
         Ok(Command::Serve(options)) => {
-            let logged = Logged::new(rt, Level::Info, Console(rt));
+            let logged = Logged::new(rt, Level::Info, DrainedConsole::new(rt, alloc));
             serve_all(&logged, alloc, options, rt.stdin(), &mut rt.stdout())
         }
         Ok(Command::ServeSome(options)) => {
-            let logged = Logged::new(rt, Level::Info, Console(rt));
+            let logged = Logged::new(rt, Level::Info, DrainedConsole::new(rt, alloc));
             serve_some(&logged, alloc, options, &mut rt.stdout())
         }
         Err(error) => tell(&rt, error),
