@@ -11,6 +11,7 @@ use mio::{Events, Interest, Poll, Token};
 use std::alloc::Global;
 use std::fmt::Display;
 use std::net::Net;
+use std::os::fd::AsRawFd;
 use std::sync::{Mutex, Wait};
 use std::time::Duration;
 
@@ -54,9 +55,13 @@ impl Drain {
     }
 }
 
-/// A poll that watches standard error, if it can be watched.
+/// A poll that watches standard error, if it can be watched. Where a standard stream was closed before the program began, the poll would
+/// get its descriptor, and is let go: who listens then finds that descriptor free.
 fn watch<R: Net>(net: &R, alloc: Global) -> Option<(Poll, Events<Global>)> {
     let poll = Poll::new(net).ok()?;
+    if poll.as_raw_fd() <= STANDARD_ERROR {
+        return None;
+    }
     let events = Events::with_capacity(alloc, 1).ok()?;
     let mut source = SourceFd(&STANDARD_ERROR);
     poll.registry()
