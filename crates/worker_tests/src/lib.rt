@@ -9,6 +9,8 @@ mod book;
 #[cfg(test)]
 mod copy_race;
 #[cfg(test)]
+mod copy_refused;
+#[cfg(test)]
 mod diversions;
 #[cfg(test)]
 mod exchanges;

@@ -16,7 +16,6 @@ pub struct Session {
     /// How many gets the node's share has counted before.
     pub gets_before: u64,
     pub requests: &'static [u8],
-    /// Empty where what others ask beside decides the replies: then each has to be one, and no error, by the totals.
     pub replies: &'static [u8],
     /// Whether the book had no room for some of what was to be counted.
     pub is_book_full: bool,
@@ -35,7 +34,7 @@ fn answers<W: Wait, T: Turnstile, G: Ledger, P: Ledger, D: Ledger, E: Ledger, R:
     let mut reader = session.requests;
     let mut written = Vec::new(alloc);
     let result = serve(alloc, &mut reader, &mut written, node, 100);
-    result.is_ok() && (session.replies.is_empty() || written.as_slice() == session.replies)
+    result.is_ok() && written.as_slice() == session.replies
 }
 
 /// Whether a node with this share answers as the session says, and finds the book as full; and its passes.
