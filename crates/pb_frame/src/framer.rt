@@ -9,12 +9,12 @@ use std::alloc::Global;
 use std::marker::Model;
 
 /// The most memory that a framer keeps for bytes to come where nothing is left in it, in bytes.
-const MAX_IDLE_CAPACITY: usize = 65_536;
+const MAX_IDLE_CAPACITY: usize = 256;
 
 /// Gives the memory of an empty buffer back where that is more than [`MAX_IDLE_CAPACITY`]. Takes none.
 fn shrink_empty(bytes: &mut Vec<u8>)
     ensures items { bytes.new.items ≡ bytes.old.items }
-    ensures capacity { bytes.old.items ≡ [] → vec_capacity bytes.new ≤ 65536 }
+    ensures capacity { bytes.old.items ≡ [] → vec_capacity bytes.new ≤ 256 }
 {
     if bytes.is_empty() && bytes.capacity() > MAX_IDLE_CAPACITY {
         bytes.shrink_to_fit();
@@ -139,7 +139,7 @@ impl Framer {
     /// more. An `Err` is `Empty` (a length of 0) or `TooLarge` (a length above the limit), once all
     /// frames before it were taken and its four bytes are there. It is final, since nothing marks
     /// where a next frame would begin: from then on this call and [`Framer::feed`] answer it, and
-    /// nothing changes. Takes no memory; where nothing is left, memory above 64 KiB is given back.
+    /// nothing changes. Takes no memory; where nothing is left, memory above 256 bytes is given back.
     pub fn take(&mut self) -> Result<Option<Frame<'_>>, FrameFault>
         ensures* { sem 𝓛 (TakesOnce self.entry result) }
     {
