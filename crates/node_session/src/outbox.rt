@@ -16,7 +16,7 @@ use std::marker::Model;
 const GATHERED: usize = 65_536;
 
 /// How much of a buffer in which nothing waits is kept for the replies to come.
-const MAX_IDLE_CAPACITY: usize = 65_536;
+const MAX_IDLE_CAPACITY: usize = 256;
 
 /// Lets go of what a large reply took.
 fn shrink_empty(bytes: &mut Vec<u8>)
