@@ -7,16 +7,22 @@ use Rattle.worker_pool.specs.declared.closed.Closed.{Closed}
 use Rattle.worker_pool.specs.declared.job.Job.{Job}
 use Rattle.worker_pool.specs.Run.{ServesAll}
 use Rattle.node_commands.specs.Sources.{IsNew}
+use Rattle.socket_server.specs.Counting.{AreTotals}
+use Rattle.socket_server.specs.declared.server.ServerOutcome.{ServerOutcome}
 use Rattle.node_commands.specs.declared.serving.Settings.{Settings}
+use Rattle.node_commands.specs.declared.until.UntilSettings.{UntilSettings}
 
--- the gates of a new run with these settings, of which no partition is diverted
-pub record AreOfRun (settings : Settings) (gates : Gates) : Type 0 where
-  pub ring : gates.index_bits ≡ settings.ring
-  pub run : gates.run ≡ settings.run
-  pub budget : gates.budget ≡ settings.sweep
+-- the gates of a new run of this number, on this ring and with this budget of its sweeps, of which no partition is diverted
+pub record IsNewRun (ring run sweep : ℕ) (gates : Gates) : Type 0 where
+  pub ring_is : gates.index_bits ≡ ring
+  pub run_is : gates.run ≡ run
+  pub budget : gates.budget ≡ sweep
   pub reads : gates.reads ≡ 2 ^ 32
-  pub made_new : AreMadeNew settings.run 0 gates.gates
+  pub made_new : AreMadeNew run 0 gates.gates
   pub undiverted : AreNone gates.fallbacks
+
+abbrev pub AreOfRun : Settings → Gates → Type 0
+AreOfRun settings gates = IsNewRun settings.ring settings.run settings.sweep gates
 
 module _ {I O : Type 0} where
   -- so many connections were served over these gates by so many workers; of the bytes of a socket nothing is known
@@ -31,3 +37,9 @@ module _ {I O : Type 0} where
     pub gates : Gates
     pub of_run : AreOfRun settings gates
     pub served : AreServed gates settings.connections settings.workers closed
+
+-- connections were served over the gates of a new run for as long as was wanted, and the workers counted so much together
+pub record IsServedUntil (settings : UntilSettings) (outcome : ServerOutcome) : Type 0 where
+  pub gates : Gates
+  pub of_run : IsNewRun settings.ring settings.run settings.sweep gates
+  pub totals : AreTotals gates settings.workers outcome.totals

@@ -1,6 +1,6 @@
 //! Accepting a connection for which the system may have no descriptor yet.
 use log::{Log, warn};
-use node_server::AcceptFault;
+use socket_server::AcceptFault;
 use std::net::{OpenListener, SocketAddr};
 use std::rt::Clock;
 use std::time::Duration;

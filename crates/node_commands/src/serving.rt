@@ -7,6 +7,7 @@ ghost use Rattle.node_commands.specs.Lines.{totals_line};
 use crate::connections::Connections;
 use crate::fault::ServeFault;
 use crate::halves::{ReplyHalf, RequestHalf};
+use crate::limits::MAX_READS;
 use crate::lines::{write_address, write_totals};
 use log::{Log, info, warn};
 use ring_map::Ring;
@@ -18,9 +19,6 @@ use std::rt::Clock;
 use std::sync::Wait;
 use std::thread::Threads;
 use worker_pool::{Closed, End, Open, Pool, PoolFault, Shared};
-
-/// The most reads of a session.
-const MAX_READS: u64 = 4_294_967_296;
 
 /// What came of all connections: the totals, the vnodes' tallies, and the end of each connection.
 pub type Served = Closed<RequestHalf, ReplyHalf>;

@@ -5,13 +5,11 @@ ghost use Rattle.std.specs.Io.KnownBytes.{IsAtEnd};
 ghost use Rattle.node_session.specs.Session.{Given, IsTooManyReads, MadeReads};
 ghost use Rattle.node_session.specs.Pipes.{PipeEnds, PipeStops, IsNotBegun};
 
+use crate::limits::MAX_READS;
 use node_session::{Ended, PlainNode, SessionFault, serve};
 use ring_map::Ring;
 use std::alloc::Global;
 use std::io::{Read, Write};
-
-/// The most reads of a session.
-const MAX_READS: u64 = 4_294_967_296;
 
 /// Serves the reader to the writer by a node of its own, which is new: of this run, at least 1, on this ring, and with
 /// this budget of its sweeps.

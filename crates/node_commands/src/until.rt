@@ -1,13 +1,18 @@
 //! Serving for as long as is wanted.
 
-ghost use Rattle.std.specs.Prelude.{◌≤◌};
+ghost use Rattle.std.specs.Prelude.{◌≤◌, IfOk, IfSome, OnOk};
+ghost use Rattle.std.specs.Io.KnownBytes.{Appends};
+ghost use Rattle.node_commands.specs.Lines.{totals_line};
+ghost use Rattle.node_commands.specs.Runs.{IsNewRun, IsServedUntil};
 
 use crate::fault::ServeFault;
+use crate::limits::MAX_READS;
 use crate::lines::write_totals;
 use gate_node::Shared;
 use log::Log;
-use node_server::{ServerFault, ServerOutcome, ServerSettings, serve_until};
 use ring_map::Ring;
+use socket_server::{ServerFault, ServerOutcome, ServerSettings, serve_until};
+use stats_book::Totals;
 use std::alloc::Global;
 use std::io;
 use std::io::{Read, Write};
@@ -15,9 +20,6 @@ use std::net::{Net, TcpListener};
 use std::rt::Clock;
 use std::sync::Wait;
 use std::thread::Threads;
-
-/// The most reads of a session, of which the gates' settings have to name one. No connection of this server ends by it.
-const MAX_READS: u64 = 4_294_967_296;
 
 /// How a server without a last connection serves.
 #[derive(Clone, Copy)]
@@ -52,6 +54,31 @@ fn announce<W: Write>(listener: &TcpListener, writer: &mut W) -> io::Result<()> 
     writer.flush()
 }
 
+/// Writes and flushes the totals.
+fn report<W: Write>(totals: Totals, writer: &mut W) -> io::Result<()>
+    ensures { OnOk result
+        (Appends (W.contents writer.old) (W.contents writer.new) (totals_line totals)) }
+{
+    let written = write_totals(writer, totals);
+    writer.flush()?;
+    written
+}
+
+/// The gates of a new run. Refused where memory is.
+fn new_shared(alloc: Global, settings: &UntilSettings) -> Option<Shared>
+    requires { 1 ≤ settings.now.run }
+    ensures { IfSome result (IsNewRun settings.now.ring settings.now.run settings.now.sweep) }
+{
+    Shared::new(
+        alloc,
+        settings.ring,
+        settings.run,
+        settings.sweep,
+        MAX_READS,
+    )
+    .ok()
+}
+
 /// Serves all connections of a listener, each as it is ready, by threads that have many of them, over the gates of a new run.
 ///
 /// It serves until an input ends, or without one until the listener fails. It writes `listening ADDRESS` before the first connection is
@@ -70,14 +97,12 @@ where
     W: Write,
     I: Read + Send + Drop,
     requires run { 1 ≤ settings.now.run }
+
+    // Each worker served its connections by one node over the gates of a new run, until all of them had ended, and the totals are what
+    // all workers counted, from zero.
+    ensures { IfOk result (IsServedUntil settings.now) }
 {
-    let Ok(shared) = Shared::new(
-        alloc,
-        settings.ring,
-        settings.run,
-        settings.sweep,
-        MAX_READS,
-    ) else {
+    let Some(shared) = new_shared(alloc, settings) else {
         return Err(ServeFault::NoMemory);
     };
     let _ = announce(&listener, writer);
@@ -86,7 +111,6 @@ where
         idle_seconds: settings.idle_seconds,
     };
     let outcome = serve_until(rt, alloc, &listener, &shared, server, until)?;
-    let _ = write_totals(writer, outcome.totals);
-    let _ = writer.flush();
+    let _ = report(outcome.totals, writer);
     Ok(outcome)
 }

@@ -1,4 +1,3 @@
 -- The definitions of this crate.
 pub mod Steps
 pub mod Exchanges
-pub mod Counting

@@ -1,5 +1,5 @@
 -- The steps of a connection that is served by a worker's node.
-use Rattle.std.specs.Prelude.{◌≡◌, ◌⊎◌, ◌<◌, ℕ, List, [], Option, Some, None, Result, true, false, length}
+use Rattle.std.specs.Prelude.{◌≡◌, ◌⊎◌, ◌<◌, ℕ, List, [], Option, Some, None, Result, false, length}
 use Rattle.pb_frame.specs.Limits.{max_request_len}
 use Rattle.pb_frame.specs.Message.{IsPartial}
 use Rattle.riak_msgs.specs.declared.request.Request.{Request}
@@ -14,7 +14,7 @@ use Rattle.node_session.specs.Moves.{AnswersOnce, ReadsOnce, WritesOnce, IsOutco
 use Rattle.node_session.specs.Nexts.{AnswersNext}
 use Rattle.node_server.specs.declared.connections.Streams.{Streams}
 use Rattle.node_server.specs.declared.end.End.{End}
-use Rattle.node_server.specs.declared.end.End.TheVariants.{Through, WriteFailed, Closed}
+use Rattle.node_server.specs.declared.end.End.TheVariants.{Through, Closed}
 
 -- a connection begins with its streams, of which nothing was read or written
 abbrev pub Begins : {R W : Type 0} → Streams R W → ConnectionView R W → Type 0
@@ -44,11 +44,10 @@ module _ {R W : Type 0} (remaining : R → Option (List ℕ)) (contents : W → 
     pub received : Received
     pub reads : ReadsOnce remaining from to buffer received
 
-  -- how a connection stands that ends so: all was sent, and this came of its input; its writer has failed; or it waits for its client,
-  -- with no whole message to be answered, or with something to be sent
+  -- how a connection stands that ends so: this came of it, all being sent or the writer having failed; or it waits for its client, with no
+  -- whole message to be answered, or with something to be sent
   abbrev pub IsEnd : ConnectionView R W → End → Type 0
   IsEnd from (Through outcome) = IsOutcome remaining contents from outcome
-  IsEnd from WriteFailed = from.failed ≡ true
   IsEnd from Closed = IsPartial max_request_len from.session.rest ⊎ (0 < length from.session.unsent)
 
   -- a step that leaves the node
@@ -71,4 +70,3 @@ abbrev pub StaysOrCloses : Option End → Type 0
 StaysOrCloses None = Unit {0}
 StaysOrCloses (Some Closed) = Unit {0}
 StaysOrCloses (Some (Through outcome)) = ⊥
-StaysOrCloses (Some WriteFailed) = ⊥

@@ -86,10 +86,7 @@ impl<N: Node, R: Read, W: Write> Connections<N, R, W> {
         ensures { TakesStep R.remaining W.contents opened.old opened.new result }
     {
         match opened.write(self.now.get()) {
-            Sent::Nothing => match opened.connection.outcome() {
-                Some(outcome) => Some(End::Through(outcome)),
-                None => None,
-            },
+            Sent::Nothing => opened.end(),
             Sent::Blocked => self.wait(opened),
             Sent::Bytes(_) | Sent::Interrupted | Sent::Failed => None,
         }
@@ -173,7 +170,7 @@ impl<N: Node + Drop, R: Read + Drop, W: Write + Drop> Stepping for Connections<N
         opened: &mut OpenConnection<R, W>,
     ) -> Option<End> {
         if opened.has_failed() {
-            return Some(End::WriteFailed);
+            return opened.end();
         }
         match opened.input() {
             Input::Open => self.answer_or_move(alloc, worker, opened),

@@ -5,10 +5,8 @@ use node_session::{Ended, SessionFault};
 /// How a connection ended.
 #[derive(Clone, Copy, Drop, Debug, PartialEq, Eq)]
 pub enum End {
-    /// Its input ended or failed, and all replies were sent.
+    /// Its input ended or failed and all replies were sent, or its writer failed: what `serve` would have said of it.
     Through(Result<Ended, SessionFault>),
-    /// Its writer failed. Some of what was to be sent may have been taken.
-    WriteFailed,
     /// It was closed while it waited for its client.
     Closed,
 }

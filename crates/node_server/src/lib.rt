@@ -1,4 +1,4 @@
-//! A server for as many clients as come: a few workers, each with many connections over streams that need not wait.
+//! Connections as jobs that are served in steps: a worker has many of them open at once, over streams that need not wait.
 //!
 //! What it means: a worker is an [`OpenJobs`](open_jobs::OpenJobs) over [`Connections`]. Its state is a node, and its jobs are connections,
 //! each in a slot. A step answers one message of a connection, or writes once, or reads once, or ends the connection (`specs/Steps`).
@@ -8,26 +8,12 @@
 //! replies is read no further. Each connection that began has one end ([`turns_are_lives`](open_jobs::turns_are_lives)).
 #![tactic(auto)]
 
-mod accept_fault;
-mod accepting;
 mod connections;
-mod counting;
 mod end;
-mod fault;
-mod inbox;
 mod laws;
 mod open_connection;
-mod server;
-mod sockets;
-mod stop;
-mod totals;
-mod worker;
 
-pub use accept_fault::AcceptFault;
 pub use connections::{Connections, Streams};
 pub use end::End;
-pub use fault::ServerFault;
 pub use laws::{connections_have_their_exchanges, steps_are_run};
 pub use open_connection::OpenConnection;
-pub use server::{ServerOutcome, ServerSettings, serve_until};
-pub use sockets::{ReplySocket, RequestSocket};

@@ -1,11 +1,13 @@
 //! A connection that is open.
-ghost use Rattle.std.specs.Prelude.{◌≡◌, ℕ, List, false};
+ghost use Rattle.std.specs.Prelude.{◌≡◌, ℕ, List, [], false, IfSome, IfNone};
 ghost use Rattle.pb_frame.specs.Limits.{max_request_len};
 ghost use Rattle.pb_frame.specs.Message.{IsPartial};
 ghost use Rattle.node_session.specs.Moves.{AnswersOnce, ReadsOnce, WritesOnce, new_connection};
 ghost use Rattle.node_session.specs.Nexts.{AnswersNext};
 ghost use Rattle.node_session.specs.declared.connection.Input.TheVariants.{Open};
+ghost use Rattle.node_server.specs.Steps.{IsEnd};
 
+use crate::end::End;
 use node_session::{Connection, Halt, Input, Next, Node, Received, Sent};
 use std::alloc::Global;
 use std::io::{Read, Write};
@@ -72,6 +74,18 @@ impl<R: Read, W: Write> OpenConnection<R, W> {
         ensures { result ≡ self.now.input }
     {
         self.connection.input()
+    }
+
+    /// How it ended, where its writer has failed, or its input has ended and all was sent. None where it goes on.
+    pub(crate) fn end(&self) -> Option<End>
+        requires { self.now.failed ≡ false → self.now.session.unsent ≡ [] }
+        ensures is { IfSome result (IsEnd R.remaining W.contents self.now) }
+        ensures goes { IfNone result (self.now.failed ≡ false) }
+    {
+        match self.connection.outcome() {
+            Some(outcome) => Some(End::Through(outcome)),
+            None => None,
+        }
     }
 
     /// Answers the next message that has come whole.

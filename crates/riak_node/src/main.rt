@@ -23,7 +23,7 @@ mod options;
 use clap::error::ErrorKind;
 use command_line::{Command, PipeOptions, ServeOptions, ServeSomeOptions, StepsOptions};
 use drained_console::DrainedConsole;
-use log::{Level, Log, Logged};
+use log::{Level, Log, Logged, warn};
 use node_commands::{ServeFault, Served, Settings, UntilSettings, pipe, serve_on, serve_on_until};
 use node_session::{Ended, SessionFault, exit_status, write_fault};
 use ring_map::Ring;
@@ -79,14 +79,21 @@ fn serve_streams(rt: &HostRuntime, options: PipeOptions) -> io::Result<ExitCode>
 const STANDARD_ERROR: i32 = 2;
 
 /// A listener on this address and port. None where there is none, and where a standard stream was closed before the program began: sockets
-/// would get its descriptor, and what is printed or logged would go to clients.
-fn listen<R: Net<Listener = TcpListener, Stream = TcpStream>>(
+/// would get its descriptor, and what is printed or logged would go to clients. The log says why.
+fn listen<R: Log + Net<Listener = TcpListener, Stream = TcpStream>>(
     rt: &R,
     address: IpAddr,
     port: u16,
 ) -> Option<TcpListener> {
-    let listener = TcpListener::bind(rt, (address, port)).ok()?;
+    let listener = match TcpListener::bind(rt, (address, port)) {
+        Ok(listener) => listener,
+        Err(error) => {
+            warn!(rt; "cannot listen on {address}, port {port}: {error}");
+            return None;
+        }
+    };
     if listener.as_raw_fd() <= STANDARD_ERROR {
+        warn!(rt; "a standard stream is closed");
         return None;
     }
     Some(listener)

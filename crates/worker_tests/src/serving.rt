@@ -5,6 +5,7 @@ mod clients;
 mod listener;
 mod served;
 mod stopped;
+mod until;
 
 use crate::serving::listener::Failing;
 use log::Log;

@@ -2,6 +2,7 @@
 use std::alloc::Global;
 use std::io::{Read, Write};
 use std::net::{Net, Shutdown, TcpStream};
+use std::sync::atomic::{AtomicBool, Ordering};
 
 /// A step of the clients.
 pub enum Step {
@@ -11,12 +12,18 @@ pub enum Step {
     Acts(usize, Action),
     /// The client that connected last goes.
     Leaves,
+    /// Where serving ends at the end of an input, that comes.
+    InputEnds,
 }
 
 /// What a client does, or is to see.
 pub enum Action {
     /// It sends these bytes.
     Sends(&'static [u8]),
+    /// It sends these bytes, each by a write of its own.
+    SendsByteByByte(&'static [u8]),
+    /// It sends so many times 1,024 zeros.
+    SendsZeros(u32),
     /// It gets these bytes next, and then so many others, up to 64 of each.
     Gets(&'static [u8], usize),
     /// It says that it sends no more.
@@ -59,10 +66,32 @@ fn is_at_end(stream: &mut TcpStream) -> bool {
     matches!(stream.read(&mut buffer), Ok(0))
 }
 
+/// Whether each of these bytes goes out by a write of its own.
+fn sends_each(stream: &mut TcpStream, bytes: &[u8]) -> bool {
+    let mut is_well = true;
+    for byte in bytes {
+        is_well = is_well && stream.write_all(&[*byte]).is_ok();
+    }
+    is_well
+}
+
+/// Whether so many times 1,024 zeros go out.
+fn sends_zeros(stream: &mut TcpStream, pieces: u32) -> bool {
+    let zeros = [0u8; 1024];
+    for _ in 0..pieces {
+        if stream.write_all(&zeros).is_err() {
+            return false;
+        }
+    }
+    true
+}
+
 /// Whether an action of a client goes as it should.
 fn act(stream: &mut TcpStream, action: &Action) -> bool {
     match action {
         Action::Sends(bytes) => stream.write_all(bytes).is_ok(),
+        Action::SendsByteByByte(bytes) => sends_each(stream, bytes),
+        Action::SendsZeros(pieces) => sends_zeros(stream, *pieces),
         Action::Gets(bytes, rest) => brings(stream, bytes, *rest),
         Action::Shuts => stream.shutdown(Shutdown::Write).is_ok(),
         Action::IsEnded => is_at_end(stream),
@@ -74,6 +103,7 @@ fn take<N: Net<Stream = TcpStream>>(
     net: &N,
     port: u16,
     streams: &mut Vec<TcpStream>,
+    has_ended: &AtomicBool,
     step: &Step,
 ) -> bool {
     match step {
@@ -83,20 +113,27 @@ fn take<N: Net<Stream = TcpStream>>(
             None => false,
         },
         Step::Leaves => streams.pop().is_some(),
+        Step::InputEnds => {
+            has_ended.store(true, Ordering::SeqCst);
+            true
+        }
     }
 }
 
-/// Whether all steps go as they should. Where one doesn't, those behind it are taken nevertheless, so that all clients come.
+/// Whether all steps go as they should. Where one doesn't, those behind it are taken nevertheless, so that all clients come. Behind the last
+/// one the input has ended.
 pub fn take_all<N: Net<Stream = TcpStream>>(
     net: &N,
     alloc: Global,
     port: u16,
+    has_ended: &AtomicBool,
     steps: &[Step],
 ) -> bool {
     let mut streams = Vec::new(alloc);
     let mut is_well = true;
     for step in steps {
-        is_well = take(net, port, &mut streams, step) && is_well;
+        is_well = take(net, port, &mut streams, has_ended, step) && is_well;
     }
+    has_ended.store(true, Ordering::SeqCst);
     is_well
 }

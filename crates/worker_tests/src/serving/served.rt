@@ -14,7 +14,7 @@ use std::net::{Net, TcpListener, TcpStream};
 use std::process::Abort;
 use std::rt::Clock;
 use std::sync::Wait;
-use std::sync::atomic::AtomicU32;
+use std::sync::atomic::{AtomicBool, AtomicU32};
 use std::test::*;
 use std::thread;
 use std::thread::Threads;
@@ -37,19 +37,19 @@ struct Run {
 }
 
 /// A put of "v" on b/k, and a get of it.
-const PUT_V_GET: &[u8] =
+pub const PUT_V_GET: &[u8] =
     b"\0\0\0\x0c\x0b\x0a\x01b\x12\x01k\x22\x03\x0a\x01v\0\0\0\x07\x09\x0a\x01b\x12\x01k";
 
 /// A put of "w" on b/j, and a get of it.
-const PUT_W_GET: &[u8] =
+pub const PUT_W_GET: &[u8] =
     b"\0\0\0\x0c\x0b\x0a\x01b\x12\x01j\x22\x03\x0a\x01w\0\0\0\x07\x09\x0a\x01b\x12\x01j";
 
 /// Stored; "v" with the context of one dot of the vnode 65,536, but for its epoch and counter, which are twelve bytes.
-const STORED_V: &[u8] =
+pub const STORED_V: &[u8] =
     b"\0\0\0\x01\x0c\0\0\0\x1d\x0a\x0a\x03\x0a\x01v\x12\x15\x02\0\0\0\0\0\x01\0\0";
 
 /// The same of "w".
-const STORED_W: &[u8] =
+pub const STORED_W: &[u8] =
     b"\0\0\0\x01\x0c\0\0\0\x1d\x0a\x0a\x03\x0a\x01w\x12\x15\x02\0\0\0\0\0\x01\0\0";
 
 /// A put of "v" on b/k, a put of "w" on it, and a get of it.
@@ -67,7 +67,7 @@ const W_AND_V: &[u8] =
     b"\0\0\0\x22\x0a\x0a\x03\x0a\x01w\x0a\x03\x0a\x01v\x12\x15\x02\0\0\0\0\0\x01\0\0";
 
 /// Two clients that are connected at once: each puts a value of its own and gets it.
-const TWO_CLIENTS: &[Step] = &[
+pub const TWO_CLIENTS: &[Step] = &[
     Step::Connects,
     Step::Connects,
     Step::Acts(1, Action::Sends(PUT_W_GET)),
@@ -81,7 +81,7 @@ const TWO_CLIENTS: &[Step] = &[
 ];
 
 /// Two clients that each put a value of their own on b/k, without a context, and then get it.
-const ONE_KEY: &[Step] = &[
+pub const ONE_KEY: &[Step] = &[
     Step::Connects,
     Step::Connects,
     Step::Acts(0, Action::Sends(PUT_V)),
@@ -339,7 +339,7 @@ fn goes<R: Log + Clock + Net<Stream = TcpStream> + Threads + Wait + Sync>(
     let (is_served, are_steps_taken) = thread::join(
         rt,
         || serves(rt, alloc, failing, port, run),
-        || take_all(rt, alloc, port, run.steps),
+        || take_all(rt, alloc, port, &AtomicBool::new(false), run.steps),
     );
     is_served && are_steps_taken
 }

@@ -1,0 +1,5 @@
+use Rattle.std.proofs.Common.{◌≡◌}
+use Rattle.socket_server.proofs.worker.Desk.begin_arrivals.Given as goal
+
+abbrev pub invariant-loop-arrival : goal.invariant-loop-arrival
+invariant-loop-arrival g l = l.self.jobs.first ≡ l.initial.self.jobs.first

@@ -1,0 +1,79 @@
+//! Sockets of connections that have ended while their clients may still be sending.
+
+use crate::sockets::Socket;
+use std::alloc::Global;
+use std::io::{Error, ErrorKind, Read};
+use std::net::{Shutdown, TcpStream};
+
+/// How long such a socket is kept at most, in milliseconds.
+const LINGER_MILLIS: u64 = 2000;
+
+/// How many reads of a socket are made one after another at most.
+const MAX_READS: u32 = 64;
+
+/// How many bytes are read at once.
+const MAX_READ_LEN: usize = 4096;
+
+/// A socket whose side to the client is shut down.
+#[derive(Drop)]
+struct Lingerer {
+    socket: Socket,
+    closes_at: u64,
+}
+
+/// The sockets of a worker whose connections have ended though their clients may still be sending.
+///
+/// What a client sends to a socket that is closed is answered by a reset, by which it may lose what it hasn't read yet: the last replies, and
+/// the error that says why its connection ended. So the side to the client is shut down, behind these replies, and what comes is read and
+/// passed over until the client ends too, for two seconds at most.
+#[derive(Drop)]
+pub(crate) struct Lingering {
+    sockets: Vec<Lingerer>,
+}
+
+/// Whether an error of a read says that more may come.
+fn is_of_now(error: &Error) -> bool {
+    error.kind() == ErrorKind::WouldBlock || error.kind() == ErrorKind::Interrupted
+}
+
+/// Passes over what has come. Whether more may.
+fn pass_over(socket: &Socket) -> bool {
+    let mut stream: &TcpStream = socket;
+    let mut piece = [0u8; MAX_READ_LEN];
+    for _ in 0..MAX_READS {
+        match stream.read(&mut piece) {
+            Ok(0) => return false,
+            Ok(_) => {}
+            Err(error) => return is_of_now(&error),
+        }
+    }
+    true
+}
+
+impl Lingering {
+    /// There is none.
+    pub(crate) fn new(alloc: Global) -> Lingering {
+        Lingering {
+            sockets: Vec::new(alloc),
+        }
+    }
+
+    /// Whether there is none.
+    pub(crate) fn is_empty(&self) -> bool {
+        self.sockets.is_empty()
+    }
+
+    /// Shuts down the side to the client, and keeps the socket, from this time on. Where memory is refused it is closed.
+    pub(crate) fn add(&mut self, socket: Socket, now: u64) {
+        if socket.shutdown(Shutdown::Write).is_ok() {
+            let closes_at = now.saturating_add(LINGER_MILLIS);
+            let _ = self.sockets.push(Lingerer { socket, closes_at });
+        }
+    }
+
+    /// Passes over what has come, and closes the sockets whose clients have ended, or that were kept for as long as may be.
+    pub(crate) fn pass_over(&mut self, now: u64) {
+        self.sockets
+            .retain(|one| pass_over(&one.socket) && now < one.closes_at);
+    }
+}

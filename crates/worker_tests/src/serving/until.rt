@@ -1,0 +1,289 @@
+//! Servers for as many clients as come, until an input ends, and their clients beside them.
+use crate::serving::clients::{Action, Step, take_all};
+use crate::serving::is_text;
+use crate::serving::listener::{new_listener, port_of};
+use crate::serving::served::{
+    ONE_KEY, PUT_V_GET, PUT_W_GET, STORED_V, STORED_W, TWO_CLIENTS,
+};
+use log::sink::Console;
+use log::{LevelFilter, Log, Logged};
+use node_commands::{UntilSettings, serve_on_until};
+use ring_map::Ring;
+use std::alloc::Global;
+use std::io::Read;
+use std::net::{Net, TcpListener, TcpStream};
+use std::process::Abort;
+use std::rt::Clock;
+use std::sync::Wait;
+use std::sync::atomic::{AtomicBool, Ordering};
+use std::test::*;
+use std::thread::Threads;
+use std::time::Duration;
+use std::{io, thread};
+
+/// An input that ends once that is said, and gives nothing before.
+#[derive(Drop)]
+struct Awaited<'a, R> {
+    rt: &'a R,
+    has_ended: &'a AtomicBool,
+}
+
+impl<'a, R: Clock + Wait> Read for Awaited<'a, R> {
+    fn read(&mut self, _buf: &mut [u8]) -> io::Result<usize> {
+        for _ in self.rt.forever() {
+            if self.has_ended.load(Ordering::SeqCst) {
+                break;
+            }
+            thread::sleep(self.rt, Duration::from_millis(1));
+        }
+        Ok(0)
+    }
+}
+
+/// A server, what its clients do, and what it comes to.
+struct Server {
+    shows: &'static str,
+    workers: u16,
+    idle_seconds: Option<u32>,
+    steps: &'static [Step],
+    connections: u64,
+    /// The line of the totals; none where a client doesn't wait for its replies.
+    totals: Option<&'static str>,
+}
+
+/// A client that says nothing, one that has sent half a frame, and one that is served. The first two wait when the input ends.
+const TWO_WAIT: &[Step] = &[
+    Step::Connects,
+    Step::Connects,
+    Step::Acts(1, Action::Sends(b"\0\0\0\x07\x09\x0a")),
+    Step::Connects,
+    Step::Acts(2, Action::Sends(PUT_V_GET)),
+    Step::Acts(2, Action::Gets(STORED_V, 12)),
+    Step::Acts(2, Action::Shuts),
+    Step::Acts(2, Action::IsEnded),
+    Step::InputEnds,
+    Step::Acts(0, Action::IsEnded),
+    Step::Acts(1, Action::IsEnded),
+];
+
+/// A client whose bytes come one by one, beside one whose bytes come at once.
+const ONE_BY_ONE: &[Step] = &[
+    Step::Connects,
+    Step::Connects,
+    Step::Acts(0, Action::SendsByteByByte(PUT_V_GET)),
+    Step::Acts(1, Action::Sends(PUT_W_GET)),
+    Step::Acts(1, Action::Gets(STORED_W, 12)),
+    Step::Acts(0, Action::Gets(STORED_V, 12)),
+];
+
+/// A client that says that it sends no more before it reads its replies.
+const HALF_CLOSED: &[Step] = &[
+    Step::Connects,
+    Step::Acts(0, Action::Sends(PUT_V_GET)),
+    Step::Acts(0, Action::Shuts),
+    Step::Acts(0, Action::Gets(STORED_V, 12)),
+    Step::Acts(0, Action::IsEnded),
+];
+
+/// A client whose second length is bad gets the reply to its first request, and an error. The other one is served on.
+const BAD_LENGTH: &[Step] = &[
+    Step::Connects,
+    Step::Connects,
+    Step::Acts(0, Action::Sends(b"\0\0\0\x01\x01\0\0\0\0")),
+    Step::Acts(
+        0,
+        Action::Gets(b"\0\0\0\x01\x02\0\0\0\x0e\0\x0a\x09bad frame\x10\x01", 0),
+    ),
+    Step::Acts(0, Action::IsEnded),
+    Step::Acts(1, Action::Sends(PUT_V_GET)),
+    Step::Acts(1, Action::Gets(STORED_V, 12)),
+];
+
+/// A client whose frame is too large, and that sends all of it before it reads: it gets the error.
+const LARGE_FRAME: &[Step] = &[
+    Step::Connects,
+    Step::Acts(0, Action::Sends(b"\0\x40\0\0")),
+    Step::Acts(0, Action::SendsZeros(4096)),
+    Step::Acts(
+        0,
+        Action::Gets(b"\0\0\0\x14\0\x0a\x0fframe too large\x10\x01", 0),
+    ),
+    Step::Acts(0, Action::IsEnded),
+];
+
+/// A client that goes without its replies. The other one is served on.
+const ONE_GOES: &[Step] = &[
+    Step::Connects,
+    Step::Connects,
+    Step::Acts(1, Action::Sends(PUT_W_GET)),
+    Step::Leaves,
+    Step::Acts(0, Action::Sends(PUT_V_GET)),
+    Step::Acts(0, Action::Gets(STORED_V, 12)),
+];
+
+/// A client that is silent for too long is closed. A further one is served.
+const SILENT: &[Step] = &[
+    Step::Connects,
+    Step::Acts(0, Action::IsEnded),
+    Step::Connects,
+    Step::Acts(1, Action::Sends(PUT_V_GET)),
+    Step::Acts(1, Action::Gets(STORED_V, 12)),
+];
+
+const ONE_OF_EACH: Option<&str> = Some("gets 1 puts 1 deletes 0 refusals 0 reaps 0\n");
+
+const TWO_OF_EACH: Option<&str> = Some("gets 2 puts 2 deletes 0 refusals 0 reaps 0\n");
+
+const SERVERS: &[Server] = &[
+    Server {
+        shows: "one worker serves two clients at once",
+        workers: 1,
+        idle_seconds: None,
+        steps: TWO_CLIENTS,
+        connections: 2,
+        totals: TWO_OF_EACH,
+    },
+    Server {
+        shows: "two clients of one key see one history of it, whichever workers serve them",
+        workers: 3,
+        idle_seconds: None,
+        steps: ONE_KEY,
+        connections: 2,
+        totals: TWO_OF_EACH,
+    },
+    Server {
+        shows: "clients that wait hold nobody up, and are ended with the input",
+        workers: 1,
+        idle_seconds: None,
+        steps: TWO_WAIT,
+        connections: 3,
+        totals: ONE_OF_EACH,
+    },
+    Server {
+        shows: "bytes may come one by one",
+        workers: 1,
+        idle_seconds: None,
+        steps: ONE_BY_ONE,
+        connections: 2,
+        totals: TWO_OF_EACH,
+    },
+    Server {
+        shows: "who sends no more gets its replies",
+        workers: 2,
+        idle_seconds: None,
+        steps: HALF_CLOSED,
+        connections: 1,
+        totals: ONE_OF_EACH,
+    },
+    Server {
+        shows: "a bad length ends its connection alone",
+        workers: 1,
+        idle_seconds: None,
+        steps: BAD_LENGTH,
+        connections: 2,
+        totals: ONE_OF_EACH,
+    },
+    Server {
+        shows: "who still sends when its connection ends gets the error that says why",
+        workers: 1,
+        idle_seconds: None,
+        steps: LARGE_FRAME,
+        connections: 1,
+        totals: Some("gets 0 puts 0 deletes 0 refusals 0 reaps 0\n"),
+    },
+    Server {
+        shows: "who goes without replies ends its connection alone",
+        workers: 1,
+        idle_seconds: None,
+        steps: ONE_GOES,
+        connections: 2,
+        totals: None,
+    },
+    Server {
+        shows: "who is silent for too long is closed",
+        workers: 1,
+        idle_seconds: Some(1),
+        steps: SILENT,
+        connections: 2,
+        totals: ONE_OF_EACH,
+    },
+    Server {
+        shows: "without a client it ends with the input",
+        workers: 2,
+        idle_seconds: None,
+        steps: &[],
+        connections: 0,
+        totals: Some("gets 0 puts 0 deletes 0 refusals 0 reaps 0\n"),
+    },
+];
+
+/// Whether a server of this listener comes to what it should.
+fn serves<R: Log + Clock + Net + Threads + Wait + Sync>(
+    rt: &R,
+    alloc: Global,
+    listener: TcpListener,
+    port: u16,
+    has_ended: &AtomicBool,
+    server: &Server,
+) -> bool {
+    let Some(ring) = Ring::new(1) else {
+        return false;
+    };
+    let settings = UntilSettings {
+        workers: server.workers,
+        ring,
+        run: 1,
+        sweep: 0,
+        idle_seconds: server.idle_seconds,
+    };
+    let mut written = Vec::new(alloc);
+    let input = Awaited { rt, has_ended };
+    let outcome = serve_on_until(rt, alloc, listener, &settings, Some(input), &mut written);
+    let is_written = match server.totals {
+        Some(totals) => is_text(alloc, written.as_slice(), port, totals),
+        None => true,
+    };
+    match outcome {
+        Ok(outcome) => is_written && outcome.connections == server.connections,
+        Err(_) => false,
+    }
+}
+
+/// Whether a server and its clients beside it go as they should.
+fn goes<R: Log + Clock + Net<Stream = TcpStream> + Threads + Wait + Sync>(
+    rt: &R,
+    alloc: Global,
+    listener: TcpListener,
+    port: u16,
+    server: &Server,
+) -> bool {
+    let has_ended = AtomicBool::new(false);
+    let (is_served, are_steps_taken) = thread::join(
+        rt,
+        || serves(rt, alloc, listener, port, &has_ended, server),
+        || take_all(rt, alloc, port, &has_ended, server.steps),
+    );
+    is_served && are_steps_taken
+}
+
+/// The same by a new listener.
+fn goes_anew<R>(rt: &R, alloc: Global, server: &Server) -> bool
+where
+    R: Log + Clock + Net<Listener = TcpListener, Stream = TcpStream> + Threads + Wait + Sync,
+{
+    match new_listener(rt) {
+        Some(listener) => match port_of(&listener) {
+            Some(port) => goes(rt, alloc, listener, port, server),
+            None => false,
+        },
+        None => false,
+    }
+}
+
+#[test]
+fn clients_are_served_until_the_input_ends(rt: HostRuntime) {
+    let quiet = Logged::new(rt, LevelFilter::Off, Console(rt));
+    for server in SERVERS {
+        assert!(rt; goes_anew(&quiet, rt.alloc(), server), "{}", server.shows);
+    }
+}
