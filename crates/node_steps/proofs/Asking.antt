@@ -1,27 +1,26 @@
--- What comes of asking a worker.
-use Rattle.std.proofs.Common.{◌≡◌, ℕ, zero, suc, ◌≤◌, List, length, refl, sym, ◌∙◌, ap, subst}
-use Rattle.std.specs.Prelude.{Option, Some, None, option_map, slice_get, slice_set}
+-- What comes of asking a worker, and where its call goes.
+use Rattle.std.proofs.Common.{◌≡◌, ℕ, zero, suc, ◌<◌, ◌≤◌, Bool, true, false, cond, not, ◌&&◌, List, length, refl, sym, ◌∙◌, ap, subst}
+use Rattle.std.specs.Prelude.{◌==◌, Option, Some, None, option_map, option_and_then, slice_get, slice_set}
 use Rattle.std.specs.Option.{option_map_or}
 use Rattle.std.proofs.lemmas.Option.{slice_get-map, slice_get_past}
 use Rattle.riak_msgs.specs.Contents.{Content}
 use Rattle.riak_msgs.specs.declared.Request.{Request}
 use Rattle.sibling_register.specs.Answers.{Ask}
 use Rattle.actor_epoch.specs.Given.{Context}
+use Rattle.vnode_machine.specs.Replay.{History}
 use Rattle.node_steps.specs.declared.call.Call.{Call}
 use Rattle.node_steps.specs.declared.outcome.Outcome.TheVariants as outcomes
 use Rattle.node_steps.specs.declared.phase.Phase.{Phase as RunPhase}
 use Rattle.node_steps.specs.declared.phase.Phase.TheVariants as phases
 use Rattle.node_steps.specs.declared.site.Site.{Site}
-use Rattle.node_steps.specs.World.{Phase, Idle, Asked, Reading, Holding, Done, Vnode, Worker, World, own_sites, route, seen_at}
-use Rattle.node_steps.specs.Steps.{Asks, AsksNowhere, sent, By, does, happens, turn_of}
-use Rattle.node_steps.specs.Running.{ask_of, worker_of, world_of}
+use Rattle.node_steps.specs.declared.parts.Parts.{Parts}
+use Rattle.node_steps.specs.World.{Phase, Idle, Asked, Reading, Holding, Done, Vnode, Worker, World, route, seen_at}
+use Rattle.node_steps.specs.Steps.{Asks, AsksNowhere, is_reap, sent, routed, By, site_of, does, happens, turn_of}
+use Rattle.node_steps.specs.Running.{ask_of, vnode_of, worker_of, world_of}
 use Rattle.node_steps.specs.Asked.{CallsFor, asking_step, asks_by, request_ask}
-use Rattle.node_steps.specs.Parts.{FindsIdle, TakesStep}
-use Rattle.node_steps.proofs.Lists.{get-below}
-use Rattle.node_steps.proofs.Own.{length-own, own_there, from_zero}
-use Rattle.node_steps.proofs.Kept.{routed_own}
+use Rattle.node_steps.specs.Parts.{FindsIdle, SendsTo, TakesStep, world_in}
 use Rattle.node_steps.proofs.Looking.{vnode_itself}
-use Rattle.node_steps.proofs.Stepping.{set-same, not_possible, step_taken, no_worker, at_worker, no_turn, NoTurn, is_busy}
+use Rattle.node_steps.proofs.Stepping.{set-same, not_possible, result_at, Steps, step_taken, no_worker, at_worker, no_turn, NoTurn, is_busy}
 
 -- nobody is asked a ping
 ping_turn : (worker : Worker) (phase : Phase) → worker.phase ≡ phase → NoTurn AsksNowhere worker
@@ -42,43 +41,95 @@ asks_nowhere world (suc place) = by (slice_get world.workers place) refl
     by None e = no_worker world place AsksNowhere e
     by (Some worker) e = at_worker world place AsksNowhere worker e ∙ no_turn world place AsksNowhere worker (ping_turn worker worker.phase refl)
 
-module _ (sites : List Site) (workers : List RunPhase) where
+-- nobody is asked something at a site that there isn't
+past_turn : (world : World) (site : ℕ) (ask : Ask Content Context) → slice_get world.vnodes site ≡ None → (place : ℕ) (worker : Worker) → Steps world (Asks site ask) place worker ≡ None
+past_turn world site ask none place worker = by worker.phase refl
+  where
+    busy : (phase : Phase) → worker.phase ≡ phase → ((vnode : Vnode) (seen : History) → turn_of seen vnode (Asks site ask) phase ≡ None) → NoTurn (Asks site ask) worker
+    busy phase e h = λ index vnode. ap (λ p. turn_of (seen_at worker.seen index) vnode (Asks site ask) p) e ∙ h vnode (seen_at worker.seen index)
+
+    by : (phase : Phase) → worker.phase ≡ phase → Steps world (Asks site ask) place worker ≡ None
+    by Idle e =
+        ap (λ p. option_and_then (λ index. option_and_then (λ vnode. option_map (result_at world place index worker)
+        (turn_of (seen_at worker.seen index) vnode (Asks site ask) worker.phase)) (slice_get world.vnodes index)) (site_of (Asks site ask) p)) e
+        ∙ ap (λ o. option_and_then (λ vnode. option_map (result_at world place site worker) (turn_of (seen_at worker.seen site) vnode (Asks site ask) worker.phase)) o) none
+    by (Asked other was) e = no_turn world place (Asks site ask) worker (busy (Asked other was) e (λ v s. refl))
+    by (Reading other get) e = no_turn world place (Asks site ask) worker (busy (Reading other get) e (λ v s. refl))
+    by (Holding other was hand plan) e = no_turn world place (Asks site ask) worker (busy (Holding other was hand plan) e (λ v s. refl))
+    by (Done other hand) e = no_turn world place (Asks site ask) worker (busy (Done other hand) e (λ v s. refl))
+
+asks_past : (world : World) (site : ℕ) (ask : Ask Content Context) → slice_get world.vnodes site ≡ None → (worker : ℕ) → does world worker (Asks site ask) ≡ None
+asks_past world site ask none zero = refl
+asks_past world site ask none (suc place) = by (slice_get world.workers place) refl
+  where
+    by : (o : Option Worker) → slice_get world.workers place ≡ o → does world (suc place) (Asks site ask) ≡ None
+    by None e = ap (λ o. option_and_then (Steps world (Asks site ask) place) o) e
+    by (Some worker) e = ap (λ o. option_and_then (Steps world (Asks site ask) place) o) e ∙ past_turn world site ask none place worker
+
+module _ (sites : List Site) (routes : List ℕ) (workers : List RunPhase) where
+  abbrev w : World
+  w = world_of sites routes workers
+
   -- without an idle worker of this number
-  busy_or_none : (worker index : ℕ) (ask : Ask Content Context) → FindsIdle workers worker None → happens (world_of sites workers) (asking_step worker index ask) ≡ None
+  busy_or_none : (worker index : ℕ) (ask : Ask Content Context) → FindsIdle workers worker None → happens w (asking_step worker index ask) ≡ None
   busy_or_none zero index ask h = refl
   busy_or_none (suc place) index ask h = by (slice_get workers place) refl
     where
-      by : (o : Option RunPhase) → slice_get workers place ≡ o → happens (world_of sites workers) (asking_step (suc place) index ask) ≡ None
-      by None e = no_worker (world_of sites workers) place (Asks index ask) (slice_get-map worker_of workers place ∙ ap (λ o. option_map worker_of o) e)
-      by (Some phase) e = is_busy sites workers place index ask phase e (h place phase refl e)
+      by : (o : Option RunPhase) → slice_get workers place ≡ o → happens w (asking_step (suc place) index ask) ≡ None
+      by None e = no_worker w place (Asks index ask) (slice_get-map worker_of workers place ∙ ap (λ o. option_map worker_of o) e)
+      by (Some phase) e = is_busy sites routes workers place index ask phase e (h place phase refl e)
 
-  pub not_asked : (worker index : ℕ) (ask : Ask Content Context) → FindsIdle workers worker None
-      → TakesStep (world_of sites workers) (asking_step worker index ask) outcomes.No (world_of sites workers)
-  not_asked worker index ask h = not_possible sites workers (asking_step worker index ask) (busy_or_none worker index ask h)
+  pub not_asked : (worker index : ℕ) (ask : Ask Content Context) → FindsIdle workers worker None → TakesStep w (asking_step worker index ask) outcomes.No w
+  not_asked worker index ask h = not_possible sites routes workers (asking_step worker index ask) (busy_or_none worker index ask h)
 
-  module _ (worker place : ℕ) (number : worker ≡ suc place) (here : slice_get workers place ≡ Some phases.Idle) where
-    -- without a partition of this index
-    pub nowhere : (index : ℕ) (ask : Ask Content Context) → length sites ≤ index
-        → TakesStep (world_of sites workers) (asking_step worker index ask) outcomes.No (world_of sites workers)
-    nowhere index ask past =
-        let none : route (world_of sites workers) index ≡ None = slice_get_past (own_sites 0 (length sites)) index (subst (λ n. n ≤ index) (sym (length-own 0 (length sites))) past) in
-        subst (λ n. TakesStep (world_of sites workers) (asking_step n index ask) outcomes.No (world_of sites workers)) (sym number)
-        (not_possible sites workers (asking_step (suc place) index ask)
-        (ap (λ o. does (world_of sites workers) (suc place) (option_map_or (λ site. sent index site ask) o AsksNowhere)) none ∙ asks_nowhere (world_of sites workers) (suc place)))
+  -- a worker without a call gets one, where the call is sent to this site
+  pub asked : (worker place : ℕ) → worker ≡ suc place → slice_get workers place ≡ Some phases.Idle → (index at : ℕ) (call : Call) (site : Site)
+      → routed (route w) (Asks index (ask_of call)) ≡ Asks at (ask_of call) → slice_get sites at ≡ Some site
+      → TakesStep w (asking_step worker index (ask_of call)) outcomes.Done (world_of sites routes (slice_set workers place (phases.Asked at call)))
+  asked worker place number here index at call site goes there =
+      let next = phases.Asked at call in
+      subst (λ n. TakesStep w (asking_step n index (ask_of call)) outcomes.Done (world_of sites routes (slice_set workers place next))) (sym number)
+      (subst (λ xs. TakesStep w (asking_step (suc place) index (ask_of call)) outcomes.Done (world_of xs routes (slice_set workers place next)))
+      (set-same sites at site there)
+      (step_taken sites routes workers place at phases.Idle next site site (Asks index (ask_of call)) (Asks at (ask_of call)) outcomes.Done goes here refl there
+      (vnode_itself site, refl, refl)))
 
-    pub asked : (index : ℕ) (call : Call) (site : Site) → slice_get sites index ≡ Some site
-        → TakesStep (world_of sites workers) (asking_step worker index (ask_of call)) outcomes.Done (world_of sites (slice_set workers place (phases.Asked index call)))
-    asked index call site there =
-        let next = phases.Asked index call in
-        subst (λ n. TakesStep (world_of sites workers) (asking_step n index (ask_of call)) outcomes.Done (world_of sites (slice_set workers place next))) (sym number)
-        (subst (λ xs. TakesStep (world_of sites workers) (asking_step (suc place) index (ask_of call)) outcomes.Done (world_of xs (slice_set workers place next)))
-        (set-same sites index site there)
-        (step_taken sites workers place index phases.Idle next site site (Asks index (ask_of call)) (Asks index (ask_of call)) outcomes.Done
-        (routed_own (route (world_of sites workers)) index (ask_of call) (own_there 0 (length sites) index (get-below sites index site there) ∙ ap (λ i. Some i) (from_zero index))) here refl there
-        (vnode_itself site, refl, refl)))
+pub pinged : (sites : List Site) (routes : List ℕ) (workers : List RunPhase) (worker index : ℕ) (request : Request) → CallsFor request None
+    → TakesStep (world_of sites routes workers) (By worker (asks_by index (request_ask request))) outcomes.No (world_of sites routes workers)
+pinged sites routes workers worker index request h =
+    subst (λ o. TakesStep (world_of sites routes workers) (By worker (asks_by index o)) outcomes.No (world_of sites routes workers)) h
+    (not_possible sites routes workers (By worker AsksNowhere) (asks_nowhere (world_of sites routes workers) worker))
 
-pub pinged : (sites : List Site) (workers : List RunPhase) (worker index : ℕ) (request : Request) → CallsFor request None
-    → TakesStep (world_of sites workers) (By worker (asks_by index (request_ask request))) outcomes.No (world_of sites workers)
-pinged sites workers worker index request h =
-    subst (λ o. TakesStep (world_of sites workers) (By worker (asks_by index o)) outcomes.No (world_of sites workers)) h
-    (not_possible sites workers (By worker AsksNowhere) (asks_nowhere (world_of sites workers) worker))
+-- where a call goes, by where those of its partition go
+module _ (parts : Parts) (index : ℕ) (ask : Ask Content Context) where
+  -- it is sent there
+  goes : (o : Option ℕ) → route (world_in parts) index ≡ o
+      → (worker : ℕ) → happens (world_in parts) (asking_step worker index ask) ≡ does (world_in parts) worker (option_map_or (λ site. sent index site ask) o AsksNowhere)
+  goes o e worker = ap (λ r. does (world_in parts) worker (option_map_or (λ site. sent index site ask) r AsksNowhere)) e
+
+  -- there is no such partition
+  pub without_partition : route (world_in parts) index ≡ None → SendsTo parts index ask None
+  without_partition e worker = goes None e worker ∙ asks_nowhere (world_in parts) worker
+
+  -- a reap of one that is diverted
+  pub without_reap : (site : ℕ) → route (world_in parts) index ≡ Some site → (site == index) ≡ false → is_reap ask ≡ true → SendsTo parts index ask None
+  without_reap site e other reap worker =
+      goes (Some site) e worker ∙ (λ i. does (world_in parts) worker (cond (not (other i) && reap i) AsksNowhere (Asks site ask))) ∙ asks_nowhere (world_in parts) worker
+
+  -- there is no such site
+  pub without_site : (site : ℕ) → route (world_in parts) index ≡ Some site → length parts.sites.items ≤ site → SendsTo parts index ask None
+  without_site site e past worker =
+      goes (Some site) e worker ∙ by (not (site == index) && is_reap ask)
+    where
+      nobody : slice_get (world_in parts).vnodes site ≡ None
+      nobody = slice_get-map vnode_of parts.sites.items site ∙ ap (λ o. option_map vnode_of o) (slice_get_past parts.sites.items site past)
+
+      by : (b : Bool) → does (world_in parts) worker (cond b AsksNowhere (Asks site ask)) ≡ None
+      by true = asks_nowhere (world_in parts) worker
+      by false = asks_past (world_in parts) site ask nobody worker
+
+  -- it goes to the site of its partition's calls
+  pub sends_there : (site : ℕ) → route (world_in parts) index ≡ Some site → not (site == index) && is_reap ask ≡ false → site < length parts.sites.items
+      → SendsTo parts index ask (Some site)
+  sends_there site e allowed below =
+      (ap (λ r. option_map_or (λ site. sent index site ask) r AsksNowhere) e ∙ ap (λ b. cond b AsksNowhere (Asks site ask)) allowed, below)

@@ -106,7 +106,7 @@ module _ (w : World) (orderly : IsOrderly w) (index : ℕ) (primary : Vnode) (th
   next = diverted_by w index primary
 
   -- nobody is inside the primary
-  holders_none : how_many (holds index) w.workers ≡ 0
+  pub holders_none : how_many (holds index) w.workers ≡ 0
   holders_none = none_counted (holds index) w.workers (λ place worker h.
       (not_inside index worker.phase (not_true (is_about index worker.phase) (each_passes (λ (x : Worker). not (is_about index x.phase)) w.workers alone place worker h))).1)
 

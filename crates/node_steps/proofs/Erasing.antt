@@ -280,11 +280,11 @@ module _ (w : World) (orderly : IsOrderly w) (number : ℕ) (action : Action) wh
       (sym (worker_erased w number))
 
 -- so it is of a partition's step
-alone_erased : (site : ℕ) (workers : List Worker) → list_all (λ worker. not (is_about site worker.phase)) (map erase_worker workers) ≡ list_all (λ worker. not (is_about site worker.phase)) workers
+pub alone_erased : (site : ℕ) (workers : List Worker) → list_all (λ worker. not (is_about site worker.phase)) (map erase_worker workers) ≡ list_all (λ worker. not (is_about site worker.phase)) workers
 alone_erased site [] = refl
 alone_erased site (worker ∷ workers) = ap (λ rest. not (is_about site worker.phase) && rest) (alone_erased site workers)
 
-map-more : {A B : Type 0} (f : A → B) (xs : List A) (x : A) → map f (xs ++ x ∷ []) ≡ map f xs ++ f x ∷ []
+pub map-more : {A B : Type 0} (f : A → B) (xs : List A) (x : A) → map f (xs ++ x ∷ []) ≡ map f xs ++ f x ∷ []
 map-more f [] x = refl
 map-more f (y ∷ xs) x = ap (λ rest. f y ∷ rest) (map-more f xs x)
 

@@ -1,22 +1,27 @@
 -- What is kept of a world is fit for every step: readers are counted, and a reader has a state to look at.
-use Rattle.std.proofs.Common.{◌≡◌, ℕ, zero, suc, ◌+◌, ◌≤◌, ◌<◌, ◌^◌, Bool, true, false, List, [], ◌∷◌, map, length, refl, sym, ◌∙◌, ap, arith, subst}
+use Rattle.std.proofs.Common.{◌≡◌, ℕ, zero, suc, ◌+◌, ◌≤◌, ◌<◌, ◌^◌, Bool, true, false, not, List, [], ◌∷◌, map, length, refl, sym, ◌∙◌, ap, arith, subst}
 use Rattle.std.specs.Prelude.{Option, Some, None, option_map, slice_get, replicate}
 use Rattle.std.specs.Option.{option_map_or}
+use Rattle.std.specs.List.{list_all}
 use Rattle.std.proofs.lemmas.Option.{slice_get-map}
+use Rattle.riak_msgs.specs.Contents.{Content}
+use Rattle.vnode_machine.specs.Machine.{State}
 use Rattle.node_steps.specs.declared.parts.Parts.{Parts}
+use Rattle.node_steps.specs.declared.phase.Phase.{Phase as RunPhase}
+use Rattle.node_steps.specs.declared.site.Site.{Site}
 use Rattle.node_steps.specs.World.{Word, Open, Taken, Vnode, Worker, World, route}
-use Rattle.node_steps.specs.Steps.{Step, By, Diverts, Enters, Outcome, Happened, routed, site_of, does, diverted, after}
+use Rattle.node_steps.specs.Steps.{Step, By, Diverts, Enters, Outcome, Happened, routed, site_of, is_about, fallback_ids, does, diverted, after}
 use Rattle.node_steps.specs.Schedules.{Start, world_after}
 use Rattle.node_steps.specs.Erased.{IsShown, erase_vnode, erase_worker}
-use Rattle.node_steps.specs.Running.{HasRoom, vnode_of, worker_of}
-use Rattle.node_steps.specs.Parts.{AreFit, world_in}
+use Rattle.node_steps.specs.Running.{HasRoom, phase_of, vnode_of, worker_of}
+use Rattle.node_steps.specs.Parts.{AreFit, IsFit, IsLeft, IsOpen, world_in}
 use Rattle.node_steps.specs.Kept.{IsKept}
 use Rattle.node_steps.proofs.Lists.{one, how_many, length-set}
 use Rattle.node_steps.proofs.Inside.{reads, holds, FitsWord}
 use Rattle.node_steps.proofs.Kept.{map_some, possible}
-use Rattle.node_steps.proofs.Diverting.{diversion}
+use Rattle.node_steps.proofs.Diverting.{diversion, holders_none, in_place_still, id_is}
 use Rattle.node_steps.proofs.Scheduled.{orderly}
-use Rattle.node_steps.proofs.Erasing.{shown_at}
+use Rattle.node_steps.proofs.Erasing.{shown_at, alone_erased}
 
 pub at_some : {A B : Type 0} (f : A → B) (xs : List A) (i : ℕ) (x : A) → slice_get xs i ≡ Some x → slice_get (map f xs) i ≡ Some (f x)
 at_some f xs i x h = slice_get-map f xs i ∙ ap (λ o. option_map f o) h
@@ -63,8 +68,10 @@ has_room Taken readers holders f h = tt
 below : (a b c : ℕ) → a ≤ b → b ≡ c → c < 2 ^ 16 → a < 2 ^ 16
 below a b c h e k = omega (arith, h, e, k)
 
-pub are_fit : (parts : Parts) → IsKept (world_in parts) → AreFit parts
-are_fit parts kept = λ place index phase site here about there.
+turns_fit : (parts : Parts) → IsKept (world_in parts) → (place index : ℕ) (phase : RunPhase) (site : Site)
+    → slice_get parts.workers.items place ≡ Some phase → site_of Enters (phase_of phase) ≡ Some index
+    → slice_get parts.sites.items index ≡ Some site → IsFit (vnode_of site).word (phase_of phase)
+turns_fit parts kept place index phase site here about there =
     let w = world_after kept.start kept.schedule in
     let sound = orderly kept.start kept.after.start_is kept.schedule in
     let same = sym kept.after.world_is in
@@ -80,3 +87,30 @@ are_fit parts kept = λ place index phase site here about there.
       room = subst HasRoom words room;
       shown = subst (λ p. IsShown (vnode_of site).word p) phases (subst (λ x. IsShown x a.0.phase) words shown);
     }
+
+is_open : (word : Word) (readers holders : ℕ) → FitsWord word readers holders → holders ≡ 0 → IsOpen word
+is_open (Open n mark) readers holders f h = tt
+is_open Taken readers holders f h = absurd (omega (arith, f.1, h))
+
+small : (a b : ℕ) → a ≡ b → b + fallback_ids < 2 ^ 64 → a + fallback_ids < 2 ^ 64
+small a b e h = subst (λ n. n + fallback_ids < 2 ^ 64) (sym e) h
+
+left_fit : (parts : Parts) → IsKept (world_in parts) → (index : ℕ) (site : Site) → index < length parts.routes.items → slice_get parts.sites.items index ≡ Some site
+    → list_all (λ worker. not (is_about index worker.phase)) (world_in parts).workers ≡ true → IsLeft (vnode_of site)
+left_fit parts kept index site below there free =
+    let w = world_after kept.start kept.schedule in
+    let sound = orderly kept.start kept.after.start_is kept.schedule in
+    let same = sym kept.after.world_is in
+    let b = from_some erase_vnode w.vnodes index (vnode_of site) (ap (λ (x : World). slice_get x.vnodes index) same ∙ at_some vnode_of parts.sites.items index site there) in
+    let alone = sym (alone_erased index w.workers) ∙ ap (λ (x : World). list_all (λ worker. not (is_about index worker.phase)) x.workers) same ∙ free in
+    let is_below : index < length w.routes = subst (λ (x : World). index < length x.routes) kept.after.world_is below in
+    let none = holders_none w sound index b.0 b.1 alone in
+    let opened = is_open b.0.word (how_many (reads index) w.workers) (how_many (holds index) w.workers) (sound.vnodes index b.0 b.1).word none in
+    let place = ap (λ (v : Vnode). v.place.vnode) (sym b.2) ∙ ap (λ (s : State Content). s.vnode) (in_place_still w sound index b.0 b.1 alone) ∙ id_is w sound index b.0 b.1 alone in
+    record {
+      opened = subst IsOpen (ap (λ (v : Vnode). v.word) b.2) opened;
+      id_fits = small (vnode_of site).place.vnode b.0.id place (sound.bounds index b.0 is_below b.1);
+    }
+
+pub are_fit : (parts : Parts) → IsKept (world_in parts) → AreFit parts
+are_fit parts kept = record { turns = turns_fit parts kept; left = left_fit parts kept }

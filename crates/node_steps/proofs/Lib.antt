@@ -25,6 +25,7 @@ mod Planning
 mod Stepping
 mod Finding
 mod Asking
+mod Fallbacks
 mod Opening
 mod RunsOn
 mod Gates

@@ -1,7 +1,6 @@
 -- The parts of a world before any step.
-use Rattle.std.proofs.Common.{◌≡◌, ℕ, zero, suc, ◌+◌, ◌<◌, ◌^◌, List, [], ◌∷◌, ◌++◌, map, length, refl, sym, ◌∙◌, ap, arith}
+use Rattle.std.proofs.Common.{◌≡◌, ℕ, zero, suc, ◌+◌, ◌<◌, ◌^◌, List, [], ◌∷◌, ◌++◌, map, refl, sym, ◌∙◌, ap, arith}
 use Rattle.std.specs.Prelude.{replicate}
-use Rattle.std.proofs.lemmas.List.{length-map}
 use Rattle.node_steps.specs.declared.phase.Phase.TheVariants as phases
 use Rattle.node_steps.specs.declared.phase.Phase.{Phase as RunPhase}
 use Rattle.node_steps.specs.declared.site.Site.{Site}
@@ -9,7 +8,7 @@ use Rattle.node_steps.specs.World.{World, fresh_vnode, fresh_worker, id_of, open
 use Rattle.node_steps.specs.Erased.{erase, erase_vnode, erase_worker}
 use Rattle.node_steps.specs.Running.{vnode_of, worker_of, world_of}
 use Rattle.node_steps.specs.Kept.{IsKept}
-use Rattle.node_steps.proofs.Own.{length-opening}
+use Rattle.node_steps.proofs.Erasing.{map-more}
 
 pub idle_workers : (n : ℕ) → map worker_of (replicate n phases.Idle) ≡ map erase_worker (replicate n fresh_worker)
 idle_workers zero = refl
@@ -18,10 +17,6 @@ idle_workers (suc n) = ap (λ rest. worker_of phases.Idle ∷ rest) (idle_worker
 pub replicate-more : {X : Type 0} (n : ℕ) (x : X) → replicate n x ++ x ∷ [] ≡ replicate (suc n) x
 replicate-more zero x = refl
 replicate-more (suc n) x = ap (λ rest. x ∷ rest) (replicate-more n x)
-
-map-more : {A B : Type 0} (f : A → B) (xs : List A) (x : A) → map f (xs ++ x ∷ []) ≡ map f xs ++ f x ∷ []
-map-more f [] x = refl
-map-more f (y ∷ xs) x = ap (λ rest. f y ∷ rest) (map-more f xs x)
 
 plain : (n : ℕ) → n ≡ n + 0
 plain n = omega arith
@@ -47,13 +42,20 @@ more_sites sites site run n h e =
     ∙ ap (λ i. map erase_vnode (opening_vnodes run 0 n ++ fresh_vnode (id_of run i) 0 ∷ [])) (from_zero n)
     ∙ ap (λ vs. map erase_vnode vs) (opening-more run 0 n)
 
--- sites and workers are a world before any step
-pub opening_is : (sites : List Site) (workers : List RunPhase) (run count vnodes : ℕ) → map vnode_of sites ≡ map erase_vnode (opening_vnodes run 0 vnodes)
-    → workers ≡ replicate count phases.Idle → world_of sites workers ≡ erase (opening_world run count vnodes)
-opening_is sites workers run count vnodes s w =
+own-more : (from n : ℕ) → own_sites from n ++ (from + n) ∷ [] ≡ own_sites from (suc n)
+own-more from zero = ap (λ i. i ∷ []) (sym (plain from))
+own-more from (suc n) = ap (λ i. from ∷ (own_sites (from + 1) n ++ i ∷ [])) (sym (shift from n)) ∙ ap (λ rest. from ∷ rest) (own-more (from + 1) n)
+
+-- one route more
+pub more_routes : (routes more : List ℕ) (n : ℕ) → routes ≡ own_sites 0 n → more ≡ routes ++ n ∷ [] → more ≡ own_sites 0 (suc n)
+more_routes routes more n h e = e ∙ (λ i. h i ++ from_zero n i ∷ []) ∙ own-more 0 n
+
+-- sites, routes and workers are a world before any step
+pub opening_is : (sites : List Site) (routes : List ℕ) (workers : List RunPhase) (run count vnodes : ℕ) → map vnode_of sites ≡ map erase_vnode (opening_vnodes run 0 vnodes)
+    → routes ≡ own_sites 0 vnodes → workers ≡ replicate count phases.Idle → world_of sites routes workers ≡ erase (opening_world run count vnodes)
+opening_is sites routes workers run count vnodes s r w =
     let idle = ap (λ ws. map worker_of ws) w ∙ idle_workers count in
-    let count = sym (length-map sites vnode_of) ∙ ap (λ vs. length vs) s ∙ length-map (opening_vnodes run 0 vnodes) erase_vnode ∙ length-opening run 0 vnodes in
-    λ i. record { vnodes = s i; routes = own_sites 0 (count i); workers = idle i }
+    λ i. record { vnodes = s i; routes = r i; workers = idle i }
 
 pub opening_kept : (run count vnodes : ℕ) (world : World) → run < 2 ^ 32 → count < 2 ^ 16 → vnodes < 2 ^ 16
     → world ≡ erase (opening_world run count vnodes) → IsKept world

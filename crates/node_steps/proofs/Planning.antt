@@ -2,6 +2,7 @@
 use Rattle.std.proofs.Common.{◌≡◌, ℕ, Bool, true, false, cond, not, ◌&&◌, refl, sym, ◌∙◌, ap, subst, inl, inr}
 use Rattle.std.specs.Prelude.{Option, Some, None, IsSome, IfSome, is_none, option_map}
 use Rattle.riak_msgs.specs.Contents.{Content}
+use Rattle.riak_msgs.specs.declared.Key.{Key}
 use Rattle.sibling_register.specs.History.{Operation, Write, Tombstone, Reap as Forget}
 use Rattle.sibling_register.specs.Answers.{Ask as Command, AskGet, AskPut, AskDel, AskReap}
 use Rattle.actor_epoch.specs.Given.{Context}
@@ -92,36 +93,56 @@ finishes old (ReapFirst from) answer new steps = tt
 finishes old (Copy copy) answer new steps = tt
 finishes old (Close number) answer new steps = tt
 
--- whether a vnode is closed after what comes of a command
-abbrev closed_after : Option ℕ → StepOutcome → Option ℕ
-closed_after closed (Refused number) = closed
-closed_after closed (Answered response) = closed
-closed_after closed (Accepted operation response next) = next.closed
+-- a part of a state that no operation changes
+module _ {X : Type 0} (part : State Content → X)
+    (kept : (state : State Content) (key : Key) (given : Option Context) (operation : Operation Content) → part (apply_operation state key given operation) ≡ part state) where
+  -- that part after what comes of a command
+  abbrev part_after : X → StepOutcome → X
+  part_after was (Refused number) = was
+  part_after was (Answered response) = was
+  part_after was (Accepted operation response next) = part next
 
-either : (closed : Option ℕ) (b : Bool) (x y : StepOutcome) → closed_after closed x ≡ closed → closed_after closed y ≡ closed
-    → closed_after closed (cond b x y) ≡ closed
-either closed true x y first second = first
-either closed false x y first second = second
+  either : (was : X) (b : Bool) (x y : StepOutcome) → part_after was x ≡ was → part_after was y ≡ was → part_after was (cond b x y) ≡ was
+  either was true x y first second = first
+  either was false x y first second = second
 
-unless : (closed : Option ℕ) (check : Option ℕ) (x : StepOutcome) → closed_after closed x ≡ closed → closed_after closed (unless_refused check x) ≡ closed
-unless closed None x h = h
-unless closed (Some number) x h = refl
+  unless : (was : X) (check : Option ℕ) (x : StepOutcome) → part_after was x ≡ was → part_after was (unless_refused check x) ≡ was
+  unless was None x h = h
+  unless was (Some number) x h = refl
 
--- no command closes one
-keeps-open : (state : State Content) (command : Command Content Context) → closed_after state.closed (outcome state command) ≡ state.closed
-keeps-open state (AskGet get) = refl
-keeps-open state (AskPut put) =
-    let next = apply_operation state put.key put.context (Write put.value) in
-    unless state.closed (put_check state put) (Accepted (Write put.value) (PutDone (put_reply next put)) next) refl
-keeps-open state (AskDel del) =
-    let done = Accepted Tombstone DelDone (apply_operation state del.key del.context Tombstone) in
-    either state.closed (is_none del.context && not (is_held state del.key)) (Answered DelDone) (unless_refused (del_check state del) done) refl
-    (unless state.closed (del_check state del) done refl)
-keeps-open state (AskReap key) =
-    either state.closed (holds_dead state key) (Accepted Forget ReapDone (apply_operation state key None Forget)) (Answered ReapKept) refl refl
+  -- no command changes it
+  keeps : (state : State Content) (command : Command Content Context) → part_after (part state) (outcome state command) ≡ part state
+  keeps state (AskGet get) = refl
+  keeps state (AskPut put) =
+      let next = apply_operation state put.key put.context (Write put.value) in
+      unless (part state) (put_check state put) (Accepted (Write put.value) (PutDone (put_reply next put)) next) (kept state put.key put.context (Write put.value))
+  keeps state (AskDel del) =
+      let done = Accepted Tombstone DelDone (apply_operation state del.key del.context Tombstone) in
+      either (part state) (is_none del.context && not (is_held state del.key)) (Answered DelDone) (unless_refused (del_check state del) done) refl
+      (unless (part state) (del_check state del) done (kept state del.key del.context Tombstone))
+  keeps state (AskReap key) =
+      either (part state) (holds_dead state key) (Accepted Forget ReapDone (apply_operation state key None Forget)) (Answered ReapKept) (kept state key None Forget) refl
 
--- so an open vnode stays so
+  still : (old : State Content) (answer : Answer) (new : State Content) (made : Option (Command Content Context)) → IsSome made
+      → IfSome made (λ command. Finishes (outcome old command) answer new) → part new ≡ part old
+  still old answer new None s f = cc
+  still old answer new (Some command) s f = sym (ap (part_after (part old)) f.comes) ∙ keeps old command
+
+closed-kept : (state : State Content) (key : Key) (given : Option Context) (operation : Operation Content) → (apply_operation state key given operation).closed ≡ state.closed
+closed-kept state key given (Write content) = refl
+closed-kept state key given Tombstone = refl
+closed-kept state key given Forget = refl
+
+vnode-kept : (state : State Content) (key : Key) (given : Option Context) (operation : Operation Content) → (apply_operation state key given operation).vnode ≡ state.vnode
+vnode-kept state key given (Write content) = refl
+vnode-kept state key given Tombstone = refl
+vnode-kept state key given Forget = refl
+
+-- no command closes a vnode, or gives it another id
 pub still_open : (old : State Content) (answer : Answer) (new : State Content) (made : Option (Command Content Context)) → IsSome made
-    → IfSome made (λ command. Finishes (outcome old command) answer new) → old.closed ≡ None → new.closed ≡ None
-still_open old answer new None s f opened = cc
-still_open old answer new (Some command) s f opened = sym (ap (closed_after old.closed) f.comes) ∙ keeps-open old command ∙ opened
+    → IfSome made (λ command. Finishes (outcome old command) answer new) → new.closed ≡ old.closed
+still_open = still (λ s. s.closed) closed-kept
+
+pub still_named : (old : State Content) (answer : Answer) (new : State Content) (made : Option (Command Content Context)) → IsSome made
+    → IfSome made (λ command. Finishes (outcome old command) answer new) → new.vnode ≡ old.vnode
+still_named = still (λ s. s.vnode) vnode-kept

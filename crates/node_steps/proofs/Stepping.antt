@@ -1,5 +1,5 @@
 -- From a turn of running values at their places to the step of the world that they are.
-use Rattle.std.proofs.Common.{◌≡◌, ℕ, zero, suc, Bool, true, false, cond, not, ◌&&◌, List, [], ◌∷◌, map, length, refl, sym, ◌∙◌, ap, subst}
+use Rattle.std.proofs.Common.{◌≡◌, ℕ, zero, suc, Bool, true, false, cond, not, ◌&&◌, List, [], ◌∷◌, map, refl, sym, ◌∙◌, ap, subst}
 use Rattle.std.specs.Prelude.{◌==◌, Option, Some, None, Result as OkOrErr, Ok, Err, IfOk, OnErr, option_map, option_and_then, slice_get, slice_set, MatchOption}
 use Rattle.std.specs.Option.{option_map_or}
 use Rattle.riak_msgs.specs.Contents.{Content}
@@ -13,32 +13,31 @@ use Rattle.node_steps.specs.declared.phase.Phase.TheVariants as phases
 use Rattle.node_steps.specs.declared.site.Site.{Site}
 use Rattle.node_steps.specs.declared.step.Act.{Act}
 use Rattle.node_steps.specs.declared.step.Act.TheVariants as acts
-use Rattle.node_steps.specs.World.{Phase, Idle, Asked, Reading, Holding, Done, Vnode, Worker, World, own_sites, route, seen_at}
+use Rattle.node_steps.specs.World.{Phase, Idle, Asked, Reading, Holding, Done, Vnode, Worker, World, route, seen_at}
 use Rattle.node_steps.specs.Steps.{Action, Asks, AsksNowhere, is_reap, sent, Enters, Step, By, Outcome, NotPossible, Turn, turn_of, routed, site_of, turned, happens}
 use Rattle.node_steps.specs.Erased.{erase, erase_vnode, erase_worker}
 use Rattle.node_steps.specs.Returned.{returned}
 use Rattle.node_steps.specs.Running.{phase_of, vnode_of, worker_of, world_of, Turns}
 use Rattle.node_steps.specs.Asked.{action_of, step_by, asking_step}
 use Rattle.node_steps.specs.Parts.{IsAt, IsBusy, TurnsAt, TakesStep, TakesFitStep, world_in}
-use Rattle.node_steps.proofs.Lists.{length-set}
 use Rattle.node_steps.proofs.Erasing.{map-set, turned_is}
 use Rattle.node_steps.specs.Kept.{IsKept}
 use Rattle.node_steps.proofs.Fitting.{at_some, are_fit}
 use Rattle.node_steps.proofs.Following.{kept_on}
 use Rattle.node_steps.proofs.Looking.{vnode_itself}
 
-vnodes_itself : (sites : List Site) → map vnode_of sites ≡ map erase_vnode (map vnode_of sites)
+pub vnodes_itself : (sites : List Site) → map vnode_of sites ≡ map erase_vnode (map vnode_of sites)
 vnodes_itself [] = refl
 vnodes_itself (site ∷ sites) = let one = vnode_itself site in let rest = vnodes_itself sites in λ i. one i ∷ rest i
 
-workers_itself : (workers : List RunPhase) → map worker_of workers ≡ map erase_worker (map worker_of workers)
+pub workers_itself : (workers : List RunPhase) → map worker_of workers ≡ map erase_worker (map worker_of workers)
 workers_itself [] = refl
 workers_itself (phase ∷ workers) = ap (λ rest. worker_of phase ∷ rest) (workers_itself workers)
 
 -- what is kept of a world is all that it is
-pub world_itself : (sites : List Site) (workers : List RunPhase) → world_of sites workers ≡ erase (world_of sites workers)
-world_itself sites workers =
-    let vnodes = vnodes_itself sites in let phases = workers_itself workers in λ i. record { vnodes = vnodes i; routes = own_sites 0 (length sites); workers = phases i }
+pub world_itself : (sites : List Site) (routes : List ℕ) (workers : List RunPhase) → world_of sites routes workers ≡ erase (world_of sites routes workers)
+world_itself sites routes workers =
+    let vnodes = vnodes_itself sites in let phases = workers_itself workers in λ i. record { vnodes = vnodes i; routes = routes; workers = phases i }
 
 pub set-same : {A : Type 0} (xs : List A) (i : ℕ) (x : A) → slice_get xs i ≡ Some x → slice_set xs i x ≡ xs
 set-same [] i x h = refl
@@ -51,26 +50,25 @@ set-set (z ∷ xs) zero x y = refl
 set-set (z ∷ xs) (suc i) x y = ap (λ rest. z ∷ rest) (set-set xs i x y)
 
 -- a step that isn't possible changes nothing
-pub not_possible : (sites : List Site) (workers : List RunPhase) (step : Step) → happens (world_of sites workers) step ≡ None
-    → TakesStep (world_of sites workers) step outcomes.No (world_of sites workers)
-not_possible sites workers step h =
-    let w = world_of sites workers in
+pub not_possible : (sites : List Site) (routes : List ℕ) (workers : List RunPhase) (step : Step) → happens (world_of sites routes workers) step ≡ None
+    → TakesStep (world_of sites routes workers) step outcomes.No (world_of sites routes workers)
+not_possible sites routes workers step h =
+    let w = world_of sites routes workers in
     record {
       returns_is = sym (ap (λ o. returned (option_map_or (λ (r : World × Outcome). r.1) o NotPossible)) h);
-      world_is = world_itself sites workers ∙ sym (ap (λ o. erase (option_map_or (λ (r : World × Outcome). r.0) o w)) h);
+      world_is = world_itself sites routes workers ∙ sym (ap (λ o. erase (option_map_or (λ (r : World × Outcome). r.0) o w)) h);
     }
 
 -- the same was put back at both places
-pub put_back : (sites : List Site) (workers : List RunPhase) (place index : ℕ) (phase next : RunPhase) (site new : Site)
+pub put_back : (sites : List Site) (routes : List ℕ) (workers : List RunPhase) (place index : ℕ) (phase next : RunPhase) (site new : Site)
     → slice_get workers place ≡ Some phase → slice_get sites index ≡ Some site → vnode_of new ≡ vnode_of site → phase_of next ≡ phase_of phase
-    → world_of (slice_set sites index new) (slice_set workers place next) ≡ world_of sites workers
-put_back sites workers place index phase next site new here there e d =
+    → world_of (slice_set sites index new) routes (slice_set workers place next) ≡ world_of sites routes workers
+put_back sites routes workers place index phase next site new here there e d =
     let vnodes = map-set vnode_of sites index new ∙ ap (λ v. slice_set (map vnode_of sites) index v) e
     ∙ set-same (map vnode_of sites) index (vnode_of site) (at_some vnode_of sites index site there) in
     let phases = map-set worker_of workers place next ∙ ap (λ q. slice_set (map worker_of workers) place (record { phase = q; seen = [] })) d
     ∙ set-same (map worker_of workers) place (worker_of phase) (at_some worker_of workers place phase here) in
-    let count = length-set sites index new in
-    λ i. record { vnodes = vnodes i; routes = own_sites 0 (count i); workers = phases i }
+    λ i. record { vnodes = vnodes i; routes = routes; workers = phases i }
 
 abbrev Result : Type 0
 Result = World × Outcome
@@ -85,17 +83,17 @@ Steps world action place worker =
     option_and_then (λ index. option_and_then (λ vnode. option_map (result_at world place index worker)
     (turn_of (seen_at worker.seen index) vnode action worker.phase)) (slice_get world.vnodes index)) (site_of action worker.phase)
 
-module _ (sites : List Site) (workers : List RunPhase) (place index : ℕ) (phase next : RunPhase) (site new : Site) (asked action : Action) (returns : Returned)
-    (sent : routed (route (world_of sites workers)) asked ≡ action) (here : slice_get workers place ≡ Some phase)
+module _ (sites : List Site) (routes : List ℕ) (workers : List RunPhase) (place index : ℕ) (phase next : RunPhase) (site new : Site) (asked action : Action) (returns : Returned)
+    (sent : routed (route (world_of sites routes workers)) asked ≡ action) (here : slice_get workers place ≡ Some phase)
     (at : site_of action (phase_of phase) ≡ Some index) (there : slice_get sites index ≡ Some site) where
   abbrev w : World
-  w = world_of sites workers
+  w = world_of sites routes workers
 
   abbrev step : Step
   step = By (suc place) asked
 
   abbrev later : World
-  later = world_of (slice_set sites index new) (slice_set workers place next)
+  later = world_of (slice_set sites index new) routes (slice_set workers place next)
 
   abbrev result : Turn → Result
   result turn = (turned w place index (worker_of phase) turn, turn.outcome)
@@ -107,11 +105,10 @@ module _ (sites : List Site) (workers : List RunPhase) (place index : ℕ) (phas
       let vnodes = map-set vnode_of sites index new ∙ ap (λ v. slice_set (map vnode_of sites) index v) e ∙ ap (λ vs. slice_set vs index vnode) (vnodes_itself sites) in
       let phases = map-set worker_of workers place next ∙ ap (λ q. slice_set (map worker_of workers) place (record { phase = q; seen = [] })) d
       ∙ ap (λ xs. slice_set xs place (record { phase = p; seen = [] })) (workers_itself workers) in
-      let count = length-set sites index new in
-      λ i. record { vnodes = vnodes i; routes = own_sites 0 (count i); workers = phases i }
+      λ i. record { vnodes = vnodes i; routes = routes; workers = phases i }
 
   stayed : vnode_of new ≡ vnode_of site → phase_of next ≡ phase_of phase → later ≡ erase w
-  stayed e d = put_back sites workers place index phase next site new here there e d ∙ world_itself sites workers
+  stayed e d = put_back sites routes workers place index phase next site new here there e d ∙ world_itself sites routes workers
 
   by_turns : (t : Option Turn)
       → MatchOption t ((vnode_of new ≡ vnode_of site) × (phase_of next ≡ phase_of phase) × (returns ≡ outcomes.No))
@@ -252,10 +249,10 @@ busy_turn AsksNowhere (phases.Holding other call hand) busy asking = λ i v. ref
 busy_turn AsksNowhere (phases.Done other hand) busy asking = λ i v. refl
 busy_turn action phase busy asking = absurd asking
 
-pub is_busy : (sites : List Site) (workers : List RunPhase) (place index : ℕ) (ask : Ask Content Context) (phase : RunPhase)
-    → slice_get workers place ≡ Some phase → IsBusy phase → happens (world_of sites workers) (asking_step (suc place) index ask) ≡ None
-is_busy sites workers place index ask phase here busy =
-    let world = world_of sites workers in
+pub is_busy : (sites : List Site) (routes : List ℕ) (workers : List RunPhase) (place index : ℕ) (ask : Ask Content Context) (phase : RunPhase)
+    → slice_get workers place ≡ Some phase → IsBusy phase → happens (world_of sites routes workers) (asking_step (suc place) index ask) ≡ None
+is_busy sites routes workers place index ask phase here busy =
+    let world = world_of sites routes workers in
     at_worker world place (Asks index ask) (worker_of phase) (at_some worker_of workers place phase here)
     ∙ no_turn world place (routed (route world) (Asks index ask)) (worker_of phase) (busy_turn (routed (route world) (Asks index ask)) phase busy (asking_sent index ask (route world index)))
 
@@ -268,13 +265,14 @@ pub taken : (old new : Parts) (worker place index : ℕ) (act : Act) (returns : 
 taken old new worker place index act returns at t = λ fit.
     let same = some_same at.phase t.phase (sym at.here ∙ t.here) in
     let about = ap (λ p. site_of Enters (phase_of p)) (sym same) ∙ at.about in
-    let turns = t.turns (fit place index t.phase t.site t.here about t.there) in
-    let step = step_taken old.sites.items old.workers.items place index t.phase t.next t.site t.later (action_of act) (action_of act) returns
+    let turns = t.turns (fit.turns place index t.phase t.site t.here about t.there) in
+    let step = step_taken old.sites.items old.routes.items old.workers.items place index t.phase t.next t.site t.later (action_of act) (action_of act) returns
     (sent_itself (route (world_in old)) act) t.here (same_site act (phase_of t.phase) ∙ about) t.there turns in
     let sites = sym t.sites_are in
+    let routes = sym t.routes_are in
     let workers = sym t.workers_are in
     subst (λ n. TakesStep (world_in old) (step_by n act) returns (world_in new)) (sym at.number)
-    (subst (λ w. TakesStep (world_in old) (step_by (suc place) act) returns w) (λ i. world_of (sites i) (workers i)) step)
+    (subst (λ w. TakesStep (world_in old) (step_by (suc place) act) returns w) (λ i. world_of (sites i) (routes i) (workers i)) step)
 
 -- what holds of a result where it is there
 pub ok_then : {X E : Type 0} {P Q : X → Type 0} (r : OkOrErr X E) → IfOk r P → ((x : X) → P x → Q x) → IfOk r Q

@@ -11,7 +11,7 @@ use Rattle.node_steps.specs.declared.step.Step.{Step as RunStep}
 use Rattle.node_steps.specs.declared.step.Step.TheVariants as steps
 use Rattle.node_steps.specs.declared.step.Act.{Act}
 use Rattle.node_steps.specs.declared.step.Act.TheVariants as acts
-use Rattle.node_steps.specs.Steps.{Action, Asks, AsksNowhere, Enters, Leaves, Marks, Unmarks, Takes, Puts, Looks, Publishes, Step, By}
+use Rattle.node_steps.specs.Steps.{Action, Asks, AsksNowhere, Enters, Leaves, Marks, Unmarks, Takes, Puts, Looks, Publishes, Step, By, Diverts}
 use Rattle.node_steps.specs.Running.{ask_of}
 
 -- the ask that a request makes of a vnode; a ping makes none
@@ -58,3 +58,4 @@ step_of (steps.Take worker) = By worker Takes
 step_of (steps.Put worker) = By worker Puts
 step_of (steps.Look worker) = By worker Looks
 step_of (steps.Publish worker) = By worker Publishes
+step_of (steps.Divert index) = Diverts index

@@ -61,8 +61,9 @@ plan_of state change = option_and_then (λ ask. option_and_then (λ command. pla
 abbrev pub hand_of : Inside → HandView
 hand_of h = record { state = h.vnode.state; plan = plan_of h.vnode.state h.change }
 
--- the vnode isn't closed; the change is what it prepared last, and the machine accepts it
+-- the vnode has this id, and isn't closed; the change is what it prepared last, and the machine accepts it
 pub record IsHand (h : Inside) : Type 0 where
+  pub named : h.vnode.state.vnode ≡ h.id
   pub opened : h.vnode.state.closed ≡ None
   pub planned : IfSome h.change (λ change. IsSome (command_of change) × IsPrepared h.vnode change change)
 

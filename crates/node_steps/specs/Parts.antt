@@ -1,33 +1,49 @@
--- Where a step finds its worker and its vnode among the running parts, and what it leaves of them.
-use Rattle.std.specs.Prelude.{◌≡◌, ℕ, suc, List, Option, Some, None, slice_get, slice_set}
+-- Where a step finds its worker and its vnode among the running parts, and what it leaves of them; which partition may be diverted.
+use Rattle.std.specs.Prelude.{◌≡◌, ◌+◌, ◌<◌, ◌^◌, ℕ, suc, not, true, List, length, Option, Some, None, slice_get, slice_set}
+use Rattle.std.specs.List.{list_all}
+use Rattle.riak_msgs.specs.Contents.{Content}
+use Rattle.sibling_register.specs.Answers.{Ask}
+use Rattle.actor_epoch.specs.Given.{Context}
 use Rattle.node_steps.specs.declared.outcome.Outcome.{Outcome as Returned}
 use Rattle.node_steps.specs.declared.phase.Phase.{Phase as RunPhase}
 use Rattle.node_steps.specs.declared.site.Site.{Site}
 use Rattle.node_steps.specs.declared.phase.Phase.TheVariants as phases
 use Rattle.node_steps.specs.declared.parts.Parts.{Parts}
 use Rattle.node_steps.specs.declared.step.Act.{Act}
-use Rattle.node_steps.specs.World.{Word, Phase, World}
+use Rattle.node_steps.specs.World.{Word, Open, Taken, Phase, Vnode, World, route}
 use Rattle.node_steps.specs.Erased.{IsShown, erase}
-use Rattle.node_steps.specs.Steps.{Enters, Step, site_of, happens, after, outcome}
+use Rattle.node_steps.specs.Steps.{Asks, Enters, Step, site_of, is_about, fallback_ids, routed, diverted_by, diverted, happens, after, outcome}
 use Rattle.node_steps.specs.Returned.{returned}
 use Rattle.node_steps.specs.Running.{HasRoom, phase_of, vnode_of, world_of, Turns}
-use Rattle.node_steps.specs.Asked.{action_of, step_by}
+use Rattle.node_steps.specs.Asked.{action_of, asking_step, step_by}
 
 -- there is room for one reader more, and a reader has a state to look at
 pub record IsFit (word : Word) (phase : Phase) : Type 0 where
   pub room : HasRoom word
   pub shown : IsShown word phase
 
--- it is so of all that the workers are about
-abbrev pub AreFit : Parts → Type 0
-AreFit parts =
-    (place index : ℕ) (phase : RunPhase) (site : Site)
-    → slice_get parts.workers.items place ≡ Some phase → site_of Enters (phase_of phase) ≡ Some index
-    → slice_get parts.sites.items index ≡ Some site → IsFit (vnode_of site).word (phase_of phase)
-
 -- the world that running parts are
 abbrev pub world_in : Parts → World
-world_in parts = world_of parts.sites.items parts.workers.items
+world_in parts = world_of parts.sites.items parts.routes.items parts.workers.items
+
+-- a vnode is not taken
+abbrev pub IsOpen : Word → Type 0
+IsOpen (Open readers marked) = Unit {0}
+IsOpen Taken = ⊥
+
+-- the vnode can be left for a fallback: its state is in place, and its fallback can have an id
+pub record IsLeft (vnode : Vnode) : Type 0 where
+  pub opened : IsOpen vnode.word
+  pub id_fits : vnode.place.vnode + fallback_ids < 2 ^ 64
+
+-- it is so of all that the workers are about, and of each partition's own vnode where no worker has a call
+pub record AreFit (parts : Parts) : Type 0 where
+  pub turns : (place index : ℕ) (phase : RunPhase) (site : Site)
+      → slice_get parts.workers.items place ≡ Some phase → site_of Enters (phase_of phase) ≡ Some index
+      → slice_get parts.sites.items index ≡ Some site → IsFit (vnode_of site).word (phase_of phase)
+  pub left : (index : ℕ) (site : Site)
+      → index < length parts.routes.items → slice_get parts.sites.items index ≡ Some site
+      → list_all (λ worker. not (is_about index worker.phase)) (world_in parts).workers ≡ true → IsLeft (vnode_of site)
 
 -- the worker at a place is about the vnode at an index
 pub record IsAt (parts : Parts) (worker place index : ℕ) : Type 0 where
@@ -56,6 +72,22 @@ abbrev pub FindsIdle : List RunPhase → ℕ → Option ℕ → Type 0
 FindsIdle workers worker (Some place) = (worker ≡ suc place) × (slice_get workers place ≡ Some phases.Idle)
 FindsIdle workers worker None = (place : ℕ) (phase : RunPhase) → worker ≡ suc place → slice_get workers place ≡ Some phase → IsBusy phase
 
+-- the site that a call for a partition goes to; none where no worker can be asked it
+abbrev pub SendsTo : Parts → (index : ℕ) → Ask Content Context → Option ℕ → Type 0
+SendsTo parts index ask (Some site) = (routed (route (world_in parts)) (Asks index ask) ≡ Asks site ask) × (site < length parts.sites.items)
+SendsTo parts index ask None = (worker : ℕ) → happens (world_in parts) (asking_step worker index ask) ≡ None
+
+-- a partition is diverted to a fallback of this id
+pub record DivertsTo (w : World) (index id : ℕ) : Type 0 where
+  pub primary : Vnode
+  pub diverted_is : diverted w index ≡ Some (diverted_by w index primary)
+  pub id_is : id ≡ primary.place.vnode + fallback_ids
+
+-- the id of a partition's fallback, where it can be diverted
+abbrev pub MayDivert : Parts → (index : ℕ) → Option ℕ → Type 0
+MayDivert parts index (Some id) = (index < length parts.routes.items) × (AreFit parts → DivertsTo (world_in parts) index id)
+MayDivert parts index None = AreFit parts → diverted (world_in parts) index ≡ None
+
 -- a turn of the worker at a place, at the vnode of an index
 pub record TurnsAt (act : Act) (place index : ℕ) (old new : Parts) (outcome : Returned) : Type 0 where
   pub phase : RunPhase
@@ -66,6 +98,7 @@ pub record TurnsAt (act : Act) (place index : ℕ) (old new : Parts) (outcome : 
   pub there : slice_get old.sites.items index ≡ Some site
   pub workers_are : new.workers.items ≡ slice_set old.workers.items place next
   pub sites_are : new.sites.items ≡ slice_set old.sites.items index later
+  pub routes_are : new.routes.items ≡ old.routes.items
   pub turns : IsFit (vnode_of site).word (phase_of phase)
       → Turns (action_of act) (vnode_of site) (phase_of phase) (vnode_of later) (phase_of next) outcome
 

@@ -1,5 +1,5 @@
 -- What running values are in the theorem's world, without its histories; and what a turn makes of them.
-use Rattle.std.specs.Prelude.{◌≡◌, ◌+◌, ◌<◌, ◌^◌, ℕ, Bool, List, [], length, map, Option, Some, None, option_map, MatchOption}
+use Rattle.std.specs.Prelude.{◌≡◌, ◌+◌, ◌<◌, ◌^◌, ℕ, Bool, List, [], map, Option, Some, None, option_map, MatchOption}
 use Rattle.riak_msgs.specs.Contents.{Content}
 use Rattle.sibling_register.specs.Answers.{Ask, AskGet, AskPut, AskDel, AskReap}
 use Rattle.actor_epoch.specs.Given.{Context}
@@ -13,7 +13,7 @@ use Rattle.node_steps.specs.declared.outcome.Outcome.TheVariants as outcomes
 use Rattle.node_steps.specs.declared.phase.Phase.{Phase as RunPhase}
 use Rattle.node_steps.specs.declared.phase.Phase.TheVariants as phases
 use Rattle.node_steps.specs.declared.site.Site.{Site}
-use Rattle.node_steps.specs.World.{Word, Open, Taken, Phase, Idle, Asked, Reading, Holding, Done, Vnode, Worker, World, own_sites}
+use Rattle.node_steps.specs.World.{Word, Open, Taken, Phase, Idle, Asked, Reading, Holding, Done, Vnode, Worker, World}
 use Rattle.node_steps.specs.Steps.{Action, turn_of}
 use Rattle.node_steps.specs.Erased.{blank, erase_vnode}
 use Rattle.node_steps.specs.Hands.{HandView}
@@ -51,9 +51,9 @@ vnode_of site = vnode_by site.readers site.marked (option_map (λ h. h.value) si
 abbrev pub worker_of : RunPhase → Worker
 worker_of phase = record { phase = phase_of phase; seen = [] }
 
--- the world that sites and phases are
-abbrev pub world_of : List Site → List RunPhase → World
-world_of sites workers = record { vnodes = map vnode_of sites; routes = own_sites 0 (length sites); workers = map worker_of workers }
+-- the world that sites, routes and phases are
+abbrev pub world_of : List Site → List ℕ → List RunPhase → World
+world_of sites routes workers = record { vnodes = map vnode_of sites; routes = routes; workers = map worker_of workers }
 
 -- the vnode and the worker after an action, and what it returns: by its turn, or where it isn't possible as they were
 abbrev pub Turns : Action → (old : Vnode) (phase : Phase) (new : Vnode) (next : Phase) → Returned → Type 0

@@ -1,7 +1,7 @@
 -- The steps: where each is possible, and what it changes. A step is one worker's, at the vnode of one site, or one partition's.
 --
--- A line of a schedule's text, the action that it asks of its worker W, and the equations below that say where it is possible and
--- what it changes (no equation: it is never possible in that phase):
+-- A line of a schedule's text, the action that it asks of its worker W, or the step that it asks of the partition P, and the equations
+-- below that say where it is possible and what it changes (no equation: it is never possible in that phase):
 --
 --   ask W H, reap W H   Asks        turn_of Asks Idle; routed
 --   enter W             Enters      turn_of Enters (Asked a get), entered
@@ -12,8 +12,7 @@
 --   put W               Puts        turn_of Puts (Holding, and Done with a state in hand), lays
 --   look W              Looks       turn_of Looks (Reading, and Holding without a plan), answers, looks_by
 --   publish W           Publishes   turn_of Publishes (Holding with a plan), publishes_by
---
--- A partition's step has no line yet: Diverts, diverted.
+--   divert P            Diverts     diverted, diverted_by
 use Rattle.std.specs.Prelude.{Bool, true, false, not, if◌then◌else◌, ◌==◌, ◌&&◌, ◌+◌, ◌-◌, ◌++◌, List, [], ◌∷◌, ℕ, length, zero, suc, pred, Option, Some, None, Result, Ok, Err, option_map, option_and_then, slice_get, slice_set}
 use Rattle.std.specs.Option.{option_map_or}
 use Rattle.std.specs.List.{list_all}

@@ -3,7 +3,8 @@
 ghost use Rattle.std.specs.Prelude.{◌≡◌, None, IfOk};
 ghost use Rattle.vnode_protocol.specs.declared.ask.Ask.TheVariants.{Put, Del, Reap};
 ghost use Rattle.node_steps.specs.Asked.{CallsFor};
-ghost use Rattle.node_steps.specs.Running.{IsChangeOf};
+ghost use Rattle.node_steps.specs.Running.{ask_of, IsChangeOf};
+ghost use Rattle.node_steps.specs.Steps.{is_reap};
 
 use crate::copies::{copy_of_del, copy_of_put};
 use riak_msgs::{DelAsk, GetAsk, Key, PutAsk, Request};
@@ -32,6 +33,16 @@ pub(crate) fn call_of(alloc: Global, request: Request) -> Result<Option<Call>, A
 }
 
 impl Call {
+    /// Whether it is a reap.
+    pub(crate) fn is_reap(&self) -> bool
+        ensures { result ≡ is_reap (ask_of self.now) }
+    {
+        match self {
+            Call::Get(_) | Call::Put(_) | Call::Del(_) => false,
+            Call::Reap(_) => true,
+        }
+    }
+
     /// What the vnode is asked to change, as a copy; none of a get. The call itself stays with the worker, which asks again
     /// where it puts the state back before it has published.
     pub(crate) fn change(&self, alloc: Global) -> Result<Option<Ask>, AllocError>

@@ -13,8 +13,9 @@ use std::alloc::Global;
 use std::marker::Model;
 use vnode_core::{Ask, Change, Plan, Refusal, Vnode};
 
-/// A vnode that isn't closed, and the change that was planned at a look. Contracts see its state and the plan.
+/// A vnode of an id that isn't closed, and the change that was planned at a look. Contracts see its state and the plan.
 pub(crate) struct Hand {
+    id: u64,
     vnode: Vnode,
     change: Option<Change>,
 }
@@ -23,6 +24,7 @@ pub(crate) struct Hand {
 impl Drop for Hand {
     fn drop(self) {
         let Hand {
+            id: _id,
             vnode: _vnode,
             change: _change,
         } = self;
@@ -47,16 +49,25 @@ fn replace(place: &mut Option<Change>, change: Option<Change>)
 }
 
 impl Hand {
-    /// A vnode of which nothing is planned.
-    pub(crate) fn new(vnode: Vnode) -> Hand
-        requires { vnode.state.closed ≡ None }
+    /// A vnode of this id, of which nothing is planned.
+    pub(crate) fn new(id: u64, vnode: Vnode) -> Hand
+        requires named { vnode.state.vnode ≡ id }
+        requires opened { vnode.state.closed ≡ None }
         ensures state { result.state ≡ vnode.state }
         ensures plan { result.plan ≡ None }
     {
         Hand {
+            id,
             vnode,
             change: None,
         }
+    }
+
+    /// The vnode's id.
+    pub(crate) fn id(&self) -> u64
+        ensures { result ≡ self.now.state.vnode }
+    {
+        self.id
     }
 
     /// Whether a change is planned.

@@ -35,12 +35,13 @@
 //! A world may be kept without its histories: no step looks at them ([`needs_no_history`], `specs/Erased`).
 //!
 //! A [`World`] runs it: [`World::step`] takes any step, and what it returns and the world after it are those of the
-//! theorem's world, whatever schedule led there (`specs/Kept`). No step of it diverts a partition.
+//! theorem's world, whatever schedule led there (`specs/Kept`).
 #![tactic(auto)]
 
 mod acts;
 mod call;
 mod copies;
+mod divert;
 mod fault;
 mod hand;
 mod laws;

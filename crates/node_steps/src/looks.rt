@@ -19,7 +19,7 @@ use std::alloc::Global;
 pub(crate) type Looked = Result<(Phase, Outcome), Phase>;
 
 /// A worker looks at the state in its hand, of which it has planned nothing.
-fn look_in_hand(alloc: Global, index: u16, call: Call, mut hand: Box<Hand>) -> Looked
+fn look_in_hand(alloc: Global, index: usize, call: Call, mut hand: Box<Hand>) -> Looked
     requires { hand.value.plan ≡ None }
     ensures ok { IfOk result (λ r. (site : Site) → Turns Looks (vnode_of site)
         (Holding index (ask_of call) hand.value.state None) (vnode_of site) (phase_of r.0) r.1) }

@@ -2,7 +2,7 @@
 
 ghost use Rattle.std.specs.Prelude.{◌≡◌, ◌<◌, length, IfOk, IfErr, OnErr};
 ghost use Rattle.node_steps.specs.Asked.{action_of, asking_step, step_by, step_of};
-ghost use Rattle.node_steps.specs.Parts.{Finds, FindsIdle, IsFit, TakesFitStep, TakesStep, TurnsAt, world_in};
+ghost use Rattle.node_steps.specs.Parts.{Finds, FindsIdle, IsFit, SendsTo, TakesFitStep, TakesStep, TurnsAt, world_in};
 ghost use Rattle.node_steps.specs.Running.{ask_of, phase_of, vnode_of, Turns};
 
 use crate::acts::{enter, leave, mark, put, take, unmark};
@@ -17,10 +17,11 @@ use riak_msgs::{Key, Request};
 use std::alloc::{AllocError, Global};
 use std::mem;
 
-/// What runs: the site of each vnode, and the phase of each worker.
+/// What runs: the vnode at each site, for each partition the site that its calls go to, and the phase of each worker.
 #[derive(Drop)]
 pub(crate) struct Parts {
     pub(crate) sites: Vec<Site>,
+    pub(crate) routes: Vec<usize>,
     pub(crate) workers: Vec<Phase>,
 }
 
@@ -59,20 +60,20 @@ fn refuse(_call: Call) -> Outcome
 }
 
 impl Parts {
-    /// The place of a worker, and the index of the vnode that it is about; none where it can do nothing.
+    /// The place of a worker, and the index of the site that it is about; none where it can do nothing.
     fn find(&self, worker: u16) -> Option<(usize, usize)>
         ensures { Finds self.now worker result }
     {
         let place = usize::from(worker.checked_sub(1)?);
         let phase = self.workers.get(place)?;
-        let index = usize::from(phase.index()?);
+        let index = phase.index()?;
         if index >= self.sites.len() {
             return None;
         }
         Some((place, index))
     }
 
-    /// A turn of the worker at a place, at the vnode of an index.
+    /// A turn of the worker at a place, at the site of an index.
     fn turn_at(
         &mut self,
         alloc: Global,
@@ -121,7 +122,23 @@ impl Parts {
         }
     }
 
-    /// A worker gets a call of the vnode at an index.
+    /// The site that a call for a partition goes to; none where there is no such partition, and for a reap of one that is
+    /// diverted.
+    fn site_for(&self, index: u16, call: &Call) -> Option<usize>
+        ensures { SendsTo self.now index (ask_of call.now) result }
+    {
+        let own = usize::from(index);
+        let site = *self.routes.get(own)?;
+        if site >= self.sites.len() {
+            return None;
+        }
+        if site != own && call.is_reap() {
+            return None;
+        }
+        Some(site)
+    }
+
+    /// A worker gets a call for the partition at an index.
     fn give(&mut self, worker: u16, index: u16, call: Call) -> Outcome
         ensures { TakesStep (world_in self.old) (asking_step worker index (ask_of call)) result
             (world_in self.new) }
@@ -129,10 +146,10 @@ impl Parts {
         let Some(place) = self.find_idle(worker) else {
             return refuse(call);
         };
-        if usize::from(index) >= self.sites.len() {
+        let Some(site) = self.site_for(index, &call) else {
             return refuse(call);
-        }
-        set_phase(&mut self.workers[place], Phase::Asked(index, call));
+        };
+        set_phase(&mut self.workers[place], Phase::Asked(site, call));
         Outcome::Done
     }
 
@@ -187,6 +204,7 @@ impl Parts {
             Step::Put(worker) => self.act(alloc, worker, Act::Put),
             Step::Look(worker) => self.act(alloc, worker, Act::Look),
             Step::Publish(worker) => self.act(alloc, worker, Act::Publish),
+            Step::Divert(index) => self.divert(alloc, index),
         }
     }
 }

@@ -1,6 +1,16 @@
 //! A vnode's word, and its state where it is in place.
 
+ghost use Rattle.std.specs.Prelude.{◌≡◌, IfOk};
+ghost use Rattle.node_steps.specs.World.{fresh_vnode};
+ghost use Rattle.node_steps.specs.Erased.{erase_vnode};
+ghost use Rattle.node_steps.specs.Running.{vnode_of};
+
 use crate::hand::Hand;
+use std::alloc::{AllocError, Global};
+use vnode_core::Vnode;
+
+/// The first epoch of a vnode that goes on after no other.
+const FIRST_EPOCH: u32 = 1;
 
 /// A vnode's word, with the state where it is in place; a state that isn't in place is in the hand of the worker that took
 /// it. How many readers are inside and whether the word is marked mean nothing then.
@@ -9,4 +19,17 @@ pub(crate) struct Site {
     pub(crate) readers: u64,
     pub(crate) marked: bool,
     pub(crate) place: Option<Box<Hand>>,
+}
+
+/// A vnode of an id, before any event, in place.
+pub(crate) fn new_site(alloc: Global, id: u64) -> Result<Site, AllocError>
+    ensures { IfOk result (λ site. vnode_of site ≡ erase_vnode (fresh_vnode id 0)) }
+{
+    let vnode = Vnode::new(alloc, id, FIRST_EPOCH);
+    let hand = Box::new(alloc, Hand::new(id, vnode))?;
+    Ok(Site {
+        readers: 0,
+        marked: false,
+        place: Some(hand),
+    })
 }

@@ -6,12 +6,12 @@ use crate::copies::copy_of_request;
 use riak_msgs::{Key, Request};
 use std::alloc::{AllocError, Global};
 
-/// What one worker does next. Workers are numbered from 1, vnodes from 0.
+/// What happens next: a worker does something, or a partition is diverted. Workers are numbered from 1, partitions from 0.
 #[derive(Drop)]
 pub enum Step {
-    /// The worker gets a call: what a client asks of the vnode of this index.
+    /// The worker gets a call: what a client asks of the partition of this index.
     Ask(u16, u16, Request),
-    /// The worker gets a call: a reap of a key at the vnode of this index.
+    /// The worker gets a call: a reap of a key of the partition of this index.
     Reap(u16, u16, Key),
     /// It enters its call's vnode as a reader.
     Enter(u16),
@@ -29,6 +29,8 @@ pub enum Step {
     Look(u16),
     /// It publishes what it planned at its look.
     Publish(u16),
+    /// The partition of this index is diverted to a fallback.
+    Divert(u16),
 }
 
 impl Step {
@@ -37,11 +39,11 @@ impl Step {
         ensures { IfOk result (λ copy. copy ≡ self.now) }
     {
         match self {
-            Step::Ask(worker, vnode, request) => {
+            Step::Ask(worker, index, request) => {
                 let request = copy_of_request(alloc, request)?;
-                Ok(Step::Ask(*worker, *vnode, request))
+                Ok(Step::Ask(*worker, *index, request))
             }
-            Step::Reap(worker, vnode, key) => { Ok(Step::Reap(*worker, *vnode, key.clone(alloc)?)) }
+            Step::Reap(worker, index, key) => { Ok(Step::Reap(*worker, *index, key.clone(alloc)?)) }
             Step::Enter(worker) => Ok(Step::Enter(*worker)),
             Step::Leave(worker) => Ok(Step::Leave(*worker)),
             Step::Mark(worker) => Ok(Step::Mark(*worker)),
@@ -50,6 +52,7 @@ impl Step {
             Step::Put(worker) => Ok(Step::Put(*worker)),
             Step::Look(worker) => Ok(Step::Look(*worker)),
             Step::Publish(worker) => Ok(Step::Publish(*worker)),
+            Step::Divert(index) => Ok(Step::Divert(*index)),
         }
     }
 }

@@ -1,7 +1,7 @@
 //! A running world.
 
 ghost use Rattle.std.specs.Prelude.{◌≡◌, map, replicate, IfOk, OnErr};
-ghost use Rattle.node_steps.specs.World.{fresh_vnode, opening_vnodes, opening_world};
+ghost use Rattle.node_steps.specs.World.{opening_vnodes, opening_world, own_sites};
 ghost use Rattle.node_steps.specs.Erased.{erase, erase_vnode};
 ghost use Rattle.node_steps.specs.Running.{vnode_of};
 ghost use Rattle.node_steps.specs.Asked.{step_of};
@@ -9,18 +9,13 @@ ghost use Rattle.node_steps.specs.Parts.{TakesStep};
 ghost use Rattle.node_steps.specs.Kept.{Follows, FollowsAll, FollowsSome};
 
 use crate::fault::StepFault;
-use crate::hand::Hand;
 use crate::outcome::Outcome;
 use crate::parts::Parts;
 use crate::phase::Phase;
-use crate::site::Site;
+use crate::site::{Site, new_site};
 use crate::step::Step;
 use std::alloc::{AllocError, Global};
 use std::marker::Model;
-use vnode_core::Vnode;
-
-/// The first epoch of a vnode of a new run.
-const FIRST_EPOCH: u32 = 1;
 
 /// Workers over vnodes, which take one step at a time in any order. Contracts see the world of [`always`](crate::always)
 /// without its histories, which no step needs.
@@ -54,19 +49,6 @@ impl Model for World {
     ghost invariant = { λ w. IsKept (kept_of w) };
 }
 
-/// A vnode of an id, before any event, in place.
-fn new_site(alloc: Global, id: u64) -> Result<Site, AllocError>
-    ensures { IfOk result (λ site. vnode_of site ≡ erase_vnode (fresh_vnode id 0)) }
-{
-    let vnode = Vnode::new(alloc, id, FIRST_EPOCH);
-    let hand = Box::new(alloc, Hand::new(vnode))?;
-    Ok(Site {
-        readers: 0,
-        marked: false,
-        place: Some(hand),
-    })
-}
-
 /// The vnodes of a run, each in place.
 fn new_sites(alloc: Global, run: u32, vnodes: u16) -> Result<Vec<Site>, AllocError>
     ensures { IfOk result (λ sites.
@@ -78,6 +60,17 @@ fn new_sites(alloc: Global, run: u32, vnodes: u16) -> Result<Vec<Site>, AllocErr
         sites.push(site)?;
     }
     Ok(sites)
+}
+
+/// For each partition its own site.
+fn new_routes(alloc: Global, vnodes: u16) -> Result<Vec<usize>, AllocError>
+    ensures { IfOk result (λ routes. routes.items ≡ own_sites 0 vnodes) }
+{
+    let mut routes = Vec::with_capacity(alloc, usize::from(vnodes))?;
+    for index in 0..vnodes {
+        routes.push(usize::from(index))?;
+    }
+    Ok(routes)
 }
 
 /// Workers that have no call.
@@ -92,14 +85,15 @@ fn new_workers(alloc: Global, workers: u16) -> Result<Vec<Phase>, AllocError>
 }
 
 impl World {
-    /// A world of so many workers, which have no call, and so many vnodes of a run, before any event: the vnode at an index
-    /// has the id `run * 65536 + index`.
+    /// A world of so many workers, which have no call, and so many partitions of a run, none of which is diverted, before any
+    /// event: the vnode of the partition at an index has the id `run * 65536 + index`.
     pub fn new(alloc: Global, workers: u16, vnodes: u16, run: u32) -> Result<World, StepFault>
         ensures { IfOk result (λ world. world ≡ erase (opening_world run workers vnodes)) }
     {
         Ok(World {
             parts: Parts {
                 sites: new_sites(alloc, run, vnodes)?,
+                routes: new_routes(alloc, vnodes)?,
                 workers: new_workers(alloc, workers)?,
             },
         })
@@ -107,7 +101,8 @@ impl World {
 
     /// Takes a step, and returns its outcome, which is `No` exactly where it isn't possible. Where memory is refused nothing changes.
     ///
-    /// A look copies what it shows, and what it plans; a call is kept on the heap. All else takes no memory.
+    /// A look copies what it shows, and what it plans; a call is kept on the heap; a fallback takes a place. All else takes no
+    /// memory.
     pub fn step(&mut self, alloc: Global, step: Step) -> Result<Outcome, StepFault>
         ensures step { IfOk result (λ outcome. TakesStep self.old (step_of step) outcome self.new) }
         ensures schedule { IfOk result (λ outcome.

@@ -17,7 +17,7 @@ use Rattle.node_steps.specs.declared.outcome.Outcome.TheVariants as outcomes
 use Rattle.node_steps.specs.Asked.{request_ask, asks_by}
 use Rattle.node_steps.proofs.Erasing.{map-set}
 use Rattle.schedule_player.specs.Calls.{call_in, call_of}
-use Rattle.schedule_player.specs.Heard.{Heard, Calls, after_line, asked_by, last_call, replied, with_call}
+use Rattle.schedule_player.specs.Heard.{Heard, Calls, after_act, asked_by, last_call, replied, with_call}
 
 -- one more of the same
 pub replicate-one : {X : Type 0} (n : ℕ) (x : X) → replicate n x ++ x ∷ [] ≡ replicate (suc n) x
@@ -73,7 +73,7 @@ none_is (Some ask) e = cc
 pub called_is : (o : Option (Ask Content Context)) (calls calls' : Calls) (known known' : Compared) (line worker : ℕ) → is_some o ≡ true
     → ((ask : Ask Content Context) → o ≡ Some ask → calls' ≡ with_call calls worker ask)
     → known' ≡ option_map_or (λ ask. after_call ask known) o known
-    → (let heard : Heard = record { calls = calls'; compared = known' } in heard) ≡ after_line line worker o outcomes.Done (record { calls = calls; compared = known })
+    → (let heard : Heard = record { calls = calls'; compared = known' } in heard) ≡ after_act line worker o outcomes.Done (record { calls = calls; compared = known })
 called_is None calls calls' known known' line worker e kept told = cc
 called_is (Some ask) calls calls' known known' line worker e kept told = λ i. record { calls = kept ask refl i; compared = told i }
 

@@ -15,9 +15,10 @@ use Rattle.schedule_player.specs.Answers.{answer_line, next_line}
 use Rattle.schedule_player.specs.Asked.{AsksFor, AsksForNone, AskForAll}
 use Rattle.schedule_player.specs.Lines.{PlaysLine}
 use Rattle.schedule_player.specs.Heard.{Heard, heard_after, last_line}
-use Rattle.schedule_player.specs.Played.{Ends, Answered, Played}
+use Rattle.schedule_player.specs.Played.{IsLastLine, Ends, Answered, Played}
 use Rattle.schedule_player.specs.Progress.{HasAnswered, WritesEnd}
 use Rattle.schedule_player.proofs.Texts.{whole_alone}
+use Rattle.schedule_player.proofs.Diverted.{last_ended}
 
 module _ (start : Start) (ring : ℕ) where
   -- a step's line, by the number of lines before it
@@ -99,19 +100,27 @@ module _ (start : Start) (ring : ℕ) where
       → verdict_line player.referee.compared.verdict ≡ last_line start schedule
   last_is schedule player heard = ap (λ (h : Heard). verdict_line h.compared.verdict) heard
 
+  last_written : (schedule : List Step) (player : Player) → player.referee ≡ heard_after start schedule
+      → IsLastLine start ring schedule [] (verdict_line player.referee.compared.verdict)
+  last_written schedule player heard = record {
+    nothing = refl;
+    next_is = last_is schedule player heard;
+    diverted = λ has. last_is schedule player heard ∙ last_ended start schedule has;
+  }
+
   -- all lines were answered, and the line of the verdict is written
   pub end_written : (result : Result (Unit {0}) StepsFault) (player : Player) (input : List ℕ) (texts : List (List ℕ)) (schedule : List Step) (first held held' : Option (List ℕ))
       → lines_of input ≡ texts → HasAnswered start ring player texts schedule first held → WritesEnd player held held' result → Answered start ring input first held' result
   end_written (Ok u) player input texts schedule first held held' lines has w =
       ended input input [] _ texts schedule player first held held' (Ok u) (sym (append-nil input)) lines (lines ∙ sym (append-nil texts)) has w
-      (record { nothing = refl; next_is = last_is schedule player has.heard })
+      (last_written schedule player has.heard)
   end_written (Err (BadStep line)) player input texts schedule first held held' lines has w = absurd w
   end_written (Err ReadFailed) player input texts schedule first held held' lines has w = absurd w
   end_written (Err WriteFailed) player input texts schedule first held held' lines has w =
       ended input input [] _ texts schedule player first held held' (Err WriteFailed) (sym (append-nil input)) lines (lines ∙ sym (append-nil texts)) has w.1
       (inr (record {
         next = verdict_line player.referee.compared.verdict;
-        is_next = inr (record { nothing = refl; next_is = last_is schedule player has.heard });
+        is_next = inr (last_written schedule player has.heard);
         len = w.0;
         begins = refl;
       }))

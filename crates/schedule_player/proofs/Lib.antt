@@ -1,6 +1,7 @@
 mod Known
 mod Texts
 mod Progress
+mod Diverted
 mod Ending
 mod Going
 mod Calls

@@ -3,12 +3,12 @@ use Rattle.std.proofs.Common.{◌+◌, ◌<◌, ℕ, List, [], ◌∷◌, ◌++�
 use Rattle.std.specs.Io.KnownBytes.{Appends, Keeps}
 use Rattle.std.proofs.KnownBytes.{Appends-trans, Appends-kept, Appends-nil}
 use Rattle.schedule_text.specs.Cuts.{Lacks}
-use Rattle.node_steps.specs.Steps.{Step, number_of, outcome}
+use Rattle.node_steps.specs.Steps.{Step, outcome}
 use Rattle.node_steps.specs.Schedules.{Start, world_after}
 use Rattle.node_steps.specs.Returned.{returned}
 use Rattle.schedule_player.specs.declared.player.Player.{Player}
 use Rattle.schedule_player.specs.Lines.{IsPlayed}
-use Rattle.schedule_player.specs.Heard.{Heard, after_line, asked_in, heard_after}
+use Rattle.schedule_player.specs.Heard.{after_line}
 use Rattle.schedule_player.specs.Progress.{IsOpening, HasAnswered, HasPlayed}
 use Rattle.schedule_player.proofs.Texts.{lacks_both, whole_more}
 use Rattle.schedule_player.proofs.Ending.{line_is, asks_on}
@@ -30,9 +30,9 @@ module _ (start : Start) (ring : ℕ) where
         kept = f.1;
         count = omega (arith, a.lines, has.count);
         few = omega (arith, fewer);
-        heard = a.heard ∙ ap (λ n. after_line (n + 1) (number_of p.step) (asked_in p.step) a.outcome old.referee) has.count
-            ∙ ap (λ o. after_line (length schedule + 1) (number_of p.step) (asked_in p.step) o old.referee) f.0
-            ∙ ap (after_line (length schedule + 1) (number_of p.step) (asked_in p.step) (returned (outcome (world_after start schedule) p.step))) has.heard;
+        heard = a.heard ∙ ap (λ n. after_line (n + 1) p.step a.outcome old.referee) has.count
+            ∙ ap (λ o. after_line (length schedule + 1) p.step o old.referee) f.0
+            ∙ ap (after_line (length schedule + 1) p.step (returned (outcome (world_after start schedule) p.step))) has.heard;
         written = Appends-trans first held held' _ _ has.written (subst (Appends held held') line a.written);
       }
 

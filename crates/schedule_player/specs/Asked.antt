@@ -4,6 +4,7 @@ use Rattle.riak_msgs.specs.declared.Request.{Request}
 use Rattle.riak_msgs.specs.declared.Request.TheVariants as requests
 use Rattle.ring_map.specs.Ring.{index_of, digest_of}
 use Rattle.schedule_text.specs.declared.line.Line.{Line}
+use Rattle.schedule_text.specs.declared.line.Line.TheVariants as lines
 use Rattle.schedule_text.specs.declared.line.Action.{Action}
 use Rattle.schedule_text.specs.declared.line.Action.TheVariants.{Ask, Reap, Gate}
 use Rattle.schedule_text.specs.declared.line.GateStep.{GateStep}
@@ -14,7 +15,7 @@ use Rattle.node_steps.specs.declared.step.Step.TheVariants as steps
 use Rattle.node_steps.specs.Steps.{Step}
 use Rattle.node_steps.specs.Asked.{step_of}
 
--- the index of the vnode that a request is for, on a ring of so many index bits: that of its key
+-- the index of the partition that a request is for, on a ring of so many index bits: that of its key
 abbrev pub index_for : ℕ → Request → ℕ
 index_for ring requests.Ping = 0
 index_for ring (requests.Get get) = index_of ring (digest_of get.key)
@@ -40,7 +41,8 @@ step_by ring worker (Gate step) = gate_step worker step
 
 -- the step of a line
 abbrev pub line_step : ℕ → Line → RunStep
-line_step ring line = step_by ring line.worker line.action
+line_step ring (lines.By worker action) = step_by ring worker action
+line_step ring (lines.Divert index) = steps.Divert index
 
 -- a line of text that asks for a step
 pub record AsksFor (workers ring : ℕ) (text : List ℕ) (step : Step) : Type 0 where

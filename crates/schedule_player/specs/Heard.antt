@@ -1,18 +1,18 @@
 -- What is heard of a run: each worker's last call, and the comparison with a plain register. The last line of a run is
 -- defined by it.
-use Rattle.std.specs.Prelude.{ℕ, ◌+◌, ◌-◌, List, [], ◌∷◌, Option, Some, None, length, replicate, slice_get, slice_set, unwrap_or}
+use Rattle.std.specs.Prelude.{◌≡◌, ◌⊎◌, ℕ, Bool, true, false, ◌+◌, ◌-◌, List, [], ◌∷◌, Option, Some, None, length, replicate, slice_get, slice_set, unwrap_or}
 use Rattle.std.specs.Option.{option_map_or}
 use Rattle.riak_msgs.specs.Contents.{Content}
 use Rattle.riak_msgs.specs.declared.reply.Reply.{Reply}
-use Rattle.sibling_register.specs.Answers.{Ask, AskGet, AskPut, AskDel, AskReap}
+use Rattle.sibling_register.specs.Answers.{Ask, AskReap}
 use Rattle.actor_epoch.specs.Given.{Context}
-use Rattle.schedule_text.specs.Compared.{Compared, nothing_compared, after_call, after_reply, after_reap}
+use Rattle.schedule_text.specs.Compared.{Compared, nothing_compared, not_compared, after_call, after_reply, after_reap}
 use Rattle.schedule_text.specs.Verdicts.{verdict_line}
 use Rattle.node_steps.specs.declared.outcome.Outcome.{Outcome as Returned}
 use Rattle.node_steps.specs.declared.outcome.Outcome.TheVariants as outcomes
 use Rattle.node_steps.specs.Returned.{returned}
 use Rattle.node_steps.specs.Schedules.{Start, world_after}
-use Rattle.node_steps.specs.Steps.{Action, Asks, Step, By, Diverts, number_of, outcome}
+use Rattle.node_steps.specs.Steps.{Action, Asks, Step, By, Diverts, Happened, outcome}
 
 -- the last call of each worker, from worker 1 on; none before the first
 abbrev pub Calls : Type 0
@@ -50,20 +50,35 @@ abbrev pub reaped : Ask Content Context → Compared → Compared
 reaped (AskReap key) known = after_reap key known
 reaped ask known = known
 
--- what the line of this number adds: a worker took a step, by which it gets a call or not, and this was returned
-abbrev pub after_line : (line worker : ℕ) → Option (Ask Content Context) → Returned → Heard → Heard
-after_line line worker asked outcomes.No heard = heard
-after_line line worker asked outcomes.Done heard =
+-- what a worker's line of this number adds, by whose step it gets a call or not: this was returned
+abbrev pub after_act : (line worker : ℕ) → Option (Ask Content Context) → Returned → Heard → Heard
+after_act line worker asked outcomes.No heard = heard
+after_act line worker asked outcomes.Done heard =
     option_map_or (λ ask. record {
       calls = with_call heard.calls worker ask;
       compared = after_call ask heard.compared;
     }) asked heard
-after_line line worker asked (outcomes.Reply reply) heard =
+after_act line worker asked (outcomes.Reply reply) heard =
     option_map_or (λ ask. record heard { compared = replied line reply ask heard.compared }) (last_call heard.calls worker) heard
-after_line line worker asked outcomes.Reaped heard =
+after_act line worker asked outcomes.Reaped heard =
     option_map_or (λ ask. record heard { compared = reaped ask heard.compared }) (last_call heard.calls worker) heard
-after_line line worker asked outcomes.Kept heard =
+after_act line worker asked outcomes.Kept heard =
     option_map_or (λ ask. record heard { compared = reaped ask heard.compared }) (last_call heard.calls worker) heard
+
+-- what a partition's line adds: once it is diverted the run isn't compared
+abbrev pub after_diversion : Returned → Heard → Heard
+after_diversion outcomes.Done heard = record heard { compared = not_compared heard.compared }
+after_diversion other heard = heard
+
+-- what the line of this number adds: this step was taken, and this was returned
+abbrev pub after_line : (line : ℕ) → Step → Returned → Heard → Heard
+after_line line (By number action) returned heard = after_act line number (asked_by action) returned heard
+after_line line (Diverts index) returned heard = after_diversion returned heard
+
+-- whether a step diverts a partition
+abbrev pub is_diversion : Step → Bool
+is_diversion (By number action) = false
+is_diversion (Diverts index) = true
 
 -- before any line of so many workers
 abbrev pub nothing_heard : (workers : ℕ) → Heard
@@ -73,9 +88,14 @@ nothing_heard workers = record { calls = replicate workers None; compared = noth
 abbrev pub heard_after : Start → List Step → Heard
 heard_after start [] = nothing_heard start.workers
 heard_after start (step ∷ earlier) =
-    after_line (length earlier + 1) (number_of step) (asked_in step)
-    (returned (outcome (world_after start earlier) step)) (heard_after start earlier)
+    after_line (length earlier + 1) step (returned (outcome (world_after start earlier) step)) (heard_after start earlier)
 
 -- the last line of a run
 abbrev pub last_line : Start → List Step → List ℕ
 last_line start schedule = verdict_line (heard_after start schedule).compared.verdict
+
+-- some step of a schedule diverted a partition
+abbrev pub HasDiverted : Start → List Step → Type 0
+HasDiverted start [] = ⊥
+HasDiverted start (step ∷ earlier) =
+    ((index : ℕ) × (step ≡ Diverts index) × (outcome (world_after start earlier) step ≡ Happened)) ⊎ HasDiverted start earlier

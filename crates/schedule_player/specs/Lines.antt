@@ -1,39 +1,38 @@
 -- What comes of one line.
 use Rattle.std.specs.Prelude.{◌≡◌, ◌⊎◌, ◌+◌, ◌<◌, ◌≤◌, ℕ, List, Option, Result, Ok, Err, take}
 use Rattle.std.specs.Io.KnownBytes.{Appends, Keeps}
-use Rattle.riak_msgs.specs.Contents.{Content}
-use Rattle.sibling_register.specs.Answers.{Ask}
-use Rattle.actor_epoch.specs.Given.{Context}
 use Rattle.node_steps.specs.declared.outcome.Outcome.{Outcome as Returned}
-use Rattle.node_steps.specs.Steps.{Step, number_of}
+use Rattle.node_steps.specs.Steps.{Step}
 use Rattle.node_steps.specs.Kept.{Follows}
 use Rattle.schedule_player.specs.declared.fault.StepsFault.{StepsFault}
 use Rattle.schedule_player.specs.declared.fault.StepsFault.TheVariants.{BadStep, ReadFailed, WriteFailed, NoMemory}
 use Rattle.schedule_player.specs.declared.player.Player.{Player}
 use Rattle.schedule_player.specs.Answers.{answer_line}
 use Rattle.schedule_player.specs.Asked.{AsksFor, AsksForNone}
-use Rattle.schedule_player.specs.Heard.{after_line, asked_in}
+use Rattle.schedule_player.specs.declared.asking.Note.{Note}
+use Rattle.schedule_player.specs.Calls.{after_note}
+use Rattle.schedule_player.specs.Heard.{after_line}
 
--- one line more was written and counted, of a worker that got this call or none; the world is the same
-pub record IsWritten (old : Player) (worker : ℕ) (asked : Option (Ask Content Context)) (outcome : Returned) (held held' : Option (List ℕ)) (new : Player) : Type 0 where
+-- one line more was written and counted, of a step of which this was noted; the world is the same
+pub record IsWritten (old : Player) (note : Note) (outcome : Returned) (held held' : Option (List ℕ)) (new : Player) : Type 0 where
   pub world : new.world ≡ old.world
   pub workers : new.workers ≡ old.workers
   pub ring : new.ring ≡ old.ring
   pub lines : new.lines ≡ old.lines + 1
-  pub heard : new.referee ≡ after_line (old.lines + 1) worker asked outcome old.referee
+  pub heard : new.referee ≡ after_note (old.lines + 1) note outcome old.referee
   pub written : Appends held held' (answer_line (old.lines + 1) outcome)
 
 -- a beginning of the next line was written
 abbrev pub IsCutTo : Player → Returned → Option (List ℕ) → Option (List ℕ) → Type 0
 IsCutTo old outcome held held' = (len : ℕ) × Appends held held' (take len (answer_line (old.lines + 1) outcome))
 
--- what came of a worker's step is written as the next line
-abbrev pub WritesLine : Player → ℕ → Option (Ask Content Context) → Returned → Option (List ℕ) → Option (List ℕ) → Player → Result (Unit {0}) StepsFault → Type 0
-WritesLine old worker asked outcome held held' new (Ok u) = IsWritten old worker asked outcome held held' new
-WritesLine old worker asked outcome held held' new (Err (BadStep line)) = ⊥
-WritesLine old worker asked outcome held held' new (Err ReadFailed) = ⊥
-WritesLine old worker asked outcome held held' new (Err WriteFailed) = IsCutTo old outcome held held' × (new.world ≡ old.world)
-WritesLine old worker asked outcome held held' new (Err NoMemory) = Keeps held held'
+-- what came of a step is written as the next line
+abbrev pub WritesLine : Player → Note → Returned → Option (List ℕ) → Option (List ℕ) → Player → Result (Unit {0}) StepsFault → Type 0
+WritesLine old note outcome held held' new (Ok u) = IsWritten old note outcome held held' new
+WritesLine old note outcome held held' new (Err (BadStep line)) = ⊥
+WritesLine old note outcome held held' new (Err ReadFailed) = ⊥
+WritesLine old note outcome held held' new (Err WriteFailed) = IsCutTo old outcome held held' × (new.world ≡ old.world)
+WritesLine old note outcome held held' new (Err NoMemory) = Keeps held held'
 
 -- a step was taken, and what it returned is the next line
 pub record IsAnswered (old : Player) (step : Step) (held held' : Option (List ℕ)) (new : Player) : Type 0 where
@@ -42,7 +41,7 @@ pub record IsAnswered (old : Player) (step : Step) (held held' : Option (List �
   pub workers : new.workers ≡ old.workers
   pub ring : new.ring ≡ old.ring
   pub lines : new.lines ≡ old.lines + 1
-  pub heard : new.referee ≡ after_line (old.lines + 1) (number_of step) (asked_in step) outcome old.referee
+  pub heard : new.referee ≡ after_line (old.lines + 1) step outcome old.referee
   pub written : Appends held held' (answer_line (old.lines + 1) outcome)
 
 -- a step was taken, and a beginning of its line was written

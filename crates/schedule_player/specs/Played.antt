@@ -1,5 +1,5 @@
 -- What a schedule's input is answered by.
-use Rattle.std.specs.Prelude.{◌≡◌, ◌⊎◌, ◌+◌, ◌^◌, ◌≤◌, ℕ, List, [], ◌∷◌, ◌++◌, length, take, Option, Result, Ok, Err}
+use Rattle.std.specs.Prelude.{◌≡◌, ◌⊎◌, ◌+◌, ◌^◌, ◌≤◌, ℕ, List, [], ◌∷◌, ◌++◌, length, take, codes, Option, Result, Ok, Err}
 use Rattle.std.specs.Io.KnownBytes.{Appends, Consumes}
 use Rattle.schedule_text.specs.Cuts.{Lacks, lines_of}
 use Rattle.node_steps.specs.Steps.{Step}
@@ -8,7 +8,7 @@ use Rattle.schedule_player.specs.declared.fault.StepsFault.{StepsFault}
 use Rattle.schedule_player.specs.declared.fault.StepsFault.TheVariants.{BadStep, ReadFailed, WriteFailed, NoMemory}
 use Rattle.schedule_player.specs.Answers.{answer_lines, next_line}
 use Rattle.schedule_player.specs.Asked.{AsksFor, AsksForNone, AskForAll}
-use Rattle.schedule_player.specs.Heard.{last_line}
+use Rattle.schedule_player.specs.Heard.{last_line, HasDiverted}
 
 -- where a run begins, on a ring of so many index bits
 abbrev pub start_on : (run workers ring : ℕ) → Start
@@ -24,10 +24,11 @@ module _ (start : Start) (ring : ℕ) where
     pub asks : AsksFor start.workers ring text step
     pub next_is : next ≡ next_line start schedule step
 
-  -- nothing is left, and this is the last line
+  -- nothing is left, and this is the last line, which after a diversion says that the run isn't compared
   pub record IsLastLine (schedule : List Step) (rest next : List ℕ) : Type 0 where
     pub nothing : rest ≡ []
     pub next_is : next ≡ last_line start schedule
+    pub diverted : HasDiverted start schedule → next ≡ codes "plain not compared\n"
 
   -- a beginning of the next line was written last, perhaps none of it
   pub record IsCutLine (schedule : List Step) (rest last : List ℕ) : Type 0 where

@@ -1,8 +1,9 @@
 //! The step that a line asks for, of the running world.
 
-ghost use Rattle.std.specs.Prelude.{◌≡◌, IfOk, is_some};
+ghost use Rattle.std.specs.Prelude.{◌≡◌, ℕ, IfOk, is_some};
 ghost use Rattle.schedule_player.specs.Asked.{gate_step, index_for, line_step};
-ghost use Rattle.schedule_player.specs.Calls.{call_in, call_of};
+ghost use Rattle.schedule_player.specs.Calls.{call_in, call_of, IsNoteOf};
+ghost use Rattle.schedule_player.specs.Heard.{is_diversion};
 ghost use Rattle.schedule_player.specs.Reads.{ReadsStep};
 ghost use Rattle.node_steps.specs.Steps.{number_of};
 ghost use Rattle.node_steps.specs.Asked.{step_of};
@@ -14,7 +15,7 @@ use ring_map::Ring;
 use schedule_text::{Action, GateStep, Line, LineFault, read_line};
 use std::alloc::{AllocError, Global};
 
-/// The index of the vnode that a request is for. (A ping is for none, and no line asks for one.)
+/// The index of the partition that a request is for. (A ping is for none, and no line asks for one.)
 fn index_for(ring: Ring, request: &Request) -> u16
     ensures { result ≡ index_for ring request.now }
 {
@@ -42,21 +43,21 @@ fn gate_step(worker: u16, step: GateStep) -> Step
     }
 }
 
-/// The step of a line: its worker's, and where it asks or reaps at the vnode of the key.
+/// The step of a line: its worker's, and where it asks or reaps for the partition of the key; or a partition's.
 fn line_step(ring: Ring, line: Line) -> Step
     ensures { result ≡ line_step ring line }
 {
-    let worker = line.worker;
-    match line.action {
-        Action::Ask(request) => {
+    match line {
+        Line::By(worker, Action::Ask(request)) => {
             let index = index_for(ring, &request);
             Step::Ask(worker, index, request)
         }
-        Action::Reap(key) => {
+        Line::By(worker, Action::Reap(key)) => {
             let index = ring.index(&key);
             Step::Reap(worker, index, key)
         }
-        Action::Gate(step) => gate_step(worker, step),
+        Line::By(worker, Action::Gate(step)) => gate_step(worker, step),
+        Line::Divert(index) => Step::Divert(index),
     }
 }
 
@@ -95,13 +96,14 @@ pub(crate) fn asks(step: &Step) -> bool
         | Step::Take(_)
         | Step::Put(_)
         | Step::Look(_)
-        | Step::Publish(_) => false,
+        | Step::Publish(_)
+        | Step::Divert(_) => false,
     }
 }
 
 /// A copy of the step on the heap, if it gives its worker a call.
 #[tactic(auto, using(crate::proofs::Calls::none_is))]
-pub(crate) fn kept_call(alloc: Global, step: &Step) -> Result<Option<Box<Step>>, AllocError>
+fn kept_call(alloc: Global, step: &Step) -> Result<Option<Box<Step>>, AllocError>
     ensures { IfOk result (λ call. call_in call ≡ call_of step.now) }
 {
     if !asks(step) {
@@ -112,8 +114,8 @@ pub(crate) fn kept_call(alloc: Global, step: &Step) -> Result<Option<Box<Step>>,
     Ok(Some(call))
 }
 
-/// The number of the worker that takes a step.
-pub(crate) fn worker_of(step: &Step) -> u16
+/// The number of the worker that takes a step; 0 of a partition's.
+fn worker_of(step: &Step) -> u16
     ensures { result ≡ number_of (step_of step.now) }
 {
     match step {
@@ -127,5 +129,45 @@ pub(crate) fn worker_of(step: &Step) -> u16
         | Step::Put(worker)
         | Step::Look(worker)
         | Step::Publish(worker) => *worker,
+        Step::Divert(_) => 0,
     }
+}
+
+/// What is to be heard of a step that is taken.
+#[derive(Drop)]
+pub(crate) enum Note {
+    /// The worker of this number takes it, and gets this call by it, if it asks something.
+    OfWorker(u16, Option<Box<Step>>),
+    /// It diverts a partition.
+    OfDiversion,
+}
+
+/// Whether the step diverts a partition.
+fn is_diversion(step: &Step) -> bool
+    ensures { result ≡ is_diversion (step_of step.now) }
+{
+    match step {
+        Step::Divert(_) => true,
+        Step::Ask(_, _, _)
+        | Step::Reap(_, _, _)
+        | Step::Enter(_)
+        | Step::Leave(_)
+        | Step::Mark(_)
+        | Step::Unmark(_)
+        | Step::Take(_)
+        | Step::Put(_)
+        | Step::Look(_)
+        | Step::Publish(_) => false,
+    }
+}
+
+/// What is to be heard of a step. It is refused where memory is.
+pub(crate) fn note_of(alloc: Global, step: &Step) -> Result<Note, AllocError>
+    ensures { IfOk result (λ note. IsNoteOf note (step_of step.now)) }
+{
+    if is_diversion(step) {
+        return Ok(Note::OfDiversion);
+    }
+    let call = kept_call(alloc, step)?;
+    Ok(Note::OfWorker(worker_of(step), call))
 }

@@ -2,7 +2,7 @@
 //!
 //! [`steps_on`] reads a schedule, one step a line (`schedule_text`), takes each step in a world of workers over vnodes
 //! (`node_steps`), and writes what came of it as one line, before it reads on. Behind the last of them stands the line of
-//! the comparison with a plain register.
+//! the comparison with a plain register; a run in which a partition was diverted isn't compared.
 //!
 //! What it means (`specs/Played`): what was written are the outcomes that the theorem's world has for the steps that the
 //! lines ask for, in their order, from the opening world on; the last line is a function of them (`specs/Heard`).

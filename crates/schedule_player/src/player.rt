@@ -2,11 +2,10 @@
 
 ghost use Rattle.std.specs.Prelude.{◌<◌};
 ghost use Rattle.node_steps.specs.Asked.{step_of};
-ghost use Rattle.schedule_player.specs.Calls.{call_in};
 ghost use Rattle.schedule_player.specs.Lines.{AnswersStep, PlaysLine, WritesLine};
 
 use crate::answer::write_answer;
-use crate::asking::{kept_call, read_step, worker_of};
+use crate::asking::{Note, note_of, read_step};
 use crate::fault::StepsFault;
 use crate::referee::Referee;
 use crate::sending::send;
@@ -56,10 +55,9 @@ impl Player {
         ensures { AnswersStep self.old (step_of step)
             (W.contents writer.old) (W.contents writer.new) self.new result }
     {
-        let worker = worker_of(&step);
-        let call = kept_call(alloc, &step)?;
+        let note = note_of(alloc, &step)?;
         match self.world.step(alloc, step) {
-            Ok(outcome) => self.write_line(alloc, worker, call, &outcome, writer),
+            Ok(outcome) => self.write_line(alloc, note, &outcome, writer),
             Err(_) => Err(StepsFault::NoMemory),
         }
     }
@@ -68,17 +66,16 @@ impl Player {
     fn write_line<W: Write>(
         &mut self,
         alloc: Global,
-        worker: u16,
-        call: Option<Box<Step>>,
+        note: Note,
         outcome: &Outcome,
         writer: &mut W,
     ) -> Result<(), StepsFault>
         requires { self.old.lines < 100000 }
-        ensures { WritesLine self.old worker (call_in call) outcome.now
+        ensures { WritesLine self.old note outcome.now
             (W.contents writer.old) (W.contents writer.new) self.new result }
     {
         let number = u64::from(self.lines) + 1;
-        self.referee.hear(alloc, number, worker, call, outcome)?;
+        self.referee.hear(alloc, number, note, outcome)?;
         let line = write_answer(alloc, number, outcome)?;
         self.lines += 1;
         send(writer, line.as_slice())

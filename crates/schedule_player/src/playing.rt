@@ -21,7 +21,7 @@ const PIECE: usize = 4096;
 const MAX_READS: u64 = 4_294_967_296;
 
 /// Plays the schedule that is read from `reader`, and writes to `writer` a line for each of its lines, and the line of the
-/// comparison with a plain register. `workers` workers, without a call, begin over the vnodes of `ring`, before any event of
+/// comparison with a plain register, which is `plain not compared` where a partition was diverted. `workers` workers, without a call, begin over the vnodes of `ring`, before any event of
 /// this run.
 ///
 /// A read takes up to 4,096 bytes, and each line that has come is answered before the next read, at the latest. The last line

@@ -7,10 +7,10 @@ ghost use Rattle.actor_epoch.specs.Given.{Context};
 ghost use Rattle.sibling_register.specs.Answers.{Ask};
 ghost use Rattle.node_steps.specs.declared.outcome.Outcome.TheVariants.{Done};
 ghost use Rattle.schedule_text.specs.Compared.{after_call};
-ghost use Rattle.schedule_player.specs.Calls.{call_in, call_of};
-ghost use Rattle.schedule_player.specs.Heard.{after_line, last_call, nothing_heard, reaped, replied, with_call};
+ghost use Rattle.schedule_player.specs.Calls.{after_note, call_in, call_of};
+ghost use Rattle.schedule_player.specs.Heard.{after_act, after_diversion, last_call, nothing_heard, reaped, replied, with_call};
 
-use crate::asking::asks;
+use crate::asking::{Note, asks};
 use node_steps::{Outcome, Step};
 use riak_msgs::Reply;
 use schedule_text::{Comparison, Verdict};
@@ -105,7 +105,8 @@ fn tell(comparison: &mut Comparison, call: &Step)
         | Step::Take(_)
         | Step::Put(_)
         | Step::Look(_)
-        | Step::Publish(_) => {}
+        | Step::Publish(_)
+        | Step::Divert(_) => {}
     }
 }
 
@@ -146,7 +147,7 @@ impl Referee {
     /// Takes down the call that a worker got.
     #[tactic(auto, using(crate::proofs::Calls::called_is, crate::proofs::Calls::none_is))]
     fn hear_call(&mut self, worker: u16, call: Option<Box<Step>>)
-        ensures { self.new ≡ after_line 0 worker (call_in call) Done self.old }
+        ensures { self.new ≡ after_act 0 worker (call_in call) Done self.old }
     {
         let Some(call) = call else {
             return;
@@ -158,11 +159,41 @@ impl Referee {
         keep(&mut self.calls, worker, call);
     }
 
-    /// Takes down what came of the step of a line: the call that the worker got, or the answer to its last one.
+    /// Takes down what came of the step of a line: the call that its worker got, or the answer to its last one, or that a
+    /// partition was diverted.
     ///
     /// Refused where memory is; the referee is then of no more use.
-    #[tactic(auto, using(crate::proofs::Hearing::heard_reap))]
     pub(crate) fn hear(
+        &mut self,
+        alloc: Global,
+        line: u64,
+        note: Note,
+        outcome: &Outcome,
+    ) -> Result<(), AllocError>
+        ensures { OnOk result (self.new ≡ after_note line note outcome.now self.old) }
+    {
+        match note {
+            Note::OfWorker(worker, call) => self.hear_act(alloc, line, worker, call, outcome),
+            Note::OfDiversion => {
+                self.hear_diversion(outcome);
+                Ok(())
+            }
+        }
+    }
+
+    /// Takes down what came of a partition's step: where it was diverted, the run isn't compared.
+    fn hear_diversion(&mut self, outcome: &Outcome)
+        ensures { self.new ≡ after_diversion outcome.now self.old }
+    {
+        match outcome {
+            Outcome::Done => self.comparison.end(),
+            Outcome::No | Outcome::Reply(_) | Outcome::Reaped | Outcome::Kept => {}
+        }
+    }
+
+    /// Takes down what came of a worker's step.
+    #[tactic(auto, using(crate::proofs::Hearing::heard_reap))]
+    fn hear_act(
         &mut self,
         alloc: Global,
         line: u64,
@@ -171,7 +202,7 @@ impl Referee {
         outcome: &Outcome,
     ) -> Result<(), AllocError>
         ensures { OnOk result (
-            self.new ≡ after_line line worker (call_in call) outcome.now self.old) }
+            self.new ≡ after_act line worker (call_in call) outcome.now self.old) }
     {
         match outcome {
             Outcome::No => Ok(()),

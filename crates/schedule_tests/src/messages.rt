@@ -42,6 +42,12 @@ pub const SHOWS_V: Message = Message {
     body: b"\x0a\x03\x0a\x01v\x12\x15\x02\0\0\0\0\0\x01\0\0\0\0\0\x01\0\0\0\0\0\0\0\x01",
 };
 
+/// The reply to a get that shows "v", the first write of the fallback of the vnode 0 of run 1, and its context.
+pub const SHOWS_V_AT_FALLBACK: Message = Message {
+    code: 10,
+    body: b"\x0a\x03\x0a\x01v\x12\x15\x02\0\0\0\0\0\x01\x80\0\0\0\0\x01\0\0\0\0\0\0\0\x01",
+};
+
 /// The reply to a put.
 pub const STORED: Message = Message {
     code: 12,

@@ -2,5 +2,6 @@
 
 mod compared;
 mod comparing;
+pub(crate) mod cutting;
 mod outcomes;
-pub(crate) mod reading;
+mod reading;

@@ -1,5 +1,5 @@
 -- The operands of a line, and what they ask for.
-use Rattle.std.proofs.Common.{◌≡◌, ℕ, ◌<◌, List, [], ◌∷◌, ◌++◌, Some, Result, Ok, Err, codes, refl, sym, ap, ◌∙◌, subst, inl, inr, true, false, arith}
+use Rattle.std.proofs.Common.{◌≡◌, ℕ, ◌<◌, List, [], ◌∷◌, ◌++◌, Some, None, Result, Ok, Err, codes, refl, sym, ap, ◌∙◌, subst, inl, inr, true, false, arith}
 use Rattle.std.specs.Prelude.{◌^◌, ◌≢◌, decimal}
 use Rattle.std.specs.Str.{bytes_eq}
 use Rattle.std.proofs.lemmas.Slice.Eq.{bytes_eq-Decides}
@@ -10,14 +10,15 @@ use Rattle.riak_msgs.specs.declared.request.Request.TheVariants as requests
 use Rattle.schedule_text.specs.declared.fault.LineFault.{LineFault}
 use Rattle.schedule_text.specs.declared.fault.LineFault.TheVariants.{BadStep, NoMemory}
 use Rattle.schedule_text.specs.declared.line.Line.{Line}
+use Rattle.schedule_text.specs.declared.line.Line.TheVariants.{By, Divert}
 use Rattle.schedule_text.specs.declared.line.Action.{Action}
 use Rattle.schedule_text.specs.declared.line.Action.TheVariants.{Ask, Reap, Gate}
 use Rattle.schedule_text.specs.declared.line.GateStep.{GateStep}
 use Rattle.schedule_text.specs.Cuts.{IsCut}
-use Rattle.schedule_text.specs.Lines.{gate_word, word_of, operand_text, IsWorker, HasOperands, IsLine}
-use Rattle.schedule_text.specs.Reading.{Reads, ReadsOperands, Asks, ReadsAsked, MakesReap, ReadsHexMessage}
+use Rattle.schedule_text.specs.Lines.{gate_word, action_word, word_of, operand_text, IsWorker, HasWorker, HasOperands, IsLine}
+use Rattle.schedule_text.specs.Reading.{Reads, ReadsDecimal, ReadsOperands, Asks, ReadsAsked, MakesReap, ReadsHexMessage}
 use Rattle.schedule_text.proofs.Cutting.{cut_once}
-use Rattle.schedule_text.proofs.Words.{word-lacks_space, decimal-lacks_space, gate_word-not_ask, gate_word-not_reap, reap-not_ask}
+use Rattle.schedule_text.proofs.Words.{word-lacks_space, decimal-lacks_space, gate_word-not_ask, gate_word-not_reap, reap-not_ask, action_word-not_divert, divert-not_ask, divert-not_reap}
 use Rattle.schedule_text.proofs.Hexadecimal.{hex_once}
 use Rattle.schedule_text.proofs.Messages.{asks_once}
 
@@ -76,14 +77,14 @@ asks_one workers u v text a b few x y =
     asks_once y.message a b (rw same at x.asks) y.asks
 
 -- the operands of an ask ask for its request
-ask_asks : (workers worker : ℕ) (text : List ℕ) (action : Action) → word_of action ≡ codes "ask"
-    → HasOperands workers text (record { worker = worker; action = action }) → (request : Request) × Asks workers text worker request
+ask_asks : (workers worker : ℕ) (text : List ℕ) (action : Action) → action_word action ≡ codes "ask"
+    → HasWorker workers text worker action → (request : Request) × Asks workers text worker request
 ask_asks workers worker text (Ask request) word has = (
   request,
   record {
     message = has.carries.message;
     whole = has.whole ∙ ap (operand_text worker) has.carries.is;
-    is_worker = has.worker;
+    is_worker = has.is_worker;
     bytes = has.carries.bytes;
     asks = has.carries.asks;
   },
@@ -92,8 +93,8 @@ ask_asks workers worker text (Reap key) word has = absurd (reap-not_ask word)
 ask_asks workers worker text (Gate step) word has = absurd (gate_word-not_ask step word)
 
 -- the operands of a reap ask for a get
-reap_asks : (workers worker : ℕ) (text : List ℕ) (action : Action) → word_of action ≡ codes "reap"
-    → HasOperands workers text (record { worker = worker; action = action })
+reap_asks : (workers worker : ℕ) (text : List ℕ) (action : Action) → action_word action ≡ codes "reap"
+    → HasWorker workers text worker action
     → (get : GetAsk) × Asks workers text worker (requests.Get get)
 reap_asks workers worker text (Ask request) word has = absurd (reap-not_ask (sym word))
 reap_asks workers worker text (Reap key) word has = (
@@ -101,36 +102,48 @@ reap_asks workers worker text (Reap key) word has = (
   record {
     message = has.carries.2.message;
     whole = has.whole ∙ ap (operand_text worker) has.carries.2.is;
-    is_worker = has.worker;
+    is_worker = has.is_worker;
     bytes = has.carries.2.bytes;
     asks = has.carries.2.asks;
   },
 )
 reap_asks workers worker text (Gate step) word has = absurd (gate_word-not_reap step word)
 
+-- a line that isn't one of an ask, where its operands ask for no request
+no_ask : (workers : ℕ) (text : List ℕ) → ((worker : ℕ) (request : Request) → ¬ (Asks workers text worker request))
+    → (line : Line) → word_of line ≡ codes "ask" → ¬ (HasOperands workers text line)
+no_ask workers text reads (By worker action) word has =
+    let asks = ask_asks workers worker text action word has in
+    reads worker asks.0 asks.1
+no_ask workers text reads (Divert index) word has = divert-not_ask word
+
+-- the same of a reap, where they ask for no get
+no_reap_line : (workers : ℕ) (text : List ℕ) → ((worker : ℕ) (get : GetAsk) → ¬ (Asks workers text worker (requests.Get get)))
+    → (line : Line) → word_of line ≡ codes "reap" → ¬ (HasOperands workers text line)
+no_reap_line workers text reads (By worker action) word has =
+    let asks = reap_asks workers worker text action word has in
+    reads worker asks.0 asks.1
+no_reap_line workers text reads (Divert index) word has = divert-not_reap word
+
 pub ask_refused : (workers : ℕ) (text : List ℕ) (fault : LineFault) → ReadsAsked workers text (Err fault)
     → ReadsOperands (codes "ask") workers text (Err fault)
-ask_refused workers text BadStep reads = λ line word has.
-    let asks = ask_asks workers line.worker text line.action word has in
-    reads line.worker asks.0 asks.1
+ask_refused workers text BadStep reads = no_ask workers text reads
 ask_refused workers text NoMemory reads = (inl refl, reads)
 
 pub reap_refused : (workers : ℕ) (text : List ℕ) (fault : LineFault) → ReadsAsked workers text (Err fault)
     → ReadsOperands (codes "reap") workers text (Err fault)
-reap_refused workers text BadStep reads = λ line word has.
-    let asks = reap_asks workers line.worker text line.action word has in
-    reads line.worker (requests.Get asks.0) asks.1
+reap_refused workers text BadStep reads = no_reap_line workers text (λ worker get asks. reads worker (requests.Get get) asks)
 reap_refused workers text NoMemory reads = (inr refl, reads)
 
 -- a reap's line
 reap_line : (workers worker : ℕ) (text : List ℕ) (get : GetAsk) → Asks workers text worker (requests.Get get)
-    → ReadsOperands (codes "reap") workers text (Ok (record { worker = worker; action = Reap get.key }))
+    → ReadsOperands (codes "reap") workers text (Ok (By worker (Reap get.key)))
 reap_line workers worker text get asks = (
   refl,
   record {
     carried = Some asks.message;
     whole = asks.whole;
-    worker = asks.is_worker;
+    is_worker = asks.is_worker;
     carries = (get, refl, record { message = asks.message; is = refl; bytes = asks.bytes; asks = asks.asks });
   },
 )
@@ -138,9 +151,8 @@ reap_line workers worker text get asks = (
 -- a request that is no get is no reap
 no_reap : (workers worker : ℕ) (text : List ℕ) (request : Request) → workers < 2 ^ 16 → Asks workers text worker request
     → ((get : GetAsk) → request ≢ requests.Get get) → ReadsOperands (codes "reap") workers text (Err BadStep)
-no_reap workers worker text request few asks other = λ line word has.
-    let get = reap_asks workers line.worker text line.action word has in
-    other get.0 (asks_one workers worker line.worker text request (requests.Get get.0) few asks get.1)
+no_reap workers worker text request few asks other =
+    no_reap_line workers text (λ one get reaps. other get (asks_one workers worker one text request (requests.Get get) few asks reaps))
 
 pub reap_read : (workers worker : ℕ) (text : List ℕ) (request : Request) (r : Result Line LineFault) → workers < 2 ^ 16
     → Asks workers text worker request → MakesReap worker request r → ReadsOperands (codes "reap") workers text r
@@ -160,7 +172,7 @@ whole_line workers text word operands known (Ok line) cut is reads = record {
   stand = reads.1;
 }
 whole_line workers text word operands known (Err BadStep) cut is reads = λ line has.
-    let parts = cut_once 32 word operands (word_of line.action) has.operands cut.first (word-lacks_space line.action) (sym cut.whole ∙ has.whole) in
+    let parts = cut_once 32 word operands (word_of line) has.operands cut.first (word-lacks_space line) (sym cut.whole ∙ has.whole) in
     reads line (sym parts.0 ∙ is) (subst (λ o. HasOperands workers o line) (sym parts.1) has.stand)
 whole_line workers text word operands known (Err NoMemory) cut is reads = record {
   word = known;
@@ -174,20 +186,31 @@ whole_line workers text word operands known (Err NoMemory) cut is reads = record
 pub same_text : (a b : List ℕ) → true ≡ bytes_eq a b → a ≡ b
 same_text a b e = (bytes_eq-Decides a b).0 (sym e)
 
--- the word of an action, where it isn't one of these
-none_of : (action : Action) (word : List ℕ) → ((step : GateStep) → gate_word step ≢ word) → bytes_eq word (codes "ask") ≡ false
-    → bytes_eq word (codes "reap") ≡ false → word_of action ≢ word
-none_of (Ask request) word gate ask reap e =
+-- an index is refused where the text writes none
+pub divert_refused : (workers : ℕ) (text : List ℕ) → ReadsDecimal text None → ReadsOperands (codes "divert") workers text (Err BadStep)
+divert_refused workers text none = λ line word has. by line word has
+  where
+    by : (line : Line) → word_of line ≡ codes "divert" → ¬ (HasOperands workers text line)
+    by (By worker action) word has = action_word-not_divert action word
+    by (Divert index) word has = none index has.fits has.whole
+
+-- the word of a line, where it isn't one of these
+none_of : (line : Line) (word : List ℕ) → ((step : GateStep) → gate_word step ≢ word) → bytes_eq word (codes "ask") ≡ false
+    → bytes_eq word (codes "reap") ≡ false → bytes_eq word (codes "divert") ≡ false → word_of line ≢ word
+none_of (By worker (Ask request)) word gate ask reap divert e =
     let yes : bytes_eq word (codes "ask") ≡ true = (bytes_eq-Decides word (codes "ask")).1 (sym e) in
     cc (sym yes ∙ ask)
-none_of (Reap key) word gate ask reap e =
+none_of (By worker (Reap key)) word gate ask reap divert e =
     let yes : bytes_eq word (codes "reap") ≡ true = (bytes_eq-Decides word (codes "reap")).1 (sym e) in
     cc (sym yes ∙ reap)
-none_of (Gate step) word gate ask reap e = gate step e
+none_of (By worker (Gate step)) word gate ask reap divert e = gate step e
+none_of (Divert index) word gate ask reap divert e =
+    let yes : bytes_eq word (codes "divert") ≡ true = (bytes_eq-Decides word (codes "divert")).1 (sym e) in
+    cc (sym yes ∙ divert)
 
 pub no_word : (workers : ℕ) (text word operands : List ℕ) → IsCut 32 text word operands
     → ((step : GateStep) → gate_word step ≢ word) → bytes_eq word (codes "ask") ≡ false
-    → bytes_eq word (codes "reap") ≡ false → (line : Line) → ¬ (IsLine workers text line)
-no_word workers text word operands cut gate ask reap line has =
-    let parts = cut_once 32 word operands (word_of line.action) has.operands cut.first (word-lacks_space line.action) (sym cut.whole ∙ has.whole) in
-    none_of line.action word gate ask reap (sym parts.0)
+    → bytes_eq word (codes "reap") ≡ false → bytes_eq word (codes "divert") ≡ false → (line : Line) → ¬ (IsLine workers text line)
+no_word workers text word operands cut gate ask reap divert line has =
+    let parts = cut_once 32 word operands (word_of line) has.operands cut.first (word-lacks_space line) (sym cut.whole ∙ has.whole) in
+    none_of line word gate ask reap divert (sym parts.0)

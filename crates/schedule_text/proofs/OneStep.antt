@@ -1,5 +1,5 @@
 -- A line asks for one step.
-use Rattle.std.proofs.Common.{◌≡◌, ℕ, ◌<◌, List, Option, Some, None, if◌then◌else◌, refl, sym, ap, subst, ◌∙◌}
+use Rattle.std.proofs.Common.{◌≡◌, ℕ, ◌<◌, List, Option, Some, None, if◌then◌else◌, refl, sym, ap, subst, ◌∙◌, arith}
 use Rattle.std.specs.Prelude.{◌^◌, decimal, codes}
 use Rattle.std.specs.Str.{bytes_eq}
 use Rattle.std.proofs.lemmas.List.{append-nil}
@@ -10,15 +10,16 @@ use Rattle.riak_msgs.specs.declared.get.GetAsk.{GetAsk}
 use Rattle.riak_msgs.specs.declared.request.Request.{Request}
 use Rattle.riak_msgs.specs.declared.request.Request.TheVariants as requests
 use Rattle.schedule_text.specs.declared.line.Line.{Line}
+use Rattle.schedule_text.specs.declared.line.Line.TheVariants.{By, Divert}
 use Rattle.schedule_text.specs.declared.line.Action.{Action}
 use Rattle.schedule_text.specs.declared.line.Action.TheVariants.{Ask, Reap, Gate}
 use Rattle.schedule_text.specs.declared.line.GateStep.{GateStep}
 use Rattle.schedule_text.specs.declared.line.GateStep.TheVariants.{Enter, Leave, Mark, Unmark, Take, Put, Look, Publish}
 use Rattle.schedule_text.specs.Cuts.{IsCut}
-use Rattle.schedule_text.specs.Lines.{gate_word, word_of, operand_text, IsWorker, CarriesRequest, HasOperands, IsLine}
+use Rattle.schedule_text.specs.Lines.{gate_word, action_word, word_of, operand_text, IsWorker, CarriesRequest, HasWorker, HasIndex, HasOperands, IsLine}
 use Rattle.schedule_text.specs.Reading.{Asks}
 use Rattle.schedule_text.proofs.Cutting.{cut_once}
-use Rattle.schedule_text.proofs.Words.{word-lacks_space, decimal-lacks_space, gate_word-not_ask, gate_word-not_reap, reap-not_ask}
+use Rattle.schedule_text.proofs.Words.{word-lacks_space, decimal-lacks_space, gate_word-not_ask, gate_word-not_reap, reap-not_ask, action_word-not_divert}
 use Rattle.schedule_text.proofs.LineOperands.{worker-small, operands_cut, asks_one}
 
 -- the step of a word
@@ -73,10 +74,6 @@ get_in other (requests.Get get) = get
 get_in other (requests.Put put) = other
 get_in other (requests.Del del) = other
 
--- the step of a worker
-abbrev line_of : ℕ → Action → Line
-line_of worker action = record { worker = worker; action = action }
-
 -- what operands with a request ask
 asks_carried : (workers worker : ℕ) (text : List ℕ) (carried : Option (List ℕ)) (request : Request)
     → text ≡ operand_text worker carried → IsWorker workers worker → CarriesRequest carried request
@@ -89,24 +86,24 @@ asks_carried workers worker text carried request whole is_worker carries = recor
   asks = carries.asks;
 }
 
-ask_once : (workers u v : ℕ) (text : List ℕ) (r s : Request) → workers < 2 ^ 16 → HasOperands workers text (line_of u (Ask r))
-    → HasOperands workers text (line_of v (Ask s)) → line_of u (Ask r) ≡ line_of v (Ask s)
+ask_once : (workers u v : ℕ) (text : List ℕ) (r s : Request) → workers < 2 ^ 16 → HasWorker workers text u (Ask r)
+    → HasWorker workers text v (Ask s) → By u (Ask r) ≡ By v (Ask s)
 ask_once workers u v text r s few x y =
-    let left = asks_carried workers u text x.carried r x.whole x.worker x.carries in
-    let right = asks_carried workers v text y.carried s y.whole y.worker y.carries in
+    let left = asks_carried workers u text x.carried r x.whole x.is_worker x.carries in
+    let right = asks_carried workers v text y.carried s y.whole y.is_worker y.carries in
     rw (worker_once workers u v text r s few left right, asks_one workers u v text r s few left right) refl
 
 -- the get that a reap carries
-reap_get : (workers worker : ℕ) (text : List ℕ) (key : Key) → HasOperands workers text (line_of worker (Reap key))
+reap_get : (workers worker : ℕ) (text : List ℕ) (key : Key) → HasWorker workers text worker (Reap key)
     → (get : GetAsk) × (get.key ≡ key) × Asks workers text worker (requests.Get get)
 reap_get workers worker text key has = (
   has.carries.0,
   has.carries.1,
-  asks_carried workers worker text has.carried (requests.Get has.carries.0) has.whole has.worker has.carries.2,
+  asks_carried workers worker text has.carried (requests.Get has.carries.0) has.whole has.is_worker has.carries.2,
 )
 
-reap_once : (workers u v : ℕ) (text : List ℕ) (k l : Key) → workers < 2 ^ 16 → HasOperands workers text (line_of u (Reap k))
-    → HasOperands workers text (line_of v (Reap l)) → line_of u (Reap k) ≡ line_of v (Reap l)
+reap_once : (workers u v : ℕ) (text : List ℕ) (k l : Key) → workers < 2 ^ 16 → HasWorker workers text u (Reap k)
+    → HasWorker workers text v (Reap l) → By u (Reap k) ≡ By v (Reap l)
 reap_once workers u v text k l few x y =
     let left = reap_get workers u text k x in
     let right = reap_get workers v text l y in
@@ -116,17 +113,17 @@ reap_once workers u v text k l few x y =
     rw (worker_once workers u v text (requests.Get left.0) (requests.Get right.0) few left.2 right.2, key) refl
 
 gate_once : (workers u v : ℕ) (text : List ℕ) (s t : GateStep) → workers < 2 ^ 16 → gate_word s ≡ gate_word t
-    → HasOperands workers text (line_of u (Gate s)) → HasOperands workers text (line_of v (Gate t))
-    → line_of u (Gate s) ≡ line_of v (Gate t)
+    → HasWorker workers text u (Gate s) → HasWorker workers text v (Gate t)
+    → By u (Gate s) ≡ By v (Gate t)
 gate_once workers u v text s t few word x y =
     let left = number_alone text u x.carried x.whole x.carries in
     let right = number_alone text v y.carried y.whole y.carries in
-    let one : u ≡ v = decimal_injective u v (worker-small workers u few x.worker) (worker-small workers v few y.worker) (sym left ∙ right) in
+    let one : u ≡ v = decimal_injective u v (worker-small workers u few x.is_worker) (worker-small workers v few y.is_worker) (sym left ∙ right) in
     rw (one, step_once s t word) refl
 
 -- behind one word stand the operands of one step
-action_once : (workers u v : ℕ) (text : List ℕ) (p q : Action) → workers < 2 ^ 16 → word_of p ≡ word_of q
-    → HasOperands workers text (line_of u p) → HasOperands workers text (line_of v q) → line_of u p ≡ line_of v q
+action_once : (workers u v : ℕ) (text : List ℕ) (p q : Action) → workers < 2 ^ 16 → action_word p ≡ action_word q
+    → HasWorker workers text u p → HasWorker workers text v q → By u p ≡ By v q
 action_once workers u v text (Ask r) (Ask s) few word x y = ask_once workers u v text r s few x y
 action_once workers u v text (Ask r) (Reap l) few word x y = absurd (reap-not_ask (sym word))
 action_once workers u v text (Ask r) (Gate t) few word x y = absurd (gate_word-not_ask t (sym word))
@@ -137,10 +134,22 @@ action_once workers u v text (Gate s) (Ask r) few word x y = absurd (gate_word-n
 action_once workers u v text (Gate s) (Reap l) few word x y = absurd (gate_word-not_reap s word)
 action_once workers u v text (Gate s) (Gate t) few word x y = gate_once workers u v text s t few word x y
 
+small_index : (index : ℕ) → index < 2 ^ 16 → index < 2 ^ 64
+small_index index h = omega (arith, h)
+
+index_once : (text : List ℕ) (i j : ℕ) → HasIndex text i → HasIndex text j → Divert i ≡ Divert j
+index_once text i j x y = ap (λ n. Divert n) (decimal_injective i j (small_index i x.fits) (small_index j y.fits) (sym x.whole ∙ y.whole))
+
+-- behind one word stand the operands of one line
+line_once : (workers : ℕ) (text : List ℕ) (a b : Line) → workers < 2 ^ 16 → word_of a ≡ word_of b
+    → HasOperands workers text a → HasOperands workers text b → a ≡ b
+line_once workers text (By u p) (By v q) few word x y = action_once workers u v text p q few word x y
+line_once workers text (By u p) (Divert j) few word x y = absurd (action_word-not_divert p word)
+line_once workers text (Divert i) (By v q) few word x y = absurd (action_word-not_divert q (sym word))
+line_once workers text (Divert i) (Divert j) few word x y = index_once text i j x y
+
 pub one_step : (workers : ℕ) (text : List ℕ) (a b : Line) → workers < 2 ^ 16 → IsLine workers text a → IsLine workers text b
     → a ≡ b
 one_step workers text a b few x y =
-    let parts = cut_once 32 (word_of a.action) x.operands (word_of b.action) y.operands
-    (word-lacks_space a.action) (word-lacks_space b.action) (sym x.whole ∙ y.whole) in
-    action_once workers a.worker b.worker y.operands a.action b.action few parts.0
-    (subst (λ o. HasOperands workers o a) parts.1 x.stand) y.stand
+    let parts = cut_once 32 (word_of a) x.operands (word_of b) y.operands (word-lacks_space a) (word-lacks_space b) (sym x.whole ∙ y.whole) in
+    line_once workers y.operands a b few parts.0 (subst (λ o. HasOperands workers o a) parts.1 x.stand) y.stand

@@ -6,12 +6,14 @@ use Rattle.std.specs.Char.{digit_value}
 use Rattle.std.specs.Str.Parse.{AllDigits}
 use Rattle.std.proofs.lemmas.Fmt.{decimal_is_IsNumeral}
 use Rattle.std.proofs.lemmas.Str.Parse.{digit_from_value}
+use Rattle.schedule_text.specs.declared.line.Line.{Line}
+use Rattle.schedule_text.specs.declared.line.Line.TheVariants.{By, Divert}
 use Rattle.schedule_text.specs.declared.line.Action.{Action}
 use Rattle.schedule_text.specs.declared.line.Action.TheVariants.{Ask, Reap, Gate}
 use Rattle.schedule_text.specs.declared.line.GateStep.{GateStep}
 use Rattle.schedule_text.specs.declared.line.GateStep.TheVariants.{Enter, Leave, Mark, Unmark, Take, Put, Look, Publish}
 use Rattle.schedule_text.specs.Cuts.{Lacks}
-use Rattle.schedule_text.specs.Lines.{gate_word, word_of}
+use Rattle.schedule_text.specs.Lines.{gate_word, action_word, word_of}
 
 gate_word-lacks_space : (step : GateStep) → Lacks 32 (gate_word step)
 gate_word-lacks_space Enter = refl
@@ -23,10 +25,14 @@ gate_word-lacks_space Put = refl
 gate_word-lacks_space Look = refl
 gate_word-lacks_space Publish = refl
 
-pub word-lacks_space : (action : Action) → Lacks 32 (word_of action)
-word-lacks_space (Ask request) = refl
-word-lacks_space (Reap key) = refl
-word-lacks_space (Gate step) = gate_word-lacks_space step
+action_word-lacks_space : (action : Action) → Lacks 32 (action_word action)
+action_word-lacks_space (Ask request) = refl
+action_word-lacks_space (Reap key) = refl
+action_word-lacks_space (Gate step) = gate_word-lacks_space step
+
+pub word-lacks_space : (line : Line) → Lacks 32 (word_of line)
+word-lacks_space (By worker action) = action_word-lacks_space action
+word-lacks_space (Divert index) = refl
 
 -- a digit isn't a space
 not_space : (c : ℕ) → digit_value c < 10 → not (c == 32) ≡ true
@@ -41,7 +47,7 @@ digits-lack_space (d ∷ ds) all = rw (not_space d all.0, digits-lack_space ds a
 pub decimal-lacks_space : (n : ℕ) → n < 2 ^ 64 → Lacks 32 (decimal n)
 decimal-lacks_space n small = digits-lack_space (decimal n) (decimal_is_IsNumeral n small).0.1
 
--- the word of a gate's step is neither `ask` nor `reap`
+-- the word of a gate's step is neither `ask` nor `reap` nor `divert`
 other_than : (a b : List ℕ) → bytes_eq a b ≡ false → bytes_eq b b ≡ true → a ≢ b
 other_than a b unlike same e =
     let yes : bytes_eq a b ≡ true = ap (λ x. bytes_eq x b) e ∙ same in
@@ -67,6 +73,28 @@ gate_word-not_reap Put = other_than (codes "put") (codes "reap") refl refl
 gate_word-not_reap Look = other_than (codes "look") (codes "reap") refl refl
 gate_word-not_reap Publish = other_than (codes "publish") (codes "reap") refl refl
 
+gate_word-not_divert : (step : GateStep) → gate_word step ≢ codes "divert"
+gate_word-not_divert Enter = other_than (codes "enter") (codes "divert") refl refl
+gate_word-not_divert Leave = other_than (codes "leave") (codes "divert") refl refl
+gate_word-not_divert Mark = other_than (codes "mark") (codes "divert") refl refl
+gate_word-not_divert Unmark = other_than (codes "unmark") (codes "divert") refl refl
+gate_word-not_divert Take = other_than (codes "take") (codes "divert") refl refl
+gate_word-not_divert Put = other_than (codes "put") (codes "divert") refl refl
+gate_word-not_divert Look = other_than (codes "look") (codes "divert") refl refl
+gate_word-not_divert Publish = other_than (codes "publish") (codes "divert") refl refl
+
 -- the two others are different
 pub reap-not_ask : codes "reap" ≢ codes "ask"
 reap-not_ask = other_than (codes "reap") (codes "ask") refl refl
+
+-- and none is a partition's
+pub action_word-not_divert : (action : Action) → action_word action ≢ codes "divert"
+action_word-not_divert (Ask request) = other_than (codes "ask") (codes "divert") refl refl
+action_word-not_divert (Reap key) = other_than (codes "reap") (codes "divert") refl refl
+action_word-not_divert (Gate step) = gate_word-not_divert step
+
+pub divert-not_ask : codes "divert" ≢ codes "ask"
+divert-not_ask = other_than (codes "divert") (codes "ask") refl refl
+
+pub divert-not_reap : codes "divert" ≢ codes "reap"
+divert-not_reap = other_than (codes "divert") (codes "reap") refl refl

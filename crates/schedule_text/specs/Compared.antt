@@ -93,10 +93,13 @@ is_asked (replies.Get reply) = true
 is_asked (replies.Put reply) = true
 is_asked replies.Del = true
 
+-- the run isn't compared
+abbrev pub not_compared : Compared → Compared
+not_compared known = record known { verdict = NotCompared }
+
 -- a worker got a call: where that gives a context that wasn't shown, the run isn't compared
 abbrev pub after_call : Ask Content Context → Compared → Compared
-after_call ask known =
-    if is_unknown known.shown (key_of ask) (given_in ask) then record known { verdict = NotCompared } else known
+after_call ask known = if is_unknown known.shown (key_of ask) (given_in ask) then not_compared known else known
 
 -- what a position is asked as: it is never past the end, and the minimum only says so
 abbrev pub within : PlainHistory → Option ℕ → Option ℕ

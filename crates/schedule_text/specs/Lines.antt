@@ -1,11 +1,12 @@
 -- The text of a schedule's line, and the step that it asks for.
-use Rattle.std.specs.Prelude.{◌≡◌, ◌≢◌, ◌≤◌, ◌⊎◌, ℕ, List, [], ◌∷◌, ◌++◌, Option, Some, None, Ok, codes, decimal}
+use Rattle.std.specs.Prelude.{◌≡◌, ◌<◌, ◌^◌, ◌≢◌, ◌≤◌, ◌⊎◌, ℕ, List, [], ◌∷◌, ◌++◌, Option, Some, None, Ok, codes, decimal}
 use Rattle.hex.specs.Hex.{encode_lower, IsBytes}
 use Rattle.riak_msgs.specs.declared.get.GetAsk.{GetAsk}
 use Rattle.riak_msgs.specs.declared.request.Request.{Request}
 use Rattle.riak_msgs.specs.declared.request.Request.TheVariants as requests
 use Rattle.riak_msgs.specs.Reading.{Decodes}
 use Rattle.schedule_text.specs.declared.line.Line.{Line}
+use Rattle.schedule_text.specs.declared.line.Line.TheVariants.{By, Divert}
 use Rattle.schedule_text.specs.declared.line.Action.{Action}
 use Rattle.schedule_text.specs.declared.line.Action.TheVariants.{Ask, Reap, Gate}
 use Rattle.schedule_text.specs.declared.line.GateStep.{GateStep}
@@ -34,10 +35,15 @@ NamesInnerStep word None =
     (gate_word Take ≢ word) × (gate_word Put ≢ word) × (gate_word Look ≢ word) × (gate_word Publish ≢ word)
 
 -- the word of an action
-abbrev pub word_of : Action → List ℕ
-word_of (Ask request) = codes "ask"
-word_of (Reap key) = codes "reap"
-word_of (Gate step) = gate_word step
+abbrev pub action_word : Action → List ℕ
+action_word (Ask request) = codes "ask"
+action_word (Reap key) = codes "reap"
+action_word (Gate step) = gate_word step
+
+-- the word of a line
+abbrev pub word_of : Line → List ℕ
+word_of (By worker action) = action_word action
+word_of (Divert index) = codes "divert"
 
 -- a space and a message in lower-case hexadecimal; nothing where there is no message
 abbrev pub message_text : Option (List ℕ) → List ℕ
@@ -77,15 +83,25 @@ Carries (Ask request) carried = CarriesRequest carried request
 Carries (Reap key) carried = (get : GetAsk) × (get.key ≡ key) × CarriesRequest carried (requests.Get get)
 Carries (Gate step) carried = carried ≡ None
 
--- the text behind a line's word and its space
-pub record HasOperands (workers : ℕ) (text : List ℕ) (line : Line) : Type 0 where
+-- the text behind the word of what a worker does, and its space
+pub record HasWorker (workers : ℕ) (text : List ℕ) (worker : ℕ) (action : Action) : Type 0 where
   pub carried : Option (List ℕ)
-  pub whole : text ≡ operand_text line.worker carried
-  pub worker : IsWorker workers line.worker
-  pub carries : Carries line.action carried
+  pub whole : text ≡ operand_text worker carried
+  pub is_worker : IsWorker workers worker
+  pub carries : Carries action carried
+
+-- the text is a partition's index in decimal, which has 16 bits
+pub record HasIndex (text : List ℕ) (index : ℕ) : Type 0 where
+  pub whole : text ≡ decimal index
+  pub fits : index < 2 ^ 16
+
+-- the text behind a line's word and its space
+abbrev pub HasOperands : ℕ → List ℕ → Line → Type 0
+HasOperands workers text (By worker action) = HasWorker workers text worker action
+HasOperands workers text (Divert index) = HasIndex text index
 
 -- the text asks for this line's step, where there are so many workers
 pub record IsLine (workers : ℕ) (text : List ℕ) (line : Line) : Type 0 where
   pub operands : List ℕ
-  pub whole : text ≡ word_of line.action ++ 32 ∷ operands
+  pub whole : text ≡ word_of line ++ 32 ∷ operands
   pub stand : HasOperands workers operands line

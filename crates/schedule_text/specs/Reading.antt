@@ -7,6 +7,7 @@ use Rattle.riak_msgs.specs.declared.request.Request.TheVariants as requests
 use Rattle.riak_msgs.specs.declared.fault.MsgFault.{MsgFault}
 use Rattle.riak_msgs.specs.declared.fault.MsgFault.TheVariants as faults
 use Rattle.schedule_text.specs.declared.line.Line.{Line}
+use Rattle.schedule_text.specs.declared.line.Line.TheVariants.{By}
 use Rattle.schedule_text.specs.declared.line.Action.TheVariants.{Reap}
 use Rattle.schedule_text.specs.declared.fault.LineFault.{LineFault}
 use Rattle.schedule_text.specs.declared.fault.LineFault.TheVariants.{BadStep, NoMemory}
@@ -60,9 +61,9 @@ Reads workers text (Err NoMemory) = IsOfAskForm workers text
 
 -- the same of the text behind a word and its space
 abbrev pub ReadsOperands : List ℕ → ℕ → List ℕ → Result Line LineFault → Type 0
-ReadsOperands word workers text (Ok line) = (word_of line.action ≡ word) × HasOperands workers text line
+ReadsOperands word workers text (Ok line) = (word_of line ≡ word) × HasOperands workers text line
 ReadsOperands word workers text (Err BadStep) =
-    (line : Line) → word_of line.action ≡ word → ¬ (HasOperands workers text line)
+    (line : Line) → word_of line ≡ word → ¬ (HasOperands workers text line)
 ReadsOperands word workers text (Err NoMemory) = IsAskWord word × HasMessage workers text
 
 -- these operands name the worker, and carry the request
@@ -82,7 +83,7 @@ ReadsAsked workers text (Err NoMemory) = HasMessage workers text
 -- of a get a reap of its key is made, and of another request none
 abbrev pub MakesReap : ℕ → Request → Result Line LineFault → Type 0
 MakesReap worker request (Ok line) =
-    (get : GetAsk) × (request ≡ requests.Get get) × (line ≡ record { worker = worker; action = Reap get.key })
+    (get : GetAsk) × (request ≡ requests.Get get) × (line ≡ By worker (Reap get.key))
 MakesReap worker request (Err fault) = (fault ≡ BadStep) × ((get : GetAsk) → request ≢ requests.Get get)
 
 -- a message is read as the request that it asks for, or refused

@@ -2,7 +2,7 @@
 
 ghost use Rattle.std.specs.Prelude.{◌≡◌, OnOk};
 ghost use Rattle.std.specs.Option.{option_map_or};
-ghost use Rattle.schedule_text.specs.Compared.{after_call, after_reap, after_reply, ask_of, nothing_compared};
+ghost use Rattle.schedule_text.specs.Compared.{after_call, after_reap, after_reply, ask_of, not_compared, nothing_compared};
 
 use crate::plain_ask::{ask_register, reap_plain, within};
 use crate::reply_parts::{context_shown, is_asked, is_due, key_and_context};
@@ -23,7 +23,7 @@ use std::marker::Model;
 /// the refusals `match_found`, `modified`, `notfound` and `too many siblings`.
 ///
 /// Contracts see what is known of the run (`specs/Compared`). One register stands for all vnodes: what it answers of a key
-/// depends on that key's commands alone, and a key has one vnode. What a command costs doesn't grow with the run, but for the
+/// depends on that key's commands alone, and a key has one vnode as long as its partition isn't diverted. What a command costs doesn't grow with the run, but for the
 /// searches among the keys, a key's events and the contexts that were shown.
 #[derive(Drop)]
 pub struct Comparison {
@@ -114,5 +114,12 @@ impl Comparison {
         ensures { OnOk result (self.new ≡ after_reap key.now self.old) }
     {
         reap_plain(alloc, &mut self.register, key)
+    }
+
+    /// Ends the comparison: a partition is diverted, so that two vnodes answer of the same keys, each by a history of its own.
+    pub fn end(&mut self)
+        ensures { self.new ≡ not_compared self.old }
+    {
+        self.verdict = Verdict::NotCompared;
     }
 }

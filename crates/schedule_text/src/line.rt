@@ -9,10 +9,11 @@ pub const MAX_LINES: u64 = 100_000;
 
 /// The step that a line asks for.
 #[derive(Drop)]
-pub struct Line {
-    /// The number of the worker that takes it, from 1.
-    pub worker: u16,
-    pub action: Action,
+pub enum Line {
+    /// The worker of this number, from 1, does something.
+    By(u16, Action),
+    /// The partition of this index, from 0, is diverted to a fallback.
+    Divert(u16),
 }
 
 /// What a worker does in a step.

@@ -1,6 +1,6 @@
-//! The operands of a line, behind its word: a worker's number, and a message.
+//! The operands of a line, behind its word: a worker's number, and a message; or a partition's index.
 
-ghost use Rattle.std.specs.Prelude.{◌≡◌, ◌↔◌, IsTrue, decimal, codes};
+ghost use Rattle.std.specs.Prelude.{◌≡◌, ◌↔◌, ℕ, IsTrue, decimal, codes};
 ghost use Rattle.std.specs.Str.{bytes_eq};
 ghost use Rattle.schedule_text.specs.Lines.{IsWorker, gate_word};
 ghost use Rattle.schedule_text.specs.Reading.{MakesReap, ReadsAsked, ReadsDecimal, ReadsOperands, ReadsWorker};
@@ -82,10 +82,7 @@ pub(crate) fn read_ask(alloc: Global, text: &[u8], workers: u16) -> Result<Line,
     ensures { ReadsOperands (codes "ask") workers text.now result }
 {
     match read_asked(alloc, text, workers) {
-        Ok((worker, request)) => Ok(Line {
-            worker,
-            action: Action::Ask(request),
-        }),
+        Ok((worker, request)) => Ok(Line::By(worker, Action::Ask(request))),
         Err(fault) => Err(fault),
     }
 }
@@ -95,10 +92,7 @@ fn reap_of(worker: u16, request: Request) -> Result<Line, LineFault>
     ensures { MakesReap worker request result }
 {
     match request {
-        Request::Get(get) => Ok(Line {
-            worker,
-            action: Action::Reap(get.key),
-        }),
+        Request::Get(get) => Ok(Line::By(worker, Action::Reap(get.key))),
         _ => Err(LineFault::BadStep),
     }
 }
@@ -118,10 +112,17 @@ pub(crate) fn read_gate_step(step: GateStep, text: &[u8], workers: u16) -> Resul
     ensures { ReadsOperands (gate_word step) workers text.now result }
 {
     match read_worker(text, workers) {
-        Some(worker) => Ok(Line {
-            worker,
-            action: Action::Gate(step),
-        }),
+        Some(worker) => Ok(Line::By(worker, Action::Gate(step))),
+        None => Err(LineFault::BadStep),
+    }
+}
+
+/// The line by which a partition is diverted: its index, decimal without leading zeros, up to 65,535.
+pub(crate) fn read_divert(text: &[u8]) -> Result<Line, LineFault>
+    ensures { (workers : ℕ) → ReadsOperands (codes "divert") workers text.now result }
+{
+    match read_decimal(text) {
+        Some(index) => Ok(Line::Divert(index)),
         None => Err(LineFault::BadStep),
     }
 }

@@ -1,7 +1,7 @@
 //! Schedules, and the whole text that is answered to each.
 
 use crate::player::playing::{Played, play_again};
-use crate::text::reading::MARKING_WRITER;
+use crate::text::cutting::MARKING_WRITER;
 use schedule_player::StepsFault;
 use std::alloc::Global;
 use std::process::Abort;
@@ -115,6 +115,44 @@ ask 1 0b0a016212016b22030a01773801\ntake 1\nlook 1\npublish 1\nput 1\n",
 11 ok\n12 ok\n13 ok\n14 reaped\n15 ok\n\
 16 ok\n17 ok\n18 ok\n19 reply 0c0a030a01771215020000000000010000000000020000000000000001\n20 ok\n\
 plain equal\n",
+    },
+    // "v" is put at the primary, whose partition is diverted once no worker has a call there. The fallback has nothing of it;
+    // "w", which is put there, has the first dot of the vnode 98304 (65536 + 32768).
+    Schedule {
+        shows: "the calls of a diverted partition go to its fallback",
+        text: "ask 1 0b0a016212016b22030a0176\ntake 1\nlook 1\npublish 1\ndivert 0\nput 1\ndivert 0\ndivert 0\n\
+ask 1 090a016212016b\nenter 1\nlook 1\nleave 1\n\
+ask 1 0b0a016212016b22030a0177\ntake 1\nlook 1\npublish 1\nput 1\n\
+ask 1 090a016212016b\nenter 1\nlook 1\nleave 1\n",
+        workers: 1,
+        result: Ok(()),
+        answers: "1 ok\n2 ok\n3 ok\n4 reply 0c\n5 no\n6 ok\n7 ok\n8 no\n\
+9 ok\n10 ok\n11 reply 0a\n12 ok\n\
+13 ok\n14 ok\n15 ok\n16 reply 0c\n17 ok\n\
+18 ok\n19 ok\n20 reply 0a0a030a01771215020000000000018000000000010000000000000001\n21 ok\n\
+plain not compared\n",
+    },
+    Schedule {
+        shows: "a run with a diversion is not compared, and a diverted partition isn't reaped",
+        text: "divert 0\nreap 1 090a016212016b\n",
+        workers: 1,
+        result: Ok(()),
+        answers: "1 ok\n2 no\nplain not compared\n",
+    },
+    // There is one partition, and worker 1 has a call there.
+    Schedule {
+        shows: "a diversion that isn't possible changes nothing of the comparison",
+        text: "divert 1\ndivert 65535\nask 1 090a016212016b\ndivert 0\nenter 1\nlook 1\n",
+        workers: 1,
+        result: Ok(()),
+        answers: "1 no\n2 no\n3 ok\n4 no\n5 ok\n6 reply 0a\nplain equal\n",
+    },
+    Schedule {
+        shows: "an index that isn't one is a bad step",
+        text: "divert 0\ndivert 65536\n",
+        workers: 1,
+        result: Err(StepsFault::BadStep(2)),
+        answers: "1 ok\n",
     },
     Schedule {
         shows: "a last line that is a bad step has its number",

@@ -5,11 +5,11 @@ use node_steps::{Outcome, Step, StepFault, World};
 use riak_msgs::{Key, Reply, read_request};
 use std::alloc::Global;
 
-/// What a worker does.
+/// What a worker does, or a partition.
 pub enum Act {
-    /// It is asked this request, at the vnode of this index.
+    /// It is asked this request, for the partition of this index.
     Ask(u16, u16, Message),
-    /// It is asked to forget b/k, at the vnode of this index.
+    /// It is asked to forget b/k, for the partition of this index.
     Reap(u16, u16),
     Enter(u16),
     Leave(u16),
@@ -19,6 +19,8 @@ pub enum Act {
     Put(u16),
     Look(u16),
     Publish(u16),
+    /// The partition of this index is diverted.
+    Divert(u16),
 }
 
 /// What comes of it.
@@ -83,14 +85,17 @@ fn take(world: &mut World, alloc: Global, act: &Act) -> Result<Outcome, StepFaul
         Act::Put(worker) => Step::Put(*worker),
         Act::Look(worker) => Step::Look(*worker),
         Act::Publish(worker) => Step::Publish(*worker),
+        Act::Divert(index) => Step::Divert(*index),
     };
     world.step(alloc, step)
 }
 
 /// Whether memory was refused to a step that asks for some.
 fn lacked_memory(act: &Act, outcome: &Result<Outcome, StepFault>) -> bool {
-    matches!(act, Act::Ask(..) | Act::Reap(..) | Act::Look(_))
-        && matches!(outcome, Err(StepFault::NoMemory))
+    matches!(
+        act,
+        Act::Ask(..) | Act::Reap(..) | Act::Look(_) | Act::Divert(_)
+    ) && matches!(outcome, Err(StepFault::NoMemory))
 }
 
 /// Takes a step, and a second time where memory was refused.

@@ -1,8 +1,10 @@
 //! Whole schedules.
 
-use crate::messages::{ABSENT, DELETE, DELETED, GET, PING, PUT_V, SHOWS_V, STORED};
+use crate::messages::{
+    ABSENT, DELETE, DELETED, GET, PING, PUT_V, SHOWS_V, SHOWS_V_AT_FALLBACK, STORED,
+};
 use crate::steps::playing::{Act, Wanted, comes_to, world_of};
-use Act::{Ask, Enter, Leave, Look, Mark, Publish, Put, Reap, Take, Unmark};
+use Act::{Ask, Divert, Enter, Leave, Look, Mark, Publish, Put, Reap, Take, Unmark};
 use Wanted::{Done, Kept, No, Reaped, Reply};
 use node_steps::{Outcome, Step, StepFault, World};
 use std::alloc::{AllocError, Global};
@@ -156,6 +158,94 @@ const SCHEDULES: &[Schedule] = &[
             (Enter(2), No),
             (Mark(2), No),
             (Take(2), No),
+        ],
+    },
+    // What the primary has isn't shown then; "v" at the fallback has the fallback's first dot. No step ends a diversion.
+    Schedule {
+        shows: "a partition is diverted once, and its calls go to the fallback",
+        workers: 1,
+        vnodes: 1,
+        steps: &[
+            (Ask(1, 0, PUT_V), Done),
+            (Take(1), Done),
+            (Look(1), Done),
+            (Publish(1), Reply(STORED)),
+            (Put(1), Done),
+            (Divert(0), Done),
+            (Divert(0), No),
+            (Ask(1, 0, GET), Done),
+            (Enter(1), Done),
+            (Look(1), Reply(ABSENT)),
+            (Leave(1), Done),
+            (Ask(1, 0, PUT_V), Done),
+            (Take(1), Done),
+            (Look(1), Done),
+            (Publish(1), Reply(STORED)),
+            (Put(1), Done),
+            (Ask(1, 0, GET), Done),
+            (Enter(1), Done),
+            (Look(1), Reply(SHOWS_V_AT_FALLBACK)),
+            (Leave(1), Done),
+            (Divert(0), No),
+        ],
+    },
+    // The worker is asked, reading, and answered inside as a reader; then asked, holding without a plan and with one, and
+    // answered with the state in its hand.
+    Schedule {
+        shows: "a partition isn't diverted while a worker has a call there",
+        workers: 1,
+        vnodes: 1,
+        steps: &[
+            (Ask(1, 0, GET), Done),
+            (Divert(0), No),
+            (Enter(1), Done),
+            (Divert(0), No),
+            (Look(1), Reply(ABSENT)),
+            (Divert(0), No),
+            (Leave(1), Done),
+            (Ask(1, 0, PUT_V), Done),
+            (Take(1), Done),
+            (Divert(0), No),
+            (Look(1), Done),
+            (Divert(0), No),
+            (Publish(1), Reply(STORED)),
+            (Divert(0), No),
+            (Put(1), Done),
+            (Divert(0), Done),
+        ],
+    },
+    // Worker 1 reads in partition 1 meanwhile. There is no partition 2. The two fallbacks are apart.
+    Schedule {
+        shows: "the other partitions are as before",
+        workers: 2,
+        vnodes: 2,
+        steps: &[
+            (Ask(1, 1, GET), Done),
+            (Enter(1), Done),
+            (Divert(0), Done),
+            (Divert(2), No),
+            (Divert(1), No),
+            (Reap(2, 0), No),
+            (Reap(2, 1), Done),
+            (Take(2), No),
+            (Look(1), Reply(ABSENT)),
+            (Leave(1), Done),
+            (Take(2), Done),
+            (Look(2), Kept),
+            (Put(2), Done),
+            (Divert(1), Done),
+            (Reap(2, 1), No),
+            (Ask(1, 0, PUT_V), Done),
+            (Take(1), Done),
+            (Look(1), Done),
+            (Publish(1), Reply(STORED)),
+            (Ask(2, 1, GET), Done),
+            (Enter(2), Done),
+            (Look(2), Reply(ABSENT)),
+            (Put(1), Done),
+            (Ask(1, 0, GET), Done),
+            (Enter(1), Done),
+            (Look(1), Reply(SHOWS_V_AT_FALLBACK)),
         ],
     },
 ];

@@ -6,7 +6,7 @@ use std::alloc::Global;
 use std::process::Abort;
 
 /// Reads, and a second time where memory was refused: then the answer is the same as it would have been.
-fn read_again(alloc: Global, text: &[u8]) -> Result<Line, LineFault> {
+pub(super) fn read_again(alloc: Global, text: &[u8]) -> Result<Line, LineFault> {
     match read_line(alloc, text, 3) {
         Err(LineFault::NoMemory) => read_line(alloc, text, 3),
         other => other,
@@ -14,7 +14,7 @@ fn read_again(alloc: Global, text: &[u8]) -> Result<Line, LineFault> {
 }
 
 /// Lets a line go, in this one function: to let one go costs the prover seconds.
-fn let_go(_read: Result<Line, LineFault>) {}
+pub(super) fn let_go(_read: Result<Line, LineFault>) {}
 
 /// What a line asks its worker for.
 enum Asks {
@@ -26,15 +26,18 @@ enum Asks {
     Put,
     /// To forget b/k.
     Reap,
+    /// No worker: a partition is diverted.
+    Divert,
 }
 
-use Asks::{Gate, Get, Put, Reap};
+use Asks::{Divert, Gate, Get, Put, Reap};
 
-/// A line that is a step of one of three workers.
+/// A line that is a step of one of three workers, or of a partition.
 struct StepLine {
     shows: &'static str,
     line: &'static str,
-    worker: u16,
+    /// The worker's number, or the partition's index.
+    number: u16,
     asks: Asks,
 }
 
@@ -42,68 +45,80 @@ const STEP_LINES: &[StepLine] = &[
     StepLine {
         shows: "a worker enters",
         line: "enter 1",
-        worker: 1,
+        number: 1,
         asks: Gate(GateStep::Enter),
     },
     StepLine {
         shows: "a worker leaves",
         line: "leave 2",
-        worker: 2,
+        number: 2,
         asks: Gate(GateStep::Leave),
     },
     StepLine {
         shows: "a worker marks",
         line: "mark 3",
-        worker: 3,
+        number: 3,
         asks: Gate(GateStep::Mark),
     },
     StepLine {
         shows: "a worker takes its mark away",
         line: "unmark 1",
-        worker: 1,
+        number: 1,
         asks: Gate(GateStep::Unmark),
     },
     StepLine {
         shows: "a worker takes the state",
         line: "take 2",
-        worker: 2,
+        number: 2,
         asks: Gate(GateStep::Take),
     },
     StepLine {
         shows: "a worker puts the state back",
         line: "put 3",
-        worker: 3,
+        number: 3,
         asks: Gate(GateStep::Put),
     },
     StepLine {
         shows: "a worker looks",
         line: "look 1",
-        worker: 1,
+        number: 1,
         asks: Gate(GateStep::Look),
     },
     StepLine {
         shows: "a worker publishes",
         line: "publish 2",
-        worker: 2,
+        number: 2,
         asks: Gate(GateStep::Publish),
     },
     StepLine {
         shows: "a worker is asked to get",
         line: "ask 1 090a016212016b",
-        worker: 1,
+        number: 1,
         asks: Get,
     },
     StepLine {
         shows: "a worker is asked to put",
         line: "ask 2 0b0a016212016b22030a0176",
-        worker: 2,
+        number: 2,
         asks: Put,
     },
     StepLine {
         shows: "a worker is asked to forget a key",
         line: "reap 3 090a016212016b",
-        worker: 3,
+        number: 3,
         asks: Reap,
+    },
+    StepLine {
+        shows: "a partition is diverted",
+        line: "divert 0",
+        number: 0,
+        asks: Divert,
+    },
+    StepLine {
+        shows: "the greatest index has 16 bits",
+        line: "divert 65535",
+        number: 65_535,
+        asks: Divert,
     },
 ];
 
@@ -133,7 +148,8 @@ fn is_action(action: &Action, asks: &Asks) -> bool {
 
 fn is_step(read: &Result<Line, LineFault>, row: &StepLine) -> bool {
     match read {
-        Ok(line) => line.worker == row.worker && is_action(&line.action, &row.asks),
+        Ok(Line::By(worker, action)) => *worker == row.number && is_action(action, &row.asks),
+        Ok(Line::Divert(index)) => *index == row.number && matches!(row.asks, Divert),
         Err(_) => false,
     }
 }
@@ -223,6 +239,23 @@ const BAD_STEPS: &[BadSteps] = &[
         lines: &["ask 1 09ff"],
     },
     BadSteps {
+        shows: "a partition's index is decimal without leading zeros, at most 65,535, and all that follows",
+        lines: &[
+            "divert",
+            "divert ",
+            "divert 01",
+            "divert -1",
+            "divert +1",
+            "divert 65536",
+            "divert zero",
+            "divert  0",
+            "divert 0 ",
+            "divert 0 x",
+            "divert 0 090a016212016b",
+            "diverts 0",
+        ],
+    },
+    BadSteps {
         shows: "a reap is asked for by a get",
         lines: &["reap 1 0b0a016212016b22030a0176", "reap 1 01"],
     },
@@ -253,128 +286,5 @@ fn are_bad(rt: &impl Abort, alloc: Global, row: &BadSteps) {
 fn other_lines_are_bad_steps(rt: HostRuntime) {
     for row in BAD_STEPS {
         are_bad(&rt, rt.alloc(), row);
-    }
-}
-
-/// A line that a text is cut into.
-enum Piece {
-    /// It is a step.
-    Step(&'static str),
-    /// It is none.
-    Other(&'static str),
-}
-
-use Piece::{Other, Step};
-
-/// A text and its lines.
-struct Cut {
-    shows: &'static str,
-    text: &'static str,
-    lines: &'static [Piece],
-}
-
-/// A reader inside while a writer marks, and a second reader that comes in after the put back.
-pub(crate) const MARKING_WRITER: &str = "ask 1 090a016212016b\n\
-ask 2 0b0a016212016b22030a0176\n\
-ask 3 090a016212016b\n\
-enter 1\n\
-mark 2\n\
-enter 3\n\
-take 2\n\
-look 1\n\
-leave 1\n\
-take 2\n\
-look 2\n\
-publish 2\n\
-enter 3\n\
-put 2\n\
-enter 3\n\
-look 3\n\
-leave 3\n";
-
-const CUTS: &[Cut] = &[
-    Cut {
-        shows: "lines are cut at line feeds",
-        text: "enter 1\n\nleave 1",
-        lines: &[Step("enter 1"), Other(""), Step("leave 1")],
-    },
-    Cut {
-        shows: "no line stands behind the last line feed",
-        text: "mark 2\n",
-        lines: &[Step("mark 2")],
-    },
-    Cut {
-        shows: "an empty text has no line",
-        text: "",
-        lines: &[],
-    },
-    Cut {
-        shows: "two of four lines are steps",
-        text: "enter 1\n\nenter 01\nleave 1",
-        lines: &[
-            Step("enter 1"),
-            Other(""),
-            Other("enter 01"),
-            Step("leave 1"),
-        ],
-    },
-    Cut {
-        shows: "the schedule of a marking writer has 17 steps",
-        text: MARKING_WRITER,
-        lines: &[
-            Step("ask 1 090a016212016b"),
-            Step("ask 2 0b0a016212016b22030a0176"),
-            Step("ask 3 090a016212016b"),
-            Step("enter 1"),
-            Step("mark 2"),
-            Step("enter 3"),
-            Step("take 2"),
-            Step("look 1"),
-            Step("leave 1"),
-            Step("take 2"),
-            Step("look 2"),
-            Step("publish 2"),
-            Step("enter 3"),
-            Step("put 2"),
-            Step("enter 3"),
-            Step("look 3"),
-            Step("leave 3"),
-        ],
-    },
-];
-
-/// The line is a step of whatever kind.
-fn is_any_step(alloc: Global, line: &[u8]) -> bool {
-    let read = read_again(alloc, line);
-    let is = read.is_ok();
-    let_go(read);
-    is
-}
-
-fn is_piece(alloc: Global, line: Option<&[u8]>, piece: &Piece) -> bool {
-    let Some(line) = line else {
-        return false;
-    };
-    match piece {
-        Step(text) => line == text.as_bytes() && is_any_step(alloc, line),
-        Other(text) => line == text.as_bytes() && !is_any_step(alloc, line),
-    }
-}
-
-/// Whether a row holds. Behind its last line a text has no other, however often it is asked.
-fn is_cut(alloc: Global, row: &Cut) -> bool {
-    let mut lines = Lines::new(row.text.as_bytes());
-    for piece in row.lines {
-        if !is_piece(alloc, lines.next(), piece) {
-            return false;
-        }
-    }
-    lines.next().is_none() && lines.next().is_none()
-}
-
-#[test]
-fn a_text_is_cut_into_its_lines(rt: HostRuntime) {
-    for row in CUTS {
-        assert!(rt; is_cut(rt.alloc(), row), "{}", row.shows);
     }
 }

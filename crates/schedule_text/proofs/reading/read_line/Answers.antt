@@ -24,6 +24,16 @@ returns-then-is_reap c =
           (same_text word (codes "reap") is) c.read_reap.ensures;
     }
 
+pub returns-then-is_divert : goal.returns-then-is_divert
+returns-then-is_divert c =
+    let word = c.in-Some.word.now in
+    let is : true ≡ bytes_eq word (codes "divert") = sym c.if-is_divert.true ∙ c.eq-is_divert.ensures ∙ ap (bytes_eq word) c.as_slice-3.ensures in
+    record {
+      reads =
+          whole_line c.args.workers c.args.text.now word c.in-Some.operands.now (codes "divert") c.read_divert.result c.in-Some.ensures
+          (same_text word (codes "divert") is) (c.read_divert.ensures c.args.workers);
+    }
+
 pub returns-in-Some-named : goal.returns-in-Some-named
 returns-in-Some-named c = record {
   reads =
@@ -36,6 +46,7 @@ returns-in-None c =
     let word = c.in-Some.word.now in
     let other : bytes_eq word (codes "ask") ≡ false = sym (c.eq-is_ask.ensures ∙ ap (bytes_eq word) c.as_slice.ensures) ∙ c.if-is_ask.false in
     let another : bytes_eq word (codes "reap") ≡ false = sym (c.eq-is_reap.ensures ∙ ap (bytes_eq word) c.as_slice-2.ensures) ∙ c.if-is_reap.false in
+    let third : bytes_eq word (codes "divert") ≡ false = sym (c.eq-is_divert.ensures ∙ ap (bytes_eq word) c.as_slice-3.ensures) ∙ c.if-is_divert.false in
     record {
-      reads = no_word c.args.workers c.args.text.now word c.in-Some.operands.now c.in-Some.ensures c.in-None.ensures other another;
+      reads = no_word c.args.workers c.args.text.now word c.in-Some.operands.now c.in-Some.ensures c.in-None.ensures other another third;
     }

@@ -1,4 +1,4 @@
-use Rattle.std.proofs.Common.{Some, suc, sym, ◌∙◌, ap, subst, arith}
+use Rattle.std.proofs.Common.{suc, sym, ◌∙◌, ap, subst, arith}
 use Rattle.node_steps.specs.Parts.{Finds}
 use Rattle.node_steps.proofs.Finding.{without_call, without_vnode, number_is, stands, something}
 use Rattle.node_steps.proofs.parts.Parts.find.Goals as goal
@@ -18,13 +18,13 @@ returns-then-index-len c =
     ∙ ap (λ n. suc n) (sym c.from-place.ensures) in
     let here = stands c.deref.result.now c.args.self.now.workers.items c.from-place.result c.in_ok-phase.phase.now
     c.deref.ensures.value c.in_ok-phase.ensures.lookup.3.0 c.in_ok-phase.ensures.lookup.1 in
-    let about = sym c.index.ensures ∙ c.in_ok-index.was ∙ ap (λ n. Some n) (sym c.from-index.ensures) in
-    without_vnode c.args.self.now c.args.worker c.from-place.result c.in_ok-phase.phase.now number here c.from-index.result about
+    let about = sym c.index.ensures ∙ c.in_ok-index.was in
+    without_vnode c.args.self.now c.args.worker c.from-place.result c.in_ok-phase.phase.now number here c.in_ok-index.index about
     (omega (arith, c.if-index-len.true, c.len.ensures))
 
 pub returns : goal.returns
 returns c =
-    let there = something c.args.self.now.sites.items c.from-index.result (omega (arith, c.if-index-len.false, c.len.ensures)) in
+    let there = something c.args.self.now.sites.items c.in_ok-index.index (omega (arith, c.if-index-len.false, c.len.ensures)) in
     record {
       phase = c.in_ok-phase.phase.now;
       site = there.0;
@@ -32,6 +32,6 @@ returns c =
           ∙ ap (λ n. suc n) (sym c.from-place.ensures);
       here = stands c.deref.result.now c.args.self.now.workers.items c.from-place.result c.in_ok-phase.phase.now
           c.deref.ensures.value c.in_ok-phase.ensures.lookup.3.0 c.in_ok-phase.ensures.lookup.1;
-      about = sym c.index.ensures ∙ c.in_ok-index.was ∙ ap (λ n. Some n) (sym c.from-index.ensures);
+      about = sym c.index.ensures ∙ c.in_ok-index.was;
       there = there.1;
     }

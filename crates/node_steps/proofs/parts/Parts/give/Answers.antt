@@ -1,31 +1,32 @@
-use Rattle.std.proofs.Common.{arith, subst, sym}
+use Rattle.std.proofs.Common.{subst, sym}
 use Rattle.std.specs.Prelude.{slice_set}
 use Rattle.node_steps.specs.declared.outcome.Outcome.TheVariants.{Done}
 use Rattle.node_steps.specs.Asked.{asking_step}
 use Rattle.node_steps.specs.Parts.{TakesStep, world_in}
 use Rattle.node_steps.specs.Running.{ask_of, world_of}
-use Rattle.node_steps.proofs.Asking.{not_asked, nowhere, asked}
+use Rattle.node_steps.proofs.Asking.{not_asked, asked}
 use Rattle.node_steps.proofs.Finding.{something}
+use Rattle.node_steps.proofs.Stepping.{not_possible}
 use Rattle.node_steps.proofs.parts.Parts.give.Goals as goal
 
 pub returns-in_default : goal.returns-in_default
 returns-in_default c =
     subst (λ returns. TakesStep (world_in c.args.self.now) (asking_step c.args.worker c.args.index (ask_of c.args.call)) returns (world_in c.args.self.now))
     (sym c.refuse.ensures)
-    (not_asked c.args.self.now.sites.items c.args.self.now.workers.items c.args.worker c.args.index (ask_of c.args.call) c.in_default.ensures)
+    (not_asked c.args.self.now.sites.items c.args.self.now.routes.items c.args.self.now.workers.items c.args.worker c.args.index (ask_of c.args.call) c.in_default.ensures)
 
-pub returns-then-from-len : goal.returns-then-from-len
-returns-then-from-len c =
+pub returns-in_default-site_for : goal.returns-in_default-site_for
+returns-in_default-site_for c =
     subst (λ returns. TakesStep (world_in c.args.self.now) (asking_step c.args.worker c.args.index (ask_of c.args.call)) returns (world_in c.args.self.now))
-    (sym c.refuse-then-from-len.ensures)
-    (nowhere c.args.self.now.sites.items c.args.self.now.workers.items c.args.worker c.in-Some.place c.in-Some.ensures.0 c.in-Some.ensures.1
-    c.args.index (ask_of c.args.call) (omega (arith, c.if-from-len.true, c.len.ensures, c.from.ensures)))
+    (sym c.refuse-in_default-site_for.ensures)
+    (not_possible c.args.self.now.sites.items c.args.self.now.routes.items c.args.self.now.workers.items (asking_step c.args.worker c.args.index (ask_of c.args.call))
+    (c.in_default-site_for.ensures c.args.worker))
 
 pub returns : goal.returns
 returns c =
-    let there = something c.args.self.now.sites.items c.args.index (omega (arith, c.if-from-len.false, c.len.ensures, c.from.ensures)) in
+    let there = something c.args.self.now.sites.items c.in-Some-site_for.site c.in-Some-site_for.ensures.1 in
     subst (λ phase. TakesStep (world_in c.args.self.now) (asking_step c.args.worker c.args.index (ask_of c.args.call)) Done
-    (world_of c.args.self.now.sites.items (slice_set c.args.self.now.workers.items c.in-Some.place phase)))
+    (world_of c.args.self.now.sites.items c.args.self.now.routes.items (slice_set c.args.self.now.workers.items c.in-Some.place phase)))
     (sym c.set_phase.ensures)
-    (asked c.args.self.now.sites.items c.args.self.now.workers.items c.args.worker c.in-Some.place c.in-Some.ensures.0 c.in-Some.ensures.1
-    c.args.index c.args.call there.0 there.1)
+    (asked c.args.self.now.sites.items c.args.self.now.routes.items c.args.self.now.workers.items c.args.worker c.in-Some.place c.in-Some.ensures.0 c.in-Some.ensures.1
+    c.args.index c.in-Some-site_for.site c.args.call there.0 c.in-Some-site_for.ensures.0 there.1)
