@@ -8,8 +8,14 @@ use std::net::{Shutdown, TcpStream};
 /// How long such a socket is kept at most, in milliseconds.
 const LINGER_MILLIS: u64 = 2000;
 
-/// How many reads of a socket are made one after another at most.
-const MAX_READS: u32 = 64;
+/// How many such sockets a worker keeps at most.
+const MAX_SOCKETS: usize = 64;
+
+/// How often they are looked at, in milliseconds.
+pub(crate) const LOOK_MILLIS: u64 = 20;
+
+/// How many reads of a socket are made at a look at most.
+const MAX_READS: u32 = 32;
 
 /// How many bytes are read at once.
 const MAX_READ_LEN: usize = 4096;
@@ -25,10 +31,12 @@ struct Lingerer {
 ///
 /// What a client sends to a socket that is closed is answered by a reset, by which it may lose what it hasn't read yet: the last replies, and
 /// the error that says why its connection ended. So the side to the client is shut down, behind these replies, and what comes is read and
-/// passed over until the client ends too, for two seconds at most.
+/// passed over until the client ends too, for two seconds at most. Only so many sockets are kept, and looked at only so often, that clients who never end take
+/// little of the worker's time.
 #[derive(Drop)]
 pub(crate) struct Lingering {
     sockets: Vec<Lingerer>,
+    next_look: u64,
 }
 
 /// Whether an error of a read says that more may come.
@@ -55,6 +63,7 @@ impl Lingering {
     pub(crate) fn new(alloc: Global) -> Lingering {
         Lingering {
             sockets: Vec::new(alloc),
+            next_look: 0,
         }
     }
 
@@ -63,16 +72,21 @@ impl Lingering {
         self.sockets.is_empty()
     }
 
-    /// Shuts down the side to the client, and keeps the socket, from this time on. Where memory is refused it is closed.
+    /// Shuts down the side to the client, and keeps the socket, from this time on. Where 64 are kept, and where memory is refused, it is closed.
     pub(crate) fn add(&mut self, socket: Socket, now: u64) {
-        if socket.shutdown(Shutdown::Write).is_ok() {
+        if socket.shutdown(Shutdown::Write).is_ok() && self.sockets.len() < MAX_SOCKETS {
             let closes_at = now.saturating_add(LINGER_MILLIS);
             let _ = self.sockets.push(Lingerer { socket, closes_at });
         }
     }
 
-    /// Passes over what has come, and closes the sockets whose clients have ended, or that were kept for as long as may be.
+    /// Passes over what has come, where it is time to look, and closes the sockets whose clients have ended, or that were kept for as long as
+    /// may be.
     pub(crate) fn pass_over(&mut self, now: u64) {
+        if now < self.next_look {
+            return;
+        }
+        self.next_look = now.saturating_add(LOOK_MILLIS);
         self.sockets
             .retain(|one| pass_over(&one.socket) && now < one.closes_at);
     }

@@ -4,7 +4,7 @@ ghost use Rattle.slab.specs.Slab.{slab_len};
 ghost use Rattle.socket_server.specs.Serving.{ServesConnections};
 
 use crate::inbox::{Arrival, Inbox};
-use crate::lingering::Lingering;
+use crate::lingering::{LOOK_MILLIS, Lingering};
 use crate::sockets::{ReplySocket, RequestSocket, Socket, new_streams};
 use log::{Log, info, warn};
 use mio::unix::SourceFd;
@@ -31,9 +31,6 @@ const SWEEP_MILLIS: u64 = 1000;
 
 /// The pause after a wait that failed, in milliseconds.
 const PAUSE_MILLIS: u64 = 10;
-
-/// How often a worker looks at sockets that linger, in milliseconds.
-const LINGER_LOOK_MILLIS: u64 = 20;
 
 /// The service of a worker over sockets.
 type SocketConnections<N> = Connections<N, RequestSocket, ReplySocket>;
@@ -303,7 +300,7 @@ impl<'a, X: Log + Clock + Wait, N: Node + Drop> Desk<'a, X, N> {
         if !self.ready.is_empty() {
             Some(Duration::from_millis(0))
         } else if !self.lingering.is_empty() {
-            Some(Duration::from_millis(LINGER_LOOK_MILLIS))
+            Some(Duration::from_millis(LOOK_MILLIS))
         } else if self.idle_millis.is_some() {
             Some(Duration::from_millis(SWEEP_MILLIS))
         } else {

@@ -2,9 +2,7 @@
 use crate::serving::clients::{Action, Step, take_all};
 use crate::serving::is_text;
 use crate::serving::listener::{new_listener, port_of};
-use crate::serving::served::{
-    ONE_KEY, PUT_V_GET, PUT_W_GET, STORED_V, STORED_W, TWO_CLIENTS,
-};
+use crate::serving::served::{ONE_KEY, PUT_V_GET, PUT_W_GET, STORED_V, STORED_W, TWO_CLIENTS};
 use log::sink::Console;
 use log::{LevelFilter, Log, Logged};
 use node_commands::{UntilSettings, serve_on_until};
@@ -102,8 +100,8 @@ const BAD_LENGTH: &[Step] = &[
 /// A client whose frame is too large, and that sends all of it before it reads: it gets the error.
 const LARGE_FRAME: &[Step] = &[
     Step::Connects,
-    Step::Acts(0, Action::Sends(b"\0\x40\0\0")),
-    Step::Acts(0, Action::SendsZeros(4096)),
+    Step::Acts(0, Action::Sends(b"\0\x20\0\0")),
+    Step::Acts(0, Action::SendsZeros(2048)),
     Step::Acts(
         0,
         Action::Gets(b"\0\0\0\x14\0\x0a\x0fframe too large\x10\x01", 0),
