@@ -11,7 +11,7 @@ use Rattle.vnode_machine.specs.Replay.{History}
 use Rattle.vnode_machine.specs.Step.{Response}
 use Rattle.copy_laws.specs.Copies.{all_commands}
 use Rattle.copy_laws.specs.Diversions.{Course, Divert, diversions_of, fallback_of, MayHappen}
-use Rattle.node_steps.specs.World.{Vnode, Worker, World, Call, fresh_vnode, fresh_worker, id_of, opening_world, own_sites, route, history_at, call_of}
+use Rattle.node_steps.specs.World.{Vnode, Worker, World, Call, fresh_vnode, fresh_worker, id_of, opening_world, own_sites, route, log_at, history_at, call_of, history_of}
 use Rattle.node_steps.specs.Steps.{Action, Asks, AsksNowhere, Enters, Leaves, Marks, Unmarks, Takes, Puts, Looks, Publishes, Step, By, Diverts, is_reap, sent, routed, Outcome, NotPossible, Happened, Replied, site_of, is_about, fallback_ids, diverted_by, diverted, does}
 use Rattle.node_steps.specs.Schedules.{Start, IsStart, world_after}
 use Rattle.node_steps.specs.Courses.{partition_of, WasShownThere, GivesShownThere, IsCourseOf, RunsAreCourses}
@@ -308,11 +308,14 @@ module _ (start : Start) (is : IsStart start) (index : ℕ) (known : index < sta
           let n = run-diverted start.run index w (orderly start is earlier) other next (diversion w other next h) before.0 (WasShownThere start index earlier) before.1 in
           (n.0, as_shown next n.0 n.1)
 
--- a run's course, by the histories
-course_of : (run index : ℕ) (w : World) (course : Course) (Shown : Key → Context → Type 0) → IsRun run index w course Shown → IsCourseOf (partition_of run index) w index course
-course_of run index w course Shown run_is = record {
+-- a run's course, by the logs and histories
+course_of : (run index : ℕ) (w : World) → IsOrderly w → (course : Course) (Shown : Key → Context → Type 0) → IsRun run index w course Shown
+    → IsCourseOf (partition_of run index) w index course
+course_of run index w orderly course Shown run_is = record {
   may_happen = run_is.may_happen;
-  primary = run_is.log ∙ ap (λ (h : History). all_commands h) (sym (history_is index (id_of run index) run_is.history run_is.vnode));
+  primary = run_is.log ∙ ap (λ (h : History). all_commands h) (sym (history_is index (id_of run index) run_is.history run_is.vnode))
+      ∙ sym (commands_are run_is.vnode.vnode run_is.vnode.there);
+  commands = commands_are run_is.vnode.vnode run_is.vnode.there;
   own = λ route. elim run_is.side [
     | inl own ↦ own.none
     | inr away ↦ absurd (away.other (some_same index away.site (sym route ∙ away.route_is)))
@@ -327,9 +330,14 @@ course_of run index w course Shown run_is = record {
 }
   where
     history_is : (site id : ℕ) (history : History) → IsVnode w site id history → history_at w site ≡ history
-    history_is site id history v = ap (λ o. option_map_or (λ (x : Vnode). x.history) o []) v.there ∙ v.history_is
+    history_is site id history v = ap (λ o. option_map_or (λ (x : Vnode). history_of x) o []) v.there ∙ v.history_is
+
+    commands_are : (vnode : Vnode) → slice_get w.vnodes index ≡ Some vnode → log_at w index ≡ all_commands (history_at w index)
+    commands_are vnode there =
+        ap (λ o. option_map_or (λ (x : Vnode). x.log) o []) there ∙ (orderly.vnodes index vnode there).commands
+        ∙ ap (λ (h : History). all_commands h) (sym (ap (λ o. option_map_or (λ (x : Vnode). history_of x) o []) there))
 
 pub runs_are_courses : RunsAreCourses
 runs_are_courses start is schedule index known gives =
     let run = runs start is index known schedule gives in
-    (run.0, course_of start.run index (world_after start schedule) run.0 (WasShownThere start index schedule) run.1)
+    (run.0, course_of start.run index (world_after start schedule) (orderly start is schedule) run.0 (WasShownThere start index schedule) run.1)

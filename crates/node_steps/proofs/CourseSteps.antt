@@ -14,7 +14,7 @@ use Rattle.vnode_machine.proofs.Keys.{key_eq-refl}
 use Rattle.copy_laws.specs.Copies.{Command}
 use Rattle.copy_laws.specs.CopyReplay.{name_at}
 use Rattle.copy_laws.specs.Diversions.{Course, AtPrimary, AtFallback, fallback_of, fallback_state, primary_of, WasShown}
-use Rattle.node_steps.specs.World.{Phase, Idle, Asked, Reading, Holding, Done, Vnode, Worker, World, Call, call_of, call_at}
+use Rattle.node_steps.specs.World.{Phase, Idle, Asked, Reading, Holding, Done, Vnode, Worker, World, Call, call_of, call_at, history_of}
 use Rattle.node_steps.specs.Steps.{Action, Asks, Enters, is_reap, Outcome, Replied, site_of}
 use Rattle.node_steps.specs.Contexts.{context_bytes, given_in}
 use Rattle.node_steps.specs.Courses.{IsSiteOf}
@@ -67,7 +67,7 @@ module _ (run index : ℕ) (w : World) (orderly : IsOrderly w) (number : ℕ) (a
   }
 
   -- a vnode whose history stays
-  vnode-kept : (site id : ℕ) (history : History) → p.turn.vnode.history ≡ p.vnode.history → IsVnode w site id history → IsVnode next site id history
+  vnode-kept : (site id : ℕ) (history : History) → (history_of p.turn.vnode) ≡ (history_of p.vnode) → IsVnode w site id history → IsVnode next site id history
   vnode-kept site id history same v = elim (same_or_other p.index site) [
     | inl e ↦
         let later = vnode-here run index w orderly number action r p site id history e v in
@@ -76,7 +76,7 @@ module _ (run index : ℕ) (w : World) (orderly : IsOrderly w) (number : ℕ) (a
           there = later.there;
           id_is = later.id_is;
           epoch_is = later.epoch_is;
-          history_is = later.history_is ∙ same ∙ ap (λ (x : Vnode). x.history) (is_there run index w orderly number action r p site id history e v) ∙ v.history_is;
+          history_is = later.history_is ∙ same ∙ ap (λ (x : Vnode). history_of x) (is_there run index w orderly number action r p site id history e v) ∙ v.history_is;
         }
     | inr n ↦ vnode-there run index w orderly number action r p site id history n v
   ]
@@ -91,7 +91,7 @@ module _ (run index : ℕ) (w : World) (orderly : IsOrderly w) (number : ℕ) (a
         id_is = later.id_is;
         epoch_is = later.epoch_is;
         history_is = later.history_is ∙ g.is
-            ∙ ap (λ (h : History). g.event ∷ h) (ap (λ (x : Vnode). x.history) (is_there run index w orderly number action r p site id history e v) ∙ v.history_is);
+            ∙ ap (λ (h : History). g.event ∷ h) (ap (λ (x : Vnode). history_of x) (is_there run index w orderly number action r p site id history e v) ∙ v.history_is);
       }
 
   -- the course stays where the histories do
@@ -105,7 +105,7 @@ module _ (run index : ℕ) (w : World) (orderly : IsOrderly w) (number : ℕ) (a
     side = side;
   }
 
-  same-next : p.turn.vnode.history ≡ p.vnode.history → Next course
+  same-next : (history_of p.turn.vnode) ≡ (history_of p.vnode) → Next course
   same-next same = stays (vnode-kept index primary run_is.history same run_is.vnode) (elim run_is.side [
     | inl own ↦ inl (own-next own)
     | inr away ↦ inr (away-next away (vnode-kept away.site fallback (fallback_of course 1) same away.vnode))
@@ -177,21 +177,21 @@ module _ (run index : ℕ) (w : World) (orderly : IsOrderly w) (number : ℕ) (a
 
   pub record IsNamed (key : Key) (context : Context) (site : ℕ) : Type 0 where
     pub at : p.index ≡ site
-    pub name : context ≡ (naming {V = Content} p.turn.vnode.id p.turn.vnode.last_epoch).name p.turn.vnode.history key
+    pub name : context ≡ (naming {V = Content} p.turn.vnode.id p.turn.vnode.last_epoch).name (history_of p.turn.vnode) key
 
   named-now : (key : Key) (context : Context) (s : IsShownNow key context) → IsNamed key context s.site
   named-now key context s =
       let a = reply_is w orderly number action r p (Ok s.response) s.replied in
       let same : a.0 ≡ s.call = some_same a.0 s.call (sym a.1 ∙ s.asked) in
       let t = turn w orderly number action r p in
-      let name = held_shows p.vnode.id p.vnode.last_epoch p.turn.vnode.history (key_of a.0.ask) (context_bytes s.response) context (orderly.vnodes p.index p.vnode p.vnode_is).limits
+      let name = held_shows p.vnode.id p.vnode.last_epoch (history_of p.turn.vnode) (key_of a.0.ask) (context_bytes s.response) context (orderly.vnodes p.index p.vnode p.vnode_is).limits
       t.replays a.2.shows s.decodes in
       record {
         at = sym a.2.at ∙ ap (λ (c : Call). c.site) same ∙ s.at;
         name = name
-            ∙ ap (λ k. (naming {V = Content} p.vnode.id p.vnode.last_epoch).name p.turn.vnode.history k) (ap (λ (c : Call). key_of c.ask) same ∙ s.of_key)
-            ∙ ap (λ i. (naming {V = Content} i p.vnode.last_epoch).name p.turn.vnode.history key) (sym t.same_id)
-            ∙ ap (λ e. (naming {V = Content} p.turn.vnode.id e).name p.turn.vnode.history key) (sym t.same_epoch);
+            ∙ ap (λ k. (naming {V = Content} p.vnode.id p.vnode.last_epoch).name (history_of p.turn.vnode) k) (ap (λ (c : Call). key_of c.ask) same ∙ s.of_key)
+            ∙ ap (λ i. (naming {V = Content} i p.vnode.last_epoch).name (history_of p.turn.vnode) key) (sym t.same_id)
+            ∙ ap (λ e. (naming {V = Content} p.turn.vnode.id e).name (history_of p.turn.vnode) key) (sym t.same_epoch);
       }
 
   -- by the vnode at its site afterwards
@@ -201,9 +201,9 @@ module _ (run index : ℕ) (w : World) (orderly : IsOrderly w) (number : ℕ) (a
       let same : p.turn.vnode ≡ v.vnode = some_same p.turn.vnode v.vnode
       (sym (vnode-now n.at) ∙ v.there) in
       n.name
-      ∙ ap (λ (x : Vnode). (naming {V = Content} x.id x.last_epoch).name x.history key) same
-      ∙ ap (λ i. (naming {V = Content} i v.vnode.last_epoch).name v.vnode.history key) v.id_is
-      ∙ ap (λ e. (naming {V = Content} id e).name v.vnode.history key) v.epoch_is
+      ∙ ap (λ (x : Vnode). (naming {V = Content} x.id x.last_epoch).name (history_of x) key) same
+      ∙ ap (λ i. (naming {V = Content} i v.vnode.last_epoch).name (history_of v.vnode) key) v.id_is
+      ∙ ap (λ e. (naming {V = Content} id e).name (history_of v.vnode) key) v.epoch_is
       ∙ ap (λ h. (naming {V = Content} id 0).name h key) v.history_is
     where
       vnode-now : p.index ≡ site → slice_get next.vnodes site ≡ Some p.turn.vnode

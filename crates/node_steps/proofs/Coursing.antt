@@ -14,7 +14,7 @@ use Rattle.copy_laws.specs.Sides.{Partition}
 use Rattle.copy_laws.specs.CopyReplay.{name_at, AcceptsEntry}
 use Rattle.copy_laws.specs.Diversions.{Course, Happening, AtPrimary, AtFallback, diversions_of, is_diverted, fallback_of, fallback_state, primary_of, WasShown, MayHappen, Happens}
 use Rattle.copy_laws.proofs.Fallback.{log-replay}
-use Rattle.node_steps.specs.World.{Phase, Idle, Asked, Reading, Holding, Done, Vnode, Worker, World, Call, call_of}
+use Rattle.node_steps.specs.World.{Phase, Idle, Asked, Reading, Holding, Done, Vnode, Worker, World, Call, call_of, history_of}
 use Rattle.node_steps.specs.Steps.{Action, Asks, Enters, is_reap, Outcome, NotPossible, Happened, Replied, seeing, turned, site_of}
 use Rattle.node_steps.specs.Contexts.{given_in}
 use Rattle.node_steps.specs.Courses.{partition_of, IsSiteOf}
@@ -34,7 +34,7 @@ pub record IsVnode (w : World) (site id : ℕ) (history : History) : Type 0 wher
   pub there : slice_get w.vnodes site ≡ Some vnode
   pub id_is : vnode.id ≡ id
   pub epoch_is : vnode.last_epoch ≡ 0
-  pub history_is : vnode.history ≡ history
+  pub history_is : (history_of vnode) ≡ history
 
 pub none_call : (call : Call) → None ≡ Some call → ⊥
 none_call call h = cc
@@ -123,7 +123,7 @@ module _ (run index : ℕ) where
     pub is_there : (site id : ℕ) (history : History) → p.index ≡ site → (v : IsVnode w site id history) → p.vnode ≡ v.vnode
     is_there site id history e v = some_same p.vnode v.vnode (sym p.vnode_is ∙ ap (λ k. slice_get w.vnodes k) e ∙ v.there)
 
-    pub vnode-here : (site id : ℕ) (history : History) → p.index ≡ site → IsVnode w site id history → IsVnode next site id p.turn.vnode.history
+    pub vnode-here : (site id : ℕ) (history : History) → p.index ≡ site → IsVnode w site id history → IsVnode next site id (history_of p.turn.vnode)
     vnode-here site id history e v =
         let same = is_there site id history e v in
         record {
@@ -140,16 +140,16 @@ module _ (run index : ℕ) where
       pub call : Call
       pub asked : call_of p.worker.phase ≡ Some call
       pub at : call.site ≡ p.index
-      pub is : p.turn.vnode.history ≡ event ∷ p.vnode.history
+      pub is : (history_of p.turn.vnode) ≡ event ∷ (history_of p.vnode)
       pub key_is : event.key ≡ key_of call.ask
       pub context_is : event.context ≡ context_in_ask call.ask
       pub update : is_reap call.ask ≡ false → is_update event.operation ≡ true
 
-    pub grown : (p.turn.vnode.history ≡ p.vnode.history) ⊎ Grows
+    pub grown : ((history_of p.turn.vnode) ≡ (history_of p.vnode)) ⊎ Grows
     grown = by p.turn.outcome (turn w orderly number action r p).comes
       where
-        by : (came : Outcome) → Comes p.vnode.id p.vnode.last_epoch p.index (call_of p.worker.phase) p.vnode.history p.turn came
-            → (p.turn.vnode.history ≡ p.vnode.history) ⊎ Grows
+        by : (came : Outcome) → Comes p.vnode.id p.vnode.last_epoch p.index (call_of p.worker.phase) (history_of p.vnode) p.turn came
+            → ((history_of p.turn.vnode) ≡ (history_of p.vnode)) ⊎ Grows
         by NotPossible h = absurd h
         by Happened h = inl h
         by (Replied reply) h = elim h.2.event [
@@ -166,11 +166,11 @@ module _ (run index : ℕ) where
           })
         ]
 
-    replays-event : (g : Grows) (id : ℕ) (history : History) → p.vnode.id ≡ id → p.vnode.last_epoch ≡ 0 → p.vnode.history ≡ history → HasReplay id 0 (g.event ∷ history)
+    replays-event : (g : Grows) (id : ℕ) (history : History) → p.vnode.id ≡ id → p.vnode.last_epoch ≡ 0 → (history_of p.vnode) ≡ history → HasReplay id 0 (g.event ∷ history)
     replays-event g id history i e h =
         subst (λ hist. HasReplay id 0 (g.event ∷ hist)) h
-        (subst (λ last. HasReplay id last (g.event ∷ p.vnode.history)) e
-        (subst (λ j. HasReplay j p.vnode.last_epoch (g.event ∷ p.vnode.history)) i
+        (subst (λ last. HasReplay id last (g.event ∷ (history_of p.vnode))) e
+        (subst (λ j. HasReplay j p.vnode.last_epoch (g.event ∷ (history_of p.vnode))) i
         (subst (λ hist. HasReplay p.vnode.id p.vnode.last_epoch hist) g.is (turn w orderly number action r p).replays)))
 
     module _ (course : Course) (Shown : Key → Context → Type 0) (run_is : IsRun w course Shown)
@@ -189,7 +189,7 @@ module _ (run index : ℕ) where
           let event = g.event in
           let replays : HasReplay partition.primary 0 (event ∷ run_is.history) = replays-event g partition.primary run_is.history
           (ap (λ (x : Vnode). x.id) same ∙ run_is.vnode.id_is) (ap (λ (x : Vnode). x.last_epoch) same ∙ run_is.vnode.epoch_is)
-          (ap (λ (x : Vnode). x.history) same ∙ run_is.vnode.history_is) in (
+          (ap (λ (x : Vnode). history_of x) same ∙ run_is.vnode.history_is) in (
             own.not_diverted,
             subst (λ log. AcceptsEntry partition log (Command event)) (sym run_is.log) (
               subst (λ s. Accepts s event.key event.context event.operation) (sym (log-replay partition.primary 0 run_is.history)) replays.1,
@@ -205,7 +205,7 @@ module _ (run index : ℕ) where
           let event = g.event in
           let replays : HasReplay partition.fallback 0 (event ∷ fallback_of course 1) = replays-event g partition.fallback (fallback_of course 1)
           (ap (λ (x : Vnode). x.id) same ∙ away.vnode.id_is) (ap (λ (x : Vnode). x.last_epoch) same ∙ away.vnode.epoch_is)
-          (ap (λ (x : Vnode). x.history) same ∙ away.vnode.history_is) in (
+          (ap (λ (x : Vnode). history_of x) same ∙ away.vnode.history_is) in (
             away.diverted,
             g.update (away.updates (pred number) p.worker (here w orderly number action r p) g.call g.asked (g.at ∙ at)),
             subst (λ s. Accepts s event.key event.context event.operation) (sym (state-fallback course (fallback_of course 1) away.one refl)) replays.1,

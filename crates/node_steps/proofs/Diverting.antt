@@ -7,7 +7,7 @@ use Rattle.riak_msgs.specs.Contents.{Content}
 use Rattle.vnode_machine.specs.Machine.{State}
 use Rattle.vnode_machine.specs.Replay.{History, replay, IsWithinLimits}
 use Rattle.vnode_machine.proofs.Steps.{known}
-use Rattle.node_steps.specs.World.{Word, Open, Taken, Phase, Idle, Asked, Reading, Holding, Done, Vnode, Worker, World, fresh_vnode}
+use Rattle.node_steps.specs.World.{Word, Open, Taken, Phase, Idle, Asked, Reading, Holding, Done, Vnode, Worker, World, fresh_vnode, history_of}
 use Rattle.node_steps.specs.Steps.{Enters, site_of, is_about, fallback_ids, diverted_by, diverted}
 use Rattle.node_steps.specs.Erased.{erase_place}
 use Rattle.node_steps.proofs.Lists.{how_many, get-below, get-more, length-set, length-more, none_counted, each_passes}
@@ -118,8 +118,8 @@ module _ (w : World) (orderly : IsOrderly w) (index : ℕ) (primary : Vnode) (th
   id_is =
       let sound = orderly.vnodes index primary there in
       let place = in_place primary.word (how_many (reads index) w.workers) (how_many (holds index) w.workers) sound.word holders_none
-      primary.id primary.last_epoch primary.history primary.place sound.place in
-      ap (λ (s : State Content). s.vnode) place ∙ (known primary.id primary.last_epoch primary.history sound.replays).vnode
+      primary.id primary.last_epoch (history_of primary) primary.place sound.place in
+      ap (λ (s : State Content). s.vnode) place ∙ (known primary.id primary.last_epoch (history_of primary) sound.replays).vnode
 
   -- nobody has a call at the new site
   nobody_new : (place : ℕ) (worker : Worker) → slice_get w.workers place ≡ Some worker → is_about new_site worker.phase ≡ false
@@ -147,8 +147,8 @@ module _ (w : World) (orderly : IsOrderly w) (index : ℕ) (primary : Vnode) (th
     ];
     workers = λ place worker k other v h. elim (get-more w.vnodes fallback other v h) [
       | inl e ↦ orderly.workers place worker k other v e
-      | inr e ↦ subst (λ n. IsAware v.id v.last_epoch n v.history worker) (sym e.0)
-          (subst (λ (u : Vnode). IsAware u.id u.last_epoch new_site u.history worker) e.1 (aware_new place worker k))
+      | inr e ↦ subst (λ n. IsAware v.id v.last_epoch n (history_of v) worker) (sym e.0)
+          (subst (λ (u : Vnode). IsAware u.id u.last_epoch new_site (history_of u) worker) e.1 (aware_new place worker k))
     ];
     bounds = λ other v below h.
         let old_below : other < length w.routes = subst (λ n. other < n) (length-set w.routes index new_site) below in

@@ -8,7 +8,8 @@ use Rattle.actor_epoch.specs.Given.{Context}
 use Rattle.vnode_machine.specs.Machine.{State}
 use Rattle.vnode_machine.specs.Replay.{History, replay, HasReplay, IsWithinLimits}
 use Rattle.vnode_machine.specs.Step.{Accepted, outcome}
-use Rattle.node_steps.specs.World.{Word, Open, Taken, Plan, Phase, Idle, Asked, Reading, Holding, Done, Vnode, Worker, fresh_vnode, seen_at}
+use Rattle.copy_laws.specs.Copies.{all_commands}
+use Rattle.node_steps.specs.World.{Word, Open, Taken, Plan, Phase, Idle, Asked, Reading, Holding, Done, Vnode, Worker, fresh_vnode, seen_at, history_of}
 use Rattle.node_steps.specs.Schedules.{Begins}
 
 -- inside the vnode of this index as a reader
@@ -100,9 +101,10 @@ no_hand id epoch index history (Done other (Some hand)) h = λ e. absurd (false_
 -- what is true of a vnode of this id, opened behind this epoch, by how many readers and holders there are
 pub record IsSoundAs (id epoch readers holders : ℕ) (vnode : Vnode) : Type 0 where
   pub limits : IsWithinLimits id epoch
-  pub replays : HasReplay id epoch vnode.history
+  pub replays : HasReplay id epoch (history_of vnode)
+  pub commands : vnode.log ≡ all_commands (history_of vnode)
   pub word : FitsWord vnode.word readers holders
-  pub place : IsInPlace id epoch vnode.word vnode.history vnode.place
+  pub place : IsInPlace id epoch vnode.word (history_of vnode) vnode.place
 
 -- what is always true of a vnode
 abbrev pub IsSound : (readers holders : ℕ) → Vnode → Type 0
@@ -110,7 +112,7 @@ IsSound readers holders vnode = IsSoundAs vnode.id vnode.last_epoch readers hold
 
 -- it is true of a fresh vnode, where nobody is inside
 pub sound-fresh : (id epoch readers holders : ℕ) → IsWithinLimits id epoch → readers ≡ 0 → holders ≡ 0 → IsSound readers holders (fresh_vnode id epoch)
-sound-fresh id epoch readers holders limits r h = record { limits = limits; replays = tt; word = (r, h); place = refl }
+sound-fresh id epoch readers holders limits r h = record { limits = limits; replays = tt; commands = refl; word = (r, h); place = refl }
 
 -- what is true of a worker and a vnode
 pub record IsAware (id epoch index : ℕ) (history : History) (worker : Worker) : Type 0 where

@@ -12,7 +12,9 @@ use Rattle.vnode_machine.specs.Step.{Response, GetDone, StepOutcome, Refused, An
 use Rattle.vnode_machine.specs.Registers.{key_of, context_in_ask, next_event, IsRegisters, IsNext}
 use Rattle.vnode_machine.specs.Runs.{IsAnswer}
 use Rattle.vnode_machine.proofs.StepLaw.{registers-after}
-use Rattle.node_steps.specs.World.{Word, Open, Taken, Phase, Idle, Asked, Reading, Holding, Done, Vnode, Call, call_of}
+use Rattle.copy_laws.specs.Copies.{Command, commands_of, all_commands}
+use Rattle.copy_laws.specs.Joining.{Log}
+use Rattle.node_steps.specs.World.{Word, Open, Taken, Phase, Idle, Asked, Reading, Holding, Done, Vnode, Call, call_of, history_of}
 use Rattle.node_steps.specs.Steps.{Action, Asks, Enters, Leaves, Marks, Unmarks, Takes, Puts, Looks, Publishes, is_reap, Outcome, NotPossible, Happened, Replied, Turn, left, moves, lays, answers, looks_by, publishes_by, turn_of, site_of}
 use Rattle.node_steps.specs.Schedules.{Begins}
 use Rattle.node_steps.specs.Contexts.{context_bytes}
@@ -40,15 +42,15 @@ ReplyShows state ask (Err number) = Unit {0}
 -- the turn answers a call as the register may; its worker has then seen the history
 pub record IsReplyTo (id epoch index : ℕ) (history : History) (t : Turn) (reply : Result Response ℕ) (call : Call) : Type 0 where
   pub at : call.site ≡ index
-  pub answer : IsAnswer id epoch history (record { ask = call.ask; reply = reply }) t.vnode.history
-  pub seen : t.seen ≡ t.vnode.history
-  pub event : EventIs call.ask history t.vnode.history
-  pub shows : ReplyShows (replay id epoch t.vnode.history) call.ask reply
+  pub answer : IsAnswer id epoch history (record { ask = call.ask; reply = reply }) (history_of t.vnode)
+  pub seen : t.seen ≡ (history_of t.vnode)
+  pub event : EventIs call.ask history (history_of t.vnode)
+  pub shows : ReplyShows (replay id epoch (history_of t.vnode)) call.ask reply
 
 -- a turn answers nothing, and the history stays; or it answers the call
 abbrev pub Comes : (id epoch index : ℕ) → Option Call → History → Turn → Outcome → Type 0
 Comes id epoch index call history t NotPossible = ⊥
-Comes id epoch index call history t Happened = t.vnode.history ≡ history
+Comes id epoch index call history t Happened = (history_of t.vnode) ≡ history
 Comes id epoch index call history t (Replied reply) = (c : Call) × (call ≡ Some c) × IsReplyTo id epoch index history t reply c
 
 module _ (id epoch index readers holders : ℕ) where
@@ -56,14 +58,15 @@ module _ (id epoch index readers holders : ℕ) where
   pub record IsTurn (action : Action) (phase : Phase) (history : History) (t : Turn) : Type 0 where
     pub same_id : t.vnode.id ≡ id
     pub same_epoch : t.vnode.last_epoch ≡ epoch
-    pub replays : HasReplay id epoch t.vnode.history
-    pub same : (t.vnode.history ≡ history) ⊎ (is_holder index phase ≡ true)
-    pub grows : Begins history t.vnode.history
+    pub replays : HasReplay id epoch (history_of t.vnode)
+    pub commands : t.vnode.log ≡ all_commands (history_of t.vnode)
+    pub same : ((history_of t.vnode) ≡ history) ⊎ (is_holder index phase ≡ true)
+    pub grows : Begins history (history_of t.vnode)
     pub word : (r h : ℕ) → r + one (is_reader index phase) ≡ readers + one (is_reader index t.phase)
         → h + one (is_holder index phase) ≡ holders + one (is_holder index t.phase) → FitsWord t.vnode.word r h
-    pub place : IsInPlace id epoch t.vnode.word t.vnode.history t.vnode.place
-    pub hand : IsInHand id epoch index t.vnode.history t.phase
-    pub seen : Begins t.seen t.vnode.history
+    pub place : IsInPlace id epoch t.vnode.word (history_of t.vnode) t.vnode.place
+    pub hand : IsInHand id epoch index (history_of t.vnode) t.phase
+    pub seen : Begins t.seen (history_of t.vnode)
     pub at : IsAbout index t.phase
     pub call : CallIs action (call_of phase) (call_of t.phase)
     pub comes : Comes id epoch index (call_of phase) history t t.outcome
@@ -88,9 +91,13 @@ module _ (id epoch index readers holders : ℕ) where
   place_read (Open n mark) history place f h p = p
   place_read Taken history place f h p = absurd (omega (arith, f.0, h))
 
-  module _ (limits : IsWithinLimits id epoch) (history seen : History) (place : State Content) (replays : HasReplay id epoch history) (has : Begins seen history) where
+  module _ (limits : IsWithinLimits id epoch) (log : Log) (seen : History) (place : State Content) (replays : HasReplay id epoch (commands_of log))
+      (commands : log ≡ all_commands (commands_of log)) (has : Begins seen (commands_of log)) where
+    abbrev history : History
+    history = commands_of log
+
     abbrev vnode_in : Word → Vnode
-    vnode_in word = record { id = id; last_epoch = epoch; word = word; history = history; place = place }
+    vnode_in word = record { id = id; last_epoch = epoch; word = word; log = log; place = place }
 
     abbrev turns : Word → Action → Phase → Option Turn
     turns word action phase = turn_of seen (vnode_in word) action phase
@@ -107,6 +114,7 @@ module _ (id epoch index readers holders : ℕ) where
       same_id = refl;
       same_epoch = refl;
       replays = replays;
+      commands = commands;
       same = inl refl;
       grows = begins-itself history;
       word = fits;
@@ -193,6 +201,7 @@ module _ (id epoch index readers holders : ℕ) where
       same_id = refl;
       same_epoch = refl;
       replays = replays;
+      commands = commands;
       same = inl refl;
       grows = begins-itself history;
       word = fits;
@@ -235,6 +244,7 @@ module _ (id epoch index readers holders : ℕ) where
       same_id = refl;
       same_epoch = refl;
       replays = replays;
+      commands = commands;
       same = inl refl;
       grows = begins-itself history;
       word = λ r h x y.
@@ -272,6 +282,7 @@ module _ (id epoch index readers holders : ℕ) where
       same_id = refl;
       same_epoch = refl;
       replays = replays;
+      commands = commands;
       same = inl refl;
       grows = begins-itself history;
       word = λ r h x y. fits_same word f r h (no_more r readers x) (cancel h holders (other == index) y);
@@ -328,6 +339,7 @@ module _ (id epoch index readers holders : ℕ) where
           same_id = refl;
           same_epoch = refl;
           replays = next.leads.replays;
+          commands = ap (λ (l : Log). Command event ∷ l) commands;
           same = inr (same_test other index at);
           grows = begins-longer event history history (begins-itself history);
           word = λ r h x y. fits_same word f r h (no_more r readers x) (cancel h holders (other == index) y);
@@ -357,33 +369,33 @@ module _ (id epoch index readers holders : ℕ) where
   about_is action (Holding other ask hand plan) h = cc
   about_is action (Done other hand) h = cc
 
-  pub turn_is : (seen : History) (vnode : Vnode) (same_id : vnode.id ≡ id) (same_epoch : vnode.last_epoch ≡ epoch) → IsSoundAs id epoch readers holders vnode → Begins seen vnode.history
+  pub turn_is : (seen : History) (vnode : Vnode) (same_id : vnode.id ≡ id) (same_epoch : vnode.last_epoch ≡ epoch) → IsSoundAs id epoch readers holders vnode → Begins seen (history_of vnode)
       → (action : Action) (phase : Phase) → one (is_reader index phase) ≤ readers → one (is_holder index phase) ≤ holders
-      → IsInHand id epoch index vnode.history phase → site_of action phase ≡ Some index → (t : Turn) → turn_of seen vnode action phase ≡ Some t → IsTurn action phase vnode.history t
+      → IsInHand id epoch index (history_of vnode) phase → site_of action phase ≡ Some index → (t : Turn) → turn_of seen vnode action phase ≡ Some t → IsTurn action phase (history_of vnode) t
   turn_is seen vnode same_id same_epoch sound has action phase reading held mine a t h =
       by action phase reading held mine a t
       (subst (λ e. turn_of seen (record vnode { id = id; last_epoch = e }) action phase ≡ Some t) same_epoch
       (subst (λ i. turn_of seen (record vnode { id = i }) action phase ≡ Some t) same_id h))
     where
       by : (action : Action) (phase : Phase) → one (is_reader index phase) ≤ readers → one (is_holder index phase) ≤ holders
-          → IsInHand id epoch index vnode.history phase → site_of action phase ≡ Some index → (t : Turn)
-          → turn_of seen (record vnode { id = id; last_epoch = epoch }) action phase ≡ Some t → IsTurn action phase vnode.history t
+          → IsInHand id epoch index (history_of vnode) phase → site_of action phase ≡ Some index → (t : Turn)
+          → turn_of seen (record vnode { id = id; last_epoch = epoch }) action phase ≡ Some t → IsTurn action phase (history_of vnode) t
       by (Asks other ask) Idle reading held mine a t h =
-          asks_turn sound.limits vnode.history seen vnode.place sound.replays has vnode.word sound.word sound.place other ask (cc) t h
+          asks_turn sound.limits vnode.log seen vnode.place sound.replays sound.commands has vnode.word sound.word sound.place other ask (cc) t h
       by Enters (Asked other (AskGet get)) reading held mine a t h =
-          enter_turn sound.limits vnode.history seen vnode.place sound.replays has vnode.word sound.word sound.place other get (cc) t h
+          enter_turn sound.limits vnode.log seen vnode.place sound.replays sound.commands has vnode.word sound.word sound.place other get (cc) t h
       by Leaves phase reading held mine a t h =
-          leave_turn sound.limits vnode.history seen vnode.place sound.replays has vnode.word sound.word sound.place phase (about_is Leaves phase a) t h
+          leave_turn sound.limits vnode.log seen vnode.place sound.replays sound.commands has vnode.word sound.word sound.place phase (about_is Leaves phase a) t h
       by Marks (Asked other ask) reading held mine a t h =
-          mark_turn sound.limits vnode.history seen vnode.place sound.replays has vnode.word sound.word sound.place other ask (cc) t h
+          mark_turn sound.limits vnode.log seen vnode.place sound.replays sound.commands has vnode.word sound.word sound.place other ask (cc) t h
       by Unmarks (Asked other ask) reading held mine a t h =
-          unmark_turn sound.limits vnode.history seen vnode.place sound.replays has vnode.word sound.word sound.place other ask (cc) t h
+          unmark_turn sound.limits vnode.log seen vnode.place sound.replays sound.commands has vnode.word sound.word sound.place other ask (cc) t h
       by Takes (Asked other ask) reading held mine a t h =
-          take_turn sound.limits vnode.history seen vnode.place sound.replays has vnode.word sound.word sound.place other ask (cc) t h
+          take_turn sound.limits vnode.log seen vnode.place sound.replays sound.commands has vnode.word sound.word sound.place other ask (cc) t h
       by Puts phase reading held mine a t h =
-          put_turn sound.limits vnode.history seen vnode.place sound.replays has vnode.word sound.word phase (about_is Puts phase a) mine t h
+          put_turn sound.limits vnode.log seen vnode.place sound.replays sound.commands has vnode.word sound.word phase (about_is Puts phase a) mine t h
       by Looks phase reading held mine a t h =
-          look_turn sound.limits vnode.history seen vnode.place sound.replays has vnode.word sound.word sound.place phase reading (about_is Looks phase a) mine t h
+          look_turn sound.limits vnode.log seen vnode.place sound.replays sound.commands has vnode.word sound.word sound.place phase reading (about_is Looks phase a) mine t h
       by Publishes phase reading held mine a t h =
-          publish_turn sound.limits vnode.history seen vnode.place sound.replays has vnode.word sound.word phase held (about_is Publishes phase a) mine t h
+          publish_turn sound.limits vnode.log seen vnode.place sound.replays sound.commands has vnode.word sound.word phase held (about_is Publishes phase a) mine t h
       by action phase reading held mine a t h = cc

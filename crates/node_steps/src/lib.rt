@@ -1,8 +1,8 @@
 //! The pure core of all schedules: workers over vnodes, step by step, in any order.
 //!
 //! A world (`specs/World`) has for each site a vnode: a word (how many readers are inside and whether it is marked, or that it is
-//! taken), its whole history, and the state in place; for each worker a phase with its call, the state in its hand and
-//! its plan, and for each site the front of the history that it has seen. A call is for a partition, and one function (`route`)
+//! taken), the log of what it accepted, whose commands are its history, and the state in place; for each worker a phase with its call,
+//! the state in its hand and its plan, and for each site the front of the history that it has seen. A call is for a partition, and one function (`route`)
 //! says to which site it goes: to that of the partition's own vnode, its primary, or, where the partition is diverted, to that of a
 //! fallback. A step is one partition's, which is diverted, or one worker's, at one site (`specs/Steps`):
 //! it gets a call, enters as a reader or leaves, marks the word or takes the mark away, takes the state into its hand or puts it
