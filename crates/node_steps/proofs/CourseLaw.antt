@@ -17,7 +17,7 @@ use Rattle.node_steps.specs.Schedules.{Start, IsStart, world_after}
 use Rattle.node_steps.specs.Courses.{partition_of, WasShownThere, GivesShownThere, IsCourseOf, RunsAreCourses}
 use Rattle.node_steps.proofs.Lists.{set-here, set-there, same_or_other, get-replicate, get-first, get-last, length-set, each_passes}
 use Rattle.node_steps.proofs.Own.{length-own, vnode_there, own_there, own_is, from_zero}
-use Rattle.node_steps.proofs.Inside.{same_test}
+use Rattle.node_steps.proofs.Inside.{same_test, about_there}
 use Rattle.node_steps.proofs.Kept.{IsOrderly, possible}
 use Rattle.node_steps.proofs.Diverting.{IsDiversion, diversion, id_is}
 use Rattle.node_steps.proofs.Scheduled.{orderly}
@@ -119,7 +119,7 @@ module _ (run index : ℕ) (w : World) (orderly : IsOrderly w) (other : ℕ) (ne
 
   -- no worker has a call at the new site
   nobody : (place : ℕ) (worker : Worker) → slice_get w.workers place ≡ Some worker → (call : Call) → call_of worker.phase ≡ Some call → call.site ≡ new_site → ⊥
-  nobody place worker h call asked at = not_below call.site new_site (orderly.about place worker h call.site (call_site worker.phase call asked)) at
+  nobody place worker h call asked at = not_below call.site new_site (orderly.about place worker h call.site (about_there call.site worker.phase (call_site worker.phase call asked))) at
 
   -- another partition's diversion
   elsewhere-diverted : other ≢ index → IsRun run index later course Shown

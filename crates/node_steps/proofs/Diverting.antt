@@ -8,12 +8,12 @@ use Rattle.vnode_machine.specs.Machine.{State}
 use Rattle.vnode_machine.specs.Replay.{History, replay, IsWithinLimits}
 use Rattle.vnode_machine.proofs.Steps.{known}
 use Rattle.node_steps.specs.World.{Word, Open, Taken, Phase, Idle, Asked, Reading, Holding, Done, Vnode, Worker, World, fresh_vnode, history_of}
-use Rattle.node_steps.specs.Steps.{Enters, site_of, is_about, fallback_ids, diverted_by, diverted}
+use Rattle.node_steps.specs.Steps.{is_about, fallback_ids, diverted_by, diverted}
 use Rattle.node_steps.specs.Erased.{erase_place}
 use Rattle.node_steps.proofs.Lists.{how_many, get-below, get-more, length-set, length-more, none_counted, each_passes}
 use Rattle.node_steps.proofs.Beginnings.{begins-itself}
 use Rattle.node_steps.specs.Schedules.{Begins}
-use Rattle.node_steps.proofs.Inside.{is_reader, is_holder, reads, holds, FitsWord, IsInPlace, other_test, no_hand, IsSound, sound-fresh, IsAware}
+use Rattle.node_steps.proofs.Inside.{is_reader, is_holder, reads, holds, FitsWord, IsInPlace, no_hand, IsSound, sound-fresh, IsAware}
 use Rattle.node_steps.proofs.Kept.{IsOrderly, and_then_some}
 
 same_number : (a b : ℕ) → (a == b) ≡ true → a ≡ b
@@ -55,14 +55,6 @@ not_inside index (Reading other get) h = (h, refl)
 not_inside index (Holding other ask hand plan) h = (refl, h)
 not_inside index (Done other None) h = (h, refl)
 not_inside index (Done other (Some hand)) h = (refl, h)
-
--- nor who has one at others alone
-not_there : (index : ℕ) (phase : Phase) → ((site : ℕ) → site_of Enters phase ≡ Some site → site ≢ index) → is_about index phase ≡ false
-not_there index Idle h = refl
-not_there index (Asked other ask) h = other_test other index (h other refl)
-not_there index (Reading other get) h = other_test other index (h other refl)
-not_there index (Holding other ask hand plan) h = other_test other index (h other refl)
-not_there index (Done other hand) h = other_test other index (h other refl)
 
 below_not : (site n : ℕ) → site < n → site ≢ n
 below_not site n h = λ e. absurd (omega (arith, e, h))
@@ -123,7 +115,11 @@ module _ (w : World) (orderly : IsOrderly w) (index : ℕ) (primary : Vnode) (th
 
   -- nobody has a call at the new site
   nobody_new : (place : ℕ) (worker : Worker) → slice_get w.workers place ≡ Some worker → is_about new_site worker.phase ≡ false
-  nobody_new place worker h = not_there new_site worker.phase (λ site s. below_not site new_site (orderly.about place worker h site s))
+  nobody_new place worker h = by (is_about new_site worker.phase) refl
+    where
+      by : (b : Bool) → is_about new_site worker.phase ≡ b → is_about new_site worker.phase ≡ false
+      by true e = absurd (below_not new_site new_site (orderly.about place worker h new_site e) refl)
+      by false e = e
 
   sound_new : index < length w.routes → IsSound (how_many (reads new_site) w.workers) (how_many (holds new_site) w.workers) fallback
   sound_new below =

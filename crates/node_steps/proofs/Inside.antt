@@ -1,6 +1,7 @@
 -- Who is inside a vnode, and what is always true of words, hands and fronts.
-use Rattle.std.proofs.Common.{◌≡◌, ◌≢◌, ℕ, Bool, true, false, refl, sym, ◌∙◌, arith}
+use Rattle.std.proofs.Common.{◌≡◌, ◌≢◌, ℕ, Bool, true, false, refl, sym, ◌∙◌, ap, arith}
 use Rattle.std.specs.Prelude.{◌==◌, Option, Some, None}
+use Rattle.std.specs.Option.{option_map_or}
 use Rattle.std.proofs.lemmas.Bool.Decides.{nat_tests}
 use Rattle.riak_msgs.specs.Contents.{Content}
 use Rattle.sibling_register.specs.Answers.{Ask}
@@ -10,6 +11,7 @@ use Rattle.vnode_machine.specs.Replay.{History, replay, HasReplay, IsWithinLimit
 use Rattle.vnode_machine.specs.Step.{Accepted, outcome}
 use Rattle.copy_laws.specs.Copies.{all_commands}
 use Rattle.node_steps.specs.World.{Word, Open, Taken, Plan, Phase, Idle, Asked, Reading, Holding, Done, Vnode, Worker, fresh_vnode, seen_at, history_of}
+use Rattle.node_steps.specs.Steps.{Enters, site_of, is_about}
 use Rattle.node_steps.specs.Schedules.{Begins}
 
 -- inside the vnode of this index as a reader
@@ -97,6 +99,34 @@ no_hand id epoch index history (Reading other get) h = tt
 no_hand id epoch index history (Holding other ask hand plan) h = λ e. absurd (false_true (other == index) h (same_test other index e))
 no_hand id epoch index history (Done other None) h = tt
 no_hand id epoch index history (Done other (Some hand)) h = λ e. absurd (false_true (other == index) h (same_test other index e))
+
+-- a phase has at a site what it had before: it is inside there as it was, has no other state of it in hand, and has a call there
+-- where it had one
+pub record StaysAt (site : ℕ) (before after : Phase) : Type 0 where
+  pub reader : is_reader site after ≡ is_reader site before
+  pub holder : is_holder site after ≡ is_holder site before
+  pub hand : (id epoch : ℕ) (history : History) → IsInHand id epoch site history before → IsInHand id epoch site history after
+  pub about : is_about site after ≡ is_about site before
+
+not_about : (index other : ℕ) (phase : Phase) → IsAbout index phase → index ≢ other → is_about other phase ≡ false
+not_about index other Idle about n = refl
+not_about index other (Asked at ask) about n = other_test at other (apart at index other about n)
+not_about index other (Reading at get) about n = other_test at other (apart at index other about n)
+not_about index other (Holding at ask hand plan) about n = other_test at other (apart at index other about n)
+not_about index other (Done at hand) about n = other_test at other (apart at index other about n)
+
+-- a phase that was about one site, and is about no other, has elsewhere what it had
+pub stays : (index other : ℕ) (before after : Phase) → IsAbout index before → IsAbout index after → index ≢ other → StaysAt other before after
+stays index other before after was is n = record {
+  reader = (elsewhere index other after is n).0 ∙ sym (elsewhere index other before was n).0;
+  holder = (elsewhere index other after is n).1 ∙ sym (elsewhere index other before was n).1;
+  hand = λ id epoch history had. no_hand id epoch other history after (elsewhere index other after is n).1;
+  about = not_about index other after is n ∙ sym (not_about index other before was n);
+}
+
+-- who has a call at a site is about it
+pub about_there : (site : ℕ) (phase : Phase) → site_of Enters phase ≡ Some site → is_about site phase ≡ true
+about_there site phase h = ap (λ o. option_map_or (λ other. other == site) o false) h ∙ same_test site site refl
 
 -- what is true of a vnode of this id, opened behind this epoch, by how many readers and holders there are
 pub record IsSoundAs (id epoch readers holders : ℕ) (vnode : Vnode) : Type 0 where

@@ -7,12 +7,12 @@ use Rattle.sibling_register.specs.Answers.{Ask}
 use Rattle.actor_epoch.specs.Given.{Context}
 use Rattle.vnode_machine.specs.Replay.{History, IsWithinLimits}
 use Rattle.node_steps.specs.World.{Word, Open, Taken, Phase, Idle, Asked, Reading, Holding, Done, Vnode, Worker, World, fresh_vnode, fresh_worker, id_of, opening_vnodes, own_sites, opening_world, worker_at, seen_at, history_of}
-use Rattle.node_steps.specs.Steps.{Action, Asks, AsksNowhere, is_reap, sent, routed, Enters, Outcome, Turn, turn_of, site_of, seeing, turned, fallback_ids, does}
+use Rattle.node_steps.specs.Steps.{Action, Asks, AsksNowhere, is_reap, sent, routed, Enters, Outcome, Turn, turn_of, site_of, is_about, seeing, turned, fallback_ids, does}
 use Rattle.node_steps.specs.Schedules.{Start, IsStart, Begins}
 use Rattle.node_steps.proofs.Lists.{one, how_many, set-here, set-there, same_or_other, how_many-set, counted_one, counted_two, counted_none, get-replicate, get-below, length-set}
 use Rattle.node_steps.proofs.Own.{length-own, length-opening}
 use Rattle.node_steps.proofs.Beginnings.{begins-itself, begins-trans}
-use Rattle.node_steps.proofs.Inside.{is_reader, is_holder, reads, holds, FitsWord, IsInHand, IsAbout, same_test, elsewhere, no_hand, IsSoundAs, IsSound, sound-fresh, IsAware}
+use Rattle.node_steps.proofs.Inside.{is_reader, is_holder, reads, holds, FitsWord, IsInHand, IsAbout, same_test, no_hand, StaysAt, stays, IsSoundAs, IsSound, sound-fresh, IsAware}
 use Rattle.node_steps.proofs.Turns.{IsTurn, turn_is, about_is}
 
 -- what is always true of a world: of each vnode, and of each worker and vnode
@@ -24,7 +24,7 @@ pub record IsOrderly (w : World) : Type 0 where
   pub bounds : (index : ℕ) (vnode : Vnode) → index < length w.routes → slice_get w.vnodes index ≡ Some vnode → vnode.id + fallback_ids < 2 ^ 64
   -- a partition has a site, a worker has a call at one, and has seen nothing of what isn't one
   pub sites : length w.routes ≤ length w.vnodes
-  pub about : (place : ℕ) (worker : Worker) → slice_get w.workers place ≡ Some worker → (site : ℕ) → site_of Enters worker.phase ≡ Some site → site < length w.vnodes
+  pub about : (place : ℕ) (worker : Worker) → slice_get w.workers place ≡ Some worker → (site : ℕ) → is_about site worker.phase ≡ true → site < length w.vnodes
   pub unseen : (place : ℕ) (worker : Worker) → slice_get w.workers place ≡ Some worker → (site : ℕ) → length w.vnodes ≤ site → seen_at worker.seen site ≡ []
 
 -- what a worker does, its call being sent, where that is possible: who it is, at which site, and its turn
@@ -107,20 +107,21 @@ module _ (w : World) (orderly : IsOrderly w) (action : Action) (place index : �
   abbrev world : World
   world = turned w place index worker turn
 
-  module _ (here : slice_get w.workers place ≡ Some worker) (there : slice_get w.vnodes index ≡ Some vnode) (was : IsAbout index worker.phase)
+  module _ (here : slice_get w.workers place ≡ Some worker) (there : slice_get w.vnodes index ≡ Some vnode)
+      (keeps : (other : ℕ) → index ≢ other → StaysAt other worker.phase turn.phase)
       (is : IsTurn vnode.id vnode.last_epoch index (readers index) (holders index) action worker.phase (history_of vnode) turn) where
-    none_here : (a b c d : ℕ) → a + b ≡ c + d → b ≡ 0 → d ≡ 0 → a ≡ c
-    none_here a b c d h e f = omega (arith, h, e, f)
+    none_here : (a b c d : ℕ) → a + b ≡ c + d → d ≡ b → a ≡ c
+    none_here a b c d h e = omega (arith, h, e)
 
     readers_other : (other : ℕ) → index ≢ other → how_many (reads other) world.workers ≡ readers other
     readers_other other n =
         none_here (how_many (reads other) world.workers) (one (reads other worker)) (readers other) (one (reads other next))
-        (how_many-set (reads other) w.workers place worker next here) (ap one (elsewhere index other worker.phase was n).0) (ap one (elsewhere index other turn.phase is.at n).0)
+        (how_many-set (reads other) w.workers place worker next here) (ap one (keeps other n).reader)
 
     holders_other : (other : ℕ) → index ≢ other → how_many (holds other) world.workers ≡ holders other
     holders_other other n =
         none_here (how_many (holds other) world.workers) (one (holds other worker)) (holders other) (one (holds other next))
-        (how_many-set (holds other) w.workers place worker next here) (ap one (elsewhere index other worker.phase was n).1) (ap one (elsewhere index other turn.phase is.at n).1)
+        (how_many-set (holds other) w.workers place worker next here) (ap one (keeps other n).holder)
 
     -- what holds by the id and the epoch holds by the turn's
     as_vnode : (Holds : (id epoch : ℕ) → Type 0) → Holds vnode.id vnode.last_epoch → Holds turn.vnode.id turn.vnode.last_epoch
@@ -165,7 +166,7 @@ module _ (w : World) (orderly : IsOrderly w) (action : Action) (place index : �
     next_there : (other : ℕ) (v : Vnode) → index ≢ other → slice_get w.vnodes other ≡ Some v → IsAware v.id v.last_epoch other (history_of v) next
     next_there other v n h =
         record {
-          hand = no_hand v.id v.last_epoch other (history_of v) turn.phase (elsewhere index other turn.phase is.at n).1;
+          hand = (keeps other n).hand v.id v.last_epoch (history_of v) (orderly.workers place worker here other v h).hand;
           seen = subst (λ f. Begins f (history_of v)) (sym (seeing-there worker.seen index other turn.seen n)) (orderly.workers place worker here other v h).seen;
         }
 
@@ -202,6 +203,13 @@ module _ (w : World) (orderly : IsOrderly w) (action : Action) (place index : �
       | inr d ↦ other_here at x d.0 d.1
     ])
 
+    -- its call is at a site, or where it was
+    next_about : (site : ℕ) → is_about site turn.phase ≡ true → site < length w.vnodes
+    next_about site h = elim (same_or_other index site) [
+      | inl e ↦ subst (λ i. i < length w.vnodes) e (get-below w.vnodes index vnode there)
+      | inr n ↦ orderly.about place worker here site (sym (keeps site n).about ∙ h)
+    ]
+
     pub orderly_after : IsOrderly world
     orderly_after = record {
       vnodes = λ other v h. elim (vnode_after other v h) [
@@ -224,7 +232,7 @@ module _ (w : World) (orderly : IsOrderly w) (action : Action) (place index : �
       ];
       sites = subst (λ n. length w.routes ≤ n) (sym (length-set w.vnodes index turn.vnode)) orderly.sites;
       about = λ at x k site h. subst (λ n. site < n) (sym (length-set w.vnodes index turn.vnode)) (elim (worker_after at x k) [
-        | inl d ↦ subst (λ i. i < length w.vnodes) (about_site index turn.phase is.at site (ap (λ (y : Worker). site_of Enters y.phase) d.1 ∙ h)) (get-below w.vnodes index vnode there)
+        | inl d ↦ next_about site (ap (λ (y : Worker). is_about site y.phase) d.1 ∙ h)
         | inr d ↦ orderly.about at x d.1 site h
       ]);
       unseen = λ at x k site past.
@@ -265,7 +273,7 @@ orderly-does w orderly number action r h =
     let p = possible w number action r h in
     subst (λ q. IsOrderly q.0) p.gives
     (orderly_after w orderly action (pred number) p.index p.worker p.vnode p.turn (at_place w number p.worker p.worker_is) p.vnode_is
-    (about_at w number action r p) (turn_at w orderly number action r p))
+    (λ other n. stays p.index other p.worker.phase p.turn.phase (about_at w number action r p) (turn_at w orderly number action r p).at n) (turn_at w orderly number action r p))
 
 -- a vnode of the opening world is a fresh one
 pub opened : (run from count index : ℕ) (vnode : Vnode) → slice_get (opening_vnodes run from count) index ≡ Some vnode
@@ -294,7 +302,7 @@ bounded run index count r c h = omega (arith, r, c, h)
 same_length : (a b n : ℕ) → a ≡ n → b ≡ n → a ≤ b
 same_length a b n h k = omega (arith, h, k)
 
-idle_nowhere : (site : ℕ) → site_of Enters Idle ≡ Some site → ⊥
+idle_nowhere : (site : ℕ) → is_about site Idle ≡ true → ⊥
 idle_nowhere site h = cc
 
 nobody : (index : ℕ) (count : ℕ) (worker : Worker) → worker.phase ≡ Idle → how_many (reads index) (replicate count worker) ≡ 0
@@ -324,6 +332,6 @@ orderly-opening start is =
           (length-own 0 start.vnodes) (length-opening start.run 0 start.vnodes);
       about = λ place worker k site h.
           let e = get-replicate start.workers place fresh_worker worker k in
-          absurd (idle_nowhere site (ap (λ (x : Worker). site_of Enters x.phase) (sym e) ∙ h));
+          absurd (idle_nowhere site (ap (λ (x : Worker). is_about site x.phase) (sym e) ∙ h));
       unseen = λ place worker k site past. ap (λ (x : Worker). seen_at x.seen site) (get-replicate start.workers place fresh_worker worker k);
     }
