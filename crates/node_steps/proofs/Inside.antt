@@ -6,10 +6,13 @@ use Rattle.std.proofs.lemmas.Bool.Decides.{nat_tests}
 use Rattle.riak_msgs.specs.Contents.{Content}
 use Rattle.sibling_register.specs.Answers.{Ask}
 use Rattle.actor_epoch.specs.Given.{Context}
-use Rattle.vnode_machine.specs.Machine.{State}
-use Rattle.vnode_machine.specs.Replay.{History, replay, HasReplay, IsWithinLimits}
+use Rattle.vnode_machine.specs.Machine.{State, opening}
+use Rattle.vnode_machine.specs.Replay.{replay, HasReplay, IsWithinLimits}
 use Rattle.vnode_machine.specs.Step.{Accepted, outcome}
-use Rattle.copy_laws.specs.Copies.{all_commands}
+use Rattle.copy_laws.specs.Copies.{all_commands, commands_of}
+use Rattle.copy_laws.specs.CopyReplay.{state_with}
+use Rattle.copy_laws.specs.Joining.{Log}
+use Rattle.copy_laws.proofs.Fallback.{log-replay}
 use Rattle.node_steps.specs.World.{Word, Open, Taken, Plan, Phase, Idle, Asked, Reading, Holding, Done, Vnode, Worker, fresh_vnode, seen_at, history_of}
 use Rattle.node_steps.specs.Steps.{Enters, site_of, is_about}
 use Rattle.node_steps.specs.Schedules.{Begins}
@@ -43,24 +46,32 @@ abbrev pub FitsWord : Word → (readers holders : ℕ) → Type 0
 FitsWord (Open n mark) readers holders = (readers ≡ n) × (holders ≡ 0)
 FitsWord Taken readers holders = (readers ≡ 0) × (holders ≡ 1)
 
--- where it is not taken, the state in place is the replay
-abbrev pub IsInPlace : (id epoch : ℕ) → Word → History → State Content → Type 0
-IsInPlace id epoch (Open n mark) history place = place ≡ replay id epoch history
-IsInPlace id epoch Taken history place = Unit {0}
+-- the state after a vnode's log
+abbrev pub state_of : (id epoch : ℕ) → Log → State Content
+state_of id epoch log = state_with (opening id epoch) log
+
+-- it is the replay of the log's commands, where there are no other entries
+pub replayed : (id epoch : ℕ) (log : Log) → log ≡ all_commands (commands_of log) → state_of id epoch log ≡ replay id epoch (commands_of log)
+replayed id epoch log only = ap (state_of id epoch) only ∙ log-replay id epoch (commands_of log)
+
+-- where it is not taken, the state after the log is in place
+abbrev pub IsInPlace : (id epoch : ℕ) → Word → Log → State Content → Type 0
+IsInPlace id epoch (Open n mark) log place = place ≡ state_of id epoch log
+IsInPlace id epoch Taken log place = Unit {0}
 
 -- a plan is what came of the call in the state in hand
 abbrev pub IsPlanOf : Ask Content Context → State Content → Option Plan → Type 0
 IsPlanOf ask hand None = Unit {0}
 IsPlanOf ask hand (Some plan) = outcome hand ask ≡ Accepted plan.operation plan.response plan.next
 
--- the state in hand is the replay, and a plan was made from it
-abbrev pub IsInHand : (id epoch index : ℕ) → History → Phase → Type 0
-IsInHand id epoch index history Idle = Unit {0}
-IsInHand id epoch index history (Asked other ask) = Unit {0}
-IsInHand id epoch index history (Reading other get) = Unit {0}
-IsInHand id epoch index history (Holding other ask hand plan) = other ≡ index → (hand ≡ replay id epoch history) × IsPlanOf ask hand plan
-IsInHand id epoch index history (Done other None) = Unit {0}
-IsInHand id epoch index history (Done other (Some hand)) = other ≡ index → hand ≡ replay id epoch history
+-- the state in hand is the one after the log, and a plan was made from it
+abbrev pub IsInHand : (id epoch index : ℕ) → Log → Phase → Type 0
+IsInHand id epoch index log Idle = Unit {0}
+IsInHand id epoch index log (Asked other ask) = Unit {0}
+IsInHand id epoch index log (Reading other get) = Unit {0}
+IsInHand id epoch index log (Holding other ask hand plan) = other ≡ index → (hand ≡ state_of id epoch log) × IsPlanOf ask hand plan
+IsInHand id epoch index log (Done other None) = Unit {0}
+IsInHand id epoch index log (Done other (Some hand)) = other ≡ index → hand ≡ state_of id epoch log
 
 -- the phase is about this vnode alone
 abbrev pub IsAbout : ℕ → Phase → Type 0
@@ -92,20 +103,20 @@ false_true : (b : Bool) → b ≡ false → b ≡ true → ⊥
 false_true b f t = let e : false ≡ true = sym f ∙ t in cc
 
 -- a phase that holds nothing there has nothing in hand of it
-pub no_hand : (id epoch index : ℕ) (history : History) (phase : Phase) → is_holder index phase ≡ false → IsInHand id epoch index history phase
-no_hand id epoch index history Idle h = tt
-no_hand id epoch index history (Asked other ask) h = tt
-no_hand id epoch index history (Reading other get) h = tt
-no_hand id epoch index history (Holding other ask hand plan) h = λ e. absurd (false_true (other == index) h (same_test other index e))
-no_hand id epoch index history (Done other None) h = tt
-no_hand id epoch index history (Done other (Some hand)) h = λ e. absurd (false_true (other == index) h (same_test other index e))
+pub no_hand : (id epoch index : ℕ) (log : Log) (phase : Phase) → is_holder index phase ≡ false → IsInHand id epoch index log phase
+no_hand id epoch index log Idle h = tt
+no_hand id epoch index log (Asked other ask) h = tt
+no_hand id epoch index log (Reading other get) h = tt
+no_hand id epoch index log (Holding other ask hand plan) h = λ e. absurd (false_true (other == index) h (same_test other index e))
+no_hand id epoch index log (Done other None) h = tt
+no_hand id epoch index log (Done other (Some hand)) h = λ e. absurd (false_true (other == index) h (same_test other index e))
 
 -- a phase has at a site what it had before: it is inside there as it was, has no other state of it in hand, and has a call there
 -- where it had one
 pub record StaysAt (site : ℕ) (before after : Phase) : Type 0 where
   pub reader : is_reader site after ≡ is_reader site before
   pub holder : is_holder site after ≡ is_holder site before
-  pub hand : (id epoch : ℕ) (history : History) → IsInHand id epoch site history before → IsInHand id epoch site history after
+  pub hand : (id epoch : ℕ) (log : Log) → IsInHand id epoch site log before → IsInHand id epoch site log after
   pub about : is_about site after ≡ is_about site before
 
 not_about : (index other : ℕ) (phase : Phase) → IsAbout index phase → index ≢ other → is_about other phase ≡ false
@@ -120,7 +131,7 @@ pub stays : (index other : ℕ) (before after : Phase) → IsAbout index before 
 stays index other before after was is n = record {
   reader = (elsewhere index other after is n).0 ∙ sym (elsewhere index other before was n).0;
   holder = (elsewhere index other after is n).1 ∙ sym (elsewhere index other before was n).1;
-  hand = λ id epoch history had. no_hand id epoch other history after (elsewhere index other after is n).1;
+  hand = λ id epoch log had. no_hand id epoch other log after (elsewhere index other after is n).1;
   about = not_about index other after is n ∙ sym (not_about index other before was n);
 }
 
@@ -134,7 +145,7 @@ pub record IsSoundAs (id epoch readers holders : ℕ) (vnode : Vnode) : Type 0 w
   pub replays : HasReplay id epoch (history_of vnode)
   pub commands : vnode.log ≡ all_commands (history_of vnode)
   pub word : FitsWord vnode.word readers holders
-  pub place : IsInPlace id epoch vnode.word (history_of vnode) vnode.place
+  pub place : IsInPlace id epoch vnode.word vnode.log vnode.place
 
 -- what is always true of a vnode
 abbrev pub IsSound : (readers holders : ℕ) → Vnode → Type 0
@@ -145,6 +156,6 @@ pub sound-fresh : (id epoch readers holders : ℕ) → IsWithinLimits id epoch �
 sound-fresh id epoch readers holders limits r h = record { limits = limits; replays = tt; commands = refl; word = (r, h); place = refl }
 
 -- what is true of a worker and a vnode
-pub record IsAware (id epoch index : ℕ) (history : History) (worker : Worker) : Type 0 where
-  pub hand : IsInHand id epoch index history worker.phase
-  pub seen : Begins (seen_at worker.seen index) history
+pub record IsAware (id epoch index : ℕ) (log : Log) (worker : Worker) : Type 0 where
+  pub hand : IsInHand id epoch index log worker.phase
+  pub seen : Begins (seen_at worker.seen index) (commands_of log)

@@ -19,7 +19,7 @@ use Rattle.node_steps.proofs.Turns.{IsTurn, turn_is, about_is}
 pub record IsOrderly (w : World) : Type 0 where
   pub vnodes : (index : ℕ) (vnode : Vnode) → slice_get w.vnodes index ≡ Some vnode → IsSound (how_many (reads index) w.workers) (how_many (holds index) w.workers) vnode
   pub workers : (place : ℕ) (worker : Worker) → slice_get w.workers place ≡ Some worker → (index : ℕ) (vnode : Vnode) → slice_get w.vnodes index ≡ Some vnode
-      → IsAware vnode.id vnode.last_epoch index (history_of vnode) worker
+      → IsAware vnode.id vnode.last_epoch index vnode.log worker
   -- a fallback of each partition can have an id
   pub bounds : (index : ℕ) (vnode : Vnode) → index < length w.routes → slice_get w.vnodes index ≡ Some vnode → vnode.id + fallback_ids < 2 ^ 64
   -- a partition has a site, a worker has a call at one, and has seen nothing of what isn't one
@@ -109,7 +109,7 @@ module _ (w : World) (orderly : IsOrderly w) (action : Action) (place index : �
 
   module _ (here : slice_get w.workers place ≡ Some worker) (there : slice_get w.vnodes index ≡ Some vnode)
       (keeps : (other : ℕ) → index ≢ other → StaysAt other worker.phase turn.phase)
-      (is : IsTurn vnode.id vnode.last_epoch index (readers index) (holders index) action worker.phase (history_of vnode) turn) where
+      (is : IsTurn vnode.id vnode.last_epoch index (readers index) (holders index) action worker.phase vnode.log turn) where
     none_here : (a b c d : ℕ) → a + b ≡ c + d → d ≡ b → a ≡ c
     none_here a b c d h e = omega (arith, h, e)
 
@@ -160,13 +160,13 @@ module _ (w : World) (orderly : IsOrderly w) (action : Action) (place index : �
         unwrapped a b h = cc
 
     -- the worker itself, at the vnode and elsewhere
-    next_here : IsAware vnode.id vnode.last_epoch index (history_of turn.vnode) next
+    next_here : IsAware vnode.id vnode.last_epoch index turn.vnode.log next
     next_here = record { hand = is.hand; seen = subst (λ f. Begins f (history_of turn.vnode)) (sym (seeing-here worker.seen index turn.seen)) is.seen }
 
-    next_there : (other : ℕ) (v : Vnode) → index ≢ other → slice_get w.vnodes other ≡ Some v → IsAware v.id v.last_epoch other (history_of v) next
+    next_there : (other : ℕ) (v : Vnode) → index ≢ other → slice_get w.vnodes other ≡ Some v → IsAware v.id v.last_epoch other v.log next
     next_there other v n h =
         record {
-          hand = (keeps other n).hand v.id v.last_epoch (history_of v) (orderly.workers place worker here other v h).hand;
+          hand = (keeps other n).hand v.id v.last_epoch v.log (orderly.workers place worker here other v h).hand;
           seen = subst (λ f. Begins f (history_of v)) (sym (seeing-there worker.seen index other turn.seen n)) (orderly.workers place worker here other v h).seen;
         }
 
@@ -179,27 +179,27 @@ module _ (w : World) (orderly : IsOrderly w) (action : Action) (place index : �
     bool_cases false = inr refl
 
     -- another worker at the vnode
-    other_hand : (at : ℕ) (x : Worker) → place ≢ at → slice_get w.workers at ≡ Some x → IsInHand vnode.id vnode.last_epoch index (history_of turn.vnode) x.phase
+    other_hand : (at : ℕ) (x : Worker) → place ≢ at → slice_get w.workers at ≡ Some x → IsInHand vnode.id vnode.last_epoch index turn.vnode.log x.phase
     other_hand at x n h = elim is.same [
-      | inl e ↦ subst (λ hist. IsInHand vnode.id vnode.last_epoch index hist x.phase) (sym e) (orderly.workers at x h index vnode there).hand
+      | inl e ↦ subst (λ log. IsInHand vnode.id vnode.last_epoch index log x.phase) (sym e) (orderly.workers at x h index vnode there).hand
       | inr mine ↦ elim (bool_cases (is_holder index x.phase)) [
         | inl his ↦ absurd (too_many (holders index) (at_most_one vnode.word (readers index) (holders index) (orderly.vnodes index vnode there).word)
             (counted_two (holds index) w.workers place at worker x n here h mine his))
-        | inr nobody ↦ no_hand vnode.id vnode.last_epoch index (history_of turn.vnode) x.phase nobody
+        | inr nobody ↦ no_hand vnode.id vnode.last_epoch index turn.vnode.log x.phase nobody
       ]
     ]
       where
         too_many : (a : ℕ) → a ≤ 1 → 2 ≤ a → ⊥
         too_many a h k = omega (arith, h, k)
 
-    other_here : (at : ℕ) (x : Worker) → place ≢ at → slice_get w.workers at ≡ Some x → IsAware vnode.id vnode.last_epoch index (history_of turn.vnode) x
+    other_here : (at : ℕ) (x : Worker) → place ≢ at → slice_get w.workers at ≡ Some x → IsAware vnode.id vnode.last_epoch index turn.vnode.log x
     other_here at x n h =
         record { hand = other_hand at x n h; seen = begins-trans (seen_at x.seen index) (history_of vnode) (history_of turn.vnode) (orderly.workers at x h index vnode there).seen is.grows }
 
     -- any worker at the vnode
-    aware_here : (at : ℕ) (x : Worker) → slice_get world.workers at ≡ Some x → IsAware turn.vnode.id turn.vnode.last_epoch index (history_of turn.vnode) x
-    aware_here at x k = as_vnode (λ i e. IsAware i e index (history_of turn.vnode) x) (elim (worker_after at x k) [
-      | inl d ↦ subst (λ y. IsAware vnode.id vnode.last_epoch index (history_of turn.vnode) y) d.1 next_here
+    aware_here : (at : ℕ) (x : Worker) → slice_get world.workers at ≡ Some x → IsAware turn.vnode.id turn.vnode.last_epoch index turn.vnode.log x
+    aware_here at x k = as_vnode (λ i e. IsAware i e index turn.vnode.log x) (elim (worker_after at x k) [
+      | inl d ↦ subst (λ y. IsAware vnode.id vnode.last_epoch index turn.vnode.log y) d.1 next_here
       | inr d ↦ other_here at x d.0 d.1
     ])
 
@@ -219,9 +219,9 @@ module _ (w : World) (orderly : IsOrderly w) (action : Action) (place index : �
             (subst (λ n. IsSound n (holders other) v) (sym (readers_other other e.0)) (orderly.vnodes other v e.1))
       ];
       workers = λ at x k other v h. elim (vnode_after other v h) [
-        | inl e ↦ subst (λ o. IsAware v.id v.last_epoch o (history_of v) x) e.0 (subst (λ u. IsAware u.id u.last_epoch index (history_of u) x) e.1 (aware_here at x k))
+        | inl e ↦ subst (λ o. IsAware v.id v.last_epoch o v.log x) e.0 (subst (λ u. IsAware u.id u.last_epoch index u.log x) e.1 (aware_here at x k))
         | inr e ↦ elim (worker_after at x k) [
-          | inl d ↦ subst (λ y. IsAware v.id v.last_epoch other (history_of v) y) d.1 (next_there other v e.0 e.1)
+          | inl d ↦ subst (λ y. IsAware v.id v.last_epoch other v.log y) d.1 (next_there other v e.0 e.1)
           | inr d ↦ orderly.workers at x d.1 other v e.1
         ]
       ];
@@ -255,7 +255,7 @@ counted test workers place worker h = by (test worker) refl
 
 -- the turn of a possible step
 pub turn_at : (w : World) (orderly : IsOrderly w) (number : ℕ) (action : Action) (r : World × Outcome) (p : IsPossible w number action r)
-    → IsTurn p.vnode.id p.vnode.last_epoch p.index (how_many (reads p.index) w.workers) (how_many (holds p.index) w.workers) action p.worker.phase (history_of p.vnode) p.turn
+    → IsTurn p.vnode.id p.vnode.last_epoch p.index (how_many (reads p.index) w.workers) (how_many (holds p.index) w.workers) action p.worker.phase p.vnode.log p.turn
 turn_at w orderly number action r p =
     let here = at_place w number p.worker p.worker_is in
     let aware = orderly.workers (pred number) p.worker here p.index p.vnode p.vnode_is in
@@ -323,7 +323,7 @@ orderly-opening start is =
       workers = λ place worker k index vnode h.
           let o = opened start.run 0 start.vnodes index vnode h in
           let e = get-replicate start.workers place fresh_worker worker k in
-          subst (λ v. IsAware v.id v.last_epoch index (history_of v) worker) (sym o.1)
+          subst (λ v. IsAware v.id v.last_epoch index v.log worker) (sym o.1)
           (subst (λ x. IsAware (id_of start.run (0 + index)) 0 index [] x) (sym e) (record { hand = tt; seen = begins-itself [] }));
       bounds = λ index vnode below h.
           let o = opened start.run 0 start.vnodes index vnode h in

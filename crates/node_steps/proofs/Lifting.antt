@@ -17,7 +17,7 @@ use Rattle.node_steps.specs.Steps.{Action, Step, By, Diverts, Outcome, NotPossib
 use Rattle.node_steps.specs.Schedules.{Begins}
 use Rattle.node_steps.specs.Claims.{HistoriesAreLegal, LooksShowReplays, state_shown, RepliesAreRegisters, NothingElseHappens, RepliesHaveSeen, NoDotIsIssuedTwice, LivesAreOfDefinedKeys}
 use Rattle.node_steps.proofs.Lists.{how_many, set-here, set-there, same_or_other, counted_one}
-use Rattle.node_steps.proofs.Inside.{is_reader, reads, holds, IsInHand, same_test, IsAware}
+use Rattle.node_steps.proofs.Inside.{is_reader, reads, holds, state_of, replayed, IsInHand, same_test, IsAware}
 use Rattle.node_steps.proofs.Turns.{IsReplyTo, Comes, IsTurn, place_read}
 use Rattle.node_steps.proofs.Kept.{IsOrderly, IsPossible, seeing-here, possible, at_place, turn_at}
 use Rattle.node_steps.proofs.Diverting.{diversion}
@@ -50,21 +50,21 @@ pub looks_show_replays : (w : World) → IsOrderly w → LooksShowReplays w
 looks_show_replays w orderly = λ number index worker vnode state worker_is vnode_is shows.
     let here = at_place w number worker worker_is in
     let hand = (orderly.workers (pred number) worker here index vnode vnode_is).hand in
-    record { replays = (orderly.vnodes index vnode vnode_is).replays; is = by number index worker vnode state vnode_is here hand worker.phase refl shows }
+    record { replays = (orderly.vnodes index vnode vnode_is).replays; is = by number index worker vnode state vnode_is here hand worker.phase refl shows ∙ replayed vnode.id vnode.last_epoch vnode.log (orderly.vnodes index vnode vnode_is).commands }
   where
     by : (number index : ℕ) (worker : Worker) (vnode : Vnode) (state : State Content) → slice_get w.vnodes index ≡ Some vnode → slice_get w.workers (pred number) ≡ Some worker
-        → IsInHand vnode.id vnode.last_epoch index (history_of vnode) worker.phase
-        → (phase : Phase) → worker.phase ≡ phase → state_shown phase vnode ≡ Some (index, state) → state ≡ replay vnode.id vnode.last_epoch (history_of vnode)
+        → IsInHand vnode.id vnode.last_epoch index vnode.log worker.phase
+        → (phase : Phase) → worker.phase ≡ phase → state_shown phase vnode ≡ Some (index, state) → state ≡ state_of vnode.id vnode.last_epoch vnode.log
     by number index worker vnode state there here hand Idle e h = cc
     by number index worker vnode state there here hand (Asked other ask) e h = cc
     by number index worker vnode state there here hand (Reading other get) e h =
         let p = some_pair_parts other index vnode.place state h in
         let sound = orderly.vnodes index vnode there in
-        sym p.1 ∙ place_read vnode.id vnode.last_epoch index (how_many (reads index) w.workers) (how_many (holds index) w.workers) vnode.word (history_of vnode) vnode.place sound.word
+        sym p.1 ∙ place_read vnode.id vnode.last_epoch index (how_many (reads index) w.workers) (how_many (holds index) w.workers) vnode.word vnode.log vnode.place sound.word
         (counted_one (reads index) w.workers (pred number) worker here (ap (is_reader index) e ∙ same_test other index p.0)) sound.place
     by number index worker vnode state there here hand (Holding other ask mine None) e h =
         let p = some_pair_parts other index mine state h in
-        sym p.1 ∙ (subst (λ n. IsInHand vnode.id vnode.last_epoch index (history_of vnode) n) e hand p.0).0
+        sym p.1 ∙ (subst (λ n. IsInHand vnode.id vnode.last_epoch index vnode.log n) e hand p.0).0
     by number index worker vnode state there here hand (Holding other ask mine (Some plan)) e h = cc
     by number index worker vnode state there here hand (Done other mine) e h = cc
 
@@ -84,10 +84,10 @@ module _ (w : World) (orderly : IsOrderly w) (number : ℕ) (action : Action) (r
   pub here : slice_get w.workers (pred number) ≡ Some p.worker
   here = at_place w number p.worker p.worker_is
 
-  pub aware : IsAware p.vnode.id p.vnode.last_epoch p.index (history_of p.vnode) p.worker
+  pub aware : IsAware p.vnode.id p.vnode.last_epoch p.index p.vnode.log p.worker
   aware = orderly.workers (pred number) p.worker here p.index p.vnode p.vnode_is
 
-  pub turn : IsTurn p.vnode.id p.vnode.last_epoch p.index (how_many (reads p.index) w.workers) (how_many (holds p.index) w.workers) action p.worker.phase (history_of p.vnode) p.turn
+  pub turn : IsTurn p.vnode.id p.vnode.last_epoch p.index (how_many (reads p.index) w.workers) (how_many (holds p.index) w.workers) action p.worker.phase p.vnode.log p.turn
   turn = turn_at w orderly number action r p
 
   pub call_is : call_at w number ≡ call_of p.worker.phase

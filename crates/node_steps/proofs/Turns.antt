@@ -21,7 +21,7 @@ use Rattle.node_steps.specs.Contexts.{context_bytes}
 use Rattle.node_steps.proofs.Lists.{one}
 use Rattle.node_steps.proofs.Beginnings.{begins-itself, begins-longer}
 use Rattle.node_steps.proofs.Shown.{AreHeld, ShowsHeld, outcome_shows, updates, accepts_update}
-use Rattle.node_steps.proofs.Inside.{is_reader, is_holder, FitsWord, IsInPlace, IsInHand, IsAbout, same_test, IsSoundAs}
+use Rattle.node_steps.proofs.Inside.{is_reader, is_holder, FitsWord, state_of, replayed, IsInPlace, IsInHand, IsAbout, same_test, IsSoundAs}
 
 -- the call is as it was, or answered, or new
 abbrev pub CallIs : Action → (before later : Option Call) → Type 0
@@ -55,21 +55,21 @@ Comes id epoch index call history t (Replied reply) = (c : Call) × (call ≡ So
 
 module _ (id epoch index readers holders : ℕ) where
   -- what a turn of a worker in this phase leaves, and what comes of it
-  pub record IsTurn (action : Action) (phase : Phase) (history : History) (t : Turn) : Type 0 where
+  pub record IsTurn (action : Action) (phase : Phase) (log : Log) (t : Turn) : Type 0 where
     pub same_id : t.vnode.id ≡ id
     pub same_epoch : t.vnode.last_epoch ≡ epoch
     pub replays : HasReplay id epoch (history_of t.vnode)
     pub commands : t.vnode.log ≡ all_commands (history_of t.vnode)
-    pub same : ((history_of t.vnode) ≡ history) ⊎ (is_holder index phase ≡ true)
-    pub grows : Begins history (history_of t.vnode)
+    pub same : (t.vnode.log ≡ log) ⊎ (is_holder index phase ≡ true)
+    pub grows : Begins (commands_of log) (history_of t.vnode)
     pub word : (r h : ℕ) → r + one (is_reader index phase) ≡ readers + one (is_reader index t.phase)
         → h + one (is_holder index phase) ≡ holders + one (is_holder index t.phase) → FitsWord t.vnode.word r h
-    pub place : IsInPlace id epoch t.vnode.word (history_of t.vnode) t.vnode.place
-    pub hand : IsInHand id epoch index (history_of t.vnode) t.phase
+    pub place : IsInPlace id epoch t.vnode.word t.vnode.log t.vnode.place
+    pub hand : IsInHand id epoch index t.vnode.log t.phase
     pub seen : Begins t.seen (history_of t.vnode)
     pub at : IsAbout index t.phase
     pub call : CallIs action (call_of phase) (call_of t.phase)
-    pub comes : Comes id epoch index (call_of phase) history t t.outcome
+    pub comes : Comes id epoch index (call_of phase) (commands_of log) t t.outcome
 
   one_same : (a : ℕ) → a ≡ index → one (a == index) ≡ 1
   one_same a e = ap one (same_test a index e)
@@ -86,10 +86,10 @@ module _ (id epoch index readers holders : ℕ) where
   cancel m n false h = omega (arith, h)
 
   -- the state in place, where a reader is inside
-  pub place_read : (word : Word) (history : History) (place : State Content) → FitsWord word readers holders → 1 ≤ readers
-      → IsInPlace id epoch word history place → place ≡ replay id epoch history
-  place_read (Open n mark) history place f h p = p
-  place_read Taken history place f h p = absurd (omega (arith, f.0, h))
+  pub place_read : (word : Word) (log : Log) (place : State Content) → FitsWord word readers holders → 1 ≤ readers
+      → IsInPlace id epoch word log place → place ≡ state_of id epoch log
+  place_read (Open n mark) log place f h p = p
+  place_read Taken log place f h p = absurd (omega (arith, f.0, h))
 
   module _ (limits : IsWithinLimits id epoch) (log : Log) (seen : History) (place : State Content) (replays : HasReplay id epoch (commands_of log))
       (commands : log ≡ all_commands (commands_of log)) (has : Begins seen (commands_of log)) where
@@ -108,8 +108,8 @@ module _ (id epoch index readers holders : ℕ) where
         → h + one (is_holder index phase) ≡ holders + one (is_holder index next) → FitsWord word r h
 
     -- a turn that moves its worker, and the word
-    moved : (action : Action) (phase next : Phase) (word : Word) → Fits phase next word → IsInPlace id epoch word history place → IsInHand id epoch index history next
-        → IsAbout index next → CallIs action (call_of phase) (call_of next) → (old : Word) → IsTurn action phase history (moves seen (vnode_in old) next word)
+    moved : (action : Action) (phase next : Phase) (word : Word) → Fits phase next word → IsInPlace id epoch word log place → IsInHand id epoch index log next
+        → IsAbout index next → CallIs action (call_of phase) (call_of next) → (old : Word) → IsTurn action phase log (moves seen (vnode_in old) next word)
     moved action phase next word fits in_place in_hand at call old = record {
       same_id = refl;
       same_epoch = refl;
@@ -126,17 +126,17 @@ module _ (id epoch index readers holders : ℕ) where
       comes = refl;
     }
 
-    asks_turn : (word : Word) → FitsWord word readers holders → IsInPlace id epoch word history place → (other : ℕ) (ask : Ask Content Context) → other ≡ index → (t : Turn)
-        → turns word (Asks other ask) Idle ≡ Some t → IsTurn (Asks other ask) Idle history t
+    asks_turn : (word : Word) → FitsWord word readers holders → IsInPlace id epoch word log place → (other : ℕ) (ask : Ask Content Context) → other ≡ index → (t : Turn)
+        → turns word (Asks other ask) Idle ≡ Some t → IsTurn (Asks other ask) Idle log t
     asks_turn word f p other ask e t h =
-        subst (λ u. IsTurn (Asks other ask) Idle history u) (cc)
+        subst (λ u. IsTurn (Asks other ask) Idle log u) (cc)
         (moved (Asks other ask) Idle (Asked other ask) word (λ r h p q. fits_same word f r h (no_more r readers p) (no_more h holders q)) p tt e
         (inr (inr (record { site = other; ask = ask }, refl, refl))) word)
 
-    enter_turn : (word : Word) → FitsWord word readers holders → IsInPlace id epoch word history place → (other : ℕ) (get : GetCommand Context) → other ≡ index → (t : Turn)
-        → turns word Enters (Asked other (AskGet get)) ≡ Some t → IsTurn Enters (Asked other (AskGet get)) history t
+    enter_turn : (word : Word) → FitsWord word readers holders → IsInPlace id epoch word log place → (other : ℕ) (get : GetCommand Context) → other ≡ index → (t : Turn)
+        → turns word Enters (Asked other (AskGet get)) ≡ Some t → IsTurn Enters (Asked other (AskGet get)) log t
     enter_turn (Open n false) f p other get e t h =
-        subst (λ u. IsTurn Enters (Asked other (AskGet get)) history u) (cc)
+        subst (λ u. IsTurn Enters (Asked other (AskGet get)) log u) (cc)
         (moved Enters (Asked other (AskGet get)) (Reading other get) (Open (n + 1) false)
         (λ r h p q. (omega (arith, p, one_same other e, f.0), omega (arith, q, f.1))) p tt e (inl refl) (Open n false))
     enter_turn (Open n true) f p other get e t h = cc
@@ -147,44 +147,44 @@ module _ (id epoch index readers holders : ℕ) where
     leave_fits (Open n mark) f phase next a b c d = λ r h p q. (omega (arith, p, q, a, ap one b, f.0), omega (arith, q, ap one c, ap one d, f.1))
     leave_fits Taken f phase next a b c d = λ r h p q. absurd (omega (arith, p, a, ap one b, f.0))
 
-    left_place : (word : Word) → IsInPlace id epoch word history place → IsInPlace id epoch (left word) history place
+    left_place : (word : Word) → IsInPlace id epoch word log place → IsInPlace id epoch (left word) log place
     left_place (Open n mark) p = p
     left_place Taken p = p
 
-    leave_turn : (word : Word) → FitsWord word readers holders → IsInPlace id epoch word history place → (phase : Phase) → IsAbout index phase → (t : Turn)
-        → turns word Leaves phase ≡ Some t → IsTurn Leaves phase history t
+    leave_turn : (word : Word) → FitsWord word readers holders → IsInPlace id epoch word log place → (phase : Phase) → IsAbout index phase → (t : Turn)
+        → turns word Leaves phase ≡ Some t → IsTurn Leaves phase log t
     leave_turn word f p Idle at t h = cc
     leave_turn word f p (Asked other ask) at t h = cc
     leave_turn word f p (Reading other get) at t h =
-        subst (λ u. IsTurn Leaves (Reading other get) history u) (cc)
+        subst (λ u. IsTurn Leaves (Reading other get) log u) (cc)
         (moved Leaves (Reading other get) (Asked other (AskGet get)) (left word)
         (leave_fits word f (Reading other get) (Asked other (AskGet get)) (one_same other at) refl refl refl) (left_place word p) tt at (inl refl) word)
     leave_turn word f p (Holding other ask hand plan) at t h = cc
     leave_turn word f p (Done other None) at t h =
-        subst (λ u. IsTurn Leaves (Done other None) history u) (cc)
+        subst (λ u. IsTurn Leaves (Done other None) log u) (cc)
         (moved Leaves (Done other None) Idle (left word) (leave_fits word f (Done other None) Idle (one_same other at) refl refl refl) (left_place word p) tt tt (inl refl) word)
     leave_turn word f p (Done other (Some hand)) at t h = cc
 
-    mark_turn : (word : Word) → FitsWord word readers holders → IsInPlace id epoch word history place → (other : ℕ) (ask : Ask Content Context) → other ≡ index → (t : Turn)
-        → turns word Marks (Asked other ask) ≡ Some t → IsTurn Marks (Asked other ask) history t
+    mark_turn : (word : Word) → FitsWord word readers holders → IsInPlace id epoch word log place → (other : ℕ) (ask : Ask Content Context) → other ≡ index → (t : Turn)
+        → turns word Marks (Asked other ask) ≡ Some t → IsTurn Marks (Asked other ask) log t
     mark_turn (Open n false) f p other ask e t h =
-        subst (λ u. IsTurn Marks (Asked other ask) history u) (cc)
+        subst (λ u. IsTurn Marks (Asked other ask) log u) (cc)
         (moved Marks (Asked other ask) (Asked other ask) (Open n true) (λ r h p q. (no_more r readers p ∙ f.0, no_more h holders q ∙ f.1)) p tt e (inl refl) (Open n false))
     mark_turn (Open n true) f p other ask e t h = cc
     mark_turn Taken f p other ask e t h = cc
 
-    unmark_turn : (word : Word) → FitsWord word readers holders → IsInPlace id epoch word history place → (other : ℕ) (ask : Ask Content Context) → other ≡ index → (t : Turn)
-        → turns word Unmarks (Asked other ask) ≡ Some t → IsTurn Unmarks (Asked other ask) history t
+    unmark_turn : (word : Word) → FitsWord word readers holders → IsInPlace id epoch word log place → (other : ℕ) (ask : Ask Content Context) → other ≡ index → (t : Turn)
+        → turns word Unmarks (Asked other ask) ≡ Some t → IsTurn Unmarks (Asked other ask) log t
     unmark_turn (Open n false) f p other ask e t h = cc
     unmark_turn (Open n true) f p other ask e t h =
-        subst (λ u. IsTurn Unmarks (Asked other ask) history u) (cc)
+        subst (λ u. IsTurn Unmarks (Asked other ask) log u) (cc)
         (moved Unmarks (Asked other ask) (Asked other ask) (Open n false) (λ r h p q. (no_more r readers p ∙ f.0, no_more h holders q ∙ f.1)) p tt e (inl refl) (Open n true))
     unmark_turn Taken f p other ask e t h = cc
 
-    take_turn : (word : Word) → FitsWord word readers holders → IsInPlace id epoch word history place → (other : ℕ) (ask : Ask Content Context) → other ≡ index → (t : Turn)
-        → turns word Takes (Asked other ask) ≡ Some t → IsTurn Takes (Asked other ask) history t
+    take_turn : (word : Word) → FitsWord word readers holders → IsInPlace id epoch word log place → (other : ℕ) (ask : Ask Content Context) → other ≡ index → (t : Turn)
+        → turns word Takes (Asked other ask) ≡ Some t → IsTurn Takes (Asked other ask) log t
     take_turn (Open zero mark) f p other ask e t h =
-        subst (λ u. IsTurn Takes (Asked other ask) history u) (cc)
+        subst (λ u. IsTurn Takes (Asked other ask) log u) (cc)
         (moved Takes (Asked other ask) (Holding other ask place None) Taken
         (λ r h p q. (omega (arith, p, f.0), omega (arith, q, one_same other e, f.1))) tt (λ _. (p, tt)) e (inl refl) (Open zero mark))
     take_turn (Open (suc n) mark) f p other ask e t h = cc
@@ -195,8 +195,8 @@ module _ (id epoch index readers holders : ℕ) where
     lay_fits (Open n mark) f phase next a b c d = λ r h p q. absurd (omega (arith, q, a, ap one b, f.1))
     lay_fits Taken f phase next a b c d = λ r h p q. (omega (arith, p, ap one c, ap one d, f.0), omega (arith, q, a, ap one b, f.1))
 
-    laid : (phase next : Phase) (word : Word) (hand : State Content) → Fits phase next (Open 0 false) → hand ≡ replay id epoch history
-        → IsInHand id epoch index history next → IsAbout index next → CallIs Puts (call_of phase) (call_of next) → IsTurn Puts phase history (lays seen (vnode_in word) next hand)
+    laid : (phase next : Phase) (word : Word) (hand : State Content) → Fits phase next (Open 0 false) → hand ≡ state_of id epoch log
+        → IsInHand id epoch index log next → IsAbout index next → CallIs Puts (call_of phase) (call_of next) → IsTurn Puts phase log (lays seen (vnode_in word) next hand)
     laid phase next word hand fits is in_hand at call = record {
       same_id = refl;
       same_epoch = refl;
@@ -213,33 +213,33 @@ module _ (id epoch index readers holders : ℕ) where
       comes = refl;
     }
 
-    put_turn : (word : Word) → FitsWord word readers holders → (phase : Phase) → IsAbout index phase → IsInHand id epoch index history phase → (t : Turn)
-        → turns word Puts phase ≡ Some t → IsTurn Puts phase history t
+    put_turn : (word : Word) → FitsWord word readers holders → (phase : Phase) → IsAbout index phase → IsInHand id epoch index log phase → (t : Turn)
+        → turns word Puts phase ≡ Some t → IsTurn Puts phase log t
     put_turn word f Idle at mine t h = cc
     put_turn word f (Asked other ask) at mine t h = cc
     put_turn word f (Reading other get) at mine t h = cc
     put_turn word f (Holding other ask hand plan) at mine t h =
-        subst (λ u. IsTurn Puts (Holding other ask hand plan) history u) (cc)
+        subst (λ u. IsTurn Puts (Holding other ask hand plan) log u) (cc)
         (laid (Holding other ask hand plan) (Asked other ask) word hand
         (lay_fits word f (Holding other ask hand plan) (Asked other ask) (one_same other at) refl refl refl) (mine at).0 tt at (inl refl))
     put_turn word f (Done other None) at mine t h = cc
     put_turn word f (Done other (Some hand)) at mine t h =
-        subst (λ u. IsTurn Puts (Done other (Some hand)) history u) (cc)
+        subst (λ u. IsTurn Puts (Done other (Some hand)) log u) (cc)
         (laid (Done other (Some hand)) Idle word hand (lay_fits word f (Done other (Some hand)) Idle (one_same other at) refl refl refl) (mine at) tt tt (inl refl))
 
     -- what comes of an ask in the replay is the register's
-    registers : (ask : Ask Content Context) (hand : State Content) (came : StepOutcome) → hand ≡ replay id epoch history → outcome_of_ask hand ask ≡ came → IsRegisters id epoch history ask came
+    registers : (ask : Ask Content Context) (hand : State Content) (came : StepOutcome) → hand ≡ state_of id epoch log → outcome_of_ask hand ask ≡ came → IsRegisters id epoch history ask came
     registers ask hand came is h =
-        subst (λ c. IsRegisters id epoch history ask c) h (registers-after id epoch limits history hand ask (record { replays = replays; is = is }))
+        subst (λ c. IsRegisters id epoch history ask c) h (registers-after id epoch limits history hand ask (record { replays = replays; is = is ∙ replayed id epoch log commands }))
 
     shows : (ask : Ask Content Context) (hand : State Content) (came : StepOutcome) → outcome_of_ask hand ask ≡ came → ShowsHeld hand ask came
     shows ask hand came h = subst (λ c. ShowsHeld hand ask c) h (outcome_shows hand ask)
 
     -- a look that answers: nothing but the worker changes
-    answered : (phase next : Phase) (word : Word) → FitsWord word readers holders → IsInPlace id epoch word history place → is_reader index phase ≡ is_reader index next
-        → is_holder index phase ≡ is_holder index next → IsInHand id epoch index history next → IsAbout index next → call_of next ≡ None
+    answered : (phase next : Phase) (word : Word) → FitsWord word readers holders → IsInPlace id epoch word log place → is_reader index phase ≡ is_reader index next
+        → is_holder index phase ≡ is_holder index next → IsInHand id epoch index log next → IsAbout index next → call_of next ≡ None
         → (reply : Result Response ℕ) (call : Call) → call_of phase ≡ Some call → IsReplyTo id epoch index history (answers seen (vnode_in word) next reply) reply call
-        → IsTurn Looks phase history (answers seen (vnode_in word) next reply)
+        → IsTurn Looks phase log (answers seen (vnode_in word) next reply)
     answered phase next word f p a b in_hand at none reply call c is = record {
       same_id = refl;
       same_epoch = refl;
@@ -258,9 +258,9 @@ module _ (id epoch index readers holders : ℕ) where
       comes = (call, c, is);
     }
 
-    look_held : (word : Word) → FitsWord word readers holders → IsInPlace id epoch word history place → (other : ℕ) (ask : Ask Content Context) (hand : State Content) → other ≡ index
-        → hand ≡ replay id epoch history → (came : StepOutcome) → outcome_of_ask hand ask ≡ came
-        → IsTurn Looks (Holding other ask hand None) history (looks_by seen (vnode_in word) other ask hand came)
+    look_held : (word : Word) → FitsWord word readers holders → IsInPlace id epoch word log place → (other : ℕ) (ask : Ask Content Context) (hand : State Content) → other ≡ index
+        → hand ≡ state_of id epoch log → (came : StepOutcome) → outcome_of_ask hand ask ≡ came
+        → IsTurn Looks (Holding other ask hand None) log (looks_by seen (vnode_in word) other ask hand came)
     look_held word f p other ask hand e is (Refused number) h =
         answered (Holding other ask hand None) (Done other (Some hand)) word f p refl refl (λ _. is) e refl (Err number) (record { site = other; ask = ask }) refl (record {
           at = e;
@@ -276,7 +276,7 @@ module _ (id epoch index readers holders : ℕ) where
           answer = record { given = Answers gives.told; may = gives.given; leads = refl; shown = gives.shown };
           seen = refl;
           event = inl refl;
-          shows = subst (λ s. AreHeld s (key_of ask) (context_bytes response)) is (shows ask hand (Answered response) h);
+          shows = subst (λ s. AreHeld s (key_of ask) (context_bytes response)) (is ∙ replayed id epoch log commands) (shows ask hand (Answered response) h);
         })
     look_held word f p other ask hand e is (Accepted operation response next) h = record {
       same_id = refl;
@@ -294,37 +294,37 @@ module _ (id epoch index readers holders : ℕ) where
       comes = refl;
     }
 
-    look_turn : (word : Word) → FitsWord word readers holders → IsInPlace id epoch word history place → (phase : Phase) → one (is_reader index phase) ≤ readers → IsAbout index phase
-        → IsInHand id epoch index history phase → (t : Turn) → turns word Looks phase ≡ Some t → IsTurn Looks phase history t
+    look_turn : (word : Word) → FitsWord word readers holders → IsInPlace id epoch word log place → (phase : Phase) → one (is_reader index phase) ≤ readers → IsAbout index phase
+        → IsInHand id epoch index log phase → (t : Turn) → turns word Looks phase ≡ Some t → IsTurn Looks phase log t
     look_turn word f p Idle n at mine t h = cc
     look_turn word f p (Asked other ask) n at mine t h = cc
     look_turn word f p (Reading other get) n at mine t h =
         let reply : Result Response ℕ = Ok (GetDone (get_reply place get)) in
         let turn : Turn = answers seen (vnode_in word) (Done other None) reply in
         let same : turn ≡ t = cc in
-        let is : place ≡ replay id epoch history = place_read word history place f (omega (arith, n, one_same other at)) p in
+        let is : place ≡ state_of id epoch log = place_read word log place f (omega (arith, n, one_same other at)) p in
         let gives = registers (AskGet get) place (Answered (GetDone (get_reply place get))) is refl in
-        subst (λ u. IsTurn Looks (Reading other get) history u) same
+        subst (λ u. IsTurn Looks (Reading other get) log u) same
         (answered (Reading other get) (Done other None) word f p refl refl tt at refl reply (record { site = other; ask = AskGet get }) refl (record {
           at = at;
           answer = record { given = Answers gives.told; may = gives.given; leads = refl; shown = gives.shown };
           seen = refl;
           event = inl refl;
-          shows = subst (λ s. AreHeld s get.key (get_reply place get).context) is (outcome_shows place (AskGet get));
+          shows = subst (λ s. AreHeld s get.key (get_reply place get).context) (is ∙ replayed id epoch log commands) (outcome_shows place (AskGet get));
         }))
     look_turn word f p (Holding other ask hand None) n at mine t h =
-        subst (λ u. IsTurn Looks (Holding other ask hand None) history u) (cc)
+        subst (λ u. IsTurn Looks (Holding other ask hand None) log u) (cc)
         (look_held word f p other ask hand at (mine at).0 (outcome_of_ask hand ask) refl)
     look_turn word f p (Holding other ask hand (Some plan)) n at mine t h = cc
     look_turn word f p (Done other hand) n at mine t h = cc
 
     -- while somebody holds the state, nothing is asked of what is in place
-    held_place : (word : Word) → FitsWord word readers holders → 1 ≤ holders → (later : History) → IsInPlace id epoch word later place
+    held_place : (word : Word) → FitsWord word readers holders → 1 ≤ holders → (later : Log) → IsInPlace id epoch word later place
     held_place (Open n mark) f held later = absurd (omega (arith, held, f.1))
     held_place Taken f held later = tt
 
-    publish_turn : (word : Word) → FitsWord word readers holders → (phase : Phase) → one (is_holder index phase) ≤ holders → IsAbout index phase → IsInHand id epoch index history phase → (t : Turn)
-        → turns word Publishes phase ≡ Some t → IsTurn Publishes phase history t
+    publish_turn : (word : Word) → FitsWord word readers holders → (phase : Phase) → one (is_holder index phase) ≤ holders → IsAbout index phase → IsInHand id epoch index log phase → (t : Turn)
+        → turns word Publishes phase ≡ Some t → IsTurn Publishes phase log t
     publish_turn word f Idle held at mine t h = cc
     publish_turn word f (Asked other ask) held at mine t h = cc
     publish_turn word f (Reading other get) held at mine t h = cc
@@ -335,7 +335,7 @@ module _ (id epoch index readers holders : ℕ) where
         let same_turn : turn ≡ t = cc in
         let came : StepOutcome = Accepted plan.operation plan.response plan.next in
         let next : IsNext id epoch history ask plan.operation plan.response plan.next = registers ask hand came (mine at).0 (mine at).1 in
-        subst (λ u. IsTurn Publishes (Holding other ask hand (Some plan)) history u) same_turn (record {
+        subst (λ u. IsTurn Publishes (Holding other ask hand (Some plan)) log u) same_turn (record {
           same_id = refl;
           same_epoch = refl;
           replays = next.leads.replays;
@@ -343,8 +343,8 @@ module _ (id epoch index readers holders : ℕ) where
           same = inr (same_test other index at);
           grows = begins-longer event history history (begins-itself history);
           word = λ r h x y. fits_same word f r h (no_more r readers x) (cancel h holders (other == index) y);
-          place = held_place word f (omega (arith, held, one_same other at)) (event ∷ history);
-          hand = λ _. next.leads.is;
+          place = held_place word f (omega (arith, held, one_same other at)) (Command event ∷ log);
+          hand = λ _. next.leads.is ∙ sym (replayed id epoch (Command event ∷ log) (ap (λ (l : Log). Command event ∷ l) commands));
           seen = begins-itself (event ∷ history);
           at = at;
           call = inr (inl refl);
@@ -371,15 +371,15 @@ module _ (id epoch index readers holders : ℕ) where
 
   pub turn_is : (seen : History) (vnode : Vnode) (same_id : vnode.id ≡ id) (same_epoch : vnode.last_epoch ≡ epoch) → IsSoundAs id epoch readers holders vnode → Begins seen (history_of vnode)
       → (action : Action) (phase : Phase) → one (is_reader index phase) ≤ readers → one (is_holder index phase) ≤ holders
-      → IsInHand id epoch index (history_of vnode) phase → site_of action phase ≡ Some index → (t : Turn) → turn_of seen vnode action phase ≡ Some t → IsTurn action phase (history_of vnode) t
+      → IsInHand id epoch index vnode.log phase → site_of action phase ≡ Some index → (t : Turn) → turn_of seen vnode action phase ≡ Some t → IsTurn action phase vnode.log t
   turn_is seen vnode same_id same_epoch sound has action phase reading held mine a t h =
       by action phase reading held mine a t
       (subst (λ e. turn_of seen (record vnode { id = id; last_epoch = e }) action phase ≡ Some t) same_epoch
       (subst (λ i. turn_of seen (record vnode { id = i }) action phase ≡ Some t) same_id h))
     where
       by : (action : Action) (phase : Phase) → one (is_reader index phase) ≤ readers → one (is_holder index phase) ≤ holders
-          → IsInHand id epoch index (history_of vnode) phase → site_of action phase ≡ Some index → (t : Turn)
-          → turn_of seen (record vnode { id = id; last_epoch = epoch }) action phase ≡ Some t → IsTurn action phase (history_of vnode) t
+          → IsInHand id epoch index vnode.log phase → site_of action phase ≡ Some index → (t : Turn)
+          → turn_of seen (record vnode { id = id; last_epoch = epoch }) action phase ≡ Some t → IsTurn action phase vnode.log t
       by (Asks other ask) Idle reading held mine a t h =
           asks_turn sound.limits vnode.log seen vnode.place sound.replays sound.commands has vnode.word sound.word sound.place other ask (cc) t h
       by Enters (Asked other (AskGet get)) reading held mine a t h =
