@@ -334,7 +334,7 @@ course_of run index w orderly course Shown run_is = record {
 
     commands_are : (vnode : Vnode) → slice_get w.vnodes index ≡ Some vnode → log_at w index ≡ all_commands (history_at w index)
     commands_are vnode there =
-        ap (λ o. option_map_or (λ (x : Vnode). x.log) o []) there ∙ (orderly.vnodes index vnode there).commands
+        ap (λ o. option_map_or (λ (x : Vnode). x.log) o []) there ∙ (orderly.plain index vnode there).commands
         ∙ ap (λ (h : History). all_commands h) (sym (ap (λ o. option_map_or (λ (x : Vnode). history_of x) o []) there))
 
 pub runs_are_courses : RunsAreCourses

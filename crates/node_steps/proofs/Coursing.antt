@@ -22,7 +22,7 @@ use Rattle.node_steps.proofs.Lists.{set-here, set-there, same_or_other, get-belo
 use Rattle.node_steps.proofs.Inside.{other_test}
 use Rattle.node_steps.proofs.Turns.{CallIs, Comes}
 use Rattle.node_steps.proofs.Kept.{IsOrderly, IsPossible, about_site}
-use Rattle.node_steps.proofs.Lifting.{here, turn}
+use Rattle.node_steps.proofs.Lifting.{here, turn, comes_is, replays_next}
 use Rattle.node_steps.proofs.Unmixed.{seen-same}
 
 pub some_same : {X : Type 0} (a b : X) → Some a ≡ Some b → a ≡ b
@@ -146,7 +146,7 @@ module _ (run index : ℕ) where
       pub update : is_reap call.ask ≡ false → is_update event.operation ≡ true
 
     pub grown : ((history_of p.turn.vnode) ≡ (history_of p.vnode)) ⊎ Grows
-    grown = by p.turn.outcome (turn w orderly number action r p).comes
+    grown = by p.turn.outcome (comes_is w orderly number action r p)
       where
         by : (came : Outcome) → Comes p.vnode.id p.vnode.last_epoch p.index (call_of p.worker.phase) (history_of p.vnode) p.turn came
             → ((history_of p.turn.vnode) ≡ (history_of p.vnode)) ⊎ Grows
@@ -171,7 +171,7 @@ module _ (run index : ℕ) where
         subst (λ hist. HasReplay id 0 (g.event ∷ hist)) h
         (subst (λ last. HasReplay id last (g.event ∷ (history_of p.vnode))) e
         (subst (λ j. HasReplay j p.vnode.last_epoch (g.event ∷ (history_of p.vnode))) i
-        (subst (λ hist. HasReplay p.vnode.id p.vnode.last_epoch hist) g.is (turn w orderly number action r p).replays)))
+        (subst (λ hist. HasReplay p.vnode.id p.vnode.last_epoch hist) g.is (replays_next w orderly number action r p))))
 
     module _ (course : Course) (Shown : Key → Context → Type 0) (run_is : IsRun w course Shown)
         (gives : (site : ℕ) → IsSiteOf w index site → (key : Key) (context : Context) → given_in action site key ≡ Some context → Shown key context)

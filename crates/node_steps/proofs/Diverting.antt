@@ -6,15 +6,14 @@ use Rattle.std.proofs.lemmas.Bool.Decides.{nat_tests}
 use Rattle.riak_msgs.specs.Contents.{Content}
 use Rattle.vnode_machine.specs.Machine.{State}
 use Rattle.vnode_machine.specs.Replay.{IsWithinLimits}
-use Rattle.vnode_machine.proofs.Steps.{known}
 use Rattle.copy_laws.specs.Joining.{Log}
-use Rattle.node_steps.specs.World.{Word, Open, Taken, Phase, Idle, Asked, Reading, Holding, Done, Vnode, Worker, World, fresh_vnode, history_of}
+use Rattle.node_steps.specs.World.{Word, Open, Taken, Phase, Idle, Asked, Reading, Holding, Done, Vnode, Worker, World, fresh_vnode}
 use Rattle.node_steps.specs.Steps.{is_about, fallback_ids, diverted_by, diverted}
 use Rattle.node_steps.specs.Erased.{erase_place}
 use Rattle.node_steps.proofs.Lists.{how_many, get-below, get-more, length-set, length-more, none_counted, each_passes}
 use Rattle.node_steps.proofs.Beginnings.{begins-itself}
 use Rattle.node_steps.specs.Schedules.{Begins}
-use Rattle.node_steps.proofs.Inside.{is_reader, is_holder, reads, holds, FitsWord, state_of, replayed, IsInPlace, no_hand, IsSound, sound-fresh, IsAware}
+use Rattle.node_steps.proofs.Inside.{is_reader, is_holder, reads, holds, FitsWord, state_of, state-vnode, IsInPlace, no_hand, IsSound, sound-fresh, IsPlain, plain-fresh, IsAware}
 use Rattle.node_steps.proofs.Kept.{IsOrderly, and_then_some}
 
 same_number : (a b : ℕ) → (a == b) ≡ true → a ≡ b
@@ -112,7 +111,7 @@ module _ (w : World) (orderly : IsOrderly w) (index : ℕ) (primary : Vnode) (th
       let sound = orderly.vnodes index primary there in
       let place = in_place primary.word (how_many (reads index) w.workers) (how_many (holds index) w.workers) sound.word holders_none
       primary.id primary.last_epoch primary.log primary.place sound.place in
-      ap (λ (s : State Content). s.vnode) (place ∙ replayed primary.id primary.last_epoch primary.log sound.commands) ∙ (known primary.id primary.last_epoch (history_of primary) sound.replays).vnode
+      ap (λ (s : State Content). s.vnode) place ∙ state-vnode primary.id primary.last_epoch primary.log
 
   -- nobody has a call at the new site
   nobody_new : (place : ℕ) (worker : Worker) → slice_get w.workers place ≡ Some worker → is_about new_site worker.phase ≡ false
@@ -146,6 +145,10 @@ module _ (w : World) (orderly : IsOrderly w) (index : ℕ) (primary : Vnode) (th
       | inl e ↦ orderly.workers place worker k other v e
       | inr e ↦ subst (λ n. IsAware v.id v.last_epoch n v.log worker) (sym e.0)
           (subst (λ (u : Vnode). IsAware u.id u.last_epoch new_site u.log worker) e.1 (aware_new place worker k))
+    ];
+    plain = λ other v h. elim (get-more w.vnodes fallback other v h) [
+      | inl e ↦ orderly.plain other v e
+      | inr e ↦ subst (λ (u : Vnode). IsPlain u.id u.last_epoch u.log) e.1 (plain-fresh fallback.id 0)
     ];
     bounds = λ other v below h.
         let old_below : other < length w.routes = subst (λ n. other < n) (length-set w.routes index new_site) below in

@@ -1,19 +1,21 @@
 -- Who is inside a vnode, and what is always true of words, hands and fronts.
-use Rattle.std.proofs.Common.{◌≡◌, ◌≢◌, ℕ, Bool, true, false, refl, sym, ◌∙◌, ap, arith}
+use Rattle.std.proofs.Common.{◌≡◌, ◌≢◌, ℕ, Bool, true, false, [], ◌∷◌, refl, sym, ◌∙◌, ap, arith}
 use Rattle.std.specs.Prelude.{◌==◌, Option, Some, None}
 use Rattle.std.specs.Option.{option_map_or}
 use Rattle.std.proofs.lemmas.Bool.Decides.{nat_tests}
+use Rattle.riak_msgs.specs.declared.Key.{Key}
 use Rattle.riak_msgs.specs.Contents.{Content}
+use Rattle.sibling_register.specs.History.{Operation, Write, Tombstone, Reap}
 use Rattle.sibling_register.specs.Answers.{Ask}
 use Rattle.actor_epoch.specs.Given.{Context}
-use Rattle.vnode_machine.specs.Machine.{State, opening}
+use Rattle.vnode_machine.specs.Machine.{State, opening, apply_operation}
 use Rattle.vnode_machine.specs.Replay.{replay, HasReplay, IsWithinLimits}
 use Rattle.vnode_machine.specs.Step.{Accepted, outcome}
-use Rattle.copy_laws.specs.Copies.{all_commands, commands_of}
+use Rattle.copy_laws.specs.Copies.{Command, Copied, Closed, all_commands, commands_of}
 use Rattle.copy_laws.specs.CopyReplay.{state_with}
 use Rattle.copy_laws.specs.Joining.{Log}
 use Rattle.copy_laws.proofs.Fallback.{log-replay}
-use Rattle.node_steps.specs.World.{Word, Open, Taken, Plan, Phase, Idle, Asked, Reading, Holding, Done, Vnode, Worker, fresh_vnode, seen_at, history_of}
+use Rattle.node_steps.specs.World.{Word, Open, Taken, Plan, Phase, Idle, Asked, Reading, Holding, Done, Vnode, Worker, fresh_vnode, seen_at}
 use Rattle.node_steps.specs.Steps.{Enters, site_of, is_about}
 use Rattle.node_steps.specs.Schedules.{Begins}
 
@@ -49,6 +51,18 @@ FitsWord Taken readers holders = (readers ≡ 0) × (holders ≡ 1)
 -- the state after a vnode's log
 abbrev pub state_of : (id epoch : ℕ) → Log → State Content
 state_of id epoch log = state_with (opening id epoch) log
+
+-- it has the vnode's id, whatever the entries
+pub state-vnode : (id epoch : ℕ) (log : Log) → (state_of id epoch log).vnode ≡ id
+state-vnode id epoch [] = refl
+state-vnode id epoch (Command event ∷ before) = kept (state_of id epoch before) event.key event.context event.operation ∙ state-vnode id epoch before
+  where
+    kept : (state : State Content) (key : Key) (given : Option Context) (operation : Operation Content) → (apply_operation state key given operation).vnode ≡ state.vnode
+    kept state key given (Write content) = refl
+    kept state key given Tombstone = refl
+    kept state key given Reap = refl
+state-vnode id epoch (Copied copy ∷ before) = state-vnode id epoch before
+state-vnode id epoch (Closed number ∷ before) = state-vnode id epoch before
 
 -- it is the replay of the log's commands, where there are no other entries
 pub replayed : (id epoch : ℕ) (log : Log) → log ≡ all_commands (commands_of log) → state_of id epoch log ≡ replay id epoch (commands_of log)
@@ -142,8 +156,6 @@ about_there site phase h = ap (λ o. option_map_or (λ other. other == site) o f
 -- what is true of a vnode of this id, opened behind this epoch, by how many readers and holders there are
 pub record IsSoundAs (id epoch readers holders : ℕ) (vnode : Vnode) : Type 0 where
   pub limits : IsWithinLimits id epoch
-  pub replays : HasReplay id epoch (history_of vnode)
-  pub commands : vnode.log ≡ all_commands (history_of vnode)
   pub word : FitsWord vnode.word readers holders
   pub place : IsInPlace id epoch vnode.word vnode.log vnode.place
 
@@ -153,7 +165,15 @@ IsSound readers holders vnode = IsSoundAs vnode.id vnode.last_epoch readers hold
 
 -- it is true of a fresh vnode, where nobody is inside
 pub sound-fresh : (id epoch readers holders : ℕ) → IsWithinLimits id epoch → readers ≡ 0 → holders ≡ 0 → IsSound readers holders (fresh_vnode id epoch)
-sound-fresh id epoch readers holders limits r h = record { limits = limits; replays = tt; commands = refl; word = (r, h); place = refl }
+sound-fresh id epoch readers holders limits r h = record { limits = limits; word = (r, h); place = refl }
+
+-- a log of commands alone, whose history has a replay
+pub record IsPlain (id epoch : ℕ) (log : Log) : Type 0 where
+  pub commands : log ≡ all_commands (commands_of log)
+  pub replays : HasReplay id epoch (commands_of log)
+
+pub plain-fresh : (id epoch : ℕ) → IsPlain id epoch []
+plain-fresh id epoch = record { commands = refl; replays = tt }
 
 -- what is true of a worker and a vnode
 pub record IsAware (id epoch index : ℕ) (log : Log) (worker : Worker) : Type 0 where

@@ -12,7 +12,7 @@ use Rattle.node_steps.specs.Schedules.{Start, IsStart, Begins}
 use Rattle.node_steps.proofs.Lists.{one, how_many, set-here, set-there, same_or_other, how_many-set, counted_one, counted_two, counted_none, get-replicate, get-below, length-set}
 use Rattle.node_steps.proofs.Own.{length-own, length-opening}
 use Rattle.node_steps.proofs.Beginnings.{begins-itself, begins-trans}
-use Rattle.node_steps.proofs.Inside.{is_reader, is_holder, reads, holds, FitsWord, IsInHand, IsAbout, same_test, no_hand, StaysAt, stays, IsSoundAs, IsSound, sound-fresh, IsAware}
+use Rattle.node_steps.proofs.Inside.{is_reader, is_holder, reads, holds, FitsWord, IsInHand, IsAbout, same_test, no_hand, StaysAt, stays, IsSoundAs, IsSound, sound-fresh, IsPlain, plain-fresh, IsAware}
 use Rattle.node_steps.proofs.Turns.{IsTurn, turn_is, about_is}
 
 -- what is always true of a world: of each vnode, and of each worker and vnode
@@ -20,6 +20,8 @@ pub record IsOrderly (w : World) : Type 0 where
   pub vnodes : (index : ℕ) (vnode : Vnode) → slice_get w.vnodes index ≡ Some vnode → IsSound (how_many (reads index) w.workers) (how_many (holds index) w.workers) vnode
   pub workers : (place : ℕ) (worker : Worker) → slice_get w.workers place ≡ Some worker → (index : ℕ) (vnode : Vnode) → slice_get w.vnodes index ≡ Some vnode
       → IsAware vnode.id vnode.last_epoch index vnode.log worker
+  -- no step copies or closes, so that each log is of commands alone
+  pub plain : (index : ℕ) (vnode : Vnode) → slice_get w.vnodes index ≡ Some vnode → IsPlain vnode.id vnode.last_epoch vnode.log
   -- a fallback of each partition can have an id
   pub bounds : (index : ℕ) (vnode : Vnode) → index < length w.routes → slice_get w.vnodes index ≡ Some vnode → vnode.id + fallback_ids < 2 ^ 64
   -- a partition has a site, a worker has a call at one, and has seen nothing of what isn't one
@@ -130,8 +132,6 @@ module _ (w : World) (orderly : IsOrderly w) (action : Action) (place index : �
     sound_here : IsSound (how_many (reads index) world.workers) (how_many (holds index) world.workers) turn.vnode
     sound_here = as_vnode (λ i e. IsSoundAs i e (how_many (reads index) world.workers) (how_many (holds index) world.workers) turn.vnode) (record {
       limits = (orderly.vnodes index vnode there).limits;
-      replays = is.replays;
-      commands = is.commands;
       word = is.word (how_many (reads index) world.workers) (how_many (holds index) world.workers)
           (how_many-set (reads index) w.workers place worker next here) (how_many-set (holds index) w.workers place worker next here);
       place = is.place;
@@ -224,6 +224,10 @@ module _ (w : World) (orderly : IsOrderly w) (action : Action) (place index : �
           | inl d ↦ subst (λ y. IsAware v.id v.last_epoch other v.log y) d.1 (next_there other v e.0 e.1)
           | inr d ↦ orderly.workers at x d.1 other v e.1
         ]
+      ];
+      plain = λ other v h. elim (vnode_after other v h) [
+        | inl e ↦ subst (λ (u : Vnode). IsPlain u.id u.last_epoch u.log) e.1 (as_vnode (λ i e. IsPlain i e turn.vnode.log) (is.plain (orderly.plain index vnode there)))
+        | inr e ↦ orderly.plain other v e.1
       ];
       bounds = λ other v below h. elim (vnode_after other v h) [
         | inl e ↦ subst (λ (u : Vnode). u.id + fallback_ids < 2 ^ 64) e.1
@@ -325,6 +329,8 @@ orderly-opening start is =
           let e = get-replicate start.workers place fresh_worker worker k in
           subst (λ v. IsAware v.id v.last_epoch index v.log worker) (sym o.1)
           (subst (λ x. IsAware (id_of start.run (0 + index)) 0 index [] x) (sym e) (record { hand = tt; seen = begins-itself [] }));
+      plain = λ index vnode h.
+          subst (λ (v : Vnode). IsPlain v.id v.last_epoch v.log) (sym (opened start.run 0 start.vnodes index vnode h).1) (plain-fresh (id_of start.run (0 + index)) 0);
       bounds = λ index vnode below h.
           let o = opened start.run 0 start.vnodes index vnode h in
           subst (λ (v : Vnode). v.id + fallback_ids < 2 ^ 64) (sym o.1) (bounded start.run index start.vnodes is.run is.vnodes o.0);

@@ -2,6 +2,7 @@ pub mod Lists
 pub mod Beginnings
 pub mod Shown
 pub mod Inside
+pub mod Accepting
 pub mod Turns
 pub mod Own
 pub mod Kept

@@ -27,7 +27,7 @@ replays_at w orderly index = by (slice_get w.vnodes index) refl
   where
     by : (o : Option Vnode) → slice_get w.vnodes index ≡ o → HasReplay (option_map_or (λ v. v.id) o 0) (option_map_or (λ v. v.last_epoch) o 0) (option_map_or (λ v. history_of v) o [])
     by None h = tt
-    by (Some vnode) h = (orderly.vnodes index vnode h).replays
+    by (Some vnode) h = (orderly.plain index vnode h).replays
 
 pub histories_are_legal : (w : World) → IsOrderly w → HistoriesAreLegal w
 histories_are_legal w orderly = λ index.
@@ -50,7 +50,7 @@ pub looks_show_replays : (w : World) → IsOrderly w → LooksShowReplays w
 looks_show_replays w orderly = λ number index worker vnode state worker_is vnode_is shows.
     let here = at_place w number worker worker_is in
     let hand = (orderly.workers (pred number) worker here index vnode vnode_is).hand in
-    record { replays = (orderly.vnodes index vnode vnode_is).replays; is = by number index worker vnode state vnode_is here hand worker.phase refl shows ∙ replayed vnode.id vnode.last_epoch vnode.log (orderly.vnodes index vnode vnode_is).commands }
+    record { replays = (orderly.plain index vnode vnode_is).replays; is = by number index worker vnode state vnode_is here hand worker.phase refl shows ∙ replayed vnode.id vnode.last_epoch vnode.log (orderly.plain index vnode vnode_is).commands }
   where
     by : (number index : ℕ) (worker : Worker) (vnode : Vnode) (state : State Content) → slice_get w.vnodes index ≡ Some vnode → slice_get w.workers (pred number) ≡ Some worker
         → IsInHand vnode.id vnode.last_epoch index vnode.log worker.phase
@@ -89,6 +89,12 @@ module _ (w : World) (orderly : IsOrderly w) (number : ℕ) (action : Action) (r
 
   pub turn : IsTurn p.vnode.id p.vnode.last_epoch p.index (how_many (reads p.index) w.workers) (how_many (holds p.index) w.workers) action p.worker.phase p.vnode.log p.turn
   turn = turn_at w orderly number action r p
+
+  pub comes_is : Comes p.vnode.id p.vnode.last_epoch p.index (call_of p.worker.phase) (history_of p.vnode) p.turn p.turn.outcome
+  comes_is = turn.comes (orderly.plain p.index p.vnode p.vnode_is)
+
+  pub replays_next : HasReplay p.vnode.id p.vnode.last_epoch (history_of p.turn.vnode)
+  replays_next = (turn.plain (orderly.plain p.index p.vnode p.vnode_is)).replays
 
   pub call_is : call_at w number ≡ call_of p.worker.phase
   call_is = ap (λ o. option_map_or (λ (worker : Worker). call_of worker.phase) o None) p.worker_is
@@ -137,7 +143,7 @@ module _ (w : World) (orderly : IsOrderly w) (number : ℕ) (action : Action) (r
   -- a reply answers the call
   pub reply_is : (reply : Result Response ℕ) → p.turn.outcome ≡ Replied reply → (call : Call) × (call_at w number ≡ Some call) × IsReplyTo p.vnode.id p.vnode.last_epoch p.index (history_of p.vnode) p.turn reply call
   reply_is reply o =
-      let c = subst (λ u. Comes p.vnode.id p.vnode.last_epoch p.index (call_of p.worker.phase) (history_of p.vnode) p.turn u) o turn.comes in
+      let c = subst (λ u. Comes p.vnode.id p.vnode.last_epoch p.index (call_of p.worker.phase) (history_of p.vnode) p.turn u) o comes_is in
       (c.0, call_is ∙ c.1, c.2)
 
   answer_at : (reply : Result Response ℕ) (call : Call) → IsReplyTo p.vnode.id p.vnode.last_epoch p.index (history_of p.vnode) p.turn reply call
@@ -153,10 +159,10 @@ module _ (w : World) (orderly : IsOrderly w) (number : ℕ) (action : Action) (r
   nothing_else : (index : ℕ) → p.index ≡ index → (came : Outcome) → p.turn.outcome ≡ came
       → (history_at next index ≡ history_at w index)
       ⊎ ((call : Call) × (call_at w number ≡ Some call) × (call.site ≡ index) × ((reply : Result Response ℕ) × (p.turn.outcome ≡ Replied reply)))
-  nothing_else index e NotPossible o = absurd (subst (λ u. Comes p.vnode.id p.vnode.last_epoch p.index (call_of p.worker.phase) (history_of p.vnode) p.turn u) o turn.comes)
+  nothing_else index e NotPossible o = absurd (subst (λ u. Comes p.vnode.id p.vnode.last_epoch p.index (call_of p.worker.phase) (history_of p.vnode) p.turn u) o comes_is)
   nothing_else index e Happened o =
       inl (subst (λ k. history_at next k ≡ history_at w k) e
-      (after_is ∙ subst (λ u. Comes p.vnode.id p.vnode.last_epoch p.index (call_of p.worker.phase) (history_of p.vnode) p.turn u) o turn.comes ∙ sym before_is))
+      (after_is ∙ subst (λ u. Comes p.vnode.id p.vnode.last_epoch p.index (call_of p.worker.phase) (history_of p.vnode) p.turn u) o comes_is ∙ sym before_is))
   nothing_else index e (Replied reply) o =
       let c = reply_is reply o in
       inr (c.0, c.1, c.2.at ∙ e, (reply, o))

@@ -1,27 +1,28 @@
 -- What a step makes of its worker and its vnode, where they were as they always are; and what comes of it.
-use Rattle.std.proofs.Common.{◌≡◌, ◌⊎◌, inl, inr, ℕ, zero, suc, ◌+◌, ◌≤◌, Bool, true, false, ◌∷◌, refl, sym, ◌∙◌, ap, arith, subst}
+use Rattle.std.proofs.Common.{◌≡◌, ◌⊎◌, inl, inr, ℕ, zero, suc, ◌+◌, ◌≤◌, true, false, ◌∷◌, refl, sym, ◌∙◌, ap, arith, subst}
 use Rattle.std.specs.Prelude.{◌==◌, Option, Some, None, Result, Ok, Err}
 use Rattle.riak_msgs.specs.Contents.{Content}
 use Rattle.sibling_register.specs.History.{Event, is_update}
 use Rattle.sibling_register.specs.Answers.{Ask, AskGet, GetCommand, Refused as ToldRefused, Answers, Accepts}
 use Rattle.actor_epoch.specs.Given.{Context}
-use Rattle.vnode_machine.specs.Machine.{State}
-use Rattle.vnode_machine.specs.Replay.{History, replay, HasReplay, IsWithinLimits}
+use Rattle.vnode_machine.specs.Machine.{State, apply_operation}
+use Rattle.vnode_machine.specs.Replay.{History, replay, IsWithinLimits}
 use Rattle.vnode_machine.specs.Replies.{get_reply}
 use Rattle.vnode_machine.specs.Step.{Response, GetDone, StepOutcome, Refused, Answered, Accepted, outcome as outcome_of_ask}
 use Rattle.vnode_machine.specs.Registers.{key_of, context_in_ask, next_event, IsRegisters, IsNext}
 use Rattle.vnode_machine.specs.Runs.{IsAnswer}
 use Rattle.vnode_machine.proofs.StepLaw.{registers-after}
-use Rattle.copy_laws.specs.Copies.{Command, commands_of, all_commands}
+use Rattle.copy_laws.specs.Copies.{Command, commands_of}
 use Rattle.copy_laws.specs.Joining.{Log}
 use Rattle.node_steps.specs.World.{Word, Open, Taken, Phase, Idle, Asked, Reading, Holding, Done, Vnode, Call, call_of, history_of}
 use Rattle.node_steps.specs.Steps.{Action, Asks, Enters, Leaves, Marks, Unmarks, Takes, Puts, Looks, Publishes, is_reap, Outcome, NotPossible, Happened, Replied, Turn, left, moves, lays, answers, looks_by, publishes_by, turn_of, site_of}
 use Rattle.node_steps.specs.Schedules.{Begins}
 use Rattle.node_steps.specs.Contexts.{context_bytes}
-use Rattle.node_steps.proofs.Lists.{one}
+use Rattle.node_steps.proofs.Accepting.{accepted_is}
+use Rattle.node_steps.proofs.Lists.{one, no_more, cancel}
 use Rattle.node_steps.proofs.Beginnings.{begins-itself, begins-longer}
 use Rattle.node_steps.proofs.Shown.{AreHeld, ShowsHeld, outcome_shows, updates, accepts_update}
-use Rattle.node_steps.proofs.Inside.{is_reader, is_holder, FitsWord, state_of, replayed, IsInPlace, IsInHand, IsAbout, same_test, IsSoundAs}
+use Rattle.node_steps.proofs.Inside.{is_reader, is_holder, FitsWord, state_of, replayed, IsInPlace, IsInHand, IsAbout, same_test, IsSoundAs, IsPlain}
 
 -- the call is as it was, or answered, or new
 abbrev pub CallIs : Action → (before later : Option Call) → Type 0
@@ -58,8 +59,6 @@ module _ (id epoch index readers holders : ℕ) where
   pub record IsTurn (action : Action) (phase : Phase) (log : Log) (t : Turn) : Type 0 where
     pub same_id : t.vnode.id ≡ id
     pub same_epoch : t.vnode.last_epoch ≡ epoch
-    pub replays : HasReplay id epoch (history_of t.vnode)
-    pub commands : t.vnode.log ≡ all_commands (history_of t.vnode)
     pub same : (t.vnode.log ≡ log) ⊎ (is_holder index phase ≡ true)
     pub grows : Begins (commands_of log) (history_of t.vnode)
     pub word : (r h : ℕ) → r + one (is_reader index phase) ≡ readers + one (is_reader index t.phase)
@@ -69,7 +68,8 @@ module _ (id epoch index readers holders : ℕ) where
     pub seen : Begins t.seen (history_of t.vnode)
     pub at : IsAbout index t.phase
     pub call : CallIs action (call_of phase) (call_of t.phase)
-    pub comes : Comes id epoch index (call_of phase) (commands_of log) t t.outcome
+    pub plain : IsPlain id epoch log → IsPlain id epoch t.vnode.log
+    pub comes : IsPlain id epoch log → Comes id epoch index (call_of phase) (commands_of log) t t.outcome
 
   one_same : (a : ℕ) → a ≡ index → one (a == index) ≡ 1
   one_same a e = ap one (same_test a index e)
@@ -78,21 +78,13 @@ module _ (id epoch index readers holders : ℕ) where
   fits_same (Open n mark) f r h p q = (p ∙ f.0, q ∙ f.1)
   fits_same Taken f r h p q = (p ∙ f.0, q ∙ f.1)
 
-  no_more : (a b : ℕ) → a + 0 ≡ b + 0 → a ≡ b
-  no_more a b h = omega (arith, h)
-
-  cancel : (m n : ℕ) (c : Bool) → m + one c ≡ n + one c → m ≡ n
-  cancel m n true h = omega (arith, h)
-  cancel m n false h = omega (arith, h)
-
   -- the state in place, where a reader is inside
   pub place_read : (word : Word) (log : Log) (place : State Content) → FitsWord word readers holders → 1 ≤ readers
       → IsInPlace id epoch word log place → place ≡ state_of id epoch log
   place_read (Open n mark) log place f h p = p
   place_read Taken log place f h p = absurd (omega (arith, f.0, h))
 
-  module _ (limits : IsWithinLimits id epoch) (log : Log) (seen : History) (place : State Content) (replays : HasReplay id epoch (commands_of log))
-      (commands : log ≡ all_commands (commands_of log)) (has : Begins seen (commands_of log)) where
+  module _ (limits : IsWithinLimits id epoch) (log : Log) (seen : History) (place : State Content) (has : Begins seen (commands_of log)) where
     abbrev history : History
     history = commands_of log
 
@@ -113,8 +105,6 @@ module _ (id epoch index readers holders : ℕ) where
     moved action phase next word fits in_place in_hand at call old = record {
       same_id = refl;
       same_epoch = refl;
-      replays = replays;
-      commands = commands;
       same = inl refl;
       grows = begins-itself history;
       word = fits;
@@ -123,7 +113,8 @@ module _ (id epoch index readers holders : ℕ) where
       seen = has;
       at = at;
       call = call;
-      comes = refl;
+      plain = λ plain. plain;
+      comes = λ plain. refl;
     }
 
     asks_turn : (word : Word) → FitsWord word readers holders → IsInPlace id epoch word log place → (other : ℕ) (ask : Ask Content Context) → other ≡ index → (t : Turn)
@@ -200,8 +191,6 @@ module _ (id epoch index readers holders : ℕ) where
     laid phase next word hand fits is in_hand at call = record {
       same_id = refl;
       same_epoch = refl;
-      replays = replays;
-      commands = commands;
       same = inl refl;
       grows = begins-itself history;
       word = fits;
@@ -210,7 +199,8 @@ module _ (id epoch index readers holders : ℕ) where
       seen = has;
       at = at;
       call = call;
-      comes = refl;
+      plain = λ plain. plain;
+      comes = λ plain. refl;
     }
 
     put_turn : (word : Word) → FitsWord word readers holders → (phase : Phase) → IsAbout index phase → IsInHand id epoch index log phase → (t : Turn)
@@ -228,9 +218,10 @@ module _ (id epoch index readers holders : ℕ) where
         (laid (Done other (Some hand)) Idle word hand (lay_fits word f (Done other (Some hand)) Idle (one_same other at) refl refl refl) (mine at) tt tt (inl refl))
 
     -- what comes of an ask in the replay is the register's
-    registers : (ask : Ask Content Context) (hand : State Content) (came : StepOutcome) → hand ≡ state_of id epoch log → outcome_of_ask hand ask ≡ came → IsRegisters id epoch history ask came
-    registers ask hand came is h =
-        subst (λ c. IsRegisters id epoch history ask c) h (registers-after id epoch limits history hand ask (record { replays = replays; is = is ∙ replayed id epoch log commands }))
+    registers : IsPlain id epoch log → (ask : Ask Content Context) (hand : State Content) (came : StepOutcome) → hand ≡ state_of id epoch log → outcome_of_ask hand ask ≡ came → IsRegisters id epoch history ask came
+    registers plain ask hand came is h =
+        subst (λ c. IsRegisters id epoch history ask c) h
+        (registers-after id epoch limits history hand ask (record { replays = plain.replays; is = is ∙ replayed id epoch log plain.commands }))
 
     shows : (ask : Ask Content Context) (hand : State Content) (came : StepOutcome) → outcome_of_ask hand ask ≡ came → ShowsHeld hand ask came
     shows ask hand came h = subst (λ c. ShowsHeld hand ask c) h (outcome_shows hand ask)
@@ -238,13 +229,12 @@ module _ (id epoch index readers holders : ℕ) where
     -- a look that answers: nothing but the worker changes
     answered : (phase next : Phase) (word : Word) → FitsWord word readers holders → IsInPlace id epoch word log place → is_reader index phase ≡ is_reader index next
         → is_holder index phase ≡ is_holder index next → IsInHand id epoch index log next → IsAbout index next → call_of next ≡ None
-        → (reply : Result Response ℕ) (call : Call) → call_of phase ≡ Some call → IsReplyTo id epoch index history (answers seen (vnode_in word) next reply) reply call
+        → (reply : Result Response ℕ) (call : Call) → call_of phase ≡ Some call
+        → (IsPlain id epoch log → IsReplyTo id epoch index history (answers seen (vnode_in word) next reply) reply call)
         → IsTurn Looks phase log (answers seen (vnode_in word) next reply)
     answered phase next word f p a b in_hand at none reply call c is = record {
       same_id = refl;
       same_epoch = refl;
-      replays = replays;
-      commands = commands;
       same = inl refl;
       grows = begins-itself history;
       word = λ r h x y.
@@ -255,34 +245,34 @@ module _ (id epoch index readers holders : ℕ) where
       seen = begins-itself history;
       at = at;
       call = inr (inl none);
-      comes = (call, c, is);
+      plain = λ plain. plain;
+      comes = λ plain. (call, c, is plain);
     }
 
     look_held : (word : Word) → FitsWord word readers holders → IsInPlace id epoch word log place → (other : ℕ) (ask : Ask Content Context) (hand : State Content) → other ≡ index
         → hand ≡ state_of id epoch log → (came : StepOutcome) → outcome_of_ask hand ask ≡ came
         → IsTurn Looks (Holding other ask hand None) log (looks_by seen (vnode_in word) other ask hand came)
     look_held word f p other ask hand e is (Refused number) h =
-        answered (Holding other ask hand None) (Done other (Some hand)) word f p refl refl (λ _. is) e refl (Err number) (record { site = other; ask = ask }) refl (record {
+        answered (Holding other ask hand None) (Done other (Some hand)) word f p refl refl (λ _. is) e refl (Err number) (record { site = other; ask = ask }) refl (λ plain. record {
           at = e;
-          answer = record { given = Answers (ToldRefused number); may = registers ask hand (Refused number) is h; leads = refl; shown = refl };
+          answer = record { given = Answers (ToldRefused number); may = registers plain ask hand (Refused number) is h; leads = refl; shown = refl };
           seen = refl;
           event = inl refl;
           shows = tt;
         })
     look_held word f p other ask hand e is (Answered response) h =
-        let gives = registers ask hand (Answered response) is h in
-        answered (Holding other ask hand None) (Done other (Some hand)) word f p refl refl (λ _. is) e refl (Ok response) (record { site = other; ask = ask }) refl (record {
+        answered (Holding other ask hand None) (Done other (Some hand)) word f p refl refl (λ _. is) e refl (Ok response) (record { site = other; ask = ask }) refl (λ plain.
+        let gives = registers plain ask hand (Answered response) is h in
+        record {
           at = e;
           answer = record { given = Answers gives.told; may = gives.given; leads = refl; shown = gives.shown };
           seen = refl;
           event = inl refl;
-          shows = subst (λ s. AreHeld s (key_of ask) (context_bytes response)) (is ∙ replayed id epoch log commands) (shows ask hand (Answered response) h);
+          shows = subst (λ s. AreHeld s (key_of ask) (context_bytes response)) (is ∙ replayed id epoch log plain.commands) (shows ask hand (Answered response) h);
         })
     look_held word f p other ask hand e is (Accepted operation response next) h = record {
       same_id = refl;
       same_epoch = refl;
-      replays = replays;
-      commands = commands;
       same = inl refl;
       grows = begins-itself history;
       word = λ r h x y. fits_same word f r h (no_more r readers x) (cancel h holders (other == index) y);
@@ -291,7 +281,8 @@ module _ (id epoch index readers holders : ℕ) where
       seen = begins-itself history;
       at = e;
       call = inl refl;
-      comes = refl;
+      plain = λ plain. plain;
+      comes = λ plain. refl;
     }
 
     look_turn : (word : Word) → FitsWord word readers holders → IsInPlace id epoch word log place → (phase : Phase) → one (is_reader index phase) ≤ readers → IsAbout index phase
@@ -303,14 +294,15 @@ module _ (id epoch index readers holders : ℕ) where
         let turn : Turn = answers seen (vnode_in word) (Done other None) reply in
         let same : turn ≡ t = cc in
         let is : place ≡ state_of id epoch log = place_read word log place f (omega (arith, n, one_same other at)) p in
-        let gives = registers (AskGet get) place (Answered (GetDone (get_reply place get))) is refl in
         subst (λ u. IsTurn Looks (Reading other get) log u) same
-        (answered (Reading other get) (Done other None) word f p refl refl tt at refl reply (record { site = other; ask = AskGet get }) refl (record {
+        (answered (Reading other get) (Done other None) word f p refl refl tt at refl reply (record { site = other; ask = AskGet get }) refl (λ plain.
+        let gives = registers plain (AskGet get) place (Answered (GetDone (get_reply place get))) is refl in
+        record {
           at = at;
           answer = record { given = Answers gives.told; may = gives.given; leads = refl; shown = gives.shown };
           seen = refl;
           event = inl refl;
-          shows = subst (λ s. AreHeld s get.key (get_reply place get).context) (is ∙ replayed id epoch log commands) (outcome_shows place (AskGet get));
+          shows = subst (λ s. AreHeld s get.key (get_reply place get).context) (is ∙ replayed id epoch log plain.commands) (outcome_shows place (AskGet get));
         }))
     look_turn word f p (Holding other ask hand None) n at mine t h =
         subst (λ u. IsTurn Looks (Holding other ask hand None) log u) (cc)
@@ -334,29 +326,29 @@ module _ (id epoch index readers holders : ℕ) where
         let turn : Turn = publishes_by seen (vnode_in word) other ask plan in
         let same_turn : turn ≡ t = cc in
         let came : StepOutcome = Accepted plan.operation plan.response plan.next in
-        let next : IsNext id epoch history ask plan.operation plan.response plan.next = registers ask hand came (mine at).0 (mine at).1 in
+        let next : IsPlain id epoch log → IsNext id epoch history ask plan.operation plan.response plan.next = λ plain. registers plain ask hand came (mine at).0 (mine at).1 in
         subst (λ u. IsTurn Publishes (Holding other ask hand (Some plan)) log u) same_turn (record {
           same_id = refl;
           same_epoch = refl;
-          replays = next.leads.replays;
-          commands = ap (λ (l : Log). Command event ∷ l) commands;
           same = inr (same_test other index at);
           grows = begins-longer event history history (begins-itself history);
           word = λ r h x y. fits_same word f r h (no_more r readers x) (cancel h holders (other == index) y);
           place = held_place word f (omega (arith, held, one_same other at)) (Command event ∷ log);
-          hand = λ _. next.leads.is ∙ sym (replayed id epoch (Command event ∷ log) (ap (λ (l : Log). Command event ∷ l) commands));
+          hand = λ _. accepted_is hand ask plan.operation plan.response plan.next (mine at).1
+              ∙ ap (λ s. apply_operation s (key_of ask) (context_in_ask ask) plan.operation) (mine at).0;
           seen = begins-itself (event ∷ history);
           at = at;
           call = inr (inl refl);
-          comes = (
+          plain = λ plain. record { commands = ap (λ (l : Log). Command event ∷ l) plain.commands; replays = (next plain).leads.replays };
+          comes = λ plain. (
             record { site = other; ask = ask },
             refl,
             record {
               at = at;
-              answer = record { given = Accepts event next.told; may = next.given; leads = refl; shown = next.shown };
+              answer = record { given = Accepts event (next plain).told; may = (next plain).given; leads = refl; shown = (next plain).shown };
               seen = refl;
               event = inr (event, refl, refl, refl, λ r. ap updates (sym (mine at).1) ∙ accepts_update hand ask r);
-              shows = subst (λ s. AreHeld s (key_of ask) (context_bytes plan.response)) next.leads.is (shows ask hand came (mine at).1);
+              shows = subst (λ s. AreHeld s (key_of ask) (context_bytes plan.response)) (next plain).leads.is (shows ask hand came (mine at).1);
             },
           );
         })
@@ -381,21 +373,21 @@ module _ (id epoch index readers holders : ℕ) where
           → IsInHand id epoch index vnode.log phase → site_of action phase ≡ Some index → (t : Turn)
           → turn_of seen (record vnode { id = id; last_epoch = epoch }) action phase ≡ Some t → IsTurn action phase vnode.log t
       by (Asks other ask) Idle reading held mine a t h =
-          asks_turn sound.limits vnode.log seen vnode.place sound.replays sound.commands has vnode.word sound.word sound.place other ask (cc) t h
+          asks_turn sound.limits vnode.log seen vnode.place has vnode.word sound.word sound.place other ask (cc) t h
       by Enters (Asked other (AskGet get)) reading held mine a t h =
-          enter_turn sound.limits vnode.log seen vnode.place sound.replays sound.commands has vnode.word sound.word sound.place other get (cc) t h
+          enter_turn sound.limits vnode.log seen vnode.place has vnode.word sound.word sound.place other get (cc) t h
       by Leaves phase reading held mine a t h =
-          leave_turn sound.limits vnode.log seen vnode.place sound.replays sound.commands has vnode.word sound.word sound.place phase (about_is Leaves phase a) t h
+          leave_turn sound.limits vnode.log seen vnode.place has vnode.word sound.word sound.place phase (about_is Leaves phase a) t h
       by Marks (Asked other ask) reading held mine a t h =
-          mark_turn sound.limits vnode.log seen vnode.place sound.replays sound.commands has vnode.word sound.word sound.place other ask (cc) t h
+          mark_turn sound.limits vnode.log seen vnode.place has vnode.word sound.word sound.place other ask (cc) t h
       by Unmarks (Asked other ask) reading held mine a t h =
-          unmark_turn sound.limits vnode.log seen vnode.place sound.replays sound.commands has vnode.word sound.word sound.place other ask (cc) t h
+          unmark_turn sound.limits vnode.log seen vnode.place has vnode.word sound.word sound.place other ask (cc) t h
       by Takes (Asked other ask) reading held mine a t h =
-          take_turn sound.limits vnode.log seen vnode.place sound.replays sound.commands has vnode.word sound.word sound.place other ask (cc) t h
+          take_turn sound.limits vnode.log seen vnode.place has vnode.word sound.word sound.place other ask (cc) t h
       by Puts phase reading held mine a t h =
-          put_turn sound.limits vnode.log seen vnode.place sound.replays sound.commands has vnode.word sound.word phase (about_is Puts phase a) mine t h
+          put_turn sound.limits vnode.log seen vnode.place has vnode.word sound.word phase (about_is Puts phase a) mine t h
       by Looks phase reading held mine a t h =
-          look_turn sound.limits vnode.log seen vnode.place sound.replays sound.commands has vnode.word sound.word sound.place phase reading (about_is Looks phase a) mine t h
+          look_turn sound.limits vnode.log seen vnode.place has vnode.word sound.word sound.place phase reading (about_is Looks phase a) mine t h
       by Publishes phase reading held mine a t h =
-          publish_turn sound.limits vnode.log seen vnode.place sound.replays sound.commands has vnode.word sound.word phase held (about_is Publishes phase a) mine t h
+          publish_turn sound.limits vnode.log seen vnode.place has vnode.word sound.word phase held (about_is Publishes phase a) mine t h
       by action phase reading held mine a t h = cc
