@@ -23,7 +23,7 @@ use Rattle.node_steps.proofs.Inside.{same_test}
 use Rattle.node_steps.proofs.Shown.{held_shows}
 use Rattle.node_steps.proofs.Turns.{CallIs}
 use Rattle.node_steps.proofs.Kept.{IsOrderly, IsPossible}
-use Rattle.node_steps.proofs.Lifting.{here, turn, replays_next, reply_is}
+use Rattle.node_steps.proofs.Lifting.{here, turn, plain, replays_next, reply_is}
 use Rattle.node_steps.proofs.Coursing.{some_same, none_call, IsVnode, IsOwn, IsAway, IsRun, IsNext, Grows, shown-later, name-primary, state-fallback, vnode-there, vnode-here, is_there, grown, at-primary, at-fallback, worker-next, alone-next, updates-next, next_of, partition_at}
 
 -- the site of a call
@@ -185,7 +185,7 @@ module _ (run index : ℕ) (w : World) (orderly : IsOrderly w) (number : ℕ) (a
       let same : a.0 ≡ s.call = some_same a.0 s.call (sym a.1 ∙ s.asked) in
       let t = turn w orderly number action r p in
       let name = held_shows p.vnode.id p.vnode.last_epoch (history_of p.turn.vnode) (key_of a.0.ask) (context_bytes s.response) context (orderly.vnodes p.index p.vnode p.vnode_is).limits
-      (replays_next w orderly number action r p) a.2.shows s.decodes in
+      (replays_next w orderly number action r p) (a.2.shows (plain w orderly number action r p)) s.decodes in
       record {
         at = sym a.2.at ∙ ap (λ (c : Call). c.site) same ∙ s.at;
         name = name

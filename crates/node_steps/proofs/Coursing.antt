@@ -22,7 +22,7 @@ use Rattle.node_steps.proofs.Lists.{set-here, set-there, same_or_other, get-belo
 use Rattle.node_steps.proofs.Inside.{other_test}
 use Rattle.node_steps.proofs.Turns.{CallIs, Comes}
 use Rattle.node_steps.proofs.Kept.{IsOrderly, IsPossible, about_site}
-use Rattle.node_steps.proofs.Lifting.{here, turn, comes_is, replays_next}
+use Rattle.node_steps.proofs.Lifting.{here, turn, replays_next}
 use Rattle.node_steps.proofs.Unmixed.{seen-same}
 
 pub some_same : {X : Type 0} (a b : X) → Some a ≡ Some b → a ≡ b
@@ -146,9 +146,9 @@ module _ (run index : ℕ) where
       pub update : is_reap call.ask ≡ false → is_update event.operation ≡ true
 
     pub grown : ((history_of p.turn.vnode) ≡ (history_of p.vnode)) ⊎ Grows
-    grown = by p.turn.outcome (comes_is w orderly number action r p)
+    grown = by p.turn.outcome (turn w orderly number action r p).comes
       where
-        by : (came : Outcome) → Comes p.vnode.id p.vnode.last_epoch p.index (call_of p.worker.phase) (history_of p.vnode) p.turn came
+        by : (came : Outcome) → Comes p.vnode.id p.vnode.last_epoch p.index (call_of p.worker.phase) p.vnode.log p.turn came
             → ((history_of p.turn.vnode) ≡ (history_of p.vnode)) ⊎ Grows
         by NotPossible h = absurd h
         by Happened h = inl h

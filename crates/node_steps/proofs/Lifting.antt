@@ -17,7 +17,7 @@ use Rattle.node_steps.specs.Steps.{Action, Step, By, Diverts, Outcome, NotPossib
 use Rattle.node_steps.specs.Schedules.{Begins}
 use Rattle.node_steps.specs.Claims.{HistoriesAreLegal, LooksShowReplays, state_shown, RepliesAreRegisters, NothingElseHappens, RepliesHaveSeen, NoDotIsIssuedTwice, LivesAreOfDefinedKeys}
 use Rattle.node_steps.proofs.Lists.{how_many, set-here, set-there, same_or_other, counted_one}
-use Rattle.node_steps.proofs.Inside.{is_reader, reads, holds, state_of, replayed, IsInHand, same_test, IsAware}
+use Rattle.node_steps.proofs.Inside.{is_reader, reads, holds, state_of, replayed, IsInHand, same_test, IsPlain, IsAware}
 use Rattle.node_steps.proofs.Turns.{IsReplyTo, Comes, IsTurn, place_read}
 use Rattle.node_steps.proofs.Kept.{IsOrderly, IsPossible, seeing-here, possible, at_place, turn_at}
 use Rattle.node_steps.proofs.Diverting.{diversion}
@@ -90,11 +90,12 @@ module _ (w : World) (orderly : IsOrderly w) (number : ℕ) (action : Action) (r
   pub turn : IsTurn p.vnode.id p.vnode.last_epoch p.index (how_many (reads p.index) w.workers) (how_many (holds p.index) w.workers) action p.worker.phase p.vnode.log p.turn
   turn = turn_at w orderly number action r p
 
-  pub comes_is : Comes p.vnode.id p.vnode.last_epoch p.index (call_of p.worker.phase) (history_of p.vnode) p.turn p.turn.outcome
-  comes_is = turn.comes (orderly.plain p.index p.vnode p.vnode_is)
+  -- the log is of commands alone, and stays so
+  pub plain : IsPlain p.vnode.id p.vnode.last_epoch p.vnode.log
+  plain = orderly.plain p.index p.vnode p.vnode_is
 
   pub replays_next : HasReplay p.vnode.id p.vnode.last_epoch (history_of p.turn.vnode)
-  replays_next = (turn.plain (orderly.plain p.index p.vnode p.vnode_is)).replays
+  replays_next = (turn.plain plain).replays
 
   pub call_is : call_at w number ≡ call_of p.worker.phase
   call_is = ap (λ o. option_map_or (λ (worker : Worker). call_of worker.phase) o None) p.worker_is
@@ -141,28 +142,28 @@ module _ (w : World) (orderly : IsOrderly w) (number : ℕ) (action : Action) (r
       (subst (λ h. Begins (seen_at p.worker.seen p.index) h) (sym before_is) aware.seen)
 
   -- a reply answers the call
-  pub reply_is : (reply : Result Response ℕ) → p.turn.outcome ≡ Replied reply → (call : Call) × (call_at w number ≡ Some call) × IsReplyTo p.vnode.id p.vnode.last_epoch p.index (history_of p.vnode) p.turn reply call
+  pub reply_is : (reply : Result Response ℕ) → p.turn.outcome ≡ Replied reply → (call : Call) × (call_at w number ≡ Some call) × IsReplyTo p.vnode.id p.vnode.last_epoch p.index p.vnode.log p.turn reply call
   reply_is reply o =
-      let c = subst (λ u. Comes p.vnode.id p.vnode.last_epoch p.index (call_of p.worker.phase) (history_of p.vnode) p.turn u) o comes_is in
+      let c = subst (λ u. Comes p.vnode.id p.vnode.last_epoch p.index (call_of p.worker.phase) p.vnode.log p.turn u) o turn.comes in
       (c.0, call_is ∙ c.1, c.2)
 
-  answer_at : (reply : Result Response ℕ) (call : Call) → IsReplyTo p.vnode.id p.vnode.last_epoch p.index (history_of p.vnode) p.turn reply call
+  answer_at : (reply : Result Response ℕ) (call : Call) → IsReplyTo p.vnode.id p.vnode.last_epoch p.index p.vnode.log p.turn reply call
       → IsAnswer (id_at w call.site) (last_epoch_at w call.site) (history_at w call.site) (record { ask = call.ask; reply = reply }) (history_at next call.site)
   answer_at reply call is =
       subst (λ k. IsAnswer (id_at w k) (last_epoch_at w k) (history_at w k) (record { ask = call.ask; reply = reply }) (history_at next k)) (sym is.at)
       (subst (λ i. IsAnswer i (last_epoch_at w p.index) (history_at w p.index) (record { ask = call.ask; reply = reply }) (history_at next p.index)) (sym id_before)
       (subst (λ e. IsAnswer p.vnode.id e (history_at w p.index) (record { ask = call.ask; reply = reply }) (history_at next p.index)) (sym epoch_before)
       (subst (λ h. IsAnswer p.vnode.id p.vnode.last_epoch h (record { ask = call.ask; reply = reply }) (history_at next p.index)) (sym before_is)
-      (subst (λ h. IsAnswer p.vnode.id p.vnode.last_epoch (history_of p.vnode) (record { ask = call.ask; reply = reply }) h) (sym after_is) is.answer))))
+      (subst (λ h. IsAnswer p.vnode.id p.vnode.last_epoch (history_of p.vnode) (record { ask = call.ask; reply = reply }) h) (sym after_is) (is.answer plain)))))
 
   -- what comes of the turn
   nothing_else : (index : ℕ) → p.index ≡ index → (came : Outcome) → p.turn.outcome ≡ came
       → (history_at next index ≡ history_at w index)
       ⊎ ((call : Call) × (call_at w number ≡ Some call) × (call.site ≡ index) × ((reply : Result Response ℕ) × (p.turn.outcome ≡ Replied reply)))
-  nothing_else index e NotPossible o = absurd (subst (λ u. Comes p.vnode.id p.vnode.last_epoch p.index (call_of p.worker.phase) (history_of p.vnode) p.turn u) o comes_is)
+  nothing_else index e NotPossible o = absurd (subst (λ u. Comes p.vnode.id p.vnode.last_epoch p.index (call_of p.worker.phase) p.vnode.log p.turn u) o turn.comes)
   nothing_else index e Happened o =
       inl (subst (λ k. history_at next k ≡ history_at w k) e
-      (after_is ∙ subst (λ u. Comes p.vnode.id p.vnode.last_epoch p.index (call_of p.worker.phase) (history_of p.vnode) p.turn u) o comes_is ∙ sym before_is))
+      (after_is ∙ subst (λ u. Comes p.vnode.id p.vnode.last_epoch p.index (call_of p.worker.phase) p.vnode.log p.turn u) o turn.comes ∙ sym before_is))
   nothing_else index e (Replied reply) o =
       let c = reply_is reply o in
       inr (c.0, c.1, c.2.at ∙ e, (reply, o))

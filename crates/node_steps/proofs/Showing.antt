@@ -26,7 +26,7 @@ use Rattle.node_steps.proofs.Turns.{CallIs, EventIs, Comes}
 use Rattle.node_steps.proofs.Kept.{IsOrderly, IsPossible, possible, opened}
 use Rattle.node_steps.proofs.Diverting.{IsDiversion, diversion}
 use Rattle.node_steps.proofs.Scheduled.{orderly}
-use Rattle.node_steps.proofs.Lifting.{replays_at, no_reply, history-more, here, turn, comes_is, replays_next, reply_is, id_before, epoch_before, id_next, epoch_next, before_is, after_is, elsewhere_is}
+use Rattle.node_steps.proofs.Lifting.{replays_at, no_reply, history-more, here, turn, plain, replays_next, reply_is, id_before, epoch_before, id_next, epoch_next, before_is, after_is, elsewhere_is}
 use Rattle.node_steps.proofs.Leaving.{seen}
 
 call_same : (a b : Call) → Some a ≡ Some b → a ≡ b
@@ -97,7 +97,7 @@ module _ (index : ℕ) (key : Key) where
         let there : p.index ≡ index = sym a.2.at ∙ ap (λ (c : Call). c.site) same ∙ at in
         let name : IsName p.vnode.id p.vnode.last_epoch (history_of p.turn.vnode) (key_of a.0.ask) context =
         held_is_name p.vnode.id p.vnode.last_epoch (history_of p.turn.vnode) (key_of a.0.ask) (context_bytes response) context (orderly.vnodes p.index p.vnode p.vnode_is).limits
-        (replays_next w orderly number action r p) a.2.shows decodes in
+        (replays_next w orderly number action r p) (a.2.shows (plain w orderly number action r p)) decodes in
         subst (λ k. IsName (id_at w k) (last_epoch_at w k) (history_at next k) key context) there
         (subst (λ i. IsName i (last_epoch_at w p.index) (history_at next p.index) key context) (sym (id_before w orderly number action r p))
         (subst (λ e. IsName p.vnode.id e (history_at next p.index) key context) (sym (epoch_before w orderly number action r p))
@@ -129,7 +129,7 @@ module _ (index : ℕ) (key : Key) where
     -- the events at the step's vnode
     events_here : p.index ≡ index → (before : History) (event : Event Content Context) (context : Context) → Begins (event ∷ before) (history_of p.turn.vnode)
         → event.key ≡ key → event.context ≡ Some context → IsName id epoch before key context
-    events_here at before event context begins k e = by p.turn.outcome (comes_is w orderly number action r p)
+    events_here at before event context begins k e = by p.turn.outcome (turn w orderly number action r p).comes
       where
         old_is : history_at w index ≡ (history_of p.vnode)
         old_is = subst (λ j. history_at w j ≡ (history_of p.vnode)) at (before_is w orderly number action r p)
@@ -150,7 +150,7 @@ module _ (index : ℕ) (key : Key) where
           | inr h ↦ old h
         ]
 
-        by : (came : Outcome) → Comes p.vnode.id p.vnode.last_epoch p.index (call_of p.worker.phase) (history_of p.vnode) p.turn came → IsName id epoch before key context
+        by : (came : Outcome) → Comes p.vnode.id p.vnode.last_epoch p.index (call_of p.worker.phase) p.vnode.log p.turn came → IsName id epoch before key context
         by NotPossible h = absurd h
         by Happened h = old (subst (λ hist. Begins (event ∷ before) hist) h begins)
         by (Replied reply) h = new h.0 (subst (λ c. NamesCall id epoch (history_at w index) c) h.1 mine) h.2.at h.2.event

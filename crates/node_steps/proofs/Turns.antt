@@ -41,18 +41,18 @@ ReplyShows state ask (Ok response) = AreHeld state (key_of ask) (context_bytes r
 ReplyShows state ask (Err number) = Unit {0}
 
 -- the turn answers a call as the register may; its worker has then seen the history
-pub record IsReplyTo (id epoch index : ℕ) (history : History) (t : Turn) (reply : Result Response ℕ) (call : Call) : Type 0 where
+pub record IsReplyTo (id epoch index : ℕ) (log : Log) (t : Turn) (reply : Result Response ℕ) (call : Call) : Type 0 where
   pub at : call.site ≡ index
-  pub answer : IsAnswer id epoch history (record { ask = call.ask; reply = reply }) (history_of t.vnode)
   pub seen : t.seen ≡ (history_of t.vnode)
-  pub event : EventIs call.ask history (history_of t.vnode)
-  pub shows : ReplyShows (replay id epoch (history_of t.vnode)) call.ask reply
+  pub event : EventIs call.ask (commands_of log) (history_of t.vnode)
+  pub answer : IsPlain id epoch log → IsAnswer id epoch (commands_of log) (record { ask = call.ask; reply = reply }) (history_of t.vnode)
+  pub shows : IsPlain id epoch log → ReplyShows (replay id epoch (history_of t.vnode)) call.ask reply
 
 -- a turn answers nothing, and the history stays; or it answers the call
-abbrev pub Comes : (id epoch index : ℕ) → Option Call → History → Turn → Outcome → Type 0
-Comes id epoch index call history t NotPossible = ⊥
-Comes id epoch index call history t Happened = (history_of t.vnode) ≡ history
-Comes id epoch index call history t (Replied reply) = (c : Call) × (call ≡ Some c) × IsReplyTo id epoch index history t reply c
+abbrev pub Comes : (id epoch index : ℕ) → Option Call → Log → Turn → Outcome → Type 0
+Comes id epoch index call log t NotPossible = ⊥
+Comes id epoch index call log t Happened = history_of t.vnode ≡ commands_of log
+Comes id epoch index call log t (Replied reply) = (c : Call) × (call ≡ Some c) × IsReplyTo id epoch index log t reply c
 
 module _ (id epoch index readers holders : ℕ) where
   -- what a turn of a worker in this phase leaves, and what comes of it
@@ -69,7 +69,7 @@ module _ (id epoch index readers holders : ℕ) where
     pub at : IsAbout index t.phase
     pub call : CallIs action (call_of phase) (call_of t.phase)
     pub plain : IsPlain id epoch log → IsPlain id epoch t.vnode.log
-    pub comes : IsPlain id epoch log → Comes id epoch index (call_of phase) (commands_of log) t t.outcome
+    pub comes : Comes id epoch index (call_of phase) log t t.outcome
 
   one_same : (a : ℕ) → a ≡ index → one (a == index) ≡ 1
   one_same a e = ap one (same_test a index e)
@@ -114,7 +114,7 @@ module _ (id epoch index readers holders : ℕ) where
       at = at;
       call = call;
       plain = λ plain. plain;
-      comes = λ plain. refl;
+      comes = refl;
     }
 
     asks_turn : (word : Word) → FitsWord word readers holders → IsInPlace id epoch word log place → (other : ℕ) (ask : Ask Content Context) → other ≡ index → (t : Turn)
@@ -200,7 +200,7 @@ module _ (id epoch index readers holders : ℕ) where
       at = at;
       call = call;
       plain = λ plain. plain;
-      comes = λ plain. refl;
+      comes = refl;
     }
 
     put_turn : (word : Word) → FitsWord word readers holders → (phase : Phase) → IsAbout index phase → IsInHand id epoch index log phase → (t : Turn)
@@ -230,7 +230,7 @@ module _ (id epoch index readers holders : ℕ) where
     answered : (phase next : Phase) (word : Word) → FitsWord word readers holders → IsInPlace id epoch word log place → is_reader index phase ≡ is_reader index next
         → is_holder index phase ≡ is_holder index next → IsInHand id epoch index log next → IsAbout index next → call_of next ≡ None
         → (reply : Result Response ℕ) (call : Call) → call_of phase ≡ Some call
-        → (IsPlain id epoch log → IsReplyTo id epoch index history (answers seen (vnode_in word) next reply) reply call)
+        → IsReplyTo id epoch index log (answers seen (vnode_in word) next reply) reply call
         → IsTurn Looks phase log (answers seen (vnode_in word) next reply)
     answered phase next word f p a b in_hand at none reply call c is = record {
       same_id = refl;
@@ -246,29 +246,29 @@ module _ (id epoch index readers holders : ℕ) where
       at = at;
       call = inr (inl none);
       plain = λ plain. plain;
-      comes = λ plain. (call, c, is plain);
+      comes = (call, c, is);
     }
 
     look_held : (word : Word) → FitsWord word readers holders → IsInPlace id epoch word log place → (other : ℕ) (ask : Ask Content Context) (hand : State Content) → other ≡ index
         → hand ≡ state_of id epoch log → (came : StepOutcome) → outcome_of_ask hand ask ≡ came
         → IsTurn Looks (Holding other ask hand None) log (looks_by seen (vnode_in word) other ask hand came)
     look_held word f p other ask hand e is (Refused number) h =
-        answered (Holding other ask hand None) (Done other (Some hand)) word f p refl refl (λ _. is) e refl (Err number) (record { site = other; ask = ask }) refl (λ plain. record {
+        answered (Holding other ask hand None) (Done other (Some hand)) word f p refl refl (λ _. is) e refl (Err number) (record { site = other; ask = ask }) refl (record {
           at = e;
-          answer = record { given = Answers (ToldRefused number); may = registers plain ask hand (Refused number) is h; leads = refl; shown = refl };
+          answer = λ plain. record { given = Answers (ToldRefused number); may = registers plain ask hand (Refused number) is h; leads = refl; shown = refl };
           seen = refl;
           event = inl refl;
-          shows = tt;
+          shows = λ plain. tt;
         })
     look_held word f p other ask hand e is (Answered response) h =
-        answered (Holding other ask hand None) (Done other (Some hand)) word f p refl refl (λ _. is) e refl (Ok response) (record { site = other; ask = ask }) refl (λ plain.
-        let gives = registers plain ask hand (Answered response) is h in
-        record {
+        answered (Holding other ask hand None) (Done other (Some hand)) word f p refl refl (λ _. is) e refl (Ok response) (record { site = other; ask = ask }) refl (record {
           at = e;
-          answer = record { given = Answers gives.told; may = gives.given; leads = refl; shown = gives.shown };
+          answer = λ plain.
+              let gives = registers plain ask hand (Answered response) is h in
+              record { given = Answers gives.told; may = gives.given; leads = refl; shown = gives.shown };
           seen = refl;
           event = inl refl;
-          shows = subst (λ s. AreHeld s (key_of ask) (context_bytes response)) (is ∙ replayed id epoch log plain.commands) (shows ask hand (Answered response) h);
+          shows = λ plain. subst (λ s. AreHeld s (key_of ask) (context_bytes response)) (is ∙ replayed id epoch log plain.commands) (shows ask hand (Answered response) h);
         })
     look_held word f p other ask hand e is (Accepted operation response next) h = record {
       same_id = refl;
@@ -282,7 +282,7 @@ module _ (id epoch index readers holders : ℕ) where
       at = e;
       call = inl refl;
       plain = λ plain. plain;
-      comes = λ plain. refl;
+      comes = refl;
     }
 
     look_turn : (word : Word) → FitsWord word readers holders → IsInPlace id epoch word log place → (phase : Phase) → one (is_reader index phase) ≤ readers → IsAbout index phase
@@ -295,14 +295,14 @@ module _ (id epoch index readers holders : ℕ) where
         let same : turn ≡ t = cc in
         let is : place ≡ state_of id epoch log = place_read word log place f (omega (arith, n, one_same other at)) p in
         subst (λ u. IsTurn Looks (Reading other get) log u) same
-        (answered (Reading other get) (Done other None) word f p refl refl tt at refl reply (record { site = other; ask = AskGet get }) refl (λ plain.
-        let gives = registers plain (AskGet get) place (Answered (GetDone (get_reply place get))) is refl in
-        record {
+        (answered (Reading other get) (Done other None) word f p refl refl tt at refl reply (record { site = other; ask = AskGet get }) refl (record {
           at = at;
-          answer = record { given = Answers gives.told; may = gives.given; leads = refl; shown = gives.shown };
+          answer = λ plain.
+              let gives = registers plain (AskGet get) place (Answered (GetDone (get_reply place get))) is refl in
+              record { given = Answers gives.told; may = gives.given; leads = refl; shown = gives.shown };
           seen = refl;
           event = inl refl;
-          shows = subst (λ s. AreHeld s get.key (get_reply place get).context) (is ∙ replayed id epoch log plain.commands) (outcome_shows place (AskGet get));
+          shows = λ plain. subst (λ s. AreHeld s get.key (get_reply place get).context) (is ∙ replayed id epoch log plain.commands) (outcome_shows place (AskGet get));
         }))
     look_turn word f p (Holding other ask hand None) n at mine t h =
         subst (λ u. IsTurn Looks (Holding other ask hand None) log u) (cc)
@@ -340,15 +340,15 @@ module _ (id epoch index readers holders : ℕ) where
           at = at;
           call = inr (inl refl);
           plain = λ plain. record { commands = ap (λ (l : Log). Command event ∷ l) plain.commands; replays = (next plain).leads.replays };
-          comes = λ plain. (
+          comes = (
             record { site = other; ask = ask },
             refl,
             record {
               at = at;
-              answer = record { given = Accepts event (next plain).told; may = (next plain).given; leads = refl; shown = (next plain).shown };
+              answer = λ plain. record { given = Accepts event (next plain).told; may = (next plain).given; leads = refl; shown = (next plain).shown };
               seen = refl;
               event = inr (event, refl, refl, refl, λ r. ap updates (sym (mine at).1) ∙ accepts_update hand ask r);
-              shows = subst (λ s. AreHeld s (key_of ask) (context_bytes plan.response)) (next plain).leads.is (shows ask hand came (mine at).1);
+              shows = λ plain. subst (λ s. AreHeld s (key_of ask) (context_bytes plan.response)) (next plain).leads.is (shows ask hand came (mine at).1);
             },
           );
         })
