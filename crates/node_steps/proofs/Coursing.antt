@@ -9,12 +9,13 @@ use Rattle.actor_epoch.specs.Given.{Context, Pairs}
 use Rattle.vnode_machine.specs.Machine.{clock_of}
 use Rattle.vnode_machine.specs.Replay.{History, replay, naming, seen_by, HasReplay, Accepts}
 use Rattle.vnode_machine.specs.Registers.{key_of, context_in_ask}
-use Rattle.copy_laws.specs.Copies.{Command, all_commands}
+use Rattle.copy_laws.specs.Copies.{Command, all_commands, commands_of}
+use Rattle.copy_laws.specs.Joining.{Log}
 use Rattle.copy_laws.specs.Sides.{Partition}
 use Rattle.copy_laws.specs.CopyReplay.{name_at, AcceptsEntry}
 use Rattle.copy_laws.specs.Diversions.{Course, Happening, AtPrimary, AtFallback, diversions_of, is_diverted, fallback_of, fallback_state, primary_of, WasShown, MayHappen, Happens}
 use Rattle.copy_laws.proofs.Fallback.{log-replay}
-use Rattle.node_steps.specs.World.{Phase, Idle, Asked, Reading, Holding, Done, Vnode, Worker, World, Call, call_of, history_of}
+use Rattle.node_steps.specs.World.{Phase, Idle, Asked, Reading, Holding, Done, Vnode, Worker, World, Call, call_of}
 use Rattle.node_steps.specs.Steps.{Action, Asks, Enters, is_reap, Outcome, NotPossible, Happened, Replied, seeing, turned, site_of}
 use Rattle.node_steps.specs.Contexts.{given_in}
 use Rattle.node_steps.specs.Courses.{partition_of, IsSiteOf}
@@ -22,19 +23,24 @@ use Rattle.node_steps.proofs.Lists.{set-here, set-there, same_or_other, get-belo
 use Rattle.node_steps.proofs.Inside.{other_test}
 use Rattle.node_steps.proofs.Turns.{CallIs, Comes}
 use Rattle.node_steps.proofs.Kept.{IsOrderly, IsPossible, about_site}
-use Rattle.node_steps.proofs.Lifting.{here, turn, replays_next}
+use Rattle.node_steps.proofs.Lifting.{here, turn, plain, replays_next}
 use Rattle.node_steps.proofs.Unmixed.{seen-same}
 
 pub some_same : {X : Type 0} (a b : X) → Some a ≡ Some b → a ≡ b
 some_same a b h = cc
 
--- the vnode at a site has this id, was opened behind no epoch, and has this history
-pub record IsVnode (w : World) (site id : ℕ) (history : History) : Type 0 where
+-- the vnode at a site has this id, was opened behind no epoch, and has this log
+pub record IsVnode (w : World) (site id : ℕ) (log : Log) : Type 0 where
   pub vnode : Vnode
   pub there : slice_get w.vnodes site ≡ Some vnode
   pub id_is : vnode.id ≡ id
   pub epoch_is : vnode.last_epoch ≡ 0
-  pub history_is : (history_of vnode) ≡ history
+  pub log_is : vnode.log ≡ log
+
+-- the commands of commands alone
+pub commands-all : (history : History) → commands_of (all_commands history) ≡ history
+commands-all [] = refl
+commands-all (event ∷ before) = ap (λ (rest : History). event ∷ rest) (commands-all before)
 
 pub none_call : (call : Call) → None ≡ Some call → ⊥
 none_call call h = cc
@@ -72,7 +78,7 @@ module _ (run index : ℕ) where
     pub other : index ≢ site
     pub diverted : is_diverted course ≡ true
     pub one : diversions_of course ≡ 1
-    pub vnode : IsVnode w site partition.fallback (fallback_of course 1)
+    pub vnode : IsVnode w site partition.fallback (all_commands (fallback_of course 1))
     pub alone : (place : ℕ) (worker : Worker) → slice_get w.workers place ≡ Some worker → site_of Enters worker.phase ≡ Some index → ⊥
     pub updates : (place : ℕ) (worker : Worker) → slice_get w.workers place ≡ Some worker → (call : Call) → call_of worker.phase ≡ Some call
         → call.site ≡ site → is_reap call.ask ≡ false
@@ -81,10 +87,8 @@ module _ (run index : ℕ) where
   pub record IsRun (w : World) (course : Course) (Shown : Key → Context → Type 0) : Type 0 where
     pub known : index < length w.routes
     pub apart : (other site : ℕ) → slice_get w.routes other ≡ Some site → (site ≡ other) ⊎ (length w.routes ≤ site)
-    pub history : History
-    pub vnode : IsVnode w index partition.primary history
+    pub vnode : IsVnode w index partition.primary (primary_of partition course)
     pub may_happen : Happens partition course
-    pub log : primary_of partition course ≡ all_commands history
     pub side : IsOwn w course ⊎ IsAway w course
     pub shown : (key : Key) (context : Context) → Shown key context → WasShown partition course key context
     pub calls : (place : ℕ) (worker : Worker) → slice_get w.workers place ≡ Some worker → (call : Call) → call_of worker.phase ≡ Some call
@@ -111,45 +115,45 @@ module _ (run index : ℕ) where
     next = turned w (pred number) p.index p.worker p.turn
 
     -- what becomes of a vnode: elsewhere nothing
-    pub vnode-there : (site id : ℕ) (history : History) → p.index ≢ site → IsVnode w site id history → IsVnode next site id history
-    vnode-there site id history n v = record {
+    pub vnode-there : (site id : ℕ) (log : Log) → p.index ≢ site → IsVnode w site id log → IsVnode next site id log
+    vnode-there site id log n v = record {
       vnode = v.vnode;
       there = set-there w.vnodes p.index site p.turn.vnode n ∙ v.there;
       id_is = v.id_is;
       epoch_is = v.epoch_is;
-      history_is = v.history_is;
+      log_is = v.log_is;
     }
 
-    pub is_there : (site id : ℕ) (history : History) → p.index ≡ site → (v : IsVnode w site id history) → p.vnode ≡ v.vnode
-    is_there site id history e v = some_same p.vnode v.vnode (sym p.vnode_is ∙ ap (λ k. slice_get w.vnodes k) e ∙ v.there)
+    pub is_there : (site id : ℕ) (log : Log) → p.index ≡ site → (v : IsVnode w site id log) → p.vnode ≡ v.vnode
+    is_there site id log e v = some_same p.vnode v.vnode (sym p.vnode_is ∙ ap (λ k. slice_get w.vnodes k) e ∙ v.there)
 
-    pub vnode-here : (site id : ℕ) (history : History) → p.index ≡ site → IsVnode w site id history → IsVnode next site id (history_of p.turn.vnode)
-    vnode-here site id history e v =
-        let same = is_there site id history e v in
+    pub vnode-here : (site id : ℕ) (log : Log) → p.index ≡ site → IsVnode w site id log → IsVnode next site id p.turn.vnode.log
+    vnode-here site id log e v =
+        let same = is_there site id log e v in
         record {
           vnode = p.turn.vnode;
           there = ap (λ k. slice_get next.vnodes k) (sym e) ∙ set-here w.vnodes p.index p.vnode p.turn.vnode p.vnode_is;
           id_is = (turn w orderly number action r p).same_id ∙ ap (λ (x : Vnode). x.id) same ∙ v.id_is;
           epoch_is = (turn w orderly number action r p).same_epoch ∙ ap (λ (x : Vnode). x.last_epoch) same ∙ v.epoch_is;
-          history_is = refl;
+          log_is = refl;
         }
 
-    -- the history has an event of the worker's call more
+    -- the log has an event of the worker's call more
     pub record Grows : Type 0 where
       pub event : Event Content Context
       pub call : Call
       pub asked : call_of p.worker.phase ≡ Some call
       pub at : call.site ≡ p.index
-      pub is : (history_of p.turn.vnode) ≡ event ∷ (history_of p.vnode)
+      pub is : p.turn.vnode.log ≡ Command event ∷ p.vnode.log
       pub key_is : event.key ≡ key_of call.ask
       pub context_is : event.context ≡ context_in_ask call.ask
       pub update : is_reap call.ask ≡ false → is_update event.operation ≡ true
 
-    pub grown : ((history_of p.turn.vnode) ≡ (history_of p.vnode)) ⊎ Grows
+    pub grown : (p.turn.vnode.log ≡ p.vnode.log) ⊎ Grows
     grown = by p.turn.outcome (turn w orderly number action r p).comes
       where
         by : (came : Outcome) → Comes p.vnode.id p.vnode.last_epoch p.index (call_of p.worker.phase) p.vnode.log p.turn came
-            → ((history_of p.turn.vnode) ≡ (history_of p.vnode)) ⊎ Grows
+            → (p.turn.vnode.log ≡ p.vnode.log) ⊎ Grows
         by NotPossible h = absurd h
         by Happened h = inl h
         by (Replied reply) h = elim h.2.event [
@@ -166,12 +170,12 @@ module _ (run index : ℕ) where
           })
         ]
 
-    replays-event : (g : Grows) (id : ℕ) (history : History) → p.vnode.id ≡ id → p.vnode.last_epoch ≡ 0 → (history_of p.vnode) ≡ history → HasReplay id 0 (g.event ∷ history)
-    replays-event g id history i e h =
-        subst (λ hist. HasReplay id 0 (g.event ∷ hist)) h
-        (subst (λ last. HasReplay id last (g.event ∷ (history_of p.vnode))) e
-        (subst (λ j. HasReplay j p.vnode.last_epoch (g.event ∷ (history_of p.vnode))) i
-        (subst (λ hist. HasReplay p.vnode.id p.vnode.last_epoch hist) g.is (replays_next w orderly number action r p))))
+    replays-event : (g : Grows) (id : ℕ) (log : Log) → p.vnode.id ≡ id → p.vnode.last_epoch ≡ 0 → p.vnode.log ≡ log → HasReplay id 0 (g.event ∷ commands_of log)
+    replays-event g id log i e h =
+        subst (λ (l : Log). HasReplay id 0 (g.event ∷ commands_of l)) h
+        (subst (λ last. HasReplay id last (g.event ∷ commands_of p.vnode.log)) e
+        (subst (λ j. HasReplay j p.vnode.last_epoch (g.event ∷ commands_of p.vnode.log)) i
+        (subst (λ (l : Log). HasReplay p.vnode.id p.vnode.last_epoch (commands_of l)) g.is (replays_next w orderly number action r p))))
 
     module _ (course : Course) (Shown : Key → Context → Type 0) (run_is : IsRun w course Shown)
         (gives : (site : ℕ) → IsSiteOf w index site → (key : Key) (context : Context) → given_in action site key ≡ Some context → Shown key context)
@@ -185,15 +189,18 @@ module _ (run index : ℕ) where
       -- an event at the primary may happen
       pub at-primary : (g : Grows) → p.index ≡ index → IsOwn w course → MayHappen partition course (AtPrimary g.event)
       at-primary g at own =
-          let same = is_there index partition.primary run_is.history at run_is.vnode in
+          let log = primary_of partition course in
+          let history = commands_of log in
+          let same = is_there index partition.primary log at run_is.vnode in
+          let here_is = ap (λ (x : Vnode). x.log) same ∙ run_is.vnode.log_is in
+          let only : log ≡ all_commands history = subst (λ (l : Log). l ≡ all_commands (commands_of l)) here_is (plain w orderly number action r p).commands in
           let event = g.event in
-          let replays : HasReplay partition.primary 0 (event ∷ run_is.history) = replays-event g partition.primary run_is.history
-          (ap (λ (x : Vnode). x.id) same ∙ run_is.vnode.id_is) (ap (λ (x : Vnode). x.last_epoch) same ∙ run_is.vnode.epoch_is)
-          (ap (λ (x : Vnode). history_of x) same ∙ run_is.vnode.history_is) in (
+          let replays : HasReplay partition.primary 0 (event ∷ history) = replays-event g partition.primary log
+          (ap (λ (x : Vnode). x.id) same ∙ run_is.vnode.id_is) (ap (λ (x : Vnode). x.last_epoch) same ∙ run_is.vnode.epoch_is) here_is in (
             own.not_diverted,
-            subst (λ log. AcceptsEntry partition log (Command event)) (sym run_is.log) (
-              subst (λ s. Accepts s event.key event.context event.operation) (sym (log-replay partition.primary 0 run_is.history)) replays.1,
-              replays.2 ∙ sym (seen-same run index run_is.history event.key event.context event.operation),
+            subst (λ l. AcceptsEntry partition l (Command event)) (sym only) (
+              subst (λ s. Accepts s event.key event.context event.operation) (sym (log-replay partition.primary 0 history)) replays.1,
+              replays.2 ∙ sym (seen-same run index history event.key event.context event.operation),
             ),
             gives-event g (inl at),
           )
@@ -201,14 +208,16 @@ module _ (run index : ℕ) where
       -- and one at the fallback
       pub at-fallback : (g : Grows) (away : IsAway w course) → p.index ≡ away.site → MayHappen partition course (AtFallback g.event)
       at-fallback g away at =
-          let same = is_there away.site partition.fallback (fallback_of course 1) at away.vnode in
+          let history = fallback_of course 1 in
+          let same = is_there away.site partition.fallback (all_commands history) at away.vnode in
           let event = g.event in
-          let replays : HasReplay partition.fallback 0 (event ∷ fallback_of course 1) = replays-event g partition.fallback (fallback_of course 1)
+          let replays : HasReplay partition.fallback 0 (event ∷ history) = subst (λ h. HasReplay partition.fallback 0 (event ∷ h)) (commands-all history)
+          (replays-event g partition.fallback (all_commands history)
           (ap (λ (x : Vnode). x.id) same ∙ away.vnode.id_is) (ap (λ (x : Vnode). x.last_epoch) same ∙ away.vnode.epoch_is)
-          (ap (λ (x : Vnode). history_of x) same ∙ away.vnode.history_is) in (
+          (ap (λ (x : Vnode). x.log) same ∙ away.vnode.log_is)) in (
             away.diverted,
             g.update (away.updates (pred number) p.worker (here w orderly number action r p) g.call g.asked (g.at ∙ at)),
-            subst (λ s. Accepts s event.key event.context event.operation) (sym (state-fallback course (fallback_of course 1) away.one refl)) replays.1,
+            subst (λ s. Accepts s event.key event.context event.operation) (sym (state-fallback course history away.one refl)) replays.1,
             replays.2 ∙ ap (λ n. seen_by partition.fallback 0 (fallback_of course n) event.key event.context event.operation) (sym away.one),
             gives-event g (inr (away.route_is ∙ ap (λ s. Some s) (sym at))),
           )
@@ -270,7 +279,5 @@ module _ (run index : ℕ) where
       pub record IsNext (later : Course) : Type 0 where
         pub still : (key : Key) (context : Context) → WasShown partition course key context → WasShown partition later key context
         pub may_happen : Happens partition later
-        pub history : History
-        pub vnode : IsVnode next index partition.primary history
-        pub log : primary_of partition later ≡ all_commands history
+        pub vnode : IsVnode next index partition.primary (primary_of partition later)
         pub side : IsOwn next later ⊎ IsAway next later

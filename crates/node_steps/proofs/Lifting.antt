@@ -12,6 +12,8 @@ use Rattle.vnode_machine.proofs.Legals.{replay_is_legal}
 use Rattle.vnode_machine.proofs.DifferentDots.{no_dot_twice}
 use Rattle.vnode_machine.proofs.LiveDots.{dots_are_of_lives}
 use Rattle.vnode_machine.proofs.Steps.{known, alive, held_by}
+use Rattle.copy_laws.specs.Copies.{commands_of}
+use Rattle.copy_laws.specs.Joining.{Log}
 use Rattle.node_steps.specs.World.{Phase, Idle, Asked, Reading, Holding, Done, Vnode, Worker, World, Call, fresh_vnode, worker_at, route, id_at, last_epoch_at, history_at, front_at, call_of, call_at, seen_at, history_of}
 use Rattle.node_steps.specs.Steps.{Action, Step, By, Diverts, Outcome, NotPossible, Happened, Replied, Turn, routed, seeing, turned, fallback_ids, does, diverted, after}
 use Rattle.node_steps.specs.Schedules.{Begins}
@@ -163,7 +165,7 @@ module _ (w : World) (orderly : IsOrderly w) (number : ℕ) (action : Action) (r
   nothing_else index e NotPossible o = absurd (subst (λ u. Comes p.vnode.id p.vnode.last_epoch p.index (call_of p.worker.phase) p.vnode.log p.turn u) o turn.comes)
   nothing_else index e Happened o =
       inl (subst (λ k. history_at next k ≡ history_at w k) e
-      (after_is ∙ subst (λ u. Comes p.vnode.id p.vnode.last_epoch p.index (call_of p.worker.phase) p.vnode.log p.turn u) o turn.comes ∙ sym before_is))
+      (after_is ∙ ap (λ (log : Log). commands_of log) (subst (λ u. Comes p.vnode.id p.vnode.last_epoch p.index (call_of p.worker.phase) p.vnode.log p.turn u) o turn.comes) ∙ sym before_is))
   nothing_else index e (Replied reply) o =
       let c = reply_is reply o in
       inr (c.0, c.1, c.2.at ∙ e, (reply, o))

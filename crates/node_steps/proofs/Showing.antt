@@ -13,6 +13,7 @@ use Rattle.vnode_machine.specs.Replay.{History, HasReplay}
 use Rattle.vnode_machine.specs.Step.{Response}
 use Rattle.vnode_machine.specs.Registers.{key_of, context_in_ask}
 use Rattle.vnode_machine.proofs.Keys.{key_eq-refl}
+use Rattle.copy_laws.specs.Copies.{commands_of}
 use Rattle.node_steps.specs.World.{Vnode, Worker, World, Call, fresh_vnode, fresh_worker, opening_world, opening_vnodes, route, id_at, last_epoch_at, history_at, call_of, call_at, history_of}
 use Rattle.node_steps.specs.Steps.{Action, Asks, Step, By, Diverts, Outcome, NotPossible, Happened, Replied, routed, seeing, turned, fallback_ids, does, diverted_by, diverted, outcome}
 use Rattle.node_steps.specs.Schedules.{Start, IsStart, world_after, Begins}
@@ -141,9 +142,9 @@ module _ (index : ℕ) (key : Key) where
         mine = named.calls (pred number) p.worker (here w orderly number action r p)
 
         -- the event of a call
-        new : (call : Call) → NamesCall id epoch (history_at w index) (Some call) → call.site ≡ p.index → EventIs call.ask (history_of p.vnode) (history_of p.turn.vnode) → IsName id epoch before key context
-        new call names about (inl same) = old (subst (λ hist. Begins (event ∷ before) hist) same begins)
-        new call names about (inr made) = elim (begins_cases event made.0 before (history_of p.vnode) (subst (λ hist. Begins (event ∷ before) hist) made.1 begins)) [
+        new : (call : Call) → NamesCall id epoch (history_at w index) (Some call) → call.site ≡ p.index → EventIs call.ask p.vnode.log p.turn.vnode.log → IsName id epoch before key context
+        new call names about (inl same) = old (subst (λ log. Begins (event ∷ before) (commands_of log)) same begins)
+        new call names about (inr made) = elim (begins_cases event made.0 before (history_of p.vnode) (subst (λ log. Begins (event ∷ before) (commands_of log)) made.1 begins)) [
           | inl is ↦ subst (λ hist. IsName id epoch hist key context) (old_is ∙ sym is.1)
               (names (about ∙ at) (sym made.2 ∙ sym (ap (λ (x : Event Content Context). x.key) is.0) ∙ k) context
               (sym made.3 ∙ sym (ap (λ (x : Event Content Context). x.context) is.0) ∙ e))
@@ -152,7 +153,7 @@ module _ (index : ℕ) (key : Key) where
 
         by : (came : Outcome) → Comes p.vnode.id p.vnode.last_epoch p.index (call_of p.worker.phase) p.vnode.log p.turn came → IsName id epoch before key context
         by NotPossible h = absurd h
-        by Happened h = old (subst (λ hist. Begins (event ∷ before) hist) h begins)
+        by Happened h = old (subst (λ log. Begins (event ∷ before) (commands_of log)) h begins)
         by (Replied reply) h = new h.0 (subst (λ c. NamesCall id epoch (history_at w index) c) h.1 mine) h.2.at h.2.event
 
     events_next : (before : History) (event : Event Content Context) (context : Context) → Begins (event ∷ before) (history_at next index)

@@ -28,11 +28,11 @@ use Rattle.node_steps.proofs.Inside.{is_reader, is_holder, FitsWord, state_of, r
 abbrev pub CallIs : Action → (before later : Option Call) → Type 0
 CallIs action before later = (later ≡ before) ⊎ ((later ≡ None) ⊎ ((call : Call) × (later ≡ Some call) × (action ≡ Asks call.site call.ask)))
 
--- the history is as it was, or has an event of the ask more
-abbrev pub EventIs : Ask Content Context → (before later : History) → Type 0
+-- the log is as it was, or has an event of the ask more
+abbrev pub EventIs : Ask Content Context → (before later : Log) → Type 0
 EventIs ask before later =
     (later ≡ before)
-    ⊎ ((event : Event Content Context) × (later ≡ event ∷ before) × (event.key ≡ key_of ask) × (event.context ≡ context_in_ask ask)
+    ⊎ ((event : Event Content Context) × (later ≡ Command event ∷ before) × (event.key ≡ key_of ask) × (event.context ≡ context_in_ask ask)
     × (is_reap ask ≡ false → is_update event.operation ≡ true))
 
 -- what a reply shows in this state
@@ -44,14 +44,14 @@ ReplyShows state ask (Err number) = Unit {0}
 pub record IsReplyTo (id epoch index : ℕ) (log : Log) (t : Turn) (reply : Result Response ℕ) (call : Call) : Type 0 where
   pub at : call.site ≡ index
   pub seen : t.seen ≡ (history_of t.vnode)
-  pub event : EventIs call.ask (commands_of log) (history_of t.vnode)
+  pub event : EventIs call.ask log t.vnode.log
   pub answer : IsPlain id epoch log → IsAnswer id epoch (commands_of log) (record { ask = call.ask; reply = reply }) (history_of t.vnode)
   pub shows : IsPlain id epoch log → ReplyShows (replay id epoch (history_of t.vnode)) call.ask reply
 
--- a turn answers nothing, and the history stays; or it answers the call
+-- a turn answers nothing, and the log stays; or it answers the call
 abbrev pub Comes : (id epoch index : ℕ) → Option Call → Log → Turn → Outcome → Type 0
 Comes id epoch index call log t NotPossible = ⊥
-Comes id epoch index call log t Happened = history_of t.vnode ≡ commands_of log
+Comes id epoch index call log t Happened = t.vnode.log ≡ log
 Comes id epoch index call log t (Replied reply) = (c : Call) × (call ≡ Some c) × IsReplyTo id epoch index log t reply c
 
 module _ (id epoch index readers holders : ℕ) where
