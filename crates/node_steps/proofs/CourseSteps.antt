@@ -22,7 +22,7 @@ use Rattle.node_steps.specs.Courses.{IsSiteOf}
 use Rattle.node_steps.proofs.Lists.{set-here, same_or_other}
 use Rattle.node_steps.proofs.Inside.{same_test}
 use Rattle.node_steps.proofs.Shown.{held_shows}
-use Rattle.node_steps.proofs.Turns.{CallIs}
+use Rattle.node_steps.proofs.Coming.{CallIs}
 use Rattle.node_steps.proofs.Kept.{IsOrderly, IsPossible}
 use Rattle.node_steps.proofs.Lifting.{here, turn, plain, replays_next, reply_is}
 use Rattle.node_steps.proofs.Coursing.{some_same, none_call, commands-all, IsVnode, IsOwn, IsAway, IsRun, IsNext, Grows, shown-later, name-primary, state-fallback, vnode-there, vnode-here, is_there, grown, at-primary, at-fallback, worker-next, alone-next, updates-next, next_of, partition_at}

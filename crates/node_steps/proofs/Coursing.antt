@@ -7,12 +7,12 @@ use Rattle.sibling_register.specs.History.{Event, is_update}
 use Rattle.sibling_register.specs.Answers.{Ask}
 use Rattle.actor_epoch.specs.Given.{Context, Pairs}
 use Rattle.vnode_machine.specs.Machine.{clock_of}
-use Rattle.vnode_machine.specs.Replay.{History, replay, naming, seen_by, HasReplay, Accepts}
+use Rattle.vnode_machine.specs.Replay.{History, replay, naming, seen_by, Accepts}
 use Rattle.vnode_machine.specs.Registers.{key_of, context_in_ask}
 use Rattle.copy_laws.specs.Copies.{Command, all_commands, commands_of}
 use Rattle.copy_laws.specs.Joining.{Log}
 use Rattle.copy_laws.specs.Sides.{Partition}
-use Rattle.copy_laws.specs.CopyReplay.{name_at, AcceptsEntry}
+use Rattle.copy_laws.specs.CopyReplay.{name_at, seen_at}
 use Rattle.copy_laws.specs.Diversions.{Course, Happening, AtPrimary, AtFallback, diversions_of, is_diverted, fallback_of, fallback_state, primary_of, WasShown, MayHappen, Happens}
 use Rattle.copy_laws.proofs.Fallback.{log-replay}
 use Rattle.node_steps.specs.World.{Phase, Idle, Asked, Reading, Holding, Done, Vnode, Worker, World, Call, call_of}
@@ -20,10 +20,10 @@ use Rattle.node_steps.specs.Steps.{Action, Asks, Enters, is_reap, Outcome, NotPo
 use Rattle.node_steps.specs.Contexts.{given_in}
 use Rattle.node_steps.specs.Courses.{partition_of, IsSiteOf}
 use Rattle.node_steps.proofs.Lists.{set-here, set-there, same_or_other, get-below}
-use Rattle.node_steps.proofs.Inside.{other_test}
-use Rattle.node_steps.proofs.Turns.{CallIs, Comes}
+use Rattle.node_steps.proofs.Inside.{state_of, other_test}
+use Rattle.node_steps.proofs.Coming.{CallIs, Comes}
 use Rattle.node_steps.proofs.Kept.{IsOrderly, IsPossible, about_site}
-use Rattle.node_steps.proofs.Lifting.{here, turn, plain, replays_next}
+use Rattle.node_steps.proofs.Lifting.{here, turn, plain}
 use Rattle.node_steps.proofs.Unmixed.{seen-same}
 
 pub some_same : {X : Type 0} (a b : X) → Some a ≡ Some b → a ≡ b
@@ -148,6 +148,8 @@ module _ (run index : ℕ) where
       pub key_is : event.key ≡ key_of call.ask
       pub context_is : event.context ≡ context_in_ask call.ask
       pub update : is_reap call.ask ≡ false → is_update event.operation ≡ true
+      pub accepts : Accepts (state_of p.vnode.id p.vnode.last_epoch p.vnode.log) event.key event.context event.operation
+      pub saw : event.saw ≡ seen_by p.vnode.id p.vnode.last_epoch (commands_of p.vnode.log) event.key event.context event.operation
 
     pub grown : (p.turn.vnode.log ≡ p.vnode.log) ⊎ Grows
     grown = by p.turn.outcome (turn w orderly number action r p).comes
@@ -167,15 +169,19 @@ module _ (run index : ℕ) where
             key_is = made.2;
             context_is = made.3;
             update = made.4;
+            accepts = made.5;
+            saw = made.6;
           })
         ]
 
-    replays-event : (g : Grows) (id : ℕ) (log : Log) → p.vnode.id ≡ id → p.vnode.last_epoch ≡ 0 → p.vnode.log ≡ log → HasReplay id 0 (g.event ∷ commands_of log)
-    replays-event g id log i e h =
-        subst (λ (l : Log). HasReplay id 0 (g.event ∷ commands_of l)) h
-        (subst (λ last. HasReplay id last (g.event ∷ commands_of p.vnode.log)) e
-        (subst (λ j. HasReplay j p.vnode.last_epoch (g.event ∷ commands_of p.vnode.log)) i
-        (subst (λ (l : Log). HasReplay p.vnode.id p.vnode.last_epoch (commands_of l)) g.is (replays_next w orderly number action r p))))
+    -- what holds by the vnode's id, its epoch and its log holds by those that it is known to have
+    as-known : (site id : ℕ) (log : Log) → p.index ≡ site → IsVnode w site id log → (Holds : (id epoch : ℕ) → Log → Type 0)
+        → Holds p.vnode.id p.vnode.last_epoch p.vnode.log → Holds id 0 log
+    as-known site id log e v Holds h =
+        let same = is_there site id log e v in
+        subst (λ l. Holds id 0 l) (ap (λ (x : Vnode). x.log) same ∙ v.log_is)
+        (subst (λ n. Holds id n p.vnode.log) (ap (λ (x : Vnode). x.last_epoch) same ∙ v.epoch_is)
+        (subst (λ i. Holds i p.vnode.last_epoch p.vnode.log) (ap (λ (x : Vnode). x.id) same ∙ v.id_is) h))
 
     module _ (course : Course) (Shown : Key → Context → Type 0) (run_is : IsRun w course Shown)
         (gives : (site : ℕ) → IsSiteOf w index site → (key : Key) (context : Context) → given_in action site key ≡ Some context → Shown key context)
@@ -190,17 +196,15 @@ module _ (run index : ℕ) where
       pub at-primary : (g : Grows) → p.index ≡ index → IsOwn w course → MayHappen partition course (AtPrimary g.event)
       at-primary g at own =
           let log = primary_of partition course in
-          let history = commands_of log in
-          let same = is_there index partition.primary log at run_is.vnode in
-          let here_is = ap (λ (x : Vnode). x.log) same ∙ run_is.vnode.log_is in
-          let only : log ≡ all_commands history = subst (λ (l : Log). l ≡ all_commands (commands_of l)) here_is (plain w orderly number action r p).commands in
           let event = g.event in
-          let replays : HasReplay partition.primary 0 (event ∷ history) = replays-event g partition.primary log
-          (ap (λ (x : Vnode). x.id) same ∙ run_is.vnode.id_is) (ap (λ (x : Vnode). x.last_epoch) same ∙ run_is.vnode.epoch_is) here_is in (
+          let known = as-known index partition.primary log at run_is.vnode in
+          let only : log ≡ all_commands (commands_of log) = known (λ id epoch l. l ≡ all_commands (commands_of l)) (plain w orderly number action r p).commands in (
             own.not_diverted,
-            subst (λ l. AcceptsEntry partition l (Command event)) (sym only) (
-              subst (λ s. Accepts s event.key event.context event.operation) (sym (log-replay partition.primary 0 history)) replays.1,
-              replays.2 ∙ sym (seen-same run index history event.key event.context event.operation),
+            (
+              known (λ id epoch l. Accepts (state_of id epoch l) event.key event.context event.operation) g.accepts,
+              subst (λ l. event.saw ≡ seen_at partition l event.key event.context event.operation) (sym only)
+                  (known (λ id epoch l. event.saw ≡ seen_by id epoch (commands_of l) event.key event.context event.operation) g.saw
+                  ∙ sym (seen-same run index (commands_of log) event.key event.context event.operation)),
             ),
             gives-event g (inl at),
           )
@@ -209,16 +213,15 @@ module _ (run index : ℕ) where
       pub at-fallback : (g : Grows) (away : IsAway w course) → p.index ≡ away.site → MayHappen partition course (AtFallback g.event)
       at-fallback g away at =
           let history = fallback_of course 1 in
-          let same = is_there away.site partition.fallback (all_commands history) at away.vnode in
           let event = g.event in
-          let replays : HasReplay partition.fallback 0 (event ∷ history) = subst (λ h. HasReplay partition.fallback 0 (event ∷ h)) (commands-all history)
-          (replays-event g partition.fallback (all_commands history)
-          (ap (λ (x : Vnode). x.id) same ∙ away.vnode.id_is) (ap (λ (x : Vnode). x.last_epoch) same ∙ away.vnode.epoch_is)
-          (ap (λ (x : Vnode). x.log) same ∙ away.vnode.log_is)) in (
+          let known = as-known away.site partition.fallback (all_commands history) at away.vnode in (
             away.diverted,
             g.update (away.updates (pred number) p.worker (here w orderly number action r p) g.call g.asked (g.at ∙ at)),
-            subst (λ s. Accepts s event.key event.context event.operation) (sym (state-fallback course history away.one refl)) replays.1,
-            replays.2 ∙ ap (λ n. seen_by partition.fallback 0 (fallback_of course n) event.key event.context event.operation) (sym away.one),
+            subst (λ s. Accepts s event.key event.context event.operation) (log-replay partition.fallback 0 history ∙ sym (state-fallback course history away.one refl))
+                (known (λ id epoch l. Accepts (state_of id epoch l) event.key event.context event.operation) g.accepts),
+            subst (λ h. event.saw ≡ seen_by partition.fallback 0 h event.key event.context event.operation) (commands-all history)
+                (known (λ id epoch l. event.saw ≡ seen_by id epoch (commands_of l) event.key event.context event.operation) g.saw)
+                ∙ ap (λ n. seen_by partition.fallback 0 (fallback_of course n) event.key event.context event.operation) (sym away.one),
             gives-event g (inr (away.route_is ∙ ap (λ s. Some s) (sym at))),
           )
 

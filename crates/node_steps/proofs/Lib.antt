@@ -3,6 +3,7 @@ pub mod Beginnings
 pub mod Shown
 pub mod Inside
 pub mod Accepting
+pub mod Coming
 pub mod Turns
 pub mod Own
 pub mod Kept

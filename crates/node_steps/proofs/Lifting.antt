@@ -20,7 +20,8 @@ use Rattle.node_steps.specs.Schedules.{Begins}
 use Rattle.node_steps.specs.Claims.{HistoriesAreLegal, LooksShowReplays, state_shown, RepliesAreRegisters, NothingElseHappens, RepliesHaveSeen, NoDotIsIssuedTwice, LivesAreOfDefinedKeys}
 use Rattle.node_steps.proofs.Lists.{how_many, set-here, set-there, same_or_other, counted_one}
 use Rattle.node_steps.proofs.Inside.{is_reader, reads, holds, state_of, replayed, IsInHand, same_test, IsPlain, IsAware}
-use Rattle.node_steps.proofs.Turns.{IsReplyTo, Comes, IsTurn, place_read}
+use Rattle.node_steps.proofs.Coming.{IsReplyTo, Comes}
+use Rattle.node_steps.proofs.Turns.{IsTurn, place_read}
 use Rattle.node_steps.proofs.Kept.{IsOrderly, IsPossible, seeing-here, possible, at_place, turn_at}
 use Rattle.node_steps.proofs.Diverting.{diversion}
 

@@ -23,7 +23,7 @@ use Rattle.node_steps.proofs.Lists.{set-here, set-there, same_or_other, get-firs
 use Rattle.node_steps.proofs.Beginnings.{begins-itself}
 use Rattle.node_steps.proofs.Inside.{same_test}
 use Rattle.node_steps.proofs.Shown.{IsName, name-later, held_is_name, saw_position}
-use Rattle.node_steps.proofs.Turns.{CallIs, EventIs, Comes}
+use Rattle.node_steps.proofs.Coming.{CallIs, EventIs, Comes}
 use Rattle.node_steps.proofs.Kept.{IsOrderly, IsPossible, possible, opened}
 use Rattle.node_steps.proofs.Diverting.{IsDiversion, diversion}
 use Rattle.node_steps.proofs.Scheduled.{orderly}
@@ -142,7 +142,7 @@ module _ (index : ℕ) (key : Key) where
         mine = named.calls (pred number) p.worker (here w orderly number action r p)
 
         -- the event of a call
-        new : (call : Call) → NamesCall id epoch (history_at w index) (Some call) → call.site ≡ p.index → EventIs call.ask p.vnode.log p.turn.vnode.log → IsName id epoch before key context
+        new : (call : Call) → NamesCall id epoch (history_at w index) (Some call) → call.site ≡ p.index → EventIs p.vnode.id p.vnode.last_epoch call.ask p.vnode.log p.turn.vnode.log → IsName id epoch before key context
         new call names about (inl same) = old (subst (λ log. Begins (event ∷ before) (commands_of log)) same begins)
         new call names about (inr made) = elim (begins_cases event made.0 before (history_of p.vnode) (subst (λ log. Begins (event ∷ before) (commands_of log)) made.1 begins)) [
           | inl is ↦ subst (λ hist. IsName id epoch hist key context) (old_is ∙ sym is.1)

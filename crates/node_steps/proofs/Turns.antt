@@ -1,58 +1,28 @@
--- What a step makes of its worker and its vnode, where they were as they always are; and what comes of it.
+-- What a step makes of its worker and its vnode, where they were as they always are.
 use Rattle.std.proofs.Common.{◌≡◌, ◌⊎◌, inl, inr, ℕ, zero, suc, ◌+◌, ◌≤◌, true, false, ◌∷◌, refl, sym, ◌∙◌, ap, arith, subst}
 use Rattle.std.specs.Prelude.{◌==◌, Option, Some, None, Result, Ok, Err}
 use Rattle.riak_msgs.specs.Contents.{Content}
-use Rattle.sibling_register.specs.History.{Event, is_update}
-use Rattle.sibling_register.specs.Answers.{Ask, AskGet, GetCommand, Refused as ToldRefused, Answers, Accepts}
+use Rattle.sibling_register.specs.History.{Event}
+use Rattle.sibling_register.specs.Answers.{Ask, AskGet, GetCommand, Refused as ToldRefused, Answers, Accepts as ToldAccepts}
 use Rattle.actor_epoch.specs.Given.{Context}
 use Rattle.vnode_machine.specs.Machine.{State, apply_operation}
-use Rattle.vnode_machine.specs.Replay.{History, replay, IsWithinLimits}
+use Rattle.vnode_machine.specs.Replay.{History, Accepts, IsWithinLimits}
 use Rattle.vnode_machine.specs.Replies.{get_reply}
 use Rattle.vnode_machine.specs.Step.{Response, GetDone, StepOutcome, Refused, Answered, Accepted, outcome as outcome_of_ask}
 use Rattle.vnode_machine.specs.Registers.{key_of, context_in_ask, next_event, IsRegisters, IsNext}
-use Rattle.vnode_machine.specs.Runs.{IsAnswer}
 use Rattle.vnode_machine.proofs.StepLaw.{registers-after}
 use Rattle.copy_laws.specs.Copies.{Command, commands_of}
 use Rattle.copy_laws.specs.Joining.{Log}
 use Rattle.node_steps.specs.World.{Word, Open, Taken, Phase, Idle, Asked, Reading, Holding, Done, Vnode, Call, call_of, history_of}
-use Rattle.node_steps.specs.Steps.{Action, Asks, Enters, Leaves, Marks, Unmarks, Takes, Puts, Looks, Publishes, is_reap, Outcome, NotPossible, Happened, Replied, Turn, left, moves, lays, answers, looks_by, publishes_by, turn_of, site_of}
+use Rattle.node_steps.specs.Steps.{Action, Asks, Enters, Leaves, Marks, Unmarks, Takes, Puts, Looks, Publishes, Turn, left, moves, lays, answers, looks_by, publishes_by, turn_of, site_of}
 use Rattle.node_steps.specs.Schedules.{Begins}
 use Rattle.node_steps.specs.Contexts.{context_bytes}
-use Rattle.node_steps.proofs.Accepting.{accepted_is}
+use Rattle.node_steps.proofs.Accepting.{accepted_is, was_accepted}
+use Rattle.node_steps.proofs.Coming.{CallIs, IsReplyTo, Comes}
 use Rattle.node_steps.proofs.Lists.{one, no_more, cancel}
 use Rattle.node_steps.proofs.Beginnings.{begins-itself, begins-longer}
 use Rattle.node_steps.proofs.Shown.{AreHeld, ShowsHeld, outcome_shows, updates, accepts_update}
 use Rattle.node_steps.proofs.Inside.{is_reader, is_holder, FitsWord, state_of, replayed, IsInPlace, IsInHand, IsAbout, same_test, IsSoundAs, IsPlain}
-
--- the call is as it was, or answered, or new
-abbrev pub CallIs : Action → (before later : Option Call) → Type 0
-CallIs action before later = (later ≡ before) ⊎ ((later ≡ None) ⊎ ((call : Call) × (later ≡ Some call) × (action ≡ Asks call.site call.ask)))
-
--- the log is as it was, or has an event of the ask more
-abbrev pub EventIs : Ask Content Context → (before later : Log) → Type 0
-EventIs ask before later =
-    (later ≡ before)
-    ⊎ ((event : Event Content Context) × (later ≡ Command event ∷ before) × (event.key ≡ key_of ask) × (event.context ≡ context_in_ask ask)
-    × (is_reap ask ≡ false → is_update event.operation ≡ true))
-
--- what a reply shows in this state
-abbrev pub ReplyShows : State Content → Ask Content Context → Result Response ℕ → Type 0
-ReplyShows state ask (Ok response) = AreHeld state (key_of ask) (context_bytes response)
-ReplyShows state ask (Err number) = Unit {0}
-
--- the turn answers a call as the register may; its worker has then seen the history
-pub record IsReplyTo (id epoch index : ℕ) (log : Log) (t : Turn) (reply : Result Response ℕ) (call : Call) : Type 0 where
-  pub at : call.site ≡ index
-  pub seen : t.seen ≡ (history_of t.vnode)
-  pub event : EventIs call.ask log t.vnode.log
-  pub answer : IsPlain id epoch log → IsAnswer id epoch (commands_of log) (record { ask = call.ask; reply = reply }) (history_of t.vnode)
-  pub shows : IsPlain id epoch log → ReplyShows (replay id epoch (history_of t.vnode)) call.ask reply
-
--- a turn answers nothing, and the log stays; or it answers the call
-abbrev pub Comes : (id epoch index : ℕ) → Option Call → Log → Turn → Outcome → Type 0
-Comes id epoch index call log t NotPossible = ⊥
-Comes id epoch index call log t Happened = t.vnode.log ≡ log
-Comes id epoch index call log t (Replied reply) = (c : Call) × (call ≡ Some c) × IsReplyTo id epoch index log t reply c
 
 module _ (id epoch index readers holders : ℕ) where
   -- what a turn of a worker in this phase leaves, and what comes of it
@@ -345,9 +315,17 @@ module _ (id epoch index readers holders : ℕ) where
             refl,
             record {
               at = at;
-              answer = λ plain. record { given = Accepts event (next plain).told; may = (next plain).given; leads = refl; shown = (next plain).shown };
+              answer = λ plain. record { given = ToldAccepts event (next plain).told; may = (next plain).given; leads = refl; shown = (next plain).shown };
               seen = refl;
-              event = inr (event, refl, refl, refl, λ r. ap updates (sym (mine at).1) ∙ accepts_update hand ask r);
+              event = inr (
+                event,
+                refl,
+                refl,
+                refl,
+                λ r. ap updates (sym (mine at).1) ∙ accepts_update hand ask r,
+                subst (λ s. Accepts s (key_of ask) (context_in_ask ask) plan.operation) (mine at).0 (was_accepted hand ask plan.operation plan.response plan.next (mine at).1),
+                refl,
+              );
               shows = λ plain. subst (λ s. AreHeld s (key_of ask) (context_bytes plan.response)) (next plain).leads.is (shows ask hand came (mine at).1);
             },
           );
