@@ -13,7 +13,7 @@ use Rattle.copy_laws.specs.Copies.{all_commands, commands_of}
 use Rattle.copy_laws.specs.Joining.{Log}
 use Rattle.copy_laws.specs.Diversions.{Course, Divert, diversions_of, fallback_of, primary_of, MayHappen}
 use Rattle.node_steps.specs.World.{Vnode, Worker, World, Call, fresh_vnode, fresh_worker, id_of, opening_world, own_sites, route, log_at, history_at, call_of, history_of}
-use Rattle.node_steps.specs.Steps.{Action, Asks, AsksNowhere, Enters, Leaves, Marks, Unmarks, Takes, Puts, Looks, Publishes, Step, By, Diverts, is_reap, sent, routed, Outcome, NotPossible, Happened, Replied, site_of, is_about, fallback_ids, diverted_by, diverted, does}
+use Rattle.node_steps.specs.Steps.{Action, Asks, AsksNowhere, Enters, Leaves, Marks, Unmarks, Takes, Puts, Looks, Publishes, Step, By, Diverts, is_reap, sent, routed, Outcome, NotPossible, Happened, Replied, is_about, fallback_ids, diverted_by, diverted, does}
 use Rattle.node_steps.specs.Schedules.{Start, IsStart, world_after}
 use Rattle.node_steps.specs.Courses.{partition_of, WasShownThere, GivesShownThere, IsCourseOf, RunsAreCourses}
 use Rattle.node_steps.proofs.Lists.{set-here, set-there, same_or_other, get-replicate, get-first, get-last, length-set, each_passes}
@@ -149,8 +149,9 @@ module _ (run index : ℕ) (w : World) (orderly : IsOrderly w) (other : ℕ) (ne
 
   -- its own
   module _ (e : other ≡ index) (own : IsOwn run index w course) where
-    alone : (place : ℕ) (worker : Worker) → slice_get w.workers place ≡ Some worker → site_of Enters worker.phase ≡ Some index → ⊥
-    alone place worker h about =
+    alone : (place : ℕ) (worker : Worker) → slice_get w.workers place ≡ Some worker → (call : Call) → call_of worker.phase ≡ Some call → call.site ≡ index → ⊥
+    alone place worker h call asked at =
+        let about = call_site worker.phase call asked ∙ ap (λ s. Some s) at in
         yes_no (is_about other worker.phase) (each_passes (λ (x : Worker). not (is_about other x.phase)) w.workers d.alone place worker h)
         (ap (λ o. option_map_or (λ s. s == other) o false) about ∙ same_test index other (sym e))
 

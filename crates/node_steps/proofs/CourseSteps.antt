@@ -149,8 +149,7 @@ module _ (run index : ℕ) (w : World) (orderly : IsOrderly w) (number : ℕ) (a
     | inr g ↦ elim (same_or_other p.index index) [
       | inl at ↦ elim run_is.side [
         | inl own ↦ (AtPrimary g.event ∷ course, primary-next g at own)
-        | inr away ↦ absurd (away.alone (pred number) p.worker (here w orderly number action r p)
-            (call_site p.worker.phase g.call g.asked ∙ ap (λ s. Some s) (g.at ∙ at)))
+        | inr away ↦ absurd (away.alone (pred number) p.worker (here w orderly number action r p) g.call g.asked (g.at ∙ at))
       ]
       | inr n ↦
           let there = vnode-there run index w orderly number action r p index primary primary_log n run_is.vnode in

@@ -15,14 +15,14 @@ use Rattle.copy_laws.specs.Sides.{Partition}
 use Rattle.copy_laws.specs.CopyReplay.{name_at, seen_at}
 use Rattle.copy_laws.specs.Diversions.{Course, Happening, AtPrimary, AtFallback, diversions_of, is_diverted, fallback_of, fallback_state, primary_of, WasShown, MayHappen, Happens}
 use Rattle.copy_laws.proofs.Fallback.{log-replay}
-use Rattle.node_steps.specs.World.{Phase, Idle, Asked, Reading, Holding, Done, Vnode, Worker, World, Call, call_of}
-use Rattle.node_steps.specs.Steps.{Action, Asks, Enters, is_reap, Outcome, NotPossible, Happened, Replied, seeing, turned, site_of}
+use Rattle.node_steps.specs.World.{Vnode, Worker, World, Call, call_of}
+use Rattle.node_steps.specs.Steps.{Action, Asks, is_reap, Outcome, NotPossible, Happened, Replied, seeing, turned}
 use Rattle.node_steps.specs.Contexts.{given_in}
 use Rattle.node_steps.specs.Courses.{partition_of, IsSiteOf}
 use Rattle.node_steps.proofs.Lists.{set-here, set-there, same_or_other, get-below}
 use Rattle.node_steps.proofs.Inside.{state_of, other_test}
 use Rattle.node_steps.proofs.Coming.{CallIs, Comes}
-use Rattle.node_steps.proofs.Kept.{IsOrderly, IsPossible, about_site}
+use Rattle.node_steps.proofs.Kept.{IsOrderly, IsPossible}
 use Rattle.node_steps.proofs.Lifting.{here, turn, plain}
 use Rattle.node_steps.proofs.Unmixed.{seen-same}
 
@@ -48,15 +48,6 @@ none_call call h = cc
 too_far : (site away other n : ℕ) → site ≡ away → n ≤ away → other < n → site ≢ other
 too_far site away other n e h k = λ f. absurd (omega (arith, e, h, k, f))
 
--- a worker that does something at a site has a call there, or gets it
-had_call : (action : Action) (phase : Phase) (site : ℕ) → site_of action phase ≡ Some site → (site_of Enters phase ≡ Some site) ⊎ ((ask : Ask Content Context) × (action ≡ Asks site ask))
-had_call (Asks other ask) Idle site h = inr (ask, ap (λ s. Asks s ask) (some_same other site h))
-had_call action Idle site h = cc
-had_call action (Asked other ask) site h = inl h
-had_call action (Reading other get) site h = inl h
-had_call action (Holding other ask hand plan) site h = inl h
-had_call action (Done other hand) site h = inl h
-
 module _ (run index : ℕ) where
   abbrev partition : Partition
   partition = partition_of run index
@@ -79,7 +70,7 @@ module _ (run index : ℕ) where
     pub diverted : is_diverted course ≡ true
     pub one : diversions_of course ≡ 1
     pub vnode : IsVnode w site partition.fallback (all_commands (fallback_of course 1))
-    pub alone : (place : ℕ) (worker : Worker) → slice_get w.workers place ≡ Some worker → site_of Enters worker.phase ≡ Some index → ⊥
+    pub alone : (place : ℕ) (worker : Worker) → slice_get w.workers place ≡ Some worker → (call : Call) → call_of worker.phase ≡ Some call → call.site ≡ index → ⊥
     pub updates : (place : ℕ) (worker : Worker) → slice_get w.workers place ≡ Some worker → (call : Call) → call_of worker.phase ≡ Some call
         → call.site ≡ site → is_reap call.ask ≡ false
 
@@ -244,16 +235,19 @@ module _ (run index : ℕ) where
             | inr past ↦ absurd (omega (arith, past, run_is.known))
           ]
 
-      pub alone-next : (away : IsAway w course) (place : ℕ) (worker : Worker) → slice_get next.workers place ≡ Some worker → site_of Enters worker.phase ≡ Some index → ⊥
-      alone-next away place worker h about = elim (worker-next place worker h) [
-        | inl e ↦
-            let at : p.index ≡ index = about_site p.index p.turn.phase (turn w orderly number action r p).at index (ap (λ (x : Worker). site_of Enters x.phase) e ∙ about) in
-            elim (had_call action p.worker.phase index (p.site_is ∙ ap (λ s. Some s) at)) [
-              | inl had ↦ away.alone (pred number) p.worker (here w orderly number action r p) had
-              | inr asks ↦ not_sent away asks.0 asks.1
-            ]
-        | inr old ↦ away.alone place worker old about
+      pub alone-next : (away : IsAway w course) (place : ℕ) (worker : Worker) → slice_get next.workers place ≡ Some worker → (call : Call) → call_of worker.phase ≡ Some call
+          → call.site ≡ index → ⊥
+      alone-next away place worker h call asked at = elim (worker-next place worker h) [
+        | inl e ↦ by (turn w orderly number action r p).call (ap (λ (x : Worker). call_of x.phase) e ∙ asked)
+        | inr old ↦ away.alone place worker old call asked at
       ]
+        where
+          by : CallIs action (call_of p.worker.phase) (call_of p.turn.phase) → call_of p.turn.phase ≡ Some call → ⊥
+          by (inl same) k = away.alone (pred number) p.worker (here w orderly number action r p) call (sym same ∙ k) at
+          by (inr (inl none)) k = none_call call (sym none ∙ k)
+          by (inr (inr new)) k =
+              let same : new.0 ≡ call = some_same new.0 call (sym new.1 ∙ k) in
+              not_sent away call.ask (new.2 ∙ ap (λ (c : Call). Asks c.site c.ask) same ∙ ap (λ s. Asks s call.ask) at)
 
       pub updates-next : (away : IsAway w course) (place : ℕ) (worker : Worker) → slice_get next.workers place ≡ Some worker → (call : Call) → call_of worker.phase ≡ Some call
           → call.site ≡ away.site → is_reap call.ask ≡ false

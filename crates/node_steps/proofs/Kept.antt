@@ -6,8 +6,8 @@ use Rattle.riak_msgs.specs.Contents.{Content}
 use Rattle.sibling_register.specs.Answers.{Ask}
 use Rattle.actor_epoch.specs.Given.{Context}
 use Rattle.vnode_machine.specs.Replay.{History, IsWithinLimits}
-use Rattle.node_steps.specs.World.{Word, Open, Taken, Phase, Idle, Asked, Reading, Holding, Done, Vnode, Worker, World, fresh_vnode, fresh_worker, id_of, opening_vnodes, own_sites, opening_world, worker_at, seen_at, history_of}
-use Rattle.node_steps.specs.Steps.{Action, Asks, AsksNowhere, is_reap, sent, routed, Enters, Outcome, Turn, turn_of, site_of, is_about, seeing, turned, fallback_ids, does}
+use Rattle.node_steps.specs.World.{Word, Open, Taken, Idle, Vnode, Worker, World, fresh_vnode, fresh_worker, id_of, opening_vnodes, own_sites, opening_world, worker_at, seen_at, history_of}
+use Rattle.node_steps.specs.Steps.{Action, Asks, AsksNowhere, is_reap, sent, routed, Outcome, Turn, turn_of, site_of, is_about, seeing, turned, fallback_ids, does}
 use Rattle.node_steps.specs.Schedules.{Start, IsStart, Begins}
 use Rattle.node_steps.proofs.Lists.{one, how_many, set-here, set-there, same_or_other, how_many-set, counted_one, counted_two, counted_none, get-replicate, get-below, length-set}
 use Rattle.node_steps.proofs.Own.{length-own, length-opening}
@@ -84,14 +84,6 @@ seeing-there (x ∷ seen) zero zero front n = absurd (n refl)
 seeing-there (x ∷ seen) zero (suc other) front n = refl
 seeing-there (x ∷ seen) (suc site) zero front n = refl
 seeing-there (x ∷ seen) (suc site) (suc other) front n = seeing-there seen site other front (λ e. n (ap suc e))
-
--- a phase that is about a site has its call there
-pub about_site : (index : ℕ) (phase : Phase) → IsAbout index phase → (site : ℕ) → site_of Enters phase ≡ Some site → index ≡ site
-about_site index Idle about site h = cc
-about_site index (Asked other ask) about site h = cc
-about_site index (Reading other get) about site h = cc
-about_site index (Holding other ask hand plan) about site h = cc
-about_site index (Done other hand) about site h = cc
 
 not_past : (index n site : ℕ) → index < n → n ≤ site → index ≢ site
 not_past index n site h k = λ e. absurd (omega (arith, e, h, k))
