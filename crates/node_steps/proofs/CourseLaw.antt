@@ -9,20 +9,21 @@ use Rattle.actor_epoch.specs.Given.{Context}
 use Rattle.vnode_machine.specs.Lives.{lives_begun}
 use Rattle.vnode_machine.specs.Replay.{History}
 use Rattle.vnode_machine.specs.Step.{Response}
-use Rattle.copy_laws.specs.Copies.{all_commands}
-use Rattle.copy_laws.specs.Diversions.{Course, Divert, diversions_of, fallback_of, MayHappen}
-use Rattle.node_steps.specs.World.{Vnode, Worker, World, Call, fresh_vnode, fresh_worker, id_of, opening_world, own_sites, route, history_at, call_of}
-use Rattle.node_steps.specs.Steps.{Action, Asks, AsksNowhere, Enters, Leaves, Marks, Unmarks, Takes, Puts, Looks, Publishes, Step, By, Diverts, is_reap, sent, routed, Outcome, NotPossible, Happened, Replied, site_of, is_about, fallback_ids, diverted_by, diverted, does}
+use Rattle.copy_laws.specs.Copies.{all_commands, commands_of}
+use Rattle.copy_laws.specs.Joining.{Log}
+use Rattle.copy_laws.specs.Diversions.{Course, Divert, diversions_of, fallback_of, primary_of, MayHappen}
+use Rattle.node_steps.specs.World.{Vnode, Worker, World, Call, fresh_vnode, fresh_worker, id_of, opening_world, own_sites, route, log_at, history_at, call_of, history_of}
+use Rattle.node_steps.specs.Steps.{Action, Asks, AsksNowhere, Enters, Leaves, Marks, Unmarks, Takes, Puts, Looks, Publishes, Step, By, Diverts, is_reap, sent, routed, Outcome, NotPossible, Happened, Replied, is_about, fallback_ids, diverted_by, diverted, does}
 use Rattle.node_steps.specs.Schedules.{Start, IsStart, world_after}
 use Rattle.node_steps.specs.Courses.{partition_of, WasShownThere, GivesShownThere, IsCourseOf, RunsAreCourses}
 use Rattle.node_steps.proofs.Lists.{set-here, set-there, same_or_other, get-replicate, get-first, get-last, length-set, each_passes}
 use Rattle.node_steps.proofs.Own.{length-own, vnode_there, own_there, own_is, from_zero}
-use Rattle.node_steps.proofs.Inside.{same_test}
+use Rattle.node_steps.proofs.Inside.{same_test, about_there}
 use Rattle.node_steps.proofs.Kept.{IsOrderly, possible}
 use Rattle.node_steps.proofs.Diverting.{IsDiversion, diversion, id_is}
 use Rattle.node_steps.proofs.Scheduled.{orderly}
 use Rattle.node_steps.proofs.Lifting.{no_reply}
-use Rattle.node_steps.proofs.Coursing.{some_same, none_call, IsVnode, IsOwn, IsRun, shown-later}
+use Rattle.node_steps.proofs.Coursing.{some_same, none_call, commands-all, IsVnode, IsOwn, IsRun, shown-later}
 use Rattle.node_steps.proofs.CourseSteps.{call_site, course-next, run-next}
 
 run-opening : (start : Start) (index : ℕ) → index < start.vnodes
@@ -30,16 +31,14 @@ run-opening : (start : Start) (index : ℕ) → index < start.vnodes
 run-opening start index known = record {
   known = subst (λ n. index < n) (sym (length-own 0 start.vnodes)) known;
   apart = λ other site h. inl (own_is 0 start.vnodes other site h ∙ from_zero other);
-  history = [];
   vnode = record {
     vnode = fresh_vnode (id_of start.run index) 0;
     there = vnode_there start.run 0 start.vnodes index known ∙ ap (λ n. Some (fresh_vnode (id_of start.run n) 0)) (from_zero index);
     id_is = refl;
     epoch_is = refl;
-    history_is = refl;
+    log_is = refl;
   };
   may_happen = tt;
-  log = refl;
   side = inl (record { route_is = own_route; not_diverted = refl; none = refl; empty = λ n. refl });
   shown = λ key context h. absurd h;
   calls = λ place worker h call asked there context e.
@@ -97,13 +96,13 @@ module _ (run index : ℕ) (w : World) (orderly : IsOrderly w) (other : ℕ) (ne
   abbrev later : World
   later = diverted_by w other d.primary
 
-  vnode-stays : (site id : ℕ) (history : History) → IsVnode w site id history → IsVnode later site id history
-  vnode-stays site id history v = record {
+  vnode-stays : (site id : ℕ) (log : Log) → IsVnode w site id log → IsVnode later site id log
+  vnode-stays site id log v = record {
     vnode = v.vnode;
     there = get-first w.vnodes fresh site v.vnode v.there;
     id_is = v.id_is;
     epoch_is = v.epoch_is;
-    history_is = v.history_is;
+    log_is = v.log_is;
   }
 
   apart-later : (o site : ℕ) → slice_get later.routes o ≡ Some site → (site ≡ o) ⊎ (length later.routes ≤ site)
@@ -119,17 +118,15 @@ module _ (run index : ℕ) (w : World) (orderly : IsOrderly w) (other : ℕ) (ne
 
   -- no worker has a call at the new site
   nobody : (place : ℕ) (worker : Worker) → slice_get w.workers place ≡ Some worker → (call : Call) → call_of worker.phase ≡ Some call → call.site ≡ new_site → ⊥
-  nobody place worker h call asked at = not_below call.site new_site (orderly.about place worker h call.site (call_site worker.phase call asked)) at
+  nobody place worker h call asked at = not_below call.site new_site (orderly.about place worker h call.site (about_there call.site worker.phase (call_site worker.phase call asked))) at
 
   -- another partition's diversion
   elsewhere-diverted : other ≢ index → IsRun run index later course Shown
   elsewhere-diverted n = record {
     known = subst (λ m. index < m) (sym (length-set w.routes other new_site)) run_is.known;
     apart = apart-later;
-    history = run_is.history;
-    vnode = vnode-stays index (id_of run index) run_is.history run_is.vnode;
+    vnode = vnode-stays index (id_of run index) (primary_of (partition_of run index) course) run_is.vnode;
     may_happen = run_is.may_happen;
-    log = run_is.log;
     side = elim run_is.side [
       | inl own ↦ inl (record { route_is = set-there w.routes other index new_site n ∙ own.route_is; not_diverted = own.not_diverted; none = own.none; empty = own.empty })
       | inr away ↦ inr (record {
@@ -138,7 +135,7 @@ module _ (run index : ℕ) (w : World) (orderly : IsOrderly w) (other : ℕ) (ne
         other = away.other;
         diverted = away.diverted;
         one = away.one;
-        vnode = vnode-stays away.site (id_of run index + fallback_ids) (fallback_of course 1) away.vnode;
+        vnode = vnode-stays away.site (id_of run index + fallback_ids) (all_commands (fallback_of course 1)) away.vnode;
         alone = away.alone;
         updates = away.updates;
       })
@@ -152,8 +149,9 @@ module _ (run index : ℕ) (w : World) (orderly : IsOrderly w) (other : ℕ) (ne
 
   -- its own
   module _ (e : other ≡ index) (own : IsOwn run index w course) where
-    alone : (place : ℕ) (worker : Worker) → slice_get w.workers place ≡ Some worker → site_of Enters worker.phase ≡ Some index → ⊥
-    alone place worker h about =
+    alone : (place : ℕ) (worker : Worker) → slice_get w.workers place ≡ Some worker → (call : Call) → call_of worker.phase ≡ Some call → call.site ≡ index → ⊥
+    alone place worker h call asked at =
+        let about = call_site worker.phase call asked ∙ ap (λ s. Some s) at in
         yes_no (is_about other worker.phase) (each_passes (λ (x : Worker). not (is_about other x.phase)) w.workers d.alone place worker h)
         (ap (λ o. option_map_or (λ s. s == other) o false) about ∙ same_test index other (sym e))
 
@@ -167,23 +165,21 @@ module _ (run index : ℕ) (w : World) (orderly : IsOrderly w) (other : ℕ) (ne
     primary_is : d.primary ≡ run_is.vnode.vnode
     primary_is = some_same d.primary run_is.vnode.vnode (sym d.vnode_is ∙ ap (λ k. slice_get w.vnodes k) e ∙ run_is.vnode.there)
 
-    fresh-there : IsVnode later new_site (id_of run index + fallback_ids) (fallback_of course 1)
+    fresh-there : IsVnode later new_site (id_of run index + fallback_ids) (all_commands (fallback_of course 1))
     fresh-there = record {
       vnode = fresh;
       there = get-last w.vnodes fresh;
       id_is = ap (λ n. n + fallback_ids) (id_is w orderly other d.primary d.vnode_is d.alone ∙ ap (λ (v : Vnode). v.id) primary_is ∙ run_is.vnode.id_is);
       epoch_is = refl;
-      history_is = sym (own.empty 1);
+      log_is = sym (ap (λ (h : History). all_commands h) (own.empty 1));
     }
 
     own-diverted : IsRun run index later (Divert ∷ course) Shown
     own-diverted = record {
       known = subst (λ m. index < m) (sym (length-set w.routes other new_site)) run_is.known;
       apart = apart-later;
-      history = run_is.history;
-      vnode = vnode-stays index (id_of run index) run_is.history run_is.vnode;
+      vnode = vnode-stays index (id_of run index) (primary_of (partition_of run index) course) run_is.vnode;
       may_happen = (run_is.may_happen, may-divert);
-      log = run_is.log;
       side = inr (record {
         site = new_site;
         route_is = ap (λ k. slice_get later.routes k) (sym e) ∙ set-here w.routes other other new_site d.own;
@@ -238,10 +234,8 @@ module _ (start : Start) (is : IsStart start) (index : ℕ) (known : index < sta
         record {
           known = before.1.known;
           apart = before.1.apart;
-          history = before.1.history;
           vnode = before.1.vnode;
           may_happen = before.1.may_happen;
-          log = before.1.log;
           side = before.1.side;
           shown = λ key context s. elim s [
             | inl now ↦ absurd (not_shown now.2.response (sym (ap (λ o. option_map_or (λ (r : World × Outcome). r.1) o NotPossible) h) ∙ now.2.replied))
@@ -291,10 +285,8 @@ module _ (start : Start) (is : IsStart start) (index : ℕ) (known : index < sta
       as_shown x course run = record {
         known = run.known;
         apart = run.apart;
-        history = run.history;
         vnode = run.vnode;
         may_happen = run.may_happen;
-        log = run.log;
         side = run.side;
         shown = λ key context s. run.shown key context (before-shown key context s);
         calls = run.calls;
@@ -308,11 +300,13 @@ module _ (start : Start) (is : IsStart start) (index : ℕ) (known : index < sta
           let n = run-diverted start.run index w (orderly start is earlier) other next (diversion w other next h) before.0 (WasShownThere start index earlier) before.1 in
           (n.0, as_shown next n.0 n.1)
 
--- a run's course, by the histories
-course_of : (run index : ℕ) (w : World) (course : Course) (Shown : Key → Context → Type 0) → IsRun run index w course Shown → IsCourseOf (partition_of run index) w index course
-course_of run index w course Shown run_is = record {
+-- a run's course, by the logs and histories
+course_of : (run index : ℕ) (w : World) → IsOrderly w → (course : Course) (Shown : Key → Context → Type 0) → IsRun run index w course Shown
+    → IsCourseOf (partition_of run index) w index course
+course_of run index w orderly course Shown run_is = record {
   may_happen = run_is.may_happen;
-  primary = run_is.log ∙ ap (λ (h : History). all_commands h) (sym (history_is index (id_of run index) run_is.history run_is.vnode));
+  primary = sym (log_is index (id_of run index) (primary_of (partition_of run index) course) run_is.vnode);
+  commands = commands_are run_is.vnode.vnode run_is.vnode.there;
   own = λ route. elim run_is.side [
     | inl own ↦ own.none
     | inr away ↦ absurd (away.other (some_same index away.site (sym route ∙ away.route_is)))
@@ -326,10 +320,19 @@ course_of run index w course Shown run_is = record {
   ];
 }
   where
-    history_is : (site id : ℕ) (history : History) → IsVnode w site id history → history_at w site ≡ history
-    history_is site id history v = ap (λ o. option_map_or (λ (x : Vnode). x.history) o []) v.there ∙ v.history_is
+    log_is : (site id : ℕ) (log : Log) → IsVnode w site id log → log_at w site ≡ log
+    log_is site id log v = ap (λ o. option_map_or (λ (x : Vnode). x.log) o []) v.there ∙ v.log_is
+
+    history_is : (site id : ℕ) (history : History) → IsVnode w site id (all_commands history) → history_at w site ≡ history
+    history_is site id history v =
+        ap (λ o. option_map_or (λ (x : Vnode). history_of x) o []) v.there ∙ ap (λ (l : Log). commands_of l) v.log_is ∙ commands-all history
+
+    commands_are : (vnode : Vnode) → slice_get w.vnodes index ≡ Some vnode → log_at w index ≡ all_commands (history_at w index)
+    commands_are vnode there =
+        ap (λ o. option_map_or (λ (x : Vnode). x.log) o []) there ∙ (orderly.plain index vnode there).commands
+        ∙ ap (λ (h : History). all_commands h) (sym (ap (λ o. option_map_or (λ (x : Vnode). history_of x) o []) there))
 
 pub runs_are_courses : RunsAreCourses
 runs_are_courses start is schedule index known gives =
     let run = runs start is index known schedule gives in
-    (run.0, course_of start.run index (world_after start schedule) run.0 (WasShownThere start index schedule) run.1)
+    (run.0, course_of start.run index (world_after start schedule) (orderly start is schedule) run.0 (WasShownThere start index schedule) run.1)

@@ -11,20 +11,21 @@ use Rattle.vnode_machine.specs.Replay.{History, naming}
 use Rattle.vnode_machine.specs.Step.{Response}
 use Rattle.vnode_machine.specs.Registers.{key_of, context_in_ask}
 use Rattle.vnode_machine.proofs.Keys.{key_eq-refl}
-use Rattle.copy_laws.specs.Copies.{Command}
+use Rattle.copy_laws.specs.Copies.{Command, all_commands, commands_of}
+use Rattle.copy_laws.specs.Joining.{Log}
 use Rattle.copy_laws.specs.CopyReplay.{name_at}
 use Rattle.copy_laws.specs.Diversions.{Course, AtPrimary, AtFallback, fallback_of, fallback_state, primary_of, WasShown}
-use Rattle.node_steps.specs.World.{Phase, Idle, Asked, Reading, Holding, Done, Vnode, Worker, World, Call, call_of, call_at}
+use Rattle.node_steps.specs.World.{Phase, Idle, Asked, Reading, Holding, Done, Vnode, Worker, World, Call, call_of, call_at, history_of}
 use Rattle.node_steps.specs.Steps.{Action, Asks, Enters, is_reap, Outcome, Replied, site_of}
 use Rattle.node_steps.specs.Contexts.{context_bytes, given_in}
 use Rattle.node_steps.specs.Courses.{IsSiteOf}
 use Rattle.node_steps.proofs.Lists.{set-here, same_or_other}
 use Rattle.node_steps.proofs.Inside.{same_test}
 use Rattle.node_steps.proofs.Shown.{held_shows}
-use Rattle.node_steps.proofs.Turns.{CallIs}
+use Rattle.node_steps.proofs.Coming.{CallIs}
 use Rattle.node_steps.proofs.Kept.{IsOrderly, IsPossible}
-use Rattle.node_steps.proofs.Lifting.{here, turn, reply_is}
-use Rattle.node_steps.proofs.Coursing.{some_same, none_call, IsVnode, IsOwn, IsAway, IsRun, IsNext, Grows, shown-later, name-primary, state-fallback, vnode-there, vnode-here, is_there, grown, at-primary, at-fallback, worker-next, alone-next, updates-next, next_of, partition_at}
+use Rattle.node_steps.proofs.Lifting.{here, turn, plain, replays_next, reply_is}
+use Rattle.node_steps.proofs.Coursing.{some_same, none_call, commands-all, IsVnode, IsOwn, IsAway, IsRun, IsNext, Grows, shown-later, name-primary, state-fallback, vnode-there, vnode-here, is_there, grown, at-primary, at-fallback, worker-next, alone-next, updates-next, next_of, partition_at}
 
 -- the site of a call
 pub call_site : (phase : Phase) (call : Call) → call_of phase ≡ Some call → site_of Enters phase ≡ Some call.site
@@ -54,7 +55,7 @@ module _ (run index : ℕ) (w : World) (orderly : IsOrderly w) (number : ℕ) (a
   own-next : IsOwn run index w course → IsOwn run index next course
   own-next own = record { route_is = own.route_is; not_diverted = own.not_diverted; none = own.none; empty = own.empty }
 
-  away-next : (away : IsAway run index w course) → IsVnode next away.site fallback (fallback_of course 1) → IsAway run index next course
+  away-next : (away : IsAway run index w course) → IsVnode next away.site fallback (all_commands (fallback_of course 1)) → IsAway run index next course
   away-next away vnode = record {
     site = away.site;
     route_is = away.route_is;
@@ -66,58 +67,60 @@ module _ (run index : ℕ) (w : World) (orderly : IsOrderly w) (number : ℕ) (a
     updates = updates-next run index w orderly number action r p course Shown run_is gives sends away;
   }
 
-  -- a vnode whose history stays
-  vnode-kept : (site id : ℕ) (history : History) → p.turn.vnode.history ≡ p.vnode.history → IsVnode w site id history → IsVnode next site id history
-  vnode-kept site id history same v = elim (same_or_other p.index site) [
+  -- a vnode whose log stays
+  vnode-kept : (site id : ℕ) (log : Log) → p.turn.vnode.log ≡ p.vnode.log → IsVnode w site id log → IsVnode next site id log
+  vnode-kept site id log same v = elim (same_or_other p.index site) [
     | inl e ↦
-        let later = vnode-here run index w orderly number action r p site id history e v in
+        let later = vnode-here run index w orderly number action r p site id log e v in
         record {
           vnode = later.vnode;
           there = later.there;
           id_is = later.id_is;
           epoch_is = later.epoch_is;
-          history_is = later.history_is ∙ same ∙ ap (λ (x : Vnode). x.history) (is_there run index w orderly number action r p site id history e v) ∙ v.history_is;
+          log_is = later.log_is ∙ same ∙ ap (λ (x : Vnode). x.log) (is_there run index w orderly number action r p site id log e v) ∙ v.log_is;
         }
-    | inr n ↦ vnode-there run index w orderly number action r p site id history n v
+    | inr n ↦ vnode-there run index w orderly number action r p site id log n v
   ]
 
   -- or gets the event
-  vnode-grown : (site id : ℕ) (history : History) (g : Grows run index w orderly number action r p) → p.index ≡ site → IsVnode w site id history → IsVnode next site id (g.event ∷ history)
-  vnode-grown site id history g e v =
-      let later = vnode-here run index w orderly number action r p site id history e v in
+  vnode-grown : (site id : ℕ) (log : Log) (g : Grows run index w orderly number action r p) → p.index ≡ site → IsVnode w site id log → IsVnode next site id (Command g.event ∷ log)
+  vnode-grown site id log g e v =
+      let later = vnode-here run index w orderly number action r p site id log e v in
       record {
         vnode = later.vnode;
         there = later.there;
         id_is = later.id_is;
         epoch_is = later.epoch_is;
-        history_is = later.history_is ∙ g.is
-            ∙ ap (λ (h : History). g.event ∷ h) (ap (λ (x : Vnode). x.history) (is_there run index w orderly number action r p site id history e v) ∙ v.history_is);
+        log_is = later.log_is ∙ g.is
+            ∙ ap (λ (l : Log). Command g.event ∷ l) (ap (λ (x : Vnode). x.log) (is_there run index w orderly number action r p site id log e v) ∙ v.log_is);
       }
 
-  -- the course stays where the histories do
-  stays : IsVnode next index primary run_is.history → IsOwn run index next course ⊎ IsAway run index next course → Next course
-  stays vnode side = record {
+  abbrev primary_log : Log
+  primary_log = primary_of (partition_at run index) course
+
+  abbrev fallback_log : Log
+  fallback_log = all_commands (fallback_of course 1)
+
+  -- the course stays where the logs do
+  remains : IsVnode next index primary primary_log → IsOwn run index next course ⊎ IsAway run index next course → Next course
+  remains vnode side = record {
     still = λ key context s. s;
     may_happen = run_is.may_happen;
-    history = run_is.history;
     vnode = vnode;
-    log = run_is.log;
     side = side;
   }
 
-  same-next : p.turn.vnode.history ≡ p.vnode.history → Next course
-  same-next same = stays (vnode-kept index primary run_is.history same run_is.vnode) (elim run_is.side [
+  same-next : p.turn.vnode.log ≡ p.vnode.log → Next course
+  same-next same = remains (vnode-kept index primary primary_log same run_is.vnode) (elim run_is.side [
     | inl own ↦ inl (own-next own)
-    | inr away ↦ inr (away-next away (vnode-kept away.site fallback (fallback_of course 1) same away.vnode))
+    | inr away ↦ inr (away-next away (vnode-kept away.site fallback fallback_log same away.vnode))
   ])
 
   primary-next : (g : Grows run index w orderly number action r p) → p.index ≡ index → IsOwn run index w course → Next (AtPrimary g.event ∷ course)
   primary-next g at own = record {
     still = shown-later run index (AtPrimary g.event) course;
     may_happen = (run_is.may_happen, at-primary run index w orderly number action r p course Shown run_is gives sends g at own);
-    history = g.event ∷ run_is.history;
-    vnode = vnode-grown index primary run_is.history g at run_is.vnode;
-    log = ap (λ log. Command g.event ∷ log) run_is.log;
+    vnode = vnode-grown index primary primary_log g at run_is.vnode;
     side = inl (record { route_is = own.route_is; not_diverted = own.not_diverted; none = own.none; empty = own.empty });
   }
 
@@ -127,16 +130,14 @@ module _ (run index : ℕ) (w : World) (orderly : IsOrderly w) (number : ℕ) (a
       record {
         still = shown-later run index (AtFallback g.event) course;
         may_happen = (run_is.may_happen, at-fallback run index w orderly number action r p course Shown run_is gives sends g away at);
-        history = run_is.history;
-        vnode = vnode-there run index w orderly number action r p index primary run_is.history n run_is.vnode;
-        log = run_is.log;
+        vnode = vnode-there run index w orderly number action r p index primary primary_log n run_is.vnode;
         side = inr (record {
           site = away.site;
           route_is = away.route_is;
           other = away.other;
           diverted = away.diverted;
           one = away.one;
-          vnode = subst (λ h. IsVnode next away.site fallback h) longer (vnode-grown away.site fallback (fallback_of course 1) g at away.vnode);
+          vnode = subst (λ (h : History). IsVnode next away.site fallback (all_commands h)) longer (vnode-grown away.site fallback fallback_log g at away.vnode);
           alone = alone-next run index w orderly number action r p course Shown run_is gives sends away;
           updates = updates-next run index w orderly number action r p course Shown run_is gives sends away;
         });
@@ -148,16 +149,15 @@ module _ (run index : ℕ) (w : World) (orderly : IsOrderly w) (number : ℕ) (a
     | inr g ↦ elim (same_or_other p.index index) [
       | inl at ↦ elim run_is.side [
         | inl own ↦ (AtPrimary g.event ∷ course, primary-next g at own)
-        | inr away ↦ absurd (away.alone (pred number) p.worker (here w orderly number action r p)
-            (call_site p.worker.phase g.call g.asked ∙ ap (λ s. Some s) (g.at ∙ at)))
+        | inr away ↦ absurd (away.alone (pred number) p.worker (here w orderly number action r p) g.call g.asked (g.at ∙ at))
       ]
       | inr n ↦
-          let there = vnode-there run index w orderly number action r p index primary run_is.history n run_is.vnode in
+          let there = vnode-there run index w orderly number action r p index primary primary_log n run_is.vnode in
           elim run_is.side [
-            | inl own ↦ (course, stays there (inl (own-next own)))
+            | inl own ↦ (course, remains there (inl (own-next own)))
             | inr away ↦ elim (same_or_other p.index away.site) [
               | inl at ↦ (AtFallback g.event ∷ course, fallback-next g away at n)
-              | inr m ↦ (course, stays there (inr (away-next away (vnode-there run index w orderly number action r p away.site fallback (fallback_of course 1) m away.vnode))))
+              | inr m ↦ (course, remains there (inr (away-next away (vnode-there run index w orderly number action r p away.site fallback fallback_log m away.vnode))))
             ]
           ]
     ]
@@ -177,37 +177,42 @@ module _ (run index : ℕ) (w : World) (orderly : IsOrderly w) (number : ℕ) (a
 
   pub record IsNamed (key : Key) (context : Context) (site : ℕ) : Type 0 where
     pub at : p.index ≡ site
-    pub name : context ≡ (naming {V = Content} p.turn.vnode.id p.turn.vnode.last_epoch).name p.turn.vnode.history key
+    pub name : context ≡ (naming {V = Content} p.turn.vnode.id p.turn.vnode.last_epoch).name (history_of p.turn.vnode) key
 
   named-now : (key : Key) (context : Context) (s : IsShownNow key context) → IsNamed key context s.site
   named-now key context s =
       let a = reply_is w orderly number action r p (Ok s.response) s.replied in
       let same : a.0 ≡ s.call = some_same a.0 s.call (sym a.1 ∙ s.asked) in
       let t = turn w orderly number action r p in
-      let name = held_shows p.vnode.id p.vnode.last_epoch p.turn.vnode.history (key_of a.0.ask) (context_bytes s.response) context (orderly.vnodes p.index p.vnode p.vnode_is).limits
-      t.replays a.2.shows s.decodes in
+      let name = held_shows p.vnode.id p.vnode.last_epoch (history_of p.turn.vnode) (key_of a.0.ask) (context_bytes s.response) context (orderly.vnodes p.index p.vnode p.vnode_is).limits
+      (replays_next w orderly number action r p) (a.2.shows (plain w orderly number action r p)) s.decodes in
       record {
         at = sym a.2.at ∙ ap (λ (c : Call). c.site) same ∙ s.at;
         name = name
-            ∙ ap (λ k. (naming {V = Content} p.vnode.id p.vnode.last_epoch).name p.turn.vnode.history k) (ap (λ (c : Call). key_of c.ask) same ∙ s.of_key)
-            ∙ ap (λ i. (naming {V = Content} i p.vnode.last_epoch).name p.turn.vnode.history key) (sym t.same_id)
-            ∙ ap (λ e. (naming {V = Content} p.turn.vnode.id e).name p.turn.vnode.history key) (sym t.same_epoch);
+            ∙ ap (λ k. (naming {V = Content} p.vnode.id p.vnode.last_epoch).name (history_of p.turn.vnode) k) (ap (λ (c : Call). key_of c.ask) same ∙ s.of_key)
+            ∙ ap (λ i. (naming {V = Content} i p.vnode.last_epoch).name (history_of p.turn.vnode) key) (sym t.same_id)
+            ∙ ap (λ e. (naming {V = Content} p.turn.vnode.id e).name (history_of p.turn.vnode) key) (sym t.same_epoch);
       }
 
   -- by the vnode at its site afterwards
-  name-at : (key : Key) (context : Context) (site id : ℕ) (history : History) → IsNamed key context site → IsVnode next site id history
-      → context ≡ (naming {V = Content} id 0).name history key
-  name-at key context site id history n v =
-      let same : p.turn.vnode ≡ v.vnode = some_same p.turn.vnode v.vnode
-      (sym (vnode-now n.at) ∙ v.there) in
+  vnode-now : (site id : ℕ) (log : Log) → p.index ≡ site → (v : IsVnode next site id log) → p.turn.vnode ≡ v.vnode
+  vnode-now site id log e v = some_same p.turn.vnode v.vnode (sym (ap (λ k. slice_get next.vnodes k) (sym e) ∙ set-here w.vnodes p.index p.vnode p.turn.vnode p.vnode_is) ∙ v.there)
+
+  -- its log is of commands alone
+  only-now : (site id : ℕ) (log : Log) → p.index ≡ site → IsVnode next site id log → log ≡ all_commands (commands_of log)
+  only-now site id log e v =
+      subst (λ (l : Log). l ≡ all_commands (commands_of l)) (ap (λ (x : Vnode). x.log) (vnode-now site id log e v) ∙ v.log_is)
+      ((turn w orderly number action r p).plain (plain w orderly number action r p)).commands
+
+  name-at : (key : Key) (context : Context) (site id : ℕ) (log : Log) → IsNamed key context site → IsVnode next site id log
+      → context ≡ (naming {V = Content} id 0).name (commands_of log) key
+  name-at key context site id log n v =
+      let same = vnode-now site id log n.at v in
       n.name
-      ∙ ap (λ (x : Vnode). (naming {V = Content} x.id x.last_epoch).name x.history key) same
-      ∙ ap (λ i. (naming {V = Content} i v.vnode.last_epoch).name v.vnode.history key) v.id_is
-      ∙ ap (λ e. (naming {V = Content} id e).name v.vnode.history key) v.epoch_is
-      ∙ ap (λ h. (naming {V = Content} id 0).name h key) v.history_is
-    where
-      vnode-now : p.index ≡ site → slice_get next.vnodes site ≡ Some p.turn.vnode
-      vnode-now e = ap (λ k. slice_get next.vnodes k) (sym e) ∙ set-here w.vnodes p.index p.vnode p.turn.vnode p.vnode_is
+      ∙ ap (λ (x : Vnode). (naming {V = Content} x.id x.last_epoch).name (history_of x) key) same
+      ∙ ap (λ i. (naming {V = Content} i v.vnode.last_epoch).name (history_of v.vnode) key) v.id_is
+      ∙ ap (λ e. (naming {V = Content} id e).name (history_of v.vnode) key) v.epoch_is
+      ∙ ap (λ (l : Log). (naming {V = Content} id 0).name (commands_of l) key) v.log_is
 
   shown-now : (later : Course) → Next later → (key : Key) (context : Context) → IsShownNow key context → WasShown (partition_at run index) later key context
   shown-now later goes key context s =
@@ -215,13 +220,16 @@ module _ (run index : ℕ) (w : World) (orderly : IsOrderly w) (number : ℕ) (a
       record { later = []; moment = later; is = refl; shown = by named s.there }
     where
       at_primary : IsNamed key context index → context ≡ name_at (partition_at run index) (primary_of (partition_at run index) later) key
-      at_primary named = name-at key context index primary goes.history named goes.vnode ∙ sym (name-primary run index later goes.history key goes.log)
+      at_primary named =
+          let log = primary_of (partition_at run index) later in
+          name-at key context index primary log named goes.vnode ∙ sym (name-primary run index later (commands_of log) key (only-now index primary log named.at goes.vnode))
 
       at_route : (site : ℕ) → IsNamed key context site → slice_get w.routes index ≡ Some site → IsOwn run index next later ⊎ IsAway run index next later
           → (context ≡ name_at (partition_at run index) (primary_of (partition_at run index) later) key) ⊎ (context ≡ Pairs (clock_of (fallback_state (partition_at run index) later) key).known)
       at_route site named route (inl own) = inl (at_primary (subst (λ k. IsNamed key context k) (some_same site index (sym route ∙ own.route_is)) named))
       at_route site named route (inr away) =
-          inr (name-at key context away.site fallback (fallback_of later 1) (subst (λ k. IsNamed key context k) (some_same site away.site (sym route ∙ away.route_is)) named) away.vnode
+          inr (name-at key context away.site fallback (all_commands (fallback_of later 1)) (subst (λ k. IsNamed key context k) (some_same site away.site (sym route ∙ away.route_is)) named) away.vnode
+          ∙ ap (λ (h : History). (naming {V = Content} fallback 0).name h key) (commands-all (fallback_of later 1))
           ∙ ap (λ (x : State Content). Pairs (clock_of x key).known) (sym (state-fallback run index later (fallback_of later 1) away.one refl)))
 
       by : IsNamed key context s.site → IsSiteOf w index s.site
@@ -258,10 +266,8 @@ module _ (run index : ℕ) (w : World) (orderly : IsOrderly w) (number : ℕ) (a
   run-next later goes Later splits = record {
     known = run_is.known;
     apart = run_is.apart;
-    history = goes.history;
     vnode = goes.vnode;
     may_happen = goes.may_happen;
-    log = goes.log;
     side = goes.side;
     shown = λ key context s. elim (splits key context s) [
       | inl now ↦ shown-now later goes key context now

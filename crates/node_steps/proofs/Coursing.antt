@@ -7,49 +7,46 @@ use Rattle.sibling_register.specs.History.{Event, is_update}
 use Rattle.sibling_register.specs.Answers.{Ask}
 use Rattle.actor_epoch.specs.Given.{Context, Pairs}
 use Rattle.vnode_machine.specs.Machine.{clock_of}
-use Rattle.vnode_machine.specs.Replay.{History, replay, naming, seen_by, HasReplay, Accepts}
+use Rattle.vnode_machine.specs.Replay.{History, replay, naming, seen_by, Accepts}
 use Rattle.vnode_machine.specs.Registers.{key_of, context_in_ask}
-use Rattle.copy_laws.specs.Copies.{Command, all_commands}
+use Rattle.copy_laws.specs.Copies.{Command, all_commands, commands_of}
+use Rattle.copy_laws.specs.Joining.{Log}
 use Rattle.copy_laws.specs.Sides.{Partition}
-use Rattle.copy_laws.specs.CopyReplay.{name_at, AcceptsEntry}
+use Rattle.copy_laws.specs.CopyReplay.{name_at, seen_at}
 use Rattle.copy_laws.specs.Diversions.{Course, Happening, AtPrimary, AtFallback, diversions_of, is_diverted, fallback_of, fallback_state, primary_of, WasShown, MayHappen, Happens}
 use Rattle.copy_laws.proofs.Fallback.{log-replay}
-use Rattle.node_steps.specs.World.{Phase, Idle, Asked, Reading, Holding, Done, Vnode, Worker, World, Call, call_of}
-use Rattle.node_steps.specs.Steps.{Action, Asks, Enters, is_reap, Outcome, NotPossible, Happened, Replied, seeing, turned, site_of}
+use Rattle.node_steps.specs.World.{Vnode, Worker, World, Call, call_of}
+use Rattle.node_steps.specs.Steps.{Action, Asks, is_reap, Outcome, NotPossible, Happened, Replied, seeing, turned}
 use Rattle.node_steps.specs.Contexts.{given_in}
 use Rattle.node_steps.specs.Courses.{partition_of, IsSiteOf}
 use Rattle.node_steps.proofs.Lists.{set-here, set-there, same_or_other, get-below}
-use Rattle.node_steps.proofs.Inside.{other_test}
-use Rattle.node_steps.proofs.Turns.{CallIs, Comes}
-use Rattle.node_steps.proofs.Kept.{IsOrderly, IsPossible, about_site}
-use Rattle.node_steps.proofs.Lifting.{here, turn}
+use Rattle.node_steps.proofs.Inside.{state_of, other_test}
+use Rattle.node_steps.proofs.Coming.{CallIs, Comes}
+use Rattle.node_steps.proofs.Kept.{IsOrderly, IsPossible}
+use Rattle.node_steps.proofs.Lifting.{here, turn, plain}
 use Rattle.node_steps.proofs.Unmixed.{seen-same}
 
 pub some_same : {X : Type 0} (a b : X) → Some a ≡ Some b → a ≡ b
 some_same a b h = cc
 
--- the vnode at a site has this id, was opened behind no epoch, and has this history
-pub record IsVnode (w : World) (site id : ℕ) (history : History) : Type 0 where
+-- the vnode at a site has this id, was opened behind no epoch, and has this log
+pub record IsVnode (w : World) (site id : ℕ) (log : Log) : Type 0 where
   pub vnode : Vnode
   pub there : slice_get w.vnodes site ≡ Some vnode
   pub id_is : vnode.id ≡ id
   pub epoch_is : vnode.last_epoch ≡ 0
-  pub history_is : vnode.history ≡ history
+  pub log_is : vnode.log ≡ log
+
+-- the commands of commands alone
+pub commands-all : (history : History) → commands_of (all_commands history) ≡ history
+commands-all [] = refl
+commands-all (event ∷ before) = ap (λ (rest : History). event ∷ rest) (commands-all before)
 
 pub none_call : (call : Call) → None ≡ Some call → ⊥
 none_call call h = cc
 
 too_far : (site away other n : ℕ) → site ≡ away → n ≤ away → other < n → site ≢ other
 too_far site away other n e h k = λ f. absurd (omega (arith, e, h, k, f))
-
--- a worker that does something at a site has a call there, or gets it
-had_call : (action : Action) (phase : Phase) (site : ℕ) → site_of action phase ≡ Some site → (site_of Enters phase ≡ Some site) ⊎ ((ask : Ask Content Context) × (action ≡ Asks site ask))
-had_call (Asks other ask) Idle site h = inr (ask, ap (λ s. Asks s ask) (some_same other site h))
-had_call action Idle site h = cc
-had_call action (Asked other ask) site h = inl h
-had_call action (Reading other get) site h = inl h
-had_call action (Holding other ask hand plan) site h = inl h
-had_call action (Done other hand) site h = inl h
 
 module _ (run index : ℕ) where
   abbrev partition : Partition
@@ -72,8 +69,8 @@ module _ (run index : ℕ) where
     pub other : index ≢ site
     pub diverted : is_diverted course ≡ true
     pub one : diversions_of course ≡ 1
-    pub vnode : IsVnode w site partition.fallback (fallback_of course 1)
-    pub alone : (place : ℕ) (worker : Worker) → slice_get w.workers place ≡ Some worker → site_of Enters worker.phase ≡ Some index → ⊥
+    pub vnode : IsVnode w site partition.fallback (all_commands (fallback_of course 1))
+    pub alone : (place : ℕ) (worker : Worker) → slice_get w.workers place ≡ Some worker → (call : Call) → call_of worker.phase ≡ Some call → call.site ≡ index → ⊥
     pub updates : (place : ℕ) (worker : Worker) → slice_get w.workers place ≡ Some worker → (call : Call) → call_of worker.phase ≡ Some call
         → call.site ≡ site → is_reap call.ask ≡ false
 
@@ -81,10 +78,8 @@ module _ (run index : ℕ) where
   pub record IsRun (w : World) (course : Course) (Shown : Key → Context → Type 0) : Type 0 where
     pub known : index < length w.routes
     pub apart : (other site : ℕ) → slice_get w.routes other ≡ Some site → (site ≡ other) ⊎ (length w.routes ≤ site)
-    pub history : History
-    pub vnode : IsVnode w index partition.primary history
+    pub vnode : IsVnode w index partition.primary (primary_of partition course)
     pub may_happen : Happens partition course
-    pub log : primary_of partition course ≡ all_commands history
     pub side : IsOwn w course ⊎ IsAway w course
     pub shown : (key : Key) (context : Context) → Shown key context → WasShown partition course key context
     pub calls : (place : ℕ) (worker : Worker) → slice_get w.workers place ≡ Some worker → (call : Call) → call_of worker.phase ≡ Some call
@@ -111,45 +106,47 @@ module _ (run index : ℕ) where
     next = turned w (pred number) p.index p.worker p.turn
 
     -- what becomes of a vnode: elsewhere nothing
-    pub vnode-there : (site id : ℕ) (history : History) → p.index ≢ site → IsVnode w site id history → IsVnode next site id history
-    vnode-there site id history n v = record {
+    pub vnode-there : (site id : ℕ) (log : Log) → p.index ≢ site → IsVnode w site id log → IsVnode next site id log
+    vnode-there site id log n v = record {
       vnode = v.vnode;
       there = set-there w.vnodes p.index site p.turn.vnode n ∙ v.there;
       id_is = v.id_is;
       epoch_is = v.epoch_is;
-      history_is = v.history_is;
+      log_is = v.log_is;
     }
 
-    pub is_there : (site id : ℕ) (history : History) → p.index ≡ site → (v : IsVnode w site id history) → p.vnode ≡ v.vnode
-    is_there site id history e v = some_same p.vnode v.vnode (sym p.vnode_is ∙ ap (λ k. slice_get w.vnodes k) e ∙ v.there)
+    pub is_there : (site id : ℕ) (log : Log) → p.index ≡ site → (v : IsVnode w site id log) → p.vnode ≡ v.vnode
+    is_there site id log e v = some_same p.vnode v.vnode (sym p.vnode_is ∙ ap (λ k. slice_get w.vnodes k) e ∙ v.there)
 
-    pub vnode-here : (site id : ℕ) (history : History) → p.index ≡ site → IsVnode w site id history → IsVnode next site id p.turn.vnode.history
-    vnode-here site id history e v =
-        let same = is_there site id history e v in
+    pub vnode-here : (site id : ℕ) (log : Log) → p.index ≡ site → IsVnode w site id log → IsVnode next site id p.turn.vnode.log
+    vnode-here site id log e v =
+        let same = is_there site id log e v in
         record {
           vnode = p.turn.vnode;
           there = ap (λ k. slice_get next.vnodes k) (sym e) ∙ set-here w.vnodes p.index p.vnode p.turn.vnode p.vnode_is;
           id_is = (turn w orderly number action r p).same_id ∙ ap (λ (x : Vnode). x.id) same ∙ v.id_is;
           epoch_is = (turn w orderly number action r p).same_epoch ∙ ap (λ (x : Vnode). x.last_epoch) same ∙ v.epoch_is;
-          history_is = refl;
+          log_is = refl;
         }
 
-    -- the history has an event of the worker's call more
+    -- the log has an event of the worker's call more
     pub record Grows : Type 0 where
       pub event : Event Content Context
       pub call : Call
       pub asked : call_of p.worker.phase ≡ Some call
       pub at : call.site ≡ p.index
-      pub is : p.turn.vnode.history ≡ event ∷ p.vnode.history
+      pub is : p.turn.vnode.log ≡ Command event ∷ p.vnode.log
       pub key_is : event.key ≡ key_of call.ask
       pub context_is : event.context ≡ context_in_ask call.ask
       pub update : is_reap call.ask ≡ false → is_update event.operation ≡ true
+      pub accepts : Accepts (state_of p.vnode.id p.vnode.last_epoch p.vnode.log) event.key event.context event.operation
+      pub saw : event.saw ≡ seen_by p.vnode.id p.vnode.last_epoch (commands_of p.vnode.log) event.key event.context event.operation
 
-    pub grown : (p.turn.vnode.history ≡ p.vnode.history) ⊎ Grows
+    pub grown : (p.turn.vnode.log ≡ p.vnode.log) ⊎ Grows
     grown = by p.turn.outcome (turn w orderly number action r p).comes
       where
-        by : (came : Outcome) → Comes p.vnode.id p.vnode.last_epoch p.index (call_of p.worker.phase) p.vnode.history p.turn came
-            → (p.turn.vnode.history ≡ p.vnode.history) ⊎ Grows
+        by : (came : Outcome) → Comes p.vnode.id p.vnode.last_epoch p.index (call_of p.worker.phase) p.vnode.log p.turn came
+            → (p.turn.vnode.log ≡ p.vnode.log) ⊎ Grows
         by NotPossible h = absurd h
         by Happened h = inl h
         by (Replied reply) h = elim h.2.event [
@@ -163,15 +160,19 @@ module _ (run index : ℕ) where
             key_is = made.2;
             context_is = made.3;
             update = made.4;
+            accepts = made.5;
+            saw = made.6;
           })
         ]
 
-    replays-event : (g : Grows) (id : ℕ) (history : History) → p.vnode.id ≡ id → p.vnode.last_epoch ≡ 0 → p.vnode.history ≡ history → HasReplay id 0 (g.event ∷ history)
-    replays-event g id history i e h =
-        subst (λ hist. HasReplay id 0 (g.event ∷ hist)) h
-        (subst (λ last. HasReplay id last (g.event ∷ p.vnode.history)) e
-        (subst (λ j. HasReplay j p.vnode.last_epoch (g.event ∷ p.vnode.history)) i
-        (subst (λ hist. HasReplay p.vnode.id p.vnode.last_epoch hist) g.is (turn w orderly number action r p).replays)))
+    -- what holds by the vnode's id, its epoch and its log holds by those that it is known to have
+    as-known : (site id : ℕ) (log : Log) → p.index ≡ site → IsVnode w site id log → (Holds : (id epoch : ℕ) → Log → Type 0)
+        → Holds p.vnode.id p.vnode.last_epoch p.vnode.log → Holds id 0 log
+    as-known site id log e v Holds h =
+        let same = is_there site id log e v in
+        subst (λ l. Holds id 0 l) (ap (λ (x : Vnode). x.log) same ∙ v.log_is)
+        (subst (λ n. Holds id n p.vnode.log) (ap (λ (x : Vnode). x.last_epoch) same ∙ v.epoch_is)
+        (subst (λ i. Holds i p.vnode.last_epoch p.vnode.log) (ap (λ (x : Vnode). x.id) same ∙ v.id_is) h))
 
     module _ (course : Course) (Shown : Key → Context → Type 0) (run_is : IsRun w course Shown)
         (gives : (site : ℕ) → IsSiteOf w index site → (key : Key) (context : Context) → given_in action site key ≡ Some context → Shown key context)
@@ -185,15 +186,16 @@ module _ (run index : ℕ) where
       -- an event at the primary may happen
       pub at-primary : (g : Grows) → p.index ≡ index → IsOwn w course → MayHappen partition course (AtPrimary g.event)
       at-primary g at own =
-          let same = is_there index partition.primary run_is.history at run_is.vnode in
+          let log = primary_of partition course in
           let event = g.event in
-          let replays : HasReplay partition.primary 0 (event ∷ run_is.history) = replays-event g partition.primary run_is.history
-          (ap (λ (x : Vnode). x.id) same ∙ run_is.vnode.id_is) (ap (λ (x : Vnode). x.last_epoch) same ∙ run_is.vnode.epoch_is)
-          (ap (λ (x : Vnode). x.history) same ∙ run_is.vnode.history_is) in (
+          let known = as-known index partition.primary log at run_is.vnode in
+          let only : log ≡ all_commands (commands_of log) = known (λ id epoch l. l ≡ all_commands (commands_of l)) (plain w orderly number action r p).commands in (
             own.not_diverted,
-            subst (λ log. AcceptsEntry partition log (Command event)) (sym run_is.log) (
-              subst (λ s. Accepts s event.key event.context event.operation) (sym (log-replay partition.primary 0 run_is.history)) replays.1,
-              replays.2 ∙ sym (seen-same run index run_is.history event.key event.context event.operation),
+            (
+              known (λ id epoch l. Accepts (state_of id epoch l) event.key event.context event.operation) g.accepts,
+              subst (λ l. event.saw ≡ seen_at partition l event.key event.context event.operation) (sym only)
+                  (known (λ id epoch l. event.saw ≡ seen_by id epoch (commands_of l) event.key event.context event.operation) g.saw
+                  ∙ sym (seen-same run index (commands_of log) event.key event.context event.operation)),
             ),
             gives-event g (inl at),
           )
@@ -201,15 +203,16 @@ module _ (run index : ℕ) where
       -- and one at the fallback
       pub at-fallback : (g : Grows) (away : IsAway w course) → p.index ≡ away.site → MayHappen partition course (AtFallback g.event)
       at-fallback g away at =
-          let same = is_there away.site partition.fallback (fallback_of course 1) at away.vnode in
+          let history = fallback_of course 1 in
           let event = g.event in
-          let replays : HasReplay partition.fallback 0 (event ∷ fallback_of course 1) = replays-event g partition.fallback (fallback_of course 1)
-          (ap (λ (x : Vnode). x.id) same ∙ away.vnode.id_is) (ap (λ (x : Vnode). x.last_epoch) same ∙ away.vnode.epoch_is)
-          (ap (λ (x : Vnode). x.history) same ∙ away.vnode.history_is) in (
+          let known = as-known away.site partition.fallback (all_commands history) at away.vnode in (
             away.diverted,
             g.update (away.updates (pred number) p.worker (here w orderly number action r p) g.call g.asked (g.at ∙ at)),
-            subst (λ s. Accepts s event.key event.context event.operation) (sym (state-fallback course (fallback_of course 1) away.one refl)) replays.1,
-            replays.2 ∙ ap (λ n. seen_by partition.fallback 0 (fallback_of course n) event.key event.context event.operation) (sym away.one),
+            subst (λ s. Accepts s event.key event.context event.operation) (log-replay partition.fallback 0 history ∙ sym (state-fallback course history away.one refl))
+                (known (λ id epoch l. Accepts (state_of id epoch l) event.key event.context event.operation) g.accepts),
+            subst (λ h. event.saw ≡ seen_by partition.fallback 0 h event.key event.context event.operation) (commands-all history)
+                (known (λ id epoch l. event.saw ≡ seen_by id epoch (commands_of l) event.key event.context event.operation) g.saw)
+                ∙ ap (λ n. seen_by partition.fallback 0 (fallback_of course n) event.key event.context event.operation) (sym away.one),
             gives-event g (inr (away.route_is ∙ ap (λ s. Some s) (sym at))),
           )
 
@@ -232,16 +235,19 @@ module _ (run index : ℕ) where
             | inr past ↦ absurd (omega (arith, past, run_is.known))
           ]
 
-      pub alone-next : (away : IsAway w course) (place : ℕ) (worker : Worker) → slice_get next.workers place ≡ Some worker → site_of Enters worker.phase ≡ Some index → ⊥
-      alone-next away place worker h about = elim (worker-next place worker h) [
-        | inl e ↦
-            let at : p.index ≡ index = about_site p.index p.turn.phase (turn w orderly number action r p).at index (ap (λ (x : Worker). site_of Enters x.phase) e ∙ about) in
-            elim (had_call action p.worker.phase index (p.site_is ∙ ap (λ s. Some s) at)) [
-              | inl had ↦ away.alone (pred number) p.worker (here w orderly number action r p) had
-              | inr asks ↦ not_sent away asks.0 asks.1
-            ]
-        | inr old ↦ away.alone place worker old about
+      pub alone-next : (away : IsAway w course) (place : ℕ) (worker : Worker) → slice_get next.workers place ≡ Some worker → (call : Call) → call_of worker.phase ≡ Some call
+          → call.site ≡ index → ⊥
+      alone-next away place worker h call asked at = elim (worker-next place worker h) [
+        | inl e ↦ by (turn w orderly number action r p).call (ap (λ (x : Worker). call_of x.phase) e ∙ asked)
+        | inr old ↦ away.alone place worker old call asked at
       ]
+        where
+          by : CallIs action (call_of p.worker.phase) (call_of p.turn.phase) → call_of p.turn.phase ≡ Some call → ⊥
+          by (inl same) k = away.alone (pred number) p.worker (here w orderly number action r p) call (sym same ∙ k) at
+          by (inr (inl none)) k = none_call call (sym none ∙ k)
+          by (inr (inr new)) k =
+              let same : new.0 ≡ call = some_same new.0 call (sym new.1 ∙ k) in
+              not_sent away call.ask (new.2 ∙ ap (λ (c : Call). Asks c.site c.ask) same ∙ ap (λ s. Asks s call.ask) at)
 
       pub updates-next : (away : IsAway w course) (place : ℕ) (worker : Worker) → slice_get next.workers place ≡ Some worker → (call : Call) → call_of worker.phase ≡ Some call
           → call.site ≡ away.site → is_reap call.ask ≡ false
@@ -270,7 +276,5 @@ module _ (run index : ℕ) where
       pub record IsNext (later : Course) : Type 0 where
         pub still : (key : Key) (context : Context) → WasShown partition course key context → WasShown partition later key context
         pub may_happen : Happens partition later
-        pub history : History
-        pub vnode : IsVnode next index partition.primary history
-        pub log : primary_of partition later ≡ all_commands history
+        pub vnode : IsVnode next index partition.primary (primary_of partition later)
         pub side : IsOwn next later ⊎ IsAway next later

@@ -5,15 +5,15 @@ use Rattle.std.specs.List.{list_all}
 use Rattle.std.proofs.lemmas.Bool.Decides.{nat_tests}
 use Rattle.riak_msgs.specs.Contents.{Content}
 use Rattle.vnode_machine.specs.Machine.{State}
-use Rattle.vnode_machine.specs.Replay.{History, replay, IsWithinLimits}
-use Rattle.vnode_machine.proofs.Steps.{known}
+use Rattle.vnode_machine.specs.Replay.{IsWithinLimits}
+use Rattle.copy_laws.specs.Joining.{Log}
 use Rattle.node_steps.specs.World.{Word, Open, Taken, Phase, Idle, Asked, Reading, Holding, Done, Vnode, Worker, World, fresh_vnode}
-use Rattle.node_steps.specs.Steps.{Enters, site_of, is_about, fallback_ids, diverted_by, diverted}
+use Rattle.node_steps.specs.Steps.{is_about, fallback_ids, diverted_by, diverted}
 use Rattle.node_steps.specs.Erased.{erase_place}
 use Rattle.node_steps.proofs.Lists.{how_many, get-below, get-more, length-set, length-more, none_counted, each_passes}
 use Rattle.node_steps.proofs.Beginnings.{begins-itself}
 use Rattle.node_steps.specs.Schedules.{Begins}
-use Rattle.node_steps.proofs.Inside.{is_reader, is_holder, reads, holds, FitsWord, IsInPlace, other_test, no_hand, IsSound, sound-fresh, IsAware}
+use Rattle.node_steps.proofs.Inside.{is_reader, is_holder, reads, holds, FitsWord, state_of, state-vnode, IsInPlace, no_hand, IsSound, sound-fresh, IsPlain, plain-fresh, IsAware}
 use Rattle.node_steps.proofs.Kept.{IsOrderly, and_then_some}
 
 same_number : (a b : ℕ) → (a == b) ≡ true → a ≡ b
@@ -56,22 +56,14 @@ not_inside index (Holding other ask hand plan) h = (refl, h)
 not_inside index (Done other None) h = (h, refl)
 not_inside index (Done other (Some hand)) h = (refl, h)
 
--- nor who has one at others alone
-not_there : (index : ℕ) (phase : Phase) → ((site : ℕ) → site_of Enters phase ≡ Some site → site ≢ index) → is_about index phase ≡ false
-not_there index Idle h = refl
-not_there index (Asked other ask) h = other_test other index (h other refl)
-not_there index (Reading other get) h = other_test other index (h other refl)
-not_there index (Holding other ask hand plan) h = other_test other index (h other refl)
-not_there index (Done other hand) h = other_test other index (h other refl)
-
 below_not : (site n : ℕ) → site < n → site ≢ n
 below_not site n h = λ e. absurd (omega (arith, e, h))
 
 -- where nobody holds the state it is in place
-in_place : (word : Word) (readers holders : ℕ) → FitsWord word readers holders → holders ≡ 0 → (id epoch : ℕ) (history : History) (place : State Content)
-    → IsInPlace id epoch word history place → place ≡ replay id epoch history
-in_place (Open n mark) readers holders f h id epoch history place p = p
-in_place Taken readers holders f h id epoch history place p = absurd (omega (arith, f.1, h))
+in_place : (word : Word) (readers holders : ℕ) → FitsWord word readers holders → holders ≡ 0 → (id epoch : ℕ) (log : Log) (place : State Content)
+    → IsInPlace id epoch word log place → place ≡ state_of id epoch log
+in_place (Open n mark) readers holders f h id epoch log place p = p
+in_place Taken readers holders f h id epoch log place p = absurd (omega (arith, f.1, h))
 
 erased_there : (word : Word) (readers holders : ℕ) → FitsWord word readers holders → holders ≡ 0 → (place : State Content) → erase_place word place ≡ place
 erased_there (Open n mark) readers holders f h place = refl
@@ -118,12 +110,16 @@ module _ (w : World) (orderly : IsOrderly w) (index : ℕ) (primary : Vnode) (th
   id_is =
       let sound = orderly.vnodes index primary there in
       let place = in_place primary.word (how_many (reads index) w.workers) (how_many (holds index) w.workers) sound.word holders_none
-      primary.id primary.last_epoch primary.history primary.place sound.place in
-      ap (λ (s : State Content). s.vnode) place ∙ (known primary.id primary.last_epoch primary.history sound.replays).vnode
+      primary.id primary.last_epoch primary.log primary.place sound.place in
+      ap (λ (s : State Content). s.vnode) place ∙ state-vnode primary.id primary.last_epoch primary.log
 
   -- nobody has a call at the new site
   nobody_new : (place : ℕ) (worker : Worker) → slice_get w.workers place ≡ Some worker → is_about new_site worker.phase ≡ false
-  nobody_new place worker h = not_there new_site worker.phase (λ site s. below_not site new_site (orderly.about place worker h site s))
+  nobody_new place worker h = by (is_about new_site worker.phase) refl
+    where
+      by : (b : Bool) → is_about new_site worker.phase ≡ b → is_about new_site worker.phase ≡ false
+      by true e = absurd (below_not new_site new_site (orderly.about place worker h new_site e) refl)
+      by false e = e
 
   sound_new : index < length w.routes → IsSound (how_many (reads new_site) w.workers) (how_many (holds new_site) w.workers) fallback
   sound_new below =
@@ -147,8 +143,12 @@ module _ (w : World) (orderly : IsOrderly w) (index : ℕ) (primary : Vnode) (th
     ];
     workers = λ place worker k other v h. elim (get-more w.vnodes fallback other v h) [
       | inl e ↦ orderly.workers place worker k other v e
-      | inr e ↦ subst (λ n. IsAware v.id v.last_epoch n v.history worker) (sym e.0)
-          (subst (λ (u : Vnode). IsAware u.id u.last_epoch new_site u.history worker) e.1 (aware_new place worker k))
+      | inr e ↦ subst (λ n. IsAware v.id v.last_epoch n v.log worker) (sym e.0)
+          (subst (λ (u : Vnode). IsAware u.id u.last_epoch new_site u.log worker) e.1 (aware_new place worker k))
+    ];
+    plain = λ other v h. elim (get-more w.vnodes fallback other v h) [
+      | inl e ↦ orderly.plain other v e
+      | inr e ↦ subst (λ (u : Vnode). IsPlain u.id u.last_epoch u.log) e.1 (plain-fresh fallback.id 0)
     ];
     bounds = λ other v below h.
         let old_below : other < length w.routes = subst (λ n. other < n) (length-set w.routes index new_site) below in

@@ -10,6 +10,7 @@ use Rattle.sibling_register.specs.Answers.{Ask, AskGet, AskPut, AskDel, AskReap}
 use Rattle.actor_epoch.specs.Given.{Context}
 use Rattle.vnode_machine.specs.Machine.{State}
 use Rattle.vnode_machine.specs.Replay.{History}
+use Rattle.copy_laws.specs.Joining.{Log}
 use Rattle.vnode_machine.specs.Step.{StepOutcome, Refused, Answered, Accepted, outcome as outcome_of_ask}
 use Rattle.node_steps.specs.World.{Word, Open, Taken, Phase, Idle, Asked, Reading, Holding, Done, Vnode, Worker, World, fresh_vnode, worker_at, route, seen_at}
 use Rattle.node_steps.specs.Steps.{Action, Asks, AsksNowhere, Enters, Leaves, Marks, Unmarks, Takes, Puts, Looks, Publishes, Step, By, Diverts, Outcome, NotPossible, Happened, Turn, looks_by, turn_of, routed, site_of, seeing, turned, does, is_about, fallback_ids, diverted_by, diverted, happens, after, outcome}
@@ -28,11 +29,11 @@ place_twice (Open n mark) place = refl
 place_twice Taken place = refl
 
 vnode_twice : (vnode : Vnode) → erase_vnode (erase_vnode vnode) ≡ erase_vnode vnode
-vnode_twice vnode = ap (λ p. record { id = 0; last_epoch = 0; word = vnode.word; history = []; place = p }) (place_twice vnode.word vnode.place)
+vnode_twice vnode = ap (λ p. record { id = 0; last_epoch = 0; word = vnode.word; log = []; place = p }) (place_twice vnode.word vnode.place)
 
-module _ (id epoch : ℕ) (seen history : History) (place : State Content) where
+module _ (id epoch : ℕ) (seen : History) (log : Log) (place : State Content) where
   abbrev vnode_in : Word → Vnode
-  vnode_in word = record { id = id; last_epoch = epoch; word = word; history = history; place = place }
+  vnode_in word = record { id = id; last_epoch = epoch; word = word; log = log; place = place }
 
   abbrev Same : Word → Action → Phase → Type 0
   Same word action phase =
@@ -245,7 +246,7 @@ module _ (w : World) (orderly : IsOrderly w) (number : ℕ) (action : Action) wh
       by_turn (result w worker index) (turned_erased w (pred number) index) (turned_is w (pred number) index worker)
       (turn_of (seen_at worker.seen index) vnode action worker.phase)
       ∙ ap (λ o. option_map (turned_erased w (pred number) index) o)
-      (turn_erased vnode.id vnode.last_epoch (seen_at worker.seen index) vnode.history vnode.place vnode.word action worker.phase (shown_at w orderly action number index worker vnode here at there))
+      (turn_erased vnode.id vnode.last_epoch (seen_at worker.seen index) vnode.log vnode.place vnode.word action worker.phase (shown_at w orderly action number index worker vnode here at there))
       ∙ sym (by_turn (result (erase w) (erase_worker worker) index) (turned_erased w (pred number) index)
       (erased_turned_is w (pred number) index (erase_worker worker)) (turn_of [] (erase_vnode vnode) action worker.phase))
 

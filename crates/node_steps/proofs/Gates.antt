@@ -11,7 +11,9 @@ use Rattle.rw_gate.specs.Machines.{MachineRun}
 use Rattle.vnode_protocol.specs.declared.event.Event.{Event}
 use Rattle.vnode_protocol.specs.declared.entry.Entry.TheVariants.{Command as Commanded}
 use Rattle.vnode_protocol.specs.Events.{all_commands, Makes, event_command, event_deed, event_response, register_event, history_after}
-use Rattle.node_steps.specs.World.{Word, Open, Taken, Plan, Phase, Idle, Asked, Holding, Done, Vnode, Worker, World, fresh_vnode, fresh_worker, id_of, route, history_at, seen_at}
+use Rattle.copy_laws.specs.Copies.{Command, commands_of}
+use Rattle.copy_laws.specs.Joining.{Log}
+use Rattle.node_steps.specs.World.{Word, Open, Taken, Plan, Phase, Idle, Asked, Holding, Done, Vnode, Worker, World, fresh_vnode, fresh_worker, id_of, route, history_at, seen_at, history_of}
 use Rattle.node_steps.specs.Steps.{Action, Asks, Takes, Looks, Publishes, Puts, Step, By, Outcome, Turn, looks_by, turn_of, routed, site_of, seeing, turned, happens, after}
 use Rattle.node_steps.specs.Schedules.{Start, world_after}
 use Rattle.node_steps.specs.Gates.{RunsAreScheduled}
@@ -54,46 +56,46 @@ moved w asked action index phase vnode next new sent site turns (worker, here, i
     )
 
 module _ (start : Start) (index id : ℕ) where
-  abbrev vnode_with : Word → History → State Content → Vnode
-  vnode_with word history place = record { id = id; last_epoch = 0; word = word; history = history; place = place }
+  abbrev vnode_with : Word → Log → State Content → Vnode
+  vnode_with word log place = record { id = id; last_epoch = 0; word = word; log = log; place = place }
 
   -- after a schedule the first worker is idle, and the vnode is this
-  abbrev IsReachable : History → State Content → Type 0
-  IsReachable history state = (schedule : List Step) × IsThere (world_after start schedule) index Idle (vnode_with (Open 0 false) history state)
+  abbrev IsReachable : Log → State Content → Type 0
+  IsReachable log state = (schedule : List Step) × IsThere (world_after start schedule) index Idle (vnode_with (Open 0 false) log state)
 
   abbrev plan_of_event : Event → State Content → Plan
   plan_of_event event next = record { operation = event_deed event; response = event_response event; next = next }
 
   -- one event more
-  one_event : (history : History) (state next : State Content) (event : Event) → Makes state (Commanded event) next → IsReachable history state
-      → IsReachable (register_event id 0 history event ∷ history) next
-  one_event history state next event makes (schedule, there) =
+  one_event : (log : Log) (state next : State Content) (event : Event) → Makes state (Commanded event) next → IsReachable log state
+      → IsReachable (Command (register_event id 0 (commands_of log) event) ∷ log) next
+  one_event log state next event makes (schedule, there) =
       let ask : Ask Content Context = event_command event in
       let plan : Plan = plan_of_event event next in
-      let longer : History = register_event id 0 history event ∷ history in
+      let longer : Log = Command (register_event id 0 (commands_of log) event) ∷ log in
       let w = world_after start schedule in
-      let asked = moved w (Asks index ask) (Asks index ask) index Idle (vnode_with (Open 0 false) history state) (Asked index ask) (vnode_with (Open 0 false) history state)
+      let asked = moved w (Asks index ask) (Asks index ask) index Idle (vnode_with (Open 0 false) log state) (Asked index ask) (vnode_with (Open 0 false) log state)
       (routed_own (route w) index ask there.4) refl
       (λ seen. (_, refl, refl, refl)) there in
       let w1 = after w (step_of_first (Asks index ask)) in
-      let took = moved w1 Takes Takes index (Asked index ask) (vnode_with (Open 0 false) history state) (Holding index ask state None) (vnode_with Taken history state) refl refl
+      let took = moved w1 Takes Takes index (Asked index ask) (vnode_with (Open 0 false) log state) (Holding index ask state None) (vnode_with Taken log state) refl refl
       (λ seen. (_, refl, refl, refl)) asked in
       let w2 = after w1 (step_of_first Takes) in
-      let looked = moved w2 Looks Looks index (Holding index ask state None) (vnode_with Taken history state) (Holding index ask state (Some plan)) (vnode_with Taken history state) refl refl
-      (λ seen. (_, ap (λ o. Some (looks_by seen (vnode_with Taken history state) index ask state o)) makes.1, refl, refl)) took in
+      let looked = moved w2 Looks Looks index (Holding index ask state None) (vnode_with Taken log state) (Holding index ask state (Some plan)) (vnode_with Taken log state) refl refl
+      (λ seen. (_, ap (λ o. Some (looks_by seen (vnode_with Taken log state) index ask state o)) makes.1, refl, refl)) took in
       let w3 = after w2 (step_of_first Looks) in
-      let published = moved w3 Publishes Publishes index (Holding index ask state (Some plan)) (vnode_with Taken history state) (Done index (Some next)) (vnode_with Taken longer state) refl refl
+      let published = moved w3 Publishes Publishes index (Holding index ask state (Some plan)) (vnode_with Taken log state) (Done index (Some next)) (vnode_with Taken longer state) refl refl
       (λ seen. (_, refl, refl, refl)) looked in
       let w4 = after w3 (step_of_first Publishes) in
       let laid = moved w4 Puts Puts index (Done index (Some next)) (vnode_with Taken longer state) Idle (vnode_with (Open 0 false) longer next) refl refl
       (λ seen. (_, refl, refl, refl)) published in
       (step_of_first Puts ∷ step_of_first Publishes ∷ step_of_first Looks ∷ step_of_first Takes ∷ step_of_first (Asks index ask) ∷ schedule, laid)
 
-  all_events : (events : List Event) (history : History) (state last : State Content) → MachineRun Makes state (all_commands events) last → IsReachable history state
-      → (schedule : List Step) × (history_at (world_after start schedule) index ≡ history_after id 0 history events)
-  all_events [] history state last run (schedule, there) = (schedule, ap (λ o. option_map_or (λ (v : Vnode). v.history) o []) there.3)
-  all_events (event ∷ events) history state last (next, makes, run) stands =
-      all_events events (register_event id 0 history event ∷ history) next last run (one_event history state next event makes stands)
+  all_events : (events : List Event) (log : Log) (state last : State Content) → MachineRun Makes state (all_commands events) last → IsReachable log state
+      → (schedule : List Step) × (history_at (world_after start schedule) index ≡ history_after id 0 (commands_of log) events)
+  all_events [] log state last run (schedule, there) = (schedule, ap (λ o. option_map_or (λ (v : Vnode). history_of v) o []) there.3)
+  all_events (event ∷ events) log state last (next, makes, run) stands =
+      all_events events (Command (register_event id 0 (commands_of log) event) ∷ log) next last run (one_event log state next event makes stands)
 
 first_there : {X : Type 0} (n : ℕ) (x : X) → 1 ≤ n → slice_get (replicate n x) 0 ≡ Some x
 first_there zero x h = absurd (omega (arith, h))

@@ -6,25 +6,27 @@ use Rattle.riak_msgs.specs.Contents.{Content}
 use Rattle.sibling_register.specs.Answers.{Ask}
 use Rattle.actor_epoch.specs.Given.{Context}
 use Rattle.vnode_machine.specs.Replay.{History, IsWithinLimits}
-use Rattle.node_steps.specs.World.{Word, Open, Taken, Phase, Idle, Asked, Reading, Holding, Done, Vnode, Worker, World, fresh_vnode, fresh_worker, id_of, opening_vnodes, own_sites, opening_world, worker_at, seen_at}
-use Rattle.node_steps.specs.Steps.{Action, Asks, AsksNowhere, is_reap, sent, routed, Enters, Outcome, Turn, turn_of, site_of, seeing, turned, fallback_ids, does}
+use Rattle.node_steps.specs.World.{Word, Open, Taken, Idle, Vnode, Worker, World, fresh_vnode, fresh_worker, id_of, opening_vnodes, own_sites, opening_world, worker_at, seen_at, history_of}
+use Rattle.node_steps.specs.Steps.{Action, Asks, AsksNowhere, is_reap, sent, routed, Outcome, Turn, turn_of, site_of, is_about, seeing, turned, fallback_ids, does}
 use Rattle.node_steps.specs.Schedules.{Start, IsStart, Begins}
 use Rattle.node_steps.proofs.Lists.{one, how_many, set-here, set-there, same_or_other, how_many-set, counted_one, counted_two, counted_none, get-replicate, get-below, length-set}
 use Rattle.node_steps.proofs.Own.{length-own, length-opening}
 use Rattle.node_steps.proofs.Beginnings.{begins-itself, begins-trans}
-use Rattle.node_steps.proofs.Inside.{is_reader, is_holder, reads, holds, FitsWord, IsInHand, IsAbout, same_test, elsewhere, no_hand, IsSoundAs, IsSound, sound-fresh, IsAware}
+use Rattle.node_steps.proofs.Inside.{is_reader, is_holder, reads, holds, FitsWord, IsInHand, IsAbout, same_test, no_hand, StaysAt, stays, IsSoundAs, IsSound, sound-fresh, IsPlain, plain-fresh, IsAware}
 use Rattle.node_steps.proofs.Turns.{IsTurn, turn_is, about_is}
 
 -- what is always true of a world: of each vnode, and of each worker and vnode
 pub record IsOrderly (w : World) : Type 0 where
   pub vnodes : (index : ℕ) (vnode : Vnode) → slice_get w.vnodes index ≡ Some vnode → IsSound (how_many (reads index) w.workers) (how_many (holds index) w.workers) vnode
   pub workers : (place : ℕ) (worker : Worker) → slice_get w.workers place ≡ Some worker → (index : ℕ) (vnode : Vnode) → slice_get w.vnodes index ≡ Some vnode
-      → IsAware vnode.id vnode.last_epoch index vnode.history worker
+      → IsAware vnode.id vnode.last_epoch index vnode.log worker
+  -- no step copies or closes, so that each log is of commands alone
+  pub plain : (index : ℕ) (vnode : Vnode) → slice_get w.vnodes index ≡ Some vnode → IsPlain vnode.id vnode.last_epoch vnode.log
   -- a fallback of each partition can have an id
   pub bounds : (index : ℕ) (vnode : Vnode) → index < length w.routes → slice_get w.vnodes index ≡ Some vnode → vnode.id + fallback_ids < 2 ^ 64
   -- a partition has a site, a worker has a call at one, and has seen nothing of what isn't one
   pub sites : length w.routes ≤ length w.vnodes
-  pub about : (place : ℕ) (worker : Worker) → slice_get w.workers place ≡ Some worker → (site : ℕ) → site_of Enters worker.phase ≡ Some site → site < length w.vnodes
+  pub about : (place : ℕ) (worker : Worker) → slice_get w.workers place ≡ Some worker → (site : ℕ) → is_about site worker.phase ≡ true → site < length w.vnodes
   pub unseen : (place : ℕ) (worker : Worker) → slice_get w.workers place ≡ Some worker → (site : ℕ) → length w.vnodes ≤ site → seen_at worker.seen site ≡ []
 
 -- what a worker does, its call being sent, where that is possible: who it is, at which site, and its turn
@@ -83,14 +85,6 @@ seeing-there (x ∷ seen) zero (suc other) front n = refl
 seeing-there (x ∷ seen) (suc site) zero front n = refl
 seeing-there (x ∷ seen) (suc site) (suc other) front n = seeing-there seen site other front (λ e. n (ap suc e))
 
--- a phase that is about a site has its call there
-pub about_site : (index : ℕ) (phase : Phase) → IsAbout index phase → (site : ℕ) → site_of Enters phase ≡ Some site → index ≡ site
-about_site index Idle about site h = cc
-about_site index (Asked other ask) about site h = cc
-about_site index (Reading other get) about site h = cc
-about_site index (Holding other ask hand plan) about site h = cc
-about_site index (Done other hand) about site h = cc
-
 not_past : (index n site : ℕ) → index < n → n ≤ site → index ≢ site
 not_past index n site h k = λ e. absurd (omega (arith, e, h, k))
 
@@ -107,20 +101,21 @@ module _ (w : World) (orderly : IsOrderly w) (action : Action) (place index : �
   abbrev world : World
   world = turned w place index worker turn
 
-  module _ (here : slice_get w.workers place ≡ Some worker) (there : slice_get w.vnodes index ≡ Some vnode) (was : IsAbout index worker.phase)
-      (is : IsTurn vnode.id vnode.last_epoch index (readers index) (holders index) action worker.phase vnode.history turn) where
-    none_here : (a b c d : ℕ) → a + b ≡ c + d → b ≡ 0 → d ≡ 0 → a ≡ c
-    none_here a b c d h e f = omega (arith, h, e, f)
+  module _ (here : slice_get w.workers place ≡ Some worker) (there : slice_get w.vnodes index ≡ Some vnode)
+      (keeps : (other : ℕ) → index ≢ other → StaysAt other worker.phase turn.phase)
+      (is : IsTurn vnode.id vnode.last_epoch index (readers index) (holders index) action worker.phase vnode.log turn) where
+    none_here : (a b c d : ℕ) → a + b ≡ c + d → d ≡ b → a ≡ c
+    none_here a b c d h e = omega (arith, h, e)
 
     readers_other : (other : ℕ) → index ≢ other → how_many (reads other) world.workers ≡ readers other
     readers_other other n =
         none_here (how_many (reads other) world.workers) (one (reads other worker)) (readers other) (one (reads other next))
-        (how_many-set (reads other) w.workers place worker next here) (ap one (elsewhere index other worker.phase was n).0) (ap one (elsewhere index other turn.phase is.at n).0)
+        (how_many-set (reads other) w.workers place worker next here) (ap one (keeps other n).reader)
 
     holders_other : (other : ℕ) → index ≢ other → how_many (holds other) world.workers ≡ holders other
     holders_other other n =
         none_here (how_many (holds other) world.workers) (one (holds other worker)) (holders other) (one (holds other next))
-        (how_many-set (holds other) w.workers place worker next here) (ap one (elsewhere index other worker.phase was n).1) (ap one (elsewhere index other turn.phase is.at n).1)
+        (how_many-set (holds other) w.workers place worker next here) (ap one (keeps other n).holder)
 
     -- what holds by the id and the epoch holds by the turn's
     as_vnode : (Holds : (id epoch : ℕ) → Type 0) → Holds vnode.id vnode.last_epoch → Holds turn.vnode.id turn.vnode.last_epoch
@@ -129,7 +124,6 @@ module _ (w : World) (orderly : IsOrderly w) (action : Action) (place index : �
     sound_here : IsSound (how_many (reads index) world.workers) (how_many (holds index) world.workers) turn.vnode
     sound_here = as_vnode (λ i e. IsSoundAs i e (how_many (reads index) world.workers) (how_many (holds index) world.workers) turn.vnode) (record {
       limits = (orderly.vnodes index vnode there).limits;
-      replays = is.replays;
       word = is.word (how_many (reads index) world.workers) (how_many (holds index) world.workers)
           (how_many-set (reads index) w.workers place worker next here) (how_many-set (holds index) w.workers place worker next here);
       place = is.place;
@@ -158,14 +152,14 @@ module _ (w : World) (orderly : IsOrderly w) (action : Action) (place index : �
         unwrapped a b h = cc
 
     -- the worker itself, at the vnode and elsewhere
-    next_here : IsAware vnode.id vnode.last_epoch index turn.vnode.history next
-    next_here = record { hand = is.hand; seen = subst (λ f. Begins f turn.vnode.history) (sym (seeing-here worker.seen index turn.seen)) is.seen }
+    next_here : IsAware vnode.id vnode.last_epoch index turn.vnode.log next
+    next_here = record { hand = is.hand; seen = subst (λ f. Begins f (history_of turn.vnode)) (sym (seeing-here worker.seen index turn.seen)) is.seen }
 
-    next_there : (other : ℕ) (v : Vnode) → index ≢ other → slice_get w.vnodes other ≡ Some v → IsAware v.id v.last_epoch other v.history next
+    next_there : (other : ℕ) (v : Vnode) → index ≢ other → slice_get w.vnodes other ≡ Some v → IsAware v.id v.last_epoch other v.log next
     next_there other v n h =
         record {
-          hand = no_hand v.id v.last_epoch other v.history turn.phase (elsewhere index other turn.phase is.at n).1;
-          seen = subst (λ f. Begins f v.history) (sym (seeing-there worker.seen index other turn.seen n)) (orderly.workers place worker here other v h).seen;
+          hand = (keeps other n).hand v.id v.last_epoch v.log (orderly.workers place worker here other v h).hand;
+          seen = subst (λ f. Begins f (history_of v)) (sym (seeing-there worker.seen index other turn.seen n)) (orderly.workers place worker here other v h).seen;
         }
 
     at_most_one : (word : Word) (r h : ℕ) → FitsWord word r h → h ≤ 1
@@ -177,29 +171,36 @@ module _ (w : World) (orderly : IsOrderly w) (action : Action) (place index : �
     bool_cases false = inr refl
 
     -- another worker at the vnode
-    other_hand : (at : ℕ) (x : Worker) → place ≢ at → slice_get w.workers at ≡ Some x → IsInHand vnode.id vnode.last_epoch index turn.vnode.history x.phase
+    other_hand : (at : ℕ) (x : Worker) → place ≢ at → slice_get w.workers at ≡ Some x → IsInHand vnode.id vnode.last_epoch index turn.vnode.log x.phase
     other_hand at x n h = elim is.same [
-      | inl e ↦ subst (λ hist. IsInHand vnode.id vnode.last_epoch index hist x.phase) (sym e) (orderly.workers at x h index vnode there).hand
+      | inl e ↦ subst (λ log. IsInHand vnode.id vnode.last_epoch index log x.phase) (sym e) (orderly.workers at x h index vnode there).hand
       | inr mine ↦ elim (bool_cases (is_holder index x.phase)) [
         | inl his ↦ absurd (too_many (holders index) (at_most_one vnode.word (readers index) (holders index) (orderly.vnodes index vnode there).word)
             (counted_two (holds index) w.workers place at worker x n here h mine his))
-        | inr nobody ↦ no_hand vnode.id vnode.last_epoch index turn.vnode.history x.phase nobody
+        | inr nobody ↦ no_hand vnode.id vnode.last_epoch index turn.vnode.log x.phase nobody
       ]
     ]
       where
         too_many : (a : ℕ) → a ≤ 1 → 2 ≤ a → ⊥
         too_many a h k = omega (arith, h, k)
 
-    other_here : (at : ℕ) (x : Worker) → place ≢ at → slice_get w.workers at ≡ Some x → IsAware vnode.id vnode.last_epoch index turn.vnode.history x
+    other_here : (at : ℕ) (x : Worker) → place ≢ at → slice_get w.workers at ≡ Some x → IsAware vnode.id vnode.last_epoch index turn.vnode.log x
     other_here at x n h =
-        record { hand = other_hand at x n h; seen = begins-trans (seen_at x.seen index) vnode.history turn.vnode.history (orderly.workers at x h index vnode there).seen is.grows }
+        record { hand = other_hand at x n h; seen = begins-trans (seen_at x.seen index) (history_of vnode) (history_of turn.vnode) (orderly.workers at x h index vnode there).seen is.grows }
 
     -- any worker at the vnode
-    aware_here : (at : ℕ) (x : Worker) → slice_get world.workers at ≡ Some x → IsAware turn.vnode.id turn.vnode.last_epoch index turn.vnode.history x
-    aware_here at x k = as_vnode (λ i e. IsAware i e index turn.vnode.history x) (elim (worker_after at x k) [
-      | inl d ↦ subst (λ y. IsAware vnode.id vnode.last_epoch index turn.vnode.history y) d.1 next_here
+    aware_here : (at : ℕ) (x : Worker) → slice_get world.workers at ≡ Some x → IsAware turn.vnode.id turn.vnode.last_epoch index turn.vnode.log x
+    aware_here at x k = as_vnode (λ i e. IsAware i e index turn.vnode.log x) (elim (worker_after at x k) [
+      | inl d ↦ subst (λ y. IsAware vnode.id vnode.last_epoch index turn.vnode.log y) d.1 next_here
       | inr d ↦ other_here at x d.0 d.1
     ])
+
+    -- its call is at a site, or where it was
+    next_about : (site : ℕ) → is_about site turn.phase ≡ true → site < length w.vnodes
+    next_about site h = elim (same_or_other index site) [
+      | inl e ↦ subst (λ i. i < length w.vnodes) e (get-below w.vnodes index vnode there)
+      | inr n ↦ orderly.about place worker here site (sym (keeps site n).about ∙ h)
+    ]
 
     pub orderly_after : IsOrderly world
     orderly_after = record {
@@ -210,11 +211,15 @@ module _ (w : World) (orderly : IsOrderly w) (action : Action) (place index : �
             (subst (λ n. IsSound n (holders other) v) (sym (readers_other other e.0)) (orderly.vnodes other v e.1))
       ];
       workers = λ at x k other v h. elim (vnode_after other v h) [
-        | inl e ↦ subst (λ o. IsAware v.id v.last_epoch o v.history x) e.0 (subst (λ u. IsAware u.id u.last_epoch index u.history x) e.1 (aware_here at x k))
+        | inl e ↦ subst (λ o. IsAware v.id v.last_epoch o v.log x) e.0 (subst (λ u. IsAware u.id u.last_epoch index u.log x) e.1 (aware_here at x k))
         | inr e ↦ elim (worker_after at x k) [
-          | inl d ↦ subst (λ y. IsAware v.id v.last_epoch other v.history y) d.1 (next_there other v e.0 e.1)
+          | inl d ↦ subst (λ y. IsAware v.id v.last_epoch other v.log y) d.1 (next_there other v e.0 e.1)
           | inr d ↦ orderly.workers at x d.1 other v e.1
         ]
+      ];
+      plain = λ other v h. elim (vnode_after other v h) [
+        | inl e ↦ subst (λ (u : Vnode). IsPlain u.id u.last_epoch u.log) e.1 (as_vnode (λ i e. IsPlain i e turn.vnode.log) (is.plain (orderly.plain index vnode there)))
+        | inr e ↦ orderly.plain other v e.1
       ];
       bounds = λ other v below h. elim (vnode_after other v h) [
         | inl e ↦ subst (λ (u : Vnode). u.id + fallback_ids < 2 ^ 64) e.1
@@ -223,7 +228,7 @@ module _ (w : World) (orderly : IsOrderly w) (action : Action) (place index : �
       ];
       sites = subst (λ n. length w.routes ≤ n) (sym (length-set w.vnodes index turn.vnode)) orderly.sites;
       about = λ at x k site h. subst (λ n. site < n) (sym (length-set w.vnodes index turn.vnode)) (elim (worker_after at x k) [
-        | inl d ↦ subst (λ i. i < length w.vnodes) (about_site index turn.phase is.at site (ap (λ (y : Worker). site_of Enters y.phase) d.1 ∙ h)) (get-below w.vnodes index vnode there)
+        | inl d ↦ next_about site (ap (λ (y : Worker). is_about site y.phase) d.1 ∙ h)
         | inr d ↦ orderly.about at x d.1 site h
       ]);
       unseen = λ at x k site past.
@@ -246,7 +251,7 @@ counted test workers place worker h = by (test worker) refl
 
 -- the turn of a possible step
 pub turn_at : (w : World) (orderly : IsOrderly w) (number : ℕ) (action : Action) (r : World × Outcome) (p : IsPossible w number action r)
-    → IsTurn p.vnode.id p.vnode.last_epoch p.index (how_many (reads p.index) w.workers) (how_many (holds p.index) w.workers) action p.worker.phase p.vnode.history p.turn
+    → IsTurn p.vnode.id p.vnode.last_epoch p.index (how_many (reads p.index) w.workers) (how_many (holds p.index) w.workers) action p.worker.phase p.vnode.log p.turn
 turn_at w orderly number action r p =
     let here = at_place w number p.worker p.worker_is in
     let aware = orderly.workers (pred number) p.worker here p.index p.vnode p.vnode_is in
@@ -264,7 +269,7 @@ orderly-does w orderly number action r h =
     let p = possible w number action r h in
     subst (λ q. IsOrderly q.0) p.gives
     (orderly_after w orderly action (pred number) p.index p.worker p.vnode p.turn (at_place w number p.worker p.worker_is) p.vnode_is
-    (about_at w number action r p) (turn_at w orderly number action r p))
+    (λ other n. stays p.index other p.worker.phase p.turn.phase (about_at w number action r p) (turn_at w orderly number action r p).at n) (turn_at w orderly number action r p))
 
 -- a vnode of the opening world is a fresh one
 pub opened : (run from count index : ℕ) (vnode : Vnode) → slice_get (opening_vnodes run from count) index ≡ Some vnode
@@ -293,7 +298,7 @@ bounded run index count r c h = omega (arith, r, c, h)
 same_length : (a b n : ℕ) → a ≡ n → b ≡ n → a ≤ b
 same_length a b n h k = omega (arith, h, k)
 
-idle_nowhere : (site : ℕ) → site_of Enters Idle ≡ Some site → ⊥
+idle_nowhere : (site : ℕ) → is_about site Idle ≡ true → ⊥
 idle_nowhere site h = cc
 
 nobody : (index : ℕ) (count : ℕ) (worker : Worker) → worker.phase ≡ Idle → how_many (reads index) (replicate count worker) ≡ 0
@@ -314,8 +319,10 @@ orderly-opening start is =
       workers = λ place worker k index vnode h.
           let o = opened start.run 0 start.vnodes index vnode h in
           let e = get-replicate start.workers place fresh_worker worker k in
-          subst (λ v. IsAware v.id v.last_epoch index v.history worker) (sym o.1)
+          subst (λ v. IsAware v.id v.last_epoch index v.log worker) (sym o.1)
           (subst (λ x. IsAware (id_of start.run (0 + index)) 0 index [] x) (sym e) (record { hand = tt; seen = begins-itself [] }));
+      plain = λ index vnode h.
+          subst (λ (v : Vnode). IsPlain v.id v.last_epoch v.log) (sym (opened start.run 0 start.vnodes index vnode h).1) (plain-fresh (id_of start.run (0 + index)) 0);
       bounds = λ index vnode below h.
           let o = opened start.run 0 start.vnodes index vnode h in
           subst (λ (v : Vnode). v.id + fallback_ids < 2 ^ 64) (sym o.1) (bounded start.run index start.vnodes is.run is.vnodes o.0);
@@ -323,6 +330,6 @@ orderly-opening start is =
           (length-own 0 start.vnodes) (length-opening start.run 0 start.vnodes);
       about = λ place worker k site h.
           let e = get-replicate start.workers place fresh_worker worker k in
-          absurd (idle_nowhere site (ap (λ (x : Worker). site_of Enters x.phase) (sym e) ∙ h));
+          absurd (idle_nowhere site (ap (λ (x : Worker). is_about site x.phase) (sym e) ∙ h));
       unseen = λ place worker k site past. ap (λ (x : Worker). seen_at x.seen site) (get-replicate start.workers place fresh_worker worker k);
     }

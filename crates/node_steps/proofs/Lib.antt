@@ -2,6 +2,8 @@ pub mod Lists
 pub mod Beginnings
 pub mod Shown
 pub mod Inside
+pub mod Accepting
+pub mod Coming
 pub mod Turns
 pub mod Own
 pub mod Kept

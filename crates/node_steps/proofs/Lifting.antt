@@ -12,22 +12,25 @@ use Rattle.vnode_machine.proofs.Legals.{replay_is_legal}
 use Rattle.vnode_machine.proofs.DifferentDots.{no_dot_twice}
 use Rattle.vnode_machine.proofs.LiveDots.{dots_are_of_lives}
 use Rattle.vnode_machine.proofs.Steps.{known, alive, held_by}
-use Rattle.node_steps.specs.World.{Phase, Idle, Asked, Reading, Holding, Done, Vnode, Worker, World, Call, fresh_vnode, worker_at, route, id_at, last_epoch_at, history_at, front_at, call_of, call_at, seen_at}
+use Rattle.copy_laws.specs.Copies.{commands_of}
+use Rattle.copy_laws.specs.Joining.{Log}
+use Rattle.node_steps.specs.World.{Phase, Idle, Asked, Reading, Holding, Done, Vnode, Worker, World, Call, fresh_vnode, worker_at, route, id_at, last_epoch_at, history_at, front_at, call_of, call_at, seen_at, history_of}
 use Rattle.node_steps.specs.Steps.{Action, Step, By, Diverts, Outcome, NotPossible, Happened, Replied, Turn, routed, seeing, turned, fallback_ids, does, diverted, after}
 use Rattle.node_steps.specs.Schedules.{Begins}
 use Rattle.node_steps.specs.Claims.{HistoriesAreLegal, LooksShowReplays, state_shown, RepliesAreRegisters, NothingElseHappens, RepliesHaveSeen, NoDotIsIssuedTwice, LivesAreOfDefinedKeys}
 use Rattle.node_steps.proofs.Lists.{how_many, set-here, set-there, same_or_other, counted_one}
-use Rattle.node_steps.proofs.Inside.{is_reader, reads, holds, IsInHand, same_test, IsAware}
-use Rattle.node_steps.proofs.Turns.{IsReplyTo, Comes, IsTurn, place_read}
+use Rattle.node_steps.proofs.Inside.{is_reader, reads, holds, state_of, replayed, IsInHand, same_test, IsPlain, IsAware}
+use Rattle.node_steps.proofs.Coming.{IsReplyTo, Comes}
+use Rattle.node_steps.proofs.Turns.{IsTurn, place_read}
 use Rattle.node_steps.proofs.Kept.{IsOrderly, IsPossible, seeing-here, possible, at_place, turn_at}
 use Rattle.node_steps.proofs.Diverting.{diversion}
 
 pub replays_at : (w : World) → IsOrderly w → (index : ℕ) → HasReplay (id_at w index) (last_epoch_at w index) (history_at w index)
 replays_at w orderly index = by (slice_get w.vnodes index) refl
   where
-    by : (o : Option Vnode) → slice_get w.vnodes index ≡ o → HasReplay (option_map_or (λ v. v.id) o 0) (option_map_or (λ v. v.last_epoch) o 0) (option_map_or (λ v. v.history) o [])
+    by : (o : Option Vnode) → slice_get w.vnodes index ≡ o → HasReplay (option_map_or (λ v. v.id) o 0) (option_map_or (λ v. v.last_epoch) o 0) (option_map_or (λ v. history_of v) o [])
     by None h = tt
-    by (Some vnode) h = (orderly.vnodes index vnode h).replays
+    by (Some vnode) h = (orderly.plain index vnode h).replays
 
 pub histories_are_legal : (w : World) → IsOrderly w → HistoriesAreLegal w
 histories_are_legal w orderly = λ index.
@@ -50,21 +53,21 @@ pub looks_show_replays : (w : World) → IsOrderly w → LooksShowReplays w
 looks_show_replays w orderly = λ number index worker vnode state worker_is vnode_is shows.
     let here = at_place w number worker worker_is in
     let hand = (orderly.workers (pred number) worker here index vnode vnode_is).hand in
-    record { replays = (orderly.vnodes index vnode vnode_is).replays; is = by number index worker vnode state vnode_is here hand worker.phase refl shows }
+    record { replays = (orderly.plain index vnode vnode_is).replays; is = by number index worker vnode state vnode_is here hand worker.phase refl shows ∙ replayed vnode.id vnode.last_epoch vnode.log (orderly.plain index vnode vnode_is).commands }
   where
     by : (number index : ℕ) (worker : Worker) (vnode : Vnode) (state : State Content) → slice_get w.vnodes index ≡ Some vnode → slice_get w.workers (pred number) ≡ Some worker
-        → IsInHand vnode.id vnode.last_epoch index vnode.history worker.phase
-        → (phase : Phase) → worker.phase ≡ phase → state_shown phase vnode ≡ Some (index, state) → state ≡ replay vnode.id vnode.last_epoch vnode.history
+        → IsInHand vnode.id vnode.last_epoch index vnode.log worker.phase
+        → (phase : Phase) → worker.phase ≡ phase → state_shown phase vnode ≡ Some (index, state) → state ≡ state_of vnode.id vnode.last_epoch vnode.log
     by number index worker vnode state there here hand Idle e h = cc
     by number index worker vnode state there here hand (Asked other ask) e h = cc
     by number index worker vnode state there here hand (Reading other get) e h =
         let p = some_pair_parts other index vnode.place state h in
         let sound = orderly.vnodes index vnode there in
-        sym p.1 ∙ place_read vnode.id vnode.last_epoch index (how_many (reads index) w.workers) (how_many (holds index) w.workers) vnode.word vnode.history vnode.place sound.word
+        sym p.1 ∙ place_read vnode.id vnode.last_epoch index (how_many (reads index) w.workers) (how_many (holds index) w.workers) vnode.word vnode.log vnode.place sound.word
         (counted_one (reads index) w.workers (pred number) worker here (ap (is_reader index) e ∙ same_test other index p.0)) sound.place
     by number index worker vnode state there here hand (Holding other ask mine None) e h =
         let p = some_pair_parts other index mine state h in
-        sym p.1 ∙ (subst (λ n. IsInHand vnode.id vnode.last_epoch index vnode.history n) e hand p.0).0
+        sym p.1 ∙ (subst (λ n. IsInHand vnode.id vnode.last_epoch index vnode.log n) e hand p.0).0
     by number index worker vnode state there here hand (Holding other ask mine (Some plan)) e h = cc
     by number index worker vnode state there here hand (Done other mine) e h = cc
 
@@ -84,11 +87,18 @@ module _ (w : World) (orderly : IsOrderly w) (number : ℕ) (action : Action) (r
   pub here : slice_get w.workers (pred number) ≡ Some p.worker
   here = at_place w number p.worker p.worker_is
 
-  pub aware : IsAware p.vnode.id p.vnode.last_epoch p.index p.vnode.history p.worker
+  pub aware : IsAware p.vnode.id p.vnode.last_epoch p.index p.vnode.log p.worker
   aware = orderly.workers (pred number) p.worker here p.index p.vnode p.vnode_is
 
-  pub turn : IsTurn p.vnode.id p.vnode.last_epoch p.index (how_many (reads p.index) w.workers) (how_many (holds p.index) w.workers) action p.worker.phase p.vnode.history p.turn
+  pub turn : IsTurn p.vnode.id p.vnode.last_epoch p.index (how_many (reads p.index) w.workers) (how_many (holds p.index) w.workers) action p.worker.phase p.vnode.log p.turn
   turn = turn_at w orderly number action r p
+
+  -- the log is of commands alone, and stays so
+  pub plain : IsPlain p.vnode.id p.vnode.last_epoch p.vnode.log
+  plain = orderly.plain p.index p.vnode p.vnode_is
+
+  pub replays_next : HasReplay p.vnode.id p.vnode.last_epoch (history_of p.turn.vnode)
+  replays_next = (turn.plain plain).replays
 
   pub call_is : call_at w number ≡ call_of p.worker.phase
   call_is = ap (λ o. option_map_or (λ (worker : Worker). call_of worker.phase) o None) p.worker_is
@@ -99,17 +109,17 @@ module _ (w : World) (orderly : IsOrderly w) (number : ℕ) (action : Action) (r
   pub epoch_before : last_epoch_at w p.index ≡ p.vnode.last_epoch
   epoch_before = ap (λ o. option_map_or (λ (v : Vnode). v.last_epoch) o 0) p.vnode_is
 
-  pub before_is : history_at w p.index ≡ p.vnode.history
-  before_is = ap (λ o. option_map_or (λ (v : Vnode). v.history) o []) p.vnode_is
+  pub before_is : history_at w p.index ≡ (history_of p.vnode)
+  before_is = ap (λ o. option_map_or (λ (v : Vnode). history_of v) o []) p.vnode_is
 
   vnode_next : slice_get next.vnodes p.index ≡ Some p.turn.vnode
   vnode_next = set-here w.vnodes p.index p.vnode p.turn.vnode p.vnode_is
 
-  pub after_is : history_at next p.index ≡ p.turn.vnode.history
-  after_is = ap (λ o. option_map_or (λ (v : Vnode). v.history) o []) vnode_next
+  pub after_is : history_at next p.index ≡ (history_of p.turn.vnode)
+  after_is = ap (λ o. option_map_or (λ (v : Vnode). history_of v) o []) vnode_next
 
   pub elsewhere_is : (other : ℕ) → p.index ≢ other → history_at next other ≡ history_at w other
-  elsewhere_is other n = ap (λ o. option_map_or (λ (v : Vnode). v.history) o []) (set-there w.vnodes p.index other p.turn.vnode n)
+  elsewhere_is other n = ap (λ o. option_map_or (λ (v : Vnode). history_of v) o []) (set-there w.vnodes p.index other p.turn.vnode n)
 
   -- a vnode keeps its id, and the epoch that it was opened behind
   pub id_next : (other : ℕ) → id_at next other ≡ id_at w other
@@ -135,28 +145,28 @@ module _ (w : World) (orderly : IsOrderly w) (number : ℕ) (action : Action) (r
       (subst (λ h. Begins (seen_at p.worker.seen p.index) h) (sym before_is) aware.seen)
 
   -- a reply answers the call
-  pub reply_is : (reply : Result Response ℕ) → p.turn.outcome ≡ Replied reply → (call : Call) × (call_at w number ≡ Some call) × IsReplyTo p.vnode.id p.vnode.last_epoch p.index p.vnode.history p.turn reply call
+  pub reply_is : (reply : Result Response ℕ) → p.turn.outcome ≡ Replied reply → (call : Call) × (call_at w number ≡ Some call) × IsReplyTo p.vnode.id p.vnode.last_epoch p.index p.vnode.log p.turn reply call
   reply_is reply o =
-      let c = subst (λ u. Comes p.vnode.id p.vnode.last_epoch p.index (call_of p.worker.phase) p.vnode.history p.turn u) o turn.comes in
+      let c = subst (λ u. Comes p.vnode.id p.vnode.last_epoch p.index (call_of p.worker.phase) p.vnode.log p.turn u) o turn.comes in
       (c.0, call_is ∙ c.1, c.2)
 
-  answer_at : (reply : Result Response ℕ) (call : Call) → IsReplyTo p.vnode.id p.vnode.last_epoch p.index p.vnode.history p.turn reply call
+  answer_at : (reply : Result Response ℕ) (call : Call) → IsReplyTo p.vnode.id p.vnode.last_epoch p.index p.vnode.log p.turn reply call
       → IsAnswer (id_at w call.site) (last_epoch_at w call.site) (history_at w call.site) (record { ask = call.ask; reply = reply }) (history_at next call.site)
   answer_at reply call is =
       subst (λ k. IsAnswer (id_at w k) (last_epoch_at w k) (history_at w k) (record { ask = call.ask; reply = reply }) (history_at next k)) (sym is.at)
       (subst (λ i. IsAnswer i (last_epoch_at w p.index) (history_at w p.index) (record { ask = call.ask; reply = reply }) (history_at next p.index)) (sym id_before)
       (subst (λ e. IsAnswer p.vnode.id e (history_at w p.index) (record { ask = call.ask; reply = reply }) (history_at next p.index)) (sym epoch_before)
       (subst (λ h. IsAnswer p.vnode.id p.vnode.last_epoch h (record { ask = call.ask; reply = reply }) (history_at next p.index)) (sym before_is)
-      (subst (λ h. IsAnswer p.vnode.id p.vnode.last_epoch p.vnode.history (record { ask = call.ask; reply = reply }) h) (sym after_is) is.answer))))
+      (subst (λ h. IsAnswer p.vnode.id p.vnode.last_epoch (history_of p.vnode) (record { ask = call.ask; reply = reply }) h) (sym after_is) (is.answer plain)))))
 
   -- what comes of the turn
   nothing_else : (index : ℕ) → p.index ≡ index → (came : Outcome) → p.turn.outcome ≡ came
       → (history_at next index ≡ history_at w index)
       ⊎ ((call : Call) × (call_at w number ≡ Some call) × (call.site ≡ index) × ((reply : Result Response ℕ) × (p.turn.outcome ≡ Replied reply)))
-  nothing_else index e NotPossible o = absurd (subst (λ u. Comes p.vnode.id p.vnode.last_epoch p.index (call_of p.worker.phase) p.vnode.history p.turn u) o turn.comes)
+  nothing_else index e NotPossible o = absurd (subst (λ u. Comes p.vnode.id p.vnode.last_epoch p.index (call_of p.worker.phase) p.vnode.log p.turn u) o turn.comes)
   nothing_else index e Happened o =
       inl (subst (λ k. history_at next k ≡ history_at w k) e
-      (after_is ∙ subst (λ u. Comes p.vnode.id p.vnode.last_epoch p.index (call_of p.worker.phase) p.vnode.history p.turn u) o turn.comes ∙ sym before_is))
+      (after_is ∙ ap (λ (log : Log). commands_of log) (subst (λ u. Comes p.vnode.id p.vnode.last_epoch p.index (call_of p.worker.phase) p.vnode.log p.turn u) o turn.comes) ∙ sym before_is))
   nothing_else index e (Replied reply) o =
       let c = reply_is reply o in
       inr (c.0, c.1, c.2.at ∙ e, (reply, o))
@@ -197,8 +207,8 @@ pub no_reply : (o : Option World) (reply : Result Response ℕ)
 no_reply None reply h = not_replied reply h
 no_reply (Some after_it) reply h = only_happened reply h
 
-pub history-more : (vnodes : List Vnode) (fresh : Vnode) → fresh.history ≡ [] → (site : ℕ)
-    → option_map_or (λ (v : Vnode). v.history) (slice_get (vnodes ++ fresh ∷ []) site) [] ≡ option_map_or (λ (v : Vnode). v.history) (slice_get vnodes site) []
+pub history-more : (vnodes : List Vnode) (fresh : Vnode) → (history_of fresh) ≡ [] → (site : ℕ)
+    → option_map_or (λ (v : Vnode). history_of v) (slice_get (vnodes ++ fresh ∷ []) site) [] ≡ option_map_or (λ (v : Vnode). history_of v) (slice_get vnodes site) []
 history-more [] fresh e zero = e
 history-more [] fresh e (suc site) = refl
 history-more (v ∷ vnodes) fresh e zero = refl

@@ -8,7 +8,7 @@ use Rattle.actor_epoch.specs.Given.{Context}
 use Rattle.vnode_machine.specs.Machine.{State}
 use Rattle.vnode_machine.specs.Replay.{History, IsAfter}
 use Rattle.vnode_machine.specs.Step.{StepOutcome, Refused, Answered, Accepted, outcome as outcome_of_ask}
-use Rattle.node_steps.specs.World.{Phase, Idle, Asked, Reading, Holding, Done, Vnode, Worker, World, Call, call_of, id_at, last_epoch_at, history_at, seen_at}
+use Rattle.node_steps.specs.World.{Phase, Idle, Asked, Reading, Holding, Done, Vnode, Worker, World, Call, call_of, id_at, last_epoch_at, history_at, seen_at, history_of}
 use Rattle.node_steps.specs.Steps.{Looks, Step, By, Outcome, Turn, looks_by, turn_of, site_of, happens}
 use Rattle.node_steps.specs.Claims.{state_shown, comes_of, SeesReplay, LooksSeeReplays}
 use Rattle.node_steps.proofs.Kept.{IsOrderly, IsPossible, possible}
@@ -33,7 +33,7 @@ module _ (w : World) (orderly : IsOrderly w) (number : ℕ) (came : World × Out
   sees call asked at state shown comes =
       let id : id_at w p.index ≡ p.vnode.id = ap (λ o. option_map_or (λ (v : Vnode). v.id) o 0) p.vnode_is in
       let epoch : last_epoch_at w p.index ≡ p.vnode.last_epoch = ap (λ o. option_map_or (λ (v : Vnode). v.last_epoch) o 0) p.vnode_is in
-      let history : history_at w p.index ≡ p.vnode.history = ap (λ o. option_map_or (λ (v : Vnode). v.history) o []) p.vnode_is in
+      let history : history_at w p.index ≡ (history_of p.vnode) = ap (λ o. option_map_or (λ (v : Vnode). history_of v) o []) p.vnode_is in
       record {
         call = call;
         asked = ap (λ o. option_map_or (λ (worker : Worker). call_of worker.phase) o None) p.worker_is ∙ asked;

@@ -13,7 +13,8 @@ use Rattle.vnode_machine.specs.Replay.{History, HasReplay}
 use Rattle.vnode_machine.specs.Step.{Response}
 use Rattle.vnode_machine.specs.Registers.{key_of, context_in_ask}
 use Rattle.vnode_machine.proofs.Keys.{key_eq-refl}
-use Rattle.node_steps.specs.World.{Vnode, Worker, World, Call, fresh_vnode, fresh_worker, opening_world, opening_vnodes, route, id_at, last_epoch_at, history_at, call_of, call_at}
+use Rattle.copy_laws.specs.Copies.{commands_of}
+use Rattle.node_steps.specs.World.{Vnode, Worker, World, Call, fresh_vnode, fresh_worker, opening_world, opening_vnodes, route, id_at, last_epoch_at, history_at, call_of, call_at, history_of}
 use Rattle.node_steps.specs.Steps.{Action, Asks, Step, By, Diverts, Outcome, NotPossible, Happened, Replied, routed, seeing, turned, fallback_ids, does, diverted_by, diverted, outcome}
 use Rattle.node_steps.specs.Schedules.{Start, IsStart, world_after, Begins}
 use Rattle.node_steps.specs.Contexts.{context_bytes, given_in, WasShown, GivesShown}
@@ -22,11 +23,11 @@ use Rattle.node_steps.proofs.Lists.{set-here, set-there, same_or_other, get-firs
 use Rattle.node_steps.proofs.Beginnings.{begins-itself}
 use Rattle.node_steps.proofs.Inside.{same_test}
 use Rattle.node_steps.proofs.Shown.{IsName, name-later, held_is_name, saw_position}
-use Rattle.node_steps.proofs.Turns.{CallIs, EventIs, Comes}
+use Rattle.node_steps.proofs.Coming.{CallIs, EventIs, Comes}
 use Rattle.node_steps.proofs.Kept.{IsOrderly, IsPossible, possible, opened}
 use Rattle.node_steps.proofs.Diverting.{IsDiversion, diversion}
 use Rattle.node_steps.proofs.Scheduled.{orderly}
-use Rattle.node_steps.proofs.Lifting.{replays_at, no_reply, history-more, here, turn, reply_is, id_before, epoch_before, id_next, epoch_next, before_is, after_is, elsewhere_is}
+use Rattle.node_steps.proofs.Lifting.{replays_at, no_reply, history-more, here, turn, plain, replays_next, reply_is, id_before, epoch_before, id_next, epoch_next, before_is, after_is, elsewhere_is}
 use Rattle.node_steps.proofs.Leaving.{seen}
 
 call_same : (a b : Call) → Some a ≡ Some b → a ≡ b
@@ -84,7 +85,7 @@ module _ (index : ℕ) (key : Key) where
     grows = elim (same_or_other p.index index) [
       | inl e ↦ subst (λ k. Begins (history_at w k) (history_at next k)) e
           (subst (λ h. Begins h (history_at next p.index)) (sym (before_is w orderly number action r p))
-          (subst (λ h. Begins p.vnode.history h) (sym (after_is w orderly number action r p)) (turn w orderly number action r p).grows))
+          (subst (λ h. Begins (history_of p.vnode) h) (sym (after_is w orderly number action r p)) (turn w orderly number action r p).grows))
       | inr n ↦ subst (λ h. Begins (history_at w index) h) (sym (elsewhere_is w orderly number action r p index n)) (begins-itself (history_at w index))
     ]
 
@@ -95,14 +96,14 @@ module _ (index : ℕ) (key : Key) where
         let a = reply_is w orderly number action r p (Ok response) replied in
         let same : a.0 ≡ call = call_same a.0 call (sym a.1 ∙ asked) in
         let there : p.index ≡ index = sym a.2.at ∙ ap (λ (c : Call). c.site) same ∙ at in
-        let name : IsName p.vnode.id p.vnode.last_epoch p.turn.vnode.history (key_of a.0.ask) context =
-        held_is_name p.vnode.id p.vnode.last_epoch p.turn.vnode.history (key_of a.0.ask) (context_bytes response) context (orderly.vnodes p.index p.vnode p.vnode_is).limits
-        (turn w orderly number action r p).replays a.2.shows decodes in
+        let name : IsName p.vnode.id p.vnode.last_epoch (history_of p.turn.vnode) (key_of a.0.ask) context =
+        held_is_name p.vnode.id p.vnode.last_epoch (history_of p.turn.vnode) (key_of a.0.ask) (context_bytes response) context (orderly.vnodes p.index p.vnode p.vnode_is).limits
+        (replays_next w orderly number action r p) (a.2.shows (plain w orderly number action r p)) decodes in
         subst (λ k. IsName (id_at w k) (last_epoch_at w k) (history_at next k) key context) there
         (subst (λ i. IsName i (last_epoch_at w p.index) (history_at next p.index) key context) (sym (id_before w orderly number action r p))
         (subst (λ e. IsName p.vnode.id e (history_at next p.index) key context) (sym (epoch_before w orderly number action r p))
         (subst (λ hist. IsName p.vnode.id p.vnode.last_epoch hist key context) (sym (after_is w orderly number action r p))
-        (subst (λ k. IsName p.vnode.id p.vnode.last_epoch p.turn.vnode.history k context) (ap (λ (c : Call). key_of c.ask) same ∙ of_key) name))))
+        (subst (λ k. IsName p.vnode.id p.vnode.last_epoch (history_of p.turn.vnode) k context) (ap (λ (c : Call). key_of c.ask) same ∙ of_key) name))))
 
     -- a context that an action gives for the key
     given_is : (call : Call) → action ≡ Asks call.site call.ask → call.site ≡ index → key_of call.ask ≡ key → given_in action index key ≡ context_in_ask call.ask
@@ -127,39 +128,39 @@ module _ (index : ℕ) (key : Key) where
             (named.shown context (gives context (given_is asked.0 asked.2 at k ∙ e))))
 
     -- the events at the step's vnode
-    events_here : p.index ≡ index → (before : History) (event : Event Content Context) (context : Context) → Begins (event ∷ before) p.turn.vnode.history
+    events_here : p.index ≡ index → (before : History) (event : Event Content Context) (context : Context) → Begins (event ∷ before) (history_of p.turn.vnode)
         → event.key ≡ key → event.context ≡ Some context → IsName id epoch before key context
     events_here at before event context begins k e = by p.turn.outcome (turn w orderly number action r p).comes
       where
-        old_is : history_at w index ≡ p.vnode.history
-        old_is = subst (λ j. history_at w j ≡ p.vnode.history) at (before_is w orderly number action r p)
+        old_is : history_at w index ≡ (history_of p.vnode)
+        old_is = subst (λ j. history_at w j ≡ (history_of p.vnode)) at (before_is w orderly number action r p)
 
-        old : Begins (event ∷ before) p.vnode.history → IsName id epoch before key context
+        old : Begins (event ∷ before) (history_of p.vnode) → IsName id epoch before key context
         old h = named.events before event context (subst (λ hist. Begins (event ∷ before) hist) (sym old_is) h) k e
 
         mine : NamesCall id epoch (history_at w index) (call_of p.worker.phase)
         mine = named.calls (pred number) p.worker (here w orderly number action r p)
 
         -- the event of a call
-        new : (call : Call) → NamesCall id epoch (history_at w index) (Some call) → call.site ≡ p.index → EventIs call.ask p.vnode.history p.turn.vnode.history → IsName id epoch before key context
-        new call names about (inl same) = old (subst (λ hist. Begins (event ∷ before) hist) same begins)
-        new call names about (inr made) = elim (begins_cases event made.0 before p.vnode.history (subst (λ hist. Begins (event ∷ before) hist) made.1 begins)) [
+        new : (call : Call) → NamesCall id epoch (history_at w index) (Some call) → call.site ≡ p.index → EventIs p.vnode.id p.vnode.last_epoch call.ask p.vnode.log p.turn.vnode.log → IsName id epoch before key context
+        new call names about (inl same) = old (subst (λ log. Begins (event ∷ before) (commands_of log)) same begins)
+        new call names about (inr made) = elim (begins_cases event made.0 before (history_of p.vnode) (subst (λ log. Begins (event ∷ before) (commands_of log)) made.1 begins)) [
           | inl is ↦ subst (λ hist. IsName id epoch hist key context) (old_is ∙ sym is.1)
               (names (about ∙ at) (sym made.2 ∙ sym (ap (λ (x : Event Content Context). x.key) is.0) ∙ k) context
               (sym made.3 ∙ sym (ap (λ (x : Event Content Context). x.context) is.0) ∙ e))
           | inr h ↦ old h
         ]
 
-        by : (came : Outcome) → Comes p.vnode.id p.vnode.last_epoch p.index (call_of p.worker.phase) p.vnode.history p.turn came → IsName id epoch before key context
+        by : (came : Outcome) → Comes p.vnode.id p.vnode.last_epoch p.index (call_of p.worker.phase) p.vnode.log p.turn came → IsName id epoch before key context
         by NotPossible h = absurd h
-        by Happened h = old (subst (λ hist. Begins (event ∷ before) hist) h begins)
+        by Happened h = old (subst (λ log. Begins (event ∷ before) (commands_of log)) h begins)
         by (Replied reply) h = new h.0 (subst (λ c. NamesCall id epoch (history_at w index) c) h.1 mine) h.2.at h.2.event
 
     events_next : (before : History) (event : Event Content Context) (context : Context) → Begins (event ∷ before) (history_at next index)
         → event.key ≡ key → event.context ≡ Some context → IsName id epoch before key context
     events_next before event context begins k e = elim (same_or_other p.index index) [
       | inl at ↦ events_here at before event context
-          (subst (λ hist. Begins (event ∷ before) hist) (subst (λ j. history_at next j ≡ p.turn.vnode.history) at (after_is w orderly number action r p)) begins) k e
+          (subst (λ hist. Begins (event ∷ before) hist) (subst (λ j. history_at next j ≡ (history_of p.turn.vnode)) at (after_is w orderly number action r p)) begins) k e
       | inr n ↦ named.events before event context (subst (λ hist. Begins (event ∷ before) hist) (elsewhere_is w orderly number action r p index n) begins) k e
     ]
 
@@ -208,7 +209,7 @@ abbrev epoch_in : Option Vnode → ℕ
 epoch_in o = option_map_or (λ (v : Vnode). v.last_epoch) o 0
 
 abbrev history_in : Option Vnode → History
-history_in o = option_map_or (λ (v : Vnode). v.history) o []
+history_in o = option_map_or (λ (v : Vnode). history_of v) o []
 
 -- before any event nothing has a name
 nothing_named : (id epoch : ℕ) (key : Key) (context : Context) → IsName id epoch [] key context → ⊥
@@ -236,9 +237,9 @@ module _ (start : Start) (is : IsStart start) (index : ℕ) (key : Key) where
         events = λ before event context begins k e. absurd (no_event event begins.0 before (begins.1 ∙ empty (slice_get w.vnodes index) refl));
       }
     where
-      empty : (o : Option Vnode) → slice_get (opening_vnodes start.run 0 start.vnodes) index ≡ o → option_map_or (λ (v : Vnode). v.history) o [] ≡ []
+      empty : (o : Option Vnode) → slice_get (opening_vnodes start.run 0 start.vnodes) index ≡ o → option_map_or (λ (v : Vnode). history_of v) o [] ≡ []
       empty None h = refl
-      empty (Some v) h = ap (λ (u : Vnode). u.history) (opened start.run 0 start.vnodes index v h).1
+      empty (Some v) h = ap (λ (u : Vnode). history_of u) (opened start.run 0 start.vnodes index v h).1
 
   -- a site that is opened: nothing was named there
   named_diverted : (w diverted_w : World) (other : ℕ) (Shown : Context → Type 0) → IsDiversion w other diverted_w → IsNamed index key w Shown → IsNamed index key diverted_w Shown

@@ -1,72 +1,45 @@
--- What a step makes of its worker and its vnode, where they were as they always are; and what comes of it.
-use Rattle.std.proofs.Common.{◌≡◌, ◌⊎◌, inl, inr, ℕ, zero, suc, ◌+◌, ◌≤◌, Bool, true, false, ◌∷◌, refl, sym, ◌∙◌, ap, arith, subst}
+-- What a step makes of its worker and its vnode, where they were as they always are.
+use Rattle.std.proofs.Common.{◌≡◌, ◌⊎◌, inl, inr, ℕ, zero, suc, ◌+◌, ◌≤◌, true, false, ◌∷◌, refl, sym, ◌∙◌, ap, arith, subst}
 use Rattle.std.specs.Prelude.{◌==◌, Option, Some, None, Result, Ok, Err}
 use Rattle.riak_msgs.specs.Contents.{Content}
-use Rattle.sibling_register.specs.History.{Event, is_update}
-use Rattle.sibling_register.specs.Answers.{Ask, AskGet, GetCommand, Refused as ToldRefused, Answers, Accepts}
+use Rattle.sibling_register.specs.History.{Event}
+use Rattle.sibling_register.specs.Answers.{Ask, AskGet, GetCommand, Refused as ToldRefused, Answers, Accepts as ToldAccepts}
 use Rattle.actor_epoch.specs.Given.{Context}
-use Rattle.vnode_machine.specs.Machine.{State}
-use Rattle.vnode_machine.specs.Replay.{History, replay, HasReplay, IsWithinLimits}
+use Rattle.vnode_machine.specs.Machine.{State, apply_operation}
+use Rattle.vnode_machine.specs.Replay.{History, Accepts, IsWithinLimits}
 use Rattle.vnode_machine.specs.Replies.{get_reply}
 use Rattle.vnode_machine.specs.Step.{Response, GetDone, StepOutcome, Refused, Answered, Accepted, outcome as outcome_of_ask}
 use Rattle.vnode_machine.specs.Registers.{key_of, context_in_ask, next_event, IsRegisters, IsNext}
-use Rattle.vnode_machine.specs.Runs.{IsAnswer}
 use Rattle.vnode_machine.proofs.StepLaw.{registers-after}
-use Rattle.node_steps.specs.World.{Word, Open, Taken, Phase, Idle, Asked, Reading, Holding, Done, Vnode, Call, call_of}
-use Rattle.node_steps.specs.Steps.{Action, Asks, Enters, Leaves, Marks, Unmarks, Takes, Puts, Looks, Publishes, is_reap, Outcome, NotPossible, Happened, Replied, Turn, left, moves, lays, answers, looks_by, publishes_by, turn_of, site_of}
+use Rattle.copy_laws.specs.Copies.{Command, commands_of}
+use Rattle.copy_laws.specs.Joining.{Log}
+use Rattle.node_steps.specs.World.{Word, Open, Taken, Phase, Idle, Asked, Reading, Holding, Done, Vnode, Call, call_of, history_of}
+use Rattle.node_steps.specs.Steps.{Action, Asks, Enters, Leaves, Marks, Unmarks, Takes, Puts, Looks, Publishes, Turn, left, moves, lays, answers, looks_by, publishes_by, turn_of, site_of}
 use Rattle.node_steps.specs.Schedules.{Begins}
 use Rattle.node_steps.specs.Contexts.{context_bytes}
-use Rattle.node_steps.proofs.Lists.{one}
+use Rattle.node_steps.proofs.Accepting.{accepted_is, was_accepted}
+use Rattle.node_steps.proofs.Coming.{CallIs, IsReplyTo, Comes}
+use Rattle.node_steps.proofs.Lists.{one, no_more, cancel}
 use Rattle.node_steps.proofs.Beginnings.{begins-itself, begins-longer}
 use Rattle.node_steps.proofs.Shown.{AreHeld, ShowsHeld, outcome_shows, updates, accepts_update}
-use Rattle.node_steps.proofs.Inside.{is_reader, is_holder, FitsWord, IsInPlace, IsInHand, IsAbout, same_test, IsSoundAs}
-
--- the call is as it was, or answered, or new
-abbrev pub CallIs : Action → (before later : Option Call) → Type 0
-CallIs action before later = (later ≡ before) ⊎ ((later ≡ None) ⊎ ((call : Call) × (later ≡ Some call) × (action ≡ Asks call.site call.ask)))
-
--- the history is as it was, or has an event of the ask more
-abbrev pub EventIs : Ask Content Context → (before later : History) → Type 0
-EventIs ask before later =
-    (later ≡ before)
-    ⊎ ((event : Event Content Context) × (later ≡ event ∷ before) × (event.key ≡ key_of ask) × (event.context ≡ context_in_ask ask)
-    × (is_reap ask ≡ false → is_update event.operation ≡ true))
-
--- what a reply shows in this state
-abbrev pub ReplyShows : State Content → Ask Content Context → Result Response ℕ → Type 0
-ReplyShows state ask (Ok response) = AreHeld state (key_of ask) (context_bytes response)
-ReplyShows state ask (Err number) = Unit {0}
-
--- the turn answers a call as the register may; its worker has then seen the history
-pub record IsReplyTo (id epoch index : ℕ) (history : History) (t : Turn) (reply : Result Response ℕ) (call : Call) : Type 0 where
-  pub at : call.site ≡ index
-  pub answer : IsAnswer id epoch history (record { ask = call.ask; reply = reply }) t.vnode.history
-  pub seen : t.seen ≡ t.vnode.history
-  pub event : EventIs call.ask history t.vnode.history
-  pub shows : ReplyShows (replay id epoch t.vnode.history) call.ask reply
-
--- a turn answers nothing, and the history stays; or it answers the call
-abbrev pub Comes : (id epoch index : ℕ) → Option Call → History → Turn → Outcome → Type 0
-Comes id epoch index call history t NotPossible = ⊥
-Comes id epoch index call history t Happened = t.vnode.history ≡ history
-Comes id epoch index call history t (Replied reply) = (c : Call) × (call ≡ Some c) × IsReplyTo id epoch index history t reply c
+use Rattle.node_steps.proofs.Inside.{is_reader, is_holder, FitsWord, state_of, replayed, IsInPlace, IsInHand, IsAbout, same_test, IsSoundAs, IsPlain}
 
 module _ (id epoch index readers holders : ℕ) where
   -- what a turn of a worker in this phase leaves, and what comes of it
-  pub record IsTurn (action : Action) (phase : Phase) (history : History) (t : Turn) : Type 0 where
+  pub record IsTurn (action : Action) (phase : Phase) (log : Log) (t : Turn) : Type 0 where
     pub same_id : t.vnode.id ≡ id
     pub same_epoch : t.vnode.last_epoch ≡ epoch
-    pub replays : HasReplay id epoch t.vnode.history
-    pub same : (t.vnode.history ≡ history) ⊎ (is_holder index phase ≡ true)
-    pub grows : Begins history t.vnode.history
+    pub same : (t.vnode.log ≡ log) ⊎ (is_holder index phase ≡ true)
+    pub grows : Begins (commands_of log) (history_of t.vnode)
     pub word : (r h : ℕ) → r + one (is_reader index phase) ≡ readers + one (is_reader index t.phase)
         → h + one (is_holder index phase) ≡ holders + one (is_holder index t.phase) → FitsWord t.vnode.word r h
-    pub place : IsInPlace id epoch t.vnode.word t.vnode.history t.vnode.place
-    pub hand : IsInHand id epoch index t.vnode.history t.phase
-    pub seen : Begins t.seen t.vnode.history
+    pub place : IsInPlace id epoch t.vnode.word t.vnode.log t.vnode.place
+    pub hand : IsInHand id epoch index t.vnode.log t.phase
+    pub seen : Begins t.seen (history_of t.vnode)
     pub at : IsAbout index t.phase
     pub call : CallIs action (call_of phase) (call_of t.phase)
-    pub comes : Comes id epoch index (call_of phase) history t t.outcome
+    pub plain : IsPlain id epoch log → IsPlain id epoch t.vnode.log
+    pub comes : Comes id epoch index (call_of phase) log t t.outcome
 
   one_same : (a : ℕ) → a ≡ index → one (a == index) ≡ 1
   one_same a e = ap one (same_test a index e)
@@ -75,22 +48,18 @@ module _ (id epoch index readers holders : ℕ) where
   fits_same (Open n mark) f r h p q = (p ∙ f.0, q ∙ f.1)
   fits_same Taken f r h p q = (p ∙ f.0, q ∙ f.1)
 
-  no_more : (a b : ℕ) → a + 0 ≡ b + 0 → a ≡ b
-  no_more a b h = omega (arith, h)
-
-  cancel : (m n : ℕ) (c : Bool) → m + one c ≡ n + one c → m ≡ n
-  cancel m n true h = omega (arith, h)
-  cancel m n false h = omega (arith, h)
-
   -- the state in place, where a reader is inside
-  pub place_read : (word : Word) (history : History) (place : State Content) → FitsWord word readers holders → 1 ≤ readers
-      → IsInPlace id epoch word history place → place ≡ replay id epoch history
-  place_read (Open n mark) history place f h p = p
-  place_read Taken history place f h p = absurd (omega (arith, f.0, h))
+  pub place_read : (word : Word) (log : Log) (place : State Content) → FitsWord word readers holders → 1 ≤ readers
+      → IsInPlace id epoch word log place → place ≡ state_of id epoch log
+  place_read (Open n mark) log place f h p = p
+  place_read Taken log place f h p = absurd (omega (arith, f.0, h))
 
-  module _ (limits : IsWithinLimits id epoch) (history seen : History) (place : State Content) (replays : HasReplay id epoch history) (has : Begins seen history) where
+  module _ (limits : IsWithinLimits id epoch) (log : Log) (seen : History) (place : State Content) (has : Begins seen (commands_of log)) where
+    abbrev history : History
+    history = commands_of log
+
     abbrev vnode_in : Word → Vnode
-    vnode_in word = record { id = id; last_epoch = epoch; word = word; history = history; place = place }
+    vnode_in word = record { id = id; last_epoch = epoch; word = word; log = log; place = place }
 
     abbrev turns : Word → Action → Phase → Option Turn
     turns word action phase = turn_of seen (vnode_in word) action phase
@@ -101,12 +70,11 @@ module _ (id epoch index readers holders : ℕ) where
         → h + one (is_holder index phase) ≡ holders + one (is_holder index next) → FitsWord word r h
 
     -- a turn that moves its worker, and the word
-    moved : (action : Action) (phase next : Phase) (word : Word) → Fits phase next word → IsInPlace id epoch word history place → IsInHand id epoch index history next
-        → IsAbout index next → CallIs action (call_of phase) (call_of next) → (old : Word) → IsTurn action phase history (moves seen (vnode_in old) next word)
+    moved : (action : Action) (phase next : Phase) (word : Word) → Fits phase next word → IsInPlace id epoch word log place → IsInHand id epoch index log next
+        → IsAbout index next → CallIs action (call_of phase) (call_of next) → (old : Word) → IsTurn action phase log (moves seen (vnode_in old) next word)
     moved action phase next word fits in_place in_hand at call old = record {
       same_id = refl;
       same_epoch = refl;
-      replays = replays;
       same = inl refl;
       grows = begins-itself history;
       word = fits;
@@ -115,20 +83,21 @@ module _ (id epoch index readers holders : ℕ) where
       seen = has;
       at = at;
       call = call;
+      plain = λ plain. plain;
       comes = refl;
     }
 
-    asks_turn : (word : Word) → FitsWord word readers holders → IsInPlace id epoch word history place → (other : ℕ) (ask : Ask Content Context) → other ≡ index → (t : Turn)
-        → turns word (Asks other ask) Idle ≡ Some t → IsTurn (Asks other ask) Idle history t
+    asks_turn : (word : Word) → FitsWord word readers holders → IsInPlace id epoch word log place → (other : ℕ) (ask : Ask Content Context) → other ≡ index → (t : Turn)
+        → turns word (Asks other ask) Idle ≡ Some t → IsTurn (Asks other ask) Idle log t
     asks_turn word f p other ask e t h =
-        subst (λ u. IsTurn (Asks other ask) Idle history u) (cc)
+        subst (λ u. IsTurn (Asks other ask) Idle log u) (cc)
         (moved (Asks other ask) Idle (Asked other ask) word (λ r h p q. fits_same word f r h (no_more r readers p) (no_more h holders q)) p tt e
         (inr (inr (record { site = other; ask = ask }, refl, refl))) word)
 
-    enter_turn : (word : Word) → FitsWord word readers holders → IsInPlace id epoch word history place → (other : ℕ) (get : GetCommand Context) → other ≡ index → (t : Turn)
-        → turns word Enters (Asked other (AskGet get)) ≡ Some t → IsTurn Enters (Asked other (AskGet get)) history t
+    enter_turn : (word : Word) → FitsWord word readers holders → IsInPlace id epoch word log place → (other : ℕ) (get : GetCommand Context) → other ≡ index → (t : Turn)
+        → turns word Enters (Asked other (AskGet get)) ≡ Some t → IsTurn Enters (Asked other (AskGet get)) log t
     enter_turn (Open n false) f p other get e t h =
-        subst (λ u. IsTurn Enters (Asked other (AskGet get)) history u) (cc)
+        subst (λ u. IsTurn Enters (Asked other (AskGet get)) log u) (cc)
         (moved Enters (Asked other (AskGet get)) (Reading other get) (Open (n + 1) false)
         (λ r h p q. (omega (arith, p, one_same other e, f.0), omega (arith, q, f.1))) p tt e (inl refl) (Open n false))
     enter_turn (Open n true) f p other get e t h = cc
@@ -139,44 +108,44 @@ module _ (id epoch index readers holders : ℕ) where
     leave_fits (Open n mark) f phase next a b c d = λ r h p q. (omega (arith, p, q, a, ap one b, f.0), omega (arith, q, ap one c, ap one d, f.1))
     leave_fits Taken f phase next a b c d = λ r h p q. absurd (omega (arith, p, a, ap one b, f.0))
 
-    left_place : (word : Word) → IsInPlace id epoch word history place → IsInPlace id epoch (left word) history place
+    left_place : (word : Word) → IsInPlace id epoch word log place → IsInPlace id epoch (left word) log place
     left_place (Open n mark) p = p
     left_place Taken p = p
 
-    leave_turn : (word : Word) → FitsWord word readers holders → IsInPlace id epoch word history place → (phase : Phase) → IsAbout index phase → (t : Turn)
-        → turns word Leaves phase ≡ Some t → IsTurn Leaves phase history t
+    leave_turn : (word : Word) → FitsWord word readers holders → IsInPlace id epoch word log place → (phase : Phase) → IsAbout index phase → (t : Turn)
+        → turns word Leaves phase ≡ Some t → IsTurn Leaves phase log t
     leave_turn word f p Idle at t h = cc
     leave_turn word f p (Asked other ask) at t h = cc
     leave_turn word f p (Reading other get) at t h =
-        subst (λ u. IsTurn Leaves (Reading other get) history u) (cc)
+        subst (λ u. IsTurn Leaves (Reading other get) log u) (cc)
         (moved Leaves (Reading other get) (Asked other (AskGet get)) (left word)
         (leave_fits word f (Reading other get) (Asked other (AskGet get)) (one_same other at) refl refl refl) (left_place word p) tt at (inl refl) word)
     leave_turn word f p (Holding other ask hand plan) at t h = cc
     leave_turn word f p (Done other None) at t h =
-        subst (λ u. IsTurn Leaves (Done other None) history u) (cc)
+        subst (λ u. IsTurn Leaves (Done other None) log u) (cc)
         (moved Leaves (Done other None) Idle (left word) (leave_fits word f (Done other None) Idle (one_same other at) refl refl refl) (left_place word p) tt tt (inl refl) word)
     leave_turn word f p (Done other (Some hand)) at t h = cc
 
-    mark_turn : (word : Word) → FitsWord word readers holders → IsInPlace id epoch word history place → (other : ℕ) (ask : Ask Content Context) → other ≡ index → (t : Turn)
-        → turns word Marks (Asked other ask) ≡ Some t → IsTurn Marks (Asked other ask) history t
+    mark_turn : (word : Word) → FitsWord word readers holders → IsInPlace id epoch word log place → (other : ℕ) (ask : Ask Content Context) → other ≡ index → (t : Turn)
+        → turns word Marks (Asked other ask) ≡ Some t → IsTurn Marks (Asked other ask) log t
     mark_turn (Open n false) f p other ask e t h =
-        subst (λ u. IsTurn Marks (Asked other ask) history u) (cc)
+        subst (λ u. IsTurn Marks (Asked other ask) log u) (cc)
         (moved Marks (Asked other ask) (Asked other ask) (Open n true) (λ r h p q. (no_more r readers p ∙ f.0, no_more h holders q ∙ f.1)) p tt e (inl refl) (Open n false))
     mark_turn (Open n true) f p other ask e t h = cc
     mark_turn Taken f p other ask e t h = cc
 
-    unmark_turn : (word : Word) → FitsWord word readers holders → IsInPlace id epoch word history place → (other : ℕ) (ask : Ask Content Context) → other ≡ index → (t : Turn)
-        → turns word Unmarks (Asked other ask) ≡ Some t → IsTurn Unmarks (Asked other ask) history t
+    unmark_turn : (word : Word) → FitsWord word readers holders → IsInPlace id epoch word log place → (other : ℕ) (ask : Ask Content Context) → other ≡ index → (t : Turn)
+        → turns word Unmarks (Asked other ask) ≡ Some t → IsTurn Unmarks (Asked other ask) log t
     unmark_turn (Open n false) f p other ask e t h = cc
     unmark_turn (Open n true) f p other ask e t h =
-        subst (λ u. IsTurn Unmarks (Asked other ask) history u) (cc)
+        subst (λ u. IsTurn Unmarks (Asked other ask) log u) (cc)
         (moved Unmarks (Asked other ask) (Asked other ask) (Open n false) (λ r h p q. (no_more r readers p ∙ f.0, no_more h holders q ∙ f.1)) p tt e (inl refl) (Open n true))
     unmark_turn Taken f p other ask e t h = cc
 
-    take_turn : (word : Word) → FitsWord word readers holders → IsInPlace id epoch word history place → (other : ℕ) (ask : Ask Content Context) → other ≡ index → (t : Turn)
-        → turns word Takes (Asked other ask) ≡ Some t → IsTurn Takes (Asked other ask) history t
+    take_turn : (word : Word) → FitsWord word readers holders → IsInPlace id epoch word log place → (other : ℕ) (ask : Ask Content Context) → other ≡ index → (t : Turn)
+        → turns word Takes (Asked other ask) ≡ Some t → IsTurn Takes (Asked other ask) log t
     take_turn (Open zero mark) f p other ask e t h =
-        subst (λ u. IsTurn Takes (Asked other ask) history u) (cc)
+        subst (λ u. IsTurn Takes (Asked other ask) log u) (cc)
         (moved Takes (Asked other ask) (Holding other ask place None) Taken
         (λ r h p q. (omega (arith, p, f.0), omega (arith, q, one_same other e, f.1))) tt (λ _. (p, tt)) e (inl refl) (Open zero mark))
     take_turn (Open (suc n) mark) f p other ask e t h = cc
@@ -187,12 +156,11 @@ module _ (id epoch index readers holders : ℕ) where
     lay_fits (Open n mark) f phase next a b c d = λ r h p q. absurd (omega (arith, q, a, ap one b, f.1))
     lay_fits Taken f phase next a b c d = λ r h p q. (omega (arith, p, ap one c, ap one d, f.0), omega (arith, q, a, ap one b, f.1))
 
-    laid : (phase next : Phase) (word : Word) (hand : State Content) → Fits phase next (Open 0 false) → hand ≡ replay id epoch history
-        → IsInHand id epoch index history next → IsAbout index next → CallIs Puts (call_of phase) (call_of next) → IsTurn Puts phase history (lays seen (vnode_in word) next hand)
+    laid : (phase next : Phase) (word : Word) (hand : State Content) → Fits phase next (Open 0 false) → hand ≡ state_of id epoch log
+        → IsInHand id epoch index log next → IsAbout index next → CallIs Puts (call_of phase) (call_of next) → IsTurn Puts phase log (lays seen (vnode_in word) next hand)
     laid phase next word hand fits is in_hand at call = record {
       same_id = refl;
       same_epoch = refl;
-      replays = replays;
       same = inl refl;
       grows = begins-itself history;
       word = fits;
@@ -201,40 +169,42 @@ module _ (id epoch index readers holders : ℕ) where
       seen = has;
       at = at;
       call = call;
+      plain = λ plain. plain;
       comes = refl;
     }
 
-    put_turn : (word : Word) → FitsWord word readers holders → (phase : Phase) → IsAbout index phase → IsInHand id epoch index history phase → (t : Turn)
-        → turns word Puts phase ≡ Some t → IsTurn Puts phase history t
+    put_turn : (word : Word) → FitsWord word readers holders → (phase : Phase) → IsAbout index phase → IsInHand id epoch index log phase → (t : Turn)
+        → turns word Puts phase ≡ Some t → IsTurn Puts phase log t
     put_turn word f Idle at mine t h = cc
     put_turn word f (Asked other ask) at mine t h = cc
     put_turn word f (Reading other get) at mine t h = cc
     put_turn word f (Holding other ask hand plan) at mine t h =
-        subst (λ u. IsTurn Puts (Holding other ask hand plan) history u) (cc)
+        subst (λ u. IsTurn Puts (Holding other ask hand plan) log u) (cc)
         (laid (Holding other ask hand plan) (Asked other ask) word hand
         (lay_fits word f (Holding other ask hand plan) (Asked other ask) (one_same other at) refl refl refl) (mine at).0 tt at (inl refl))
     put_turn word f (Done other None) at mine t h = cc
     put_turn word f (Done other (Some hand)) at mine t h =
-        subst (λ u. IsTurn Puts (Done other (Some hand)) history u) (cc)
+        subst (λ u. IsTurn Puts (Done other (Some hand)) log u) (cc)
         (laid (Done other (Some hand)) Idle word hand (lay_fits word f (Done other (Some hand)) Idle (one_same other at) refl refl refl) (mine at) tt tt (inl refl))
 
     -- what comes of an ask in the replay is the register's
-    registers : (ask : Ask Content Context) (hand : State Content) (came : StepOutcome) → hand ≡ replay id epoch history → outcome_of_ask hand ask ≡ came → IsRegisters id epoch history ask came
-    registers ask hand came is h =
-        subst (λ c. IsRegisters id epoch history ask c) h (registers-after id epoch limits history hand ask (record { replays = replays; is = is }))
+    registers : IsPlain id epoch log → (ask : Ask Content Context) (hand : State Content) (came : StepOutcome) → hand ≡ state_of id epoch log → outcome_of_ask hand ask ≡ came → IsRegisters id epoch history ask came
+    registers plain ask hand came is h =
+        subst (λ c. IsRegisters id epoch history ask c) h
+        (registers-after id epoch limits history hand ask (record { replays = plain.replays; is = is ∙ replayed id epoch log plain.commands }))
 
     shows : (ask : Ask Content Context) (hand : State Content) (came : StepOutcome) → outcome_of_ask hand ask ≡ came → ShowsHeld hand ask came
     shows ask hand came h = subst (λ c. ShowsHeld hand ask c) h (outcome_shows hand ask)
 
     -- a look that answers: nothing but the worker changes
-    answered : (phase next : Phase) (word : Word) → FitsWord word readers holders → IsInPlace id epoch word history place → is_reader index phase ≡ is_reader index next
-        → is_holder index phase ≡ is_holder index next → IsInHand id epoch index history next → IsAbout index next → call_of next ≡ None
-        → (reply : Result Response ℕ) (call : Call) → call_of phase ≡ Some call → IsReplyTo id epoch index history (answers seen (vnode_in word) next reply) reply call
-        → IsTurn Looks phase history (answers seen (vnode_in word) next reply)
+    answered : (phase next : Phase) (word : Word) → FitsWord word readers holders → IsInPlace id epoch word log place → is_reader index phase ≡ is_reader index next
+        → is_holder index phase ≡ is_holder index next → IsInHand id epoch index log next → IsAbout index next → call_of next ≡ None
+        → (reply : Result Response ℕ) (call : Call) → call_of phase ≡ Some call
+        → IsReplyTo id epoch index log (answers seen (vnode_in word) next reply) reply call
+        → IsTurn Looks phase log (answers seen (vnode_in word) next reply)
     answered phase next word f p a b in_hand at none reply call c is = record {
       same_id = refl;
       same_epoch = refl;
-      replays = replays;
       same = inl refl;
       grows = begins-itself history;
       word = λ r h x y.
@@ -245,33 +215,34 @@ module _ (id epoch index readers holders : ℕ) where
       seen = begins-itself history;
       at = at;
       call = inr (inl none);
+      plain = λ plain. plain;
       comes = (call, c, is);
     }
 
-    look_held : (word : Word) → FitsWord word readers holders → IsInPlace id epoch word history place → (other : ℕ) (ask : Ask Content Context) (hand : State Content) → other ≡ index
-        → hand ≡ replay id epoch history → (came : StepOutcome) → outcome_of_ask hand ask ≡ came
-        → IsTurn Looks (Holding other ask hand None) history (looks_by seen (vnode_in word) other ask hand came)
+    look_held : (word : Word) → FitsWord word readers holders → IsInPlace id epoch word log place → (other : ℕ) (ask : Ask Content Context) (hand : State Content) → other ≡ index
+        → hand ≡ state_of id epoch log → (came : StepOutcome) → outcome_of_ask hand ask ≡ came
+        → IsTurn Looks (Holding other ask hand None) log (looks_by seen (vnode_in word) other ask hand came)
     look_held word f p other ask hand e is (Refused number) h =
         answered (Holding other ask hand None) (Done other (Some hand)) word f p refl refl (λ _. is) e refl (Err number) (record { site = other; ask = ask }) refl (record {
           at = e;
-          answer = record { given = Answers (ToldRefused number); may = registers ask hand (Refused number) is h; leads = refl; shown = refl };
+          answer = λ plain. record { given = Answers (ToldRefused number); may = registers plain ask hand (Refused number) is h; leads = refl; shown = refl };
           seen = refl;
           event = inl refl;
-          shows = tt;
+          shows = λ plain. tt;
         })
     look_held word f p other ask hand e is (Answered response) h =
-        let gives = registers ask hand (Answered response) is h in
         answered (Holding other ask hand None) (Done other (Some hand)) word f p refl refl (λ _. is) e refl (Ok response) (record { site = other; ask = ask }) refl (record {
           at = e;
-          answer = record { given = Answers gives.told; may = gives.given; leads = refl; shown = gives.shown };
+          answer = λ plain.
+              let gives = registers plain ask hand (Answered response) is h in
+              record { given = Answers gives.told; may = gives.given; leads = refl; shown = gives.shown };
           seen = refl;
           event = inl refl;
-          shows = subst (λ s. AreHeld s (key_of ask) (context_bytes response)) is (shows ask hand (Answered response) h);
+          shows = λ plain. subst (λ s. AreHeld s (key_of ask) (context_bytes response)) (is ∙ replayed id epoch log plain.commands) (shows ask hand (Answered response) h);
         })
     look_held word f p other ask hand e is (Accepted operation response next) h = record {
       same_id = refl;
       same_epoch = refl;
-      replays = replays;
       same = inl refl;
       grows = begins-itself history;
       word = λ r h x y. fits_same word f r h (no_more r readers x) (cancel h holders (other == index) y);
@@ -280,40 +251,42 @@ module _ (id epoch index readers holders : ℕ) where
       seen = begins-itself history;
       at = e;
       call = inl refl;
+      plain = λ plain. plain;
       comes = refl;
     }
 
-    look_turn : (word : Word) → FitsWord word readers holders → IsInPlace id epoch word history place → (phase : Phase) → one (is_reader index phase) ≤ readers → IsAbout index phase
-        → IsInHand id epoch index history phase → (t : Turn) → turns word Looks phase ≡ Some t → IsTurn Looks phase history t
+    look_turn : (word : Word) → FitsWord word readers holders → IsInPlace id epoch word log place → (phase : Phase) → one (is_reader index phase) ≤ readers → IsAbout index phase
+        → IsInHand id epoch index log phase → (t : Turn) → turns word Looks phase ≡ Some t → IsTurn Looks phase log t
     look_turn word f p Idle n at mine t h = cc
     look_turn word f p (Asked other ask) n at mine t h = cc
     look_turn word f p (Reading other get) n at mine t h =
         let reply : Result Response ℕ = Ok (GetDone (get_reply place get)) in
         let turn : Turn = answers seen (vnode_in word) (Done other None) reply in
         let same : turn ≡ t = cc in
-        let is : place ≡ replay id epoch history = place_read word history place f (omega (arith, n, one_same other at)) p in
-        let gives = registers (AskGet get) place (Answered (GetDone (get_reply place get))) is refl in
-        subst (λ u. IsTurn Looks (Reading other get) history u) same
+        let is : place ≡ state_of id epoch log = place_read word log place f (omega (arith, n, one_same other at)) p in
+        subst (λ u. IsTurn Looks (Reading other get) log u) same
         (answered (Reading other get) (Done other None) word f p refl refl tt at refl reply (record { site = other; ask = AskGet get }) refl (record {
           at = at;
-          answer = record { given = Answers gives.told; may = gives.given; leads = refl; shown = gives.shown };
+          answer = λ plain.
+              let gives = registers plain (AskGet get) place (Answered (GetDone (get_reply place get))) is refl in
+              record { given = Answers gives.told; may = gives.given; leads = refl; shown = gives.shown };
           seen = refl;
           event = inl refl;
-          shows = subst (λ s. AreHeld s get.key (get_reply place get).context) is (outcome_shows place (AskGet get));
+          shows = λ plain. subst (λ s. AreHeld s get.key (get_reply place get).context) (is ∙ replayed id epoch log plain.commands) (outcome_shows place (AskGet get));
         }))
     look_turn word f p (Holding other ask hand None) n at mine t h =
-        subst (λ u. IsTurn Looks (Holding other ask hand None) history u) (cc)
+        subst (λ u. IsTurn Looks (Holding other ask hand None) log u) (cc)
         (look_held word f p other ask hand at (mine at).0 (outcome_of_ask hand ask) refl)
     look_turn word f p (Holding other ask hand (Some plan)) n at mine t h = cc
     look_turn word f p (Done other hand) n at mine t h = cc
 
     -- while somebody holds the state, nothing is asked of what is in place
-    held_place : (word : Word) → FitsWord word readers holders → 1 ≤ holders → (later : History) → IsInPlace id epoch word later place
+    held_place : (word : Word) → FitsWord word readers holders → 1 ≤ holders → (later : Log) → IsInPlace id epoch word later place
     held_place (Open n mark) f held later = absurd (omega (arith, held, f.1))
     held_place Taken f held later = tt
 
-    publish_turn : (word : Word) → FitsWord word readers holders → (phase : Phase) → one (is_holder index phase) ≤ holders → IsAbout index phase → IsInHand id epoch index history phase → (t : Turn)
-        → turns word Publishes phase ≡ Some t → IsTurn Publishes phase history t
+    publish_turn : (word : Word) → FitsWord word readers holders → (phase : Phase) → one (is_holder index phase) ≤ holders → IsAbout index phase → IsInHand id epoch index log phase → (t : Turn)
+        → turns word Publishes phase ≡ Some t → IsTurn Publishes phase log t
     publish_turn word f Idle held at mine t h = cc
     publish_turn word f (Asked other ask) held at mine t h = cc
     publish_turn word f (Reading other get) held at mine t h = cc
@@ -323,28 +296,37 @@ module _ (id epoch index readers holders : ℕ) where
         let turn : Turn = publishes_by seen (vnode_in word) other ask plan in
         let same_turn : turn ≡ t = cc in
         let came : StepOutcome = Accepted plan.operation plan.response plan.next in
-        let next : IsNext id epoch history ask plan.operation plan.response plan.next = registers ask hand came (mine at).0 (mine at).1 in
-        subst (λ u. IsTurn Publishes (Holding other ask hand (Some plan)) history u) same_turn (record {
+        let next : IsPlain id epoch log → IsNext id epoch history ask plan.operation plan.response plan.next = λ plain. registers plain ask hand came (mine at).0 (mine at).1 in
+        subst (λ u. IsTurn Publishes (Holding other ask hand (Some plan)) log u) same_turn (record {
           same_id = refl;
           same_epoch = refl;
-          replays = next.leads.replays;
           same = inr (same_test other index at);
           grows = begins-longer event history history (begins-itself history);
           word = λ r h x y. fits_same word f r h (no_more r readers x) (cancel h holders (other == index) y);
-          place = held_place word f (omega (arith, held, one_same other at)) (event ∷ history);
-          hand = λ _. next.leads.is;
+          place = held_place word f (omega (arith, held, one_same other at)) (Command event ∷ log);
+          hand = λ _. accepted_is hand ask plan.operation plan.response plan.next (mine at).1
+              ∙ ap (λ s. apply_operation s (key_of ask) (context_in_ask ask) plan.operation) (mine at).0;
           seen = begins-itself (event ∷ history);
           at = at;
           call = inr (inl refl);
+          plain = λ plain. record { commands = ap (λ (l : Log). Command event ∷ l) plain.commands; replays = (next plain).leads.replays };
           comes = (
             record { site = other; ask = ask },
             refl,
             record {
               at = at;
-              answer = record { given = Accepts event next.told; may = next.given; leads = refl; shown = next.shown };
+              answer = λ plain. record { given = ToldAccepts event (next plain).told; may = (next plain).given; leads = refl; shown = (next plain).shown };
               seen = refl;
-              event = inr (event, refl, refl, refl, λ r. ap updates (sym (mine at).1) ∙ accepts_update hand ask r);
-              shows = subst (λ s. AreHeld s (key_of ask) (context_bytes plan.response)) next.leads.is (shows ask hand came (mine at).1);
+              event = inr (
+                event,
+                refl,
+                refl,
+                refl,
+                λ r. ap updates (sym (mine at).1) ∙ accepts_update hand ask r,
+                subst (λ s. Accepts s (key_of ask) (context_in_ask ask) plan.operation) (mine at).0 (was_accepted hand ask plan.operation plan.response plan.next (mine at).1),
+                refl,
+              );
+              shows = λ plain. subst (λ s. AreHeld s (key_of ask) (context_bytes plan.response)) (next plain).leads.is (shows ask hand came (mine at).1);
             },
           );
         })
@@ -357,33 +339,33 @@ module _ (id epoch index readers holders : ℕ) where
   about_is action (Holding other ask hand plan) h = cc
   about_is action (Done other hand) h = cc
 
-  pub turn_is : (seen : History) (vnode : Vnode) (same_id : vnode.id ≡ id) (same_epoch : vnode.last_epoch ≡ epoch) → IsSoundAs id epoch readers holders vnode → Begins seen vnode.history
+  pub turn_is : (seen : History) (vnode : Vnode) (same_id : vnode.id ≡ id) (same_epoch : vnode.last_epoch ≡ epoch) → IsSoundAs id epoch readers holders vnode → Begins seen (history_of vnode)
       → (action : Action) (phase : Phase) → one (is_reader index phase) ≤ readers → one (is_holder index phase) ≤ holders
-      → IsInHand id epoch index vnode.history phase → site_of action phase ≡ Some index → (t : Turn) → turn_of seen vnode action phase ≡ Some t → IsTurn action phase vnode.history t
+      → IsInHand id epoch index vnode.log phase → site_of action phase ≡ Some index → (t : Turn) → turn_of seen vnode action phase ≡ Some t → IsTurn action phase vnode.log t
   turn_is seen vnode same_id same_epoch sound has action phase reading held mine a t h =
       by action phase reading held mine a t
       (subst (λ e. turn_of seen (record vnode { id = id; last_epoch = e }) action phase ≡ Some t) same_epoch
       (subst (λ i. turn_of seen (record vnode { id = i }) action phase ≡ Some t) same_id h))
     where
       by : (action : Action) (phase : Phase) → one (is_reader index phase) ≤ readers → one (is_holder index phase) ≤ holders
-          → IsInHand id epoch index vnode.history phase → site_of action phase ≡ Some index → (t : Turn)
-          → turn_of seen (record vnode { id = id; last_epoch = epoch }) action phase ≡ Some t → IsTurn action phase vnode.history t
+          → IsInHand id epoch index vnode.log phase → site_of action phase ≡ Some index → (t : Turn)
+          → turn_of seen (record vnode { id = id; last_epoch = epoch }) action phase ≡ Some t → IsTurn action phase vnode.log t
       by (Asks other ask) Idle reading held mine a t h =
-          asks_turn sound.limits vnode.history seen vnode.place sound.replays has vnode.word sound.word sound.place other ask (cc) t h
+          asks_turn sound.limits vnode.log seen vnode.place has vnode.word sound.word sound.place other ask (cc) t h
       by Enters (Asked other (AskGet get)) reading held mine a t h =
-          enter_turn sound.limits vnode.history seen vnode.place sound.replays has vnode.word sound.word sound.place other get (cc) t h
+          enter_turn sound.limits vnode.log seen vnode.place has vnode.word sound.word sound.place other get (cc) t h
       by Leaves phase reading held mine a t h =
-          leave_turn sound.limits vnode.history seen vnode.place sound.replays has vnode.word sound.word sound.place phase (about_is Leaves phase a) t h
+          leave_turn sound.limits vnode.log seen vnode.place has vnode.word sound.word sound.place phase (about_is Leaves phase a) t h
       by Marks (Asked other ask) reading held mine a t h =
-          mark_turn sound.limits vnode.history seen vnode.place sound.replays has vnode.word sound.word sound.place other ask (cc) t h
+          mark_turn sound.limits vnode.log seen vnode.place has vnode.word sound.word sound.place other ask (cc) t h
       by Unmarks (Asked other ask) reading held mine a t h =
-          unmark_turn sound.limits vnode.history seen vnode.place sound.replays has vnode.word sound.word sound.place other ask (cc) t h
+          unmark_turn sound.limits vnode.log seen vnode.place has vnode.word sound.word sound.place other ask (cc) t h
       by Takes (Asked other ask) reading held mine a t h =
-          take_turn sound.limits vnode.history seen vnode.place sound.replays has vnode.word sound.word sound.place other ask (cc) t h
+          take_turn sound.limits vnode.log seen vnode.place has vnode.word sound.word sound.place other ask (cc) t h
       by Puts phase reading held mine a t h =
-          put_turn sound.limits vnode.history seen vnode.place sound.replays has vnode.word sound.word phase (about_is Puts phase a) mine t h
+          put_turn sound.limits vnode.log seen vnode.place has vnode.word sound.word phase (about_is Puts phase a) mine t h
       by Looks phase reading held mine a t h =
-          look_turn sound.limits vnode.history seen vnode.place sound.replays has vnode.word sound.word sound.place phase reading (about_is Looks phase a) mine t h
+          look_turn sound.limits vnode.log seen vnode.place has vnode.word sound.word sound.place phase reading (about_is Looks phase a) mine t h
       by Publishes phase reading held mine a t h =
-          publish_turn sound.limits vnode.history seen vnode.place sound.replays has vnode.word sound.word phase held (about_is Publishes phase a) mine t h
+          publish_turn sound.limits vnode.log seen vnode.place has vnode.word sound.word phase held (about_is Publishes phase a) mine t h
       by action phase reading held mine a t h = cc

@@ -17,7 +17,7 @@ use Rattle.vnode_machine.specs.Contexts.{SawPosition}
 use Rattle.vnode_machine.specs.Runs.{IsAnswer}
 use Rattle.vnode_machine.specs.Laws.{NoDotTwice, DotsAreOfLives}
 use Rattle.vnode_machine.specs.Leaving.{is_taken_in}
-use Rattle.node_steps.specs.World.{Phase, Reading, Holding, Vnode, Worker, World, Call, worker_at, id_at, last_epoch_at, history_at, front_at, call_at}
+use Rattle.node_steps.specs.World.{Phase, Reading, Holding, Vnode, Worker, World, Call, history_of, worker_at, id_at, last_epoch_at, history_at, front_at, call_at}
 use Rattle.node_steps.specs.Steps.{Looks, Step, By, number_of, Outcome, Happened, Replied, happens, after, outcome}
 use Rattle.node_steps.specs.Schedules.{Start, IsStart, world_after, Begins}
 use Rattle.node_steps.specs.Contexts.{GivesShown}
@@ -46,7 +46,7 @@ abbrev pub LooksShowReplays : World → Type 0
 LooksShowReplays w =
     (number site : ℕ) (worker : Worker) (vnode : Vnode) (state : State Content)
     → worker_at w number ≡ Some worker → slice_get w.vnodes site ≡ Some vnode
-    → state_shown worker.phase vnode ≡ Some (site, state) → IsAfter vnode.id vnode.last_epoch vnode.history state
+    → state_shown worker.phase vnode ≡ Some (site, state) → IsAfter vnode.id vnode.last_epoch (history_of vnode) state
 
 -- what comes of a look, by what the machine does with the call in the state that is shown
 abbrev pub comes_of : StepOutcome → Outcome

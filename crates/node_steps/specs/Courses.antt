@@ -5,7 +5,7 @@ use Rattle.actor_epoch.specs.Given.{Context}
 use Rattle.copy_laws.specs.Copies.{all_commands}
 use Rattle.copy_laws.specs.Sides.{Partition}
 use Rattle.copy_laws.specs.Diversions.{Course, Happens, diversions_of, fallback_of, primary_of}
-use Rattle.node_steps.specs.World.{World, id_of, route, history_at}
+use Rattle.node_steps.specs.World.{World, id_of, route, log_at, history_at}
 use Rattle.node_steps.specs.Steps.{Step, fallback_ids, happens}
 use Rattle.node_steps.specs.Schedules.{Start, IsStart, world_after}
 use Rattle.node_steps.specs.Contexts.{given_by, Shows}
@@ -41,10 +41,12 @@ module _ (start : Start) (index : ℕ) where
       × (happens w step ≢ None → (site : ℕ) → IsSiteOf w index site → (key : Key) (context : Context)
       → given_by w step site key ≡ Some context → WasShownThere earlier key context)
 
--- a course whose primary has the history at the partition's own site, and whose fallback, once it is diverted, that at the other
+-- a course whose primary has the log at the partition's own site, of commands alone as no step copies, and whose fallback, once it is
+-- diverted, has the history at the other
 pub record IsCourseOf (partition : Partition) (w : World) (index : ℕ) (course : Course) : Type 0 where
   pub may_happen : Happens partition course
-  pub primary : primary_of partition course ≡ all_commands (history_at w index)
+  pub primary : primary_of partition course ≡ log_at w index
+  pub commands : log_at w index ≡ all_commands (history_at w index)
   pub own : route w index ≡ Some index → diversions_of course ≡ 0
   pub fallback : (site : ℕ) → route w index ≡ Some site → site ≢ index → (diversions_of course ≡ 1) × (fallback_of course 1 ≡ history_at w site)
 

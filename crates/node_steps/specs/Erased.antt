@@ -16,7 +16,7 @@ erase_place (Open readers marked) place = place
 erase_place Taken place = blank
 
 abbrev pub erase_vnode : Vnode → Vnode
-erase_vnode vnode = record { id = 0; last_epoch = 0; word = vnode.word; history = []; place = erase_place vnode.word vnode.place }
+erase_vnode vnode = record { id = 0; last_epoch = 0; word = vnode.word; log = []; place = erase_place vnode.word vnode.place }
 
 abbrev pub erase_worker : Worker → Worker
 erase_worker worker = record { phase = worker.phase; seen = [] }

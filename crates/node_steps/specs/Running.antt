@@ -42,8 +42,8 @@ phase_of (phases.Done index hand) = Done index (option_map (λ h. h.value.state)
 
 -- a vnode by its word and its state, where that is in place
 abbrev pub vnode_by : (readers : ℕ) (marked : Bool) → Option HandView → Vnode
-vnode_by readers marked None = record { id = 0; last_epoch = 0; word = Taken; history = []; place = blank }
-vnode_by readers marked (Some hand) = record { id = 0; last_epoch = 0; word = Open readers marked; history = []; place = hand.state }
+vnode_by readers marked None = record { id = 0; last_epoch = 0; word = Taken; log = []; place = blank }
+vnode_by readers marked (Some hand) = record { id = 0; last_epoch = 0; word = Open readers marked; log = []; place = hand.state }
 
 abbrev pub vnode_of : Site → Vnode
 vnode_of site = vnode_by site.readers site.marked (option_map (λ h. h.value) site.place)

@@ -17,6 +17,7 @@ use Rattle.std.specs.Prelude.{Bool, true, false, not, if◌then◌else◌, ◌==
 use Rattle.std.specs.Option.{option_map_or}
 use Rattle.std.specs.List.{list_all}
 use Rattle.riak_msgs.specs.Contents.{Content}
+use Rattle.sibling_register.specs.History.{Event}
 use Rattle.sibling_register.specs.Answers.{Ask, AskGet, AskReap}
 use Rattle.actor_epoch.specs.Given.{Context}
 use Rattle.vnode_machine.specs.Machine.{State}
@@ -24,7 +25,8 @@ use Rattle.vnode_machine.specs.Replay.{History}
 use Rattle.vnode_machine.specs.Replies.{get_reply}
 use Rattle.vnode_machine.specs.Step.{Response, GetDone, StepOutcome, Refused, Answered, Accepted, outcome as outcome_of_ask}
 use Rattle.vnode_machine.specs.Registers.{next_event}
-use Rattle.node_steps.specs.World.{Word, Open, Taken, Plan, Phase, Idle, Asked, Reading, Holding, Done, Vnode, Worker, World, fresh_vnode, seen_at, worker_at, route}
+use Rattle.copy_laws.specs.Copies.{Command}
+use Rattle.node_steps.specs.World.{Word, Open, Taken, Plan, Phase, Idle, Asked, Reading, Holding, Done, Vnode, Worker, World, fresh_vnode, history_of, seen_at, worker_at, route}
 
 -- what a worker does
 pub data Action : Type 0 where
@@ -111,7 +113,7 @@ module _ (seen : History) (vnode : Vnode) where
 
   -- the worker has seen the vnode's whole history, and its call is answered
   abbrev pub answers : Phase → Result Response ℕ → Turn
-  answers phase reply = record { phase = phase; seen = vnode.history; vnode = vnode; outcome = Replied reply }
+  answers phase reply = record { phase = phase; seen = history_of vnode; vnode = vnode; outcome = Replied reply }
 
   -- a holder's look, by what comes of its call in the state in its hand: it is answered, or keeps the plan
   abbrev pub looks_by : ℕ → Ask Content Context → State Content → StepOutcome → Turn
@@ -119,16 +121,16 @@ module _ (seen : History) (vnode : Vnode) where
   looks_by site ask hand (Answered response) = answers (Done site (Some hand)) (Ok response)
   looks_by site ask hand (Accepted operation response next) =
       let plan : Plan = record { operation = operation; response = response; next = next } in
-      record { phase = Holding site ask hand (Some plan); seen = vnode.history; vnode = vnode; outcome = Happened }
+      record { phase = Holding site ask hand (Some plan); seen = history_of vnode; vnode = vnode; outcome = Happened }
 
-  -- the planned operation is the history's next event, the state in hand is the one after it, and the call is answered
+  -- the planned operation is the log's next entry, and so the history's next event, the state in hand is the one after it, and the call is answered
   abbrev pub publishes_by : ℕ → Ask Content Context → Plan → Turn
   publishes_by site ask plan =
-      let history : History = next_event vnode.id vnode.last_epoch vnode.history ask plan.operation ∷ vnode.history in
+      let event : Event Content Context = next_event vnode.id vnode.last_epoch (history_of vnode) ask plan.operation in
       record {
         phase = Done site (Some plan.next);
-        seen = history;
-        vnode = record vnode { history = history };
+        seen = event ∷ history_of vnode;
+        vnode = record vnode { log = Command event ∷ vnode.log };
         outcome = Replied (Ok plan.response);
       }
 

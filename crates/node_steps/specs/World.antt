@@ -9,6 +9,8 @@ use Rattle.actor_epoch.specs.Given.{Context}
 use Rattle.vnode_machine.specs.Machine.{State, opening}
 use Rattle.vnode_machine.specs.Replay.{History}
 use Rattle.vnode_machine.specs.Step.{Response}
+use Rattle.copy_laws.specs.Copies.{commands_of}
+use Rattle.copy_laws.specs.Joining.{Log}
 
 -- the word of a vnode: so many readers are inside, and it is marked or not; or it is taken
 pub data Word : Type 0 where
@@ -34,14 +36,18 @@ pub data Phase : Type 0 where
   -- its call is answered, and it is inside as a reader, or with the state in its hand
   Done : (site : ℕ) (hand : Option (State Content)) → Phase
 
--- the vnode at a site: its id, the last epoch that had been given when it was opened, its word, its history, and the state in
--- place; while it is taken nobody is shown what was in place
+-- the vnode at a site: its id, the last epoch that had been given when it was opened, its word, the log of what it accepted, newest
+-- entry first, and the state in place; while it is taken nobody is shown what was in place
 pub record Vnode : Type 0 where
   pub id : ℕ
   pub last_epoch : ℕ
   pub word : Word
-  pub history : History
+  pub log : Log
   pub place : State Content
+
+-- the history of a vnode: the commands of its log
+abbrev pub history_of : Vnode → History
+history_of vnode = commands_of vnode.log
 
 -- a worker: its phase, and site by site the front of the history there that it has seen; of a site that it doesn't know, nothing
 pub record Worker : Type 0 where
@@ -57,7 +63,7 @@ pub record World : Type 0 where
 -- a vnode of this id before any event, opened behind an epoch
 abbrev pub fresh_vnode : (id last_epoch : ℕ) → Vnode
 fresh_vnode id last_epoch =
-    record { id = id; last_epoch = last_epoch; word = Open 0 false; history = []; place = opening id last_epoch }
+    record { id = id; last_epoch = last_epoch; word = Open 0 false; log = []; place = opening id last_epoch }
 
 -- the id of a partition's own vnode, by the index in a run's ring
 abbrev pub id_of : (run index : ℕ) → ℕ
@@ -94,15 +100,18 @@ worker_at w (suc place) = slice_get w.workers place
 abbrev pub route : World → (index : ℕ) → Option ℕ
 route w index = slice_get w.routes index
 
--- the id of the vnode at a site, the epoch that it was opened behind, and its history, empty where there is no such site
+-- the id of the vnode at a site, the epoch that it was opened behind, its log and its history, empty where there is no such site
 abbrev pub id_at : World → ℕ → ℕ
 id_at w site = option_map_or (λ vnode. vnode.id) (slice_get w.vnodes site) 0
 
 abbrev pub last_epoch_at : World → ℕ → ℕ
 last_epoch_at w site = option_map_or (λ vnode. vnode.last_epoch) (slice_get w.vnodes site) 0
 
+abbrev pub log_at : World → ℕ → Log
+log_at w site = option_map_or (λ vnode. vnode.log) (slice_get w.vnodes site) []
+
 abbrev pub history_at : World → ℕ → History
-history_at w site = option_map_or (λ vnode. vnode.history) (slice_get w.vnodes site) []
+history_at w site = option_map_or (λ vnode. history_of vnode) (slice_get w.vnodes site) []
 
 -- the front that was seen at a site; past the end of the list nothing was
 abbrev pub seen_at : List History → (site : ℕ) → History

@@ -1,21 +1,22 @@
 //! The pure core of all schedules: workers over vnodes, step by step, in any order.
 //!
 //! A world (`specs/World`) has for each site a vnode: a word (how many readers are inside and whether it is marked, or that it is
-//! taken), its whole history, and the state in place; for each worker a phase with its call, the state in its hand and
-//! its plan, and for each site the front of the history that it has seen. A call is for a partition, and one function (`route`)
-//! says to which site it goes: to that of the partition's own vnode, its primary, or, where the partition is diverted, to that of a
-//! fallback. A step is one partition's, which is diverted, or one worker's, at one site (`specs/Steps`):
-//! it gets a call, enters as a reader or leaves, marks the word or takes the mark away, takes the state into its hand or puts it
-//! back, looks, or publishes its plan. A look is a step of the vnode machine in the state shown: it answers, or what the machine
-//! accepts becomes the plan. A step that isn't possible changes nothing.
+//! taken), the log of what it accepted, whose commands are its history, and the state in place; for each worker a phase with its
+//! call, the state in its hand and its plan, and for each site the front of the history that it has seen. A call is for a
+//! partition, and one function (`route`) says to which site it goes: to that of the partition's own vnode, its primary, or, where
+//! the partition is diverted, to that of a fallback. A step is one partition's, which is diverted, or one worker's, at one site
+//! (`specs/Steps`): it gets a call, enters as a reader or leaves, marks the word or takes the mark away, takes the state into its
+//! hand or puts it back, looks, or publishes its plan. A look is a step of the vnode machine in the state shown: it answers, or
+//! what the machine accepts becomes the plan. A step that isn't possible changes nothing.
 //!
 //! A vnode has its id and the epoch that it was opened behind in its own record, and is found by its site in a list; of a site that
 //! it doesn't know a worker has seen nothing. So sites may be added while a world runs: what is always true of a vnode
-//! (`proofs/Inside`, `IsSound`) speaks of one vnode, and is true of a fresh one, whatever epochs were given before it.
+//! (`proofs/Inside`, `IsSound`) speaks of one vnode, and is true of a fresh one, whatever epochs were given before it, and
+//! whatever its log. That a log is of commands alone, and has a replay, is said apart (`IsPlain`).
 //!
 //! [`always`] is the theorem, over every schedule (`specs/Claims`). Its proof goes step by step: `proofs/Turns` derives what a
-//! turn makes of its worker and its vnode, and its outcome, from the machine's step; `proofs/Kept` counts readers and
-//! holders, so that what is always true stays so; `proofs/Lifting`, `proofs/Leaving` and `proofs/Showing` draw the claims. `proofs/Diverting` is
+//! turn makes of its worker and its vnode, and what comes of it (`proofs/Coming`), from the machine's step; `proofs/Kept` counts
+//! readers and holders, so that what is always true stays so; `proofs/Lifting`, `proofs/Leaving` and `proofs/Showing` draw the claims. `proofs/Diverting` is
 //! for a partition that is diverted; `proofs/Coursing` and those behind it make each run of a partition a course of `copy_laws`
 //! ([`runs_are_courses`], `specs/Courses`).
 //!
