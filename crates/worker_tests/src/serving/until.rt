@@ -247,41 +247,29 @@ fn serves<R: Log + Clock + Net + Threads + Wait + Sync>(
     }
 }
 
-/// Whether a server and its clients beside it go as they should.
-fn goes<R: Log + Clock + Net<Stream = TcpStream> + Threads + Wait + Sync>(
-    rt: &R,
-    alloc: Global,
-    listener: TcpListener,
-    port: u16,
-    server: &Server,
-) -> bool {
-    let has_ended = AtomicBool::new(false);
-    let (is_served, are_steps_taken) = thread::join(
-        rt,
-        || serves(rt, alloc, listener, port, &has_ended, server),
-        || take_all(rt, alloc, port, &has_ended, server.steps),
-    );
-    is_served && are_steps_taken
+/// A listener of this machine, and its port.
+fn listen<N: Net<Listener = TcpListener, Stream = TcpStream>>(
+    net: &N,
+) -> Option<(TcpListener, u16)> {
+    let listener = new_listener(net)?;
+    let port = port_of(&listener)?;
+    Some((listener, port))
 }
 
-/// The same by a new listener.
-fn goes_anew<R>(rt: &R, alloc: Global, server: &Server) -> bool
-where
-    R: Log + Clock + Net<Listener = TcpListener, Stream = TcpStream> + Threads + Wait + Sync,
-{
-    match new_listener(rt) {
-        Some(listener) => match port_of(&listener) {
-            Some(port) => goes(rt, alloc, listener, port, server),
-            None => false,
-        },
-        None => false,
-    }
-}
-
+// The threads are started in the test itself: both use the network, and of any runtime it isn't known that another thread may.
 #[test]
 fn clients_are_served_until_the_input_ends(rt: HostRuntime) {
     let quiet = Logged::new(rt, LevelFilter::Off, Console(rt));
     for server in SERVERS {
-        assert!(rt; goes_anew(&quiet, rt.alloc(), server), "{}", server.shows);
+        let Some((listener, port)) = listen(&rt) else {
+            panic!(rt; "no listener");
+        };
+        let has_ended = AtomicBool::new(false);
+        let (is_served, are_steps_taken) = thread::join(
+            &rt,
+            || serves(&quiet, rt.alloc(), listener, port, &has_ended, server),
+            || take_all(&rt, rt.alloc(), port, &has_ended, server.steps),
+        );
+        assert!(rt; is_served && are_steps_taken, "{}", server.shows);
     }
 }
