@@ -21,7 +21,7 @@ use clock_store::{
     ClockStore, Found, KeyRef, Place as KeyPlace, Reaped, StoredClock, WriteKind, stored_in,
 };
 use dvv_set::Clock;
-use riak_msgs::{BoxedContent, Key};
+use riak_msgs::{Content, Key};
 use std::alloc::{AllocError, Global};
 use std::marker::Model;
 
@@ -91,7 +91,7 @@ fn make_sync_room(
     rows: &mut Vec<Row>,
     alloc: Global,
     key: &Key,
-    other: &Clock<Option<BoxedContent>>,
+    other: &Clock<Option<Content>>,
 ) -> Result<Room, AllocError>
     requires sorted { IsTrue (is_sorted key_cmp (map entry_of rows.old.items)) }
     requires few { length (sync (clock_at (map entry_of rows.old.items) key.now)
@@ -171,7 +171,7 @@ impl ClockStore for ClockList {
         key: Key,
         seen: Option<&Context<'_>>,
         actor: Actor,
-        value: Option<BoxedContent>,
+        value: Option<Content>,
     ) {
         match self.room.take() {
             Some(Room::At(i, _)) => write_at(&mut self.rows, i, key, seen, actor, value),
@@ -180,7 +180,7 @@ impl ClockStore for ClockList {
         }
     }
 
-    fn overwrite(&mut self, key: Key, actor: Actor, value: Option<BoxedContent>) {
+    fn overwrite(&mut self, key: Key, actor: Actor, value: Option<Content>) {
         match self.room.take() {
             Some(Room::At(i, _)) => overwrite_at(&mut self.rows, i, key, actor, value),
             Some(Room::New(i, row)) => write_new(&mut self.rows, i, row, None, actor, value),
@@ -193,7 +193,7 @@ impl ClockStore for ClockList {
         alloc: Global,
         key: &Key,
         place: Option<KeyPlace>,
-        other: &Clock<Option<BoxedContent>>,
+        other: &Clock<Option<Content>>,
     ) -> Result<(), AllocError> {
         let _place = place;
         self.room = None;
@@ -202,7 +202,7 @@ impl ClockStore for ClockList {
         Ok(())
     }
 
-    fn sync(&mut self, key: Key, other: Clock<Option<BoxedContent>>) {
+    fn sync(&mut self, key: Key, other: Clock<Option<Content>>) {
         match self.room.take() {
             Some(Room::At(i, _)) => sync_at(&mut self.rows, i, key, other),
             Some(Room::New(i, row)) => sync_new(&mut self.rows, i, row, other),

@@ -14,7 +14,7 @@ ghost use Rattle.clock_list.specs.Rows.{entry_of, nothing, FitsAt, ReadyAt, Sync
 use actor_epoch::{Actor, Context};
 use clock_store::{OwnActor, StoredClock};
 use dvv_set::Clock;
-use riak_msgs::{BoxedContent, Key};
+use riak_msgs::{Content, Key};
 use std::alloc::{AllocError, Global};
 
 /// A key with what is stored of it.
@@ -42,7 +42,7 @@ pub(crate) fn reserve_at(
 pub(crate) fn reserve_sync_at(
     rows: &mut Vec<Row>,
     i: usize,
-    other: &Clock<Option<BoxedContent>>,
+    other: &Clock<Option<Content>>,
 ) -> Result<(), AllocError>
     requires { SyncFitsAt rows.old.items i other.now.meaning }
     ensures same { map entry_of rows.new.items ≡ map entry_of rows.old.items }
@@ -65,7 +65,7 @@ fn empty_clock(alloc: Global) -> StoredClock
 pub(crate) fn new_sync_row(
     alloc: Global,
     key: &Key,
-    other: &Clock<Option<BoxedContent>>,
+    other: &Clock<Option<Content>>,
 ) -> Result<Row, AllocError>
     requires { length (sync empty other.now.meaning).known ≤ max_actors }
     ensures { IfOk result (λ row. IsNewSyncRow row key.now other.now.meaning) }
@@ -99,7 +99,7 @@ pub(crate) fn write_at(
     key: Key,
     seen: Option<&Context<'_>>,
     actor: Actor,
-    value: Option<BoxedContent>,
+    value: Option<Content>,
 )
     requires placed { place_in key (map entry_of rows.old.items) ≡ places.At i }
     requires ready { ReadyAt rows.old.items i (seen_in seen) actor }
@@ -116,7 +116,7 @@ pub(crate) fn overwrite_at(
     i: usize,
     key: Key,
     actor: Actor,
-    value: Option<BoxedContent>,
+    value: Option<Content>,
 )
     requires placed { place_in key (map entry_of rows.old.items) ≡ places.At i }
     requires ready { ReadyAt rows.old.items i None actor }
@@ -134,7 +134,7 @@ pub(crate) fn write_new(
     mut row: Row,
     seen: Option<&Context<'_>>,
     actor: Actor,
-    value: Option<BoxedContent>,
+    value: Option<Content>,
 )
     requires sorted { IsTrue (is_sorted key_cmp (map entry_of rows.old.items)) }
     requires fits { FitsIn rows.old i row }
@@ -149,7 +149,7 @@ pub(crate) fn write_new(
 }
 
 /// Syncs the clock of the row at a place; its actor stays.
-pub(crate) fn sync_at(rows: &mut Vec<Row>, i: usize, key: Key, other: Clock<Option<BoxedContent>>)
+pub(crate) fn sync_at(rows: &mut Vec<Row>, i: usize, key: Key, other: Clock<Option<Content>>)
     requires placed { place_in key (map entry_of rows.old.items) ≡ places.At i }
     requires ready { SyncReadyAt rows.old.items i other.meaning }
     ensures { map entry_of rows.new.items
@@ -164,7 +164,7 @@ pub(crate) fn sync_new(
     rows: &mut Vec<Row>,
     i: usize,
     mut row: Row,
-    other: Clock<Option<BoxedContent>>,
+    other: Clock<Option<Content>>,
 )
     requires sorted { IsTrue (is_sorted key_cmp (map entry_of rows.old.items)) }
     requires fits { FitsIn rows.old i row }

@@ -11,7 +11,7 @@ use actor_epoch::{Actor, Context};
 use clock_store::{ClockStore, Found, KeyRef, Place, Reaped, StoredClock, WriteKind, stored_in};
 use dvv_set::Clock;
 use place_map::PlaceMap;
-use riak_msgs::{BoxedContent, Key};
+use riak_msgs::{Content, Key};
 use slab::Slab;
 use std::alloc::{AllocError, Global};
 use std::collections::BTreeMap;
@@ -220,7 +220,7 @@ impl ClockStore for ClockMap {
         key: Key,
         seen: Option<&Context<'_>>,
         actor: Actor,
-        value: Option<BoxedContent>,
+        value: Option<Content>,
     ) {
         let Some(room) = self.room.take() else {
             unreachable!()
@@ -231,7 +231,7 @@ impl ClockStore for ClockMap {
         index::keep_if(&mut self.dead, &key, is_absent, !lives);
     }
 
-    fn overwrite(&mut self, key: Key, actor: Actor, value: Option<BoxedContent>) {
+    fn overwrite(&mut self, key: Key, actor: Actor, value: Option<Content>) {
         let Some(room) = self.room.take() else {
             unreachable!()
         };
@@ -245,7 +245,7 @@ impl ClockStore for ClockMap {
         alloc: Global,
         key: &Key,
         place: Option<Place>,
-        other: &Clock<Option<BoxedContent>>,
+        other: &Clock<Option<Content>>,
     ) -> Result<(), AllocError> {
         self.drop_room();
         self.make_room(alloc, key, place, Need::Sync(other))?;
@@ -256,7 +256,7 @@ impl ClockStore for ClockMap {
         Ok(())
     }
 
-    fn sync(&mut self, key: Key, other: Clock<Option<BoxedContent>>) {
+    fn sync(&mut self, key: Key, other: Clock<Option<Content>>) {
         let Some(room) = self.room.take() else {
             unreachable!()
         };

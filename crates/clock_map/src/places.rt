@@ -16,7 +16,7 @@ use actor_epoch::{Actor, Context};
 use clock_store::{Found, KeyRef, OwnActor, Place, StoredClock};
 use dvv_set::Clock;
 use place_map::PlaceMap;
-use riak_msgs::{BoxedContent, Key};
+use riak_msgs::{Content, Key};
 use slab::Slab;
 use std::alloc::{AllocError, Global};
 
@@ -94,7 +94,7 @@ pub(crate) fn write_at(
     place: usize,
     seen: Option<&Context<'_>>,
     actor: Actor,
-    value: Option<BoxedContent>,
+    value: Option<Content>,
 ) -> bool
     requires { IsReadyAt clocks.old place (seen_in seen) actor }
     ensures wrote { WritesAt clocks.old clocks.new place actor
@@ -113,7 +113,7 @@ pub(crate) fn overwrite_at(
     clocks: &mut Slab<StoredClock>,
     place: usize,
     actor: Actor,
-    value: Option<BoxedContent>,
+    value: Option<Content>,
 ) -> bool
     requires { IsReadyAt clocks.old place None actor }
     ensures wrote { WritesAt clocks.old clocks.new place actor
@@ -131,7 +131,7 @@ pub(crate) fn overwrite_at(
 pub(crate) fn sync_at(
     clocks: &mut Slab<StoredClock>,
     place: usize,
-    other: Clock<Option<BoxedContent>>,
+    other: Clock<Option<Content>>,
 ) -> bool
     requires { IsSyncReadyAt clocks.old place other.meaning }
     ensures wrote { ChangesAt clocks.old clocks.new place (λ own. own)

@@ -5,7 +5,7 @@ ghost use Rattle.clock_map.specs.Places.{is_spare, spare_mark};
 
 use actor_epoch::{Actor, Context};
 use dvv_set::Clock;
-use riak_msgs::BoxedContent;
+use riak_msgs::Content;
 
 /// What room in a clock is needed for.
 #[derive(Clone, Copy)]
@@ -13,7 +13,7 @@ pub(crate) enum Need<'a, 'b> {
     /// A write at an actor, which discards what a context has seen (None: nothing).
     Write(Option<&'a Context<'b>>, Actor),
     /// A sync with another clock.
-    Sync(&'a Clock<Option<BoxedContent>>),
+    Sync(&'a Clock<Option<Content>>),
 }
 
 /// Room for one write: at a place, whose clock has it.

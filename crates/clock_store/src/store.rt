@@ -5,7 +5,7 @@ use crate::stored_clock::StoredClock;
 use actor_epoch::{Actor, Context};
 use dvv_set::Clock;
 use place_map::KeyRef;
-use riak_msgs::{BoxedContent, Key};
+use riak_msgs::{Content, Key};
 use std::alloc::{AllocError, Global};
 
 /// What a write puts: a tombstone may leave its key dead, a value never does.
@@ -110,7 +110,7 @@ pub trait ClockStore: Drop {
         key: Key,
         seen: Option<&Context<'_>>,
         actor: Actor,
-        value: Option<BoxedContent>,
+        value: Option<Content>,
     )
         requires { HasRoom (shows self.old) key (seen_in seen) actor (kind_of value) }
         ensures keys { (shows self.new).keys
@@ -119,7 +119,7 @@ pub trait ClockStore: Drop {
 
     /// Writes a value of a key, or a tombstone, in place of all its values, where there is room for it without a context;
     /// the room is used up. It takes no memory.
-    fn overwrite(&mut self, key: Key, actor: Actor, value: Option<BoxedContent>)
+    fn overwrite(&mut self, key: Key, actor: Actor, value: Option<Content>)
         requires { HasRoom (shows self.old) key None actor (kind_of value) }
         ensures keys { (shows self.new).keys ≡ overwritten (shows self.old).keys key actor value }
         ensures room { (shows self.new).room ≡ None };
@@ -132,7 +132,7 @@ pub trait ClockStore: Drop {
         alloc: Global,
         key: &Key,
         place: Option<Place>,
-        other: &Clock<Option<BoxedContent>>,
+        other: &Clock<Option<Content>>,
     ) -> Result<(), AllocError>
         requires place { place ≡ find key_cmp key.now (shows self.old).places }
         requires few { length (sync (clock_at (shows self.old).keys key.now)
@@ -143,7 +143,7 @@ pub trait ClockStore: Drop {
 
     /// Syncs a key's clock with another one where there is room for it; the room is used up. The key keeps its actor; one that
     /// was absent has none. It takes no memory.
-    fn sync(&mut self, key: Key, other: Clock<Option<BoxedContent>>)
+    fn sync(&mut self, key: Key, other: Clock<Option<Content>>)
         requires { HasSyncRoom (shows self.old) key other.meaning }
         ensures keys { (shows self.new).keys
             ≡ synced (shows self.old).keys key other.meaning }

@@ -17,7 +17,7 @@ use clock_list::ClockList;
 use clock_map::ClockMap;
 use clock_store::{ClockStore, KeyRef, StoredClock, WriteKind, place_in};
 use dvv_set::{Clock, Needed};
-use riak_msgs::{BoxedContent, Content, Key};
+use riak_msgs::{Content, Key};
 use std::alloc::{AllocError, Global};
 
 /// Whether what a write needs is within the limits.
@@ -36,7 +36,7 @@ fn is_within<S: ClockStore>(store: &S, alloc: Global, key: &Key, actor: Actor) -
     match store.get(key) {
         Some(stored) => allows(stored.clock.needed(None, actor)),
         None => {
-            let clock: Clock<Option<BoxedContent>> = Clock::new(alloc);
+            let clock: Clock<Option<Content>> = Clock::new(alloc);
             allows(clock.needed(None, actor))
         }
     }
@@ -64,9 +64,9 @@ fn reserve<S: ClockStore>(
 }
 
 /// An empty content, tried twice where memory is refused.
-fn content(alloc: Global) -> Result<BoxedContent, AllocError> {
-    match BoxedContent::new(alloc, Content::new(alloc)) {
-        Err(_) => BoxedContent::new(alloc, Content::new(alloc)),
+fn content(alloc: Global) -> Result<Content, AllocError> {
+    match Content::of_value(alloc, b"") {
+        Err(_) => Content::of_value(alloc, b""),
         made => made,
     }
 }

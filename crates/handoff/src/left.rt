@@ -8,7 +8,7 @@ ghost use Rattle.handoff.specs.Left.{AreCopied, Finds, IsNextLeft, count_left, i
 
 use clock_store::{KeyRef, StoredClock};
 use dvv_set::Clock;
-use riak_msgs::{BoxedContent, Key};
+use riak_msgs::{Content, Key};
 use std::alloc::{AllocError, Global};
 use vnode_core::Vnode;
 

@@ -1,8 +1,6 @@
 -- The bytes that are kept of a content.
-use Rattle.std.proofs.Common.{◌≡◌, ℕ, ◌+◌, ◌-◌, ◌^◌, ◌<◌, List, [], ◌∷◌, ◌++◌, length, ◌==◌, true, false, take, drop, length-append, Some, refl, ap, sym, subst, ◌∙◌, arith}
+use Rattle.std.proofs.Common.{◌≡◌, ℕ, ◌+◌, ◌-◌, ◌^◌, ◌<◌, List, [], ◌∷◌, ◌++◌, length, take, drop, length-append, Some, ap, sym, subst, ◌∙◌, arith}
 use Rattle.std.proofs.lemmas.List.{take_rest}
-use Rattle.std.proofs.lemmas.Bool.{false≢true}
-use Rattle.std.proofs.Math.Dec.{eqb-suc-zero}
 use Rattle.std.proofs.Math.Seq.{drop-append_seam}
 use Rattle.wire_varint.specs.Varint as varint
 use Rattle.pb_fields.specs.Field.{BeginsWithField, WireField}
@@ -12,14 +10,14 @@ use Rattle.pb_fields.proofs.Lists.{encoding_is_read}
 use Rattle.pb_fields.proofs.Parts.{field_once, field_some}
 use Rattle.riak_msgs.specs.Content.{Content}
 use Rattle.riak_msgs.specs.ContentEncoding.{content_message}
-use Rattle.riak_msgs.specs.Contents.{bare, no_content}
+use Rattle.riak_msgs.specs.Contents.{bare}
 use Rattle.riak_msgs.specs.Picking.{bytes_at}
 use Rattle.riak_msgs.specs.ContentOnce.{content_message-once}
-use Rattle.riak_msgs.specs.KeptContent.{Keeps, content_kept, encoding_kept}
+use Rattle.riak_msgs.specs.KeptContent.{Keeps, content_kept}
 use Rattle.riak_msgs.proofs.ValueAndDetails.{behind_value, content_message-value}
 
 -- bytes keep the content of this encoding
-pub kept_as : (bs : List ℕ) (kept : Keeps bs) (c : Content) → encoding_kept bs ≡ content_message c → content_kept bs kept ≡ c
+pub kept_as : (bs : List ℕ) (kept : Keeps bs) (c : Content) → bs ≡ content_message c → content_kept bs kept ≡ c
 unfolding content_kept
 kept_as bs kept c is =
     let P : List ℕ → Type 0 = λ cs. length cs < 2 ^ 64 in
@@ -28,43 +26,15 @@ kept_as bs kept c is =
 -- the same bytes keep the same content
 pub kept_same : (bs cs : List ℕ) (kept : Keeps bs) (other : Keeps cs) → bs ≡ cs → content_kept bs kept ≡ content_kept cs other
 unfolding content_kept
-kept_same bs cs kept other same = kept_as bs kept other.content (ap encoding_kept same ∙ sym other.is.0)
+kept_same bs cs kept other same = kept_as bs kept other.content (same ∙ sym other.is.0)
 
 -- the encoding that is kept
-pub kept_encoding : (bs : List ℕ) (kept : Keeps bs) → encoding_kept bs ≡ content_message (content_kept bs kept)
+pub kept_encoding : (bs : List ℕ) (kept : Keeps bs) → bs ≡ content_message (content_kept bs kept)
 unfolding content_kept
 kept_encoding bs kept = sym kept.is.0
 
-pub encoding_kept-empty : (bs : List ℕ) → (length bs == 0) ≡ true → 10 ∷ 0 ∷ [] ≡ encoding_kept bs
-encoding_kept-empty [] empty = refl
-encoding_kept-empty (b ∷ bs) empty = absurd (false≢true (sym (eqb-suc-zero (length bs)) ∙ empty))
-
-pub encoding_kept-some : (bs : List ℕ) → (length bs == 0) ≡ false → bs ≡ encoding_kept bs
-encoding_kept-some [] some = absurd (false≢true (sym some))
-encoding_kept-some (b ∷ bs) some = refl
-
--- of the empty value without details nothing is kept
-pub content_message-none : encoding_kept [] ≡ content_message no_content
-unfolding varint.encoding varint.encoded
-content_message-none = refl
-
-pub keeps_none : Keeps []
-keeps_none = record { content = no_content; is = (sym content_message-none, omega arith) }
-
--- an encoding is kept as it is
-kept-value : (value behind : List ℕ) → encoding_kept (bytes_field 1 value ++ behind) ≡ bytes_field 1 value ++ behind
-unfolding varint.encoding varint.encoded
-kept-value value behind = refl
-
-pub kept-encoded : (bs : List ℕ) (c : Content) → bs ≡ content_message c → encoding_kept bs ≡ content_message c
-kept-encoded bs c is =
-    let same : bs ≡ bytes_field 1 c.value ++ behind_value c = is ∙ content_message-value c in
-    ap encoding_kept same ∙ kept-value c.value (behind_value c) ∙ sym (content_message-value c)
-
 pub keeps : (bs : List ℕ) (c : Content) → bs ≡ content_message c → length bs < 2 ^ 64 → Keeps bs
-keeps bs c is short =
-    let P : List ℕ → Type 0 = λ cs. length cs < 2 ^ 64 in
-    record { content = c; is = (sym (kept-encoded bs c is), subst P (is ∙ sym (kept-encoded bs c is)) short) }
+keeps bs c is short = record { content = c; is = (sym is, short) }
 
 -- what lies behind the value's field
 pub behind-drop : (c : Content) (encoding : List ℕ) (n : ℕ) → encoding ≡ content_message c → n ≡ 0 + length (bytes_field 1 c.value) →

@@ -1,18 +1,13 @@
 -- What is kept of a content: its encoding.
-use Rattle.std.proofs.Common.{◌≡◌, ℕ, ◌^◌, ◌<◌, List, [], ◌∷◌, length, ap, sym, subst, ◌∙◌}
+use Rattle.std.proofs.Common.{◌≡◌, ℕ, ◌^◌, ◌<◌, List, length, ap, sym, subst, ◌∙◌}
 use Rattle.std.specs.Coded.{Coded-set, coded_list, coded_ℕ, ×_prop, le_prop}
 use Rattle.riak_msgs.specs.Content.{Content}
 use Rattle.riak_msgs.specs.ContentEncoding.{content_message}
 use Rattle.riak_msgs.specs.ContentOnce.{content_message-once}
 
--- the encoding that bytes stand for: no bytes for that of the empty value without details, others for themselves
-abbrev pub encoding_kept : List ℕ → List ℕ
-encoding_kept [] = 10 ∷ 0 ∷ []
-encoding_kept (b ∷ bs) = b ∷ bs
-
 -- it is the content's, and can be counted
 abbrev pub IsEncodingOf : Content → List ℕ → Type 0
-IsEncodingOf content bs = (content_message content ≡ encoding_kept bs) × (length (encoding_kept bs) < 2 ^ 64)
+IsEncodingOf content bs = (content_message content ≡ bs) × (length bs < 2 ^ 64)
 
 -- the content of which the bytes are kept
 pub record Keeps (bs : List ℕ) : Type 0 where
@@ -24,7 +19,7 @@ unfoldable pub content_kept : (bs : List ℕ) → Keeps bs → Content
 content_kept bs kept = kept.content
 
 IsEncodingOf-prop : (content : Content) (bs : List ℕ) → IsProp (IsEncodingOf content bs)
-IsEncodingOf-prop content bs = ×_prop (Coded-set (coded_list coded_ℕ) (content_message content) (encoding_kept bs)) le_prop
+IsEncodingOf-prop content bs = ×_prop (Coded-set (coded_list coded_ℕ) (content_message content) bs) le_prop
 
 pub Keeps-prop : (bs : List ℕ) → IsProp (Keeps bs)
 Keeps-prop bs a b =

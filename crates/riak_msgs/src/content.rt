@@ -14,26 +14,29 @@ use crate::field_access::bytes_at;
 use pb_fields::{Fields, LengthCounter, Message, Output};
 use std::alloc::{AllocError, Global};
 use std::marker::Model;
+use std::sync::ArcSlice;
 
-/// The encoding of the empty value without details.
-const NO_CONTENT: &[u8] = &[10, 0];
+/// The field of an empty value.
+const EMPTY_VALUE: &[u8] = &[10, 0];
 
 /// What a client stores under a key: a value, and its details.
 ///
-/// Kept is its encoding, as a reply has it, in one place on the heap: the value's field, and behind it those of the details that
-/// are there. So a reply takes it as it is, and a copy is one copy of bytes. Of the empty value without details nothing is kept.
-/// Contracts see the record of the value and each detail.
+/// Kept is its encoding, as a reply has it: the value's field, and behind it those of the details that are there. So a reply takes it
+/// as it is. It lies on the heap and has its owners counted, in any threads: a further owner copies no byte and takes no memory, and
+/// moving a content moves a pointer. Contracts see the record of the value and each detail.
 ///
 /// Source: `RpbContent` of `riak_kv.proto`, without the tag and times that a server writes.
 pub struct Content {
-    bytes: Vec<u8>,
-    ghost kept: { Keeps bytes.items } by { Keeps-prop bytes.items },
+    encoding: ArcSlice<u8, Global>,
+    ghost kept: { Keeps encoding.items.value.items } by { Keeps-prop encoding.items.value.items },
 }
 
 /// One call at each place where one is let go.
 impl Drop for Content {
     fn drop(self) {
-        let Content { bytes: _bytes } = self;
+        let Content {
+            encoding: _encoding,
+        } = self;
     }
 }
 
@@ -43,22 +46,13 @@ impl Model for Content {
 
     ghost Value = { Content };
 
-    ghost view = { λ c. content_kept c.bytes.items c.kept };
+    ghost view = { λ c. content_kept c.encoding.items.value.items c.kept };
 }
 
 impl Content {
     ghost use Rattle.riak_msgs.specs.Contents.{bare, no_content};
     ghost use Rattle.riak_msgs.specs.Embedded.{ContentFields, StandForContent, content_of};
     ghost use Rattle.riak_msgs.specs.Seen.{IsSeenOf};
-
-    /// An empty value without details. It takes no memory.
-    pub fn new(alloc: Global) -> Content
-        ensures { result ≡ no_content }
-    {
-        Content {
-            bytes: Vec::new(alloc),
-        }
-    }
 
     /// A value without details.
     pub fn of_value(alloc: Global, value: &[u8]) -> Result<Content, AllocError>
@@ -67,7 +61,7 @@ impl Content {
         Content::with_details(alloc, value, &Details::new(alloc))
     }
 
-    /// A value with these details. It takes one place on the heap, of the size of its encoding.
+    /// A value with these details. It takes two places on the heap: one of the size of its encoding, and one for the count of owners.
     pub fn with_details(
         alloc: Global,
         value: &[u8],
@@ -75,8 +69,8 @@ impl Content {
     ) -> Result<Content, AllocError>
         ensures { IfOk result (λ content. content ≡ content_with value.now details.now) }
     {
-        let bytes = write_encoding(alloc, &Detailed { value, details })?;
-        Ok(Content { bytes })
+        let encoding = ArcSlice::from_vec(write_encoding(alloc, &Detailed { value, details })?)?;
+        Ok(Content { encoding })
     }
 
     /// The encoding.
@@ -84,11 +78,7 @@ impl Content {
         ensures encoding { result.now ≡ content_message self.now }
         ensures counted { length result.now < 2 ^ 64 }
     {
-        if self.bytes.is_empty() {
-            NO_CONTENT
-        } else {
-            self.bytes.as_slice()
-        }
+        self.encoding.as_slice()
     }
 
     /// What a scan over the encoding sees.
@@ -123,12 +113,12 @@ impl Content {
         Ok(self.view().whole(alloc, self.encoding())?.details)
     }
 
-    /// A copy.
-    pub fn clone(&self, alloc: Global) -> Result<Content, AllocError>
+    /// A further owner of the same bytes. It takes no memory, and is refused only where there are 2 to the 63 of them.
+    pub fn clone(&self) -> Result<Content, AllocError>
         ensures { IfOk result (λ copy. copy ≡ self.now) }
     {
         Ok(Content {
-            bytes: Vec::from_slice(alloc, self.bytes.as_slice())?,
+            encoding: self.encoding.clone()?,
         })
     }
 
@@ -140,10 +130,12 @@ impl Content {
         let mut head = LengthCounter { len: 0 };
         head.encode_bytes(1, self.value())?;
         let details = &encoding[head.len..];
-        let mut bytes = Vec::with_capacity(alloc, details.len().saturating_add(NO_CONTENT.len()))?;
-        bytes.append_encoded(NO_CONTENT)?;
+        let mut bytes = Vec::with_capacity(alloc, details.len().saturating_add(EMPTY_VALUE.len()))?;
+        bytes.append_encoded(EMPTY_VALUE)?;
         bytes.append_encoded(details)?;
-        Ok(Content { bytes })
+        Ok(Content {
+            encoding: ArcSlice::from_vec(bytes)?,
+        })
     }
 }
 

@@ -27,7 +27,7 @@
 //!
 //! Contracts see [`Bytes`], [`BucketType`] and [`Sequence`] as lists and [`Content`] as a record, so a request, a reply and all
 //! within them are plain data. A content's [`Details`], which most have none of, are borrowed: from what a content is made of, or
-//! from its encoding. The content of a put lies behind a pointer ([`BoxedContent`]), so that moving a request moves few bytes. A
+//! from its encoding. A content's encoding is shared by all who have the content ([`Content::clone`]): a reply copies none of it but into its frame. A
 //! message is written down once, as the fields that it encodes to a [`pb_fields::Output`]. Keys are ordered by `key_cmp`
 //! ([`keys_are_ordered`]). What holds bytes is copied by an inherent `clone`, which takes the allocator and may be refused.
 //!
@@ -35,7 +35,6 @@
 //! `riak.proto`, and the Protocol Buffers encoding.
 #![tactic(auto)]
 
-mod boxed_content;
 mod bucket_type;
 mod byte_order;
 mod bytes;
@@ -67,7 +66,6 @@ mod sequence;
 mod shown;
 mod text;
 
-pub use boxed_content::BoxedContent;
 pub use bucket_type::{BucketType, DEFAULT_TYPE};
 pub use bytes::Bytes;
 pub use content::Content;

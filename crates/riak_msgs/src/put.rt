@@ -4,8 +4,8 @@ ghost use Rattle.std.specs.Prelude.{◌≡◌, IfOk, OnOk};
 ghost use Rattle.riak_msgs.specs.Replies.{put_reply_body};
 ghost use Rattle.riak_msgs.specs.Requests.{plain_put, put_body, put_options};
 
-use crate::boxed_content::BoxedContent;
 use crate::bytes::Bytes;
+use crate::content::Content;
 use crate::encode::{encode_context, encode_type};
 use crate::key::Key;
 use crate::sequence::Sequence;
@@ -21,7 +21,7 @@ pub struct PutAsk {
     pub key: Key,
     /// What the writer has seen. No bytes are no context.
     pub context: Bytes,
-    pub content: BoxedContent,
+    pub content: Content,
     /// The siblings after the put are shown.
     pub return_body: bool,
     /// The siblings after the put are shown with empty values.
@@ -47,7 +47,7 @@ impl PutAsk {
         Ok(PutAsk {
             key: Key::of_default_type(alloc, bucket, key)?,
             context: Bytes::from_slice(alloc, context)?,
-            content: BoxedContent::of_value(alloc, value)?,
+            content: Content::of_value(alloc, value)?,
             return_body: false,
             return_head: false,
             if_not_modified: false,
@@ -72,7 +72,7 @@ impl Message for PutAsk {
     fn encode<O: Output>(&self, out: &mut O) -> Result<(), AllocError> {
         self.key.encode_names(out)?;
         encode_context(out, 3, &self.context)?;
-        encode_message(out, 4, self.content.as_content())?;
+        encode_message(out, 4, &self.content)?;
         self.encode_options(out)?;
         encode_type(out, 16, &self.key.bucket_type)
     }

@@ -9,8 +9,8 @@ ghost use Rattle.riak_msgs.specs.SeenContents.{content_in};
 ghost use Rattle.riak_msgs.specs.SeenRequests.{AreFlagsOf, CopiesOccurrence, HasBadContent, HasSeenPut, IsSeenPutOf};
 ghost use Rattle.riak_msgs.specs.SeenRequests.{RefusesOccurrence, no_put};
 
-use crate::boxed_content::BoxedContent;
 use crate::bytes::Bytes;
+use crate::content::Content;
 use crate::content_view::{ContentView, PartsView, merge_parts};
 use crate::fault::MsgFault;
 use crate::field_access::{bytes_at, keep_flag, keep_last};
@@ -141,7 +141,7 @@ impl<'a> PutView<'a> {
         Ok(PutAsk {
             key: self.names.key(alloc)?,
             context: Bytes::from_slice(alloc, self.context.unwrap_or(&[]))?,
-            content: self.boxed_content(alloc, body)?,
+            content: self.content(alloc, body)?,
             return_body: self.flags.return_body,
             return_head: self.flags.return_head,
             if_not_modified: self.flags.if_not_modified,
@@ -149,9 +149,9 @@ impl<'a> PutView<'a> {
         })
     }
 
-    /// The content, behind a pointer. Where links or pairs were seen in it the body is scanned once more, to list them.
+    /// The content. Where links or pairs were seen in it the body is scanned once more, to list them.
     /// (Apart from the others, since each value that is held at a `?` costs the prover time.)
-    fn boxed_content(&self, alloc: Global, body: &'a [u8]) -> Result<BoxedContent, MsgFault>
+    fn content(&self, alloc: Global, body: &'a [u8]) -> Result<Content, MsgFault>
         ensures ok { (put : PutFields) → IsSeenPutOf self.now put → EncodesPut body.now put
             → IfOk result (λ content. content ≡ with_parts (scalars_of put.content) put.content) }
         ensures err { (put : PutFields) → IsSeenPutOf self.now put → EncodesPut body.now put
@@ -163,8 +163,7 @@ impl<'a> PutView<'a> {
         } else {
             scalars
         };
-        let content = parts.content(alloc)?;
-        Ok(BoxedContent::new(alloc, content)?)
+        Ok(parts.content(alloc)?)
     }
 }
 

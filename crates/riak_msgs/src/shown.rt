@@ -1,7 +1,7 @@
 //! A sibling as a reply shows it.
 
 ghost use Rattle.riak_msgs.specs.Encoding.{shown_message};
-ghost use Rattle.std.specs.Prelude.{◌≡◌};
+ghost use Rattle.std.specs.Prelude.{◌≡◌, IfOk};
 ghost use Rattle.riak_msgs.specs.Contents.{tombstone};
 
 use crate::content::Content;
@@ -25,14 +25,14 @@ impl Drop for Shown {
 }
 
 impl Shown {
-    /// A tombstone, as a reply shows it. It takes no memory.
-    pub fn tombstone(alloc: Global) -> Shown
-        ensures { result ≡ tombstone }
+    /// A tombstone, as a reply shows it.
+    pub fn tombstone(alloc: Global) -> Result<Shown, AllocError>
+        ensures { IfOk result (λ shown. shown ≡ tombstone) }
     {
-        Shown {
-            content: Content::new(alloc),
+        Ok(Shown {
+            content: Content::of_value(alloc, &[])?,
             deleted: true,
-        }
+        })
     }
 }
 

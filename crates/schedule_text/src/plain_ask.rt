@@ -75,7 +75,7 @@ fn ask_put(
         (answer_of told) register.new) }
 {
     let key = ask.key.clone(alloc)?;
-    let value = ask.content.as_content().clone(alloc)?;
+    let value = ask.content.clone()?;
     let command = Command::Put {
         key,
         context,

@@ -70,7 +70,7 @@ fn content_shown(alloc: Global, content: &Content, is_bare: bool) -> Result<Show
     let content = if is_bare {
         content.clone_head(alloc)?
     } else {
-        content.clone(alloc)?
+        content.clone()?
     };
     Ok(Shown {
         content,
@@ -89,7 +89,7 @@ fn sibling_shown(
     ensures { IfOk result (λ shown. shown ≡ sibling_shown register.now key.now is_bare number) }
 {
     match register.value(key, number) {
-        None => Ok(Shown::tombstone(alloc)),
+        None => Shown::tombstone(alloc),
         Some(content) => content_shown(alloc, content, is_bare),
     }
 }

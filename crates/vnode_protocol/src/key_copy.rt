@@ -8,7 +8,7 @@ use crate::event::Event;
 use clock_store::{KeyRef, StoredClock};
 use dvv_set::{Clock, CloneValue};
 use ghost_state::GhostList;
-use riak_msgs::{BoxedContent, Key};
+use riak_msgs::{Content, Key};
 use std::alloc::{AllocError, Global};
 use std::marker::Model;
 
@@ -23,7 +23,7 @@ pub struct KeyCopy {
 #[derive(Drop)]
 struct CopyParts {
     key: Key,
-    clock: Clock<Option<BoxedContent>>,
+    clock: Clock<Option<Content>>,
     diversion: u32,
 }
 
@@ -56,14 +56,14 @@ impl Model for KeyCopy {
 /// Copies of siblings.
 struct CopySibling;
 
-impl CloneValue<Option<BoxedContent>> for CopySibling {
+impl CloneValue<Option<Content>> for CopySibling {
     fn clone_value(
-        sibling: &Option<BoxedContent>,
-        alloc: Global,
-    ) -> Result<Option<BoxedContent>, AllocError> {
+        sibling: &Option<Content>,
+        _alloc: Global,
+    ) -> Result<Option<Content>, AllocError> {
         match sibling {
             None => Ok(None),
-            Some(content) => Ok(Some(content.clone(alloc)?)),
+            Some(content) => Ok(Some(content.clone()?)),
         }
     }
 }
@@ -104,7 +104,7 @@ impl KeyCopy {
     }
 
     /// The clock that it had.
-    pub fn clock(&self) -> &Clock<Option<BoxedContent>>
+    pub fn clock(&self) -> &Clock<Option<Content>>
         ensures meaning { result.now.meaning ≡ self.now.clock }
         ensures form { IsClock self.now.clock }
     {
@@ -112,7 +112,7 @@ impl KeyCopy {
     }
 
     /// The key and the clock themselves.
-    pub fn into_parts(self) -> (Key, Clock<Option<BoxedContent>>)
+    pub fn into_parts(self) -> (Key, Clock<Option<Content>>)
         ensures key { result.0 ≡ self.key }
         ensures clock { result.1.meaning ≡ self.clock }
     {

@@ -14,9 +14,7 @@ use crate::checks::MAX_SIBLINGS;
 use actor_epoch::{Actor, Context, Counter};
 use clock_store::StoredClock;
 use dvv_set::Clock;
-use riak_msgs::{
-    BoxedContent, Bytes, Content, GetAsk, GetReply, PutAsk, PutReply, Sequence, Shown,
-};
+use riak_msgs::{Bytes, Content, GetAsk, GetReply, PutAsk, PutReply, Sequence, Shown};
 use std::alloc::{AllocError, Global};
 use std::default::MadeWith;
 
@@ -32,12 +30,12 @@ pub fn absent_reply(alloc: Global) -> GetReply
 }
 
 /// A copy of a sibling as a reply shows it, without its value where it is to be bare.
-fn show(alloc: Global, sibling: &Option<BoxedContent>, is_bare: bool) -> Result<Shown, AllocError>
+fn show(alloc: Global, sibling: &Option<Content>, is_bare: bool) -> Result<Shown, AllocError>
     ensures { IfOk result (λ s. s ≡ shown is_bare sibling.now) }
 {
     match sibling {
-        None => Ok(Shown::tombstone(alloc)),
-        Some(content) => show_content(alloc, content.as_content(), is_bare),
+        None => Shown::tombstone(alloc),
+        Some(content) => show_content(alloc, content, is_bare),
     }
 }
 
@@ -48,7 +46,7 @@ fn show_content(alloc: Global, content: &Content, is_bare: bool) -> Result<Shown
     let content = if is_bare {
         content.clone_head(alloc)?
     } else {
-        content.clone(alloc)?
+        content.clone()?
     };
     Ok(Shown {
         content,
@@ -174,7 +172,7 @@ fn accepted(alloc: Global) -> PutReply
 fn references(
     alloc: Global,
     found: Option<&StoredClock>,
-) -> Result<Clock<Option<&Option<BoxedContent>>>, AllocError>
+) -> Result<Clock<Option<&Option<Content>>>, AllocError>
     ensures { IfOk result (λ clock. RefersTo clock.meaning (clock_found (found_in found.entry))) }
 {
     match found {
@@ -197,7 +195,7 @@ fn preview<'a>(
     found: Option<&'a StoredClock>,
     context: Option<&Context<'_>>,
     actor: Actor,
-) -> Result<Clock<Option<&'a Option<BoxedContent>>>, AllocError>
+) -> Result<Clock<Option<&'a Option<Content>>>, AllocError>
     requires { IsWithin (clock_found (found_in found)).known (seen_in context) actor }
     ensures { IfOk result (λ clock.
         Previews clock.meaning (found_in found.entry) (seen_in context.entry) actor) }
@@ -211,7 +209,7 @@ fn preview<'a>(
 /// A copy of a sibling that stays, or where there is none of the content that is put, as a reply shows it.
 fn show_filled(
     alloc: Global,
-    sibling: Option<&Option<BoxedContent>>,
+    sibling: Option<&Option<Content>>,
     content: &Content,
     is_bare: bool,
 ) -> Result<Shown, AllocError>
@@ -226,7 +224,7 @@ fn show_filled(
 /// Copies of the siblings after a put as its reply shows them.
 fn show_after(
     alloc: Global,
-    after: &Clock<Option<&Option<BoxedContent>>>,
+    after: &Clock<Option<&Option<Content>>>,
     content: &Content,
     is_bare: bool,
 ) -> Result<Sequence<Shown>, AllocError>
@@ -258,7 +256,7 @@ pub fn put_reply(
         return Ok(accepted(alloc));
     }
     let after = preview(alloc, found, context, actor)?;
-    let contents = show_after(alloc, &after, put.content.as_content(), !put.return_body)?;
+    let contents = show_after(alloc, &after, &put.content, !put.return_body)?;
     let context = context_of(alloc, &after)?;
     Ok(PutReply { contents, context })
 }

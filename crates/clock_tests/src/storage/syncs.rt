@@ -11,7 +11,7 @@ use crate::storage::rows::B;
 use actor_epoch::{Context, MAX_ACTORS};
 use clock_store::{ClockStore, WriteKind, place_in};
 use dvv_set::Clock;
-use riak_msgs::{BoxedContent, Key};
+use riak_msgs::{Content, Key};
 use std::alloc::{AllocError, Global};
 
 /// Whether a key's clock and another one know so few actors together that they can be synced.
@@ -19,7 +19,7 @@ fn is_within<S: ClockStore>(
     store: &S,
     alloc: Global,
     key: &Key,
-    other: &Clock<Option<BoxedContent>>,
+    other: &Clock<Option<Content>>,
 ) -> bool
     ensures { result ≡ true
         → length (sync (clock_at (S.shows store.now).keys key.now) other.now.meaning).known
@@ -28,7 +28,7 @@ fn is_within<S: ClockStore>(
     match store.get(key) {
         Some(stored) => stored.clock.sizes_after(other).actors <= MAX_ACTORS,
         None => {
-            let clock: Clock<Option<BoxedContent>> = Clock::new(alloc);
+            let clock: Clock<Option<Content>> = Clock::new(alloc);
             clock.sizes_after(other).actors <= MAX_ACTORS
         }
     }
@@ -39,7 +39,7 @@ fn reserve_sync<S: ClockStore>(
     store: &mut S,
     alloc: Global,
     key: &Key,
-    other: &Clock<Option<BoxedContent>>,
+    other: &Clock<Option<Content>>,
 ) -> Result<(), AllocError>
     ensures ok { OnOk result (HasSyncRoom (S.shows store.new) key.now other.now.meaning) }
 {
@@ -55,7 +55,7 @@ fn reserve_sync<S: ClockStore>(
 }
 
 /// Whether a clock takes in what the context of these bytes saw (no bytes: nothing).
-fn discards(clock: &mut Clock<Option<BoxedContent>>, seen: &[u8]) -> bool {
+fn discards(clock: &mut Clock<Option<Content>>, seen: &[u8]) -> bool {
     match Context::given(seen) {
         Ok(Some(context)) => clock.discard(&context).is_ok(),
         Ok(None) => true,
@@ -64,7 +64,7 @@ fn discards(clock: &mut Clock<Option<BoxedContent>>, seen: &[u8]) -> bool {
 }
 
 /// What a write puts.
-fn value_of(alloc: Global, kind: WriteKind) -> Result<Option<BoxedContent>, AllocError> {
+fn value_of(alloc: Global, kind: WriteKind) -> Result<Option<Content>, AllocError> {
     match kind {
         WriteKind::Value => Ok(Some(content(alloc)?)),
         WriteKind::Tombstone => Ok(None),
@@ -73,7 +73,7 @@ fn value_of(alloc: Global, kind: WriteKind) -> Result<Option<BoxedContent>, Allo
 
 /// Whether a clock has a write at B.
 fn has_written(
-    clock: &mut Clock<Option<BoxedContent>>,
+    clock: &mut Clock<Option<Content>>,
     alloc: Global,
     written: Option<WriteKind>,
 ) -> bool {
@@ -91,7 +91,7 @@ fn syncs<S: ClockStore>(
     store: &mut S,
     alloc: Global,
     key: Key,
-    other: Clock<Option<BoxedContent>>,
+    other: Clock<Option<Content>>,
 ) -> bool {
     match reserve_sync(store, alloc, &key, &other) {
         Ok(()) => {

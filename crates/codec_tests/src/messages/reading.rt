@@ -89,7 +89,7 @@ fn is_put(alloc: Global, ask: &PutAsk, want: &Asked) -> bool {
         Asked::Put(bucket_type, context, content, set) => {
             is_of(&ask.key, bucket_type)
                 && ask.context.as_slice() == *context
-                && is_content(alloc, ask.content.as_content(), content)
+                && is_content(alloc, &ask.content, content)
                 && are_set(ask, set)
         }
         _ => false,

@@ -108,7 +108,7 @@ fn copy_of_full(alloc: Global, is_head: bool) -> Result<Content, AllocError> {
     let copy = if is_head {
         full.clone_head(alloc)
     } else {
-        full.clone(alloc)
+        full.clone()
     };
     let_content_go(full);
     copy
@@ -117,7 +117,7 @@ fn copy_of_full(alloc: Global, is_head: bool) -> Result<Content, AllocError> {
 fn content_of(alloc: Global, sibling: &Sibling) -> Result<Content, AllocError> {
     match sibling {
         Value(value) => Content::of_value(alloc, value),
-        Tombstone => Ok(Content::new(alloc)),
+        Tombstone => Content::of_value(alloc, b""),
         Whole => copy_of_full(alloc, false),
         Head => copy_of_full(alloc, true),
     }
@@ -125,7 +125,7 @@ fn content_of(alloc: Global, sibling: &Sibling) -> Result<Content, AllocError> {
 
 fn shown(alloc: Global, sibling: &Sibling) -> Result<Shown, AllocError> {
     match sibling {
-        Tombstone => Ok(Shown::tombstone(alloc)),
+        Tombstone => Shown::tombstone(alloc),
         _ => Ok(Shown {
             content: content_of(alloc, sibling)?,
             deleted: false,

@@ -131,7 +131,7 @@ fn is_request(request: &Request, asks: &Asks) -> bool {
     match (request, asks) {
         (Request::Get(ask), Get) => is_key(&ask.key),
         (Request::Put(ask), Put) => {
-            is_key(&ask.key) && ask.content.as_content().value() == b"v".as_slice()
+            is_key(&ask.key) && ask.content.value() == b"v".as_slice()
         }
         _ => false,
     }

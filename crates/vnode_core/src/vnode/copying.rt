@@ -16,13 +16,13 @@ use actor_epoch::MAX_ACTORS;
 use clock_store::{ClockStore, StoredClock, place_in, stored_in};
 use dvv_set::Clock;
 use ghost_state::GhostValue;
-use riak_msgs::BoxedContent;
+use riak_msgs::Content;
 use std::alloc::Global;
 use vnode_protocol::{Answer, Ask, KeyCopy, Refusal};
 use vnode_replies::MAX_SIBLINGS;
 
 /// Whether a key would have too many siblings, or its clock too many actors, once it is synced with another clock.
-fn is_stuck(alloc: Global, found: Option<&StoredClock>, other: &Clock<Option<BoxedContent>>) -> bool
+fn is_stuck(alloc: Global, found: Option<&StoredClock>, other: &Clock<Option<Content>>) -> bool
     ensures { (state : State Content) (key : Key) → found_in found.entry ≡ stored state key
         → result ≡ is_stuck state key other.now.meaning }
 {

@@ -16,7 +16,7 @@ use actor_epoch::{Dot, EpochSource};
 use clock_store::{ClockStore, KeyRef, StoredClock};
 use dvv_set::Clock;
 use ghost_state::GhostValue;
-use riak_msgs::{BoxedContent, Key};
+use riak_msgs::{Content, Key};
 use std::alloc::Global;
 use vnode_replies::last_of;
 
@@ -66,7 +66,7 @@ impl<S: ClockStore> VnodeOver<S> {
     }
 
     /// The clock of a key, present or dead; None where it is absent. It takes no memory.
-    pub fn clock(&self, key: &Key) -> Option<&Clock<Option<BoxedContent>>>
+    pub fn clock(&self, key: &Key) -> Option<&Clock<Option<Content>>>
         ensures { option_map (λ clock. clock.now.meaning) result
             ≡ option_map (λ s. s.clock) (stored self.now.state key.now) }
     {

@@ -7,7 +7,7 @@ use crate::exchanges::steps::{
     GetWith, HasDead, ID, Idle, LastEpoch, LetGo, NONE, PLAIN_GET, PLAIN_PUT, PutOptions, Reap,
     ReapFirst, Refused, Reply, Shows, Sibling, Step, Sweep, Tombstone, Unchanged, Value,
 };
-use riak_msgs::{BoxedContent, BucketType, Bytes, DelAsk, GetAsk, GetReply, Key, PutAsk, Shown};
+use riak_msgs::{BucketType, Bytes, Content, DelAsk, GetAsk, GetReply, Key, PutAsk, Shown};
 use std::alloc::{AllocError, Global};
 use std::process::Abort;
 use tomb_reaper::sweep;
@@ -75,7 +75,7 @@ fn put_in(
     options: PutOptions,
 ) -> Result<Ask, AllocError> {
     let context = Bytes::from_slice(alloc, context)?;
-    let content = BoxedContent::of_value(alloc, value)?;
+    let content = Content::of_value(alloc, value)?;
     Ok(Ask::Put(PutAsk {
         key: key_in(alloc, place, name)?,
         context,

@@ -8,5 +8,4 @@ returns g c =
     let seen = joins _ _ _ _ _ c.in_ok-encode_names.ensures c.in_ok-encode_context.ensures in
     let content = joins _ _ _ _ _ seen c.in_ok-encode_message.ensures in
     let options = joins _ _ _ _ _ content c.in_ok-encode_options.ensures in
-    rw (← c.as_content.ensures)
-    (on_ok_weaker c.encode_type.result (λ last. joins _ _ _ _ _ options last) c.encode_type.ensures)
+    on_ok_weaker c.encode_type.result (λ last. joins _ _ _ _ _ options last) c.encode_type.ensures

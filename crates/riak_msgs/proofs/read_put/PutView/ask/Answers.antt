@@ -13,6 +13,6 @@ returns-clause-ok c = λ put is stands none.
     let context : c.in_ok-from_slice.field-0 ≡ bytes_or_none 3 put.own =
     c.in_ok-from_slice.ensures ∙ ap (λ b. b.now) c.unwrap_or.ensures ∙ unwrap_or-copied c.args.self.now.context _
     ∙ ap (λ o. unwrap_or o []) is.context in
-    let content : c.in_ok-boxed_content.field-0 ≡ unwrap_or (content_of put.content) no_content =
-    c.in_ok-boxed_content.ensures.ok put is stands ∙ sym (content_of-put put none) in
+    let content : c.in_ok-content.field-0 ≡ unwrap_or (content_of put.content) no_content =
+    c.in_ok-content.ensures.ok put is stands ∙ sym (content_of-put put none) in
     rw (key, context, content, is.flags.return_body, is.flags.return_head, is.flags.if_not_modified, is.flags.if_none_match) refl
