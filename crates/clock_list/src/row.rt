@@ -160,12 +160,7 @@ pub(crate) fn sync_at(rows: &mut Vec<Row>, i: usize, key: Key, other: Clock<Opti
 }
 
 /// Puts a row in at its place, with its first clock and no actor.
-pub(crate) fn sync_new(
-    rows: &mut Vec<Row>,
-    i: usize,
-    mut row: Row,
-    other: Clock<Option<Content>>,
-)
+pub(crate) fn sync_new(rows: &mut Vec<Row>, i: usize, mut row: Row, other: Clock<Option<Content>>)
     requires sorted { IsTrue (is_sorted key_cmp (map entry_of rows.old.items)) }
     requires fits { FitsIn rows.old i row }
     requires ready { IsSyncReady row.stored.clock other.meaning }

@@ -105,13 +105,7 @@ pub trait ClockStore: Drop {
         ensures none { (shows self.new).room ≡ None };
 
     /// Writes a value of a key where there is room for it, or a tombstone; the room is used up. It takes no memory.
-    fn write(
-        &mut self,
-        key: Key,
-        seen: Option<&Context<'_>>,
-        actor: Actor,
-        value: Option<Content>,
-    )
+    fn write(&mut self, key: Key, seen: Option<&Context<'_>>, actor: Actor, value: Option<Content>)
         requires { HasRoom (shows self.old) key (seen_in seen) actor (kind_of value) }
         ensures keys { (shows self.new).keys
             ≡ written (shows self.old).keys key (seen_in seen.entry) actor value }

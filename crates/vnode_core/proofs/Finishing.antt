@@ -20,10 +20,10 @@ use Rattle.vnode_machine.specs.Replies.{put_reply}
 use Rattle.clock_store.specs.declared.store.WriteKind.TheVariants.{Value}
 use Rattle.clock_store.specs.Contents.{Contents, HasRoom}
 use Rattle.vnode_protocol.specs.declared.ask.Answer.TheVariants as answers
-use Rattle.vnode_replies.specs.declared.checks.Writer.{Writer}
+use Rattle.vnode_core.specs.declared.checks.Writer.{Writer}
 use Rattle.clock_store.specs.Keys.{Keys}
 use Rattle.vnode_core.specs.Vnodes.{IsReady, IsReadyFor, IsVnode, state_of, view_of, key_in, written_by, state_after, writes_after, tombstones_after, Fields, fields, PutGives}
-use Rattle.vnode_replies.specs.Checks.{writer_of}
+use Rattle.vnode_core.specs.Checks.{writer_of}
 use Rattle.vnode_protocol.proofs.Sound.{registers-step, sound-after}
 use Rattle.vnode_core.proofs.Putting.{written-put, steps-put}
 use Rattle.vnode_core.proofs.Deleting.{written-del, not-malformed}

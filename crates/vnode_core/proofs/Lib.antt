@@ -1,6 +1,10 @@
 pub mod Copying
 pub mod Deleting
 pub mod Finishing
+pub mod Options
+pub mod Previews
 pub mod Putting
 pub mod Reaping
+pub mod Rooms
+pub mod Showing
 pub mod Walking

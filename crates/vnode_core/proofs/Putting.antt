@@ -26,10 +26,10 @@ use Rattle.vnode_machine.proofs.Seen.{form-within, without-pairs}
 use Rattle.clock_store.specs.Keys.{Keys, written}
 use Rattle.vnode_machine.specs.Sound.{IsForm, IsFormed, IsSound}
 use Rattle.vnode_protocol.proofs.Sound.{known-at}
-use Rattle.vnode_replies.specs.Checks.{pairs_in}
-use Rattle.vnode_replies.specs.Replies.{reply_after}
-use Rattle.vnode_replies.proofs.Options.{pairs-given}
-use Rattle.vnode_replies.proofs.Previews.{known-event}
+use Rattle.vnode_core.specs.Checks.{pairs_in}
+use Rattle.vnode_core.specs.Replies.{reply_after}
+use Rattle.vnode_core.proofs.Options.{pairs-given}
+use Rattle.vnode_core.proofs.Previews.{known-event}
 
 -- what is stored of a key is found
 pub find-next : (key : Key) (s : Stored Content) (keys : Keys) → find key_cmp key (insert_key key_cmp key s keys) ≡ Some s

@@ -1,2 +1,4 @@
+pub mod Checks
 pub mod Readiness
+pub mod Replies
 pub mod Vnodes

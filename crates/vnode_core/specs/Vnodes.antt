@@ -22,7 +22,7 @@ use Rattle.vnode_protocol.specs.declared.ask.Answer.{Answer}
 use Rattle.vnode_protocol.specs.declared.ask.Answer.TheVariants as answers
 use Rattle.vnode_protocol.specs.declared.refusal.Refusal.{Refusal}
 use Rattle.vnode_core.specs.declared.ready.Ready.{Ready}
-use Rattle.vnode_replies.specs.declared.checks.Writer.{Writer}
+use Rattle.vnode_core.specs.declared.checks.Writer.{Writer}
 use Rattle.vnode_machine.specs.Sound.{IsSound}
 use Rattle.vnode_protocol.specs.Plans.{View, Accepts, IsWrite, StepsOpen, Steps, RefusesOpen}
 use Rattle.clock_store.specs.declared.store.WriteKind.TheVariants.{Value, Tombstone as Dead}
@@ -30,7 +30,7 @@ use Rattle.clock_store.specs.Contents.{Contents, HasRoom, HasSyncRoom}
 use Rattle.clock_store.specs.Forgetting.{after_first_reap}
 use Rattle.clock_store.specs.Keys.{Keys, written, deleted}
 use Rattle.vnode_protocol.specs.Refusals.{RefusedBy}
-use Rattle.vnode_replies.specs.Checks.{writer_of}
+use Rattle.vnode_core.specs.Checks.{writer_of}
 
 -- the fields of a vnode, its store as what it means
 pub record Fields : Type 0 where

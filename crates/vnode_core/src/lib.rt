@@ -16,7 +16,7 @@
 //!
 //! Its storage is any [`ClockStore`](clock_store::ClockStore): a [`VnodeOver`] is proved from that trait's contract
 //! alone, so each form of storage gives the same vnode, and [`Vnode`] is the one over the ordered map. What a key costs
-//! to find is the form's; a put looks its key up once, for its checks, its answer (both are `vnode_replies`) and its room,
+//! to find is the form's; a put looks its key up once, for its checks, its answer (`checks` and `replies`) and its room,
 //! and a new key is put where a second search leads. A put or a delete takes memory in `prepare` alone: room in the store
 //! for its key, in the key's clock for the actors that are new to it, and for its siblings with one more. `finish` takes
 //! none, so what is accepted is never half made. Making a put moves the key's siblings once.
@@ -34,9 +34,12 @@
 #![tactic(auto)]
 
 mod change;
+mod checks;
+mod context;
 mod kept;
 mod laws;
 mod ready;
+mod replies;
 mod vnode;
 
 pub use change::Change;

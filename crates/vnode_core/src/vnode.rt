@@ -9,7 +9,7 @@ ghost use Rattle.vnode_machine.specs.Asks.{get_command, put_command};
 ghost use Rattle.vnode_machine.specs.Machine.{opening, stored, put_check};
 ghost use Rattle.vnode_machine.specs.Replay.{IsAfter};
 ghost use Rattle.vnode_machine.specs.Step.{outcome, Answered, GetDone};
-ghost use Rattle.vnode_replies.specs.Checks.{found_in, writer_of};
+ghost use Rattle.vnode_core.specs.Checks.{found_in, writer_of};
 ghost use Rattle.vnode_protocol.specs.declared.ask.Ask.TheVariants.{Put, Del};
 ghost use Rattle.vnode_machine.specs.Sound.{IsSound};
 ghost use Rattle.vnode_protocol.specs.Plans.{IsPrepared, Plans, Refuses, RefusesOpen, Registers, RegistersPlan, RegistersStep, Steps, AcceptsPrepared, IsWrite};
@@ -24,9 +24,12 @@ mod reaping;
 mod tally;
 
 use crate::change::Change;
+use crate::checks::{Writer, check_options, check_room, last_of};
+use crate::context::names_unissued_dot;
 use crate::ready::{
     Readiness, Ready, drop_ready, plan_of, refuse, set_ready, tombstones_after, writes_after,
 };
+use crate::replies::{absent_reply, put_reply, siblings_reply};
 use actor_epoch::{Actor, Context, EpochSource};
 use clock_map::ClockMap;
 use clock_store::{ClockStore, StoredClock, WriteKind, place_in, stored_in};
@@ -36,10 +39,6 @@ use std::alloc::Global;
 use std::marker::Model;
 pub use tally::Tally;
 use vnode_protocol::{Answer, Ask, Plan, Refusal};
-use vnode_replies::{
-    Writer, absent_reply, check_options, check_room, last_of, names_unissued_dot, put_reply,
-    siblings_reply,
-};
 
 /// One vnode: the keys that it holds, each with its siblings. Contracts see the vnode machine's state, and the command
 /// that was prepared last and isn't made yet.

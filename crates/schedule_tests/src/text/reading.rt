@@ -130,9 +130,7 @@ fn is_key(key: &Key) -> bool {
 fn is_request(request: &Request, asks: &Asks) -> bool {
     match (request, asks) {
         (Request::Get(ask), Get) => is_key(&ask.key),
-        (Request::Put(ask), Put) => {
-            is_key(&ask.key) && ask.content.value() == b"v".as_slice()
-        }
+        (Request::Put(ask), Put) => { is_key(&ask.key) && ask.content.value() == b"v".as_slice() }
         _ => false,
     }
 }

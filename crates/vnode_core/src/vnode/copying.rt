@@ -7,9 +7,10 @@ ghost use Rattle.vnode_machine.specs.Copying.{is_stuck};
 ghost use Rattle.vnode_machine.specs.Machine.{State, stored};
 ghost use Rattle.vnode_protocol.specs.declared.ask.Ask.TheVariants.{Copy, Close};
 ghost use Rattle.vnode_protocol.specs.Plans.{Plans, Refuses, RegistersStep, Steps};
-ghost use Rattle.vnode_replies.specs.Checks.{found_in};
+ghost use Rattle.vnode_core.specs.Checks.{found_in};
 ghost use Rattle.vnode_core.specs.Readiness.{plan_in};
 
+use crate::checks::MAX_SIBLINGS;
 use crate::ready::Readiness;
 use crate::vnode::VnodeOver;
 use actor_epoch::MAX_ACTORS;
@@ -19,7 +20,6 @@ use ghost_state::GhostValue;
 use riak_msgs::Content;
 use std::alloc::Global;
 use vnode_protocol::{Answer, Ask, KeyCopy, Refusal};
-use vnode_replies::MAX_SIBLINGS;
 
 /// Whether a key would have too many siblings, or its clock too many actors, once it is synced with another clock.
 fn is_stuck(alloc: Global, found: Option<&StoredClock>, other: &Clock<Option<Content>>) -> bool

@@ -8,10 +8,12 @@ ghost use Rattle.vnode_protocol.specs.declared.ask.Ask.TheVariants.{Del};
 ghost use Rattle.vnode_protocol.specs.Plans.{Plans, Refuses};
 ghost use Rattle.vnode_protocol.specs.Refusals.{GivenBy};
 ghost use Rattle.vnode_machine.specs.Machine.{stored};
-ghost use Rattle.vnode_replies.specs.Checks.{found_in, writer_of};
+ghost use Rattle.vnode_core.specs.Checks.{found_in, writer_of};
 ghost use Rattle.vnode_core.specs.Readiness.{plan_in};
 ghost use Rattle.vnode_core.specs.Vnodes.{del_check_by, DelOfAllGives, DelGives};
 
+use crate::checks::{Writer, check_overwrite, check_room, last_of};
+use crate::context::names_unissued_dot;
 use crate::ready::{Readiness, Ready, set_ready};
 use crate::vnode::VnodeOver;
 use actor_epoch::Context;
@@ -20,7 +22,6 @@ use ghost_state::GhostValue;
 use riak_msgs::{DelAsk, Key};
 use std::alloc::Global;
 use vnode_protocol::{Answer, Ask, Refusal};
-use vnode_replies::{Writer, check_overwrite, check_room, last_of, names_unissued_dot};
 
 impl<S: ClockStore> VnodeOver<S> {
     /// Checks a delete by a context, by what was found of its key; returns who writes its tombstone.

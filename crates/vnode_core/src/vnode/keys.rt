@@ -9,8 +9,9 @@ ghost use Rattle.clock_store.specs.Keys.{stored_of};
 ghost use Rattle.vnode_machine.specs.Copying.{IsClock};
 ghost use Rattle.vnode_machine.specs.Machine.{opening, stored};
 ghost use Rattle.vnode_machine.specs.Replay.{IsAfter};
-ghost use Rattle.vnode_replies.specs.Checks.{last_dot};
+ghost use Rattle.vnode_core.specs.Checks.{last_dot};
 
+use crate::checks::last_of;
 use crate::vnode::VnodeOver;
 use actor_epoch::{Dot, EpochSource};
 use clock_store::{ClockStore, KeyRef, StoredClock};
@@ -18,7 +19,6 @@ use dvv_set::Clock;
 use ghost_state::GhostValue;
 use riak_msgs::{Content, Key};
 use std::alloc::Global;
-use vnode_replies::last_of;
 
 impl<S: ClockStore> VnodeOver<S> {
     /// A vnode that holds no key, and whose first life gets the epoch behind `last_epoch`, as if that was the last one it gave; where it

@@ -1,7 +1,7 @@
 use Rattle.std.proofs.Common.{◌∙◌, sym, ap}
 use Rattle.vnode_machine.specs.Machine.{stored}
 use Rattle.vnode_core.specs.Vnodes.{fields, state_of}
-use Rattle.vnode_replies.proofs.Options.{formed-found}
+use Rattle.vnode_core.proofs.Options.{formed-found}
 use Rattle.vnode_core.proofs.vnode.VnodeOver.check_del.Goals as goal
 
 pub check_room-requires : goal.check_room-requires

@@ -5,12 +5,12 @@ use Rattle.std.specs.List.{list_any}
 use Rattle.vnode_machine.specs.Asks.{put_command}
 use Rattle.vnode_machine.specs.Machine.{stored, put_check}
 use Rattle.dvv_set.specs.Held.{pairs_of as seen_in}
-use Rattle.vnode_replies.specs.Checks.{is_ahead, pairs_in}
+use Rattle.vnode_core.specs.Checks.{is_ahead, pairs_in}
 use Rattle.vnode_protocol.specs.Refusals.{RefusedBy, GivenBy}
 use Rattle.clock_store.specs.Keys.{stored_of}
 use Rattle.vnode_machine.specs.Sound.{IsSound}
 use Rattle.vnode_core.specs.Vnodes.{fields, state_of}
-use Rattle.vnode_replies.proofs.Options.{options-refuse, rooms-follow, formed-found}
+use Rattle.vnode_core.proofs.Options.{options-refuse, rooms-follow, formed-found}
 use Rattle.vnode_core.proofs.vnode.VnodeOver.check_put.Goals as goal
 
 pub returns-in_err-check_options-clause-given : goal.returns-in_err-check_options-clause-given

@@ -6,7 +6,7 @@ use Rattle.vnode_machine.specs.Step.{Answered, GetDone}
 use Rattle.clock_store.specs.Keys.{stored_of}
 use Rattle.vnode_core.specs.Vnodes.{fields, state_of}
 use Rattle.vnode_protocol.proofs.Sound.{of-form, registers-view}
-use Rattle.vnode_replies.proofs.Showing.{get-absent, get-stored}
+use Rattle.vnode_core.proofs.Showing.{get-absent, get-stored}
 use Rattle.vnode_core.proofs.vnode.VnodeOver.get.Goals as goal
 
 pub siblings_reply-requires : goal.siblings_reply-requires

@@ -6,7 +6,7 @@ use Rattle.vnode_protocol.specs.Plans.{View}
 use Rattle.clock_store.specs.Contents.{Contents, HasSyncRoom}
 use Rattle.clock_store.specs.Keys.{Keys}
 use Rattle.clock_store.proofs.Founds.{stored_found}
-use Rattle.vnode_replies.specs.Checks.{found_in}
+use Rattle.vnode_core.specs.Checks.{found_in}
 use Rattle.vnode_core.specs.Vnodes.{fields, state_of, IsReadyFor}
 use Rattle.vnode_core.proofs.Copying.{few-actors, takes-copy}
 use Rattle.vnode_core.proofs.vnode.VnodeOver.make_copy_ready.Goals as goal

@@ -9,10 +9,10 @@ use Rattle.vnode_machine.specs.Machine.{State, clock_of, stored}
 use Rattle.clock_store.proofs.Founds.{stored_found}
 use Rattle.clock_store.specs.Keys.{Keys}
 use Rattle.vnode_core.specs.Vnodes.{fields, state_of, IsReadyFor}
-use Rattle.vnode_replies.specs.Checks.{found_in}
+use Rattle.vnode_core.specs.Checks.{found_in}
 use Rattle.vnode_machine.specs.Sound.{IsSound}
 use Rattle.vnode_protocol.specs.Plans.{View}
-use Rattle.vnode_replies.specs.declared.checks.Writer.{Writer}
+use Rattle.vnode_core.specs.declared.checks.Writer.{Writer}
 use Rattle.vnode_core.proofs.Putting.{within-put}
 use Rattle.vnode_core.proofs.Finishing.{put-ready}
 use Rattle.vnode_core.proofs.vnode.VnodeOver.make_put_ready.Goals as goal

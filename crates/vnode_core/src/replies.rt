@@ -1,0 +1,262 @@
+//! What a vnode answers.
+
+ghost use Rattle.std.specs.Prelude.{◌≡◌, ◌||◌, [], ◌∷◌, Some, IfOk, IfSome, IsTrue, map};
+ghost use Rattle.vnode_core.specs.Checks.{found_in};
+ghost use Rattle.actor_epoch.specs.Contexts.{encoding, is_well_formed};
+ghost use Rattle.actor_epoch.specs.Entries.{entries_of};
+ghost use Rattle.actor_epoch.specs.Given.{context_of};
+ghost use Rattle.dvv_set.specs.Held.{IsWithin, pairs_of as seen_in};
+ghost use Rattle.vnode_machine.specs.Replies.{shown};
+ghost use Rattle.vnode_core.specs.Replies.{nothing, nothing_after, is_its, all_shown, siblings_of, reply_after, filled, clock_after, clock_found, RefersTo, Previews, FitsPut};
+ghost use Rattle.clock_store.specs.Keys.{stored_of};
+
+use crate::checks::MAX_SIBLINGS;
+use actor_epoch::{Actor, Context, Counter};
+use clock_store::StoredClock;
+use dvv_set::Clock;
+use riak_msgs::{Bytes, Content, GetAsk, GetReply, PutAsk, PutReply, Sequence, Shown};
+use std::alloc::{AllocError, Global};
+use std::default::MadeWith;
+
+/// The answer to a get of an absent key.
+pub(crate) fn absent_reply(alloc: Global) -> GetReply
+    ensures { result ≡ nothing }
+{
+    GetReply {
+        contents: Sequence::new(alloc),
+        context: Bytes::new(alloc),
+        unchanged: false,
+    }
+}
+
+/// A copy of a sibling as a reply shows it, without its value where it is to be bare.
+fn show(alloc: Global, sibling: &Option<Content>, is_bare: bool) -> Result<Shown, AllocError>
+    ensures { IfOk result (λ s. s ≡ shown is_bare sibling.now) }
+{
+    match sibling {
+        None => Shown::tombstone(alloc),
+        Some(content) => show_content(alloc, content, is_bare),
+    }
+}
+
+/// A copy of a content as a reply shows it, without its value where it is to be bare.
+fn show_content(alloc: Global, content: &Content, is_bare: bool) -> Result<Shown, AllocError>
+    ensures { IfOk result (λ s. s ≡ shown is_bare (Some content.now)) }
+{
+    let content = if is_bare {
+        content.clone_head(alloc)?
+    } else {
+        content.clone()?
+    };
+    Ok(Shown {
+        content,
+        deleted: false,
+    })
+}
+
+/// The room that copies of a clock's values are given at once: theirs, since a key has no more siblings than its limit.
+fn room_for<V: MadeWith<Global> + Drop>(clock: &Clock<V>) -> usize {
+    clock.uncovered(None).min(MAX_SIBLINGS) as usize
+}
+
+/// Copies of a key's siblings as a reply shows them.
+fn show_all(alloc: Global, key: &StoredClock, is_bare: bool) -> Result<Sequence<Shown>, AllocError>
+    ensures { IfOk result (λ all. all ≡ all_shown is_bare key.now.clock.meaning) }
+{
+    let mut all = Sequence::with_capacity(alloc, room_for(&key.clock))?;
+    for sibling in key.clock.values() {
+        all.push(show(alloc, sibling, is_bare)?)?;
+    }
+    Ok(all)
+}
+
+/// The pair that a clock knows, where it knows one alone, as most do.
+fn only_pair<V: MadeWith<Global> + Drop>(clock: &Clock<V>) -> Option<(Actor, Counter)>
+    ensures { IfSome result (λ pair. entries_of (pair ∷ []) ≡ clock.now.meaning.known) }
+{
+    let mut known = clock.join();
+    let pair = known.next()?;
+    match known.next() {
+        None => Some(pair),
+        Some(_) => None,
+    }
+}
+
+/// The pairs that a clock knows.
+fn known_pairs<V: MadeWith<Global> + Drop>(
+    alloc: Global,
+    clock: &Clock<V>,
+) -> Result<Vec<(Actor, Counter)>, AllocError>
+    ensures { IfOk result (λ pairs. entries_of pairs.items ≡ clock.now.meaning.known) }
+{
+    let mut pairs = Vec::new(alloc);
+    for pair in clock.join() {
+        pairs.push(pair)?;
+    }
+    Ok(pairs)
+}
+
+/// The bytes of a context of these pairs.
+fn write_context(alloc: Global, pairs: &[(Actor, Counter)]) -> Result<Bytes, AllocError>
+    requires { IsTrue (is_well_formed (entries_of pairs.now)) }
+    ensures { IfOk result (λ bytes. bytes ≡ encoding (entries_of pairs.now)) }
+{
+    let bytes = Context::write(alloc, pairs)?;
+    Ok(Bytes::from_vec(bytes))
+}
+
+/// The bytes of a clock's context. A clock that knows one pair needs no list of them.
+fn context_of<V: MadeWith<Global> + Drop>(
+    alloc: Global,
+    clock: &Clock<V>,
+) -> Result<Bytes, AllocError>
+    requires { IsTrue (is_well_formed clock.now.meaning.known) }
+    ensures { IfOk result (λ bytes. bytes ≡ encoding clock.now.meaning.known) }
+{
+    match only_pair(clock) {
+        Some(pair) => write_context(alloc, &[pair]),
+        None => {
+            let pairs = known_pairs(alloc, clock)?;
+            write_context(alloc, pairs.as_slice())
+        }
+    }
+}
+
+/// Whether these bytes, as given, are a stored key's context.
+fn is_shown_by(key: &StoredClock, given: &[u8]) -> bool
+    ensures { result ≡ is_its (stored_of key.now) (context_of given.now) }
+{
+    match Context::read(given) {
+        None => false,
+        Some(context) => key.matches_clock(&context),
+    }
+}
+
+/// The answer to a get of a stored key: all its siblings, and its context. Where it is dead, whose siblings are all
+/// tombstones, it shows no sibling, and the context where the get asks for it. Where it isn't, and the get gives the
+/// key's own context, it is `unchanged` alone.
+pub(crate) fn siblings_reply(
+    alloc: Global,
+    key: &StoredClock,
+    ask: &GetAsk,
+) -> Result<GetReply, AllocError>
+    requires { IsTrue (is_well_formed key.now.clock.meaning.known) }
+    ensures { IfOk result (λ reply. reply ≡ siblings_of (stored_of key.now) ask.now) }
+{
+    let mut reply = absent_reply(alloc);
+    let is_alive = key.has_value();
+    if is_alive && is_shown_by(key, ask.if_modified.as_slice()) {
+        reply.unchanged = true;
+        return Ok(reply);
+    }
+    if is_alive {
+        reply.contents = show_all(alloc, key, ask.head)?;
+    }
+    if is_alive || ask.deletedvclock {
+        reply.context = context_of(alloc, &key.clock)?;
+    }
+    Ok(reply)
+}
+
+/// The answer to an accepted put that asked to be shown nothing.
+fn accepted(alloc: Global) -> PutReply
+    ensures { result ≡ nothing_after }
+{
+    PutReply {
+        contents: Sequence::new(alloc),
+        context: Bytes::new(alloc),
+    }
+}
+
+/// The clock of a key with references to its siblings; an empty one, where the key was not found.
+fn references(
+    alloc: Global,
+    found: Option<&StoredClock>,
+) -> Result<Clock<Option<&Option<Content>>>, AllocError>
+    ensures { IfOk result (λ clock. RefersTo clock.meaning (clock_found (found_in found.entry))) }
+{
+    match found {
+        None => Ok(Clock::new(alloc)),
+        Some(key) => key.clock.references(alloc),
+    }
+}
+
+/// Whether a put asks to be shown siblings.
+fn shows_siblings(put: &PutAsk) -> bool
+    ensures { result ≡ (put.now.return_body || put.now.return_head) }
+{
+    put.return_body || put.return_head
+}
+
+/// The clock of a key as a put leaves it, with references to the siblings that stay, and none in the place of what is
+/// put.
+fn preview<'a>(
+    alloc: Global,
+    found: Option<&'a StoredClock>,
+    context: Option<&Context<'_>>,
+    actor: Actor,
+) -> Result<Clock<Option<&'a Option<Content>>>, AllocError>
+    requires { IsWithin (clock_found (found_in found)).known (seen_in context) actor }
+    ensures { IfOk result (λ clock.
+        Previews clock.meaning (found_in found.entry) (seen_in context.entry) actor) }
+{
+    let mut clock = references(alloc, found)?;
+    clock.reserve(context, actor)?;
+    clock.put_ready(context, actor, None);
+    Ok(clock)
+}
+
+/// A copy of a sibling that stays, or where there is none of the content that is put, as a reply shows it.
+fn show_filled(
+    alloc: Global,
+    sibling: Option<&Option<Content>>,
+    content: &Content,
+    is_bare: bool,
+) -> Result<Shown, AllocError>
+    ensures { IfOk result (λ s. s ≡ shown is_bare (filled content.now sibling.entry)) }
+{
+    match sibling {
+        None => show_content(alloc, content, is_bare),
+        Some(sibling) => show(alloc, sibling, is_bare),
+    }
+}
+
+/// Copies of the siblings after a put as its reply shows them.
+fn show_after(
+    alloc: Global,
+    after: &Clock<Option<&Option<Content>>>,
+    content: &Content,
+    is_bare: bool,
+) -> Result<Sequence<Shown>, AllocError>
+    ensures { IfOk result (λ all. all ≡
+        map (λ entry. shown is_bare (filled content.now entry.1)) after.now.meaning.live) }
+{
+    let mut all = Sequence::with_capacity(alloc, room_for(after))?;
+    for sibling in after.values() {
+        all.push(show_filled(alloc, *sibling, content, is_bare)?)?;
+    }
+    Ok(all)
+}
+
+/// The answer to an accepted put, by what was found of its key before it: nothing, or where it asked for them the
+/// siblings after it, with their values or without, and the context. No content is copied that isn't shown.
+pub(crate) fn put_reply(
+    alloc: Global,
+    found: Option<&StoredClock>,
+    put: &PutAsk,
+    context: Option<&Context<'_>>,
+    actor: Actor,
+) -> Result<PutReply, AllocError>
+    requires { FitsPut (found_in found) (seen_in context) actor }
+    ensures { IfOk result (λ reply. reply ≡ reply_after
+        (clock_after (found_in found.entry) (seen_in context.entry) actor put.now.content)
+        put.now) }
+{
+    if !shows_siblings(put) {
+        return Ok(accepted(alloc));
+    }
+    let after = preview(alloc, found, context, actor)?;
+    let contents = show_after(alloc, &after, &put.content, !put.return_body)?;
+    let context = context_of(alloc, &after)?;
+    Ok(PutReply { contents, context })
+}

@@ -1,4 +1,0 @@
-pub mod Options
-pub mod Previews
-pub mod Rooms
-pub mod Showing

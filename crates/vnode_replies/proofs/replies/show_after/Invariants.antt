@@ -1,9 +1,0 @@
-use Rattle.std.proofs.Common.{◌≡◌, ◌++◌, map}
-use Rattle.vnode_machine.specs.Replies.{shown}
-use Rattle.vnode_replies.specs.Replies.{filled}
-use Rattle.vnode_replies.proofs.replies.show_after.Given as goal
-
-abbrev pub invariant-loop-sibling : goal.invariant-loop-sibling
-invariant-loop-sibling l =
-    l.all ++ map (λ sibling. shown l.is_bare (filled l.content sibling)) l.sibling-iterator
-    ≡ map (λ sibling. shown l.is_bare (filled l.content sibling)) l.initial.sibling-iterator
