@@ -1,6 +1,5 @@
 -- Dead keys in a list of rows, and the list without one.
 use Rattle.std.proofs.Common.{◌≡◌, ◌<◌, ℕ, zero, suc, ◌+◌, Bool, true, false, not, cond, List, [], ◌∷◌, ◌++◌, refl, sym, ◌∙◌, ap, arith, map, length, take, drop, subst}
-use lib.Dec.{T}
 use Rattle.std.specs.Prelude.{Option, Some, None, slice_get, filter, remove, is_some, IsTrue}
 use Rattle.std.specs.Option.{option_map_or, option_map}
 use Rattle.std.specs.List.{position_from}
@@ -27,6 +26,7 @@ use Rattle.clock_list.proofs.Finding.{at_place}
 use Rattle.clock_store.specs.Forgetting.{holding, after_first_reap, is_dead_from}
 use Rattle.clock_store.specs.Keys.{Keys}
 use Rattle.clock_list.specs.Rows.{entry_of, IsList}
+use Rattle.clock_list.proofs.Rows.{true_from}
 
 -- what is removed from a list is removed from what is made of it
 pub map_remove : {X Y : Type 0} (f : X → Y) (xs : List X) (i : ℕ) → map f (remove xs i) ≡ remove (map f xs) i
@@ -146,10 +146,6 @@ module _ (keys : Keys) (sorted : is_sorted key_cmp keys ≡ true) (from : Option
 
   pub left_none : position_from (is_dead_from from) 0 keys ≡ None → keys ≡ (after_first_reap (holding keys) from).keys
   left_none h = sym (ap (λ (o : Option Key). (option_map_or (reaped (holding keys)) o (holding keys)).keys) (none_dead h))
-
-true_from : (b : Bool) → T b → IsTrue b
-true_from true t = refl
-true_from false t = absurd t
 
 -- what is always true of a list holds after a key is taken away
 pub list_left : (rows : Vec Row Global) (old : Keys) (key : Key) → map entry_of rows.items ≡ (reaped (holding old) key).keys

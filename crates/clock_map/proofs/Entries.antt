@@ -109,7 +109,7 @@ module _ (f g : Shows) (m n : Places) (was : IsOrdered key_cmp m) (is : IsOrdere
       (λ q. find_shown g q n.entries is ∙ same q ∙ ap (λ b. cond b None (shown f m q)) (eq_by_key_cmp key q)
       ∙ ap (cond (key_eq key q) None) (sym (find_shown f q m.entries was)) ∙ sym (find_reaped key q (keys_in f m.entries)))
 
-some_not : {X : Type 0} (x : X) → Some x ≡ None → ⊥
+pub some_not : {X : Type 0} (x : X) → Some x ≡ None → ⊥
 some_not x h = cc
 
 -- the key of a place has that place

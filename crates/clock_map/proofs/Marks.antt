@@ -30,6 +30,8 @@ use Rattle.clock_map.specs.Index.{Index, Adds, is_mark, is_marked, kept_if, with
 use Rattle.clock_map.specs.Maps.{is_dead}
 use Rattle.clock_map.proofs.Entries.{same_key}
 use Rattle.clock_map.proofs.Ties.{at_same, clash}
+use Rattle.actor_epoch.proofs.Rising.{and_both as both_true, and_first as and_left, and_second as and_right}
+pub use Rattle.sibling_register.proofs.Following.{and_true}
 
 pub none_from : {X : Type 0} (o : Option X) → is_some o ≡ false → o ≡ None
 none_from None h = refl
@@ -109,14 +111,6 @@ any_put R p k v (e ∷ es) h = by (R k e.0) (any_put R p k v es h)
     by Greater rest = ap (λ b. p e || b) rest ∙ or_true (p e)
 
 -- ---- the least of entries in order that pass a test
-
-and_left : (a b : Bool) → (a && b) ≡ true → a ≡ true
-and_left true b h = refl
-and_left false b h = cc
-
-and_right : (a b : Bool) → (a && b) ≡ true → b ≡ true
-and_right true b h = h
-and_right false b h = cc
 
 le_less : (o : Ordering) → o ≡ Less → is_le o ≡ true
 le_less o h = ap is_le h
@@ -204,10 +198,6 @@ module _ {X : Type 0} where
           let value : e.1 ≡ w = cc in
           (λ i. p (same_key q e.0 at i, sym value i)) ∙ is
       by false false is at h found rest = rest h found
-
-both_true : (a b : Bool) → a ≡ true → b ≡ true → (a && b) ≡ true
-both_true true b p q = q
-both_true false b p q = cc
 
 -- keys in order, as the lists of entries say it
 module _ {X : Type 0} where
@@ -372,10 +362,6 @@ first_within spare inside from same es = ap (λ xs. slice_get (map (λ (e : Key 
             → filter (λ (e : Key × ℕ). is_mark spare e.1) (cond b (e ∷ rest) rest) ≡ cond (is_from from e.0 && is_mark spare e.1) (e ∷ kept) kept
         by true is h = (λ i. cond (is_mark spare e.1) (e ∷ h i) (h i)) ∙ ap (λ b. cond (b && is_mark spare e.1) (e ∷ kept) kept) (sym is ∙ same e.0)
         by false is h = h ∙ ap (λ b. cond (b && is_mark spare e.1) (e ∷ kept) kept) (sym is ∙ same e.0)
-
-pub and_true : (b : Bool) → (b && true) ≡ b
-and_true true = refl
-and_true false = refl
 
 pub some_copied : {A : Type 0} (o : Option (Bor A)) → is_some (option_map (λ (k : Bor A). k.now) o) ≡ is_some o
 some_copied None = refl

@@ -22,9 +22,7 @@ use Rattle.clock_map.specs.declared.room.Need.{Need}
 use Rattle.clock_map.specs.Places.{Places, Clocks, place_of, nothing, stored_at, is_spare, unless_spare, IsSpareKey, IsTied, StoresSame, ChangesAt, AddsAt, RemovesAt, DropsSpare}
 use Rattle.clock_map.specs.Maps.{shown_at, shown_of, keys_in, key_at, reserved_in}
 use Rattle.clock_map.proofs.Entries.{same_key, find_shown, keys_put, keys_without, key_at-place, key_at-some}
-
-pub not_none : {X : Type 0} (x : X) → Some x ≡ None → ⊥
-not_none x h = cc
+pub use Rattle.clock_map.proofs.Entries.{some_not as not_none}
 
 -- a key that is another isn't at it
 pub at_same : (key other : Key) → key ≡ other → is_at (key_cmp key) other ≡ true

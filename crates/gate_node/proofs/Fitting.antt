@@ -11,9 +11,7 @@ use Rattle.gate_node.specs.declared.passes.FallbackPass.{FallbackPass}
 use Rattle.gate_node.specs.Asked.{Sight}
 use Rattle.gate_node.specs.Gates.{Gates}
 use Rattle.gate_node.specs.Passes.{Sights, Fits, AllFit, OutliveDiversion, AnswersAtFallback, AnswersBy, FindsClosed, IsClosedBy, IsRenewed, Resumes, is_of, kept_of}
-
-none_some : {A : Type 0} (x : A) → None ≡ Some x → ⊥
-none_some x h = cc
+use Rattle.handoff.proofs.Opened.{none_some}
 
 -- where nothing is kept, that fits
 none_fits : (fallback : Option Fallback) (kept : Option FallbackPass) → kept ≡ None → Fits fallback kept

@@ -1,6 +1,6 @@
 -- Gates that were made round new vnodes, and what is answered at them.
 use Rattle.std.proofs.Common.{◌≡◌, ◌∙◌, ◌+◌, ◌<◌, ◌≤◌, ◌^◌, ℕ, List, [], ◌∷◌, length, map, refl, sym, ap, subst, arith}
-use Rattle.std.specs.Prelude.{Option, Some, None, slice_get, slice_set, get_or, zero, suc}
+use Rattle.std.specs.Prelude.{Option, Some, slice_get, slice_set, get_or, zero, suc}
 use Rattle.std.proofs.Math.Seq.{map-set_same}
 use Rattle.std.specs.Option.{option_map, option_map_or}
 use mathlib.Core.List.{IsPrefix}
@@ -15,15 +15,12 @@ use Rattle.stats_book.specs.declared.quantity.Quantity.{Quantity}
 use Rattle.stats_book.specs.Counter.{Count, CountsAnswer}
 use Rattle.handoff.specs.declared.gates.Fallback.{Fallback}
 use Rattle.handoff.specs.Partitions.{AreMadeNew, AreOfNewRun, IsFallback}
-use Rattle.handoff.proofs.Opened.{got}
+use Rattle.handoff.proofs.Opened.{got, none_some}
 use Rattle.gate_node.specs.declared.passes.FallbackPass.{FallbackPass}
 use Rattle.gate_node.specs.Asked.{Sight, AnswersAndReaps}
 use Rattle.gate_node.specs.GateStep.{Node, AtIndex, AtFallback, AtClosed, Looks, events_seen}
 use Rattle.gate_node.specs.Passes.{AnswersAtFallback, FindsClosed}
 use Rattle.gate_node.proofs.Seeing.{set_here}
-
-none_some : {A : Type 0} (x : A) → None ≡ Some x → ⊥
-none_some x h = cc
 
 made_new_at : (run index i : ℕ) (gates : List (GateId View)) (gate : GateId View) → AreMadeNew run index gates → slice_get gates i ≡ Some gate → IsMadeNew (id_of run (index + i)) 0 gate
 made_new_at run index i [] gate all at = absurd (none_some gate at)

@@ -19,9 +19,7 @@ use Rattle.handoff.specs.declared.copying.Step.TheVariants.{End, Passed, Made, S
 use Rattle.handoff.specs.Copying.{IsCopy, HasCopyAt, AreCopies, CopiesOne}
 use Rattle.handoff.specs.Sights.{Sight, LeadsTo}
 use Rattle.handoff.specs.Steps.{Steps}
-
-none_some : {A : Type 0} (x : A) → None ≡ Some x → ⊥
-none_some x h = cc
+use Rattle.handoff.proofs.Opened.{none_some}
 
 get_more : {A : Type 0} (xs ys : List A) (k : ℕ) (x : A) → slice_get xs k ≡ Some x → slice_get (xs ++ ys) k ≡ Some x
 get_more [] ys k x at = absurd (none_some x at)

@@ -38,7 +38,7 @@ fallbacks_set run index (suc i) (x ∷ xs) fallback all one =
     let next : index + suc i ≡ (index + 1) + i = omega arith in
     (all.0, fallbacks_set run (index + 1) i xs fallback all.1 (subst (λ n. IfSome fallback (IsFallback run n)) next one))
 
-none_some : {A : Type 0} (x : A) → None ≡ Some x → ⊥
+pub none_some : {A : Type 0} (x : A) → None ≡ Some x → ⊥
 none_some x h = cc
 
 pub fallbacks_get : (run index i : ℕ) (all : List (Option Fallback)) (fallback : Option Fallback) → AreFallbacks run index all → slice_get all i ≡ Some fallback → IfSome fallback (IsFallback run (index + i))

@@ -1,6 +1,6 @@
 -- A vnode behind a gate is sound at each position of its history.
-use Rattle.std.proofs.Common.{◌≡◌, Bool, true, false, not, List, [], ◌∷◌, refl, sym, subst}
-use Rattle.std.specs.Prelude.{Option, IsTrue}
+use Rattle.std.proofs.Common.{List, [], ◌∷◌, sym, subst}
+use Rattle.std.specs.Prelude.{Option}
 use Rattle.riak_msgs.specs.Contents.{Content}
 use Rattle.vnode_machine.specs.Copying.{is_stuck}
 use Rattle.vnode_machine.specs.Machine.{State}
@@ -14,10 +14,7 @@ use Rattle.vnode_protocol.specs.declared.entry.Entry.TheVariants.{Command, Copie
 use Rattle.vnode_protocol.specs.Events.{Makes, event_command}
 use Rattle.vnode_protocol.specs.Plans.{View}
 use Rattle.handoff.specs.Sights.{LeadsTo, IsOfVnode}
-
-untrue : (b : Bool) → IsTrue (not b) → b ≡ false
-untrue true h = cc
-untrue false h = refl
+use Rattle.vnode_protocol.proofs.Sound.{untrue}
 
 -- an entry that is taken keeps a state sound
 sound-entry : (state next : State Content) (entry : Entry) → IsSound state → Makes state entry next → IsSound next

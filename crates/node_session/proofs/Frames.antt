@@ -12,7 +12,7 @@ use Rattle.node_session.specs.declared.exchange.Exchange.{Exchange}
 use Rattle.node_session.specs.Views.{EndsInPiece, IsRead, message_of, messages_of}
 
 -- a frame has a byte
-some_frame : (m : Message) → 0 < length (frame m)
+pub some_frame : (m : Message) → 0 < length (frame m)
 unfolding frame
 some_frame m = omega arith
 

@@ -27,6 +27,7 @@ use Rattle.std.specs.Prelude.{OnOk}
 use Rattle.std.proofs.lemmas.Bool.{false≢true}
 use Rattle.node_session.specs.Nexts.{AnswersNext, IsAnswered, IsBadNext, IsLost}
 use Rattle.node_session.specs.Views.{SessionView, EndsInPiece, IsRead, message_of, messages_of, replies_of}
+pub use Rattle.node_session.proofs.Frames.{some_frame}
 
 -- a piece with a byte
 some_piece : (piece : List ℕ) → (piece ≡ [] → ⊥) → 0 < length piece
@@ -49,11 +50,6 @@ pub faulty_not : (rest : List ℕ) (fault : FrameFault) → IsFaulty max_request
 faulty_not rest frames.Empty is p = let s = p.short is.length.0 in omega (arith, s.0, is.length.1)
 faulty_not rest frames.TooLarge is p = let s = p.short is.length.0 in omega (arith, s.1, is.length.1)
 faulty_not rest frames.NoMemory is p = absurd is.length
-
--- a frame has a byte
-pub some_frame : (m : Message) → 0 < length (frame m)
-unfolding frame
-some_frame m = omega arith
 
 -- so many frames are at least so many bytes
 frames_long : (ms : List Message) → length ms ≤ length (flat_map frame ms)

@@ -1,5 +1,5 @@
 -- The places of each digest: the context that is found among them is the first, and one context more is one place more.
-use Rattle.std.proofs.Common.{◌≡◌, ℕ, suc, ◌+◌, Bool, true, false, ◌&&◌, cond, List, [], ◌∷◌, ◌++◌, length, refl, sym, ◌∙◌, ap, arith}
+use Rattle.std.proofs.Common.{◌≡◌, ℕ, suc, ◌+◌, Bool, true, false, cond, List, [], ◌∷◌, ◌++◌, length, refl, sym, ◌∙◌, ap, arith}
 use Rattle.std.specs.Prelude.{Option, Some, None, ◌==◌, is_some, slice_get, option_and_then}
 use Rattle.std.specs.Option.{option_map_or}
 use Rattle.std.specs.Ordering.{nat_cmp}
@@ -15,17 +15,10 @@ use Rattle.actor_epoch.specs.Given.{context_of, pairs_read}
 use Rattle.schedule_text.specs.declared.shown_context.ShownContext.{ShownContext}
 use Rattle.schedule_text.specs.Compared.{is_of, position_of}
 use Rattle.schedule_text.specs.ShownIndex.{digest_of, entry_digest, places_from, position_among, places_at, AreIndexed}
+use Rattle.actor_epoch.proofs.Rising.{and_first as and_left, and_second as and_right}
 
 same_number : (a b : ℕ) → (a == b) ≡ true → a ≡ b
 same_number a b h = grind (arith, nat_tests)
-
-and_left : (a b : Bool) → (a && b) ≡ true → a ≡ true
-and_left true b h = refl
-and_left false b h = h
-
-and_right : (a b : Bool) → (a && b) ≡ true → b ≡ true
-and_right true b h = h
-and_right false b h = cc
 
 same_dot : (a b : Dot) → dot_eq a b ≡ true → a ≡ b
 same_dot a b h =

@@ -28,7 +28,7 @@ use Rattle.vnode_protocol.specs.Plans.{Registers, RegistersPlan, RegistersStep, 
 same_reply : (reply other : PutReply) → answers.Put reply ≡ answers.Put other → reply ≡ other
 same_reply reply other h = cc
 
-untrue : (b : Bool) → IsTrue (not b) → b ≡ false
+pub untrue : (b : Bool) → IsTrue (not b) → b ≡ false
 untrue true h = cc
 untrue false h = refl
 

@@ -1,6 +1,6 @@
 -- A session whose last node has seen beginnings of some histories has seen beginnings of them all along.
 use Rattle.std.proofs.Common.{◌≡◌, ℕ, zero, suc, List, [], ◌∷◌, ◌∙◌, refl, sym, subst, inl, inr}
-use Rattle.std.specs.Prelude.{Option, Some, None, Result, Ok, Err, MatchResult, slice_get, slice_set}
+use Rattle.std.specs.Prelude.{Option, Some, Result, Ok, Err, MatchResult, slice_get, slice_set}
 use mathlib.Core.List.{IsPrefix}
 use Rattle.riak_msgs.specs.declared.Request.{Request}
 use Rattle.riak_msgs.specs.declared.Request.TheVariants as requests
@@ -23,6 +23,7 @@ use Rattle.worker_pool.specs.declared.server.Served.{Served}
 use Rattle.worker_pool.specs.Serving.{EndsAtEnd, EndsAtFault, EndsWell, Joins, counted_whole}
 use Rattle.worker_pool.specs.Tallies.{History}
 use Rattle.worker_pool.specs.OneHistory.{IsSeen, StepIn, IsAnsweredIn, IsAnsweredFrom, IsAnsweredAt, AnswersIn}
+use Rattle.handoff.proofs.Opened.{none_some}
 
 -- what was answered stands at a position of what is then seen
 answer_seen : (budget count : ℕ) (Says : Sight → Sight → Type 0) (old new : Sight) (h : AnswersAndReaps budget count Says old new) → IsPrefix h.answered.prefix new.prefix
@@ -30,9 +31,6 @@ answer_seen budget count Says old new h = all_reaps_more budget count h.answered
 
 answers_grow : (budget count : ℕ) (Says : Sight → Sight → Type 0) (old new : Sight) → AnswersAndReaps budget count Says old new → IsPrefix old.prefix new.prefix
 answers_grow budget count Says old new h = prefix_trans old.prefix h.answered.prefix new.prefix h.more (answer_seen budget count Says old new h)
-
-none_some : {A : Type 0} (x : A) → None ≡ Some x → ⊥
-none_some x h = cc
 
 -- where a pass has seen more, it had seen less of the same history
 seen_before : (histories : List History) (passes : List Sight) (index : ℕ) (before after : Sight) → slice_get passes index ≡ Some before → after.gate ≡ before.gate → IsPrefix before.prefix after.prefix → Pairwise IsSeen histories (slice_set passes index after) → Pairwise IsSeen histories passes
