@@ -1,4 +1,4 @@
-use Rattle.std.proofs.Common.{IfOk, subst, ◌∙◌}
+use Rattle.std.proofs.Common.{IfOk, subst}
 use Rattle.riak_msgs.specs.Contents.{Content}
 use Rattle.sibling_register.specs.Plain.{answer_of}
 use Rattle.sibling_register.specs.declared.command.Command.{Command}
@@ -10,5 +10,5 @@ pub returns : goal.returns
 returns c =
     let ask = c.args.ask.now in
     let comes : Command Content → Type 0 = λ command. IfOk c.ask_command.result (λ told. Comes c.args.register.now command (answer_of told) c.ask_command.new.register) in
-    subst (λ v. comes (Put ask.key c.args.context v ask.return_body ask.return_head ask.if_not_modified ask.if_none_match)) (c.in_ok-value.ensures ∙ c.as_content.ensures)
+    subst (λ v. comes (Put ask.key c.args.context v ask.return_body ask.return_head ask.if_not_modified ask.if_none_match)) c.in_ok-value.ensures
     (subst (λ k. comes (Put k c.args.context c.in_ok-value.value ask.return_body ask.return_head ask.if_not_modified ask.if_none_match)) c.in_ok-key.ensures c.ask_command.ensures)
