@@ -54,7 +54,7 @@ pub(crate) fn plan_of(ask: Ask, readiness: Readiness) -> Plan<Change, Answer>
 fn answered(ask: Ask, answer: Answer) -> Plan<Change, Answer>
     ensures { result ≡ Nothing answer }
 {
-    drop_ask(ask);
+    drop(ask);
     Plan::Nothing(answer)
 }
 
@@ -62,15 +62,9 @@ fn answered(ask: Ask, answer: Answer) -> Plan<Change, Answer>
 pub(crate) fn refuse(ask: Ask, refusal: Refusal) -> Refusal
     ensures { result ≡ refusal }
 {
-    drop_ask(ask);
+    drop(ask);
     refusal
 }
-
-/// Lets a command go.
-fn drop_ask(_ask: Ask) {}
-
-/// Lets what was ready go.
-pub(crate) fn drop_ready(_ready: Ready) {}
 
 /// The result of a reap of a key, by what was found of it.
 pub(crate) fn reap_result(found: Option<&StoredClock>) -> Reaped

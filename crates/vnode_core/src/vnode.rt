@@ -26,9 +26,7 @@ mod tally;
 use crate::change::Change;
 use crate::checks::{Writer, check_options, check_room, last_of};
 use crate::context::names_unissued_dot;
-use crate::ready::{
-    Readiness, Ready, drop_ready, plan_of, refuse, set_ready, tombstones_after, writes_after,
-};
+use crate::ready::{Readiness, Ready, plan_of, refuse, set_ready, tombstones_after, writes_after};
 use crate::replies::{absent_reply, put_reply, siblings_reply};
 use actor_epoch::{Actor, Context, EpochSource};
 use clock_map::ClockMap;
@@ -277,7 +275,7 @@ impl<S: ClockStore> VnodeOver<S> {
                 Ok(())
             }
             Err(_) => {
-                drop_ready(ready);
+                drop(ready);
                 Err(Refusal::NoMemory)
             }
         }
