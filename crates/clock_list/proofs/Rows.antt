@@ -3,7 +3,7 @@ use Rattle.std.proofs.Common.{◌≡◌, ◌<◌, ◌≤◌, ℕ, Bool, true, fa
 use lib.Dec.{T}
 use Rattle.std.specs.declared.vec.Vec.{Vec}
 use Rattle.std.specs.declared.alloc.Global.{Global}
-use Rattle.std.specs.Prelude.{Option, Some, None, slice_get, insert, IsTrue}
+use Rattle.std.specs.Prelude.{Result, Ok, Err, OnOk, Option, Some, None, slice_get, insert, IsTrue}
 use Rattle.std.specs.Option.{option_map}
 use Rattle.std.proofs.lemmas.Float.{T_from_true}
 use Rattle.std.proofs.lemmas.Option.{slice_get-map, slice_get-get_or, slice_get_within, get_or_from_slice_get}
@@ -33,7 +33,6 @@ use Rattle.clock_store.specs.Keys.{Keys, stored_of, empty, clock_at, own_at, wri
 use Rattle.std.specs.Ordering.{eq_by_cmp}
 use Rattle.clock_list.specs.Rows.{entry_of, nothing, place_entry, first_place, FitsAt, ReadyAt, SyncFitsAt, SyncReadyAt, reservation_of, contents_in, IsRoom, IsList}
 use Rattle.clock_list.proofs.Finding.{at_place, new_place}
-pub use Rattle.place_map.proofs.Nested.{on_ok}
 
 -- a key stands at its place
 pub record HoldsAt (items : List Row) (key : Key) (i : ℕ) : Type 0 where
@@ -211,6 +210,11 @@ overwritten_new keys key actor value none =
     let was : clock_at keys key ≡ empty = rw none refl in
     let s : DotState (Option Content) → Stored Content = λ m. record { own = Some actor; clock = event actor value m } in
     ap (λ m. put key_cmp key (s m) keys) (was ∙ (λ i. discard (sym was i).known (sym was i)))
+
+-- one fact of a value that there is for another
+pub on_ok : {X E A B : Type 0} (r : Result X E) → (A → B) → OnOk r A → OnOk r B
+on_ok (Ok x) f a = f a
+on_ok (Err e) f a = tt
 
 pub true_from : (b : Bool) → T b → IsTrue b
 true_from true t = refl

@@ -1,15 +1,16 @@
 //! The frames of replies that were not yet sent.
 
-ghost use Rattle.std.specs.Prelude.{◌≡◌, ◌+◌, ◌^◌, ◌<◌, ◌≤◌, ◌++◌, [], length, drop, get_or, true, false, OnOk, OnErr};
+ghost use Rattle.std.specs.Prelude.{◌≡◌, ◌+◌, ◌^◌, ◌<◌, ◌≤◌, ◌++◌, [], length, drop, get_or, true, false, IfErr, OnOk, OnErr};
 ghost use Rattle.pb_frame.specs.Message.{given_length};
 ghost use Rattle.riak_msgs.specs.declared.reply.Reply.TheVariants.{Error};
-ghost use Rattle.node_session.specs.Answers.{reply_frame, IsFramed};
+ghost use Rattle.node_session.specs.Answers.{reply_frame, HasNoFrame, IsFramed};
 ghost use Rattle.node_session.specs.Unsent.{PutsReply, whole, IsFront};
 
 use crate::error_frame::error_frame;
 use crate::reply::fill_frame;
+use pb_frame::FrameFault;
 use riak_msgs::{Reply, Text};
-use std::alloc::{AllocError, Global};
+use std::alloc::Global;
 use std::marker::Model;
 
 /// How many bytes that wait keep a further message from being answered.
@@ -152,11 +153,12 @@ impl Outbox {
     }
 
     /// Puts the frame of a reply, which is let go, behind the others.
-    fn put_frame(&mut self, alloc: Global, reply: Reply) -> Result<(), AllocError>
+    fn put_frame(&mut self, alloc: Global, reply: Reply) -> Result<(), FrameFault>
         requires { self.old.late ≡ [] }
         ensures ok { OnOk result
             (self.new ≡ record { frames = self.old.frames ++ reply_frame reply; late = [] }) }
         ensures framed { OnOk result (IsFramed reply) }
+        ensures fault { IfErr result (HasNoFrame reply) }
         ensures err { OnErr result (self.new ≡ self.old) }
     {
         if self.frames.is_empty() {
@@ -164,7 +166,7 @@ impl Outbox {
         }
         let mut frame = Vec::new(alloc);
         fill_frame(&mut frame, reply)?;
-        self.frames.extend_from_slice(&frame)
+        Ok(self.frames.extend_from_slice(&frame)?)
     }
 
     /// Puts an error behind them. It takes no memory where there is none.
@@ -179,8 +181,8 @@ impl Outbox {
         }
     }
 
-    /// Puts a reply behind them, and lets it go.
-    pub(crate) fn put(&mut self, alloc: Global, reply: Reply) -> Result<(), AllocError>
+    /// Puts a reply behind them, and lets it go. Refused by `TooLarge` just where a frame can't hold the reply's body, and where memory is.
+    pub(crate) fn put(&mut self, alloc: Global, reply: Reply) -> Result<(), FrameFault>
         requires { self.old.late ≡ [] }
         ensures { PutsReply reply self.old self.new result }
     {

@@ -1,11 +1,13 @@
 //! Replies as frames.
 
-ghost use Rattle.std.specs.Prelude.{◌≡◌, ◌++◌, [], IfSome, OnOk, OnErr};
+ghost use Rattle.std.specs.Prelude.{◌≡◌, ◌<◌, ◌++◌, [], length, IfOk, IfErr, OnOk, OnErr};
+ghost use Rattle.pb_frame.specs.Limits.{max_body_len};
+ghost use Rattle.riak_msgs.specs.Replies.{reply_body};
 ghost use Rattle.node_session.specs.Answers.{reply_frame, message_fault_text, frame_fault_text, IsFramed};
+ghost use Rattle.node_session.specs.Answers.{HasNoFrame};
 
 use pb_frame::{FrameFault, HEADER_LEN, header};
 use riak_msgs::{MsgFault, Reply, Text};
-use std::alloc::AllocError;
 
 /// The text of the error for a message that is no request.
 pub(crate) fn message_fault_text(fault: MsgFault) -> Text
@@ -32,32 +34,48 @@ pub(crate) fn frame_fault_text(fault: FrameFault) -> Text
     }
 }
 
-/// Puts the frame of a reply behind what a buffer has, which is made large enough first: the header, and the body behind it. None where
-/// memory is refused: a part may be there then.
-fn append_frame(out: &mut Vec<u8>, reply: &Reply) -> Option<()>
-    ensures frame { IfSome result (λ _. out.new.items ≡ out.old.items ++ reply_frame reply.now) }
-    ensures framed { IfSome result (λ _. IsFramed reply.now) }
+/// The header of the frame of a reply whose body has so many bytes. Refused, by `TooLarge`, just where a frame can't hold so many.
+fn reply_header(reply: &Reply, body_len: usize) -> Result<[u8; HEADER_LEN], FrameFault>
+    requires { body_len ≡ length (reply_body reply.now) }
+    ensures head { IfOk result (λ head. head ++ reply_body reply.now ≡ reply_frame reply.now) }
+    ensures framed { IfOk result (λ _. IsFramed reply.now) }
+    ensures too_large { IfErr result (λ fault.
+        (fault ≡ FrameFault.TooLarge) × (max_body_len < length (reply_body reply.now))) }
 {
-    let len = reply.body_len().ok()?;
-    let header = header(reply.code(), len).ok()?;
-    out.reserve(HEADER_LEN.saturating_add(len)).ok()?;
-    out.extend_from_slice(&header).ok()?;
-    reply.append_body(out).ok()?;
-    Some(())
+    header(reply.code(), body_len)
 }
 
-/// Puts the frame of a reply, which is let go, into an empty buffer. Where memory is refused it stays empty.
-pub(crate) fn fill_frame(out: &mut Vec<u8>, reply: Reply) -> Result<(), AllocError>
+/// Puts the frame of a reply behind what a buffer has, which is made large enough first: the header, and the body behind it. Where it is
+/// refused a part may be there.
+fn append_frame(out: &mut Vec<u8>, reply: &Reply) -> Result<(), FrameFault>
+    ensures frame { OnOk result (out.new.items ≡ out.old.items ++ reply_frame reply.now) }
+    ensures framed { OnOk result (IsFramed reply.now) }
+    ensures fault { IfErr result (HasNoFrame reply.now) }
+{
+    let Ok(len) = reply.body_len() else {
+        return Err(FrameFault::NoMemory);
+    };
+    let header = reply_header(reply, len)?;
+    out.reserve(HEADER_LEN.saturating_add(len))?;
+    out.extend_from_slice(&header)?;
+    match reply.append_body(out) {
+        Ok(()) => Ok(()),
+        Err(_) => Err(FrameFault::NoMemory),
+    }
+}
+
+/// Puts the frame of a reply, which is let go, into an empty buffer. Refused by `TooLarge` just where a frame can't hold the reply's body, and
+/// where memory is refused; the buffer stays empty then.
+pub(crate) fn fill_frame(out: &mut Vec<u8>, reply: Reply) -> Result<(), FrameFault>
     requires { out.old.items ≡ [] }
     ensures ok { OnOk result (out.new.items ≡ reply_frame reply) }
     ensures framed { OnOk result (IsFramed reply) }
+    ensures fault { IfErr result (HasNoFrame reply) }
     ensures err { OnErr result (out.new.items ≡ []) }
 {
-    match append_frame(out, &reply) {
-        Some(()) => Ok(()),
-        None => {
-            out.clear();
-            Err(AllocError)
-        }
+    let filled = append_frame(out, &reply);
+    if filled.is_err() {
+        out.clear();
     }
+    filled
 }
