@@ -14,26 +14,27 @@ use Rattle.node_steps.specs.declared.phase.Phase.{Phase as RunPhase}
 use Rattle.node_steps.specs.declared.phase.Phase.TheVariants as phases
 use Rattle.node_steps.specs.declared.site.Site.{Site}
 use Rattle.node_steps.specs.declared.parts.Parts.{Parts}
-use Rattle.node_steps.specs.World.{Phase, Idle, Asked, Reading, Holding, Done, Vnode, Worker, World, route, seen_at}
+use Rattle.node_steps.specs.World.{Phase, Idle, Asked, Reading, Holding, Done, Copying, Vnode, Worker, World, route, seen_at, brought_by}
 use Rattle.node_steps.specs.Steps.{Asks, AsksNowhere, is_reap, sent, routed, By, site_of, does, happens, turn_of}
 use Rattle.node_steps.specs.Running.{ask_of, vnode_of, worker_of, world_of}
 use Rattle.node_steps.specs.Asked.{CallsFor, asking_step, asks_by, request_ask}
 use Rattle.node_steps.specs.Parts.{FindsIdle, SendsTo, TakesStep, world_in}
 use Rattle.node_steps.proofs.Looking.{vnode_itself}
-use Rattle.node_steps.proofs.Stepping.{set-same, not_possible, result_at, Steps, step_taken, no_worker, at_worker, no_turn, NoTurn, is_busy}
+use Rattle.node_steps.proofs.Stepping.{set-same, not_possible, result_at, Steps, step_taken, no_worker, at_worker, no_turn, NoTurn, asking_sent, is_busy}
 
 -- nobody is asked a ping
 ping_turn : (worker : Worker) (phase : Phase) → worker.phase ≡ phase → NoTurn AsksNowhere worker
-ping_turn worker phase e = λ index vnode. ap (λ p. turn_of (seen_at worker.seen index) vnode AsksNowhere p) e ∙ none phase index vnode
+ping_turn worker phase e = λ index vnode. ap (λ p. turn_of (seen_at worker.seen index) (brought_by worker) vnode AsksNowhere p) e ∙ none phase index vnode
   where
-    none : (phase : Phase) (index : ℕ) (vnode : Vnode) → turn_of (seen_at worker.seen index) vnode AsksNowhere phase ≡ None
+    none : (phase : Phase) (index : ℕ) (vnode : Vnode) → turn_of (seen_at worker.seen index) (brought_by worker) vnode AsksNowhere phase ≡ None
     none Idle index vnode = refl
     none (Asked other ask) index vnode = refl
     none (Reading other get) index vnode = refl
     none (Holding other ask hand plan) index vnode = refl
     none (Done other hand) index vnode = refl
+    none (Copying own site key stage) index vnode = refl
 
-asks_nowhere : (world : World) (worker : ℕ) → happens world (By worker AsksNowhere) ≡ None
+pub asks_nowhere : (world : World) (worker : ℕ) → happens world (By worker AsksNowhere) ≡ None
 asks_nowhere world zero = refl
 asks_nowhere world (suc place) = by (slice_get world.workers place) refl
   where
@@ -45,18 +46,19 @@ asks_nowhere world (suc place) = by (slice_get world.workers place) refl
 past_turn : (world : World) (site : ℕ) (ask : Ask Content Context) → slice_get world.vnodes site ≡ None → (place : ℕ) (worker : Worker) → Steps world (Asks site ask) place worker ≡ None
 past_turn world site ask none place worker = by worker.phase refl
   where
-    busy : (phase : Phase) → worker.phase ≡ phase → ((vnode : Vnode) (seen : History) → turn_of seen vnode (Asks site ask) phase ≡ None) → NoTurn (Asks site ask) worker
-    busy phase e h = λ index vnode. ap (λ p. turn_of (seen_at worker.seen index) vnode (Asks site ask) p) e ∙ h vnode (seen_at worker.seen index)
+    busy : (phase : Phase) → worker.phase ≡ phase → ((vnode : Vnode) (seen brought : History) → turn_of seen brought vnode (Asks site ask) phase ≡ None) → NoTurn (Asks site ask) worker
+    busy phase e h = λ index vnode. ap (λ p. turn_of (seen_at worker.seen index) (brought_by worker) vnode (Asks site ask) p) e ∙ h vnode (seen_at worker.seen index) (brought_by worker)
 
     by : (phase : Phase) → worker.phase ≡ phase → Steps world (Asks site ask) place worker ≡ None
     by Idle e =
         ap (λ p. option_and_then (λ index. option_and_then (λ vnode. option_map (result_at world place index worker)
-        (turn_of (seen_at worker.seen index) vnode (Asks site ask) worker.phase)) (slice_get world.vnodes index)) (site_of (Asks site ask) p)) e
-        ∙ ap (λ o. option_and_then (λ vnode. option_map (result_at world place site worker) (turn_of (seen_at worker.seen site) vnode (Asks site ask) worker.phase)) o) none
-    by (Asked other was) e = no_turn world place (Asks site ask) worker (busy (Asked other was) e (λ v s. refl))
-    by (Reading other get) e = no_turn world place (Asks site ask) worker (busy (Reading other get) e (λ v s. refl))
-    by (Holding other was hand plan) e = no_turn world place (Asks site ask) worker (busy (Holding other was hand plan) e (λ v s. refl))
-    by (Done other hand) e = no_turn world place (Asks site ask) worker (busy (Done other hand) e (λ v s. refl))
+        (turn_of (seen_at worker.seen index) (brought_by worker) vnode (Asks site ask) worker.phase)) (slice_get world.vnodes index)) (site_of (Asks site ask) p)) e
+        ∙ ap (λ o. option_and_then (λ vnode. option_map (result_at world place site worker) (turn_of (seen_at worker.seen site) (brought_by worker) vnode (Asks site ask) worker.phase)) o) none
+    by (Asked other was) e = no_turn world place (Asks site ask) worker (busy (Asked other was) e (λ v s b. refl))
+    by (Reading other get) e = no_turn world place (Asks site ask) worker (busy (Reading other get) e (λ v s b. refl))
+    by (Holding other was hand plan) e = no_turn world place (Asks site ask) worker (busy (Holding other was hand plan) e (λ v s b. refl))
+    by (Done other hand) e = no_turn world place (Asks site ask) worker (busy (Done other hand) e (λ v s b. refl))
+    by (Copying own from key stage) e = no_turn world place (Asks site ask) worker (busy (Copying own from key stage) e (λ v s b. refl))
 
 asks_past : (world : World) (site : ℕ) (ask : Ask Content Context) → slice_get world.vnodes site ≡ None → (worker : ℕ) → does world worker (Asks site ask) ≡ None
 asks_past world site ask none zero = refl
@@ -77,7 +79,7 @@ module _ (sites : List Site) (routes : List ℕ) (workers : List RunPhase) where
     where
       by : (o : Option RunPhase) → slice_get workers place ≡ o → happens w (asking_step (suc place) index ask) ≡ None
       by None e = no_worker w place (Asks index ask) (slice_get-map worker_of workers place ∙ ap (λ o. option_map worker_of o) e)
-      by (Some phase) e = is_busy sites routes workers place index ask phase e (h place phase refl e)
+      by (Some phase) e = is_busy sites routes workers place (Asks index ask) phase e (h place phase refl e) (asking_sent index ask (route w index))
 
   pub not_asked : (worker index : ℕ) (ask : Ask Content Context) → FindsIdle workers worker None → TakesStep w (asking_step worker index ask) outcomes.No w
   not_asked worker index ask h = not_possible sites routes workers (asking_step worker index ask) (busy_or_none worker index ask h)

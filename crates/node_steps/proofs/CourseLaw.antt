@@ -12,13 +12,13 @@ use Rattle.vnode_machine.specs.Step.{Response}
 use Rattle.copy_laws.specs.Copies.{all_commands, commands_of}
 use Rattle.copy_laws.specs.Joining.{Log}
 use Rattle.copy_laws.specs.Diversions.{Course, Divert, diversions_of, fallback_of, primary_of, MayHappen}
-use Rattle.node_steps.specs.World.{Vnode, Worker, World, Call, fresh_vnode, fresh_worker, id_of, opening_world, own_sites, route, log_at, history_at, call_of, history_of}
-use Rattle.node_steps.specs.Steps.{Action, Asks, AsksNowhere, Enters, Leaves, Marks, Unmarks, Takes, Puts, Looks, Publishes, Step, By, Diverts, is_reap, sent, routed, Outcome, NotPossible, Happened, Replied, is_about, fallback_ids, diverted_by, diverted, does}
+use Rattle.node_steps.specs.World.{Vnode, Worker, World, CommandsAlone, Call, fresh_vnode, fresh_worker, id_of, opening_world, own_sites, route, log_at, history_at, call_of, history_of}
+use Rattle.node_steps.specs.Steps.{Action, Asks, AsksNowhere, Copies, CopiesFrom, Enters, Leaves, Marks, Unmarks, Takes, Puts, Looks, Publishes, Step, By, Diverts, is_reap, sent, sent_copy, routed, Outcome, NotPossible, Happened, Replied, is_about, fallback_ids, diverted_by, diverted, does}
 use Rattle.node_steps.specs.Schedules.{Start, IsStart, world_after}
 use Rattle.node_steps.specs.Courses.{partition_of, WasShownThere, GivesShownThere, IsCourseOf, RunsAreCourses}
 use Rattle.node_steps.proofs.Lists.{set-here, set-there, same_or_other, get-replicate, get-first, get-last, length-set, each_passes}
 use Rattle.node_steps.proofs.Own.{length-own, vnode_there, own_there, own_is, from_zero}
-use Rattle.node_steps.proofs.Inside.{same_test, about_there}
+use Rattle.node_steps.proofs.Inside.{about_there}
 use Rattle.node_steps.proofs.Kept.{IsOrderly, possible}
 use Rattle.node_steps.proofs.Diverting.{IsDiversion, diversion, id_is}
 use Rattle.node_steps.proofs.Scheduled.{orderly}
@@ -39,7 +39,7 @@ run-opening start index known = record {
     log_is = refl;
   };
   may_happen = tt;
-  side = inl (record { route_is = own_route; not_diverted = refl; none = refl; empty = λ n. refl });
+  side = inl (record { route_is = own_route; not_diverted = refl; none = refl; empty = λ n. refl; only = refl });
   shown = λ key context h. absurd h;
   calls = λ place worker h call asked there context e.
       absurd (none_call call (ap (λ (x : Worker). call_of x.phase) (sym (get-replicate start.workers place fresh_worker worker h)) ∙ asked));
@@ -49,7 +49,7 @@ run-opening start index known = record {
     own_route = own_there 0 start.vnodes index known ∙ ap (λ n. Some n) (from_zero index)
 
 -- where an ask is sent
-sent-by : (w : World) (action : Action) (site : ℕ) (ask : Ask Content Context) → routed (route w) action ≡ Asks site ask
+pub sent-by : (w : World) (action : Action) (site : ℕ) (ask : Ask Content Context) → routed (route w) action ≡ Asks site ask
     → (other : ℕ) × (slice_get w.routes other ≡ Some site) × ((not (site == other) && is_reap ask) ≡ false)
 sent-by w (Asks other given) site ask h = by (slice_get w.routes other) refl h
   where
@@ -65,6 +65,18 @@ sent-by w (Asks other given) site ask h = by (slice_get w.routes other) refl h
         → (at : ℕ) × (slice_get w.routes at ≡ Some site) × ((not (site == at) && is_reap ask) ≡ false)
     by None route h = cc
     by (Some to) route h = by_test to (not (to == other) && is_reap given) refl route h
+sent-by w (Copies index key) site ask h = by (slice_get w.routes index) h
+  where
+    by_test : (to : ℕ) (b : Bool) → cond b AsksNowhere (CopiesFrom index to key) ≡ Asks site ask
+        → (at : ℕ) × (slice_get w.routes at ≡ Some site) × ((not (site == at) && is_reap ask) ≡ false)
+    by_test to true h = cc
+    by_test to false h = cc
+
+    by : (o : Option ℕ) → option_map_or (λ to. sent_copy index to key) o AsksNowhere ≡ Asks site ask
+        → (at : ℕ) × (slice_get w.routes at ≡ Some site) × ((not (site == at) && is_reap ask) ≡ false)
+    by None h = cc
+    by (Some to) h = by_test to (to == index) h
+sent-by w (CopiesFrom own from key) site ask h = cc
 sent-by w AsksNowhere site ask h = cc
 sent-by w Enters site ask h = cc
 sent-by w Leaves site ask h = cc
@@ -128,7 +140,7 @@ module _ (run index : ℕ) (w : World) (orderly : IsOrderly w) (other : ℕ) (ne
     vnode = vnode-stays index (id_of run index) (primary_of (partition_of run index) course) run_is.vnode;
     may_happen = run_is.may_happen;
     side = elim run_is.side [
-      | inl own ↦ inl (record { route_is = set-there w.routes other index new_site n ∙ own.route_is; not_diverted = own.not_diverted; none = own.none; empty = own.empty })
+      | inl own ↦ inl (record { route_is = set-there w.routes other index new_site n ∙ own.route_is; not_diverted = own.not_diverted; none = own.none; empty = own.empty; only = own.only })
       | inr away ↦ inr (record {
         site = away.site;
         route_is = set-there w.routes other index new_site n ∙ away.route_is;
@@ -153,7 +165,7 @@ module _ (run index : ℕ) (w : World) (orderly : IsOrderly w) (other : ℕ) (ne
     alone place worker h call asked at =
         let about = call_site worker.phase call asked ∙ ap (λ s. Some s) at in
         yes_no (is_about other worker.phase) (each_passes (λ (x : Worker). not (is_about other x.phase)) w.workers d.alone place worker h)
-        (ap (λ o. option_map_or (λ s. s == other) o false) about ∙ same_test index other (sym e))
+        (about_there other worker.phase (about ∙ ap (λ s. Some s) (sym e)))
 
     may-divert : MayHappen (partition_of run index) course Divert
     may-divert = (
@@ -306,17 +318,21 @@ course_of : (run index : ℕ) (w : World) → IsOrderly w → (course : Course) 
 course_of run index w orderly course Shown run_is = record {
   may_happen = run_is.may_happen;
   primary = sym (log_is index (id_of run index) (primary_of (partition_of run index) course) run_is.vnode);
-  commands = commands_are run_is.vnode.vnode run_is.vnode.there;
   own = λ route. elim run_is.side [
-    | inl own ↦ own.none
+    | inl own ↦ (own.none, subst CommandsAlone (sym (log_is index (id_of run index) (primary_of (partition_of run index) course) run_is.vnode)) own.only)
     | inr away ↦ absurd (away.other (some_same index away.site (sym route ∙ away.route_is)))
   ];
   fallback = λ site route n. elim run_is.side [
     | inl own ↦ absurd (n (some_same site index (sym route ∙ own.route_is)))
-    | inr away ↦ (
-      away.one,
-      sym (history_is away.site (id_of run index + fallback_ids) (fallback_of course 1) away.vnode) ∙ ap (history_at w) (some_same away.site site (sym away.route_is ∙ route)),
-    )
+    | inr away ↦
+        let history = fallback_of course 1 in
+        let same = some_same away.site site (sym away.route_is ∙ route) in (
+          away.one,
+          sym (history_is away.site (id_of run index + fallback_ids) history away.vnode) ∙ ap (history_at w) same,
+          subst (λ k. CommandsAlone (log_at w k)) same
+              (subst CommandsAlone (sym (log_is away.site (id_of run index + fallback_ids) (all_commands history) away.vnode))
+              (ap (λ (h : History). all_commands h) (sym (commands-all history)))),
+        )
   ];
 }
   where
@@ -326,11 +342,6 @@ course_of run index w orderly course Shown run_is = record {
     history_is : (site id : ℕ) (history : History) → IsVnode w site id (all_commands history) → history_at w site ≡ history
     history_is site id history v =
         ap (λ o. option_map_or (λ (x : Vnode). history_of x) o []) v.there ∙ ap (λ (l : Log). commands_of l) v.log_is ∙ commands-all history
-
-    commands_are : (vnode : Vnode) → slice_get w.vnodes index ≡ Some vnode → log_at w index ≡ all_commands (history_at w index)
-    commands_are vnode there =
-        ap (λ o. option_map_or (λ (x : Vnode). x.log) o []) there ∙ (orderly.plain index vnode there).commands
-        ∙ ap (λ (h : History). all_commands h) (sym (ap (λ o. option_map_or (λ (x : Vnode). history_of x) o []) there))
 
 pub runs_are_courses : RunsAreCourses
 runs_are_courses start is schedule index known gives =

@@ -1,29 +1,32 @@
 -- Each run of a partition is a course: what is true of a world and the course so far, and that a worker's step keeps it.
 use Rattle.std.proofs.Common.{◌≡◌, ◌≢◌, ◌⊎◌, inl, inr, ℕ, ◌<◌, ◌≤◌, true, false, not, ◌&&◌, [], ◌∷◌, length, refl, sym, ◌∙◌, ap, arith, subst}
-use Rattle.std.specs.Prelude.{◌==◌, pred, Some, None, slice_get}
+use Rattle.std.specs.Prelude.{◌==◌, pred, Some, None, Result, slice_get}
 use Rattle.riak_msgs.specs.declared.Key.{Key}
 use Rattle.riak_msgs.specs.Contents.{Content}
 use Rattle.sibling_register.specs.History.{Event, is_update}
 use Rattle.sibling_register.specs.Answers.{Ask}
 use Rattle.actor_epoch.specs.Given.{Context, Pairs}
-use Rattle.vnode_machine.specs.Machine.{clock_of}
+use Rattle.vnode_machine.specs.Copying.{is_stuck}
+use Rattle.vnode_machine.specs.Machine.{clock_of, is_held}
+use Rattle.vnode_machine.specs.Step.{Response}
 use Rattle.vnode_machine.specs.Replay.{History, replay, naming, seen_by, Accepts}
 use Rattle.vnode_machine.specs.Registers.{key_of, context_in_ask}
-use Rattle.copy_laws.specs.Copies.{Command, all_commands, commands_of}
+use Rattle.copy_laws.specs.Copies.{Command, Copied, all_commands, commands_of}
 use Rattle.copy_laws.specs.Joining.{Log}
 use Rattle.copy_laws.specs.Sides.{Partition}
-use Rattle.copy_laws.specs.CopyReplay.{name_at, seen_at}
-use Rattle.copy_laws.specs.Diversions.{Course, Happening, AtPrimary, AtFallback, diversions_of, is_diverted, fallback_of, fallback_state, primary_of, WasShown, MayHappen, Happens}
+use Rattle.copy_laws.specs.CopyReplay.{primary_after, name_at, seen_at}
+use Rattle.copy_laws.specs.Diversions.{Course, Happening, AtPrimary, AtFallback, CopyBack, copy_of, diversions_of, is_diverted, fallback_of, fallback_state, primary_of, WasShown, MayHappen, Happens}
 use Rattle.copy_laws.proofs.Fallback.{log-replay}
-use Rattle.node_steps.specs.World.{Vnode, Worker, World, Call, call_of}
-use Rattle.node_steps.specs.Steps.{Action, Asks, is_reap, Outcome, NotPossible, Happened, Replied, seeing, turned}
+use Rattle.node_steps.specs.World.{CopyTaken, Vnode, Worker, World, CommandsAlone, Call, brought_by, call_of, history_of}
+use Rattle.node_steps.specs.Partitions.{partition_behind}
+use Rattle.node_steps.specs.Steps.{Action, Asks, is_reap, Outcome, NotPossible, Happened, Replied, NotHeld, StuckThere, CopiedBack, seeing, turned}
 use Rattle.node_steps.specs.Contexts.{given_in}
 use Rattle.node_steps.specs.Courses.{partition_of, IsSiteOf}
 use Rattle.node_steps.proofs.Lists.{set-here, set-there, same_or_other, get-below}
-use Rattle.node_steps.proofs.Inside.{state_of, other_test}
-use Rattle.node_steps.proofs.Coming.{CallIs, Comes}
+use Rattle.node_steps.proofs.Inside.{state_of, IsClockAt, other_test}
+use Rattle.node_steps.proofs.Coming.{CallIs, CopyIs, Comes}
 use Rattle.node_steps.proofs.Kept.{IsOrderly, IsPossible}
-use Rattle.node_steps.proofs.Lifting.{here, turn, plain}
+use Rattle.node_steps.proofs.Lifting.{here, turn, reply_is, from_there}
 use Rattle.node_steps.proofs.Unmixed.{seen-same}
 
 pub some_same : {X : Type 0} (a b : X) → Some a ≡ Some b → a ≡ b
@@ -61,6 +64,7 @@ module _ (run index : ℕ) where
     pub not_diverted : is_diverted course ≡ false
     pub none : diversions_of course ≡ 0
     pub empty : (n : ℕ) → fallback_of course n ≡ []
+    pub only : CommandsAlone (primary_of partition course)
 
   -- or it is, to the vnode at another site; no worker has a call at its own, nor a reap at the other
   pub record IsAway (w : World) (course : Course) : Type 0 where
@@ -140,18 +144,25 @@ module _ (run index : ℕ) where
       pub context_is : event.context ≡ context_in_ask call.ask
       pub update : is_reap call.ask ≡ false → is_update event.operation ≡ true
       pub accepts : Accepts (state_of p.vnode.id p.vnode.last_epoch p.vnode.log) event.key event.context event.operation
-      pub saw : event.saw ≡ seen_by p.vnode.id p.vnode.last_epoch (commands_of p.vnode.log) event.key event.context event.operation
+      pub saw : event.saw ≡ seen_at (partition_behind p.vnode.id p.vnode.last_epoch) p.vnode.log event.key event.context event.operation
 
-    pub grown : (p.turn.vnode.log ≡ p.vnode.log) ⊎ Grows
+    -- or a copy
+    abbrev pub Copies : Type 0
+    Copies = CopyIs p.vnode.id p.vnode.last_epoch p.index p.worker.phase (brought_by p.worker) p.vnode.log p.turn.vnode.log
+
+    pub grown : (p.turn.vnode.log ≡ p.vnode.log) ⊎ (Grows ⊎ Copies)
     grown = by p.turn.outcome (turn w orderly number action r p).comes
       where
-        by : (came : Outcome) → Comes p.vnode.id p.vnode.last_epoch p.index (call_of p.worker.phase) p.vnode.log p.turn came
-            → (p.turn.vnode.log ≡ p.vnode.log) ⊎ Grows
+        by : (came : Outcome) → Comes p.vnode.id p.vnode.last_epoch p.index p.worker.phase (brought_by p.worker) p.vnode.log p.turn came
+            → (p.turn.vnode.log ≡ p.vnode.log) ⊎ (Grows ⊎ Copies)
         by NotPossible h = absurd h
         by Happened h = inl h
+        by NotHeld h = inl h
+        by StuckThere h = inl h
+        by CopiedBack h = inr (inr h)
         by (Replied reply) h = elim h.2.event [
           | inl same ↦ inl same
-          | inr made ↦ inr (record {
+          | inr made ↦ inr (inl (record {
             event = made.0;
             call = h.0;
             asked = h.1;
@@ -162,8 +173,15 @@ module _ (run index : ℕ) where
             update = made.4;
             accepts = made.5;
             saw = made.6;
-          })
+          }))
         ]
+
+    -- after a reply a log of commands alone still is one
+    pub replied_alone : (reply : Result Response ℕ) → p.turn.outcome ≡ Replied reply → CommandsAlone p.vnode.log → CommandsAlone p.turn.vnode.log
+    replied_alone reply o only = elim (reply_is w orderly number action r p reply o).2.event [
+      | inl same ↦ subst CommandsAlone (sym same) only
+      | inr made ↦ subst CommandsAlone (sym made.1) (ap (λ (l : Log). Command made.0 ∷ l) only)
+    ]
 
     -- what holds by the vnode's id, its epoch and its log holds by those that it is known to have
     as-known : (site id : ℕ) (log : Log) → p.index ≡ site → IsVnode w site id log → (Holds : (id epoch : ℕ) → Log → Type 0)
@@ -188,14 +206,11 @@ module _ (run index : ℕ) where
       at-primary g at own =
           let log = primary_of partition course in
           let event = g.event in
-          let known = as-known index partition.primary log at run_is.vnode in
-          let only : log ≡ all_commands (commands_of log) = known (λ id epoch l. l ≡ all_commands (commands_of l)) (plain w orderly number action r p).commands in (
+          let known = as-known index partition.primary log at run_is.vnode in (
             own.not_diverted,
             (
               known (λ id epoch l. Accepts (state_of id epoch l) event.key event.context event.operation) g.accepts,
-              subst (λ l. event.saw ≡ seen_at partition l event.key event.context event.operation) (sym only)
-                  (known (λ id epoch l. event.saw ≡ seen_by id epoch (commands_of l) event.key event.context event.operation) g.saw
-                  ∙ sym (seen-same run index (commands_of log) event.key event.context event.operation)),
+              known (λ id epoch l. event.saw ≡ seen_at (partition_behind id epoch) l event.key event.context event.operation) g.saw,
             ),
             gives-event g (inl at),
           )
@@ -210,10 +225,50 @@ module _ (run index : ℕ) where
             g.update (away.updates (pred number) p.worker (here w orderly number action r p) g.call g.asked (g.at ∙ at)),
             subst (λ s. Accepts s event.key event.context event.operation) (log-replay partition.fallback 0 history ∙ sym (state-fallback course history away.one refl))
                 (known (λ id epoch l. Accepts (state_of id epoch l) event.key event.context event.operation) g.accepts),
-            subst (λ h. event.saw ≡ seen_by partition.fallback 0 h event.key event.context event.operation) (commands-all history)
-                (known (λ id epoch l. event.saw ≡ seen_by id epoch (commands_of l) event.key event.context event.operation) g.saw)
+            known (λ id epoch l. event.saw ≡ seen_at (partition_behind id epoch) l event.key event.context event.operation) g.saw
+                ∙ seen-same partition.fallback 0 history event.key event.context event.operation
                 ∙ ap (λ n. seen_by partition.fallback 0 (fallback_of course n) event.key event.context event.operation) (sym away.one),
             gives-event g (inr (away.route_is ∙ ap (λ s. Some s) (sym at))),
+          )
+
+      -- a copier is inside the fallback, whose state its clock is of
+      pub copies_from : (c : Copies) → p.index ≡ index → (away : IsAway w course) → c.site ≡ away.site
+      copies_from c at away =
+          let well = orderly.copiers (pred number) p.worker (here w orderly number action r p) c.own c.site c.key (CopyTaken c.clock c.hand (Some c.next)) c.phase_is in
+          some_same c.site away.site (sym well.0 ∙ ap (λ k. slice_get w.routes k) (c.at ∙ at) ∙ away.route_is)
+
+      fallback-is : (away : IsAway w course) → state_of away.vnode.vnode.id away.vnode.vnode.last_epoch away.vnode.vnode.log ≡ fallback_state partition course
+      fallback-is away =
+          let v = away.vnode in
+          let history = fallback_of course 1 in
+          ap (λ i. state_of i v.vnode.last_epoch v.vnode.log) v.id_is ∙ ap (λ e. state_of partition.fallback e v.vnode.log) v.epoch_is
+          ∙ ap (state_of partition.fallback 0) v.log_is ∙ log-replay partition.fallback 0 history ∙ sym (state-fallback course history away.one refl)
+
+      from-fallback : (c : Copies) → p.index ≡ index → (away : IsAway w course)
+          → (IsClockAt away.vnode.vnode.id away.vnode.vnode.last_epoch away.vnode.vnode.log c.key c.clock) × (brought_by p.worker ≡ history_of away.vnode.vnode)
+      from-fallback c at away =
+          from_there w orderly number action r p c away.vnode.vnode (ap (λ k. slice_get w.vnodes k) (copies_from c at away) ∙ away.vnode.there)
+
+      -- the copy is the one of its key
+      pub copy-is : (c : Copies) → p.index ≡ index → (away : IsAway w course)
+          → p.turn.vnode.log ≡ Copied (copy_of partition course c.key) ∷ p.vnode.log
+      copy-is c at away =
+          let from = from-fallback c at away in
+          let clock = from.0.0 ∙ ap (λ s. clock_of s c.key) (fallback-is away) in
+          let prefix = from.1 ∙ ap (λ (l : Log). commands_of l) away.vnode.log_is ∙ commands-all (fallback_of course 1) ∙ ap (fallback_of course) (sym away.one) in
+          let number = sym away.one in
+          c.later_is ∙ (λ i. Copied (record { key = c.key; clock = clock i; diversion = number i; prefix = prefix i }) ∷ p.vnode.log)
+
+      -- and may happen
+      pub at-copy : (c : Copies) → p.index ≡ index → (away : IsAway w course) → MayHappen partition course (CopyBack c.key)
+      at-copy c at away =
+          let from = from-fallback c at away in
+          let known = as-known index partition.primary (primary_of partition course) at run_is.vnode in
+          let clock = from.0.0 ∙ ap (λ s. clock_of s c.key) (fallback-is away) in (
+            away.diverted,
+            ap not (ap (λ d. is_stuck (primary_after partition (primary_of partition course)) c.key d) (sym clock)
+                ∙ known (λ id epoch l. is_stuck (state_of id epoch l) c.key c.clock ≡ false) c.open_there),
+            ap (λ s. is_held s c.key) (sym (fallback-is away)) ∙ from.0.1,
           )
 
       abbrev new_worker : Worker

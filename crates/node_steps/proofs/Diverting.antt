@@ -1,5 +1,5 @@
 -- A partition that is diverted: what is always true stays so, with a site more.
-use Rattle.std.proofs.Common.{◌≡◌, ◌≢◌, inl, inr, ℕ, suc, ◌+◌, ◌^◌, ◌<◌, ◌≤◌, Bool, true, false, cond, not, ◌&&◌, [], ◌∷◌, ◌++◌, length, refl, sym, ◌∙◌, ap, arith, subst}
+use Rattle.std.proofs.Common.{◌≡◌, ◌≢◌, inl, inr, ℕ, suc, ◌+◌, ◌^◌, ◌<◌, ◌≤◌, Bool, true, false, cond, not, ◌&&◌, ◌||◌, [], ◌∷◌, ◌++◌, length, refl, sym, ◌∙◌, ap, arith, subst}
 use Rattle.std.specs.Prelude.{◌==◌, Some, None, slice_get}
 use Rattle.std.specs.List.{list_all}
 use Rattle.std.proofs.lemmas.Bool.Decides.{nat_tests}
@@ -7,13 +7,13 @@ use Rattle.riak_msgs.specs.Contents.{Content}
 use Rattle.vnode_machine.specs.Machine.{State}
 use Rattle.vnode_machine.specs.Replay.{IsWithinLimits}
 use Rattle.copy_laws.specs.Joining.{Log}
-use Rattle.node_steps.specs.World.{Word, Open, Taken, Phase, Idle, Asked, Reading, Holding, Done, Vnode, Worker, World, fresh_vnode}
+use Rattle.node_steps.specs.World.{Word, Open, Taken, CopyStage, CopyAsked, CopyInside, CopyLooked, CopyTaken, CopyDone, Phase, Idle, Asked, Reading, Holding, Done, Copying, Vnode, Worker, World, CommandsAlone, fresh_vnode, seen_at}
 use Rattle.node_steps.specs.Steps.{is_about, fallback_ids, diverted_by, diverted}
 use Rattle.node_steps.specs.Erased.{erase_place}
-use Rattle.node_steps.proofs.Lists.{how_many, get-below, get-more, length-set, length-more, none_counted, each_passes}
+use Rattle.node_steps.proofs.Lists.{set-there, same_or_other, how_many, get-below, get-more, length-set, length-more, none_counted, each_passes}
 use Rattle.node_steps.proofs.Beginnings.{begins-itself}
 use Rattle.node_steps.specs.Schedules.{Begins}
-use Rattle.node_steps.proofs.Inside.{is_reader, is_holder, reads, holds, FitsWord, state_of, state-vnode, IsInPlace, no_hand, IsSound, sound-fresh, IsPlain, plain-fresh, IsAware}
+use Rattle.node_steps.proofs.Inside.{is_reader, is_holder, reads, holds, FitsWord, state_of, state-vnode, IsInPlace, no_hand, no_whole, IsSound, sound-fresh, IsPlain, plain-fresh, IsAware}
 use Rattle.node_steps.proofs.Kept.{IsOrderly, and_then_some}
 
 same_number : (a b : ℕ) → (a == b) ≡ true → a ≡ b
@@ -47,7 +47,11 @@ not_true : (b : Bool) → not b ≡ true → b ≡ false
 not_true true h = cc
 not_true false h = refl
 
--- who has no call at a site isn't inside
+neither : (a b : Bool) → (a || b) ≡ false → (a ≡ false) × (b ≡ false)
+neither true b h = cc
+neither false b h = (refl, h)
+
+-- who has no call at a site, and copies nothing from or to it, isn't inside
 not_inside : (index : ℕ) (phase : Phase) → is_about index phase ≡ false → (is_reader index phase ≡ false) × (is_holder index phase ≡ false)
 not_inside index Idle h = (refl, refl)
 not_inside index (Asked other ask) h = (refl, refl)
@@ -55,6 +59,19 @@ not_inside index (Reading other get) h = (h, refl)
 not_inside index (Holding other ask hand plan) h = (refl, h)
 not_inside index (Done other None) h = (h, refl)
 not_inside index (Done other (Some hand)) h = (refl, h)
+not_inside index (Copying own other key stage) h = by stage (neither (own == index) (other == index) h).0 (neither (own == index) (other == index) h).1
+  where
+    by : (s : CopyStage) → (own == index) ≡ false → (other == index) ≡ false
+        → (is_reader index (Copying own other key s) ≡ false) × (is_holder index (Copying own other key s) ≡ false)
+    by CopyAsked a b = (refl, refl)
+    by CopyInside a b = (b, refl)
+    by (CopyLooked clock) a b = (b, refl)
+    by (CopyTaken clock hand plan) a b = (b, a)
+    by (CopyDone None) a b = (b, refl)
+    by (CopyDone (Some hand)) a b = (b, a)
+
+some_same : (a b : ℕ) → Some a ≡ Some b → a ≡ b
+some_same a b h = cc
 
 below_not : (site n : ℕ) → site < n → site ≢ n
 below_not site n h = λ e. absurd (omega (arith, e, h))
@@ -130,7 +147,8 @@ module _ (w : World) (orderly : IsOrderly w) (index : ℕ) (primary : Vnode) (th
 
   aware_new : (place : ℕ) (worker : Worker) → slice_get w.workers place ≡ Some worker → IsAware fallback.id 0 new_site [] worker
   aware_new place worker h = record {
-    hand = no_hand fallback.id 0 new_site [] worker.phase (not_inside new_site worker.phase (nobody_new place worker h)).1;
+    hand = no_hand fallback.id 0 new_site [] worker.phase (not_inside new_site worker.phase (nobody_new place worker h)).0 (not_inside new_site worker.phase (nobody_new place worker h)).1;
+    whole = no_whole new_site worker.phase (seen_at worker.seen new_site) [] (not_inside new_site worker.phase (nobody_new place worker h)).0;
     seen = subst (λ front. Begins front []) (sym (orderly.unseen place worker h new_site (omega arith))) (begins-itself []);
   }
 
@@ -148,8 +166,16 @@ module _ (w : World) (orderly : IsOrderly w) (index : ℕ) (primary : Vnode) (th
     ];
     plain = λ other v h. elim (get-more w.vnodes fallback other v h) [
       | inl e ↦ orderly.plain other v e
-      | inr e ↦ subst (λ (u : Vnode). IsPlain u.id u.last_epoch u.log) e.1 (plain-fresh fallback.id 0)
+      | inr e ↦ subst (λ (u : Vnode). CommandsAlone u.log → IsPlain u.id u.last_epoch u.log) e.1 (λ only. plain-fresh fallback.id 0)
     ];
+    copiers = λ place worker k other site key stage h.
+        let well = orderly.copiers place worker k other site key stage h in (
+          elim (same_or_other index other) [
+            | inl e ↦ absurd (well.1 (sym e ∙ some_same index site (sym own ∙ ap (λ o. slice_get w.routes o) e ∙ well.0)))
+            | inr n ↦ set-there w.routes index other new_site n ∙ well.0
+          ],
+          well.1,
+        );
     bounds = λ other v below h.
         let old_below : other < length w.routes = subst (λ n. other < n) (length-set w.routes index new_site) below in
         elim (get-more w.vnodes fallback other v h) [

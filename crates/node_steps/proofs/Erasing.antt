@@ -12,17 +12,15 @@ use Rattle.vnode_machine.specs.Machine.{State}
 use Rattle.vnode_machine.specs.Replay.{History}
 use Rattle.copy_laws.specs.Joining.{Log}
 use Rattle.vnode_machine.specs.Step.{StepOutcome, Refused, Answered, Accepted, outcome as outcome_of_ask}
-use Rattle.node_steps.specs.World.{Word, Open, Taken, Phase, Idle, Asked, Reading, Holding, Done, Vnode, Worker, World, fresh_vnode, worker_at, route, seen_at}
-use Rattle.node_steps.specs.Steps.{Action, Asks, AsksNowhere, Enters, Leaves, Marks, Unmarks, Takes, Puts, Looks, Publishes, Step, By, Diverts, Outcome, NotPossible, Happened, Turn, looks_by, turn_of, routed, site_of, seeing, turned, does, is_about, fallback_ids, diverted_by, diverted, happens, after, outcome}
+use Rattle.node_steps.specs.World.{Word, Open, Taken, CopyAsked, CopyInside, CopyLooked, CopyTaken, CopyDone, Phase, Idle, Asked, Reading, Holding, Done, Copying, Vnode, Worker, World, fresh_vnode, worker_at, route, seen_at, brought_by}
+use Rattle.node_steps.specs.Steps.{Action, Asks, AsksNowhere, Copies, CopiesFrom, Enters, Leaves, Marks, Unmarks, Takes, Puts, Looks, Publishes, Step, By, Diverts, Outcome, NotPossible, Happened, Turn, looks_by, turn_of, routed, site_of, seeing, turned, does, is_about, fallback_ids, diverted_by, diverted, happens, after, outcome}
 use Rattle.node_steps.proofs.Lists.{one, how_many}
 use Rattle.node_steps.proofs.Inside.{is_reader, reads, holds, FitsWord, IsAbout, same_test}
-use Rattle.node_steps.proofs.Turns.{about_is}
+use Rattle.node_steps.proofs.EachTurn.{about_is}
+use Rattle.node_steps.proofs.CopyErasing.{erase_turn, IsErased, copy_asks, copy_enters, copy_leaves, copy_takes, copy_puts, copy_looks, copy_publishes}
 use Rattle.node_steps.proofs.Kept.{IsOrderly, at_place, counted}
 use Rattle.node_steps.proofs.Diverting.{in_place_still}
 use Rattle.node_steps.specs.Erased.{IsShown, erase_place, erase_vnode, erase_worker, erase}
-
-abbrev pub erase_turn : Turn → Turn
-erase_turn turn = record { phase = turn.phase; seen = []; vnode = erase_vnode turn.vnode; outcome = turn.outcome }
 
 pub place_twice : (word : Word) (place : State Content) → erase_place word (erase_place word place) ≡ erase_place word place
 place_twice (Open n mark) place = refl
@@ -31,14 +29,12 @@ place_twice Taken place = refl
 vnode_twice : (vnode : Vnode) → erase_vnode (erase_vnode vnode) ≡ erase_vnode vnode
 vnode_twice vnode = ap (λ p. record { id = 0; last_epoch = 0; word = vnode.word; log = []; place = p }) (place_twice vnode.word vnode.place)
 
-module _ (id epoch : ℕ) (seen : History) (log : Log) (place : State Content) where
+module _ (id epoch : ℕ) (seen brought : History) (log : Log) (place : State Content) where
   abbrev vnode_in : Word → Vnode
   vnode_in word = record { id = id; last_epoch = epoch; word = word; log = log; place = place }
 
   abbrev Same : Word → Action → Phase → Type 0
-  Same word action phase =
-      option_map erase_turn (turn_of seen (vnode_in word) action phase)
-      ≡ option_map erase_turn (turn_of [] (erase_vnode (vnode_in word)) action phase)
+  Same word action phase = IsErased id epoch seen brought log place word action phase
 
   enters : (word : Word) (index : ℕ) (ask : Ask Content Context) → Same word Enters (Asked index ask)
   enters (Open n false) index (AskGet get) = refl
@@ -58,6 +54,7 @@ module _ (id epoch : ℕ) (seen : History) (log : Log) (place : State Content) w
   leaves (Open n mark) (Done index None) = refl
   leaves Taken (Done index None) = refl
   leaves word (Done index (Some hand)) = refl
+  leaves word (Copying own site key stage) = copy_leaves id epoch seen brought log place word own site key stage
 
   marks : (word : Word) (index : ℕ) (ask : Ask Content Context) → Same word Marks (Asked index ask)
   marks (Open n false) index ask = refl
@@ -82,9 +79,10 @@ module _ (id epoch : ℕ) (seen : History) (log : Log) (place : State Content) w
   puts word (Holding index ask hand (Some plan)) = refl
   puts word (Done index None) = refl
   puts word (Done index (Some hand)) = refl
+  puts word (Copying own site key stage) = copy_puts id epoch seen brought log place word own site key stage
 
   held_look : (word : Word) (index : ℕ) (ask : Ask Content Context) (hand : State Content) (o : StepOutcome)
-      → erase_turn (looks_by seen (vnode_in word) index ask hand o) ≡ erase_turn (looks_by [] (erase_vnode (vnode_in word)) index ask hand o)
+      → erase_turn (looks_by seen brought (vnode_in word) index ask hand o) ≡ erase_turn (looks_by [] [] (erase_vnode (vnode_in word)) index ask hand o)
   held_look (Open n mark) index ask hand (Refused number) = refl
   held_look (Open n mark) index ask hand (Answered response) = refl
   held_look (Open n mark) index ask hand (Accepted operation response next) = refl
@@ -100,6 +98,7 @@ module _ (id epoch : ℕ) (seen : History) (log : Log) (place : State Content) w
   looks word (Holding index ask hand None) p = ap (λ t. Some t) (held_look word index ask hand (outcome_of_ask hand ask))
   looks word (Holding index ask hand (Some plan)) p = refl
   looks word (Done index hand) p = refl
+  looks word (Copying own site key stage) p = copy_looks id epoch seen brought log place word own site key stage p
 
   publishes : (word : Word) (phase : Phase) → Same word Publishes phase
   publishes word Idle = refl
@@ -109,6 +108,7 @@ module _ (id epoch : ℕ) (seen : History) (log : Log) (place : State Content) w
   publishes (Open n mark) (Holding index ask hand (Some plan)) = refl
   publishes Taken (Holding index ask hand (Some plan)) = refl
   publishes word (Done index hand) = refl
+  publishes word (Copying own site key stage) = copy_publishes id epoch seen brought log place word own site key stage
 
   asks : (word : Word) (index : ℕ) (ask : Ask Content Context) → Same word (Asks index ask) Idle
   asks (Open n mark) index ask = refl
@@ -120,32 +120,50 @@ module _ (id epoch : ℕ) (seen : History) (log : Log) (place : State Content) w
   turn_erased word (Asks index ask) (Reading other get) p = refl
   turn_erased word (Asks index ask) (Holding other was hand plan) p = refl
   turn_erased word (Asks index ask) (Done other hand) p = refl
+  turn_erased word (Asks index ask) (Copying own site key stage) p = refl
+  turn_erased word (Copies index wanted) Idle p = refl
+  turn_erased word (Copies index wanted) (Asked other was) p = refl
+  turn_erased word (Copies index wanted) (Reading other get) p = refl
+  turn_erased word (Copies index wanted) (Holding other was hand plan) p = refl
+  turn_erased word (Copies index wanted) (Done other hand) p = refl
+  turn_erased word (Copies index wanted) (Copying own site key stage) p = refl
+  turn_erased word (CopiesFrom at from wanted) Idle p = copy_asks id epoch seen brought log place word at from wanted
+  turn_erased word (CopiesFrom at from wanted) (Asked other was) p = refl
+  turn_erased word (CopiesFrom at from wanted) (Reading other get) p = refl
+  turn_erased word (CopiesFrom at from wanted) (Holding other was hand plan) p = refl
+  turn_erased word (CopiesFrom at from wanted) (Done other hand) p = refl
+  turn_erased word (CopiesFrom at from wanted) (Copying own site key stage) p = refl
   turn_erased word AsksNowhere Idle p = refl
   turn_erased word AsksNowhere (Asked other was) p = refl
   turn_erased word AsksNowhere (Reading other get) p = refl
   turn_erased word AsksNowhere (Holding other was hand plan) p = refl
   turn_erased word AsksNowhere (Done other hand) p = refl
+  turn_erased word AsksNowhere (Copying own site key stage) p = refl
   turn_erased word Enters (Asked index ask) p = enters word index ask
   turn_erased word Enters Idle p = refl
   turn_erased word Enters (Reading other get) p = refl
   turn_erased word Enters (Holding other was hand plan) p = refl
   turn_erased word Enters (Done other hand) p = refl
+  turn_erased word Enters (Copying own site key stage) p = copy_enters id epoch seen brought log place word own site key stage
   turn_erased word Leaves phase p = leaves word phase
   turn_erased word Marks (Asked index ask) p = marks word index ask
   turn_erased word Marks Idle p = refl
   turn_erased word Marks (Reading other get) p = refl
   turn_erased word Marks (Holding other was hand plan) p = refl
   turn_erased word Marks (Done other hand) p = refl
+  turn_erased word Marks (Copying own site key stage) p = refl
   turn_erased word Unmarks (Asked index ask) p = unmarks word index ask
   turn_erased word Unmarks Idle p = refl
   turn_erased word Unmarks (Reading other get) p = refl
   turn_erased word Unmarks (Holding other was hand plan) p = refl
   turn_erased word Unmarks (Done other hand) p = refl
+  turn_erased word Unmarks (Copying own site key stage) p = refl
   turn_erased word Takes (Asked index ask) p = takes word index ask
   turn_erased word Takes Idle p = refl
   turn_erased word Takes (Reading other get) p = refl
   turn_erased word Takes (Holding other was hand plan) p = refl
   turn_erased word Takes (Done other hand) p = refl
+  turn_erased word Takes (Copying own site key stage) p = copy_takes id epoch seen brought log place word own site key stage
   turn_erased word Puts phase p = puts word phase
   turn_erased word Looks phase p = looks word phase p
   turn_erased word Publishes phase p = publishes word phase
@@ -221,6 +239,11 @@ is_placed Taken readers holders index (Asked other ask) f at n = tt
 is_placed Taken readers holders index (Reading other get) f at n = absurd (omega (arith, f.0, n, ap one (same_test other index at)))
 is_placed Taken readers holders index (Holding other ask hand plan) f at n = tt
 is_placed Taken readers holders index (Done other hand) f at n = tt
+is_placed Taken readers holders index (Copying own site key CopyAsked) f at n = tt
+is_placed Taken readers holders index (Copying own site key CopyInside) f at n = absurd (omega (arith, f.0, n, ap one (same_test site index at)))
+is_placed Taken readers holders index (Copying own site key (CopyLooked clock)) f at n = tt
+is_placed Taken readers holders index (Copying own site key (CopyTaken clock hand plan)) f at n = tt
+is_placed Taken readers holders index (Copying own site key (CopyDone hand)) f at n = tt
 
 -- the state that a reader is shown is in place
 pub shown_at : (w : World) (orderly : IsOrderly w) (action : Action) (number index : ℕ) (worker : Worker) (vnode : Vnode) → worker_at w number ≡ Some worker
@@ -240,20 +263,20 @@ module _ (w : World) (orderly : IsOrderly w) (number : ℕ) (action : Action) wh
 
   -- a turn of a worker at a vnode
   at_vnode : (worker : Worker) (index : ℕ) (vnode : Vnode) → worker_at w number ≡ Some worker → site_of action worker.phase ≡ Some index → slice_get w.vnodes index ≡ Some vnode
-      → Both (option_map (result w worker index) (turn_of (seen_at worker.seen index) vnode action worker.phase))
-      (option_map (result (erase w) (erase_worker worker) index) (turn_of [] (erase_vnode vnode) action worker.phase))
+      → Both (option_map (result w worker index) (turn_of (seen_at worker.seen index) (brought_by worker) vnode action worker.phase))
+      (option_map (result (erase w) (erase_worker worker) index) (turn_of [] [] (erase_vnode vnode) action worker.phase))
   at_vnode worker index vnode here at there =
       by_turn (result w worker index) (turned_erased w (pred number) index) (turned_is w (pred number) index worker)
-      (turn_of (seen_at worker.seen index) vnode action worker.phase)
+      (turn_of (seen_at worker.seen index) (brought_by worker) vnode action worker.phase)
       ∙ ap (λ o. option_map (turned_erased w (pred number) index) o)
-      (turn_erased vnode.id vnode.last_epoch (seen_at worker.seen index) vnode.log vnode.place vnode.word action worker.phase (shown_at w orderly action number index worker vnode here at there))
+      (turn_erased vnode.id vnode.last_epoch (seen_at worker.seen index) (brought_by worker) vnode.log vnode.place vnode.word action worker.phase (shown_at w orderly action number index worker vnode here at there))
       ∙ sym (by_turn (result (erase w) (erase_worker worker) index) (turned_erased w (pred number) index)
-      (erased_turned_is w (pred number) index (erase_worker worker)) (turn_of [] (erase_vnode vnode) action worker.phase))
+      (erased_turned_is w (pred number) index (erase_worker worker)) (turn_of [] [] (erase_vnode vnode) action worker.phase))
 
   abbrev at_index : World → Worker → ℕ → Option Vnode → Option Result
   at_index world worker index o =
       option_and_then (λ vnode. option_map (λ turn. (turned world (pred number) index worker turn, turn.outcome))
-      (turn_of (seen_at worker.seen index) vnode action worker.phase)) o
+      (turn_of (seen_at worker.seen index) (brought_by worker) vnode action worker.phase)) o
 
   by_vnode : (worker : Worker) (index : ℕ) → worker_at w number ≡ Some worker → site_of action worker.phase ≡ Some index → (o : Option Vnode) → slice_get w.vnodes index ≡ o
       → Both (at_index w worker index o) (at_index (erase w) (erase_worker worker) index (option_map erase_vnode o))

@@ -13,10 +13,12 @@ use Rattle.vnode_protocol.specs.declared.entry.Entry.TheVariants.{Command as Com
 use Rattle.vnode_protocol.specs.Events.{all_commands, Makes, event_command, event_deed, event_response, register_event, history_after}
 use Rattle.copy_laws.specs.Copies.{Command, commands_of}
 use Rattle.copy_laws.specs.Joining.{Log}
-use Rattle.node_steps.specs.World.{Word, Open, Taken, Plan, Phase, Idle, Asked, Holding, Done, Vnode, Worker, World, fresh_vnode, fresh_worker, id_of, route, history_at, seen_at, history_of}
+use Rattle.node_steps.specs.World.{Word, Open, Taken, Plan, Phase, Idle, Asked, Holding, Done, Vnode, Worker, World, fresh_vnode, fresh_worker, CommandsAlone, id_of, route, history_at, seen_at, brought_by, history_of}
 use Rattle.node_steps.specs.Steps.{Action, Asks, Takes, Looks, Publishes, Puts, Step, By, Outcome, Turn, looks_by, turn_of, routed, site_of, seeing, turned, happens, after}
 use Rattle.node_steps.specs.Schedules.{Start, world_after}
 use Rattle.node_steps.specs.Gates.{RunsAreScheduled}
+use Rattle.sibling_register.specs.History.{Event as RegisterEvent}
+use Rattle.node_steps.proofs.Unmixed.{same-event}
 use Rattle.node_steps.proofs.Lists.{set-here}
 use Rattle.node_steps.proofs.Own.{vnode_there, own_there, from_zero}
 use Rattle.node_steps.proofs.Kept.{routed_own}
@@ -32,20 +34,20 @@ step_of_first action = By 1 action
 
 -- a turn of the first worker
 moved : (w : World) (asked action : Action) (index : ℕ) (phase : Phase) (vnode : Vnode) (next : Phase) (new : Vnode) → routed (route w) asked ≡ action → site_of action phase ≡ Some index
-    → ((seen : History) → (turn : Turn) × (turn_of seen vnode action phase ≡ Some turn) × (turn.phase ≡ next) × (turn.vnode ≡ new))
+    → ((seen brought : History) → (turn : Turn) × (turn_of seen brought vnode action phase ≡ Some turn) × (turn.phase ≡ next) × (turn.vnode ≡ new))
     → IsThere w index phase vnode → IsThere (after w (step_of_first asked)) index next new
 moved w asked action index phase vnode next new sent site turns (worker, here, is, there, own) =
-    let t = turns (seen_at worker.seen index) in
+    let t = turns (seen_at worker.seen index) (brought_by worker) in
     let turn : Turn = t.0 in
     let about : site_of action worker.phase ≡ Some index = ap (site_of action) is ∙ site in
-    let made : turn_of (seen_at worker.seen index) vnode action worker.phase ≡ Some turn = ap (turn_of (seen_at worker.seen index) vnode action) is ∙ t.1 in
+    let made : turn_of (seen_at worker.seen index) (brought_by worker) vnode action worker.phase ≡ Some turn = ap (turn_of (seen_at worker.seen index) (brought_by worker) vnode action) is ∙ t.1 in
     let next_worker : Worker = record { phase = turn.phase; seen = seeing worker.seen index turn.seen } in
     let it : happens w (step_of_first asked) ≡ Some (result_at w 0 index worker turn) =
     ap (λ a. option_and_then (Steps w a 0) (slice_get w.workers 0)) sent
     ∙ ap (λ o. option_and_then (Steps w action 0) o) here
     ∙ ap (λ o. option_and_then (λ i. option_and_then (λ v. option_map (result_at w 0 i worker)
-    (turn_of (seen_at worker.seen i) v action worker.phase)) (slice_get w.vnodes i)) o) about
-    ∙ ap (λ o. option_and_then (λ v. option_map (result_at w 0 index worker) (turn_of (seen_at worker.seen index) v action worker.phase)) o) there
+    (turn_of (seen_at worker.seen i) (brought_by worker) v action worker.phase)) (slice_get w.vnodes i)) o) about
+    ∙ ap (λ o. option_and_then (λ v. option_map (result_at w 0 index worker) (turn_of (seen_at worker.seen index) (brought_by worker) v action worker.phase)) o) there
     ∙ ap (λ o. option_map (result_at w 0 index worker) o) made in
     let world : after w (step_of_first asked) ≡ turned w 0 index worker turn = ap (λ o. option_map_or (λ (r : World × Outcome). r.0) o w) it in (
       next_worker,
@@ -61,7 +63,7 @@ module _ (start : Start) (index id : ℕ) where
 
   -- after a schedule the first worker is idle, and the vnode is this
   abbrev IsReachable : Log → State Content → Type 0
-  IsReachable log state = (schedule : List Step) × IsThere (world_after start schedule) index Idle (vnode_with (Open 0 false) log state)
+  IsReachable log state = CommandsAlone log × (schedule : List Step) × IsThere (world_after start schedule) index Idle (vnode_with (Open 0 false) log state)
 
   abbrev plan_of_event : Event → State Content → Plan
   plan_of_event event next = record { operation = event_deed event; response = event_response event; next = next }
@@ -69,31 +71,31 @@ module _ (start : Start) (index id : ℕ) where
   -- one event more
   one_event : (log : Log) (state next : State Content) (event : Event) → Makes state (Commanded event) next → IsReachable log state
       → IsReachable (Command (register_event id 0 (commands_of log) event) ∷ log) next
-  one_event log state next event makes (schedule, there) =
+  one_event log state next event makes (only, schedule, there) =
       let ask : Ask Content Context = event_command event in
       let plan : Plan = plan_of_event event next in
       let longer : Log = Command (register_event id 0 (commands_of log) event) ∷ log in
       let w = world_after start schedule in
       let asked = moved w (Asks index ask) (Asks index ask) index Idle (vnode_with (Open 0 false) log state) (Asked index ask) (vnode_with (Open 0 false) log state)
       (routed_own (route w) index ask there.4) refl
-      (λ seen. (_, refl, refl, refl)) there in
+      (λ seen brought. (_, refl, refl, refl)) there in
       let w1 = after w (step_of_first (Asks index ask)) in
       let took = moved w1 Takes Takes index (Asked index ask) (vnode_with (Open 0 false) log state) (Holding index ask state None) (vnode_with Taken log state) refl refl
-      (λ seen. (_, refl, refl, refl)) asked in
+      (λ seen brought. (_, refl, refl, refl)) asked in
       let w2 = after w1 (step_of_first Takes) in
       let looked = moved w2 Looks Looks index (Holding index ask state None) (vnode_with Taken log state) (Holding index ask state (Some plan)) (vnode_with Taken log state) refl refl
-      (λ seen. (_, ap (λ o. Some (looks_by seen (vnode_with Taken log state) index ask state o)) makes.1, refl, refl)) took in
+      (λ seen brought. (_, ap (λ o. Some (looks_by seen brought (vnode_with Taken log state) index ask state o)) makes.1, refl, refl)) took in
       let w3 = after w2 (step_of_first Looks) in
       let published = moved w3 Publishes Publishes index (Holding index ask state (Some plan)) (vnode_with Taken log state) (Done index (Some next)) (vnode_with Taken longer state) refl refl
-      (λ seen. (_, refl, refl, refl)) looked in
+      (λ seen brought. (_, refl, refl, ap (λ (e : RegisterEvent Content Context). vnode_with Taken (Command e ∷ log) state) (same-event id 0 log only ask (event_deed event)))) looked in
       let w4 = after w3 (step_of_first Publishes) in
       let laid = moved w4 Puts Puts index (Done index (Some next)) (vnode_with Taken longer state) Idle (vnode_with (Open 0 false) longer next) refl refl
-      (λ seen. (_, refl, refl, refl)) published in
-      (step_of_first Puts ∷ step_of_first Publishes ∷ step_of_first Looks ∷ step_of_first Takes ∷ step_of_first (Asks index ask) ∷ schedule, laid)
+      (λ seen brought. (_, refl, refl, refl)) published in
+      (ap (λ (l : Log). Command (register_event id 0 (commands_of log) event) ∷ l) only, step_of_first Puts ∷ step_of_first Publishes ∷ step_of_first Looks ∷ step_of_first Takes ∷ step_of_first (Asks index ask) ∷ schedule, laid)
 
   all_events : (events : List Event) (log : Log) (state last : State Content) → MachineRun Makes state (all_commands events) last → IsReachable log state
       → (schedule : List Step) × (history_at (world_after start schedule) index ≡ history_after id 0 (commands_of log) events)
-  all_events [] log state last run (schedule, there) = (schedule, ap (λ o. option_map_or (λ (v : Vnode). history_of v) o []) there.3)
+  all_events [] log state last run (only, schedule, there) = (schedule, ap (λ o. option_map_or (λ (v : Vnode). history_of v) o []) there.3)
   all_events (event ∷ events) log state last (next, makes, run) stands =
       all_events events (Command (register_event id 0 (commands_of log) event) ∷ log) next last run (one_event log state next event makes stands)
 
@@ -104,6 +106,7 @@ first_there (suc n) x h = refl
 pub runs_are_scheduled : RunsAreScheduled
 runs_are_scheduled start index events state workers vnodes run =
     all_events start index (id_of start.run index) events [] (opening (id_of start.run index) 0) state run (
+      refl,
       [],
       (
         fresh_worker,

@@ -1,22 +1,23 @@
 -- Who is inside a vnode, and what is always true of words, hands and fronts.
-use Rattle.std.proofs.Common.{◌≡◌, ◌≢◌, ℕ, Bool, true, false, [], ◌∷◌, refl, sym, ◌∙◌, ap, arith}
+use Rattle.std.proofs.Common.{◌≡◌, ◌≢◌, ℕ, Bool, true, false, ◌||◌, [], ◌∷◌, refl, sym, ◌∙◌, ap, arith}
 use Rattle.std.specs.Prelude.{◌==◌, Option, Some, None}
-use Rattle.std.specs.Option.{option_map_or}
 use Rattle.std.proofs.lemmas.Bool.Decides.{nat_tests}
 use Rattle.riak_msgs.specs.declared.Key.{Key}
 use Rattle.riak_msgs.specs.Contents.{Content}
-use Rattle.sibling_register.specs.History.{Operation, Write, Tombstone, Reap}
+use Rattle.sibling_register.specs.History.{Event, Operation, Write, Tombstone, Reap}
 use Rattle.sibling_register.specs.Answers.{Ask}
 use Rattle.actor_epoch.specs.Given.{Context}
-use Rattle.vnode_machine.specs.Machine.{State, opening, apply_operation}
-use Rattle.vnode_machine.specs.Replay.{replay, HasReplay, IsWithinLimits}
+use Rattle.vnode_machine.specs.Machine.{State, opening, clock_of, is_held, apply_operation}
+use Rattle.vnode_machine.specs.Replay.{History, replay, HasReplay, IsWithinLimits}
 use Rattle.vnode_machine.specs.Step.{Accepted, outcome}
-use Rattle.copy_laws.specs.Copies.{Command, Copied, Closed, all_commands, commands_of}
+use Rattle.copy_laws.specs.Copies.{Copy, Command, Copied, Closed, all_commands, commands_of}
 use Rattle.copy_laws.specs.CopyReplay.{state_with}
 use Rattle.copy_laws.specs.Joining.{Log}
 use Rattle.copy_laws.proofs.Fallback.{log-replay}
-use Rattle.node_steps.specs.World.{Word, Open, Taken, Plan, Phase, Idle, Asked, Reading, Holding, Done, Vnode, Worker, fresh_vnode, seen_at}
-use Rattle.node_steps.specs.Steps.{Enters, site_of, is_about}
+use Rattle.dvv_set.specs.Clocks.{DotState}
+use Rattle.vnode_machine.specs.Copying.{is_stuck, apply_copy}
+use Rattle.node_steps.specs.World.{Word, Open, Taken, Plan, CopyStage, CopyAsked, CopyInside, CopyLooked, CopyTaken, CopyDone, Phase, Idle, Asked, Reading, Holding, Done, Copying, Vnode, Worker, CommandsAlone, fresh_vnode, seen_at}
+use Rattle.node_steps.specs.Steps.{Enters, copy_site, site_of, is_about}
 use Rattle.node_steps.specs.Schedules.{Begins}
 
 -- inside the vnode of this index as a reader
@@ -27,6 +28,11 @@ is_reader index (Reading other get) = other == index
 is_reader index (Holding other ask hand plan) = false
 is_reader index (Done other None) = other == index
 is_reader index (Done other (Some hand)) = false
+is_reader index (Copying own other key CopyAsked) = false
+is_reader index (Copying own other key CopyInside) = other == index
+is_reader index (Copying own other key (CopyLooked clock)) = other == index
+is_reader index (Copying own other key (CopyTaken clock hand plan)) = other == index
+is_reader index (Copying own other key (CopyDone hand)) = other == index
 
 -- inside it with its state in hand
 abbrev pub is_holder : ℕ → Phase → Bool
@@ -36,6 +42,12 @@ is_holder index (Reading other get) = false
 is_holder index (Holding other ask hand plan) = other == index
 is_holder index (Done other None) = false
 is_holder index (Done other (Some hand)) = other == index
+is_holder index (Copying own other key CopyAsked) = false
+is_holder index (Copying own other key CopyInside) = false
+is_holder index (Copying own other key (CopyLooked clock)) = false
+is_holder index (Copying own other key (CopyTaken clock hand plan)) = own == index
+is_holder index (Copying own other key (CopyDone None)) = false
+is_holder index (Copying own other key (CopyDone (Some hand))) = own == index
 
 abbrev pub reads : ℕ → Worker → Bool
 reads index worker = is_reader index worker.phase
@@ -78,7 +90,16 @@ abbrev pub IsPlanOf : Ask Content Context → State Content → Option Plan → 
 IsPlanOf ask hand None = Unit {0}
 IsPlanOf ask hand (Some plan) = outcome hand ask ≡ Accepted plan.operation plan.response plan.next
 
--- the state in hand is the one after the log, and a plan was made from it
+-- a clock is the one that a key has at the end of the log, where it is held
+abbrev pub IsClockAt : (id epoch : ℕ) → Log → Key → DotState (Option Content) → Type 0
+IsClockAt id epoch log key clock = (clock ≡ clock_of (state_of id epoch log) key) × (is_held (state_of id epoch log) key ≡ true)
+
+-- the state after a copy that isn't stuck
+abbrev pub IsCopyPlan : Key → DotState (Option Content) → State Content → Option (State Content) → Type 0
+IsCopyPlan key clock hand None = Unit {0}
+IsCopyPlan key clock hand (Some next) = (next ≡ apply_copy hand key clock) × (is_stuck hand key clock ≡ false)
+
+-- the state in hand is the one after the log, and a plan was made from it; a clock that is to be copied is the one there
 abbrev pub IsInHand : (id epoch index : ℕ) → Log → Phase → Type 0
 IsInHand id epoch index log Idle = Unit {0}
 IsInHand id epoch index log (Asked other ask) = Unit {0}
@@ -86,14 +107,34 @@ IsInHand id epoch index log (Reading other get) = Unit {0}
 IsInHand id epoch index log (Holding other ask hand plan) = other ≡ index → (hand ≡ state_of id epoch log) × IsPlanOf ask hand plan
 IsInHand id epoch index log (Done other None) = Unit {0}
 IsInHand id epoch index log (Done other (Some hand)) = other ≡ index → hand ≡ state_of id epoch log
+IsInHand id epoch index log (Copying own other key CopyAsked) = Unit {0}
+IsInHand id epoch index log (Copying own other key CopyInside) = Unit {0}
+IsInHand id epoch index log (Copying own other key (CopyLooked clock)) = other ≡ index → IsClockAt id epoch log key clock
+IsInHand id epoch index log (Copying own other key (CopyTaken clock hand plan)) =
+    (other ≡ index → IsClockAt id epoch log key clock)
+    × (own ≡ index → (hand ≡ state_of id epoch log) × IsCopyPlan key clock hand plan)
+IsInHand id epoch index log (Copying own other key (CopyDone None)) = Unit {0}
+IsInHand id epoch index log (Copying own other key (CopyDone (Some hand))) = own ≡ index → hand ≡ state_of id epoch log
 
--- the phase is about this vnode alone
+-- a copier that has a clock has seen the history of the vnode that it is of
+abbrev pub HasSeen : (index : ℕ) → Phase → (front history : History) → Type 0
+HasSeen index (Copying own other key (CopyLooked clock)) front history = other ≡ index → front ≡ history
+HasSeen index (Copying own other key (CopyTaken clock hand plan)) front history = other ≡ index → front ≡ history
+HasSeen index phase front history = Unit {0}
+
+-- the phase's next step is at this vnode
 abbrev pub IsAbout : ℕ → Phase → Type 0
 IsAbout index Idle = Unit {0}
 IsAbout index (Asked other ask) = other ≡ index
 IsAbout index (Reading other get) = other ≡ index
 IsAbout index (Holding other ask hand plan) = other ≡ index
 IsAbout index (Done other hand) = other ≡ index
+IsAbout index (Copying own other key stage) = copy_site own other stage ≡ index
+
+-- the phase is about one vnode: it copies nothing
+abbrev pub IsOfOne : Phase → Type 0
+IsOfOne (Copying own other key stage) = ⊥
+IsOfOne phase = Unit {0}
 
 pub same_test : (a b : ℕ) → a ≡ b → (a == b) ≡ true
 same_test a b h = grind (arith, nat_tests)
@@ -105,53 +146,105 @@ apart : (a b c : ℕ) → a ≡ b → b ≢ c → a ≢ c
 apart a b c e n = λ f. n (sym e ∙ f)
 
 -- elsewhere it is nobody's
-pub elsewhere : (index other : ℕ) (phase : Phase) → IsAbout index phase → index ≢ other → (is_reader other phase ≡ false) × (is_holder other phase ≡ false)
-elsewhere index other Idle about n = (refl, refl)
-elsewhere index other (Asked at ask) about n = (refl, refl)
-elsewhere index other (Reading at get) about n = (other_test at other (apart at index other about n), refl)
-elsewhere index other (Holding at ask hand plan) about n = (refl, other_test at other (apart at index other about n))
-elsewhere index other (Done at None) about n = (other_test at other (apart at index other about n), refl)
-elsewhere index other (Done at (Some hand)) about n = (refl, other_test at other (apart at index other about n))
+pub elsewhere : (index other : ℕ) (phase : Phase) → IsOfOne phase → IsAbout index phase → index ≢ other → (is_reader other phase ≡ false) × (is_holder other phase ≡ false)
+elsewhere index other Idle one about n = (refl, refl)
+elsewhere index other (Asked at ask) one about n = (refl, refl)
+elsewhere index other (Reading at get) one about n = (other_test at other (apart at index other about n), refl)
+elsewhere index other (Holding at ask hand plan) one about n = (refl, other_test at other (apart at index other about n))
+elsewhere index other (Done at None) one about n = (other_test at other (apart at index other about n), refl)
+elsewhere index other (Done at (Some hand)) one about n = (refl, other_test at other (apart at index other about n))
+elsewhere index other (Copying own at key stage) one about n = absurd one
 
-false_true : (b : Bool) → b ≡ false → b ≡ true → ⊥
+pub false_true : (b : Bool) → b ≡ false → b ≡ true → ⊥
 false_true b f t = let e : false ≡ true = sym f ∙ t in cc
 
--- a phase that holds nothing there has nothing in hand of it
-pub no_hand : (id epoch index : ℕ) (log : Log) (phase : Phase) → is_holder index phase ≡ false → IsInHand id epoch index log phase
-no_hand id epoch index log Idle h = tt
-no_hand id epoch index log (Asked other ask) h = tt
-no_hand id epoch index log (Reading other get) h = tt
-no_hand id epoch index log (Holding other ask hand plan) h = λ e. absurd (false_true (other == index) h (same_test other index e))
-no_hand id epoch index log (Done other None) h = tt
-no_hand id epoch index log (Done other (Some hand)) h = λ e. absurd (false_true (other == index) h (same_test other index e))
+-- a phase that is not inside there has nothing in hand of it
+pub no_hand : (id epoch index : ℕ) (log : Log) (phase : Phase) → is_reader index phase ≡ false → is_holder index phase ≡ false → IsInHand id epoch index log phase
+no_hand id epoch index log Idle r h = tt
+no_hand id epoch index log (Asked other ask) r h = tt
+no_hand id epoch index log (Reading other get) r h = tt
+no_hand id epoch index log (Holding other ask hand plan) r h = λ e. absurd (false_true (other == index) h (same_test other index e))
+no_hand id epoch index log (Done other None) r h = tt
+no_hand id epoch index log (Done other (Some hand)) r h = λ e. absurd (false_true (other == index) h (same_test other index e))
+no_hand id epoch index log (Copying own other key CopyAsked) r h = tt
+no_hand id epoch index log (Copying own other key CopyInside) r h = tt
+no_hand id epoch index log (Copying own other key (CopyLooked clock)) r h = λ e. absurd (false_true (other == index) r (same_test other index e))
+no_hand id epoch index log (Copying own other key (CopyTaken clock hand plan)) r h =
+    (λ e. absurd (false_true (other == index) r (same_test other index e)), λ e. absurd (false_true (own == index) h (same_test own index e)))
+no_hand id epoch index log (Copying own other key (CopyDone None)) r h = tt
+no_hand id epoch index log (Copying own other key (CopyDone (Some hand))) r h = λ e. absurd (false_true (own == index) h (same_test own index e))
 
--- a phase has at a site what it had before: it is inside there as it was, has no other state of it in hand, and has a call there
--- where it had one
+-- nor need have seen its history
+pub no_whole : (index : ℕ) (phase : Phase) (front history : History) → is_reader index phase ≡ false → HasSeen index phase front history
+no_whole index Idle front history r = tt
+no_whole index (Asked other ask) front history r = tt
+no_whole index (Reading other get) front history r = tt
+no_whole index (Holding other ask hand plan) front history r = tt
+no_whole index (Done other hand) front history r = tt
+no_whole index (Copying own other key CopyAsked) front history r = tt
+no_whole index (Copying own other key CopyInside) front history r = tt
+no_whole index (Copying own other key (CopyLooked clock)) front history r = λ e. absurd (false_true (other == index) r (same_test other index e))
+no_whole index (Copying own other key (CopyTaken clock hand plan)) front history r = λ e. absurd (false_true (other == index) r (same_test other index e))
+no_whole index (Copying own other key (CopyDone hand)) front history r = tt
+
+some_site : (a b : ℕ) → Some a ≡ Some b → a ≡ b
+some_site a b h = cc
+
+-- a phase has at a site what it had before: it is inside there as it was, has no other state or clock of it in hand, and has seen what
+-- it had to see
 pub record StaysAt (site : ℕ) (before after : Phase) : Type 0 where
   pub reader : is_reader site after ≡ is_reader site before
   pub holder : is_holder site after ≡ is_holder site before
   pub hand : (id epoch : ℕ) (log : Log) → IsInHand id epoch site log before → IsInHand id epoch site log after
-  pub about : is_about site after ≡ is_about site before
-
-not_about : (index other : ℕ) (phase : Phase) → IsAbout index phase → index ≢ other → is_about other phase ≡ false
-not_about index other Idle about n = refl
-not_about index other (Asked at ask) about n = other_test at other (apart at index other about n)
-not_about index other (Reading at get) about n = other_test at other (apart at index other about n)
-not_about index other (Holding at ask hand plan) about n = other_test at other (apart at index other about n)
-not_about index other (Done at hand) about n = other_test at other (apart at index other about n)
+  pub whole : (front history : History) → HasSeen site before front history → HasSeen site after front history
 
 -- a phase that was about one site, and is about no other, has elsewhere what it had
-pub stays : (index other : ℕ) (before after : Phase) → IsAbout index before → IsAbout index after → index ≢ other → StaysAt other before after
-stays index other before after was is n = record {
-  reader = (elsewhere index other after is n).0 ∙ sym (elsewhere index other before was n).0;
-  holder = (elsewhere index other after is n).1 ∙ sym (elsewhere index other before was n).1;
-  hand = λ id epoch log had. no_hand id epoch other log after (elsewhere index other after is n).1;
-  about = not_about index other after is n ∙ sym (not_about index other before was n);
+pub stays : (index other : ℕ) (before after : Phase) → IsOfOne before → IsOfOne after → IsAbout index before → IsAbout index after → index ≢ other → StaysAt other before after
+stays index other before after one_before one_after was is n = record {
+  reader = (elsewhere index other after one_after is n).0 ∙ sym (elsewhere index other before one_before was n).0;
+  holder = (elsewhere index other after one_after is n).1 ∙ sym (elsewhere index other before one_before was n).1;
+  hand = λ id epoch log had. no_hand id epoch other log after (elsewhere index other after one_after is n).0 (elsewhere index other after one_after is n).1;
+  whole = λ front history had. no_whole other after front history (elsewhere index other after one_after is n).0;
 }
 
--- who has a call at a site is about it
+not_about : (index other : ℕ) (phase : Phase) → IsOfOne phase → IsAbout index phase → index ≢ other → is_about other phase ≡ false
+not_about index other Idle one about n = refl
+not_about index other (Asked at ask) one about n = other_test at other (apart at index other about n)
+not_about index other (Reading at get) one about n = other_test at other (apart at index other about n)
+not_about index other (Holding at ask hand plan) one about n = other_test at other (apart at index other about n)
+not_about index other (Done at hand) one about n = other_test at other (apart at index other about n)
+not_about index other (Copying own at key stage) one about n = absurd one
+
+-- so it is about no other
+pub about_one : (index other : ℕ) (phase : Phase) → IsOfOne phase → IsAbout index phase → is_about other phase ≡ true → index ≢ other → ⊥
+about_one index other phase one about is n = false_true (is_about other phase) (not_about index other phase one about n) is
+
+pub or_true : (a b : Bool) → b ≡ true → (a || b) ≡ true
+or_true true b h = refl
+or_true false b h = h
+
+-- who acts at a site is about it
 pub about_there : (site : ℕ) (phase : Phase) → site_of Enters phase ≡ Some site → is_about site phase ≡ true
-about_there site phase h = ap (λ o. option_map_or (λ other. other == site) o false) h ∙ same_test site site refl
+about_there site Idle h = cc
+about_there site (Asked other ask) h = same_test other site (some_site other site h)
+about_there site (Reading other get) h = same_test other site (some_site other site h)
+about_there site (Holding other ask hand plan) h = same_test other site (some_site other site h)
+about_there site (Done other hand) h = same_test other site (some_site other site h)
+about_there site (Copying own other key stage) h = by stage (some_site (copy_site own other stage) site h)
+  where
+    from_own : own ≡ site → is_about site (Copying own other key stage) ≡ true
+    from_own e = ap (λ b. b || (other == site)) (same_test own site e)
+
+    from_other : other ≡ site → is_about site (Copying own other key stage) ≡ true
+    from_other e = or_true (own == site) (other == site) (same_test other site e)
+
+    by : (s : CopyStage) → copy_site own other s ≡ site → is_about site (Copying own other key stage) ≡ true
+    by CopyAsked e = from_other e
+    by CopyInside e = from_other e
+    by (CopyLooked clock) e = from_own e
+    by (CopyTaken clock hand plan) e = from_own e
+    by (CopyDone None) e = from_other e
+    by (CopyDone (Some hand)) e = from_own e
 
 -- what is true of a vnode of this id, opened behind this epoch, by how many readers and holders there are
 pub record IsSoundAs (id epoch readers holders : ℕ) (vnode : Vnode) : Type 0 where
@@ -169,7 +262,7 @@ sound-fresh id epoch readers holders limits r h = record { limits = limits; word
 
 -- a log of commands alone, whose history has a replay
 pub record IsPlain (id epoch : ℕ) (log : Log) : Type 0 where
-  pub commands : log ≡ all_commands (commands_of log)
+  pub commands : CommandsAlone log
   pub replays : HasReplay id epoch (commands_of log)
 
 pub plain-fresh : (id epoch : ℕ) → IsPlain id epoch []
@@ -179,3 +272,20 @@ plain-fresh id epoch = record { commands = refl; replays = tt }
 pub record IsAware (id epoch index : ℕ) (log : Log) (worker : Worker) : Type 0 where
   pub hand : IsInHand id epoch index log worker.phase
   pub seen : Begins (seen_at worker.seen index) (commands_of log)
+  pub whole : HasSeen index worker.phase (seen_at worker.seen index) (commands_of log)
+
+-- before a command a log of commands alone was one
+pub alone-before : (event : Event Content Context) (log : Log) → CommandsAlone (Command event ∷ log) → CommandsAlone log
+alone-before event log h = ap rest h
+  where
+    rest : Log → Log
+    rest [] = []
+    rest (entry ∷ before) = before
+
+-- a log that ends with a copy isn't one
+pub copied-mixed : (copy : Copy Content) (log : Log) → CommandsAlone (Copied copy ∷ log) → ⊥
+copied-mixed copy log h = by (commands_of log) h
+  where
+    by : (history : History) → Copied copy ∷ log ≡ all_commands history → ⊥
+    by [] e = cc
+    by (event ∷ before) e = cc

@@ -1,27 +1,41 @@
 -- What is always true of a world, and that each step keeps it.
 use Rattle.std.proofs.Common.{◌≡◌, ◌≢◌, ◌⊎◌, inl, inr, ℕ, zero, suc, ◌+◌, ◌^◌, ◌<◌, ◌≤◌, Bool, true, false, cond, not, ◌&&◌, List, [], ◌∷◌, length, refl, sym, ◌∙◌, ap, arith, subst}
-use Rattle.std.specs.Prelude.{pred, Option, Some, None, option_map, option_and_then, slice_get, replicate}
+use Rattle.std.specs.Prelude.{pred, Option, Some, None, option_map, option_and_then, slice_get}
 use Rattle.std.specs.Option.{option_map_or}
+use Rattle.riak_msgs.specs.declared.Key.{Key}
 use Rattle.riak_msgs.specs.Contents.{Content}
 use Rattle.sibling_register.specs.Answers.{Ask}
 use Rattle.actor_epoch.specs.Given.{Context}
-use Rattle.vnode_machine.specs.Replay.{History, IsWithinLimits}
-use Rattle.node_steps.specs.World.{Word, Open, Taken, Idle, Vnode, Worker, World, fresh_vnode, fresh_worker, id_of, opening_vnodes, own_sites, opening_world, worker_at, seen_at, history_of}
-use Rattle.node_steps.specs.Steps.{Action, Asks, AsksNowhere, is_reap, sent, routed, Outcome, Turn, turn_of, site_of, is_about, seeing, turned, fallback_ids, does}
-use Rattle.node_steps.specs.Schedules.{Start, IsStart, Begins}
-use Rattle.node_steps.proofs.Lists.{one, how_many, set-here, set-there, same_or_other, how_many-set, counted_one, counted_two, counted_none, get-replicate, get-below, length-set}
-use Rattle.node_steps.proofs.Own.{length-own, length-opening}
-use Rattle.node_steps.proofs.Beginnings.{begins-itself, begins-trans}
-use Rattle.node_steps.proofs.Inside.{is_reader, is_holder, reads, holds, FitsWord, IsInHand, IsAbout, same_test, no_hand, StaysAt, stays, IsSoundAs, IsSound, sound-fresh, IsPlain, plain-fresh, IsAware}
-use Rattle.node_steps.proofs.Turns.{IsTurn, turn_is, about_is}
+use Rattle.vnode_machine.specs.Replay.{History}
+use Rattle.copy_laws.specs.Copies.{commands_of}
+use Rattle.copy_laws.specs.Joining.{Log}
+use Rattle.node_steps.specs.World.{Word, Open, Taken, CopyStage, Copying, Vnode, Worker, World, CommandsAlone, worker_at, seen_at, brought_by, history_of}
+use Rattle.node_steps.specs.Steps.{Action, Asks, AsksNowhere, CopiesFrom, is_reap, sent, routed, Outcome, Turn, turn_of, site_of, is_about, seeing, turned, fallback_ids, does}
+use Rattle.node_steps.specs.Schedules.{Begins}
+use Rattle.node_steps.proofs.Lists.{one, how_many, set-here, set-there, same_or_other, how_many-set, counted_one, counted_two, get-below, length-set}
+use Rattle.node_steps.proofs.Beginnings.{begins-trans}
+use Rattle.node_steps.proofs.Inside.{is_reader, is_holder, reads, holds, FitsWord, IsInHand, HasSeen, same_test, no_hand, no_whole, StaysAt, IsSoundAs, IsSound, IsPlain, IsAware}
+use Rattle.node_steps.proofs.Turns.{IsTurn}
+use Rattle.node_steps.proofs.EachTurn.{turn_is}
+
+-- the calls of a partition go to another site than its own, from which is copied
+abbrev pub CopiesWell : World → (own site : ℕ) → Type 0
+CopiesWell w own site = (slice_get w.routes own ≡ Some site) × (own ≢ site)
+
+-- an action that was sent copies so
+abbrev pub SendsWell : World → Action → Type 0
+SendsWell w action = (own site : ℕ) (key : Key) → action ≡ CopiesFrom own site key → CopiesWell w own site
 
 -- what is always true of a world: of each vnode, and of each worker and vnode
 pub record IsOrderly (w : World) : Type 0 where
   pub vnodes : (index : ℕ) (vnode : Vnode) → slice_get w.vnodes index ≡ Some vnode → IsSound (how_many (reads index) w.workers) (how_many (holds index) w.workers) vnode
   pub workers : (place : ℕ) (worker : Worker) → slice_get w.workers place ≡ Some worker → (index : ℕ) (vnode : Vnode) → slice_get w.vnodes index ≡ Some vnode
       → IsAware vnode.id vnode.last_epoch index vnode.log worker
-  -- no step copies or closes, so that each log is of commands alone
-  pub plain : (index : ℕ) (vnode : Vnode) → slice_get w.vnodes index ≡ Some vnode → IsPlain vnode.id vnode.last_epoch vnode.log
+  -- a log of commands alone has a replay
+  pub plain : (index : ℕ) (vnode : Vnode) → slice_get w.vnodes index ≡ Some vnode → CommandsAlone vnode.log → IsPlain vnode.id vnode.last_epoch vnode.log
+  -- who copies to a partition's own site copies from the one that its calls go to
+  pub copiers : (place : ℕ) (worker : Worker) → slice_get w.workers place ≡ Some worker → (own site : ℕ) (key : Key) (stage : CopyStage)
+      → worker.phase ≡ Copying own site key stage → CopiesWell w own site
   -- a fallback of each partition can have an id
   pub bounds : (index : ℕ) (vnode : Vnode) → index < length w.routes → slice_get w.vnodes index ≡ Some vnode → vnode.id + fallback_ids < 2 ^ 64
   -- a partition has a site, a worker has a call at one, and has seen nothing of what isn't one
@@ -38,7 +52,7 @@ pub record IsPossible (w : World) (number : ℕ) (action : Action) (r : World ×
   pub worker_is : worker_at w number ≡ Some worker
   pub site_is : site_of action worker.phase ≡ Some index
   pub vnode_is : slice_get w.vnodes index ≡ Some vnode
-  pub turn_is : turn_of (seen_at worker.seen index) vnode action worker.phase ≡ Some turn
+  pub turn_is : turn_of (seen_at worker.seen index) (brought_by worker) vnode action worker.phase ≡ Some turn
   pub gives : (turned w (pred number) index worker turn, turn.outcome) ≡ r
 
 pub and_then_some : {A B : Type 0} (f : A → Option B) (o : Option A) (y : B) → option_and_then f o ≡ Some y → (x : A) × (o ≡ Some x) × (f x ≡ Some y)
@@ -54,7 +68,7 @@ possible w number action r h =
     let a = and_then_some _ (worker_at w number) r h in
     let b = and_then_some _ (site_of action a.0.phase) r a.2 in
     let c = and_then_some _ (slice_get w.vnodes b.0) r b.2 in
-    let d = map_some _ (turn_of (seen_at a.0.seen b.0) c.0 action a.0.phase) r c.2 in
+    let d = map_some _ (turn_of (seen_at a.0.seen b.0) (brought_by a.0) c.0 action a.0.phase) r c.2 in
     record { worker = a.0; index = b.0; vnode = c.0; turn = d.0; worker_is = a.1; site_is = b.1; vnode_is = c.1; turn_is = d.1; gives = d.2 }
 
 pub at_place : (w : World) (number : ℕ) (worker : Worker) → worker_at w number ≡ Some worker → slice_get w.workers (pred number) ≡ Some worker
@@ -88,7 +102,7 @@ seeing-there (x ∷ seen) (suc site) (suc other) front n = seeing-there seen sit
 not_past : (index n site : ℕ) → index < n → n ≤ site → index ≢ site
 not_past index n site h k = λ e. absurd (omega (arith, e, h, k))
 
-module _ (w : World) (orderly : IsOrderly w) (action : Action) (place index : ℕ) (worker : Worker) (vnode : Vnode) (turn : Turn) where
+module _ (w : World) (orderly : IsOrderly w) (action : Action) (sends : SendsWell w action) (place index : ℕ) (worker : Worker) (vnode : Vnode) (turn : Turn) where
   abbrev readers : ℕ → ℕ
   readers other = how_many (reads other) w.workers
 
@@ -102,8 +116,10 @@ module _ (w : World) (orderly : IsOrderly w) (action : Action) (place index : �
   world = turned w place index worker turn
 
   module _ (here : slice_get w.workers place ≡ Some worker) (there : slice_get w.vnodes index ≡ Some vnode)
-      (keeps : (other : ℕ) → index ≢ other → StaysAt other worker.phase turn.phase)
-      (is : IsTurn vnode.id vnode.last_epoch index (readers index) (holders index) action worker.phase vnode.log turn) where
+      (is : IsTurn vnode.id vnode.last_epoch index (readers index) (holders index) action worker.phase (brought_by worker) vnode.log turn) where
+    keeps : (other : ℕ) → index ≢ other → StaysAt other worker.phase turn.phase
+    keeps = is.goes.keeps
+
     none_here : (a b c d : ℕ) → a + b ≡ c + d → d ≡ b → a ≡ c
     none_here a b c d h e = omega (arith, h, e)
 
@@ -153,13 +169,19 @@ module _ (w : World) (orderly : IsOrderly w) (action : Action) (place index : �
 
     -- the worker itself, at the vnode and elsewhere
     next_here : IsAware vnode.id vnode.last_epoch index turn.vnode.log next
-    next_here = record { hand = is.hand; seen = subst (λ f. Begins f (history_of turn.vnode)) (sym (seeing-here worker.seen index turn.seen)) is.seen }
+    next_here = record {
+      hand = is.hand;
+      seen = subst (λ f. Begins f (history_of turn.vnode)) (sym (seeing-here worker.seen index turn.seen)) is.seen;
+      whole = subst (λ f. HasSeen index turn.phase f (history_of turn.vnode)) (sym (seeing-here worker.seen index turn.seen)) is.whole;
+    }
 
     next_there : (other : ℕ) (v : Vnode) → index ≢ other → slice_get w.vnodes other ≡ Some v → IsAware v.id v.last_epoch other v.log next
     next_there other v n h =
         record {
           hand = (keeps other n).hand v.id v.last_epoch v.log (orderly.workers place worker here other v h).hand;
           seen = subst (λ f. Begins f (history_of v)) (sym (seeing-there worker.seen index other turn.seen n)) (orderly.workers place worker here other v h).seen;
+          whole = subst (λ f. HasSeen other turn.phase f (history_of v)) (sym (seeing-there worker.seen index other turn.seen n))
+              ((keeps other n).whole (seen_at worker.seen other) (history_of v) (orderly.workers place worker here other v h).whole);
         }
 
     at_most_one : (word : Word) (r h : ℕ) → FitsWord word r h → h ≤ 1
@@ -170,23 +192,44 @@ module _ (w : World) (orderly : IsOrderly w) (action : Action) (place index : �
     bool_cases true = inl refl
     bool_cases false = inr refl
 
-    -- another worker at the vnode
-    other_hand : (at : ℕ) (x : Worker) → place ≢ at → slice_get w.workers at ≡ Some x → IsInHand vnode.id vnode.last_epoch index turn.vnode.log x.phase
-    other_hand at x n h = elim is.same [
-      | inl e ↦ subst (λ log. IsInHand vnode.id vnode.last_epoch index log x.phase) (sym e) (orderly.workers at x h index vnode there).hand
-      | inr mine ↦ elim (bool_cases (is_holder index x.phase)) [
+    -- another worker is not inside where this one has the state in its hand
+    too_many : (a : ℕ) → a ≤ 1 → 2 ≤ a → ⊥
+    too_many a h k = omega (arith, h, k)
+
+    no_reader : (word : Word) (r h : ℕ) → FitsWord word r h → 1 ≤ r → 1 ≤ h → ⊥
+    no_reader (Open n mark) r h f a b = omega (arith, f.1, b)
+    no_reader Taken r h f a b = omega (arith, f.0, a)
+
+    outside : (at : ℕ) (x : Worker) → place ≢ at → slice_get w.workers at ≡ Some x → is_holder index worker.phase ≡ true
+        → (is_reader index x.phase ≡ false) × (is_holder index x.phase ≡ false)
+    outside at x n h mine = (
+      elim (bool_cases (is_reader index x.phase)) [
+        | inl his ↦ absurd (no_reader vnode.word (readers index) (holders index) (orderly.vnodes index vnode there).word
+            (counted_one (reads index) w.workers at x h his) (counted_one (holds index) w.workers place worker here mine))
+        | inr nobody ↦ nobody
+      ],
+      elim (bool_cases (is_holder index x.phase)) [
         | inl his ↦ absurd (too_many (holders index) (at_most_one vnode.word (readers index) (holders index) (orderly.vnodes index vnode there).word)
             (counted_two (holds index) w.workers place at worker x n here h mine his))
-        | inr nobody ↦ no_hand vnode.id vnode.last_epoch index turn.vnode.log x.phase nobody
-      ]
-    ]
-      where
-        too_many : (a : ℕ) → a ≤ 1 → 2 ≤ a → ⊥
-        too_many a h k = omega (arith, h, k)
+        | inr nobody ↦ nobody
+      ],
+    )
 
+    -- another worker at the vnode
     other_here : (at : ℕ) (x : Worker) → place ≢ at → slice_get w.workers at ≡ Some x → IsAware vnode.id vnode.last_epoch index turn.vnode.log x
     other_here at x n h =
-        record { hand = other_hand at x n h; seen = begins-trans (seen_at x.seen index) (history_of vnode) (history_of turn.vnode) (orderly.workers at x h index vnode there).seen is.grows }
+        let was = orderly.workers at x h index vnode there in
+        record {
+          hand = elim is.same [
+            | inl e ↦ subst (λ log. IsInHand vnode.id vnode.last_epoch index log x.phase) (sym e) was.hand
+            | inr mine ↦ let out = outside at x n h mine in no_hand vnode.id vnode.last_epoch index turn.vnode.log x.phase out.0 out.1
+          ];
+          seen = begins-trans (seen_at x.seen index) (history_of vnode) (history_of turn.vnode) was.seen is.grows;
+          whole = elim is.same [
+            | inl e ↦ subst (λ (log : Log). HasSeen index x.phase (seen_at x.seen index) (commands_of log)) (sym e) was.whole
+            | inr mine ↦ no_whole index x.phase (seen_at x.seen index) (history_of turn.vnode) (outside at x n h mine).0
+          ];
+        }
 
     -- any worker at the vnode
     aware_here : (at : ℕ) (x : Worker) → slice_get world.workers at ≡ Some x → IsAware turn.vnode.id turn.vnode.last_epoch index turn.vnode.log x
@@ -195,11 +238,26 @@ module _ (w : World) (orderly : IsOrderly w) (action : Action) (place index : �
       | inr d ↦ other_here at x d.0 d.1
     ])
 
-    -- its call is at a site, or where it was
+    own_below : (own site : ℕ) → CopiesWell w own site → own < length w.vnodes
+    own_below own site well = below (get-below w.routes own site well.0) orderly.sites
+      where
+        below : {a b c : ℕ} → a < b → b ≤ c → a < c
+        below h k = omega (arith, h, k)
+
+    -- it is about a site that it was about, or about this one, or is to copy to it
     next_about : (site : ℕ) → is_about site turn.phase ≡ true → site < length w.vnodes
-    next_about site h = elim (same_or_other index site) [
-      | inl e ↦ subst (λ i. i < length w.vnodes) e (get-below w.vnodes index vnode there)
-      | inr n ↦ orderly.about place worker here site (sym (keeps site n).about ∙ h)
+    next_about site h = elim (is.goes.about site h) [
+      | inl was ↦ orderly.about place worker here site was
+      | inr new ↦ elim new [
+        | inl e ↦ subst (λ i. i < length w.vnodes) e (get-below w.vnodes index vnode there)
+        | inr sent ↦ own_below site sent.0 (sends site sent.0 sent.1 sent.2)
+      ]
+    ]
+
+    next_copies : (own site : ℕ) (key : Key) (stage : CopyStage) → turn.phase ≡ Copying own site key stage → CopiesWell w own site
+    next_copies own site key stage h = elim (is.goes.copier own site key stage h) [
+      | inl was ↦ orderly.copiers place worker here own site key was.0 was.1
+      | inr sent ↦ sends own site key sent
     ]
 
     pub orderly_after : IsOrderly world
@@ -218,8 +276,13 @@ module _ (w : World) (orderly : IsOrderly w) (action : Action) (place index : �
         ]
       ];
       plain = λ other v h. elim (vnode_after other v h) [
-        | inl e ↦ subst (λ (u : Vnode). IsPlain u.id u.last_epoch u.log) e.1 (as_vnode (λ i e. IsPlain i e turn.vnode.log) (is.plain (orderly.plain index vnode there)))
+        | inl e ↦ subst (λ (u : Vnode). CommandsAlone u.log → IsPlain u.id u.last_epoch u.log) e.1
+            (λ only. as_vnode (λ i e. IsPlain i e turn.vnode.log) (is.plain only (orderly.plain index vnode there (is.alone only))))
         | inr e ↦ orderly.plain other v e.1
+      ];
+      copiers = λ at x k own site key stage h. elim (worker_after at x k) [
+        | inl d ↦ next_copies own site key stage (ap (λ (y : Worker). y.phase) d.1 ∙ h)
+        | inr d ↦ orderly.copiers at x d.1 own site key stage h
       ];
       bounds = λ other v below h. elim (vnode_after other v h) [
         | inl e ↦ subst (λ (u : Vnode). u.id + fallback_ids < 2 ^ 64) e.1
@@ -251,85 +314,17 @@ counted test workers place worker h = by (test worker) refl
 
 -- the turn of a possible step
 pub turn_at : (w : World) (orderly : IsOrderly w) (number : ℕ) (action : Action) (r : World × Outcome) (p : IsPossible w number action r)
-    → IsTurn p.vnode.id p.vnode.last_epoch p.index (how_many (reads p.index) w.workers) (how_many (holds p.index) w.workers) action p.worker.phase p.vnode.log p.turn
+    → IsTurn p.vnode.id p.vnode.last_epoch p.index (how_many (reads p.index) w.workers) (how_many (holds p.index) w.workers) action p.worker.phase (brought_by p.worker) p.vnode.log p.turn
 turn_at w orderly number action r p =
     let here = at_place w number p.worker p.worker_is in
     let aware = orderly.workers (pred number) p.worker here p.index p.vnode p.vnode_is in
     turn_is p.vnode.id p.vnode.last_epoch p.index (how_many (reads p.index) w.workers) (how_many (holds p.index) w.workers)
-    (seen_at p.worker.seen p.index) p.vnode refl refl (orderly.vnodes p.index p.vnode p.vnode_is) aware.seen
+    (seen_at p.worker.seen p.index) (brought_by p.worker) p.vnode refl refl (orderly.vnodes p.index p.vnode p.vnode_is) aware.seen
     action p.worker.phase (counted (reads p.index) w.workers (pred number) p.worker here) (counted (holds p.index) w.workers (pred number) p.worker here)
     aware.hand p.site_is p.turn p.turn_is
 
--- the call of a possible step's worker is of its vnode
-pub about_at : (w : World) (number : ℕ) (action : Action) (r : World × Outcome) (p : IsPossible w number action r) → IsAbout p.index p.worker.phase
-about_at w number action r p = about_is p.vnode.id p.vnode.last_epoch p.index 0 0 action p.worker.phase p.site_is
-
-pub orderly-does : (w : World) (orderly : IsOrderly w) (number : ℕ) (action : Action) (r : World × Outcome) → does w number action ≡ Some r → IsOrderly r.0
-orderly-does w orderly number action r h =
+pub orderly-does : (w : World) (orderly : IsOrderly w) (number : ℕ) (action : Action) → SendsWell w action → (r : World × Outcome) → does w number action ≡ Some r → IsOrderly r.0
+orderly-does w orderly number action sends r h =
     let p = possible w number action r h in
     subst (λ q. IsOrderly q.0) p.gives
-    (orderly_after w orderly action (pred number) p.index p.worker p.vnode p.turn (at_place w number p.worker p.worker_is) p.vnode_is
-    (λ other n. stays p.index other p.worker.phase p.turn.phase (about_at w number action r p) (turn_at w orderly number action r p).at n) (turn_at w orderly number action r p))
-
--- a vnode of the opening world is a fresh one
-pub opened : (run from count index : ℕ) (vnode : Vnode) → slice_get (opening_vnodes run from count) index ≡ Some vnode
-    → (index < count) × (vnode ≡ fresh_vnode (id_of run (from + index)) 0)
-opened run from zero index vnode h = cc
-opened run from (suc count) zero vnode h = (omega arith, sym (same h) ∙ ap (λ n. fresh_vnode (id_of run n) 0) (plain from))
-  where
-    same : {a b : Vnode} → Some a ≡ Some b → a ≡ b
-    same e = cc
-
-    plain : (n : ℕ) → n ≡ n + 0
-    plain n = omega arith
-opened run from (suc count) (suc index) vnode h =
-    let rest = opened run (from + 1) count index vnode h in
-    (omega (arith, rest.0), rest.1 ∙ ap (λ n. fresh_vnode (id_of run n) 0) (shift from index))
-  where
-    shift : (a b : ℕ) → (a + 1) + b ≡ a + suc b
-    shift a b = omega arith
-
-within : (run index count : ℕ) → run < 2 ^ 32 → count < 2 ^ 16 → index < count → IsWithinLimits (id_of run (0 + index)) 0
-within run index count r c h = (omega (arith, r, c, h), omega arith)
-
-bounded : (run index count : ℕ) → run < 2 ^ 32 → count < 2 ^ 16 → index < count → id_of run (0 + index) + fallback_ids < 2 ^ 64
-bounded run index count r c h = omega (arith, r, c, h)
-
-same_length : (a b n : ℕ) → a ≡ n → b ≡ n → a ≤ b
-same_length a b n h k = omega (arith, h, k)
-
-idle_nowhere : (site : ℕ) → is_about site Idle ≡ true → ⊥
-idle_nowhere site h = cc
-
-nobody : (index : ℕ) (count : ℕ) (worker : Worker) → worker.phase ≡ Idle → how_many (reads index) (replicate count worker) ≡ 0
-nobody index count worker h = counted_none (reads index) count worker (ap (is_reader index) h)
-
-nobody_holds : (index : ℕ) (count : ℕ) (worker : Worker) → worker.phase ≡ Idle → how_many (holds index) (replicate count worker) ≡ 0
-nobody_holds index count worker h = counted_none (holds index) count worker (ap (is_holder index) h)
-
-pub orderly-opening : (start : Start) → IsStart start → IsOrderly (opening_world start.run start.workers start.vnodes)
-orderly-opening start is =
-    let all : List Worker = replicate start.workers fresh_worker in
-    record {
-      vnodes = λ index vnode h.
-          let o = opened start.run 0 start.vnodes index vnode h in
-          subst (λ v. IsSound (how_many (reads index) all) (how_many (holds index) all) v) (sym o.1)
-          (sound-fresh (id_of start.run (0 + index)) 0 (how_many (reads index) all) (how_many (holds index) all) (within start.run index start.vnodes is.run is.vnodes o.0)
-          (nobody index start.workers fresh_worker refl) (nobody_holds index start.workers fresh_worker refl));
-      workers = λ place worker k index vnode h.
-          let o = opened start.run 0 start.vnodes index vnode h in
-          let e = get-replicate start.workers place fresh_worker worker k in
-          subst (λ v. IsAware v.id v.last_epoch index v.log worker) (sym o.1)
-          (subst (λ x. IsAware (id_of start.run (0 + index)) 0 index [] x) (sym e) (record { hand = tt; seen = begins-itself [] }));
-      plain = λ index vnode h.
-          subst (λ (v : Vnode). IsPlain v.id v.last_epoch v.log) (sym (opened start.run 0 start.vnodes index vnode h).1) (plain-fresh (id_of start.run (0 + index)) 0);
-      bounds = λ index vnode below h.
-          let o = opened start.run 0 start.vnodes index vnode h in
-          subst (λ (v : Vnode). v.id + fallback_ids < 2 ^ 64) (sym o.1) (bounded start.run index start.vnodes is.run is.vnodes o.0);
-      sites = same_length (length (own_sites 0 start.vnodes)) (length (opening_vnodes start.run 0 start.vnodes)) start.vnodes
-          (length-own 0 start.vnodes) (length-opening start.run 0 start.vnodes);
-      about = λ place worker k site h.
-          let e = get-replicate start.workers place fresh_worker worker k in
-          absurd (idle_nowhere site (ap (λ (x : Worker). is_about site x.phase) (sym e) ∙ h));
-      unseen = λ place worker k site past. ap (λ (x : Worker). seen_at x.seen site) (get-replicate start.workers place fresh_worker worker k);
-    }
+    (orderly_after w orderly action sends (pred number) p.index p.worker p.vnode p.turn (at_place w number p.worker p.worker_is) p.vnode_is (turn_at w orderly number action r p))

@@ -12,40 +12,40 @@ use Rattle.node_steps.specs.World.{World, opening_world}
 use Rattle.node_steps.specs.Steps.{Step, By, Diverts, Action, Asks, AsksNowhere, Enters, Leaves, Marks, Unmarks, Takes, Puts, Looks, Publishes, Outcome, NotPossible, Happened, Replied, after, outcome}
 
 -- what comes of steps that are taken in this order
-abbrev outcomes : World → List Step → List Outcome
+abbrev pub outcomes : World → List Step → List Outcome
 outcomes w [] = []
 outcomes w (step ∷ steps) = outcome w step ∷ outcomes (after w step) steps
 
-abbrev k : Key
+abbrev pub k : Key
 k = record { bucket_type = 100 ∷ []; bucket = 98 ∷ []; key = 107 ∷ [] }
 
-abbrev v : Content
+abbrev pub v : Content
 v = record no_content { value = 118 ∷ [] }
 
-abbrev get : Ask Content Context
+abbrev pub get : Ask Content Context
 get = AskGet (record { key = k; if_modified = None; head = false; deletedvclock = false })
 
-abbrev put : Ask Content Context
+abbrev pub put : Ask Content Context
 put = AskPut (record { key = k; context = None; value = v; return_body = false; return_head = false; if_not_modified = false; if_none_match = false })
 
-abbrev del : Ask Content Context
+abbrev pub del : Ask Content Context
 del = AskDel (record { key = k; context = None })
 
 abbrev put_malformed : Ask Content Context
 put_malformed = AskPut (record { key = k; context = Some Malformed; value = v; return_body = false; return_head = false; if_not_modified = false; if_none_match = false })
 
 -- the worker of this number does this
-abbrev does : ℕ → Action → Step
+abbrev pub does : ℕ → Action → Step
 does worker action = By worker action
 
-abbrev nothing : Outcome
+abbrev pub nothing : Outcome
 nothing = Replied (Ok (GetDone (record { contents = []; context = []; unchanged = false })))
 
-abbrev stored : Outcome
+abbrev pub stored : Outcome
 stored = Replied (Ok (PutDone (record { contents = []; context = [] })))
 
 -- "v" by the context with version 2 and the entry of vnode 65536, epoch 1, counter 1
-abbrev shows : Outcome
+abbrev pub shows : Outcome
 shows = Replied (Ok (GetDone (record {
   contents = record { content = v; deleted = false } ∷ [];
   context = 2 ∷ 0 ∷ 0 ∷ 0 ∷ 0 ∷ 0 ∷ 1 ∷ 0 ∷ 0 ∷ 0 ∷ 0 ∷ 0 ∷ 1 ∷ 0 ∷ 0 ∷ 0 ∷ 0 ∷ 0 ∷ 0 ∷ 0 ∷ 1 ∷ [];

@@ -14,21 +14,25 @@ use Rattle.vnode_machine.specs.Step.{Response}
 use Rattle.vnode_machine.specs.Registers.{key_of, context_in_ask}
 use Rattle.vnode_machine.proofs.Keys.{key_eq-refl}
 use Rattle.copy_laws.specs.Copies.{commands_of}
-use Rattle.node_steps.specs.World.{Vnode, Worker, World, Call, fresh_vnode, fresh_worker, opening_world, opening_vnodes, route, id_at, last_epoch_at, history_at, call_of, call_at, history_of}
-use Rattle.node_steps.specs.Steps.{Action, Asks, Step, By, Diverts, Outcome, NotPossible, Happened, Replied, routed, seeing, turned, fallback_ids, does, diverted_by, diverted, outcome}
+use Rattle.node_steps.specs.World.{Vnode, Worker, World, Call, fresh_vnode, fresh_worker, opening_world, opening_vnodes, CommandsAlone, route, id_at, last_epoch_at, log_at, history_at, brought_by, call_of, call_at, history_of}
+use Rattle.node_steps.specs.Steps.{Action, Asks, Step, By, Diverts, Outcome, NotPossible, Happened, Replied, NotHeld, StuckThere, CopiedBack, routed, seeing, turned, fallback_ids, does, diverted_by, diverted, outcome}
 use Rattle.node_steps.specs.Schedules.{Start, IsStart, world_after, Begins}
 use Rattle.node_steps.specs.Contexts.{context_bytes, given_in, WasShown, GivesShown}
-use Rattle.node_steps.specs.Claims.{ValuesLeaveOnlySeen}
+use Rattle.node_steps.specs.Claims.{CallsMeetNoCopies, ValuesLeaveOnlySeen}
 use Rattle.node_steps.proofs.Lists.{set-here, set-there, same_or_other, get-first, get-replicate}
 use Rattle.node_steps.proofs.Beginnings.{begins-itself}
 use Rattle.node_steps.proofs.Inside.{same_test}
 use Rattle.node_steps.proofs.Shown.{IsName, name-later, held_is_name, saw_position}
 use Rattle.node_steps.proofs.Coming.{CallIs, EventIs, Comes}
-use Rattle.node_steps.proofs.Kept.{IsOrderly, IsPossible, possible, opened}
+use Rattle.node_steps.proofs.Kept.{IsOrderly, IsPossible, possible}
+use Rattle.node_steps.proofs.FirstWorld.{opened}
 use Rattle.node_steps.proofs.Diverting.{IsDiversion, diversion}
 use Rattle.node_steps.proofs.Scheduled.{orderly}
-use Rattle.node_steps.proofs.Lifting.{replays_at, no_reply, history-more, here, turn, plain, replays_next, reply_is, id_before, epoch_before, id_next, epoch_next, before_is, after_is, elsewhere_is}
+use Rattle.node_steps.proofs.Lifting.{no_reply, history-more, log_before, here, turn, plain, replays_next, reply_is, id_before, epoch_before, id_next, epoch_next, before_is, after_is, elsewhere_is}
 use Rattle.node_steps.proofs.Leaving.{seen}
+use Rattle.node_steps.proofs.Coursing.{replied_alone}
+use Rattle.node_steps.proofs.Uncopied.{calls_meet_no_copies}
+use Rattle.node_steps.proofs.Replaying.{replays_after}
 
 call_same : (a b : Call) → Some a ≡ Some b → a ≡ b
 call_same a b h = cc
@@ -70,7 +74,7 @@ module _ (index : ℕ) (key : Key) where
   call_later id epoch history later (Some c) p h = λ at k context e. name-later id epoch history later key context p (h at k context e)
 
   module _ (w : World) (orderly : IsOrderly w) (number : ℕ) (action : Action) (r : World × Outcome) (p : IsPossible w number action r) (Shown : Context → Type 0) (named : IsNamed w Shown)
-      (gives : (context : Context) → given_in action index key ≡ Some context → Shown context) where
+      (gives : (context : Context) → given_in action index key ≡ Some context → Shown context) (alone : CallsMeetNoCopies w) where
     abbrev id : ℕ
     id = id_at w index
 
@@ -96,9 +100,11 @@ module _ (index : ℕ) (key : Key) where
         let a = reply_is w orderly number action r p (Ok response) replied in
         let same : a.0 ≡ call = call_same a.0 call (sym a.1 ∙ asked) in
         let there : p.index ≡ index = sym a.2.at ∙ ap (λ (c : Call). c.site) same ∙ at in
+        let only : CommandsAlone p.vnode.log =
+        subst CommandsAlone (log_before w orderly number action r p) (subst (λ k. CommandsAlone (log_at w k)) a.2.at (alone number a.0 a.1)) in
         let name : IsName p.vnode.id p.vnode.last_epoch (history_of p.turn.vnode) (key_of a.0.ask) context =
         held_is_name p.vnode.id p.vnode.last_epoch (history_of p.turn.vnode) (key_of a.0.ask) (context_bytes response) context (orderly.vnodes p.index p.vnode p.vnode_is).limits
-        (replays_next w orderly number action r p) (a.2.shows (plain w orderly number action r p)) decodes in
+        (replays_next w orderly number action r p (replied_alone 0 0 w orderly number action r p (Ok response) replied only)) (a.2.shows (plain w orderly number action r p only)) decodes in
         subst (λ k. IsName (id_at w k) (last_epoch_at w k) (history_at next k) key context) there
         (subst (λ i. IsName i (last_epoch_at w p.index) (history_at next p.index) key context) (sym (id_before w orderly number action r p))
         (subst (λ e. IsName p.vnode.id e (history_at next p.index) key context) (sym (epoch_before w orderly number action r p))
@@ -151,9 +157,12 @@ module _ (index : ℕ) (key : Key) where
           | inr h ↦ old h
         ]
 
-        by : (came : Outcome) → Comes p.vnode.id p.vnode.last_epoch p.index (call_of p.worker.phase) p.vnode.log p.turn came → IsName id epoch before key context
+        by : (came : Outcome) → Comes p.vnode.id p.vnode.last_epoch p.index p.worker.phase (brought_by p.worker) p.vnode.log p.turn came → IsName id epoch before key context
         by NotPossible h = absurd h
         by Happened h = old (subst (λ log. Begins (event ∷ before) (commands_of log)) h begins)
+        by NotHeld h = old (subst (λ log. Begins (event ∷ before) (commands_of log)) h begins)
+        by StuckThere h = old (subst (λ log. Begins (event ∷ before) (commands_of log)) h begins)
+        by CopiedBack h = old (subst (λ log. Begins (event ∷ before) (commands_of log)) h.later_is begins)
         by (Replied reply) h = new h.0 (subst (λ c. NamesCall id epoch (history_at w index) c) h.1 mine) h.2.at h.2.event
 
     events_next : (before : History) (event : Event Content Context) (context : Context) → Begins (event ∷ before) (history_at next index)
@@ -291,7 +300,7 @@ module _ (start : Start) (is : IsStart start) (index : ℕ) (key : Key) where
           let w : World = world_after start earlier in
           let p = possible w number sent r h in
           subst (λ q. IsNamed index key q.0 (WasShown start index key (By number action ∷ earlier))) p.gives
-          (named_next index key w (orderly start is earlier) number sent r p (WasShown start index key earlier) named (gives.1 (λ none. is_some r (sym h ∙ none))) (outcome w (By number action))
+          (named_next index key w (orderly start is earlier) number sent r p (WasShown start index key earlier) named (gives.1 (λ none. is_some r (sym h ∙ none))) (calls_meet_no_copies start is earlier) (outcome w (By number action))
           (ap (λ (q : World × Outcome). q.1) p.gives ∙ sym (ap (λ o. option_map_or (λ (r : World × Outcome). r.1) o NotPossible) h)) (WasShown start index key (By number action ∷ earlier))
           (λ context s. elim s [
             | inl now ↦ inl (record { call = now.call; asked = now.asked; at = now.at; of_key = now.of_key; response = now.response; replied = now.replied; decodes = now.decodes })
@@ -317,7 +326,7 @@ module _ (start : Start) (is : IsStart start) (index : ℕ) (key : Key) where
 pub values_leave_only_seen : ValuesLeaveOnlySeen
 values_leave_only_seen = λ start is schedule index key gives.
     let w : World = world_after start schedule in
-    let replays : HasReplay (id_at w index) (last_epoch_at w index) (history_at w index) = replays_at w (orderly start is schedule) index in
+    let replays : HasReplay (id_at w index) (last_epoch_at w index) (history_at w index) = replays_after start is schedule index in
     let named = named_after start is index key schedule gives in (
       λ before event context begins k e.
           saw_position (id_at w index) (last_epoch_at w index) key (history_at w index) before event context replays named.events begins k e,

@@ -2,6 +2,7 @@
 use Rattle.std.proofs.Common.{◌≡◌, ℕ, zero, suc, Bool, true, false, cond, not, ◌&&◌, List, [], ◌∷◌, map, refl, sym, ◌∙◌, ap, subst}
 use Rattle.std.specs.Prelude.{◌==◌, Option, Some, None, Result as OkOrErr, Ok, Err, IfOk, OnErr, option_map, option_and_then, slice_get, slice_set, MatchOption}
 use Rattle.std.specs.Option.{option_map_or}
+use Rattle.riak_msgs.specs.declared.Key.{Key}
 use Rattle.riak_msgs.specs.Contents.{Content}
 use Rattle.sibling_register.specs.Answers.{Ask}
 use Rattle.actor_epoch.specs.Given.{Context}
@@ -13,12 +14,12 @@ use Rattle.node_steps.specs.declared.phase.Phase.TheVariants as phases
 use Rattle.node_steps.specs.declared.site.Site.{Site}
 use Rattle.node_steps.specs.declared.step.Act.{Act}
 use Rattle.node_steps.specs.declared.step.Act.TheVariants as acts
-use Rattle.node_steps.specs.World.{Phase, Idle, Asked, Reading, Holding, Done, Vnode, Worker, World, route, seen_at}
-use Rattle.node_steps.specs.Steps.{Action, Asks, AsksNowhere, is_reap, sent, Enters, Step, By, Outcome, NotPossible, Turn, turn_of, routed, site_of, turned, happens}
+use Rattle.node_steps.specs.World.{Phase, Idle, Asked, Reading, Holding, Done, Copying, Vnode, Worker, World, route, seen_at, brought_by}
+use Rattle.node_steps.specs.Steps.{Action, Asks, AsksNowhere, CopiesFrom, is_reap, sent, sent_copy, Enters, Step, By, Outcome, NotPossible, Turn, turn_of, routed, site_of, turned, happens}
 use Rattle.node_steps.specs.Erased.{erase, erase_vnode, erase_worker}
 use Rattle.node_steps.specs.Returned.{returned}
 use Rattle.node_steps.specs.Running.{phase_of, vnode_of, worker_of, world_of, Turns}
-use Rattle.node_steps.specs.Asked.{action_of, step_by, asking_step}
+use Rattle.node_steps.specs.Asked.{action_of, step_by}
 use Rattle.node_steps.specs.Parts.{IsAt, IsBusy, TurnsAt, TakesStep, TakesFitStep, world_in}
 use Rattle.node_steps.proofs.Erasing.{map-set, turned_is}
 use Rattle.node_steps.specs.Kept.{IsKept}
@@ -81,7 +82,7 @@ result_at world place index worker turn = (turned world place index worker turn,
 abbrev pub Steps : World → Action → ℕ → Worker → Option Result
 Steps world action place worker =
     option_and_then (λ index. option_and_then (λ vnode. option_map (result_at world place index worker)
-    (turn_of (seen_at worker.seen index) vnode action worker.phase)) (slice_get world.vnodes index)) (site_of action worker.phase)
+    (turn_of (seen_at worker.seen index) (brought_by worker) vnode action worker.phase)) (slice_get world.vnodes index)) (site_of action worker.phase)
 
 module _ (sites : List Site) (routes : List ℕ) (workers : List RunPhase) (place index : ℕ) (phase next : RunPhase) (site new : Site) (asked action : Action) (returns : Returned)
     (sent : routed (route (world_of sites routes workers)) asked ≡ action) (here : slice_get workers place ≡ Some phase)
@@ -117,19 +118,19 @@ module _ (sites : List Site) (routes : List ℕ) (workers : List RunPhase) (plac
   by_turns None h = (h.2, stayed h.0 h.1)
   by_turns (Some t) h = (h.2, later_is (erase_vnode t.vnode) t.phase h.0 h.1 ∙ ap (λ (r : Result). r.0) (sym (turned_is w place index (worker_of phase) t)))
 
-  happens_is : happens w step ≡ option_map result (turn_of [] (vnode_of site) action (phase_of phase))
+  happens_is : happens w step ≡ option_map result (turn_of [] [] (vnode_of site) action (phase_of phase))
   happens_is =
       ap (λ a. option_and_then (Steps w a place) (slice_get w.workers place)) sent
       ∙ ap (λ o. option_and_then (Steps w action place) o) (at_some worker_of workers place phase here)
       ∙ ap (λ o. option_and_then (λ i. option_and_then (λ v. option_map (result_at w place i (worker_of phase))
-      (turn_of [] v action (phase_of phase))) (slice_get w.vnodes i)) o) at
-      ∙ ap (λ o. option_and_then (λ v. option_map result (turn_of [] v action (phase_of phase))) o) (at_some vnode_of sites index site there)
+      (turn_of [] [] v action (phase_of phase))) (slice_get w.vnodes i)) o) at
+      ∙ ap (λ o. option_and_then (λ v. option_map result (turn_of [] [] v action (phase_of phase))) o) (at_some vnode_of sites index site there)
 
   -- a turn that was taken at its places is the step of the world
   pub step_taken : Turns action (vnode_of site) (phase_of phase) (vnode_of new) (phase_of next) returns → TakesStep w step returns later
   step_taken turns =
       let both = subst (λ o. (returns ≡ returned (option_map_or (λ (r : Result). r.1) o NotPossible)) × (later ≡ erase (option_map_or (λ (r : Result). r.0) o w))) (sym happens_is)
-      (by_turns (turn_of [] (vnode_of site) action (phase_of phase)) turns) in
+      (by_turns (turn_of [] [] (vnode_of site) action (phase_of phase)) turns) in
       record { returns_is = both.0; world_is = both.1 }
 
 -- only a call is sent anywhere
@@ -151,36 +152,43 @@ same_site acts.Leave (Asked index ask) = refl
 same_site acts.Leave (Reading index get) = refl
 same_site acts.Leave (Holding index ask hand plan) = refl
 same_site acts.Leave (Done index hand) = refl
+same_site acts.Leave (Copying own site key stage) = refl
 same_site acts.Mark Idle = refl
 same_site acts.Mark (Asked index ask) = refl
 same_site acts.Mark (Reading index get) = refl
 same_site acts.Mark (Holding index ask hand plan) = refl
 same_site acts.Mark (Done index hand) = refl
+same_site acts.Mark (Copying own site key stage) = refl
 same_site acts.Unmark Idle = refl
 same_site acts.Unmark (Asked index ask) = refl
 same_site acts.Unmark (Reading index get) = refl
 same_site acts.Unmark (Holding index ask hand plan) = refl
 same_site acts.Unmark (Done index hand) = refl
+same_site acts.Unmark (Copying own site key stage) = refl
 same_site acts.Take Idle = refl
 same_site acts.Take (Asked index ask) = refl
 same_site acts.Take (Reading index get) = refl
 same_site acts.Take (Holding index ask hand plan) = refl
 same_site acts.Take (Done index hand) = refl
+same_site acts.Take (Copying own site key stage) = refl
 same_site acts.Put Idle = refl
 same_site acts.Put (Asked index ask) = refl
 same_site acts.Put (Reading index get) = refl
 same_site acts.Put (Holding index ask hand plan) = refl
 same_site acts.Put (Done index hand) = refl
+same_site acts.Put (Copying own site key stage) = refl
 same_site acts.Look Idle = refl
 same_site acts.Look (Asked index ask) = refl
 same_site acts.Look (Reading index get) = refl
 same_site acts.Look (Holding index ask hand plan) = refl
 same_site acts.Look (Done index hand) = refl
+same_site acts.Look (Copying own site key stage) = refl
 same_site acts.Publish Idle = refl
 same_site acts.Publish (Asked index ask) = refl
 same_site acts.Publish (Reading index get) = refl
 same_site acts.Publish (Holding index ask hand plan) = refl
 same_site acts.Publish (Done index hand) = refl
+same_site acts.Publish (Copying own site key stage) = refl
 
 pub no_worker : (world : World) (place : ℕ) (action : Action) → slice_get world.workers place ≡ None → happens world (By (suc place) action) ≡ None
 no_worker world place action h = ap (λ o. option_and_then (Steps world (routed (route world) action) place) o) h
@@ -194,45 +202,55 @@ pub no_call : (world : World) (place : ℕ) (action : Action) (worker : Worker) 
 no_call world place action worker h e =
     at_worker world place action worker h
     ∙ ap (λ o. option_and_then (λ index. option_and_then (λ vnode. option_map (result_at world place index worker)
-    (turn_of (seen_at worker.seen index) vnode (routed (route world) action) worker.phase)) (slice_get world.vnodes index)) o) e
+    (turn_of (seen_at worker.seen index) (brought_by worker) vnode (routed (route world) action) worker.phase)) (slice_get world.vnodes index)) o) e
 
 pub no_vnode : (world : World) (place index : ℕ) (action : Action) (worker : Worker) → slice_get world.workers place ≡ Some worker → site_of (routed (route world) action) worker.phase ≡ Some index
     → slice_get world.vnodes index ≡ None → happens world (By (suc place) action) ≡ None
 no_vnode world place index action worker h e n =
     at_worker world place action worker h
     ∙ ap (λ o. option_and_then (λ i. option_and_then (λ vnode. option_map (result_at world place i worker)
-    (turn_of (seen_at worker.seen i) vnode (routed (route world) action) worker.phase)) (slice_get world.vnodes i)) o) e
+    (turn_of (seen_at worker.seen i) (brought_by worker) vnode (routed (route world) action) worker.phase)) (slice_get world.vnodes i)) o) e
     ∙ ap (λ o. option_and_then (λ vnode. option_map (result_at world place index worker)
-    (turn_of (seen_at worker.seen index) vnode (routed (route world) action) worker.phase)) o) n
+    (turn_of (seen_at worker.seen index) (brought_by worker) vnode (routed (route world) action) worker.phase)) o) n
 
 -- a worker that has a call gets no other
 abbrev pub NoTurn : Action → Worker → Type 0
-NoTurn action worker = (index : ℕ) (vnode : Vnode) → turn_of (seen_at worker.seen index) vnode action worker.phase ≡ None
+NoTurn action worker = (index : ℕ) (vnode : Vnode) → turn_of (seen_at worker.seen index) (brought_by worker) vnode action worker.phase ≡ None
 
 pub no_turn : (world : World) (place : ℕ) (action : Action) (worker : Worker) → NoTurn action worker → Steps world action place worker ≡ None
 no_turn world place action worker none = by_index (site_of action worker.phase)
   where
     by_vnode : (index : ℕ) (o : Option Vnode) → option_and_then (λ vnode. option_map (result_at world place index worker)
-        (turn_of (seen_at worker.seen index) vnode action worker.phase)) o ≡ None
+        (turn_of (seen_at worker.seen index) (brought_by worker) vnode action worker.phase)) o ≡ None
     by_vnode index None = refl
     by_vnode index (Some vnode) = ap (λ t. option_map (result_at world place index worker) t) (none index vnode)
 
     by_index : (o : Option ℕ) → option_and_then (λ index. option_and_then (λ vnode. option_map (result_at world place index worker)
-        (turn_of (seen_at worker.seen index) vnode action worker.phase)) (slice_get world.vnodes index)) o ≡ None
+        (turn_of (seen_at worker.seen index) (brought_by worker) vnode action worker.phase)) (slice_get world.vnodes index)) o ≡ None
     by_index None = refl
     by_index (Some index) = by_vnode index (slice_get world.vnodes index)
 
 -- an ask that is sent
-abbrev IsAsking : Action → Type 0
+abbrev pub IsAsking : Action → Type 0
 IsAsking (Asks site ask) = Unit {0}
 IsAsking AsksNowhere = Unit {0}
+IsAsking (CopiesFrom own site key) = Unit {0}
 IsAsking action = ⊥
 
-asking_sent : (index : ℕ) (ask : Ask Content Context) (o : Option ℕ) → IsAsking (option_map_or (λ site. sent index site ask) o AsksNowhere)
+pub asking_sent : (index : ℕ) (ask : Ask Content Context) (o : Option ℕ) → IsAsking (option_map_or (λ site. sent index site ask) o AsksNowhere)
 asking_sent index ask None = tt
 asking_sent index ask (Some site) = by (not (site == index) && is_reap ask)
   where
     by : (b : Bool) → IsAsking (cond b AsksNowhere (Asks site ask))
+    by true = tt
+    by false = tt
+
+-- so is a copy
+pub copying_sent : (index : ℕ) (key : Key) (o : Option ℕ) → IsAsking (option_map_or (λ site. sent_copy index site key) o AsksNowhere)
+copying_sent index key None = tt
+copying_sent index key (Some site) = by (site == index)
+  where
+    by : (b : Bool) → IsAsking (cond b AsksNowhere (CopiesFrom index site key))
     by true = tt
     by false = tt
 
@@ -242,19 +260,28 @@ busy_turn (Asks site ask) (phases.Asked other call) busy asking = λ i v. refl
 busy_turn (Asks site ask) (phases.Reading other get) busy asking = λ i v. refl
 busy_turn (Asks site ask) (phases.Holding other call hand) busy asking = λ i v. refl
 busy_turn (Asks site ask) (phases.Done other hand) busy asking = λ i v. refl
+busy_turn (Asks site ask) (phases.Copying own from key stage) busy asking = λ i v. refl
+busy_turn (CopiesFrom to from key) phases.Idle busy asking = absurd busy
+busy_turn (CopiesFrom to from key) (phases.Asked other call) busy asking = λ i v. refl
+busy_turn (CopiesFrom to from key) (phases.Reading other get) busy asking = λ i v. refl
+busy_turn (CopiesFrom to from key) (phases.Holding other call hand) busy asking = λ i v. refl
+busy_turn (CopiesFrom to from key) (phases.Done other hand) busy asking = λ i v. refl
+busy_turn (CopiesFrom to from key) (phases.Copying own site other stage) busy asking = λ i v. refl
 busy_turn AsksNowhere phases.Idle busy asking = absurd busy
 busy_turn AsksNowhere (phases.Asked other call) busy asking = λ i v. refl
 busy_turn AsksNowhere (phases.Reading other get) busy asking = λ i v. refl
 busy_turn AsksNowhere (phases.Holding other call hand) busy asking = λ i v. refl
 busy_turn AsksNowhere (phases.Done other hand) busy asking = λ i v. refl
+busy_turn AsksNowhere (phases.Copying own from key stage) busy asking = λ i v. refl
 busy_turn action phase busy asking = absurd asking
 
-pub is_busy : (sites : List Site) (routes : List ℕ) (workers : List RunPhase) (place index : ℕ) (ask : Ask Content Context) (phase : RunPhase)
-    → slice_get workers place ≡ Some phase → IsBusy phase → happens (world_of sites routes workers) (asking_step (suc place) index ask) ≡ None
-is_busy sites routes workers place index ask phase here busy =
+pub is_busy : (sites : List Site) (routes : List ℕ) (workers : List RunPhase) (place : ℕ) (asked : Action) (phase : RunPhase)
+    → slice_get workers place ≡ Some phase → IsBusy phase → IsAsking (routed (route (world_of sites routes workers)) asked)
+    → happens (world_of sites routes workers) (By (suc place) asked) ≡ None
+is_busy sites routes workers place asked phase here busy asking =
     let world = world_of sites routes workers in
-    at_worker world place (Asks index ask) (worker_of phase) (at_some worker_of workers place phase here)
-    ∙ no_turn world place (routed (route world) (Asks index ask)) (worker_of phase) (busy_turn (routed (route world) (Asks index ask)) phase busy (asking_sent index ask (route world index)))
+    at_worker world place asked (worker_of phase) (at_some worker_of workers place phase here)
+    ∙ no_turn world place (routed (route world) asked) (worker_of phase) (busy_turn (routed (route world) asked) phase busy asking)
 
 some_same : {X : Type 0} (a b : X) → Some a ≡ Some b → a ≡ b
 some_same a b h = cc

@@ -1,32 +1,40 @@
--- What a step makes of its worker and its vnode, where they were as they always are.
-use Rattle.std.proofs.Common.{◌≡◌, ◌⊎◌, inl, inr, ℕ, zero, suc, ◌+◌, ◌≤◌, true, false, ◌∷◌, refl, sym, ◌∙◌, ap, arith, subst}
+-- What a step for a call makes of its worker and its vnode, where they were as they always are.
+use Rattle.std.proofs.Common.{◌≡◌, ◌≢◌, ◌⊎◌, inl, inr, ℕ, zero, suc, ◌+◌, ◌≤◌, true, false, ◌∷◌, refl, sym, ◌∙◌, ap, arith, subst}
 use Rattle.std.specs.Prelude.{◌==◌, Option, Some, None, Result, Ok, Err}
 use Rattle.riak_msgs.specs.Contents.{Content}
 use Rattle.sibling_register.specs.History.{Event}
 use Rattle.sibling_register.specs.Answers.{Ask, AskGet, GetCommand, Refused as ToldRefused, Answers, Accepts as ToldAccepts}
 use Rattle.actor_epoch.specs.Given.{Context}
 use Rattle.vnode_machine.specs.Machine.{State, apply_operation}
-use Rattle.vnode_machine.specs.Replay.{History, Accepts, IsWithinLimits}
+use Rattle.vnode_machine.specs.Replay.{History, HasReplay, Accepts, IsWithinLimits}
 use Rattle.vnode_machine.specs.Replies.{get_reply}
 use Rattle.vnode_machine.specs.Step.{Response, GetDone, StepOutcome, Refused, Answered, Accepted, outcome as outcome_of_ask}
 use Rattle.vnode_machine.specs.Registers.{key_of, context_in_ask, next_event, IsRegisters, IsNext}
+use Rattle.vnode_machine.specs.Runs.{IsAnswer}
 use Rattle.vnode_machine.proofs.StepLaw.{registers-after}
 use Rattle.copy_laws.specs.Copies.{Command, commands_of}
 use Rattle.copy_laws.specs.Joining.{Log}
-use Rattle.node_steps.specs.World.{Word, Open, Taken, Phase, Idle, Asked, Reading, Holding, Done, Vnode, Call, call_of, history_of}
-use Rattle.node_steps.specs.Steps.{Action, Asks, Enters, Leaves, Marks, Unmarks, Takes, Puts, Looks, Publishes, Turn, left, moves, lays, answers, looks_by, publishes_by, turn_of, site_of}
+use Rattle.node_steps.specs.World.{Word, Open, Taken, Phase, Idle, Asked, Reading, Holding, Done, Copying, Vnode, CommandsAlone, Call, call_of, history_of}
+use Rattle.node_steps.specs.Steps.{Action, Asks, Enters, Leaves, Marks, Unmarks, Takes, Puts, Looks, Publishes, Turn, event_at, left, moves, lays, answers, looks_by, publishes_by, turn_of}
 use Rattle.node_steps.specs.Schedules.{Begins}
 use Rattle.node_steps.specs.Contexts.{context_bytes}
 use Rattle.node_steps.proofs.Accepting.{accepted_is, was_accepted}
-use Rattle.node_steps.proofs.Coming.{CallIs, IsReplyTo, Comes}
-use Rattle.node_steps.proofs.Lists.{one, no_more, cancel}
+use Rattle.node_steps.proofs.Coming.{CopierIs, AboutIs, CallIs, IsReplyTo, Comes}
+use Rattle.node_steps.proofs.Lists.{same_or_other, one, no_more, cancel}
 use Rattle.node_steps.proofs.Beginnings.{begins-itself, begins-longer}
 use Rattle.node_steps.proofs.Shown.{AreHeld, ShowsHeld, outcome_shows, updates, accepts_update}
-use Rattle.node_steps.proofs.Inside.{is_reader, is_holder, FitsWord, state_of, replayed, IsInPlace, IsInHand, IsAbout, same_test, IsSoundAs, IsPlain}
+use Rattle.node_steps.proofs.Unmixed.{same-event}
+use Rattle.node_steps.proofs.Inside.{is_reader, is_holder, FitsWord, state_of, replayed, IsInPlace, IsInHand, HasSeen, IsAbout, IsOfOne, same_test, StaysAt, stays, about_one, IsPlain, alone-before}
 
 module _ (id epoch index readers holders : ℕ) where
+  -- how a worker's phase goes over: elsewhere it has what it had, it is about no site that is new but the step's, and copies nothing new
+  pub record Goes (action : Action) (phase next : Phase) : Type 0 where
+    pub keeps : (other : ℕ) → index ≢ other → StaysAt other phase next
+    pub about : AboutIs action index phase next
+    pub copier : CopierIs action phase next
+
   -- what a turn of a worker in this phase leaves, and what comes of it
-  pub record IsTurn (action : Action) (phase : Phase) (log : Log) (t : Turn) : Type 0 where
+  pub record IsTurn (action : Action) (phase : Phase) (brought : History) (log : Log) (t : Turn) : Type 0 where
     pub same_id : t.vnode.id ≡ id
     pub same_epoch : t.vnode.last_epoch ≡ epoch
     pub same : (t.vnode.log ≡ log) ⊎ (is_holder index phase ≡ true)
@@ -36,15 +44,36 @@ module _ (id epoch index readers holders : ℕ) where
     pub place : IsInPlace id epoch t.vnode.word t.vnode.log t.vnode.place
     pub hand : IsInHand id epoch index t.vnode.log t.phase
     pub seen : Begins t.seen (history_of t.vnode)
-    pub at : IsAbout index t.phase
+    pub whole : HasSeen index t.phase t.seen (history_of t.vnode)
+    pub goes : Goes action phase t.phase
     pub call : CallIs action (call_of phase) (call_of t.phase)
-    pub plain : IsPlain id epoch log → IsPlain id epoch t.vnode.log
-    pub comes : Comes id epoch index (call_of phase) log t t.outcome
+    pub alone : CommandsAlone t.vnode.log → CommandsAlone log
+    pub plain : CommandsAlone t.vnode.log → IsPlain id epoch log → IsPlain id epoch t.vnode.log
+    pub comes : Comes id epoch index phase brought log t t.outcome
 
-  one_same : (a : ℕ) → a ≡ index → one (a == index) ≡ 1
+  no_copier : (action : Action) (before later : Phase) → IsOfOne later → CopierIs action before later
+  no_copier action before Idle one = λ own site key stage h. cc
+  no_copier action before (Asked at ask) one = λ own site key stage h. cc
+  no_copier action before (Reading at get) one = λ own site key stage h. cc
+  no_copier action before (Holding at ask hand plan) one = λ own site key stage h. cc
+  no_copier action before (Done at hand) one = λ own site key stage h. cc
+  no_copier action before (Copying own at key stage) one = absurd one
+
+  -- of a phase that is about one site
+  pub one_goes : (action : Action) (phase next : Phase) → IsOfOne phase → IsOfOne next → IsAbout index phase → IsAbout index next → Goes action phase next
+  one_goes action phase next one later was is = record {
+    keeps = λ other n. stays index other phase next one later was is n;
+    about = λ other h. elim (same_or_other index other) [
+      | inl e ↦ inr (inl e)
+      | inr n ↦ absurd (about_one index other next later is h n)
+    ];
+    copier = no_copier action phase next later;
+  }
+
+  pub one_same : (a : ℕ) → a ≡ index → one (a == index) ≡ 1
   one_same a e = ap one (same_test a index e)
 
-  fits_same : (word : Word) → FitsWord word readers holders → (r h : ℕ) → r ≡ readers → h ≡ holders → FitsWord word r h
+  pub fits_same : (word : Word) → FitsWord word readers holders → (r h : ℕ) → r ≡ readers → h ≡ holders → FitsWord word r h
   fits_same (Open n mark) f r h p q = (p ∙ f.0, q ∙ f.1)
   fits_same Taken f r h p q = (p ∙ f.0, q ∙ f.1)
 
@@ -54,25 +83,26 @@ module _ (id epoch index readers holders : ℕ) where
   place_read (Open n mark) log place f h p = p
   place_read Taken log place f h p = absurd (omega (arith, f.0, h))
 
-  module _ (limits : IsWithinLimits id epoch) (log : Log) (seen : History) (place : State Content) (has : Begins seen (commands_of log)) where
-    abbrev history : History
+  module _ (limits : IsWithinLimits id epoch) (log : Log) (seen brought : History) (place : State Content) (has : Begins seen (commands_of log)) where
+    abbrev pub history : History
     history = commands_of log
 
-    abbrev vnode_in : Word → Vnode
+    abbrev pub vnode_in : Word → Vnode
     vnode_in word = record { id = id; last_epoch = epoch; word = word; log = log; place = place }
 
-    abbrev turns : Word → Action → Phase → Option Turn
-    turns word action phase = turn_of seen (vnode_in word) action phase
+    abbrev pub turns : Word → Action → Phase → Option Turn
+    turns word action phase = turn_of seen brought (vnode_in word) action phase
 
     -- the phase goes over, and the word fits
-    abbrev Fits : Phase → Phase → Word → Type 0
+    abbrev pub Fits : Phase → Phase → Word → Type 0
     Fits phase next word = (r h : ℕ) → r + one (is_reader index phase) ≡ readers + one (is_reader index next)
         → h + one (is_holder index phase) ≡ holders + one (is_holder index next) → FitsWord word r h
 
     -- a turn that moves its worker, and the word
-    moved : (action : Action) (phase next : Phase) (word : Word) → Fits phase next word → IsInPlace id epoch word log place → IsInHand id epoch index log next
-        → IsAbout index next → CallIs action (call_of phase) (call_of next) → (old : Word) → IsTurn action phase log (moves seen (vnode_in old) next word)
-    moved action phase next word fits in_place in_hand at call old = record {
+    pub moved : (action : Action) (phase next : Phase) (word : Word) → Fits phase next word → IsInPlace id epoch word log place → IsInHand id epoch index log next
+        → HasSeen index next seen history → Goes action phase next → CallIs action (call_of phase) (call_of next) → (old : Word)
+        → IsTurn action phase brought log (moves seen brought (vnode_in old) next word)
+    moved action phase next word fits in_place in_hand whole goes call old = record {
       same_id = refl;
       same_epoch = refl;
       same = inl refl;
@@ -81,84 +111,95 @@ module _ (id epoch index readers holders : ℕ) where
       place = in_place;
       hand = in_hand;
       seen = has;
-      at = at;
+      whole = whole;
+      goes = goes;
       call = call;
-      plain = λ plain. plain;
+      alone = λ only. only;
+      plain = λ only plain. plain;
       comes = refl;
     }
 
-    asks_turn : (word : Word) → FitsWord word readers holders → IsInPlace id epoch word log place → (other : ℕ) (ask : Ask Content Context) → other ≡ index → (t : Turn)
-        → turns word (Asks other ask) Idle ≡ Some t → IsTurn (Asks other ask) Idle log t
+    pub asks_turn : (word : Word) → FitsWord word readers holders → IsInPlace id epoch word log place → (other : ℕ) (ask : Ask Content Context) → other ≡ index → (t : Turn)
+        → turns word (Asks other ask) Idle ≡ Some t → IsTurn (Asks other ask) Idle brought log t
     asks_turn word f p other ask e t h =
-        subst (λ u. IsTurn (Asks other ask) Idle log u) (cc)
-        (moved (Asks other ask) Idle (Asked other ask) word (λ r h p q. fits_same word f r h (no_more r readers p) (no_more h holders q)) p tt e
+        subst (λ u. IsTurn (Asks other ask) Idle brought log u) (cc)
+        (moved (Asks other ask) Idle (Asked other ask) word (λ r h p q. fits_same word f r h (no_more r readers p) (no_more h holders q)) p tt tt
+        (one_goes (Asks other ask) Idle (Asked other ask) tt tt tt e)
         (inr (inr (record { site = other; ask = ask }, refl, refl))) word)
 
-    enter_turn : (word : Word) → FitsWord word readers holders → IsInPlace id epoch word log place → (other : ℕ) (get : GetCommand Context) → other ≡ index → (t : Turn)
-        → turns word Enters (Asked other (AskGet get)) ≡ Some t → IsTurn Enters (Asked other (AskGet get)) log t
+    pub enter_turn : (word : Word) → FitsWord word readers holders → IsInPlace id epoch word log place → (other : ℕ) (get : GetCommand Context) → other ≡ index → (t : Turn)
+        → turns word Enters (Asked other (AskGet get)) ≡ Some t → IsTurn Enters (Asked other (AskGet get)) brought log t
     enter_turn (Open n false) f p other get e t h =
-        subst (λ u. IsTurn Enters (Asked other (AskGet get)) log u) (cc)
+        subst (λ u. IsTurn Enters (Asked other (AskGet get)) brought log u) (cc)
         (moved Enters (Asked other (AskGet get)) (Reading other get) (Open (n + 1) false)
-        (λ r h p q. (omega (arith, p, one_same other e, f.0), omega (arith, q, f.1))) p tt e (inl refl) (Open n false))
+        (λ r h p q. (omega (arith, p, one_same other e, f.0), omega (arith, q, f.1))) p tt tt
+        (one_goes Enters (Asked other (AskGet get)) (Reading other get) tt tt e e) (inl refl) (Open n false))
     enter_turn (Open n true) f p other get e t h = cc
     enter_turn Taken f p other get e t h = cc
 
-    leave_fits : (word : Word) → FitsWord word readers holders → (phase next : Phase) → one (is_reader index phase) ≡ 1 → is_reader index next ≡ false
+    pub leave_fits : (word : Word) → FitsWord word readers holders → (phase next : Phase) → one (is_reader index phase) ≡ 1 → is_reader index next ≡ false
         → is_holder index phase ≡ false → is_holder index next ≡ false → Fits phase next (left word)
     leave_fits (Open n mark) f phase next a b c d = λ r h p q. (omega (arith, p, q, a, ap one b, f.0), omega (arith, q, ap one c, ap one d, f.1))
     leave_fits Taken f phase next a b c d = λ r h p q. absurd (omega (arith, p, a, ap one b, f.0))
 
-    left_place : (word : Word) → IsInPlace id epoch word log place → IsInPlace id epoch (left word) log place
+    pub left_place : (word : Word) → IsInPlace id epoch word log place → IsInPlace id epoch (left word) log place
     left_place (Open n mark) p = p
     left_place Taken p = p
 
-    leave_turn : (word : Word) → FitsWord word readers holders → IsInPlace id epoch word log place → (phase : Phase) → IsAbout index phase → (t : Turn)
-        → turns word Leaves phase ≡ Some t → IsTurn Leaves phase log t
-    leave_turn word f p Idle at t h = cc
-    leave_turn word f p (Asked other ask) at t h = cc
-    leave_turn word f p (Reading other get) at t h =
-        subst (λ u. IsTurn Leaves (Reading other get) log u) (cc)
+    pub leave_turn : (word : Word) → FitsWord word readers holders → IsInPlace id epoch word log place → (phase : Phase) → IsOfOne phase → IsAbout index phase → (t : Turn)
+        → turns word Leaves phase ≡ Some t → IsTurn Leaves phase brought log t
+    leave_turn word f p Idle one at t h = cc
+    leave_turn word f p (Asked other ask) one at t h = cc
+    leave_turn word f p (Reading other get) one at t h =
+        subst (λ u. IsTurn Leaves (Reading other get) brought log u) (cc)
         (moved Leaves (Reading other get) (Asked other (AskGet get)) (left word)
-        (leave_fits word f (Reading other get) (Asked other (AskGet get)) (one_same other at) refl refl refl) (left_place word p) tt at (inl refl) word)
-    leave_turn word f p (Holding other ask hand plan) at t h = cc
-    leave_turn word f p (Done other None) at t h =
-        subst (λ u. IsTurn Leaves (Done other None) log u) (cc)
-        (moved Leaves (Done other None) Idle (left word) (leave_fits word f (Done other None) Idle (one_same other at) refl refl refl) (left_place word p) tt tt (inl refl) word)
-    leave_turn word f p (Done other (Some hand)) at t h = cc
+        (leave_fits word f (Reading other get) (Asked other (AskGet get)) (one_same other at) refl refl refl) (left_place word p) tt tt
+        (one_goes Leaves (Reading other get) (Asked other (AskGet get)) tt tt at at) (inl refl) word)
+    leave_turn word f p (Holding other ask hand plan) one at t h = cc
+    leave_turn word f p (Done other None) one at t h =
+        subst (λ u. IsTurn Leaves (Done other None) brought log u) (cc)
+        (moved Leaves (Done other None) Idle (left word) (leave_fits word f (Done other None) Idle (one_same other at) refl refl refl) (left_place word p) tt tt
+        (one_goes Leaves (Done other None) Idle tt tt at tt) (inl refl) word)
+    leave_turn word f p (Done other (Some hand)) one at t h = cc
+    leave_turn word f p (Copying own other key stage) one at t h = absurd one
 
-    mark_turn : (word : Word) → FitsWord word readers holders → IsInPlace id epoch word log place → (other : ℕ) (ask : Ask Content Context) → other ≡ index → (t : Turn)
-        → turns word Marks (Asked other ask) ≡ Some t → IsTurn Marks (Asked other ask) log t
+    pub mark_turn : (word : Word) → FitsWord word readers holders → IsInPlace id epoch word log place → (other : ℕ) (ask : Ask Content Context) → other ≡ index → (t : Turn)
+        → turns word Marks (Asked other ask) ≡ Some t → IsTurn Marks (Asked other ask) brought log t
     mark_turn (Open n false) f p other ask e t h =
-        subst (λ u. IsTurn Marks (Asked other ask) log u) (cc)
-        (moved Marks (Asked other ask) (Asked other ask) (Open n true) (λ r h p q. (no_more r readers p ∙ f.0, no_more h holders q ∙ f.1)) p tt e (inl refl) (Open n false))
+        subst (λ u. IsTurn Marks (Asked other ask) brought log u) (cc)
+        (moved Marks (Asked other ask) (Asked other ask) (Open n true) (λ r h p q. (no_more r readers p ∙ f.0, no_more h holders q ∙ f.1)) p tt tt
+        (one_goes Marks (Asked other ask) (Asked other ask) tt tt e e) (inl refl) (Open n false))
     mark_turn (Open n true) f p other ask e t h = cc
     mark_turn Taken f p other ask e t h = cc
 
-    unmark_turn : (word : Word) → FitsWord word readers holders → IsInPlace id epoch word log place → (other : ℕ) (ask : Ask Content Context) → other ≡ index → (t : Turn)
-        → turns word Unmarks (Asked other ask) ≡ Some t → IsTurn Unmarks (Asked other ask) log t
+    pub unmark_turn : (word : Word) → FitsWord word readers holders → IsInPlace id epoch word log place → (other : ℕ) (ask : Ask Content Context) → other ≡ index → (t : Turn)
+        → turns word Unmarks (Asked other ask) ≡ Some t → IsTurn Unmarks (Asked other ask) brought log t
     unmark_turn (Open n false) f p other ask e t h = cc
     unmark_turn (Open n true) f p other ask e t h =
-        subst (λ u. IsTurn Unmarks (Asked other ask) log u) (cc)
-        (moved Unmarks (Asked other ask) (Asked other ask) (Open n false) (λ r h p q. (no_more r readers p ∙ f.0, no_more h holders q ∙ f.1)) p tt e (inl refl) (Open n true))
+        subst (λ u. IsTurn Unmarks (Asked other ask) brought log u) (cc)
+        (moved Unmarks (Asked other ask) (Asked other ask) (Open n false) (λ r h p q. (no_more r readers p ∙ f.0, no_more h holders q ∙ f.1)) p tt tt
+        (one_goes Unmarks (Asked other ask) (Asked other ask) tt tt e e) (inl refl) (Open n true))
     unmark_turn Taken f p other ask e t h = cc
 
-    take_turn : (word : Word) → FitsWord word readers holders → IsInPlace id epoch word log place → (other : ℕ) (ask : Ask Content Context) → other ≡ index → (t : Turn)
-        → turns word Takes (Asked other ask) ≡ Some t → IsTurn Takes (Asked other ask) log t
+    pub take_turn : (word : Word) → FitsWord word readers holders → IsInPlace id epoch word log place → (other : ℕ) (ask : Ask Content Context) → other ≡ index → (t : Turn)
+        → turns word Takes (Asked other ask) ≡ Some t → IsTurn Takes (Asked other ask) brought log t
     take_turn (Open zero mark) f p other ask e t h =
-        subst (λ u. IsTurn Takes (Asked other ask) log u) (cc)
+        subst (λ u. IsTurn Takes (Asked other ask) brought log u) (cc)
         (moved Takes (Asked other ask) (Holding other ask place None) Taken
-        (λ r h p q. (omega (arith, p, f.0), omega (arith, q, one_same other e, f.1))) tt (λ _. (p, tt)) e (inl refl) (Open zero mark))
+        (λ r h p q. (omega (arith, p, f.0), omega (arith, q, one_same other e, f.1))) tt (λ _. (p, tt)) tt
+        (one_goes Takes (Asked other ask) (Holding other ask place None) tt tt e e) (inl refl) (Open zero mark))
     take_turn (Open (suc n) mark) f p other ask e t h = cc
     take_turn Taken f p other ask e t h = cc
 
-    lay_fits : (word : Word) → FitsWord word readers holders → (phase next : Phase) → one (is_holder index phase) ≡ 1 → is_holder index next ≡ false
+    pub lay_fits : (word : Word) → FitsWord word readers holders → (phase next : Phase) → one (is_holder index phase) ≡ 1 → is_holder index next ≡ false
         → is_reader index phase ≡ false → is_reader index next ≡ false → Fits phase next (Open 0 false)
     lay_fits (Open n mark) f phase next a b c d = λ r h p q. absurd (omega (arith, q, a, ap one b, f.1))
     lay_fits Taken f phase next a b c d = λ r h p q. (omega (arith, p, ap one c, ap one d, f.0), omega (arith, q, a, ap one b, f.1))
 
-    laid : (phase next : Phase) (word : Word) (hand : State Content) → Fits phase next (Open 0 false) → hand ≡ state_of id epoch log
-        → IsInHand id epoch index log next → IsAbout index next → CallIs Puts (call_of phase) (call_of next) → IsTurn Puts phase log (lays seen (vnode_in word) next hand)
-    laid phase next word hand fits is in_hand at call = record {
+    pub laid : (phase next : Phase) (word : Word) (hand : State Content) → Fits phase next (Open 0 false) → hand ≡ state_of id epoch log
+        → IsInHand id epoch index log next → HasSeen index next seen history → Goes Puts phase next → CallIs Puts (call_of phase) (call_of next)
+        → IsTurn Puts phase brought log (lays seen brought (vnode_in word) next hand)
+    laid phase next word hand fits is in_hand whole goes call = record {
       same_id = refl;
       same_epoch = refl;
       same = inl refl;
@@ -167,25 +208,30 @@ module _ (id epoch index readers holders : ℕ) where
       place = is;
       hand = in_hand;
       seen = has;
-      at = at;
+      whole = whole;
+      goes = goes;
       call = call;
-      plain = λ plain. plain;
+      alone = λ only. only;
+      plain = λ only plain. plain;
       comes = refl;
     }
 
-    put_turn : (word : Word) → FitsWord word readers holders → (phase : Phase) → IsAbout index phase → IsInHand id epoch index log phase → (t : Turn)
-        → turns word Puts phase ≡ Some t → IsTurn Puts phase log t
-    put_turn word f Idle at mine t h = cc
-    put_turn word f (Asked other ask) at mine t h = cc
-    put_turn word f (Reading other get) at mine t h = cc
-    put_turn word f (Holding other ask hand plan) at mine t h =
-        subst (λ u. IsTurn Puts (Holding other ask hand plan) log u) (cc)
+    pub put_turn : (word : Word) → FitsWord word readers holders → (phase : Phase) → IsOfOne phase → IsAbout index phase → IsInHand id epoch index log phase → (t : Turn)
+        → turns word Puts phase ≡ Some t → IsTurn Puts phase brought log t
+    put_turn word f Idle one at mine t h = cc
+    put_turn word f (Asked other ask) one at mine t h = cc
+    put_turn word f (Reading other get) one at mine t h = cc
+    put_turn word f (Holding other ask hand plan) one at mine t h =
+        subst (λ u. IsTurn Puts (Holding other ask hand plan) brought log u) (cc)
         (laid (Holding other ask hand plan) (Asked other ask) word hand
-        (lay_fits word f (Holding other ask hand plan) (Asked other ask) (one_same other at) refl refl refl) (mine at).0 tt at (inl refl))
-    put_turn word f (Done other None) at mine t h = cc
-    put_turn word f (Done other (Some hand)) at mine t h =
-        subst (λ u. IsTurn Puts (Done other (Some hand)) log u) (cc)
-        (laid (Done other (Some hand)) Idle word hand (lay_fits word f (Done other (Some hand)) Idle (one_same other at) refl refl refl) (mine at) tt tt (inl refl))
+        (lay_fits word f (Holding other ask hand plan) (Asked other ask) (one_same other at) refl refl refl) (mine at).0 tt tt
+        (one_goes Puts (Holding other ask hand plan) (Asked other ask) tt tt at at) (inl refl))
+    put_turn word f (Done other None) one at mine t h = cc
+    put_turn word f (Done other (Some hand)) one at mine t h =
+        subst (λ u. IsTurn Puts (Done other (Some hand)) brought log u) (cc)
+        (laid (Done other (Some hand)) Idle word hand (lay_fits word f (Done other (Some hand)) Idle (one_same other at) refl refl refl) (mine at) tt tt
+        (one_goes Puts (Done other (Some hand)) Idle tt tt at tt) (inl refl))
+    put_turn word f (Copying own other key stage) one at mine t h = absurd one
 
     -- what comes of an ask in the replay is the register's
     registers : IsPlain id epoch log → (ask : Ask Content Context) (hand : State Content) (came : StepOutcome) → hand ≡ state_of id epoch log → outcome_of_ask hand ask ≡ came → IsRegisters id epoch history ask came
@@ -198,11 +244,11 @@ module _ (id epoch index readers holders : ℕ) where
 
     -- a look that answers: nothing but the worker changes
     answered : (phase next : Phase) (word : Word) → FitsWord word readers holders → IsInPlace id epoch word log place → is_reader index phase ≡ is_reader index next
-        → is_holder index phase ≡ is_holder index next → IsInHand id epoch index log next → IsAbout index next → call_of next ≡ None
+        → is_holder index phase ≡ is_holder index next → IsInHand id epoch index log next → HasSeen index next history history → Goes Looks phase next → call_of next ≡ None
         → (reply : Result Response ℕ) (call : Call) → call_of phase ≡ Some call
-        → IsReplyTo id epoch index log (answers seen (vnode_in word) next reply) reply call
-        → IsTurn Looks phase log (answers seen (vnode_in word) next reply)
-    answered phase next word f p a b in_hand at none reply call c is = record {
+        → IsReplyTo id epoch index log (answers seen brought (vnode_in word) next reply) reply call
+        → IsTurn Looks phase brought log (answers seen brought (vnode_in word) next reply)
+    answered phase next word f p a b in_hand whole goes none reply call c is = record {
       same_id = refl;
       same_epoch = refl;
       same = inl refl;
@@ -213,17 +259,20 @@ module _ (id epoch index readers holders : ℕ) where
       place = p;
       hand = in_hand;
       seen = begins-itself history;
-      at = at;
+      whole = whole;
+      goes = goes;
       call = inr (inl none);
-      plain = λ plain. plain;
+      alone = λ only. only;
+      plain = λ only plain. plain;
       comes = (call, c, is);
     }
 
     look_held : (word : Word) → FitsWord word readers holders → IsInPlace id epoch word log place → (other : ℕ) (ask : Ask Content Context) (hand : State Content) → other ≡ index
         → hand ≡ state_of id epoch log → (came : StepOutcome) → outcome_of_ask hand ask ≡ came
-        → IsTurn Looks (Holding other ask hand None) log (looks_by seen (vnode_in word) other ask hand came)
+        → IsTurn Looks (Holding other ask hand None) brought log (looks_by seen brought (vnode_in word) other ask hand came)
     look_held word f p other ask hand e is (Refused number) h =
-        answered (Holding other ask hand None) (Done other (Some hand)) word f p refl refl (λ _. is) e refl (Err number) (record { site = other; ask = ask }) refl (record {
+        answered (Holding other ask hand None) (Done other (Some hand)) word f p refl refl (λ _. is) tt
+        (one_goes Looks (Holding other ask hand None) (Done other (Some hand)) tt tt e e) refl (Err number) (record { site = other; ask = ask }) refl (record {
           at = e;
           answer = λ plain. record { given = Answers (ToldRefused number); may = registers plain ask hand (Refused number) is h; leads = refl; shown = refl };
           seen = refl;
@@ -231,7 +280,8 @@ module _ (id epoch index readers holders : ℕ) where
           shows = λ plain. tt;
         })
     look_held word f p other ask hand e is (Answered response) h =
-        answered (Holding other ask hand None) (Done other (Some hand)) word f p refl refl (λ _. is) e refl (Ok response) (record { site = other; ask = ask }) refl (record {
+        answered (Holding other ask hand None) (Done other (Some hand)) word f p refl refl (λ _. is) tt
+        (one_goes Looks (Holding other ask hand None) (Done other (Some hand)) tt tt e e) refl (Ok response) (record { site = other; ask = ask }) refl (record {
           at = e;
           answer = λ plain.
               let gives = registers plain ask hand (Answered response) is h in
@@ -249,23 +299,25 @@ module _ (id epoch index readers holders : ℕ) where
       place = p;
       hand = λ _. (is, h);
       seen = begins-itself history;
-      at = e;
+      whole = tt;
+      goes = one_goes Looks (Holding other ask hand None) (Holding other ask hand (Some (record { operation = operation; response = response; next = next }))) tt tt e e;
       call = inl refl;
-      plain = λ plain. plain;
+      alone = λ only. only;
+      plain = λ only plain. plain;
       comes = refl;
     }
 
-    look_turn : (word : Word) → FitsWord word readers holders → IsInPlace id epoch word log place → (phase : Phase) → one (is_reader index phase) ≤ readers → IsAbout index phase
-        → IsInHand id epoch index log phase → (t : Turn) → turns word Looks phase ≡ Some t → IsTurn Looks phase log t
-    look_turn word f p Idle n at mine t h = cc
-    look_turn word f p (Asked other ask) n at mine t h = cc
-    look_turn word f p (Reading other get) n at mine t h =
+    pub look_turn : (word : Word) → FitsWord word readers holders → IsInPlace id epoch word log place → (phase : Phase) → IsOfOne phase → one (is_reader index phase) ≤ readers → IsAbout index phase
+        → IsInHand id epoch index log phase → (t : Turn) → turns word Looks phase ≡ Some t → IsTurn Looks phase brought log t
+    look_turn word f p Idle one n at mine t h = cc
+    look_turn word f p (Asked other ask) one n at mine t h = cc
+    look_turn word f p (Reading other get) one n at mine t h =
         let reply : Result Response ℕ = Ok (GetDone (get_reply place get)) in
-        let turn : Turn = answers seen (vnode_in word) (Done other None) reply in
+        let turn : Turn = answers seen brought (vnode_in word) (Done other None) reply in
         let same : turn ≡ t = cc in
         let is : place ≡ state_of id epoch log = place_read word log place f (omega (arith, n, one_same other at)) p in
-        subst (λ u. IsTurn Looks (Reading other get) log u) same
-        (answered (Reading other get) (Done other None) word f p refl refl tt at refl reply (record { site = other; ask = AskGet get }) refl (record {
+        subst (λ u. IsTurn Looks (Reading other get) brought log u) same
+        (answered (Reading other get) (Done other None) word f p refl refl tt tt (one_goes Looks (Reading other get) (Done other None) tt tt at at) refl reply (record { site = other; ask = AskGet get }) refl (record {
           at = at;
           answer = λ plain.
               let gives = registers plain (AskGet get) place (Answered (GetDone (get_reply place get))) is refl in
@@ -274,30 +326,31 @@ module _ (id epoch index readers holders : ℕ) where
           event = inl refl;
           shows = λ plain. subst (λ s. AreHeld s get.key (get_reply place get).context) (is ∙ replayed id epoch log plain.commands) (outcome_shows place (AskGet get));
         }))
-    look_turn word f p (Holding other ask hand None) n at mine t h =
-        subst (λ u. IsTurn Looks (Holding other ask hand None) log u) (cc)
+    look_turn word f p (Holding other ask hand None) one n at mine t h =
+        subst (λ u. IsTurn Looks (Holding other ask hand None) brought log u) (cc)
         (look_held word f p other ask hand at (mine at).0 (outcome_of_ask hand ask) refl)
-    look_turn word f p (Holding other ask hand (Some plan)) n at mine t h = cc
-    look_turn word f p (Done other hand) n at mine t h = cc
+    look_turn word f p (Holding other ask hand (Some plan)) one n at mine t h = cc
+    look_turn word f p (Done other hand) one n at mine t h = cc
+    look_turn word f p (Copying own other key stage) one n at mine t h = absurd one
 
     -- while somebody holds the state, nothing is asked of what is in place
-    held_place : (word : Word) → FitsWord word readers holders → 1 ≤ holders → (later : Log) → IsInPlace id epoch word later place
+    pub held_place : (word : Word) → FitsWord word readers holders → 1 ≤ holders → (later : Log) → IsInPlace id epoch word later place
     held_place (Open n mark) f held later = absurd (omega (arith, held, f.1))
     held_place Taken f held later = tt
 
-    publish_turn : (word : Word) → FitsWord word readers holders → (phase : Phase) → one (is_holder index phase) ≤ holders → IsAbout index phase → IsInHand id epoch index log phase → (t : Turn)
-        → turns word Publishes phase ≡ Some t → IsTurn Publishes phase log t
-    publish_turn word f Idle held at mine t h = cc
-    publish_turn word f (Asked other ask) held at mine t h = cc
-    publish_turn word f (Reading other get) held at mine t h = cc
-    publish_turn word f (Holding other ask hand None) held at mine t h = cc
-    publish_turn word f (Holding other ask hand (Some plan)) held at mine t h =
-        let event : Event Content Context = next_event id epoch history ask plan.operation in
-        let turn : Turn = publishes_by seen (vnode_in word) other ask plan in
+    pub publish_turn : (word : Word) → FitsWord word readers holders → (phase : Phase) → IsOfOne phase → one (is_holder index phase) ≤ holders → IsAbout index phase → IsInHand id epoch index log phase → (t : Turn)
+        → turns word Publishes phase ≡ Some t → IsTurn Publishes phase brought log t
+    publish_turn word f Idle one held at mine t h = cc
+    publish_turn word f (Asked other ask) one held at mine t h = cc
+    publish_turn word f (Reading other get) one held at mine t h = cc
+    publish_turn word f (Holding other ask hand None) one held at mine t h = cc
+    publish_turn word f (Holding other ask hand (Some plan)) one held at mine t h =
+        let event : Event Content Context = event_at id epoch log ask plan.operation in
+        let turn : Turn = publishes_by seen brought (vnode_in word) other ask plan in
         let same_turn : turn ≡ t = cc in
         let came : StepOutcome = Accepted plan.operation plan.response plan.next in
         let next : IsPlain id epoch log → IsNext id epoch history ask plan.operation plan.response plan.next = λ plain. registers plain ask hand came (mine at).0 (mine at).1 in
-        subst (λ u. IsTurn Publishes (Holding other ask hand (Some plan)) log u) same_turn (record {
+        subst (λ u. IsTurn Publishes (Holding other ask hand (Some plan)) brought log u) same_turn (record {
           same_id = refl;
           same_epoch = refl;
           same = inr (same_test other index at);
@@ -307,15 +360,22 @@ module _ (id epoch index readers holders : ℕ) where
           hand = λ _. accepted_is hand ask plan.operation plan.response plan.next (mine at).1
               ∙ ap (λ s. apply_operation s (key_of ask) (context_in_ask ask) plan.operation) (mine at).0;
           seen = begins-itself (event ∷ history);
-          at = at;
+          whole = tt;
+          goes = one_goes Publishes (Holding other ask hand (Some plan)) (Done other (Some plan.next)) tt tt at at;
           call = inr (inl refl);
-          plain = λ plain. record { commands = ap (λ (l : Log). Command event ∷ l) plain.commands; replays = (next plain).leads.replays };
+          alone = alone-before event log;
+          plain = λ only plain. record {
+            commands = only;
+            replays = subst (λ (e : Event Content Context). HasReplay id epoch (e ∷ history)) (sym (same-event id epoch log plain.commands ask plan.operation)) (next plain).leads.replays;
+          };
           comes = (
             record { site = other; ask = ask },
             refl,
             record {
               at = at;
-              answer = λ plain. record { given = ToldAccepts event (next plain).told; may = (next plain).given; leads = refl; shown = (next plain).shown };
+              answer = λ plain.
+                  subst (λ (e : Event Content Context). IsAnswer id epoch history (record { ask = ask; reply = Ok plan.response }) (e ∷ history)) (sym (same-event id epoch log plain.commands ask plan.operation))
+                  (record { given = ToldAccepts (next_event id epoch history ask plan.operation) (next plain).told; may = (next plain).given; leads = refl; shown = (next plain).shown });
               seen = refl;
               event = inr (
                 event,
@@ -330,42 +390,5 @@ module _ (id epoch index readers holders : ℕ) where
             },
           );
         })
-    publish_turn word f (Done other hand) held at mine t h = cc
-
-  pub about_is : (action : Action) (phase : Phase) → site_of action phase ≡ Some index → IsAbout index phase
-  about_is action Idle h = tt
-  about_is action (Asked other ask) h = cc
-  about_is action (Reading other get) h = cc
-  about_is action (Holding other ask hand plan) h = cc
-  about_is action (Done other hand) h = cc
-
-  pub turn_is : (seen : History) (vnode : Vnode) (same_id : vnode.id ≡ id) (same_epoch : vnode.last_epoch ≡ epoch) → IsSoundAs id epoch readers holders vnode → Begins seen (history_of vnode)
-      → (action : Action) (phase : Phase) → one (is_reader index phase) ≤ readers → one (is_holder index phase) ≤ holders
-      → IsInHand id epoch index vnode.log phase → site_of action phase ≡ Some index → (t : Turn) → turn_of seen vnode action phase ≡ Some t → IsTurn action phase vnode.log t
-  turn_is seen vnode same_id same_epoch sound has action phase reading held mine a t h =
-      by action phase reading held mine a t
-      (subst (λ e. turn_of seen (record vnode { id = id; last_epoch = e }) action phase ≡ Some t) same_epoch
-      (subst (λ i. turn_of seen (record vnode { id = i }) action phase ≡ Some t) same_id h))
-    where
-      by : (action : Action) (phase : Phase) → one (is_reader index phase) ≤ readers → one (is_holder index phase) ≤ holders
-          → IsInHand id epoch index vnode.log phase → site_of action phase ≡ Some index → (t : Turn)
-          → turn_of seen (record vnode { id = id; last_epoch = epoch }) action phase ≡ Some t → IsTurn action phase vnode.log t
-      by (Asks other ask) Idle reading held mine a t h =
-          asks_turn sound.limits vnode.log seen vnode.place has vnode.word sound.word sound.place other ask (cc) t h
-      by Enters (Asked other (AskGet get)) reading held mine a t h =
-          enter_turn sound.limits vnode.log seen vnode.place has vnode.word sound.word sound.place other get (cc) t h
-      by Leaves phase reading held mine a t h =
-          leave_turn sound.limits vnode.log seen vnode.place has vnode.word sound.word sound.place phase (about_is Leaves phase a) t h
-      by Marks (Asked other ask) reading held mine a t h =
-          mark_turn sound.limits vnode.log seen vnode.place has vnode.word sound.word sound.place other ask (cc) t h
-      by Unmarks (Asked other ask) reading held mine a t h =
-          unmark_turn sound.limits vnode.log seen vnode.place has vnode.word sound.word sound.place other ask (cc) t h
-      by Takes (Asked other ask) reading held mine a t h =
-          take_turn sound.limits vnode.log seen vnode.place has vnode.word sound.word sound.place other ask (cc) t h
-      by Puts phase reading held mine a t h =
-          put_turn sound.limits vnode.log seen vnode.place has vnode.word sound.word phase (about_is Puts phase a) mine t h
-      by Looks phase reading held mine a t h =
-          look_turn sound.limits vnode.log seen vnode.place has vnode.word sound.word sound.place phase reading (about_is Looks phase a) mine t h
-      by Publishes phase reading held mine a t h =
-          publish_turn sound.limits vnode.log seen vnode.place has vnode.word sound.word phase held (about_is Publishes phase a) mine t h
-      by action phase reading held mine a t h = cc
+    publish_turn word f (Done other hand) one held at mine t h = cc
+    publish_turn word f (Copying own other key stage) one held at mine t h = absurd one

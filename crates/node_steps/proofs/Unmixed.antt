@@ -19,7 +19,11 @@ use Rattle.copy_laws.specs.Copies.{LogEntry, commands_of, all_commands, brought}
 use Rattle.copy_laws.specs.Sides.{Partition, Number, is_seen_by_primary, is_covered_by, is_seen_elsewhere, joint_siblings, is_defined_at}
 use Rattle.copy_laws.specs.CopyReplay.{name_at, named_at, seen_at}
 use Rattle.copy_laws.proofs.Fallback.{log-replay}
-use Rattle.node_steps.specs.Courses.{partition_of}
+use Rattle.sibling_register.specs.Answers.{Ask}
+use Rattle.vnode_machine.specs.Registers.{key_of, context_in_ask, next_event}
+use Rattle.node_steps.specs.Partitions.{partition_behind}
+use Rattle.node_steps.specs.World.{CommandsAlone}
+use Rattle.node_steps.specs.Steps.{event_at}
 
 abbrev Log : Type 0
 Log = List (LogEntry Content)
@@ -41,9 +45,9 @@ all_left : {X Y : Type 0} (f : X → Y) (p : Y → Bool) (xs : List X) → ((x :
 all_left f p [] h = refl
 all_left f p (x ∷ xs) h = ap (λ b. length (cond b (f x ∷ filter p (map f xs)) (filter p (map f xs)))) (h x) ∙ ap suc (all_left f p xs h)
 
-module _ (run index : ℕ) where
+module _ (id epoch : ℕ) where
   abbrev partition : Partition
-  partition = partition_of run index
+  partition = partition_behind id epoch
 
   abbrev no_fallback : ℕ → History
   no_fallback n = []
@@ -52,7 +56,7 @@ module _ (run index : ℕ) where
   own n = record { side = 0; number = n }
 
   unseen : (history : History) (key : Key) (n : ℕ) → not (is_seen_elsewhere partition (all_commands history) no_fallback key (own n)) ≡ true
-  unseen history key n = by (dot_of partition.primary 0 (commands_of (all_commands history)) key n)
+  unseen history key n = by (dot_of partition.primary epoch (commands_of (all_commands history)) key n)
     where
       by : (o : Option Dot) → not (option_map_or
           (λ dot. (not (0 == 0) && is_seen_by_primary (all_commands history) key (own n) dot)
@@ -71,8 +75,8 @@ module _ (run index : ℕ) where
       (λ i. not (length (joint_siblings partition (all_commands history) (λ n. brought-none history key n i) key) == 0))
       ∙ ap (λ n. not (n == 0)) (joint-length history key)
 
-  pub name-same : (history : History) (key : Key) → name_at partition (all_commands history) key ≡ (naming {V = Content} partition.primary 0).name history key
-  name-same history key = ap (λ s. Pairs (join (clock_of s key))) (log-replay partition.primary 0 history)
+  pub name-same : (history : History) (key : Key) → name_at partition (all_commands history) key ≡ (naming {V = Content} partition.primary epoch).name history key
+  name-same history key = ap (λ s. Pairs (join (clock_of s key))) (log-replay partition.primary epoch history)
 
   chosen : (b : Bool) (event : Event Content Context) (before : History) (o : Option History)
       → cond b (Some (all_commands (event ∷ before))) (option_map all_commands o) ≡ option_map all_commands (cond b (Some (event ∷ before)) o)
@@ -80,7 +84,7 @@ module _ (run index : ℕ) where
   chosen false event before o = refl
 
   named-same : (history : History) (key : Key) (context : Context)
-      → named_at partition (all_commands history) key context ≡ option_map all_commands (named (naming partition.primary 0) history key context)
+      → named_at partition (all_commands history) key context ≡ option_map all_commands (named (naming partition.primary epoch) history key context)
   named-same [] key context = refl
   named-same (event ∷ before) key context =
       let history : History = event ∷ before in
@@ -88,12 +92,12 @@ module _ (run index : ℕ) where
       let name = name-same history key in
       let rest = named-same before key context in
       (λ i. cond (defined i && same_context context (name i)) (Some (all_commands history)) (rest i))
-      ∙ chosen (is_defined history key && same_context context ((naming {V = Content} partition.primary 0).name history key)) event before
-      (named (naming partition.primary 0) before key context)
+      ∙ chosen (is_defined history key && same_context context ((naming {V = Content} partition.primary epoch).name history key)) event before
+      (named (naming partition.primary epoch) before key context)
 
   -- what a command saw
   pub seen-same : (history : History) (key : Key) (given : Option Context) (operation : Operation Content)
-      → seen_at partition (all_commands history) key given operation ≡ seen_by partition.primary 0 history key given operation
+      → seen_at partition (all_commands history) key given operation ≡ seen_by partition.primary epoch history key given operation
   seen-same history key None (Write content) = refl
   seen-same history key None Tombstone = ap (λ h. numbers_to (count_of h key)) (commands-all history)
   seen-same history key None Reap = ap (λ h. numbers_to (count_of h key)) (commands-all history)
@@ -101,12 +105,20 @@ module _ (run index : ℕ) where
       let named_one = named-same history key context in
       let all = commands-all history in
       (λ i. option_map_or (λ (position : Log). numbers_to (count_of (commands_of position) key)) (named_one i)
-      (filter (λ number. option_map_or (covers (pairs_of (Some context))) (dot_of partition.primary 0 (all i) key number) false) (numbers_to (count_of (all i) key))))
-      ∙ by (named (naming partition.primary 0) history key context)
-      (filter (λ number. option_map_or (covers (pairs_of (Some context))) (dot_of partition.primary 0 history key number) false) (numbers_to (count_of history key)))
+      (filter (λ number. option_map_or (covers (pairs_of (Some context))) (dot_of partition.primary epoch (all i) key number) false) (numbers_to (count_of (all i) key))))
+      ∙ by (named (naming partition.primary epoch) history key context)
+      (filter (λ number. option_map_or (covers (pairs_of (Some context))) (dot_of partition.primary epoch history key number) false) (numbers_to (count_of history key)))
     where
       by : (o : Option History) (numbers : List ℕ)
           → option_map_or (λ (position : Log). numbers_to (count_of (commands_of position) key)) (option_map all_commands o) numbers
           ≡ option_map_or (λ position. numbers_to (count_of position key)) o numbers
       by None numbers = refl
       by (Some position) numbers = ap (λ h. numbers_to (count_of h key)) (commands-all position)
+
+  -- an event at its end is the history's next one
+  pub same-event : (log : Log) → CommandsAlone log → (ask : Ask Content Context) (operation : Operation Content)
+      → event_at id epoch log ask operation ≡ next_event id epoch (commands_of log) ask operation
+  same-event log only ask operation =
+      let saw = ap (λ (l : Log). seen_at partition l (key_of ask) (context_in_ask ask) operation) only
+      ∙ seen-same (commands_of log) (key_of ask) (context_in_ask ask) operation in
+      λ i. record { key = key_of ask; operation = operation; context = context_in_ask ask; saw = saw i }

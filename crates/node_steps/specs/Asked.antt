@@ -1,5 +1,6 @@
 -- The steps of the theorem's world that running steps are.
 use Rattle.std.specs.Prelude.{◌≡◌, ℕ, Option, Some, None, option_map}
+use Rattle.riak_msgs.specs.declared.Key.{Key}
 use Rattle.riak_msgs.specs.Contents.{Content}
 use Rattle.riak_msgs.specs.declared.Request.{Request}
 use Rattle.riak_msgs.specs.declared.Request.TheVariants as requests
@@ -11,7 +12,7 @@ use Rattle.node_steps.specs.declared.step.Step.{Step as RunStep}
 use Rattle.node_steps.specs.declared.step.Step.TheVariants as steps
 use Rattle.node_steps.specs.declared.step.Act.{Act}
 use Rattle.node_steps.specs.declared.step.Act.TheVariants as acts
-use Rattle.node_steps.specs.Steps.{Action, Asks, AsksNowhere, Enters, Leaves, Marks, Unmarks, Takes, Puts, Looks, Publishes, Step, By, Diverts}
+use Rattle.node_steps.specs.Steps.{Action, Asks, AsksNowhere, Copies, Enters, Leaves, Marks, Unmarks, Takes, Puts, Looks, Publishes, Step, By, Diverts}
 use Rattle.node_steps.specs.Running.{ask_of}
 
 -- the ask that a request makes of a vnode; a ping makes none
@@ -43,6 +44,9 @@ action_of acts.Publish = Publishes
 abbrev pub step_by : ℕ → Act → Step
 step_by worker act = By worker (action_of act)
 
+abbrev pub copying_step : ℕ → ℕ → Key → Step
+copying_step worker index key = By worker (Copies index key)
+
 abbrev pub asking_step : ℕ → ℕ → Ask Content Context → Step
 asking_step worker index ask = By worker (Asks index ask)
 
@@ -59,3 +63,4 @@ step_of (steps.Put worker) = By worker Puts
 step_of (steps.Look worker) = By worker Looks
 step_of (steps.Publish worker) = By worker Publishes
 step_of (steps.Divert index) = Diverts index
+step_of (steps.Copy worker index key) = By worker (Copies index key)

@@ -9,7 +9,7 @@ use Rattle.sibling_register.specs.Legal.{IsLegal}
 use Rattle.sibling_register.specs.Leaving.{is_seen_in}
 use Rattle.actor_epoch.specs.declared.Dot.{Dot}
 use Rattle.actor_epoch.specs.Given.{Context}
-use Rattle.vnode_machine.specs.Machine.{State}
+use Rattle.vnode_machine.specs.Machine.{State, opening, clock_of}
 use Rattle.vnode_machine.specs.Lives.{dot_of, is_alive}
 use Rattle.vnode_machine.specs.Replay.{History, naming, HasReplay, IsAfter}
 use Rattle.vnode_machine.specs.Step.{Response, StepOutcome, Refused, Answered, Accepted, outcome as outcome_of_ask}
@@ -17,8 +17,11 @@ use Rattle.vnode_machine.specs.Contexts.{SawPosition}
 use Rattle.vnode_machine.specs.Runs.{IsAnswer}
 use Rattle.vnode_machine.specs.Laws.{NoDotTwice, DotsAreOfLives}
 use Rattle.vnode_machine.specs.Leaving.{is_taken_in}
-use Rattle.node_steps.specs.World.{Phase, Reading, Holding, Vnode, Worker, World, Call, history_of, worker_at, id_at, last_epoch_at, history_at, front_at, call_at}
-use Rattle.node_steps.specs.Steps.{Looks, Step, By, number_of, Outcome, Happened, Replied, happens, after, outcome}
+use Rattle.copy_laws.specs.Copies.{Copied, Copy, commands_of}
+use Rattle.copy_laws.specs.CopyReplay.{state_with}
+use Rattle.copy_laws.specs.Joining.{Log}
+use Rattle.node_steps.specs.World.{CopyInside, CopyTaken, Phase, Reading, Holding, Copying, Vnode, Worker, World, CommandsAlone, Call, worker_at, route, id_at, last_epoch_at, log_at, history_at, front_at, call_at}
+use Rattle.node_steps.specs.Steps.{Looks, Step, By, number_of, Outcome, Happened, Replied, CopiedBack, happens, after, outcome}
 use Rattle.node_steps.specs.Schedules.{Start, IsStart, world_after, Begins}
 use Rattle.node_steps.specs.Contexts.{GivesShown}
 
@@ -39,14 +42,25 @@ HistoriesAreLegal w =
 abbrev pub state_shown : Phase → Vnode → Option (ℕ × State Content)
 state_shown (Reading site get) vnode = Some (site, vnode.place)
 state_shown (Holding site ask hand None) vnode = Some (site, hand)
+state_shown (Copying own site key CopyInside) vnode = Some (site, vnode.place)
+state_shown (Copying own site key (CopyTaken clock hand None)) vnode = Some (own, hand)
 state_shown phase vnode = None
 
--- the state that a look would show to any worker is the replay of the vnode's whole history
+-- a state is the one after a log, so the replay of its history where nothing was copied
+abbrev pub IsReplayOf : (id last_epoch : ℕ) → Log → State Content → Type 0
+IsReplayOf id last_epoch log state =
+    (state ≡ state_with (opening id last_epoch) log) × (CommandsAlone log → IsAfter id last_epoch (commands_of log) state)
+
+-- the state that a look would show to any worker is the one after the vnode's whole log
 abbrev pub LooksShowReplays : World → Type 0
 LooksShowReplays w =
     (number site : ℕ) (worker : Worker) (vnode : Vnode) (state : State Content)
     → worker_at w number ≡ Some worker → slice_get w.vnodes site ≡ Some vnode
-    → state_shown worker.phase vnode ≡ Some (site, state) → IsAfter vnode.id vnode.last_epoch (history_of vnode) state
+    → state_shown worker.phase vnode ≡ Some (site, state) → IsReplayOf vnode.id vnode.last_epoch vnode.log state
+
+-- where a worker has a call nothing was copied
+abbrev pub CallsMeetNoCopies : World → Type 0
+CallsMeetNoCopies w = (number : ℕ) (call : Call) → call_at w number ≡ Some call → CommandsAlone (log_at w call.site)
 
 -- what comes of a look, by what the machine does with the call in the state that is shown
 abbrev pub comes_of : StepOutcome → Outcome
@@ -63,9 +77,10 @@ pub record SeesReplay (w : World) (step : Step) (came : Outcome) : Type 0 where
   pub replay : IsAfter (id_at w call.site) (last_epoch_at w call.site) (history_at w call.site) state
   pub comes : came ≡ comes_of (outcome_of_ask state call.ask)
 
--- each look that is possible does
+-- each look for a call that is possible does
 abbrev pub LooksSeeReplays : World → Step → Type 0
-LooksSeeReplays w step = (number : ℕ) → step ≡ By number Looks → (came : World × Outcome) → happens w step ≡ Some came → SeesReplay w step came.1
+LooksSeeReplays w step =
+    (number : ℕ) → step ≡ By number Looks → call_at w number ≢ None → (came : World × Outcome) → happens w step ≡ Some came → SeesReplay w step came.1
 
 -- a reply answers the worker's call as the register may at the end of the history there, which then is the one after
 pub record IsRegisters (w : World) (step : Step) (reply : Result Response ℕ) : Type 0 where
@@ -86,9 +101,23 @@ pub record RepliesAt (w : World) (step : Step) (site : ℕ) : Type 0 where
   pub reply : Result Response ℕ
   pub replied : outcome w step ≡ Replied reply
 
--- no step changes a history but one that answers a call there
+-- what comes of a step copies a key to this site from the one that the partition's calls go to: its log has the copy more, with the
+-- clock that the key has there, and the history
+pub record CopiesIn (w : World) (came : World × Outcome) (site : ℕ) : Type 0 where
+  pub copied : came.1 ≡ CopiedBack
+  pub copy : Copy Content
+  pub log_is : log_at came.0 site ≡ Copied copy ∷ log_at w site
+  pub from : ℕ
+  pub from_is : route w site ≡ Some from
+  pub clock : copy.clock ≡ clock_of (state_with (opening (id_at w from) (last_epoch_at w from)) (log_at w from)) copy.key
+  pub prefix : copy.prefix ≡ history_at w from
+
+abbrev pub CopiesTo : World → Step → (site : ℕ) → Type 0
+CopiesTo w step site = CopiesIn w (after w step, outcome w step) site
+
+-- no step changes a log but one that answers a call there, or copies to there
 abbrev pub NothingElseHappens : World → Step → Type 0
-NothingElseHappens w step = (site : ℕ) → (history_at (after w step) site ≡ history_at w site) ⊎ RepliesAt w step site
+NothingElseHappens w step = (site : ℕ) → (log_at (after w step) site ≡ log_at w site) ⊎ (RepliesAt w step site ⊎ CopiesTo w step site)
 
 -- a reply's position isn't before the front that its worker had seen there; afterwards the worker has seen the whole history,
 -- its own event included

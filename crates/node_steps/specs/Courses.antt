@@ -1,24 +1,18 @@
 -- Each run of a partition as a course of the law of copies: what happened to its primary and its fallback, one thing after another.
-use Rattle.std.specs.Prelude.{◌≡◌, ◌≢◌, ◌⊎◌, ◌<◌, ◌+◌, List, [], ◌∷◌, ℕ, Some, None}
+use Rattle.std.specs.Prelude.{◌≡◌, ◌≢◌, ◌⊎◌, ◌<◌, List, [], ◌∷◌, ℕ, Some, None}
 use Rattle.riak_msgs.specs.declared.Key.{Key}
 use Rattle.actor_epoch.specs.Given.{Context}
-use Rattle.copy_laws.specs.Copies.{all_commands}
 use Rattle.copy_laws.specs.Sides.{Partition}
 use Rattle.copy_laws.specs.Diversions.{Course, Happens, diversions_of, fallback_of, primary_of}
-use Rattle.node_steps.specs.World.{World, id_of, route, log_at, history_at}
-use Rattle.node_steps.specs.Steps.{Step, fallback_ids, happens}
+use Rattle.node_steps.specs.Partitions.{partition_behind}
+use Rattle.node_steps.specs.World.{World, CommandsAlone, id_of, route, log_at, history_at}
+use Rattle.node_steps.specs.Steps.{Step, happens}
 use Rattle.node_steps.specs.Schedules.{Start, IsStart, world_after}
 use Rattle.node_steps.specs.Contexts.{given_by, Shows}
 
 -- the vnodes of a partition in a run; it is diverted once at most
 abbrev pub partition_of : (run index : ℕ) → Partition
-partition_of run index = record {
-  primary = id_of run index;
-  last_epoch = 0;
-  fallback = id_of run index + fallback_ids;
-  opened = λ n. 0;
-  diversions = 1;
-}
+partition_of run index = partition_behind (id_of run index) 0
 
 -- a site of a partition: its own, or the one that its calls go to
 abbrev pub IsSiteOf : World → (index site : ℕ) → Type 0
@@ -41,14 +35,14 @@ module _ (start : Start) (index : ℕ) where
       × (happens w step ≢ None → (site : ℕ) → IsSiteOf w index site → (key : Key) (context : Context)
       → given_by w step site key ≡ Some context → WasShownThere earlier key context)
 
--- a course whose primary has the log at the partition's own site, of commands alone as no step copies, and whose fallback, once it is
--- diverted, has the history at the other
+-- a course whose primary has the log at the partition's own site, of commands alone where it isn't diverted, and whose fallback, once it
+-- is, has the history at the other, whose log is of commands alone
 pub record IsCourseOf (partition : Partition) (w : World) (index : ℕ) (course : Course) : Type 0 where
   pub may_happen : Happens partition course
   pub primary : primary_of partition course ≡ log_at w index
-  pub commands : log_at w index ≡ all_commands (history_at w index)
-  pub own : route w index ≡ Some index → diversions_of course ≡ 0
-  pub fallback : (site : ℕ) → route w index ≡ Some site → site ≢ index → (diversions_of course ≡ 1) × (fallback_of course 1 ≡ history_at w site)
+  pub own : route w index ≡ Some index → (diversions_of course ≡ 0) × CommandsAlone (log_at w index)
+  pub fallback : (site : ℕ) → route w index ≡ Some site → site ≢ index
+      → (diversions_of course ≡ 1) × (fallback_of course 1 ≡ history_at w site) × CommandsAlone (log_at w site)
 
 -- so is each run of a partition, where the contexts had been shown
 abbrev pub RunsAreCourses : Type 0

@@ -3,7 +3,7 @@
 use Rattle.std.specs.Prelude.{◌≡◌, [], map}
 use Rattle.riak_msgs.specs.Contents.{Content}
 use Rattle.vnode_machine.specs.Machine.{State, opening}
-use Rattle.node_steps.specs.World.{Word, Open, Taken, Phase, Idle, Asked, Reading, Holding, Done, Vnode, Worker, World}
+use Rattle.node_steps.specs.World.{Word, Open, Taken, CopyAsked, CopyInside, CopyLooked, CopyTaken, CopyDone, Phase, Idle, Asked, Reading, Holding, Done, Copying, Vnode, Worker, World}
 use Rattle.node_steps.specs.Steps.{Step, after, outcome}
 
 -- no state
@@ -32,6 +32,11 @@ IsShown Taken Idle = Unit {0}
 IsShown Taken (Asked index ask) = Unit {0}
 IsShown Taken (Holding index ask hand plan) = Unit {0}
 IsShown Taken (Done index hand) = Unit {0}
+IsShown Taken (Copying own site key CopyAsked) = Unit {0}
+IsShown Taken (Copying own site key CopyInside) = ⊥
+IsShown Taken (Copying own site key (CopyLooked clock)) = Unit {0}
+IsShown Taken (Copying own site key (CopyTaken clock hand plan)) = Unit {0}
+IsShown Taken (Copying own site key (CopyDone hand)) = Unit {0}
 
 -- the same comes of a step without it, and the same is left without it
 pub record NeedsNoHistory (w : World) (step : Step) : Type 0 where

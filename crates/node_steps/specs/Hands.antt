@@ -1,4 +1,4 @@
--- What contracts see of a vnode in a hand: its state, and the plan that was made from it.
+-- What contracts see of a vnode in a hand: its state, the plan that was made from it, and what it prepared last.
 use Rattle.std.specs.Prelude.{◌≡◌, Option, Some, None, IsSome, IfSome, MatchOption, option_map, option_and_then}
 use Rattle.riak_msgs.specs.Contents.{Content}
 use Rattle.riak_msgs.specs.declared.GetAsk.{GetAsk}
@@ -7,6 +7,7 @@ use Rattle.actor_epoch.specs.Given.{Context}
 use Rattle.vnode_machine.specs.Asks.{get_command, put_command, del_command}
 use Rattle.vnode_machine.specs.Machine.{State}
 use Rattle.vnode_machine.specs.Replies.{get_reply}
+use Rattle.vnode_machine.specs.Sound.{IsSound}
 use Rattle.vnode_machine.specs.Step.{Response, GetDone, PutDone, DelDone, ReapDone, ReapKept, StepOutcome, Refused, Answered, Accepted, outcome}
 use Rattle.clock_store.specs.declared.store.Reaped.TheVariants.{Gone, Kept, Absent}
 use Rattle.vnode_protocol.specs.declared.ask.Ask.{Ask}
@@ -22,6 +23,7 @@ use Rattle.node_steps.specs.Returned.{returned_response, returned_refusal}
 pub record HandView : Type 0 where
   pub state : State Content
   pub plan : Option Plan
+  pub prepared : Option Ask
 
 -- the plan that is made where the machine accepts
 abbrev pub plan_by : StepOutcome → Option Plan
@@ -29,8 +31,8 @@ plan_by (Refused number) = None
 plan_by (Answered response) = None
 plan_by (Accepted operation response next) = Some (record { operation = operation; response = response; next = next })
 
--- the command of the register that a worker's call makes of a vnode. No call makes one of the others: the world has neither copies
--- nor closes, and reaps the key that it names
+-- the command of the register that a worker's call makes of a vnode. No call makes one of the others: copies are no calls, the world has
+-- no closes, and reaps the key that it names
 abbrev pub command_of : Ask → Option (Command Content Context)
 command_of (Put put) = Some (AskPut (put_command put))
 command_of (Del del) = Some (AskDel (del_command del))
@@ -59,12 +61,13 @@ abbrev pub plan_of : State Content → Option Ask → Option Plan
 plan_of state change = option_and_then (λ ask. option_and_then (λ command. plan_by (outcome state command)) (command_of ask)) change
 
 abbrev pub hand_of : Inside → HandView
-hand_of h = record { state = h.vnode.state; plan = plan_of h.vnode.state h.change }
+hand_of h = record { state = h.vnode.state; plan = plan_of h.vnode.state h.change; prepared = h.vnode.prepared }
 
--- the vnode has this id, and isn't closed; the change is what it prepared last, and the machine accepts it
+-- the vnode has this id, and isn't closed, and its clocks have their form; the change is what it prepared last, and the machine accepts it
 pub record IsHand (h : Inside) : Type 0 where
   pub named : h.vnode.state.vnode ≡ h.id
   pub opened : h.vnode.state.closed ≡ None
+  pub sound : IsSound h.vnode.state
   pub planned : IfSome h.change (λ change. IsSome (command_of change) × IsPrepared h.vnode change change)
 
 -- a get is answered by the machine

@@ -1,12 +1,16 @@
 pub mod World
+pub mod Partitions
 pub mod Steps
 pub mod Schedules
 pub mod Contexts
 pub mod Courses
+pub mod HandOffs
 pub mod Claims
 pub mod Erased
 pub mod Returned
 pub mod Hands
+pub mod CopyHands
+pub mod CopyLooks
 pub mod Running
 pub mod Asked
 pub mod Parts

@@ -1,6 +1,7 @@
 -- Where a step finds its worker and its vnode among the running parts, and what it leaves of them; which partition may be diverted.
 use Rattle.std.specs.Prelude.{◌≡◌, ◌+◌, ◌<◌, ◌^◌, ℕ, suc, not, true, List, length, Option, Some, None, slice_get, slice_set}
 use Rattle.std.specs.List.{list_all}
+use Rattle.riak_msgs.specs.declared.Key.{Key}
 use Rattle.riak_msgs.specs.Contents.{Content}
 use Rattle.sibling_register.specs.Answers.{Ask}
 use Rattle.actor_epoch.specs.Given.{Context}
@@ -12,10 +13,10 @@ use Rattle.node_steps.specs.declared.parts.Parts.{Parts}
 use Rattle.node_steps.specs.declared.step.Act.{Act}
 use Rattle.node_steps.specs.World.{Word, Open, Taken, Phase, Vnode, World, route}
 use Rattle.node_steps.specs.Erased.{IsShown, erase}
-use Rattle.node_steps.specs.Steps.{Asks, Enters, Step, site_of, is_about, fallback_ids, routed, diverted_by, diverted, happens, after, outcome}
+use Rattle.node_steps.specs.Steps.{Asks, Copies, CopiesFrom, Enters, Step, site_of, is_about, fallback_ids, routed, diverted_by, diverted, happens, after, outcome}
 use Rattle.node_steps.specs.Returned.{returned}
 use Rattle.node_steps.specs.Running.{HasRoom, phase_of, vnode_of, world_of, Turns}
-use Rattle.node_steps.specs.Asked.{action_of, asking_step, step_by}
+use Rattle.node_steps.specs.Asked.{action_of, asking_step, copying_step, step_by}
 
 -- there is room for one reader more, and a reader has a state to look at
 pub record IsFit (word : Word) (phase : Phase) : Type 0 where
@@ -59,13 +60,14 @@ abbrev pub Finds : Parts → ℕ → Option (ℕ × ℕ) → Type 0
 Finds parts worker (Some at) = IsAt parts worker at.0 at.1
 Finds parts worker None = (act : Act) → happens (world_in parts) (step_by worker act) ≡ None
 
--- a worker that has a call
+-- a worker that has a call, or copies
 abbrev pub IsBusy : RunPhase → Type 0
 IsBusy phases.Idle = ⊥
 IsBusy (phases.Asked index call) = Unit {0}
 IsBusy (phases.Reading index get) = Unit {0}
 IsBusy (phases.Holding index call hand) = Unit {0}
 IsBusy (phases.Done index hand) = Unit {0}
+IsBusy (phases.Copying own site key stage) = Unit {0}
 
 -- the place of a worker that has no call; none where there is no such worker, or it has one
 abbrev pub FindsIdle : List RunPhase → ℕ → Option ℕ → Type 0
@@ -76,6 +78,11 @@ FindsIdle workers worker None = (place : ℕ) (phase : RunPhase) → worker ≡ 
 abbrev pub SendsTo : Parts → (index : ℕ) → Ask Content Context → Option ℕ → Type 0
 SendsTo parts index ask (Some site) = (routed (route (world_in parts)) (Asks index ask) ≡ Asks site ask) × (site < length parts.sites.items)
 SendsTo parts index ask None = (worker : ℕ) → happens (world_in parts) (asking_step worker index ask) ≡ None
+
+-- the site that a copier of a partition copies from; none where no worker can copy
+abbrev pub CopiesWhence : Parts → (index : ℕ) → Key → Option ℕ → Type 0
+CopiesWhence parts index key (Some site) = (routed (route (world_in parts)) (Copies index key) ≡ CopiesFrom index site key) × (site < length parts.sites.items)
+CopiesWhence parts index key None = (worker : ℕ) → happens (world_in parts) (copying_step worker index key) ≡ None
 
 -- a partition is diverted to a fallback of this id
 pub record DivertsTo (w : World) (index id : ℕ) : Type 0 where

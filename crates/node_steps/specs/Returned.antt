@@ -5,7 +5,7 @@ use Rattle.sibling_register.specs.Refusals.{refusal_text}
 use Rattle.vnode_machine.specs.Step.{Response, GetDone, PutDone, DelDone, ReapDone, ReapKept}
 use Rattle.node_steps.specs.declared.outcome.Outcome.{Outcome as Returned}
 use Rattle.node_steps.specs.declared.outcome.Outcome.TheVariants as outcomes
-use Rattle.node_steps.specs.Steps.{Outcome, NotPossible, Happened, Replied}
+use Rattle.node_steps.specs.Steps.{Outcome, NotPossible, Happened, Replied, NotHeld, StuckThere, CopiedBack}
 
 abbrev pub returned_response : Response → Returned
 returned_response (GetDone reply) = outcomes.Reply (replies.Get reply)
@@ -26,3 +26,6 @@ abbrev pub returned : Outcome → Returned
 returned NotPossible = outcomes.No
 returned Happened = outcomes.Done
 returned (Replied reply) = returned_reply reply
+returned NotHeld = outcomes.Kept
+returned StuckThere = outcomes.Stuck
+returned CopiedBack = outcomes.Copied

@@ -12,8 +12,10 @@ use Rattle.node_steps.specs.declared.outcome.Outcome.{Outcome as Returned}
 use Rattle.node_steps.specs.declared.outcome.Outcome.TheVariants as outcomes
 use Rattle.node_steps.specs.declared.phase.Phase.{Phase as RunPhase}
 use Rattle.node_steps.specs.declared.phase.Phase.TheVariants as phases
+use Rattle.node_steps.specs.declared.stage.Stage.{Stage as RunStage}
+use Rattle.node_steps.specs.declared.stage.Stage.TheVariants as stages
 use Rattle.node_steps.specs.declared.site.Site.{Site}
-use Rattle.node_steps.specs.World.{Word, Open, Taken, Phase, Idle, Asked, Reading, Holding, Done, Vnode, Worker, World}
+use Rattle.node_steps.specs.World.{Word, Open, Taken, CopyStage, CopyAsked, CopyInside, CopyLooked, CopyTaken, CopyDone, Phase, Idle, Asked, Reading, Holding, Done, Copying, Vnode, Worker, World}
 use Rattle.node_steps.specs.Steps.{Action, turn_of}
 use Rattle.node_steps.specs.Erased.{blank, erase_vnode}
 use Rattle.node_steps.specs.Hands.{HandView}
@@ -33,12 +35,21 @@ IsChangeOf (calls.Put put) change = change ≡ Some (changes.Put put.value)
 IsChangeOf (calls.Del del) change = change ≡ Some (changes.Del del.value)
 IsChangeOf (calls.Reap key) change = change ≡ Some (changes.Reap key.value)
 
+abbrev pub stage_of : RunStage → CopyStage
+stage_of stages.Asked = CopyAsked
+stage_of stages.Inside = CopyInside
+stage_of (stages.Looked clock) = CopyLooked clock.value
+stage_of (stages.Taken clock hand) = CopyTaken clock.value hand.value.state None
+stage_of (stages.Planned copy) = CopyTaken copy.clock copy.state (Some copy.next)
+stage_of (stages.Done hand) = CopyDone (option_map (λ h. h.value.state) hand)
+
 abbrev pub phase_of : RunPhase → Phase
 phase_of phases.Idle = Idle
 phase_of (phases.Asked index call) = Asked index (ask_of call)
 phase_of (phases.Reading index get) = Reading index (get_command get.value)
 phase_of (phases.Holding index call hand) = Holding index (ask_of call) hand.value.state hand.value.plan
 phase_of (phases.Done index hand) = Done index (option_map (λ h. h.value.state) hand)
+phase_of (phases.Copying own site key stage) = Copying own site key.value (stage_of stage)
 
 -- a vnode by its word and its state, where that is in place
 abbrev pub vnode_by : (readers : ℕ) (marked : Bool) → Option HandView → Vnode
@@ -58,7 +69,7 @@ world_of sites routes workers = record { vnodes = map vnode_of sites; routes = r
 -- the vnode and the worker after an action, and what it returns: by its turn, or where it isn't possible as they were
 abbrev pub Turns : Action → (old : Vnode) (phase : Phase) (new : Vnode) (next : Phase) → Returned → Type 0
 Turns action old phase new next outcome =
-    MatchOption (turn_of [] old action phase)
+    MatchOption (turn_of [] [] old action phase)
     ((new ≡ old) × (next ≡ phase) × (outcome ≡ outcomes.No))
     (λ turn. (new ≡ erase_vnode turn.vnode) × (next ≡ turn.phase) × (outcome ≡ returned turn.outcome))
 

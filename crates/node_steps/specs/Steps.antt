@@ -13,26 +13,43 @@
 --   look W              Looks       turn_of Looks (Reading, and Holding without a plan), answers, looks_by
 --   publish W           Publishes   turn_of Publishes (Holding with a plan), publishes_by
 --   divert P            Diverts     diverted, diverted_by
-use Rattle.std.specs.Prelude.{Bool, true, false, not, if◌then◌else◌, ◌==◌, ◌&&◌, ◌+◌, ◌-◌, ◌++◌, List, [], ◌∷◌, ℕ, length, zero, suc, pred, Option, Some, None, Result, Ok, Err, option_map, option_and_then, slice_get, slice_set}
+--   copy W H            Copies      turn_of CopiesFrom Idle; routed
+--     its enter         Enters      turn_of Enters CopyAsked, entered
+--     its look          Looks       turn_of Looks CopyInside, finds_by; then turn_of Looks CopyTaken, syncs_by
+--     its take          Takes       turn_of Takes CopyLooked, taken
+--     its publish       Publishes   turn_of Publishes CopyTaken with a plan, copies_by
+--     its put, leave    Puts, ..    turn_of Puts, turn_of Leaves CopyDone, with the primary's state in hand and without
+use Rattle.std.specs.Prelude.{Bool, true, false, not, if◌then◌else◌, ◌==◌, ◌&&◌, ◌||◌, ◌+◌, ◌-◌, ◌++◌, List, [], ◌∷◌, ℕ, length, zero, suc, pred, Option, Some, None, Result, Ok, Err, option_map, option_and_then, slice_get, slice_set}
 use Rattle.std.specs.Option.{option_map_or}
 use Rattle.std.specs.List.{list_all}
+use Rattle.riak_msgs.specs.declared.Key.{Key}
 use Rattle.riak_msgs.specs.Contents.{Content}
 use Rattle.sibling_register.specs.History.{Event}
 use Rattle.sibling_register.specs.Answers.{Ask, AskGet, AskReap}
 use Rattle.actor_epoch.specs.Given.{Context}
-use Rattle.vnode_machine.specs.Machine.{State}
+use Rattle.dvv_set.specs.Clocks.{DotState}
+use Rattle.vnode_machine.specs.Copying.{is_stuck, apply_copy}
+use Rattle.vnode_machine.specs.Machine.{State, clock_of, is_held}
 use Rattle.vnode_machine.specs.Replay.{History}
 use Rattle.vnode_machine.specs.Replies.{get_reply}
 use Rattle.vnode_machine.specs.Step.{Response, GetDone, StepOutcome, Refused, Answered, Accepted, outcome as outcome_of_ask}
-use Rattle.vnode_machine.specs.Registers.{next_event}
-use Rattle.copy_laws.specs.Copies.{Command}
-use Rattle.node_steps.specs.World.{Word, Open, Taken, Plan, Phase, Idle, Asked, Reading, Holding, Done, Vnode, Worker, World, fresh_vnode, history_of, seen_at, worker_at, route}
+use Rattle.vnode_machine.specs.Registers.{key_of, context_in_ask}
+use Rattle.sibling_register.specs.History.{Operation}
+use Rattle.copy_laws.specs.Copies.{Copy, Command, Copied}
+use Rattle.copy_laws.specs.CopyReplay.{seen_at as saw_at}
+use Rattle.copy_laws.specs.Joining.{Log}
+pub use Rattle.node_steps.specs.Partitions.{fallback_ids}
+use Rattle.node_steps.specs.Partitions.{partition_behind}
+use Rattle.node_steps.specs.World.{Word, Open, Taken, Plan, CopyStage, CopyAsked, CopyInside, CopyLooked, CopyTaken, CopyDone, Phase, Idle, Asked, Reading, Holding, Done, Copying, Vnode, Worker, World, fresh_vnode, history_of, seen_at, brought_by, worker_at, route}
 
 -- what a worker does
 pub data Action : Type 0 where
   -- it gets a call for the partition at this index; an ask that no vnode answers, as of a ping, is never possible
   Asks : (index : ℕ) (ask : Ask Content Context) → Action
   AsksNowhere : Action
+  -- it is to copy a key of the partition at this index back; and so as it is sent, with the sites that it copies to and from
+  Copies : (index : ℕ) (key : Key) → Action
+  CopiesFrom : (own site : ℕ) (key : Key) → Action
   -- it enters as a reader, and leaves
   Enters : Action
   Leaves : Action
@@ -57,12 +74,15 @@ abbrev pub number_of : Step → ℕ
 number_of (By number action) = number
 number_of (Diverts index) = 0
 
--- what comes of a step: it isn't possible; it happened, and answers nothing; or it answers the worker's call, by a
--- response or by the number of a refusal
+-- what comes of a step: it isn't possible; it happened, and answers nothing; it answers the worker's call, by a response or by the
+-- number of a refusal; or of a copy: the fallback doesn't hold the key, the primary would have too much of it, it was copied
 pub data Outcome : Type 0 where
   NotPossible : Outcome
   Happened : Outcome
   Replied : (reply : Result Response ℕ) → Outcome
+  NotHeld : Outcome
+  StuckThere : Outcome
+  CopiedBack : Outcome
 
 -- what a step makes of its worker and of the vnode, the front of the vnode's history that the worker has then seen, and what comes
 -- of the step
@@ -101,7 +121,16 @@ taken (Open zero mark) = Some Taken
 taken (Open (suc readers) mark) = None
 taken Taken = None
 
-module _ (seen : History) (vnode : Vnode) where
+-- the event of an ask that does this operation at the end of a log
+abbrev pub event_at : (id last_epoch : ℕ) → Log → Ask Content Context → Operation Content → Event Content Context
+event_at id last_epoch log ask operation = record {
+  key = key_of ask;
+  operation = operation;
+  context = context_in_ask ask;
+  saw = saw_at (partition_behind id last_epoch) log (key_of ask) (context_in_ask ask) operation;
+}
+
+module _ (seen brought : History) (vnode : Vnode) where
   -- the worker goes to a phase, and the vnode's word is this
   abbrev pub moves : Phase → Word → Turn
   moves phase word = record { phase = phase; seen = seen; vnode = record vnode { word = word }; outcome = Happened }
@@ -126,12 +155,37 @@ module _ (seen : History) (vnode : Vnode) where
   -- the planned operation is the log's next entry, and so the history's next event, the state in hand is the one after it, and the call is answered
   abbrev pub publishes_by : ℕ → Ask Content Context → Plan → Turn
   publishes_by site ask plan =
-      let event : Event Content Context = next_event vnode.id vnode.last_epoch (history_of vnode) ask plan.operation in
+      let event : Event Content Context = event_at vnode.id vnode.last_epoch vnode.log ask plan.operation in
       record {
         phase = Done site (Some plan.next);
         seen = event ∷ history_of vnode;
         vnode = record vnode { log = Command event ∷ vnode.log };
         outcome = Replied (Ok plan.response);
+      }
+
+  -- a copier has seen the vnode's whole history, and goes on or is done
+  abbrev pub sees : Phase → Outcome → Turn
+  sees phase came = record { phase = phase; seen = history_of vnode; vnode = vnode; outcome = came }
+
+  -- its look at the fallback: it keeps the key's clock, where the key is held
+  abbrev pub finds_by : (own site : ℕ) (key : Key) (held : Bool) → Turn
+  finds_by own site key true = sees (Copying own site key (CopyLooked (clock_of vnode.place key))) Happened
+  finds_by own site key false = sees (Copying own site key (CopyDone None)) NotHeld
+
+  -- its look at the primary: it keeps the state after the copy, unless that is stuck
+  abbrev pub syncs_by : (own site : ℕ) (key : Key) (clock : DotState (Option Content)) (hand : State Content) (stuck : Bool) → Turn
+  syncs_by own site key clock hand true = sees (Copying own site key (CopyDone (Some hand))) StuckThere
+  syncs_by own site key clock hand false = sees (Copying own site key (CopyTaken clock hand (Some (apply_copy hand key clock)))) Happened
+
+  -- its publish: the copy is the log's next entry
+  abbrev pub copies_by : (own site : ℕ) (key : Key) (clock : DotState (Option Content)) (next : State Content) → Turn
+  copies_by own site key clock next =
+      let copy : Copy Content = record { key = key; clock = clock; diversion = 1; prefix = brought } in
+      record {
+        phase = Copying own site key (CopyDone (Some next));
+        seen = history_of vnode;
+        vnode = record vnode { log = Copied copy ∷ vnode.log };
+        outcome = CopiedBack;
       }
 
   -- the turn of a worker in a phase, where the step is possible
@@ -148,6 +202,14 @@ module _ (seen : History) (vnode : Vnode) where
   turn_of Looks (Reading site get) = Some (answers (Done site None) (Ok (GetDone (get_reply vnode.place get))))
   turn_of Looks (Holding site ask hand None) = Some (looks_by site ask hand (outcome_of_ask hand ask))
   turn_of Publishes (Holding site ask hand (Some plan)) = Some (publishes_by site ask plan)
+  turn_of (CopiesFrom own site key) Idle = Some (moves (Copying own site key CopyAsked) vnode.word)
+  turn_of Enters (Copying own site key CopyAsked) = option_map (moves (Copying own site key CopyInside)) (entered vnode.word)
+  turn_of Looks (Copying own site key CopyInside) = Some (finds_by own site key (is_held vnode.place key))
+  turn_of Takes (Copying own site key (CopyLooked clock)) = option_map (moves (Copying own site key (CopyTaken clock vnode.place None))) (taken vnode.word)
+  turn_of Looks (Copying own site key (CopyTaken clock hand None)) = Some (syncs_by own site key clock hand (is_stuck hand key clock))
+  turn_of Publishes (Copying own site key (CopyTaken clock hand (Some next))) = Some (copies_by own site key clock next)
+  turn_of Puts (Copying own site key (CopyDone (Some hand))) = Some (lays (Copying own site key (CopyDone None)) hand)
+  turn_of Leaves (Copying own site key (CopyDone None)) = Some (moves Idle (left vnode.word))
   turn_of action phase = None
 
 abbrev pub is_reap : Ask Content Context → Bool
@@ -158,19 +220,37 @@ is_reap ask = false
 abbrev pub sent : (index site : ℕ) → Ask Content Context → Action
 sent index site ask = if not (site == index) && is_reap ask then AsksNowhere else Asks site ask
 
--- the action with its call sent to the site that the partition's calls go to
+-- a copy for a partition, from this site, where that isn't its own
+abbrev pub sent_copy : (index site : ℕ) → Key → Action
+sent_copy index site key = if site == index then AsksNowhere else CopiesFrom index site key
+
+-- the action with its call sent to the site that the partition's calls go to; a copy's sites are found so alone
 abbrev pub routed : (route : ℕ → Option ℕ) → Action → Action
 routed route (Asks index ask) = option_map_or (λ site. sent index site ask) (route index) AsksNowhere
+routed route (Copies index key) = option_map_or (λ site. sent_copy index site key) (route index) AsksNowhere
+routed route (CopiesFrom own site key) = AsksNowhere
 routed route action = action
 
--- the site that an action is about: that of the call
+-- the site of a copier's next step: the fallback's, but for the steps with the primary's state in its hand and the one by which it
+-- gets there
+abbrev pub copy_site : (own site : ℕ) → CopyStage → ℕ
+copy_site own site CopyAsked = site
+copy_site own site CopyInside = site
+copy_site own site (CopyLooked clock) = own
+copy_site own site (CopyTaken clock hand plan) = own
+copy_site own site (CopyDone None) = site
+copy_site own site (CopyDone (Some hand)) = own
+
+-- the site that an action is about: that of the call, or of a copier's next step
 abbrev pub site_of : Action → Phase → Option ℕ
 site_of (Asks site ask) Idle = Some site
+site_of (CopiesFrom own site key) Idle = Some site
 site_of action Idle = None
 site_of action (Asked site ask) = Some site
 site_of action (Reading site get) = Some site
 site_of action (Holding site ask hand plan) = Some site
 site_of action (Done site hand) = Some site
+site_of action (Copying own site key stage) = Some (copy_site own site stage)
 
 -- a worker has seen this front at a site, and elsewhere what it had seen
 abbrev pub seeing : List History → (site : ℕ) → History → List History
@@ -194,18 +274,19 @@ does w number action =
     option_and_then (λ site.
     option_and_then (λ vnode.
     option_map (λ turn. (turned w (pred number) site worker turn, turn.outcome))
-    (turn_of (seen_at worker.seen site) vnode action worker.phase))
+    (turn_of (seen_at worker.seen site) (brought_by worker) vnode action worker.phase))
     (slice_get w.vnodes site))
     (site_of action worker.phase))
     (worker_at w number)
 
--- a worker in this phase has a call at the site
+-- a worker in this phase has a call at the site, or copies from it or to it
 abbrev pub is_about : (site : ℕ) → Phase → Bool
-is_about site phase = option_map_or (λ other. other == site) (site_of Enters phase) false
-
--- by how much the id of a fallback is above its primary's
-abbrev pub fallback_ids : ℕ
-fallback_ids = 32768
+is_about site Idle = false
+is_about site (Asked other ask) = other == site
+is_about site (Reading other get) = other == site
+is_about site (Holding other ask hand plan) = other == site
+is_about site (Done other hand) = other == site
+is_about site (Copying own other key stage) = (own == site) || (other == site)
 
 -- the partition's primary stands at its own site: then a fallback is opened at a new site, and the calls go there
 abbrev pub diverted_by : World → (index : ℕ) → Vnode → World

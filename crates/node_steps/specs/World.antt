@@ -1,15 +1,17 @@
 -- The world of workers and sites: what each of them is at one moment. A site is a place where a vnode stands. Each partition has one
 -- for its own vnode, the primary; where it is diverted it has one more, for a fallback, to which its calls go.
-use Rattle.std.specs.Prelude.{Bool, false, ◌+◌, ◌*◌, List, [], ◌∷◌, ℕ, zero, suc, Option, Some, None, slice_get, replicate}
+use Rattle.std.specs.Prelude.{◌≡◌, Bool, false, ◌+◌, ◌*◌, List, [], ◌∷◌, ℕ, zero, suc, Option, Some, None, slice_get, replicate}
 use Rattle.std.specs.Option.{option_map_or}
+use Rattle.riak_msgs.specs.declared.Key.{Key}
 use Rattle.riak_msgs.specs.Contents.{Content}
 use Rattle.sibling_register.specs.History.{Operation}
 use Rattle.sibling_register.specs.Answers.{Ask, AskGet, GetCommand}
 use Rattle.actor_epoch.specs.Given.{Context}
+use Rattle.dvv_set.specs.Clocks.{DotState}
 use Rattle.vnode_machine.specs.Machine.{State, opening}
 use Rattle.vnode_machine.specs.Replay.{History}
 use Rattle.vnode_machine.specs.Step.{Response}
-use Rattle.copy_laws.specs.Copies.{commands_of}
+use Rattle.copy_laws.specs.Copies.{commands_of, all_commands}
 use Rattle.copy_laws.specs.Joining.{Log}
 
 -- the word of a vnode: so many readers are inside, and it is marked or not; or it is taken
@@ -23,6 +25,20 @@ pub record Plan : Type 0 where
   pub response : Response
   pub next : State Content
 
+-- how far a worker is that copies a key back: it reads the key's clock at the fallback, where it stays inside until it is done, and
+-- syncs the primary's with it
+pub data CopyStage : Type 0 where
+  -- it is outside
+  CopyAsked : CopyStage
+  -- it is inside the fallback as a reader, and has not looked
+  CopyInside : CopyStage
+  -- the fallback holds the key, with this clock
+  CopyLooked : (clock : DotState (Option Content)) → CopyStage
+  -- it has the primary's state in its hand too; where it has looked, the state after the copy
+  CopyTaken : (clock : DotState (Option Content)) (hand : State Content) (plan : Option (State Content)) → CopyStage
+  -- it is done, and is inside the fallback, with the primary's state in its hand or without it
+  CopyDone : (hand : Option (State Content)) → CopyStage
+
 -- the phase of a worker, with its call: the site that it goes to, and what is asked there
 pub data Phase : Type 0 where
   -- it has no call
@@ -35,6 +51,8 @@ pub data Phase : Type 0 where
   Holding : (site : ℕ) (ask : Ask Content Context) (hand : State Content) (plan : Option Plan) → Phase
   -- its call is answered, and it is inside as a reader, or with the state in its hand
   Done : (site : ℕ) (hand : Option (State Content)) → Phase
+  -- it copies a key from the fallback at a site to a partition's own
+  Copying : (own site : ℕ) (key : Key) (stage : CopyStage) → Phase
 
 -- the vnode at a site: its id, the last epoch that had been given when it was opened, its word, the log of what it accepted, newest
 -- entry first, and the state in place; while it is taken nobody is shown what was in place
@@ -48,6 +66,10 @@ pub record Vnode : Type 0 where
 -- the history of a vnode: the commands of its log
 abbrev pub history_of : Vnode → History
 history_of vnode = commands_of vnode.log
+
+-- a log of commands alone: no entry is a copy or a close
+abbrev pub CommandsAlone : Log → Type 0
+CommandsAlone log = log ≡ all_commands (commands_of log)
 
 -- a worker: its phase, and site by site the front of the history there that it has seen; of a site that it doesn't know, nothing
 pub record Worker : Type 0 where
@@ -119,6 +141,15 @@ seen_at [] site = []
 seen_at (front ∷ seen) zero = front
 seen_at (front ∷ seen) (suc site) = seen_at seen site
 
+-- the site that a worker in this phase copies from; the first where it copies nothing
+abbrev pub copied_from : Phase → ℕ
+copied_from (Copying own site key stage) = site
+copied_from phase = zero
+
+-- what a worker that copies has seen of the fallback, which the copy brings
+abbrev pub brought_by : Worker → History
+brought_by worker = seen_at worker.seen (copied_from worker.phase)
+
 -- the front of a site's history that the worker of a number has seen
 abbrev pub front_at : World → (number site : ℕ) → History
 front_at w number site = option_map_or (λ worker. seen_at worker.seen site) (worker_at w number) []
@@ -135,6 +166,7 @@ call_of (Asked site ask) = Some (record { site = site; ask = ask })
 call_of (Reading site get) = Some (record { site = site; ask = AskGet get })
 call_of (Holding site ask hand plan) = Some (record { site = site; ask = ask })
 call_of (Done site hand) = None
+call_of (Copying own site key stage) = None
 
 -- the call of the worker of a number
 abbrev pub call_at : World → ℕ → Option Call

@@ -5,6 +5,7 @@ ghost use Rattle.node_steps.specs.Steps.{Enters, Leaves, Marks, Unmarks, Takes, 
 ghost use Rattle.node_steps.specs.Running.{HasRoom, phase_of, vnode_of, Turns};
 
 use crate::call::Call;
+use crate::copier;
 use crate::hand::Hand;
 use crate::outcome::Outcome;
 use crate::phase::Phase;
@@ -24,6 +25,7 @@ pub(crate) fn enter(site: &mut Site, phase: Phase) -> (Phase, Outcome)
             site.readers = site.readers.saturating_add(1);
             (Phase::Reading(index, get), Outcome::Done)
         }
+        Phase::Copying(own, from, key, stage) => copier::enter(site, own, from, key, stage),
         other => (other, Outcome::No),
     }
 }
@@ -42,6 +44,7 @@ pub(crate) fn leave(site: &mut Site, phase: Phase) -> (Phase, Outcome)
             site.readers = site.readers.saturating_sub(1);
             (Phase::Idle, Outcome::Done)
         }
+        Phase::Copying(own, from, key, stage) => copier::leave(site, own, from, key, stage),
         other => (other, Outcome::No),
     }
 }
@@ -99,12 +102,13 @@ pub(crate) fn take(site: &mut Site, phase: Phase) -> (Phase, Outcome)
                 None => (Phase::Asked(index, call), Outcome::No),
             }
         }
+        Phase::Copying(own, from, key, stage) => copier::take(site, own, from, key, stage),
         other => (other, Outcome::No),
     }
 }
 
 /// Lays a state in place.
-fn lay(site: &mut Site, hand: Box<Hand>)
+pub(crate) fn lay(site: &mut Site, hand: Box<Hand>)
     ensures { site.new ≡ record { readers = 0; marked = false; place = Some hand } }
 {
     *site = Site {
@@ -128,6 +132,7 @@ pub(crate) fn put(site: &mut Site, phase: Phase) -> (Phase, Outcome)
             lay(site, hand);
             (Phase::Idle, Outcome::Done)
         }
+        Phase::Copying(own, from, key, stage) => copier::put(site, own, from, key, stage),
         other => (other, Outcome::No),
     }
 }

@@ -24,7 +24,7 @@ pub(crate) fn copy_of_put(alloc: Global, put: &PutAsk) -> Result<PutAsk, AllocEr
     Ok(PutAsk {
         key: put.key.clone(alloc)?,
         context: put.context.clone(alloc)?,
-        content: put.content.clone(alloc)?,
+        content: put.content.clone()?,
         return_body: put.return_body,
         return_head: put.return_head,
         if_not_modified: put.if_not_modified,

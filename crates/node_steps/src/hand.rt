@@ -1,17 +1,22 @@
 //! A vnode as a worker holds it.
 
-ghost use Rattle.std.specs.Prelude.{◌≡◌, ◌-◌, None, IfOk, IfErr, IsSome, is_some};
+ghost use Rattle.std.specs.Prelude.{◌≡◌, ◌-◌, Some, None, IfOk, IfErr, IsSome, is_some};
 ghost use Rattle.vnode_machine.specs.Step.{outcome};
 ghost use Rattle.node_steps.specs.Hands.{command_of, ShowsBy, PlansAsk, PlansBy, PublishesPlan};
+ghost use Rattle.node_steps.specs.CopyHands.{FindsClock, IsCopy, PlansCopy, copied_by};
 ghost use Rattle.node_steps.specs.Running.{ask_of};
+ghost use Rattle.vnode_machine.specs.Sound.{IsSound};
 
 use crate::call::Call;
+use crate::copied_clock::CopiedClock;
 use crate::fault::StepFault;
 use crate::outcome::{Outcome, answered};
-use riak_msgs::{GetAsk, Reply, Text};
-use std::alloc::Global;
+use clock_store::KeyRef;
+use ghost_state::GhostList;
+use riak_msgs::{GetAsk, Key, Reply, Text};
+use std::alloc::{AllocError, Global};
 use std::marker::Model;
-use vnode_core::{Ask, Change, Plan, Refusal, Vnode};
+use vnode_core::{Ask, Change, KeyCopy, Plan, Refusal, Vnode};
 
 /// A vnode of an id that isn't closed, and the change that was planned at a look. Contracts see its state and the plan.
 pub(crate) struct Hand {
@@ -53,6 +58,7 @@ impl Hand {
     pub(crate) fn new(id: u64, vnode: Vnode) -> Hand
         requires named { vnode.state.vnode ≡ id }
         requires opened { vnode.state.closed ≡ None }
+        requires sound { IsSound vnode.state }
         ensures state { result.state ≡ vnode.state }
         ensures plan { result.plan ≡ None }
     {
@@ -93,6 +99,54 @@ impl Hand {
             Ok(reply) => Ok(Outcome::Reply(Reply::Get(reply))),
             Err(_) => Err(StepFault::NoMemory),
         }
+    }
+
+    /// A copy of the clock that it has for a key; none where it doesn't hold the key.
+    pub(crate) fn clock_of(
+        &self,
+        alloc: Global,
+        key: &Key,
+    ) -> Result<Option<Box<CopiedClock>>, AllocError>
+        ensures { IfOk result (FindsClock self.now.state key.now) }
+    {
+        match self.vnode.clock(key) {
+            None => Ok(None),
+            Some(clock) => {
+                let copied = CopiedClock::of(alloc, clock)?;
+                Ok(Some(Box::new(alloc, copied)?))
+            }
+        }
+    }
+
+    /// Prepares a copy of a key with this clock; none where it is stuck. Where memory is refused nothing is prepared.
+    pub(crate) fn plan_copy(
+        &mut self,
+        alloc: Global,
+        key: &Key,
+        clock: &CopiedClock,
+    ) -> Result<Option<Change>, StepFault>
+        ensures state { self.new.state ≡ self.old.state }
+        ensures ok { IfOk result (λ change.
+            PlansCopy self.old.state self.new.prepared key.now clock.now change) }
+    {
+        replace(&mut self.change, None);
+        let parts = KeyRef::of(key);
+        let copy = KeyCopy::of(alloc, parts, clock.stored(), 1, GhostList::new())?;
+        match self.vnode.prepare(alloc, Ask::Copy(copy)) {
+            Ok(Plan::Change(change)) => Ok(Some(change)),
+            Ok(Plan::Nothing(_answer)) => Ok(None),
+            Err(_) => Err(StepFault::NoMemory),
+        }
+    }
+
+    /// Makes the copy that it prepared last. It takes no memory.
+    pub(crate) fn finish_copy(&mut self, change: Change)
+        requires prepared { self.old.prepared ≡ Some change }
+        requires copy { IsCopy change }
+        ensures { self.new.state ≡ copied_by self.old.state change }
+    {
+        replace(&mut self.change, None);
+        let _answer = self.vnode.finish(change);
     }
 
     /// Looks for a call: answers it, or plans its change. Where memory is refused nothing is planned.

@@ -1,9 +1,10 @@
 //! The theorems, as functions that have nothing to run.
 
-ghost use Rattle.node_steps.specs.Claims.{AfterEvery, AtEveryStep, HistoriesAreLegal, LooksSeeReplays, LooksShowReplays};
+ghost use Rattle.node_steps.specs.Claims.{AfterEvery, AtEveryStep, CallsMeetNoCopies, HistoriesAreLegal, LooksSeeReplays, LooksShowReplays};
 ghost use Rattle.node_steps.specs.Claims.{RepliesAreRegisters, NothingElseHappens, RepliesHaveSeen, NoDotIsIssuedTwice};
 ghost use Rattle.node_steps.specs.Claims.{LivesAreOfDefinedKeys, ValuesLeaveOnlyCovered, ValuesLeaveOnlySeen};
 ghost use Rattle.node_steps.specs.Courses.{RunsAreCourses};
+ghost use Rattle.node_steps.specs.HandOffs.{PartitionsHandOff};
 ghost use Rattle.node_steps.specs.Erased.{NeedsNoHistory};
 ghost use Rattle.node_steps.specs.Gates.{RunsAreScheduled};
 
@@ -13,15 +14,22 @@ ghost use Rattle.node_steps.specs.Gates.{RunsAreScheduled};
 /// or delete had seen it.**
 ///
 /// *Whatever order*: in every run, for any number of workers and partitions, and after every list of steps, also of such that
-/// divert a partition to a fallback, which has a history of its own. *One thread*: the history is legal and has a replay
-/// (`histories`), which is the state that any look shows (`looks`); what comes of a look is what the vnode machine does with the
-/// worker's call in that state (`looked`). *Is answered*: each reply, a refusal too, the register may give at the end of the
-/// history at its look, or, of an accepted command, at its publish, by which the history has just that event more (`answers`);
-/// no other step changes a history (`nothing_else`). *Had seen*: the worker had seen no more than that history, and has seen all
-/// of it afterwards, its own event too (`seen`). *No second time*: whatever the keys and lives (`dots`); a key is in a life
-/// exactly where it is defined (`lives`). *Unless .. had seen it*: a value leaves only by a write or delete whose context covers
-/// its dot, or by a delete without context (`covered`); and where each context that was given for its key at a site had been
-/// shown for it there, such a write or delete had seen the value (`left`).
+/// divert a partition to a fallback, which has a history of its own, and copy keys back from there. *One thread*: the history is
+/// legal and has a replay (`histories`); the state that any look shows is the one after the log, which is that replay where
+/// nothing was copied (`looks`), as it is where a worker has a call (`uncopied`); what comes of a look for a call is what the
+/// vnode machine does with it in that state (`looked`). *Is answered*: each reply, a refusal too, the register may give at the
+/// end of the history at its look, or, of an accepted command, at its publish, by which the history has just that event more
+/// (`answers`); no other step changes a log, but a copy, which carries the clock that its key has at the fallback then, and the
+/// fallback's history (`nothing_else`). *Had seen*: the worker had seen no more than that history, and has seen all of it
+/// afterwards, its own event too (`seen`). *No second time*: whatever the keys and lives (`dots`); a key is in a life exactly
+/// where it is defined (`lives`). *Unless .. had seen it*: a value leaves only by a write or delete whose context covers its
+/// dot, or by a delete without context (`covered`); and where each context that was given for its key at a site had been shown
+/// for it there, such a write or delete had seen the value (`left`).
+///
+/// Where each context that was given for a key at a site of a partition had been shown for it at one of them, its primary and its
+/// fallback, with the copies between, are a hand-off (`handed_off`, `specs/HandOffs`): each command saw what it had to see of both
+/// sides, the primary shows the siblings that are its own or came, in their order, no dot stands on two sides, and a value leaves
+/// the primary's siblings only by a write or delete of some side that had seen it.
 pub fn always()
     ensures histories { AfterEvery HistoriesAreLegal }
     ensures looks { AfterEvery LooksShowReplays }
@@ -33,6 +41,8 @@ pub fn always()
     ensures lives { AfterEvery LivesAreOfDefinedKeys }
     ensures covered { AfterEvery ValuesLeaveOnlyCovered }
     ensures left { ValuesLeaveOnlySeen }
+    ensures handed_off { PartitionsHandOff }
+    ensures uncopied { AfterEvery CallsMeetNoCopies }
 {}
 
 /// Where each context that was given for a key at a site of a partition had been shown for it at one of them, each run of the

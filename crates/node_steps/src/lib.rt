@@ -9,16 +9,22 @@
 //! hand or puts it back, looks, or publishes its plan. A look is a step of the vnode machine in the state shown: it answers, or
 //! what the machine accepts becomes the plan. A step that isn't possible changes nothing.
 //!
+//! A worker may also be a copier, of a key of a partition that is diverted: as a reader at the fallback it keeps the key's clock, and
+//! stays inside; it takes the primary's state, looks, and publishes the copy, which is an entry of the primary's log and no event of
+//! its history; then it puts the state back and leaves. What the copy brings is the history that it has seen at the fallback
+//! (`brought_by`), which nobody changes while it is inside.
+//!
 //! A vnode has its id and the epoch that it was opened behind in its own record, and is found by its site in a list; of a site that
 //! it doesn't know a worker has seen nothing. So sites may be added while a world runs: what is always true of a vnode
 //! (`proofs/Inside`, `IsSound`) speaks of one vnode, and is true of a fresh one, whatever epochs were given before it, and
-//! whatever its log. That a log is of commands alone, and has a replay, is said apart (`IsPlain`).
+//! whatever its log. That a log of commands alone has a replay is said apart (`IsPlain`).
 //!
 //! [`always`] is the theorem, over every schedule (`specs/Claims`). Its proof goes step by step: `proofs/Turns` derives what a
-//! turn makes of its worker and its vnode, and what comes of it (`proofs/Coming`), from the machine's step; `proofs/Kept` counts
+//! turn makes of its worker and its vnode, and what comes of it (`proofs/Coming`), from the machine's step; of a copier in `proofs/CopyTurns`; `proofs/Kept` counts
 //! readers and holders, so that what is always true stays so; `proofs/Lifting`, `proofs/Leaving` and `proofs/Showing` draw the claims. `proofs/Diverting` is
 //! for a partition that is diverted; `proofs/Coursing` and those behind it make each run of a partition a course of `copy_laws`
-//! ([`runs_are_courses`], `specs/Courses`).
+//! ([`runs_are_courses`], `specs/Courses`), and `proofs/Joined` draws from the laws what holds of it. `proofs/Uncopied` keeps calls and
+//! copies apart: a partition that is diverted is asked nothing at its own site.
 //!
 //! One exchange, of three workers over one vnode (`proofs/Rows` evaluates it):
 //!
@@ -41,6 +47,8 @@
 
 mod acts;
 mod call;
+mod copied_clock;
+mod copier;
 mod copies;
 mod divert;
 mod fault;
@@ -50,7 +58,9 @@ mod looks;
 mod outcome;
 mod parts;
 mod phase;
+mod planned_copy;
 mod site;
+mod stage;
 mod step;
 mod world;
 

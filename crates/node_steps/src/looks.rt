@@ -8,6 +8,7 @@ ghost use Rattle.node_steps.specs.Steps.{Looks, Publishes};
 ghost use Rattle.node_steps.specs.Running.{ask_of, phase_of, vnode_of, Turns};
 
 use crate::call::Call;
+use crate::copier;
 use crate::fault::StepFault;
 use crate::hand::Hand;
 use crate::outcome::Outcome;
@@ -54,6 +55,9 @@ pub(crate) fn look(alloc: Global, site: &Site, phase: Phase) -> Looked
             }
             look_in_hand(alloc, index, call, hand)
         }
+        Phase::Copying(own, from, key, stage) => {
+            copier::look(alloc, site, own, from, key, stage)
+        }
         other => Ok((other, Outcome::No)),
     }
 }
@@ -68,6 +72,7 @@ pub(crate) fn publish(phase: Phase) -> (Phase, Outcome)
             Some(answer) => (Phase::Done(index, Some(hand)), answer),
             None => (Phase::Holding(index, call, hand), Outcome::No),
         },
+        Phase::Copying(own, from, key, stage) => copier::publish(own, from, key, stage),
         other => (other, Outcome::No),
     }
 }

@@ -17,8 +17,12 @@ pub enum Outcome {
     Reply(Reply),
     /// It answered the worker's reap: the key is forgotten.
     Reaped,
-    /// It answered the worker's reap: the key isn't dead, and stays as it is.
+    /// It answered the worker's reap: the key isn't dead, and stays as it is; or a copier: the fallback doesn't hold the key.
     Kept,
+    /// The key was copied back.
+    Copied,
+    /// The key isn't copied: with the copy it would have too many siblings at the primary, or its clock too many actors.
+    Stuck,
 }
 
 /// What a worker is returned for an answer of its vnode to a put, a delete or a reap.

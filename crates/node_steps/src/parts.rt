@@ -1,8 +1,8 @@
 //! The running parts of a world, and what each kind of step does to them.
 
 ghost use Rattle.std.specs.Prelude.{◌≡◌, ◌<◌, length, IfOk, IfErr, OnErr};
-ghost use Rattle.node_steps.specs.Asked.{action_of, asking_step, step_by, step_of};
-ghost use Rattle.node_steps.specs.Parts.{Finds, FindsIdle, IsFit, SendsTo, TakesFitStep, TakesStep, TurnsAt, world_in};
+ghost use Rattle.node_steps.specs.Asked.{action_of, asking_step, copying_step, step_by, step_of};
+ghost use Rattle.node_steps.specs.Parts.{CopiesWhence, Finds, FindsIdle, IsFit, SendsTo, TakesFitStep, TakesStep, TurnsAt, world_in};
 ghost use Rattle.node_steps.specs.Running.{ask_of, phase_of, vnode_of, Turns};
 
 use crate::acts::{enter, leave, mark, put, take, unmark};
@@ -12,6 +12,7 @@ use crate::looks::{look, publish};
 use crate::outcome::Outcome;
 use crate::phase::Phase;
 use crate::site::Site;
+use crate::stage::Stage;
 use crate::step::{Act, Step};
 use riak_msgs::{Key, Request};
 use std::alloc::{AllocError, Global};
@@ -119,6 +120,7 @@ impl Parts {
         match self.workers.get(place)? {
             Phase::Idle => Some(place),
             Phase::Asked(..) | Phase::Reading(..) | Phase::Holding(..) | Phase::Done(..) => None,
+            Phase::Copying(..) => None,
         }
     }
 
@@ -187,6 +189,56 @@ impl Parts {
         Ok(self.give(worker, index, call))
     }
 
+    /// The site that a copier of a partition copies from; none where the partition isn't diverted.
+    fn fallback_of(&self, index: u16, key: &Key) -> Option<usize>
+        ensures { CopiesWhence self.now index key.now result }
+    {
+        let own = usize::from(index);
+        let site = *self.routes.get(own)?;
+        if site >= self.sites.len() {
+            return None;
+        }
+        if site == own {
+            return None;
+        }
+        Some(site)
+    }
+
+    /// A worker is to copy a key of the partition at an index.
+    fn send_copier(&mut self, worker: u16, index: u16, key: Box<Key>) -> Outcome
+        ensures { TakesStep (world_in self.old) (copying_step worker index key.value) result
+            (world_in self.new) }
+    {
+        let Some(place) = self.find_idle(worker) else {
+            return Outcome::No;
+        };
+        let Some(site) = self.fallback_of(index, &key) else {
+            return Outcome::No;
+        };
+        let own = usize::from(index);
+        set_phase(
+            &mut self.workers[place],
+            Phase::Copying(own, site, key, Stage::Asked),
+        );
+        Outcome::Done
+    }
+
+    /// A worker is asked to copy a key.
+    fn copy(
+        &mut self,
+        alloc: Global,
+        worker: u16,
+        index: u16,
+        key: Key,
+    ) -> Result<Outcome, StepFault>
+        ensures ok { IfOk result (λ outcome. TakesStep (world_in self.old)
+            (step_of (Step.Copy worker index key)) outcome (world_in self.new)) }
+        ensures err { OnErr result (world_in self.new ≡ world_in self.old) }
+    {
+        let key = Box::new(alloc, key).map_err(AllocError::from)?;
+        Ok(self.send_copier(worker, index, key))
+    }
+
     /// Takes a step. Where memory is refused nothing changes.
     pub(crate) fn step(&mut self, alloc: Global, step: Step) -> Result<Outcome, StepFault>
         ensures ok { IfOk result (λ outcome.
@@ -205,6 +257,7 @@ impl Parts {
             Step::Look(worker) => self.act(alloc, worker, Act::Look),
             Step::Publish(worker) => self.act(alloc, worker, Act::Publish),
             Step::Divert(index) => self.divert(alloc, index),
+            Step::Copy(worker, index, key) => self.copy(alloc, worker, index, key),
         }
     }
 }

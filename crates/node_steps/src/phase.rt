@@ -6,7 +6,8 @@ ghost use Rattle.node_steps.specs.Running.{phase_of};
 
 use crate::call::Call;
 use crate::hand::Hand;
-use riak_msgs::GetAsk;
+use crate::stage::Stage;
+use riak_msgs::{GetAsk, Key};
 
 /// What a worker is about; its call goes to the site of the index.
 #[derive(Drop)]
@@ -21,10 +22,12 @@ pub(crate) enum Phase {
     Holding(usize, Call, Box<Hand>),
     /// Its call is answered, and it is inside as a reader, or with the state in its hand.
     Done(usize, Option<Box<Hand>>),
+    /// It copies a key to the site of the first index from that of the second.
+    Copying(usize, usize, Box<Key>, Stage),
 }
 
 impl Phase {
-    /// The index of the site that the worker is about.
+    /// The index of the site of the worker's next step.
     pub(crate) fn index(&self) -> Option<usize>
         ensures { result ≡ site_of Enters (phase_of self.now) }
     {
@@ -34,16 +37,21 @@ impl Phase {
             Phase::Reading(index, _) => Some(*index),
             Phase::Holding(index, _, _) => Some(*index),
             Phase::Done(index, _) => Some(*index),
+            Phase::Copying(own, from, _, stage) => Some(stage.site(*own, *from)),
         }
     }
 
-    /// Whether the worker has a call at the site of this index.
+    /// Whether the worker has a call at the site of this index, or copies from it or to it.
     pub(crate) fn is_about(&self, site: usize) -> bool
         ensures { result ≡ is_about site (phase_of self.now) }
     {
-        match self.index() {
-            Some(index) => index == site,
-            None => false,
+        match self {
+            Phase::Idle => false,
+            Phase::Asked(index, _) => *index == site,
+            Phase::Reading(index, _) => *index == site,
+            Phase::Holding(index, _, _) => *index == site,
+            Phase::Done(index, _) => *index == site,
+            Phase::Copying(own, from, _, _) => *own == site || *from == site,
         }
     }
 }

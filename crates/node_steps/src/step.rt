@@ -31,6 +31,8 @@ pub enum Step {
     Publish(u16),
     /// The partition of this index is diverted to a fallback.
     Divert(u16),
+    /// The worker gets a copy to do: of a key of the partition of this index, from its fallback to its primary.
+    Copy(u16, u16, Key),
 }
 
 impl Step {
@@ -53,6 +55,7 @@ impl Step {
             Step::Look(worker) => Ok(Step::Look(*worker)),
             Step::Publish(worker) => Ok(Step::Publish(*worker)),
             Step::Divert(index) => Ok(Step::Divert(*index)),
+            Step::Copy(worker, index, key) => { Ok(Step::Copy(*worker, *index, key.clone(alloc)?)) }
         }
     }
 }

@@ -14,6 +14,8 @@ answer_text outcomes.Done = codes "ok"
 answer_text (outcomes.Reply reply) = codes "reply " ++ reply_text reply
 answer_text outcomes.Reaped = codes "reaped"
 answer_text outcomes.Kept = codes "kept"
+answer_text outcomes.Copied = codes "copied"
+answer_text outcomes.Stuck = codes "stuck"
 
 -- the line: its number, a space, what came of the step, and a line feed
 abbrev pub answer_line : ℕ → Returned → List ℕ

@@ -6,7 +6,8 @@ use Rattle.ring_map.specs.Ring.{index_of, digest_of}
 use Rattle.schedule_text.specs.declared.line.Line.{Line}
 use Rattle.schedule_text.specs.declared.line.Line.TheVariants as lines
 use Rattle.schedule_text.specs.declared.line.Action.{Action}
-use Rattle.schedule_text.specs.declared.line.Action.TheVariants.{Ask, Reap, Gate}
+use Rattle.schedule_text.specs.declared.line.Action.TheVariants.{Ask, Key as OfKey, Gate}
+use Rattle.schedule_text.specs.declared.line.KeyStep.TheVariants.{Reap, Copy}
 use Rattle.schedule_text.specs.declared.line.GateStep.{GateStep}
 use Rattle.schedule_text.specs.declared.line.GateStep.TheVariants.{Enter, Leave, Mark, Unmark, Take, Put, Look, Publish}
 use Rattle.schedule_text.specs.Lines.{IsLine}
@@ -36,7 +37,8 @@ gate_step worker Publish = steps.Publish worker
 -- a worker's step by its action
 abbrev pub step_by : (ring worker : ℕ) → Action → RunStep
 step_by ring worker (Ask request) = steps.Ask worker (index_for ring request) request
-step_by ring worker (Reap key) = steps.Reap worker (index_of ring (digest_of key)) key
+step_by ring worker (OfKey Reap key) = steps.Reap worker (index_of ring (digest_of key)) key
+step_by ring worker (OfKey Copy key) = steps.Copy worker (index_of ring (digest_of key)) key
 step_by ring worker (Gate step) = gate_step worker step
 
 -- the step of a line

@@ -53,6 +53,8 @@ reaped ask known = known
 -- what a worker's line of this number adds, by whose step it gets a call or not: this was returned
 abbrev pub after_act : (line worker : ℕ) → Option (Ask Content Context) → Returned → Heard → Heard
 after_act line worker asked outcomes.No heard = heard
+after_act line worker asked outcomes.Copied heard = heard
+after_act line worker asked outcomes.Stuck heard = heard
 after_act line worker asked outcomes.Done heard =
     option_map_or (λ ask. record {
       calls = with_call heard.calls worker ask;

@@ -21,5 +21,7 @@ pub(crate) fn write_answer(
         Outcome::Reply(reply) => write_outcome(alloc, number, StepOutcome::Reply(reply)),
         Outcome::Reaped => write_outcome(alloc, number, StepOutcome::Reaped),
         Outcome::Kept => write_outcome(alloc, number, StepOutcome::Kept),
+        Outcome::Copied => write_outcome(alloc, number, StepOutcome::Copied),
+        Outcome::Stuck => write_outcome(alloc, number, StepOutcome::Stuck),
     }
 }

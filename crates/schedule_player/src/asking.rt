@@ -12,7 +12,7 @@ use crate::fault::StepsFault;
 use node_steps::Step;
 use riak_msgs::Request;
 use ring_map::Ring;
-use schedule_text::{Action, GateStep, Line, LineFault, read_line};
+use schedule_text::{Action, GateStep, KeyStep, Line, LineFault, read_line};
 use std::alloc::{AllocError, Global};
 
 /// The index of the partition that a request is for. (A ping is for none, and no line asks for one.)
@@ -43,7 +43,7 @@ fn gate_step(worker: u16, step: GateStep) -> Step
     }
 }
 
-/// The step of a line: its worker's, and where it asks or reaps for the partition of the key; or a partition's.
+/// The step of a line: its worker's, and where it asks, reaps or copies for the partition of the key; or a partition's.
 fn line_step(ring: Ring, line: Line) -> Step
     ensures { result ≡ line_step ring line }
 {
@@ -52,9 +52,13 @@ fn line_step(ring: Ring, line: Line) -> Step
             let index = index_for(ring, &request);
             Step::Ask(worker, index, request)
         }
-        Line::By(worker, Action::Reap(key)) => {
+        Line::By(worker, Action::Key(KeyStep::Reap, key)) => {
             let index = ring.index(&key);
             Step::Reap(worker, index, key)
+        }
+        Line::By(worker, Action::Key(KeyStep::Copy, key)) => {
+            let index = ring.index(&key);
+            Step::Copy(worker, index, key)
         }
         Line::By(worker, Action::Gate(step)) => gate_step(worker, step),
         Line::Divert(index) => Step::Divert(index),
@@ -97,7 +101,8 @@ pub(crate) fn asks(step: &Step) -> bool
         | Step::Put(_)
         | Step::Look(_)
         | Step::Publish(_)
-        | Step::Divert(_) => false,
+        | Step::Divert(_)
+        | Step::Copy(_, _, _) => false,
     }
 }
 
@@ -121,6 +126,7 @@ fn worker_of(step: &Step) -> u16
     match step {
         Step::Ask(worker, _, _) => *worker,
         Step::Reap(worker, _, _) => *worker,
+        Step::Copy(worker, _, _) => *worker,
         Step::Enter(worker)
         | Step::Leave(worker)
         | Step::Mark(worker)
@@ -157,7 +163,8 @@ fn is_diversion(step: &Step) -> bool
         | Step::Take(_)
         | Step::Put(_)
         | Step::Look(_)
-        | Step::Publish(_) => false,
+        | Step::Publish(_)
+        | Step::Copy(_, _, _) => false,
     }
 }
 

@@ -106,7 +106,8 @@ fn tell(comparison: &mut Comparison, call: &Step)
         | Step::Put(_)
         | Step::Look(_)
         | Step::Publish(_)
-        | Step::Divert(_) => {}
+        | Step::Divert(_)
+        | Step::Copy(_, _, _) => {}
     }
 }
 
@@ -188,6 +189,7 @@ impl Referee {
         match outcome {
             Outcome::Done => self.comparison.end(),
             Outcome::No | Outcome::Reply(_) | Outcome::Reaped | Outcome::Kept => {}
+            Outcome::Copied | Outcome::Stuck => {}
         }
     }
 
@@ -205,7 +207,7 @@ impl Referee {
             self.new ≡ after_act line worker (call_in call) outcome.now self.old) }
     {
         match outcome {
-            Outcome::No => Ok(()),
+            Outcome::No | Outcome::Copied | Outcome::Stuck => Ok(()),
             Outcome::Done => {
                 self.hear_call(worker, call);
                 Ok(())

@@ -12,13 +12,14 @@ use Rattle.schedule_text.specs.declared.fault.LineFault.TheVariants.{BadStep, No
 use Rattle.schedule_text.specs.declared.line.Line.{Line}
 use Rattle.schedule_text.specs.declared.line.Line.TheVariants.{By, Divert}
 use Rattle.schedule_text.specs.declared.line.Action.{Action}
-use Rattle.schedule_text.specs.declared.line.Action.TheVariants.{Ask, Reap, Gate}
+use Rattle.schedule_text.specs.declared.line.Action.TheVariants.{Ask, Key as OfKey, Gate}
+use Rattle.schedule_text.specs.declared.line.KeyStep.{KeyStep}
 use Rattle.schedule_text.specs.declared.line.GateStep.{GateStep}
 use Rattle.schedule_text.specs.Cuts.{IsCut}
-use Rattle.schedule_text.specs.Lines.{gate_word, action_word, word_of, operand_text, IsWorker, HasWorker, HasOperands, IsLine}
-use Rattle.schedule_text.specs.Reading.{Reads, ReadsDecimal, ReadsOperands, Asks, ReadsAsked, MakesReap, ReadsHexMessage}
+use Rattle.schedule_text.specs.Lines.{gate_word, key_word, action_word, word_of, operand_text, IsWorker, HasWorker, HasOperands, IsLine}
+use Rattle.schedule_text.specs.Reading.{Reads, ReadsDecimal, ReadsOperands, Asks, ReadsAsked, MakesKeyed, ReadsHexMessage}
 use Rattle.schedule_text.proofs.Cutting.{cut_once}
-use Rattle.schedule_text.proofs.Words.{word-lacks_space, decimal-lacks_space, gate_word-not_ask, gate_word-not_reap, reap-not_ask, action_word-not_divert, divert-not_ask, divert-not_reap}
+use Rattle.schedule_text.proofs.Words.{word-lacks_space, decimal-lacks_space, gate_word-not_ask, gate_word-not_key, key_word-not_ask, action_word-not_divert, divert-not_ask, divert-not_key}
 use Rattle.schedule_text.proofs.Hexadecimal.{hex_once}
 use Rattle.schedule_text.proofs.Messages.{asks_once}
 
@@ -89,15 +90,15 @@ ask_asks workers worker text (Ask request) word has = (
     asks = has.carries.asks;
   },
 )
-ask_asks workers worker text (Reap key) word has = absurd (reap-not_ask word)
+ask_asks workers worker text (OfKey step key) word has = absurd (key_word-not_ask step word)
 ask_asks workers worker text (Gate step) word has = absurd (gate_word-not_ask step word)
 
--- the operands of a reap ask for a get
-reap_asks : (workers worker : ℕ) (text : List ℕ) (action : Action) → action_word action ≡ codes "reap"
+-- the operands of a step with a key ask for a get
+keyed_asks : (kind : KeyStep) (workers worker : ℕ) (text : List ℕ) (action : Action) → action_word action ≡ key_word kind
     → HasWorker workers text worker action
     → (get : GetAsk) × Asks workers text worker (requests.Get get)
-reap_asks workers worker text (Ask request) word has = absurd (reap-not_ask (sym word))
-reap_asks workers worker text (Reap key) word has = (
+keyed_asks kind workers worker text (Ask request) word has = absurd (key_word-not_ask kind (sym word))
+keyed_asks kind workers worker text (OfKey step key) word has = (
   has.carries.0,
   record {
     message = has.carries.2.message;
@@ -107,7 +108,7 @@ reap_asks workers worker text (Reap key) word has = (
     asks = has.carries.2.asks;
   },
 )
-reap_asks workers worker text (Gate step) word has = absurd (gate_word-not_reap step word)
+keyed_asks kind workers worker text (Gate step) word has = absurd (gate_word-not_key step kind word)
 
 -- a line that isn't one of an ask, where its operands ask for no request
 no_ask : (workers : ℕ) (text : List ℕ) → ((worker : ℕ) (request : Request) → ¬ (Asks workers text worker request))
@@ -117,28 +118,28 @@ no_ask workers text reads (By worker action) word has =
     reads worker asks.0 asks.1
 no_ask workers text reads (Divert index) word has = divert-not_ask word
 
--- the same of a reap, where they ask for no get
-no_reap_line : (workers : ℕ) (text : List ℕ) → ((worker : ℕ) (get : GetAsk) → ¬ (Asks workers text worker (requests.Get get)))
-    → (line : Line) → word_of line ≡ codes "reap" → ¬ (HasOperands workers text line)
-no_reap_line workers text reads (By worker action) word has =
-    let asks = reap_asks workers worker text action word has in
+-- the same of a step with a key, where they ask for no get
+no_keyed_line : (kind : KeyStep) (workers : ℕ) (text : List ℕ) → ((worker : ℕ) (get : GetAsk) → ¬ (Asks workers text worker (requests.Get get)))
+    → (line : Line) → word_of line ≡ key_word kind → ¬ (HasOperands workers text line)
+no_keyed_line kind workers text reads (By worker action) word has =
+    let asks = keyed_asks kind workers worker text action word has in
     reads worker asks.0 asks.1
-no_reap_line workers text reads (Divert index) word has = divert-not_reap word
+no_keyed_line kind workers text reads (Divert index) word has = divert-not_key kind word
 
 pub ask_refused : (workers : ℕ) (text : List ℕ) (fault : LineFault) → ReadsAsked workers text (Err fault)
     → ReadsOperands (codes "ask") workers text (Err fault)
 ask_refused workers text BadStep reads = no_ask workers text reads
 ask_refused workers text NoMemory reads = (inl refl, reads)
 
-pub reap_refused : (workers : ℕ) (text : List ℕ) (fault : LineFault) → ReadsAsked workers text (Err fault)
-    → ReadsOperands (codes "reap") workers text (Err fault)
-reap_refused workers text BadStep reads = no_reap_line workers text (λ worker get asks. reads worker (requests.Get get) asks)
-reap_refused workers text NoMemory reads = (inr refl, reads)
+pub keyed_refused : (kind : KeyStep) (workers : ℕ) (text : List ℕ) (fault : LineFault) → ReadsAsked workers text (Err fault)
+    → ReadsOperands (key_word kind) workers text (Err fault)
+keyed_refused kind workers text BadStep reads = no_keyed_line kind workers text (λ worker get asks. reads worker (requests.Get get) asks)
+keyed_refused kind workers text NoMemory reads = (inr (kind, refl), reads)
 
--- a reap's line
-reap_line : (workers worker : ℕ) (text : List ℕ) (get : GetAsk) → Asks workers text worker (requests.Get get)
-    → ReadsOperands (codes "reap") workers text (Ok (By worker (Reap get.key)))
-reap_line workers worker text get asks = (
+-- the line of a step with a key
+keyed_line : (kind : KeyStep) (workers worker : ℕ) (text : List ℕ) (get : GetAsk) → Asks workers text worker (requests.Get get)
+    → ReadsOperands (key_word kind) workers text (Ok (By worker (OfKey kind get.key)))
+keyed_line kind workers worker text get asks = (
   refl,
   record {
     carried = Some asks.message;
@@ -148,20 +149,20 @@ reap_line workers worker text get asks = (
   },
 )
 
--- a request that is no get is no reap
-no_reap : (workers worker : ℕ) (text : List ℕ) (request : Request) → workers < 2 ^ 16 → Asks workers text worker request
-    → ((get : GetAsk) → request ≢ requests.Get get) → ReadsOperands (codes "reap") workers text (Err BadStep)
-no_reap workers worker text request few asks other =
-    no_reap_line workers text (λ one get reaps. other get (asks_one workers worker one text request (requests.Get get) few asks reaps))
+-- a request that is no get makes none
+no_keyed : (kind : KeyStep) (workers worker : ℕ) (text : List ℕ) (request : Request) → workers < 2 ^ 16 → Asks workers text worker request
+    → ((get : GetAsk) → request ≢ requests.Get get) → ReadsOperands (key_word kind) workers text (Err BadStep)
+no_keyed kind workers worker text request few asks other =
+    no_keyed_line kind workers text (λ one get reaps. other get (asks_one workers worker one text request (requests.Get get) few asks reaps))
 
-pub reap_read : (workers worker : ℕ) (text : List ℕ) (request : Request) (r : Result Line LineFault) → workers < 2 ^ 16
-    → Asks workers text worker request → MakesReap worker request r → ReadsOperands (codes "reap") workers text r
-reap_read workers worker text request (Ok line) few asks makes =
+pub keyed_read : (kind : KeyStep) (workers worker : ℕ) (text : List ℕ) (request : Request) (r : Result Line LineFault) → workers < 2 ^ 16
+    → Asks workers text worker request → MakesKeyed kind worker request r → ReadsOperands (key_word kind) workers text r
+keyed_read kind workers worker text request (Ok line) few asks makes =
     let get = makes.0 in
     let asks_get : Asks workers text worker (requests.Get get) = subst (λ a. Asks workers text worker a) makes.1 asks in
-    subst (λ l. ReadsOperands (codes "reap") workers text (Ok l)) (sym makes.2) (reap_line workers worker text get asks_get)
-reap_read workers worker text request (Err fault) few asks makes =
-    subst (λ f. ReadsOperands (codes "reap") workers text (Err f)) (sym makes.0) (no_reap workers worker text request few asks makes.1)
+    subst (λ l. ReadsOperands (key_word kind) workers text (Ok l)) (sym makes.2) (keyed_line kind workers worker text get asks_get)
+keyed_read kind workers worker text request (Err fault) few asks makes =
+    subst (λ f. ReadsOperands (key_word kind) workers text (Err f)) (sym makes.0) (no_keyed kind workers worker text request few asks makes.1)
 
 -- a line is read as the operands behind its word are
 pub whole_line : (workers : ℕ) (text word operands known : List ℕ) (r : Result Line LineFault) → IsCut 32 text word operands
@@ -196,21 +197,21 @@ divert_refused workers text none = λ line word has. by line word has
 
 -- the word of a line, where it isn't one of these
 none_of : (line : Line) (word : List ℕ) → ((step : GateStep) → gate_word step ≢ word) → bytes_eq word (codes "ask") ≡ false
-    → bytes_eq word (codes "reap") ≡ false → bytes_eq word (codes "divert") ≡ false → word_of line ≢ word
-none_of (By worker (Ask request)) word gate ask reap divert e =
+    → ((step : KeyStep) → bytes_eq word (key_word step) ≡ false) → bytes_eq word (codes "divert") ≡ false → word_of line ≢ word
+none_of (By worker (Ask request)) word gate ask keyed divert e =
     let yes : bytes_eq word (codes "ask") ≡ true = (bytes_eq-Decides word (codes "ask")).1 (sym e) in
     cc (sym yes ∙ ask)
-none_of (By worker (Reap key)) word gate ask reap divert e =
-    let yes : bytes_eq word (codes "reap") ≡ true = (bytes_eq-Decides word (codes "reap")).1 (sym e) in
-    cc (sym yes ∙ reap)
-none_of (By worker (Gate step)) word gate ask reap divert e = gate step e
-none_of (Divert index) word gate ask reap divert e =
+none_of (By worker (OfKey step key)) word gate ask keyed divert e =
+    let yes : bytes_eq word (key_word step) ≡ true = (bytes_eq-Decides word (key_word step)).1 (sym e) in
+    cc (sym yes ∙ keyed step)
+none_of (By worker (Gate step)) word gate ask keyed divert e = gate step e
+none_of (Divert index) word gate ask keyed divert e =
     let yes : bytes_eq word (codes "divert") ≡ true = (bytes_eq-Decides word (codes "divert")).1 (sym e) in
     cc (sym yes ∙ divert)
 
 pub no_word : (workers : ℕ) (text word operands : List ℕ) → IsCut 32 text word operands
     → ((step : GateStep) → gate_word step ≢ word) → bytes_eq word (codes "ask") ≡ false
-    → bytes_eq word (codes "reap") ≡ false → bytes_eq word (codes "divert") ≡ false → (line : Line) → ¬ (IsLine workers text line)
-no_word workers text word operands cut gate ask reap divert line has =
+    → ((step : KeyStep) → bytes_eq word (key_word step) ≡ false) → bytes_eq word (codes "divert") ≡ false → (line : Line) → ¬ (IsLine workers text line)
+no_word workers text word operands cut gate ask keyed divert line has =
     let parts = cut_once 32 word operands (word_of line) has.operands cut.first (word-lacks_space line) (sym cut.whole ∙ has.whole) in
-    none_of line word gate ask reap divert (sym parts.0)
+    none_of line word gate ask keyed divert (sym parts.0)

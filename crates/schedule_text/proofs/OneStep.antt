@@ -12,14 +12,15 @@ use Rattle.riak_msgs.specs.declared.request.Request.TheVariants as requests
 use Rattle.schedule_text.specs.declared.line.Line.{Line}
 use Rattle.schedule_text.specs.declared.line.Line.TheVariants.{By, Divert}
 use Rattle.schedule_text.specs.declared.line.Action.{Action}
-use Rattle.schedule_text.specs.declared.line.Action.TheVariants.{Ask, Reap, Gate}
+use Rattle.schedule_text.specs.declared.line.Action.TheVariants.{Ask, Key as OfKey, Gate}
+use Rattle.schedule_text.specs.declared.line.KeyStep.{KeyStep}
 use Rattle.schedule_text.specs.declared.line.GateStep.{GateStep}
 use Rattle.schedule_text.specs.declared.line.GateStep.TheVariants.{Enter, Leave, Mark, Unmark, Take, Put, Look, Publish}
 use Rattle.schedule_text.specs.Cuts.{IsCut}
-use Rattle.schedule_text.specs.Lines.{gate_word, action_word, word_of, operand_text, IsWorker, CarriesRequest, HasWorker, HasIndex, HasOperands, IsLine}
+use Rattle.schedule_text.specs.Lines.{gate_word, key_word, action_word, word_of, operand_text, IsWorker, CarriesRequest, HasWorker, HasIndex, HasOperands, IsLine}
 use Rattle.schedule_text.specs.Reading.{Asks}
 use Rattle.schedule_text.proofs.Cutting.{cut_once}
-use Rattle.schedule_text.proofs.Words.{word-lacks_space, decimal-lacks_space, gate_word-not_ask, gate_word-not_reap, reap-not_ask, action_word-not_divert}
+use Rattle.schedule_text.proofs.Words.{word-lacks_space, decimal-lacks_space, gate_word-not_ask, gate_word-not_key, key_word-not_ask, key_word-once, action_word-not_divert}
 use Rattle.schedule_text.proofs.LineOperands.{worker-small, operands_cut, asks_one}
 
 -- the step of a word
@@ -93,24 +94,24 @@ ask_once workers u v text r s few x y =
     let right = asks_carried workers v text y.carried s y.whole y.is_worker y.carries in
     rw (worker_once workers u v text r s few left right, asks_one workers u v text r s few left right) refl
 
--- the get that a reap carries
-reap_get : (workers worker : ℕ) (text : List ℕ) (key : Key) → HasWorker workers text worker (Reap key)
+-- the get that a step with a key carries
+keyed_get : (step : KeyStep) (workers worker : ℕ) (text : List ℕ) (key : Key) → HasWorker workers text worker (OfKey step key)
     → (get : GetAsk) × (get.key ≡ key) × Asks workers text worker (requests.Get get)
-reap_get workers worker text key has = (
+keyed_get step workers worker text key has = (
   has.carries.0,
   has.carries.1,
   asks_carried workers worker text has.carried (requests.Get has.carries.0) has.whole has.is_worker has.carries.2,
 )
 
-reap_once : (workers u v : ℕ) (text : List ℕ) (k l : Key) → workers < 2 ^ 16 → HasWorker workers text u (Reap k)
-    → HasWorker workers text v (Reap l) → By u (Reap k) ≡ By v (Reap l)
-reap_once workers u v text k l few x y =
-    let left = reap_get workers u text k x in
-    let right = reap_get workers v text l y in
+keyed_once : (workers u v : ℕ) (text : List ℕ) (a b : KeyStep) (k l : Key) → workers < 2 ^ 16 → key_word a ≡ key_word b → HasWorker workers text u (OfKey a k)
+    → HasWorker workers text v (OfKey b l) → By u (OfKey a k) ≡ By v (OfKey b l)
+keyed_once workers u v text a b k l few word x y =
+    let left = keyed_get a workers u text k x in
+    let right = keyed_get b workers v text l y in
     let one = asks_one workers u v text (requests.Get left.0) (requests.Get right.0) few left.2 right.2 in
     let get : left.0 ≡ right.0 = ap (get_in left.0) one in
     let key : k ≡ l = sym left.1 ∙ ap (λ g. g.key) get ∙ right.1 in
-    rw (worker_once workers u v text (requests.Get left.0) (requests.Get right.0) few left.2 right.2, key) refl
+    rw (worker_once workers u v text (requests.Get left.0) (requests.Get right.0) few left.2 right.2, key, key_word-once a b word) refl
 
 gate_once : (workers u v : ℕ) (text : List ℕ) (s t : GateStep) → workers < 2 ^ 16 → gate_word s ≡ gate_word t
     → HasWorker workers text u (Gate s) → HasWorker workers text v (Gate t)
@@ -125,13 +126,13 @@ gate_once workers u v text s t few word x y =
 action_once : (workers u v : ℕ) (text : List ℕ) (p q : Action) → workers < 2 ^ 16 → action_word p ≡ action_word q
     → HasWorker workers text u p → HasWorker workers text v q → By u p ≡ By v q
 action_once workers u v text (Ask r) (Ask s) few word x y = ask_once workers u v text r s few x y
-action_once workers u v text (Ask r) (Reap l) few word x y = absurd (reap-not_ask (sym word))
+action_once workers u v text (Ask r) (OfKey b l) few word x y = absurd (key_word-not_ask b (sym word))
 action_once workers u v text (Ask r) (Gate t) few word x y = absurd (gate_word-not_ask t (sym word))
-action_once workers u v text (Reap k) (Ask s) few word x y = absurd (reap-not_ask word)
-action_once workers u v text (Reap k) (Reap l) few word x y = reap_once workers u v text k l few x y
-action_once workers u v text (Reap k) (Gate t) few word x y = absurd (gate_word-not_reap t (sym word))
+action_once workers u v text (OfKey a k) (Ask s) few word x y = absurd (key_word-not_ask a word)
+action_once workers u v text (OfKey a k) (OfKey b l) few word x y = keyed_once workers u v text a b k l few word x y
+action_once workers u v text (OfKey a k) (Gate t) few word x y = absurd (gate_word-not_key t a (sym word))
 action_once workers u v text (Gate s) (Ask r) few word x y = absurd (gate_word-not_ask s word)
-action_once workers u v text (Gate s) (Reap l) few word x y = absurd (gate_word-not_reap s word)
+action_once workers u v text (Gate s) (OfKey b l) few word x y = absurd (gate_word-not_key s b word)
 action_once workers u v text (Gate s) (Gate t) few word x y = gate_once workers u v text s t few word x y
 
 small_index : (index : ℕ) → index < 2 ^ 16 → index < 2 ^ 64

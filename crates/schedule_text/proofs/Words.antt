@@ -9,11 +9,13 @@ use Rattle.std.proofs.lemmas.Str.Parse.{digit_from_value}
 use Rattle.schedule_text.specs.declared.line.Line.{Line}
 use Rattle.schedule_text.specs.declared.line.Line.TheVariants.{By, Divert}
 use Rattle.schedule_text.specs.declared.line.Action.{Action}
-use Rattle.schedule_text.specs.declared.line.Action.TheVariants.{Ask, Reap, Gate}
+use Rattle.schedule_text.specs.declared.line.Action.TheVariants.{Ask, Key as OfKey, Gate}
+use Rattle.schedule_text.specs.declared.line.KeyStep.{KeyStep}
+use Rattle.schedule_text.specs.declared.line.KeyStep.TheVariants.{Reap, Copy}
 use Rattle.schedule_text.specs.declared.line.GateStep.{GateStep}
 use Rattle.schedule_text.specs.declared.line.GateStep.TheVariants.{Enter, Leave, Mark, Unmark, Take, Put, Look, Publish}
 use Rattle.schedule_text.specs.Cuts.{Lacks}
-use Rattle.schedule_text.specs.Lines.{gate_word, action_word, word_of}
+use Rattle.schedule_text.specs.Lines.{gate_word, key_word, action_word, word_of}
 
 gate_word-lacks_space : (step : GateStep) → Lacks 32 (gate_word step)
 gate_word-lacks_space Enter = refl
@@ -27,7 +29,8 @@ gate_word-lacks_space Publish = refl
 
 action_word-lacks_space : (action : Action) → Lacks 32 (action_word action)
 action_word-lacks_space (Ask request) = refl
-action_word-lacks_space (Reap key) = refl
+action_word-lacks_space (OfKey Reap key) = refl
+action_word-lacks_space (OfKey Copy key) = refl
 action_word-lacks_space (Gate step) = gate_word-lacks_space step
 
 pub word-lacks_space : (line : Line) → Lacks 32 (word_of line)
@@ -47,7 +50,7 @@ digits-lack_space (d ∷ ds) all = rw (not_space d all.0, digits-lack_space ds a
 pub decimal-lacks_space : (n : ℕ) → n < 2 ^ 64 → Lacks 32 (decimal n)
 decimal-lacks_space n small = digits-lack_space (decimal n) (decimal_is_IsNumeral n small).0.1
 
--- the word of a gate's step is neither `ask` nor `reap` nor `divert`
+-- the word of a gate's step is neither `ask` nor `reap` nor `copy` nor `divert`
 other_than : (a b : List ℕ) → bytes_eq a b ≡ false → bytes_eq b b ≡ true → a ≢ b
 other_than a b unlike same e =
     let yes : bytes_eq a b ≡ true = ap (λ x. bytes_eq x b) e ∙ same in
@@ -63,15 +66,23 @@ gate_word-not_ask Put = other_than (codes "put") (codes "ask") refl refl
 gate_word-not_ask Look = other_than (codes "look") (codes "ask") refl refl
 gate_word-not_ask Publish = other_than (codes "publish") (codes "ask") refl refl
 
-pub gate_word-not_reap : (step : GateStep) → gate_word step ≢ codes "reap"
-gate_word-not_reap Enter = other_than (codes "enter") (codes "reap") refl refl
-gate_word-not_reap Leave = other_than (codes "leave") (codes "reap") refl refl
-gate_word-not_reap Mark = other_than (codes "mark") (codes "reap") refl refl
-gate_word-not_reap Unmark = other_than (codes "unmark") (codes "reap") refl refl
-gate_word-not_reap Take = other_than (codes "take") (codes "reap") refl refl
-gate_word-not_reap Put = other_than (codes "put") (codes "reap") refl refl
-gate_word-not_reap Look = other_than (codes "look") (codes "reap") refl refl
-gate_word-not_reap Publish = other_than (codes "publish") (codes "reap") refl refl
+pub gate_word-not_key : (step : GateStep) (other : KeyStep) → gate_word step ≢ key_word other
+gate_word-not_key Enter Reap = other_than (codes "enter") (codes "reap") refl refl
+gate_word-not_key Enter Copy = other_than (codes "enter") (codes "copy") refl refl
+gate_word-not_key Leave Reap = other_than (codes "leave") (codes "reap") refl refl
+gate_word-not_key Leave Copy = other_than (codes "leave") (codes "copy") refl refl
+gate_word-not_key Mark Reap = other_than (codes "mark") (codes "reap") refl refl
+gate_word-not_key Mark Copy = other_than (codes "mark") (codes "copy") refl refl
+gate_word-not_key Unmark Reap = other_than (codes "unmark") (codes "reap") refl refl
+gate_word-not_key Unmark Copy = other_than (codes "unmark") (codes "copy") refl refl
+gate_word-not_key Take Reap = other_than (codes "take") (codes "reap") refl refl
+gate_word-not_key Take Copy = other_than (codes "take") (codes "copy") refl refl
+gate_word-not_key Put Reap = other_than (codes "put") (codes "reap") refl refl
+gate_word-not_key Put Copy = other_than (codes "put") (codes "copy") refl refl
+gate_word-not_key Look Reap = other_than (codes "look") (codes "reap") refl refl
+gate_word-not_key Look Copy = other_than (codes "look") (codes "copy") refl refl
+gate_word-not_key Publish Reap = other_than (codes "publish") (codes "reap") refl refl
+gate_word-not_key Publish Copy = other_than (codes "publish") (codes "copy") refl refl
 
 gate_word-not_divert : (step : GateStep) → gate_word step ≢ codes "divert"
 gate_word-not_divert Enter = other_than (codes "enter") (codes "divert") refl refl
@@ -83,18 +94,27 @@ gate_word-not_divert Put = other_than (codes "put") (codes "divert") refl refl
 gate_word-not_divert Look = other_than (codes "look") (codes "divert") refl refl
 gate_word-not_divert Publish = other_than (codes "publish") (codes "divert") refl refl
 
--- the two others are different
-pub reap-not_ask : codes "reap" ≢ codes "ask"
-reap-not_ask = other_than (codes "reap") (codes "ask") refl refl
+-- the others are different
+pub key_word-not_ask : (step : KeyStep) → key_word step ≢ codes "ask"
+key_word-not_ask Reap = other_than (codes "reap") (codes "ask") refl refl
+key_word-not_ask Copy = other_than (codes "copy") (codes "ask") refl refl
+
+pub key_word-once : (a b : KeyStep) → key_word a ≡ key_word b → a ≡ b
+key_word-once Reap Reap e = refl
+key_word-once Reap Copy e = absurd (other_than (codes "reap") (codes "copy") refl refl e)
+key_word-once Copy Reap e = absurd (other_than (codes "copy") (codes "reap") refl refl e)
+key_word-once Copy Copy e = refl
 
 -- and none is a partition's
 pub action_word-not_divert : (action : Action) → action_word action ≢ codes "divert"
 action_word-not_divert (Ask request) = other_than (codes "ask") (codes "divert") refl refl
-action_word-not_divert (Reap key) = other_than (codes "reap") (codes "divert") refl refl
+action_word-not_divert (OfKey Reap key) = other_than (codes "reap") (codes "divert") refl refl
+action_word-not_divert (OfKey Copy key) = other_than (codes "copy") (codes "divert") refl refl
 action_word-not_divert (Gate step) = gate_word-not_divert step
 
 pub divert-not_ask : codes "divert" ≢ codes "ask"
 divert-not_ask = other_than (codes "divert") (codes "ask") refl refl
 
-pub divert-not_reap : codes "divert" ≢ codes "reap"
-divert-not_reap = other_than (codes "divert") (codes "reap") refl refl
+pub divert-not_key : (step : KeyStep) → codes "divert" ≢ key_word step
+divert-not_key Reap = other_than (codes "divert") (codes "reap") refl refl
+divert-not_key Copy = other_than (codes "divert") (codes "copy") refl refl

@@ -8,7 +8,9 @@ use Rattle.riak_msgs.specs.Reading.{Decodes}
 use Rattle.schedule_text.specs.declared.line.Line.{Line}
 use Rattle.schedule_text.specs.declared.line.Line.TheVariants.{By, Divert}
 use Rattle.schedule_text.specs.declared.line.Action.{Action}
-use Rattle.schedule_text.specs.declared.line.Action.TheVariants.{Ask, Reap, Gate}
+use Rattle.schedule_text.specs.declared.line.Action.TheVariants.{Ask, Key as OfKey, Gate}
+use Rattle.schedule_text.specs.declared.line.KeyStep.{KeyStep}
+use Rattle.schedule_text.specs.declared.line.KeyStep.TheVariants.{Reap, Copy}
 use Rattle.schedule_text.specs.declared.line.GateStep.{GateStep}
 use Rattle.schedule_text.specs.declared.line.GateStep.TheVariants.{Enter, Leave, Mark, Unmark, Take, Put, Look, Publish}
 
@@ -34,10 +36,15 @@ NamesInnerStep word (Some step) = gate_word step ≡ word
 NamesInnerStep word None =
     (gate_word Take ≢ word) × (gate_word Put ≢ word) × (gate_word Look ≢ word) × (gate_word Publish ≢ word)
 
+-- the word of a step with a key
+abbrev pub key_word : KeyStep → List ℕ
+key_word Reap = codes "reap"
+key_word Copy = codes "copy"
+
 -- the word of an action
 abbrev pub action_word : Action → List ℕ
 action_word (Ask request) = codes "ask"
-action_word (Reap key) = codes "reap"
+action_word (OfKey step key) = key_word step
 action_word (Gate step) = gate_word step
 
 -- the word of a line
@@ -77,10 +84,10 @@ pub record CarriesRequest (carried : Option (List ℕ)) (request : Request) : Ty
   pub bytes : IsBytes message
   pub asks : AsksFor message request
 
--- an ask carries its request, a reap a get of its key, and a gate's step nothing
+-- an ask carries its request, a reap and a copy a get of its key, and a gate's step nothing
 abbrev pub Carries : Action → Option (List ℕ) → Type 0
 Carries (Ask request) carried = CarriesRequest carried request
-Carries (Reap key) carried = (get : GetAsk) × (get.key ≡ key) × CarriesRequest carried (requests.Get get)
+Carries (OfKey step key) carried = (get : GetAsk) × (get.key ≡ key) × CarriesRequest carried (requests.Get get)
 Carries (Gate step) carried = carried ≡ None
 
 -- the text behind the word of what a worker does, and its space

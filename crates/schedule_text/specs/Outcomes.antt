@@ -17,6 +17,8 @@ outcome_text outcomes.Done = codes "ok"
 outcome_text (outcomes.Reply reply) = codes "reply " ++ reply_text reply.now
 outcome_text outcomes.Reaped = codes "reaped"
 outcome_text outcomes.Kept = codes "kept"
+outcome_text outcomes.Copied = codes "copied"
+outcome_text outcomes.Stuck = codes "stuck"
 
 -- the line: its number in decimal, a space, the outcome, and a line feed
 abbrev pub outcome_line : ℕ → StepOutcome → List ℕ

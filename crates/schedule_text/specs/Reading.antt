@@ -8,10 +8,11 @@ use Rattle.riak_msgs.specs.declared.fault.MsgFault.{MsgFault}
 use Rattle.riak_msgs.specs.declared.fault.MsgFault.TheVariants as faults
 use Rattle.schedule_text.specs.declared.line.Line.{Line}
 use Rattle.schedule_text.specs.declared.line.Line.TheVariants.{By}
-use Rattle.schedule_text.specs.declared.line.Action.TheVariants.{Reap}
+use Rattle.schedule_text.specs.declared.line.Action.TheVariants.{Key as OfKey}
+use Rattle.schedule_text.specs.declared.line.KeyStep.{KeyStep}
 use Rattle.schedule_text.specs.declared.fault.LineFault.{LineFault}
 use Rattle.schedule_text.specs.declared.fault.LineFault.TheVariants.{BadStep, NoMemory}
-use Rattle.schedule_text.specs.Lines.{word_of, operand_text, IsWorker, AsksFor, HasOperands, IsLine}
+use Rattle.schedule_text.specs.Lines.{key_word, word_of, operand_text, IsWorker, AsksFor, HasOperands, IsLine}
 
 -- the number below 65,536 that a text writes in decimal without leading zeros
 abbrev pub ReadsDecimal : List ℕ → Option ℕ → Type 0
@@ -32,7 +33,7 @@ fault_of_message faults.EmptyName = BadStep
 fault_of_message faults.NoKey = BadStep
 fault_of_message faults.NoMemory = NoMemory
 
--- the operands of an ask or a reap, whatever their message says
+-- the operands of an ask, a reap or a copy, whatever their message says
 pub record HasMessage (workers : ℕ) (text : List ℕ) : Type 0 where
   pub worker : ℕ
   pub message : List ℕ
@@ -40,11 +41,11 @@ pub record HasMessage (workers : ℕ) (text : List ℕ) : Type 0 where
   pub is_worker : IsWorker workers worker
   pub bytes : IsBytes message
 
--- the word of an ask or a reap
+-- the word of an ask, a reap or a copy
 abbrev pub IsAskWord : List ℕ → Type 0
-IsAskWord word = (word ≡ codes "ask") ⊎ (word ≡ codes "reap")
+IsAskWord word = (word ≡ codes "ask") ⊎ ((step : KeyStep) × (word ≡ key_word step))
 
--- a line of the form of an ask or a reap, whatever its message says
+-- a line of the form of an ask, a reap or a copy, whatever its message says
 pub record IsOfAskForm (workers : ℕ) (text : List ℕ) : Type 0 where
   pub word : List ℕ
   pub operands : List ℕ
@@ -53,7 +54,7 @@ pub record IsOfAskForm (workers : ℕ) (text : List ℕ) : Type 0 where
   pub stand : HasMessage workers operands
 
 -- a line is read as what it asks for, and refused where it asks for nothing; want of memory is told of a line of the
--- form of an ask or a reap alone
+-- form of an ask, a reap or a copy alone
 abbrev pub Reads : ℕ → List ℕ → Result Line LineFault → Type 0
 Reads workers text (Ok line) = IsLine workers text line
 Reads workers text (Err BadStep) = (line : Line) → ¬ (IsLine workers text line)
@@ -74,17 +75,17 @@ pub record Asks (workers : ℕ) (text : List ℕ) (worker : ℕ) (request : Requ
   pub bytes : IsBytes message
   pub asks : AsksFor message request
 
--- the operands of an ask or a reap are read as what they ask, or refused
+-- the operands of an ask, a reap or a copy are read as what they ask, or refused
 abbrev pub ReadsAsked : ℕ → List ℕ → Result (ℕ × Request) LineFault → Type 0
 ReadsAsked workers text (Ok asked) = Asks workers text asked.0 asked.1
 ReadsAsked workers text (Err BadStep) = (worker : ℕ) (request : Request) → ¬ (Asks workers text worker request)
 ReadsAsked workers text (Err NoMemory) = HasMessage workers text
 
--- of a get a reap of its key is made, and of another request none
-abbrev pub MakesReap : ℕ → Request → Result Line LineFault → Type 0
-MakesReap worker request (Ok line) =
-    (get : GetAsk) × (request ≡ requests.Get get) × (line ≡ By worker (Reap get.key))
-MakesReap worker request (Err fault) = (fault ≡ BadStep) × ((get : GetAsk) → request ≢ requests.Get get)
+-- of a get a step with its key is made, and of another request none
+abbrev pub MakesKeyed : KeyStep → ℕ → Request → Result Line LineFault → Type 0
+MakesKeyed step worker request (Ok line) =
+    (get : GetAsk) × (request ≡ requests.Get get) × (line ≡ By worker (OfKey step get.key))
+MakesKeyed step worker request (Err fault) = (fault ≡ BadStep) × ((get : GetAsk) → request ≢ requests.Get get)
 
 -- a message is read as the request that it asks for, or refused
 abbrev pub ReadsMessage : List ℕ → Result Request LineFault → Type 0

@@ -37,7 +37,7 @@ mod verdict;
 pub use comparison::Comparison;
 pub use fault::LineFault;
 pub use laws::a_line_asks_for_one_step;
-pub use line::{Action, GateStep, Line, MAX_LINES};
+pub use line::{Action, GateStep, KeyStep, Line, MAX_LINES};
 pub use lines::Lines;
 pub use outcome::{StepOutcome, write_outcome};
 pub use reading::read_line;

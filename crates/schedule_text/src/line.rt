@@ -21,10 +21,19 @@ pub enum Line {
 pub enum Action {
     /// It is asked this get, put or delete.
     Ask(Request),
-    /// It is asked to forget this key.
-    Reap(Key),
+    /// It is asked to do this with a key.
+    Key(KeyStep, Key),
     /// It takes a step at its vnode's gate.
     Gate(GateStep),
+}
+
+/// What a worker is asked to do with a key.
+#[derive(Clone, Copy, Debug, Drop, PartialEq, Eq)]
+pub enum KeyStep {
+    /// Forget it, where it is dead.
+    Reap,
+    /// Copy it back, from the fallback of its partition to the primary.
+    Copy,
 }
 
 /// A step of a worker at the gate of the vnode that it was asked for.

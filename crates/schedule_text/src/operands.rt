@@ -2,12 +2,12 @@
 
 ghost use Rattle.std.specs.Prelude.{◌≡◌, ◌↔◌, ℕ, IsTrue, decimal, codes};
 ghost use Rattle.std.specs.Str.{bytes_eq};
-ghost use Rattle.schedule_text.specs.Lines.{IsWorker, gate_word};
-ghost use Rattle.schedule_text.specs.Reading.{MakesReap, ReadsAsked, ReadsDecimal, ReadsOperands, ReadsWorker};
+ghost use Rattle.schedule_text.specs.Lines.{IsWorker, gate_word, key_word};
+ghost use Rattle.schedule_text.specs.Reading.{MakesKeyed, ReadsAsked, ReadsDecimal, ReadsOperands, ReadsWorker};
 
 use crate::cut::cut_at;
 use crate::fault::LineFault;
-use crate::line::{Action, GateStep, Line};
+use crate::line::{Action, GateStep, KeyStep, Line};
 use crate::message::read_hex_message;
 use itoa::Buffer;
 use riak_msgs::Request;
@@ -87,22 +87,27 @@ pub(crate) fn read_ask(alloc: Global, text: &[u8], workers: u16) -> Result<Line,
     }
 }
 
-/// A reap of the key that a get names. Another request is let go.
-fn reap_of(worker: u16, request: Request) -> Result<Line, LineFault>
-    ensures { MakesReap worker request result }
+/// The line of a step with the key that a get names. Another request is let go.
+fn keyed_of(step: KeyStep, worker: u16, request: Request) -> Result<Line, LineFault>
+    ensures { MakesKeyed step worker request result }
 {
     match request {
-        Request::Get(get) => Ok(Line::By(worker, Action::Reap(get.key))),
+        Request::Get(get) => Ok(Line::By(worker, Action::Key(step, get.key))),
         _ => Err(LineFault::BadStep),
     }
 }
 
-/// The line that asks for a reap: its request is a get, of which the key counts.
-pub(crate) fn read_reap(alloc: Global, text: &[u8], workers: u16) -> Result<Line, LineFault>
-    ensures { ReadsOperands (codes "reap") workers text.now result }
+/// The line that asks for a step with a key, a reap or a copy: its request is a get, of which the key counts.
+pub(crate) fn read_keyed(
+    step: KeyStep,
+    alloc: Global,
+    text: &[u8],
+    workers: u16,
+) -> Result<Line, LineFault>
+    ensures { ReadsOperands (key_word step) workers text.now result }
 {
     match read_asked(alloc, text, workers) {
-        Ok((worker, request)) => reap_of(worker, request),
+        Ok((worker, request)) => keyed_of(step, worker, request),
         Err(fault) => Err(fault),
     }
 }

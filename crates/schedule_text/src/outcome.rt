@@ -18,8 +18,12 @@ pub enum StepOutcome<'a> {
     Reply(&'a Reply),
     /// The step forgot a dead key: `reaped`.
     Reaped,
-    /// The step found that a reap's key isn't dead: `kept`.
+    /// The step found that a reap's key isn't dead, or that the fallback doesn't hold a copier's: `kept`.
     Kept,
+    /// The step copied a key back: `copied`.
+    Copied,
+    /// The step found that the primary would have too much of a copier's key: `stuck`.
+    Stuck,
 }
 
 /// Appends a reply's code and body in lower-case hexadecimal.
@@ -50,6 +54,8 @@ fn append_outcome(
         }
         StepOutcome::Reaped => out.extend_from_slice(b"reaped"),
         StepOutcome::Kept => out.extend_from_slice(b"kept"),
+        StepOutcome::Copied => out.extend_from_slice(b"copied"),
+        StepOutcome::Stuck => out.extend_from_slice(b"stuck"),
     }
 }
 

@@ -4,22 +4,22 @@ ghost use Rattle.schedule_text.specs.Reading.{Reads};
 
 use crate::cut::cut_at;
 use crate::fault::LineFault;
-use crate::line::{GateStep, Line};
-use crate::operands::{read_ask, read_divert, read_gate_step, read_reap};
+use crate::line::{GateStep, KeyStep, Line};
+use crate::operands::{read_ask, read_divert, read_gate_step, read_keyed};
 use std::alloc::Global;
 
 /// The step that a line asks for, where there are `workers` workers. The text is the line without its line feed.
 ///
 /// A line is a word, one space, and the worker's number, from 1 to `workers`, in decimal without leading zeros: `enter`,
-/// `leave`, `mark`, `unmark`, `take`, `put`, `look`, `publish`. Behind `ask` and `reap` follow one more space and a
+/// `leave`, `mark`, `unmark`, `take`, `put`, `look`, `publish`. Behind `ask`, `reap` and `copy` follow one more space and a
 /// message in lower-case hexadecimal: a message code and a body, which [`read_request`](riak_msgs::read_request) has to
-/// read. For `ask` it is a get (9), a put (11) or a delete (13); for `reap` it is a get, whose key is meant and whose
-/// options aren't looked at. Behind `divert` stands no worker but a partition's index, from 0 to 65,535, in decimal without
+/// read. For `ask` it is a get (9), a put (11) or a delete (13); for the two others it is a get, whose key is meant and
+/// whose options aren't looked at. Behind `divert` stands no worker but a partition's index, from 0 to 65,535, in decimal without
 /// leading zeros; that there is such a partition isn't asked here.
 ///
 /// Refused by:
 /// - `BadStep`: exactly where the text is no such line. All but the message is looked at before any memory is taken.
-/// - `NoMemory`: memory was refused, for an `ask` or a `reap` of this form; whether its message is a request is then
+/// - `NoMemory`: memory was refused, for an `ask`, a `reap` or a `copy` of this form; whether its message is a request is then
 ///   not known.
 pub fn read_line(alloc: Global, text: &[u8], workers: u16) -> Result<Line, LineFault>
     ensures reads { Reads workers text.now result }
@@ -33,7 +33,11 @@ pub fn read_line(alloc: Global, text: &[u8], workers: u16) -> Result<Line, LineF
     }
     let is_reap = word == b"reap".as_slice();
     if is_reap {
-        return read_reap(alloc, operands, workers);
+        return read_keyed(KeyStep::Reap, alloc, operands, workers);
+    }
+    let is_copy = word == b"copy".as_slice();
+    if is_copy {
+        return read_keyed(KeyStep::Copy, alloc, operands, workers);
     }
     let is_divert = word == b"divert".as_slice();
     if is_divert {

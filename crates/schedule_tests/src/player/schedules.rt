@@ -148,6 +148,27 @@ plain not compared\n",
         answers: "1 no\n2 no\n3 ok\n4 no\n5 ok\n6 reply 0a\nplain equal\n",
     },
     Schedule {
+        shows: "what was written at a fallback is copied back",
+        text: "ask 1 0b0a016212016b22030a0176\ntake 1\nlook 1\npublish 1\nput 1\ncopy 1 090a016212016b\ndivert 0\n\
+ask 1 0b0a016212016b22030a0177\ntake 1\nlook 1\npublish 1\nput 1\n\
+copy 1 090a016212016b\nenter 1\nlook 1\ntake 1\nlook 1\npublish 1\nput 1\nleave 1\n\
+copy 1 090a016212016a\nenter 1\nlook 1\nleave 1\n",
+        workers: 1,
+        result: Ok(()),
+        answers: "1 ok\n2 ok\n3 ok\n4 reply 0c\n5 ok\n6 no\n7 ok\n\
+8 ok\n9 ok\n10 ok\n11 reply 0c\n12 ok\n\
+13 ok\n14 ok\n15 ok\n16 ok\n17 ok\n18 copied\n19 ok\n20 ok\n\
+21 ok\n22 ok\n23 kept\n24 ok\n\
+plain not compared\n",
+    },
+    Schedule {
+        shows: "a copy of what is no get is a bad step",
+        text: "divert 0\ncopy 1 0d0a016212016b\n",
+        workers: 1,
+        result: Err(StepsFault::BadStep(2)),
+        answers: "1 ok\n",
+    },
+    Schedule {
         shows: "an index that isn't one is a bad step",
         text: "divert 0\ndivert 65536\n",
         workers: 1,

@@ -21,6 +21,8 @@ pub enum Act {
     Publish(u16),
     /// The partition of this index is diverted.
     Divert(u16),
+    /// It is to copy b/k back, for the partition of this index.
+    Copy(u16, u16),
 }
 
 /// What comes of it.
@@ -33,8 +35,12 @@ pub enum Wanted {
     Reply(Message),
     /// It answers that the key is forgotten.
     Reaped,
-    /// It answers that the key isn't dead.
+    /// It answers that the key isn't dead, or isn't held where it was to be copied from.
     Kept,
+    /// The key was copied.
+    Copied,
+    /// The copy is stuck.
+    Stuck,
 }
 
 /// A world of run 1, and a second time where memory was refused.
@@ -72,11 +78,19 @@ fn asks_reap(
     }
 }
 
+fn copies(world: &mut World, alloc: Global, worker: u16, vnode: u16) -> Result<Outcome, StepFault> {
+    match Key::of_default_type(alloc, b"b", b"k") {
+        Ok(key) => world.step(alloc, Step::Copy(worker, vnode, key)),
+        Err(_) => Err(StepFault::NoMemory),
+    }
+}
+
 /// Takes a step.
 fn take(world: &mut World, alloc: Global, act: &Act) -> Result<Outcome, StepFault> {
     let step = match act {
         Act::Ask(worker, vnode, request) => return asks(world, alloc, *worker, *vnode, request),
         Act::Reap(worker, vnode) => return asks_reap(world, alloc, *worker, *vnode),
+        Act::Copy(worker, vnode) => return copies(world, alloc, *worker, *vnode),
         Act::Enter(worker) => Step::Enter(*worker),
         Act::Leave(worker) => Step::Leave(*worker),
         Act::Mark(worker) => Step::Mark(*worker),
@@ -94,7 +108,7 @@ fn take(world: &mut World, alloc: Global, act: &Act) -> Result<Outcome, StepFaul
 fn lacked_memory(act: &Act, outcome: &Result<Outcome, StepFault>) -> bool {
     matches!(
         act,
-        Act::Ask(..) | Act::Reap(..) | Act::Look(_) | Act::Divert(_)
+        Act::Ask(..) | Act::Reap(..) | Act::Copy(..) | Act::Look(_) | Act::Divert(_)
     ) && matches!(outcome, Err(StepFault::NoMemory))
 }
 
@@ -124,6 +138,8 @@ fn is_wanted(alloc: Global, outcome: &Result<Outcome, StepFault>, wanted: &Wante
         (Ok(Outcome::Done), Wanted::Done)
         | (Ok(Outcome::No), Wanted::No)
         | (Ok(Outcome::Reaped), Wanted::Reaped)
+        | (Ok(Outcome::Copied), Wanted::Copied)
+        | (Ok(Outcome::Stuck), Wanted::Stuck)
         | (Ok(Outcome::Kept), Wanted::Kept) => true,
         (Ok(Outcome::Reply(reply)), Wanted::Reply(message)) => is_reply(alloc, reply, message),
         _ => false,

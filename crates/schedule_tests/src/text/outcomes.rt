@@ -16,6 +16,10 @@ enum Written {
     Reaped(u64),
     /// The step that found that its key isn't dead.
     Kept(u64),
+    /// The step that copied a key back.
+    Copied(u64),
+    /// The step that found a copy stuck.
+    Stuck(u64),
     /// The reply to a step.
     Reply(u64, Message),
     /// The verdict of a run.
@@ -49,6 +53,16 @@ const WRITTEN_LINES: &[WrittenLine] = &[
         shows: "a key that isn't dead",
         of: Written::Kept(10),
         line: "10 kept\n",
+    },
+    WrittenLine {
+        shows: "a key that was copied back",
+        of: Written::Copied(11),
+        line: "11 copied\n",
+    },
+    WrittenLine {
+        shows: "a key that is stuck",
+        of: Written::Stuck(12),
+        line: "12 stuck\n",
     },
     WrittenLine {
         shows: "the reply to a get of an absent key",
@@ -146,6 +160,8 @@ fn writes(alloc: Global, row: &WrittenLine) -> bool {
         Written::No(number) => writes_outcome(alloc, *number, StepOutcome::No, row.line),
         Written::Reaped(number) => writes_outcome(alloc, *number, StepOutcome::Reaped, row.line),
         Written::Kept(number) => writes_outcome(alloc, *number, StepOutcome::Kept, row.line),
+        Written::Copied(number) => writes_outcome(alloc, *number, StepOutcome::Copied, row.line),
+        Written::Stuck(number) => writes_outcome(alloc, *number, StepOutcome::Stuck, row.line),
         Written::Reply(number, message) => writes_reply(alloc, *number, message, row.line),
         Written::Verdict(verdict) => writes_verdict(alloc, *verdict, row.line),
     }

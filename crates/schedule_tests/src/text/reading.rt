@@ -24,13 +24,13 @@ enum Asks {
     Get,
     /// A put of "v" under b/k.
     Put,
-    /// To forget b/k.
-    Reap,
+    /// To do this with b/k.
+    Key(KeyStep),
     /// No worker: a partition is diverted.
     Divert,
 }
 
-use Asks::{Divert, Gate, Get, Put, Reap};
+use Asks::{Divert, Gate, Get, Put};
 
 /// A line that is a step of one of three workers, or of a partition.
 struct StepLine {
@@ -106,7 +106,13 @@ const STEP_LINES: &[StepLine] = &[
         shows: "a worker is asked to forget a key",
         line: "reap 3 090a016212016b",
         number: 3,
-        asks: Reap,
+        asks: Asks::Key(KeyStep::Reap),
+    },
+    StepLine {
+        shows: "a worker is asked to copy a key back",
+        line: "copy 1 090a016212016b",
+        number: 1,
+        asks: Asks::Key(KeyStep::Copy),
     },
     StepLine {
         shows: "a partition is diverted",
@@ -138,7 +144,7 @@ fn is_request(request: &Request, asks: &Asks) -> bool {
 fn is_action(action: &Action, asks: &Asks) -> bool {
     match (action, asks) {
         (Action::Ask(request), _) => is_request(request, asks),
-        (Action::Reap(key), Reap) => is_key(key),
+        (Action::Key(found, key), Asks::Key(step)) => *found == *step && is_key(key),
         (Action::Gate(found), Gate(step)) => *found == *step,
         _ => false,
     }

@@ -1,6 +1,8 @@
-use Rattle.std.proofs.Common.{◌≡◌, sym, ap, ◌∙◌, codes, true, false}
+use Rattle.std.proofs.Common.{◌≡◌, ℕ, List, sym, ap, ◌∙◌, codes, true, false}
 use Rattle.std.specs.Str.{bytes_eq}
-use Rattle.schedule_text.specs.Lines.{gate_word}
+use Rattle.schedule_text.specs.declared.line.KeyStep.{KeyStep}
+use Rattle.schedule_text.specs.declared.line.KeyStep.TheVariants.{Reap, Copy}
+use Rattle.schedule_text.specs.Lines.{gate_word, key_word}
 use Rattle.schedule_text.proofs.LineOperands.{whole_line, same_text, no_word}
 use Rattle.schedule_text.proofs.reading.read_line.Goals as goal
 
@@ -20,14 +22,24 @@ returns-then-is_reap c =
     let is : true ≡ bytes_eq word (codes "reap") = sym c.if-is_reap.true ∙ c.eq-is_reap.ensures ∙ ap (bytes_eq word) c.as_slice-2.ensures in
     record {
       reads =
-          whole_line c.args.workers c.args.text.now word c.in-Some.operands.now (codes "reap") c.read_reap.result c.in-Some.ensures
-          (same_text word (codes "reap") is) c.read_reap.ensures;
+          whole_line c.args.workers c.args.text.now word c.in-Some.operands.now (codes "reap") c.read_keyed.result c.in-Some.ensures
+          (same_text word (codes "reap") is) c.read_keyed.ensures;
+    }
+
+pub returns-then-is_copy : goal.returns-then-is_copy
+returns-then-is_copy c =
+    let word = c.in-Some.word.now in
+    let is : true ≡ bytes_eq word (codes "copy") = sym c.if-is_copy.true ∙ c.eq-is_copy.ensures ∙ ap (bytes_eq word) c.as_slice-3.ensures in
+    record {
+      reads =
+          whole_line c.args.workers c.args.text.now word c.in-Some.operands.now (codes "copy") c.read_keyed-then-is_copy.result c.in-Some.ensures
+          (same_text word (codes "copy") is) c.read_keyed-then-is_copy.ensures;
     }
 
 pub returns-then-is_divert : goal.returns-then-is_divert
 returns-then-is_divert c =
     let word = c.in-Some.word.now in
-    let is : true ≡ bytes_eq word (codes "divert") = sym c.if-is_divert.true ∙ c.eq-is_divert.ensures ∙ ap (bytes_eq word) c.as_slice-3.ensures in
+    let is : true ≡ bytes_eq word (codes "divert") = sym c.if-is_divert.true ∙ c.eq-is_divert.ensures ∙ ap (bytes_eq word) c.as_slice-4.ensures in
     record {
       reads =
           whole_line c.args.workers c.args.text.now word c.in-Some.operands.now (codes "divert") c.read_divert.result c.in-Some.ensures
@@ -46,7 +58,12 @@ returns-in-None c =
     let word = c.in-Some.word.now in
     let other : bytes_eq word (codes "ask") ≡ false = sym (c.eq-is_ask.ensures ∙ ap (bytes_eq word) c.as_slice.ensures) ∙ c.if-is_ask.false in
     let another : bytes_eq word (codes "reap") ≡ false = sym (c.eq-is_reap.ensures ∙ ap (bytes_eq word) c.as_slice-2.ensures) ∙ c.if-is_reap.false in
-    let third : bytes_eq word (codes "divert") ≡ false = sym (c.eq-is_divert.ensures ∙ ap (bytes_eq word) c.as_slice-3.ensures) ∙ c.if-is_divert.false in
+    let copied : bytes_eq word (codes "copy") ≡ false = sym (c.eq-is_copy.ensures ∙ ap (bytes_eq word) c.as_slice-3.ensures) ∙ c.if-is_copy.false in
+    let third : bytes_eq word (codes "divert") ≡ false = sym (c.eq-is_divert.ensures ∙ ap (bytes_eq word) c.as_slice-4.ensures) ∙ c.if-is_divert.false in
     record {
-      reads = no_word c.args.workers c.args.text.now word c.in-Some.operands.now c.in-Some.ensures c.in-None.ensures other another third;
+      reads = no_word c.args.workers c.args.text.now word c.in-Some.operands.now c.in-Some.ensures c.in-None.ensures other (both word another copied) third;
     }
+  where
+    both : (word : List ℕ) → bytes_eq word (codes "reap") ≡ false → bytes_eq word (codes "copy") ≡ false → (step : KeyStep) → bytes_eq word (key_word step) ≡ false
+    both word reap copy Reap = reap
+    both word reap copy Copy = copy

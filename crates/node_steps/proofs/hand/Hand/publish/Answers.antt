@@ -3,6 +3,7 @@ use Rattle.std.specs.Prelude.{Some, IsSome, IfSome}
 use Rattle.vnode_protocol.specs.Plans.{IsPrepared}
 use Rattle.node_steps.specs.Hands.{command_of}
 use Rattle.node_steps.proofs.Planning.{finishes, still_named, still_open}
+use Rattle.node_steps.proofs.Preparing.{still_sound}
 use Rattle.node_steps.proofs.hand.Hand.publish.Goals as goal
 
 pub invariant_of-self : goal.invariant_of-self
@@ -14,6 +15,7 @@ invariant_of-self c =
     let now = finishes old.state change c.finish.result c.finish.new.self.state c.finish.ensures.step.1 in
     record {
       named = still_named old.state c.finish.result c.finish.new.self.state (command_of change) planned.0 now ∙ c.self.invariant.named;
+      sound = still_sound old.state c.finish.result c.finish.new.self.state (command_of change) planned.0 now c.self.invariant.sound;
       opened = still_open old.state c.finish.result c.finish.new.self.state (command_of change) planned.0 now ∙ c.self.invariant.opened;
       planned = subst (λ o. IfSome o (λ ask. IsSome (command_of ask) × IsPrepared c.finish.new.self ask ask)) (sym c.take.ensures.after) tt;
     }

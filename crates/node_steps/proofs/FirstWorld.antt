@@ -1,0 +1,82 @@
+-- What is always true of a world is true of the first.
+use Rattle.std.proofs.Common.{◌≡◌, ℕ, zero, suc, ◌+◌, ◌^◌, ◌<◌, ◌≤◌, true, List, [], length, refl, sym, ◌∙◌, ap, arith, subst}
+use Rattle.std.specs.Prelude.{Some, slice_get, replicate}
+use Rattle.riak_msgs.specs.declared.Key.{Key}
+use Rattle.vnode_machine.specs.Replay.{IsWithinLimits}
+use Rattle.node_steps.specs.World.{CopyStage, Idle, Copying, Vnode, Worker, CommandsAlone, fresh_vnode, fresh_worker, id_of, opening_vnodes, own_sites, opening_world, seen_at}
+use Rattle.node_steps.specs.Steps.{is_about, fallback_ids}
+use Rattle.node_steps.specs.Schedules.{Start, IsStart}
+use Rattle.node_steps.proofs.Lists.{how_many, counted_none, get-replicate}
+use Rattle.node_steps.proofs.Own.{length-own, length-opening}
+use Rattle.node_steps.proofs.Beginnings.{begins-itself}
+use Rattle.node_steps.proofs.Inside.{is_reader, is_holder, reads, holds, IsSound, sound-fresh, IsPlain, plain-fresh, IsAware}
+use Rattle.node_steps.proofs.Kept.{IsOrderly}
+
+-- a vnode of the opening world is a fresh one
+pub opened : (run from count index : ℕ) (vnode : Vnode) → slice_get (opening_vnodes run from count) index ≡ Some vnode
+    → (index < count) × (vnode ≡ fresh_vnode (id_of run (from + index)) 0)
+opened run from zero index vnode h = cc
+opened run from (suc count) zero vnode h = (omega arith, sym (same h) ∙ ap (λ n. fresh_vnode (id_of run n) 0) (plain from))
+  where
+    same : {a b : Vnode} → Some a ≡ Some b → a ≡ b
+    same e = cc
+
+    plain : (n : ℕ) → n ≡ n + 0
+    plain n = omega arith
+opened run from (suc count) (suc index) vnode h =
+    let rest = opened run (from + 1) count index vnode h in
+    (omega (arith, rest.0), rest.1 ∙ ap (λ n. fresh_vnode (id_of run n) 0) (shift from index))
+  where
+    shift : (a b : ℕ) → (a + 1) + b ≡ a + suc b
+    shift a b = omega arith
+
+within : (run index count : ℕ) → run < 2 ^ 32 → count < 2 ^ 16 → index < count → IsWithinLimits (id_of run (0 + index)) 0
+within run index count r c h = (omega (arith, r, c, h), omega arith)
+
+bounded : (run index count : ℕ) → run < 2 ^ 32 → count < 2 ^ 16 → index < count → id_of run (0 + index) + fallback_ids < 2 ^ 64
+bounded run index count r c h = omega (arith, r, c, h)
+
+same_length : (a b n : ℕ) → a ≡ n → b ≡ n → a ≤ b
+same_length a b n h k = omega (arith, h, k)
+
+idle_nowhere : (site : ℕ) → is_about site Idle ≡ true → ⊥
+idle_nowhere site h = cc
+
+not_idle : (own site : ℕ) (key : Key) (stage : CopyStage) → Idle ≡ Copying own site key stage → ⊥
+not_idle own site key stage h = cc
+
+nobody : (index : ℕ) (count : ℕ) (worker : Worker) → worker.phase ≡ Idle → how_many (reads index) (replicate count worker) ≡ 0
+nobody index count worker h = counted_none (reads index) count worker (ap (is_reader index) h)
+
+nobody_holds : (index : ℕ) (count : ℕ) (worker : Worker) → worker.phase ≡ Idle → how_many (holds index) (replicate count worker) ≡ 0
+nobody_holds index count worker h = counted_none (holds index) count worker (ap (is_holder index) h)
+
+pub orderly-opening : (start : Start) → IsStart start → IsOrderly (opening_world start.run start.workers start.vnodes)
+orderly-opening start is =
+    let all : List Worker = replicate start.workers fresh_worker in
+    record {
+      vnodes = λ index vnode h.
+          let o = opened start.run 0 start.vnodes index vnode h in
+          subst (λ v. IsSound (how_many (reads index) all) (how_many (holds index) all) v) (sym o.1)
+          (sound-fresh (id_of start.run (0 + index)) 0 (how_many (reads index) all) (how_many (holds index) all) (within start.run index start.vnodes is.run is.vnodes o.0)
+          (nobody index start.workers fresh_worker refl) (nobody_holds index start.workers fresh_worker refl));
+      workers = λ place worker k index vnode h.
+          let o = opened start.run 0 start.vnodes index vnode h in
+          let e = get-replicate start.workers place fresh_worker worker k in
+          subst (λ v. IsAware v.id v.last_epoch index v.log worker) (sym o.1)
+          (subst (λ x. IsAware (id_of start.run (0 + index)) 0 index [] x) (sym e) (record { hand = tt; seen = begins-itself []; whole = tt }));
+      plain = λ index vnode h.
+          subst (λ (v : Vnode). CommandsAlone v.log → IsPlain v.id v.last_epoch v.log) (sym (opened start.run 0 start.vnodes index vnode h).1)
+          (λ only. plain-fresh (id_of start.run (0 + index)) 0);
+      copiers = λ place worker k own site key stage h.
+          absurd (not_idle own site key stage (ap (λ (x : Worker). x.phase) (sym (get-replicate start.workers place fresh_worker worker k)) ∙ h));
+      bounds = λ index vnode below h.
+          let o = opened start.run 0 start.vnodes index vnode h in
+          subst (λ (v : Vnode). v.id + fallback_ids < 2 ^ 64) (sym o.1) (bounded start.run index start.vnodes is.run is.vnodes o.0);
+      sites = same_length (length (own_sites 0 start.vnodes)) (length (opening_vnodes start.run 0 start.vnodes)) start.vnodes
+          (length-own 0 start.vnodes) (length-opening start.run 0 start.vnodes);
+      about = λ place worker k site h.
+          let e = get-replicate start.workers place fresh_worker worker k in
+          absurd (idle_nowhere site (ap (λ (x : Worker). is_about site x.phase) (sym e) ∙ h));
+      unseen = λ place worker k site past. ap (λ (x : Worker). seen_at x.seen site) (get-replicate start.workers place fresh_worker worker k);
+    }

@@ -1,0 +1,78 @@
+-- What the laws of copies say of a run's course, at its logs.
+use Rattle.std.proofs.Common.{ℕ, ◌+◌, ◌*◌, ◌^◌, ◌<◌, [], sym, ◌∙◌, arith, subst}
+use Rattle.riak_msgs.specs.declared.Key.{Key}
+use Rattle.vnode_machine.specs.Replay.{IsWithinLimits}
+use Rattle.copy_laws.specs.Sides.{Partition}
+use Rattle.copy_laws.specs.CopyReplay.{NamesPositions}
+use Rattle.copy_laws.specs.Diversions.{Course, fallback_of, primary_of}
+use Rattle.copy_laws.specs.Joining.{Log, IsHandOff, ShowsSiblings, AreJointSiblings}
+use Rattle.copy_laws.specs.JointAnswers.{AreWithinLimits}
+use Rattle.copy_laws.proofs.Apart.{dots_stand_apart}
+use Rattle.copy_laws.proofs.CourseLaw.{courses_are_hand_offs, courses_show, returns_join}
+use Rattle.copy_laws.proofs.CourseNames.{courses_name_positions}
+use Rattle.copy_laws.proofs.JointAnswers.{courses_answer_gets, courses_reap_dead}
+use Rattle.copy_laws.proofs.JointUpdates.{courses_answer_puts, courses_answer_dels}
+use Rattle.copy_laws.proofs.Leaving.{courses_leave_only_seen, fallbacks_leave_only_seen}
+use Rattle.node_steps.specs.World.{World, id_of, log_at}
+use Rattle.node_steps.specs.Steps.{fallback_ids}
+use Rattle.node_steps.specs.Schedules.{Start, IsStart, world_after}
+use Rattle.node_steps.specs.Courses.{partition_of, IsCourseOf}
+use Rattle.node_steps.specs.HandOffs.{AnswersAsRegister, HandsOff, PartitionsHandOff}
+use Rattle.node_steps.proofs.CourseLaw.{runs_are_courses}
+
+above : (n : ℕ) → n < n + fallback_ids
+above n = omega arith
+
+low : (run index vnodes : ℕ) → run < 2 ^ 32 → vnodes < 2 ^ 16 → index < vnodes → run * 65536 + index + fallback_ids < 2 ^ 64
+low run index vnodes r v i = omega (arith, r, v, i)
+
+lower : (n m : ℕ) → n + fallback_ids < m → n < m
+lower n m h = omega (arith, h)
+
+no_epoch : (n : ℕ) → n < 2 ^ 64 → IsWithinLimits n 0
+no_epoch n h = (h, omega arith)
+
+within : (start : Start) → IsStart start → (index : ℕ) → index < start.vnodes → AreWithinLimits (partition_of start.run index)
+within start is index known =
+    let small = low start.run index start.vnodes is.run is.vnodes known in
+    record { primary = no_epoch (id_of start.run index) (lower (id_of start.run index) (2 ^ 64) small); fallbacks = λ n below. no_epoch (id_of start.run index + fallback_ids) small }
+
+module _ (start : Start) (is : IsStart start) (index : ℕ) (known : index < start.vnodes) (course : Course) where
+  abbrev partition : Partition
+  partition = partition_of start.run index
+
+  abbrev ids : partition.primary < partition.fallback
+  ids = above (id_of start.run index)
+
+  abbrev log : Log
+  log = primary_of partition course
+
+  answers : (w : World) → IsCourseOf partition w index course → AnswersAsRegister partition course log
+  answers w of = record {
+    gets = courses_answer_gets partition course ids of.may_happen;
+    puts = courses_answer_puts partition course ids (within start is index known) of.may_happen;
+    deletes = courses_answer_dels partition course ids (within start is index known) of.may_happen;
+    reaps = courses_reap_dead partition course ids of.may_happen;
+  }
+
+  hands_off : (w : World) → IsCourseOf partition w index course → HandsOff partition w index
+  hands_off w of =
+      let by_key = courses_are_hand_offs partition course ids of.may_happen in
+      let any : Key = record { bucket_type = []; bucket = []; key = [] } in
+      record {
+        course = course;
+        is = of;
+        hand_off = λ key. subst (λ l. IsHandOff partition l (fallback_of course) key) of.primary (by_key key).0;
+        rise = (by_key any).1;
+        names = subst (NamesPositions partition) of.primary (courses_name_positions partition course ids of.may_happen);
+        shows = λ key. subst (λ l. ShowsSiblings partition l (fallback_of course) key l) of.primary (courses_show partition course ids of.may_happen key);
+        answers = subst (λ l. AnswersAsRegister partition course l) of.primary (answers w of);
+        apart = λ key. dots_stand_apart partition (log_at w index) (fallback_of course) key (by_key key).1;
+        leaves = λ key later between position e. courses_leave_only_seen partition course ids of.may_happen key later between position (e ∙ sym of.primary);
+        leaves_there = fallbacks_leave_only_seen partition course;
+        returns = λ back key. subst (λ l. AreJointSiblings partition l (fallback_of course) key) of.primary (returns_join partition course ids of.may_happen back key);
+      }
+
+pub partitions_hand_off : PartitionsHandOff
+partitions_hand_off start is schedule index known gives =
+    let run = runs_are_courses start is schedule index known gives in hands_off start is index known run.0 (world_after start schedule) run.1

@@ -1,0 +1,4 @@
+use Rattle.node_steps.proofs.acts.take.Goals as goal
+
+pub returns-in-Copying : goal.returns-in-Copying
+returns-in-Copying c = rw (c.in-Copying.is) c.take-in-Copying.ensures

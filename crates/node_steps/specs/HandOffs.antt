@@ -1,0 +1,57 @@
+-- What is claimed of a partition that may be diverted, where each context that was given had been shown: its fallback's events and
+-- its primary's, with the copies between, are a hand-off by the law of copies.
+use Rattle.std.specs.Prelude.{◌≡◌, ◌<◌, ◌++◌, List, ℕ, false}
+use Rattle.riak_msgs.specs.declared.Key.{Key}
+use Rattle.riak_msgs.specs.Contents.{Content}
+use Rattle.sibling_register.specs.Answers.{GetCommand, PutCommand, DelCommand, AskPut, AskDel}
+use Rattle.actor_epoch.specs.declared.Dot.{Dot}
+use Rattle.actor_epoch.specs.Given.{Context}
+use Rattle.vnode_machine.specs.Machine.{holds_dead}
+use Rattle.vnode_machine.specs.Replies.{get_reply}
+use Rattle.vnode_machine.specs.Step.{outcome as outcome_of_ask}
+use Rattle.copy_laws.specs.Sides.{Partition, Number, is_dead_at}
+use Rattle.copy_laws.specs.CopyReplay.{primary_after, NamesPositions}
+use Rattle.copy_laws.specs.Diversions.{Course, is_diverted, fallback_of}
+use Rattle.copy_laws.specs.Joining.{Log, HasDot, IsHandOff, SidesRise, ShowsSiblings, AreJointSiblings}
+use Rattle.copy_laws.specs.JointAnswers.{get_told_at, get_shown_at, put_event_at, del_event_at, MayAsk, PutGivesAt, DelGivesAt}
+use Rattle.copy_laws.specs.Leaving.{IsSeenWhereItLeft, FallbacksLeaveOnlySeen}
+use Rattle.node_steps.specs.World.{World, log_at}
+use Rattle.node_steps.specs.Steps.{Step}
+use Rattle.node_steps.specs.Schedules.{Start, IsStart, world_after}
+use Rattle.node_steps.specs.Courses.{partition_of, GivesShownThere, IsCourseOf}
+
+-- what the register answers at the primary at a moment, over the siblings of both sides, is what the machine does there
+pub record AnswersAsRegister (partition : Partition) (course : Course) (log : Log) : Type 0 where
+  pub gets : (get : GetCommand Context) → get_reply (primary_after partition log) get ≡ get_shown_at partition log get.key (get_told_at partition log get)
+  pub puts : (put : PutCommand Content Context) → MayAsk partition course (put_event_at partition log put)
+      → PutGivesAt partition course put (outcome_of_ask (primary_after partition log) (AskPut put))
+  pub deletes : (del : DelCommand Context) → MayAsk partition course (del_event_at partition log del)
+      → DelGivesAt partition course del (outcome_of_ask (primary_after partition log) (AskDel del))
+  pub reaps : (key : Key) → holds_dead (primary_after partition log) key ≡ is_dead_at partition log key
+
+-- a partition's logs, by its course
+pub record HandsOff (partition : Partition) (w : World) (index : ℕ) : Type 0 where
+  pub course : Course
+  pub is : IsCourseOf partition w index course
+  -- the machine accepted each entry, on both sides, and each command saw what it had to see; each copy is one of the fallback at
+  -- some time
+  pub hand_off : (key : Key) → IsHandOff partition (log_at w index) (fallback_of course) key
+  pub rise : SidesRise partition (fallback_of course)
+  -- the primary's contexts name its positions, and it shows the siblings of both sides that came, in their order
+  pub names : NamesPositions partition (log_at w index)
+  pub shows : (key : Key) → ShowsSiblings partition (log_at w index) (fallback_of course) key (log_at w index)
+  pub answers : AnswersAsRegister partition course (log_at w index)
+  -- no dot stands on two sides
+  pub apart : (key : Key) (a b : Number) (dot : Dot) → HasDot partition (log_at w index) (fallback_of course) key a dot
+      → HasDot partition (log_at w index) (fallback_of course) key b dot → a.side ≡ b.side
+  -- a value leaves the primary's siblings, or the fallback's, only where a write or delete that had seen it was accepted, or brought
+  pub leaves : (key : Key) (later between position : Log) → later ++ (between ++ position) ≡ log_at w index → IsSeenWhereItLeft partition between position key
+  pub leaves_there : FallbacksLeaveOnlySeen partition course
+  -- while it isn't diverted, the primary's siblings are the joint ones
+  pub returns : is_diverted course ≡ false → (key : Key) → AreJointSiblings partition (log_at w index) (fallback_of course) key
+
+-- so is each partition of a run
+abbrev pub PartitionsHandOff : Type 0
+PartitionsHandOff =
+    (start : Start) → IsStart start → (schedule : List Step) (index : ℕ) → index < start.vnodes → GivesShownThere start index schedule
+    → HandsOff (partition_of start.run index) (world_after start schedule) index
