@@ -101,8 +101,8 @@ impl World {
 
     /// Takes a step, and returns its outcome, which is `No` exactly where it isn't possible. Where memory is refused nothing changes.
     ///
-    /// A look copies what it shows, and what it plans; a call is kept on the heap; a fallback takes a place. All else takes no
-    /// memory.
+    /// A look copies what it shows, and what it plans, a copier's the key's clock; a call, and a copier's key, is kept on the heap; a
+    /// fallback takes a place. All else takes no memory.
     pub fn step(&mut self, alloc: Global, step: Step) -> Result<Outcome, StepFault>
         ensures step { IfOk result (λ outcome. TakesStep self.old (step_of step) outcome self.new) }
         ensures schedule { IfOk result (λ outcome.
