@@ -8,7 +8,8 @@ use Rattle.worker_pool.specs.declared.job.Job.{Job}
 use Rattle.worker_pool.specs.Run.{ServesAll}
 use Rattle.node_commands.specs.Sources.{IsNew}
 use Rattle.socket_server.specs.Counting.{AreTotals}
-use Rattle.socket_server.specs.declared.server.ServerOutcome.{ServerOutcome}
+use Rattle.stats_book.specs.declared.totals.Totals.{Totals}
+use Rattle.node_server.specs.declared.end.End.{End as ConnectionEnd}
 use Rattle.node_commands.specs.declared.serving.Settings.{Settings}
 use Rattle.node_commands.specs.declared.until.UntilSettings.{UntilSettings}
 
@@ -38,8 +39,9 @@ module _ {I O : Type 0} where
     pub of_run : AreOfRun settings gates
     pub served : AreServed gates settings.connections settings.workers closed
 
--- connections were served over the gates of a new run for as long as was wanted, and the workers counted so much together
-pub record IsServedUntil (settings : UntilSettings) (outcome : ServerOutcome) : Type 0 where
+-- connections were served over the gates of a new run for as long as was wanted: those of each worker came to these ends, and the workers
+-- counted so much together
+pub record IsServedUntil (settings : UntilSettings) (ends : List (List ConnectionEnd)) (totals : Totals) : Type 0 where
   pub gates : Gates
   pub of_run : IsNewRun settings.ring settings.run settings.sweep gates
-  pub totals : AreTotals gates settings.workers outcome.totals
+  pub are_totals : AreTotals gates ends totals

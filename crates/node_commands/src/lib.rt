@@ -1,7 +1,8 @@
 //! What the commands of the program do, over any streams and any listener.
 //!
 //! [`pipe`] serves one reader to one writer by a node of its own. [`serve_on`] serves the connections of a listener, many at a time, over
-//! the gates of one run (`worker_pool`). [`serve_on_until`] serves as many as come, each as it is ready, until an input ends (`socket_server`).
+//! the gates of one run (`worker_pool`). [`serve_on_until`] serves as many as come, each as it is ready, until so many have ended or an input ends
+//! (`socket_server`): the program's `serve` is this one.
 //!
 //! ```text
 //! pipe(alloc, Ring::new(1)?, 1, 0, &mut reader, &mut writer)      // reader: 00 00 00 01 01, a ping

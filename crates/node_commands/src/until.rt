@@ -1,6 +1,7 @@
 //! Serving for as long as is wanted.
 
-ghost use Rattle.std.specs.Prelude.{◌≤◌, IfOk, IfSome, OnOk};
+ghost use Rattle.std.specs.Prelude.{◌≡◌, ◌≤◌, [], length, map, Some, None, IfOk, IfSome, OnOk};
+ghost use Rattle.std.specs.List.{All};
 ghost use Rattle.std.specs.Io.KnownBytes.{Appends};
 ghost use Rattle.node_commands.specs.Lines.{totals_line};
 ghost use Rattle.node_commands.specs.Runs.{IsNewRun, IsServedUntil};
@@ -11,7 +12,7 @@ use crate::lines::write_totals;
 use gate_node::Shared;
 use log::Log;
 use ring_map::Ring;
-use socket_server::{ServerFault, ServerOutcome, ServerSettings, serve_until};
+use socket_server::{EndSink, ServerFault, ServerOutcome, ServerSettings, serve_until};
 use stats_book::Totals;
 use std::alloc::Global;
 use std::io;
@@ -21,11 +22,11 @@ use std::rt::Clock;
 use std::sync::Wait;
 use std::thread::Threads;
 
-/// How a server without a last connection serves.
+/// How a server for as many clients as come serves.
 #[derive(Clone, Copy)]
 pub struct UntilSettings {
-    /// How many threads serve, each many connections: from 1 to 64.
-    pub workers: u16,
+    /// After how many connections no more are accepted, if there is such a number.
+    pub connections: Option<u64>,
     /// The partitions of the keys.
     pub ring: Ring,
     /// The run's number, from 1 on.
@@ -79,38 +80,54 @@ fn new_shared(alloc: Global, settings: &UntilSettings) -> Option<Shared>
     .ok()
 }
 
-/// Serves all connections of a listener, each as it is ready, by threads that have many of them, over the gates of a new run.
+/// Serves all connections of a listener, each as it is ready, by a thread for each sink that has many of them, over the gates of a new run.
 ///
-/// It serves until an input ends, or without one until the listener fails. It writes `listening ADDRESS` before the first connection is
-/// accepted, and the totals at the end. A failed write of these is passed over. The log has a line for each connection when it is
-/// accepted, and one when it ends.
-pub fn serve_on_until<T, W, I>(
+/// It serves until as many connections were accepted as are to be and all of them have ended by themselves, or until an input ends or the
+/// listener fails, when it ends them. One for which memory is refused is closed, and is one of those that were accepted. It writes
+/// `listening ADDRESS` before the first connection is accepted, and the totals at the end. A failed write of these is passed over. The log
+/// has a line for each connection when it is accepted; its end is given to the sink of its thread.
+pub fn serve_on_until<T, W, S, I>(
     rt: &T,
     alloc: Global,
     listener: TcpListener,
     settings: &UntilSettings,
+    sinks: Vec<S>,
     until: Option<I>,
     writer: &mut W,
-) -> Result<ServerOutcome, ServeFault>
+) -> Result<ServerOutcome<S>, ServeFault>
 where
     T: Log + Clock + Net + Threads + Wait + Sync,
     W: Write,
+    S: EndSink + Send + Drop,
     I: Read + Send + Drop,
     requires run { 1 ≤ settings.now.run }
+    requires unused { All (λ sink. S.given sink ≡ []) sinks.items }
 
-    // Each worker served its connections by one node over the gates of a new run, until all of them had ended, and the totals are what
-    // all workers counted, from zero.
-    ensures { IfOk result (IsServedUntil settings.now) }
+    // There was a worker for each sink. Each served its connections by one node over the gates of a new run, until all of them had ended;
+    // its sink was given each of their ends, once, and nothing else; and the totals are what all workers counted, from zero.
+    ensures workers { IfOk result (λ outcome.
+        length outcome.sinks.items ≡ length sinks.items) }
+    ensures served { IfOk result (λ outcome.
+        IsServedUntil settings.now (map S.given outcome.sinks.items) outcome.totals) }
+
+    // No more connections were accepted than were to be, and just as many where no input could end serving before.
+    ensures most { IfOk result (λ outcome.
+        IfSome settings.now.connections (λ limit. outcome.connections ≤ limit)) }
+    ensures all { until ≡ None → IfOk result (λ outcome.
+        settings.now.connections ≡ Some outcome.connections) }
 {
     let Some(shared) = new_shared(alloc, settings) else {
         return Err(ServeFault::NoMemory);
     };
     let _ = announce(&listener, writer);
     let server = ServerSettings {
-        workers: settings.workers,
+        connections: settings.connections,
         idle_seconds: settings.idle_seconds,
     };
-    let outcome = serve_until(rt, alloc, &listener, &shared, server, until)?;
+    let outcome = match serve_until(rt, alloc, &listener, &shared, server, sinks, until) {
+        Ok(outcome) => outcome,
+        Err(fault) => return Err(ServeFault::from(fault)),
+    };
     let _ = report(outcome.totals, writer);
     Ok(outcome)
 }

@@ -13,10 +13,8 @@ use std::net::{IpAddr, Ipv4Addr};
 pub enum Command {
     /// Serve standard input to standard output.
     Pipe(PipeOptions),
-    /// Serve connections until the program is ended.
+    /// Serve connections.
     Serve(ServeOptions),
-    /// Serve so many connections.
-    ServeSome(ServeSomeOptions),
     /// Play a schedule from standard input.
     Steps(StepsOptions),
 }
@@ -38,19 +36,12 @@ pub struct PipeOptions {
 pub struct ServeOptions {
     /// The address that is listened on; None where what was given is none.
     pub address: Option<IpAddr>,
+    /// How many connections are served, if there is such a number.
+    pub connections: Option<u64>,
     /// After how many seconds without a byte a connection is closed, if it is.
     pub idle_seconds: Option<u32>,
     /// Whether serving ends at the end of standard input.
     pub until_eof: bool,
-    /// How the vnodes are served.
-    pub threads: ThreadOptions,
-}
-
-/// How so many connections are served.
-#[derive(Clone, Copy)]
-pub struct ServeSomeOptions {
-    /// How many connections are served.
-    pub connections: u16,
     /// How the vnodes are served.
     pub threads: ThreadOptions,
 }
@@ -105,14 +96,14 @@ fn pipe<'a>(alloc: Global) -> Result<clap::Command<'a>, AllocError> {
 fn bare_serve<'a>(alloc: Global) -> clap::Command<'a> {
     clap::Command::new(alloc, "serve")
         .about(
-            "Serves connections to a port, by a new node whose keys are lost with it, until it is ended",
+            "Serves connections to a port, by a new node whose keys are lost with it, until it is ended or has served as many as are asked for",
         )
         .after_help(
             "Writes two lines to standard output: the address, as in: listening 127.0.0.1:8087, before the first\n\
              connection, and what was done, as in: gets 2 puts 2 deletes 0 refusals 0 reaps 0, where it ends in order. The\n\
              log of the connections goes to standard error.\n\n\
-             Exit status: 0 at the end of standard input with --until-eof, and when all connections of --connections were\n\
-             served, also those that failed; 1 where serving had to stop before, with one line on standard error, as in:\n\
+             Exit status: 0 at the end of standard input with --until-eof, and when all connections of --connections have\n\
+             ended, also those that failed; 1 where serving had to stop before, with one line on standard error, as in:\n\
              riak_node: cannot listen; 2 for a command line that isn't one of these.\n\n\
              Example: riak_node serve --workers 8 --idle 600",
         )
@@ -121,10 +112,10 @@ fn bare_serve<'a>(alloc: Global) -> clap::Command<'a> {
 /// The command that serves connections.
 fn serve<'a>(alloc: Global) -> Result<clap::Command<'a>, AllocError> {
     bare_serve(alloc)
-        .arg(options::address(alloc)?)?
+        .arg(options::address(alloc))?
         .arg(options::port(alloc))?
-        .arg(options::idle(alloc)?)?
-        .arg(options::until_eof(alloc)?)?
+        .arg(options::idle(alloc))?
+        .arg(options::until_eof(alloc))?
         .arg(options::connections(alloc))?
         .arg(options::workers(alloc))?
         .arg(options::ring(alloc, "64"))?
@@ -211,20 +202,22 @@ fn address(found: &ArgMatches<'_>) -> Option<IpAddr> {
     }
 }
 
-/// What `serve` is to do.
-fn serve_command(found: &ArgMatches<'_>) -> Command {
-    let threads = thread_options(found);
+/// After how many connections serving ends, if it does.
+fn connections(found: &ArgMatches<'_>) -> Option<u64> {
     match found.get_one::<u16>("connections") {
-        Some(connections) => Command::ServeSome(ServeSomeOptions {
-            connections,
-            threads,
-        }),
-        None => Command::Serve(ServeOptions {
-            address: address(found),
-            idle_seconds: found.get_one::<u32>("idle"),
-            until_eof: found.get_flag("until-eof"),
-            threads,
-        }),
+        Some(connections) => Some(u64::from(connections)),
+        None => None,
+    }
+}
+
+/// The options of `serve`.
+fn serve_options(found: &ArgMatches<'_>) -> ServeOptions {
+    ServeOptions {
+        address: address(found),
+        connections: connections(found),
+        idle_seconds: found.get_one::<u32>("idle"),
+        until_eof: found.get_flag("until-eof"),
+        threads: thread_options(found),
     }
 }
 
@@ -241,7 +234,7 @@ fn steps_options(found: &ArgMatches<'_>) -> StepsOptions {
 fn command_of(matches: &ArgMatches<'_>) -> Option<Command> {
     match matches.subcommand() {
         Some(("pipe", found)) => Some(Command::Pipe(pipe_options(found))),
-        Some(("serve", found)) => Some(serve_command(found)),
+        Some(("serve", found)) => Some(Command::Serve(serve_options(found))),
         Some(("steps", found)) => Some(Command::Steps(steps_options(found))),
         _ => None,
     }

@@ -2,26 +2,22 @@
 
 ghost use Rattle.std.specs.Prelude.{Some, [], true};
 
+use crate::watch::{STANDARD_ERROR, Watch};
 use log::kv::Source;
 use log::sink::Console;
 use log::span::Spans;
 use log::{Log, Metadata, Record};
-use mio::unix::SourceFd;
-use mio::{Events, Interest, Poll, Token};
+use mio::Interest;
 use std::alloc::Global;
 use std::fmt::Display;
 use std::net::Net;
-use std::os::fd::AsRawFd;
 use std::sync::{Mutex, Wait};
 use std::time::Duration;
-
-/// The descriptor of standard error.
-const STANDARD_ERROR: i32 = 2;
 
 /// Tells whether a line may be written without waiting, and how many lines weren't, since the last one that was.
 #[derive(Drop)]
 struct Drain {
-    watch: Option<(Poll, Events<Global>)>,
+    watch: Option<Watch>,
     passed_over: u64,
 }
 
@@ -29,45 +25,18 @@ impl Drain {
     /// Of standard error. A file is never waited for, and can't be watched; neither is anything where the system refuses the watch.
     fn new<R: Net>(net: &R, alloc: Global) -> Drain {
         Drain {
-            watch: watch(net, alloc),
+            watch: Watch::new(net, alloc, STANDARD_ERROR, Interest::WRITABLE),
             passed_over: 0,
         }
     }
 
     /// Whether a line of up to 4,096 bytes may be written without waiting. A pipe tells so while one of its pages is free.
     fn takes_a_line(&mut self) -> bool {
-        let Some((poll, events)) = &mut self.watch else {
-            return true;
-        };
-        // readiness is reported at its change alone, or when it is asked for anew
-        let mut source = SourceFd(&STANDARD_ERROR);
-        if poll
-            .registry()
-            .reregister(&mut source, Token(0), Interest::WRITABLE)
-            .is_err()
-        {
-            return true;
-        }
-        match poll.poll(events, Some(Duration::from_millis(0))) {
-            Ok(()) => !events.is_empty(),
-            Err(_) => true,
+        match &mut self.watch {
+            Some(watch) => watch.is_ready(Duration::from_millis(0)),
+            None => true,
         }
     }
-}
-
-/// A poll that watches standard error, if it can be watched. Where a standard stream was closed before the program began, the poll would
-/// get its descriptor, and is let go: who listens then finds that descriptor free.
-fn watch<R: Net>(net: &R, alloc: Global) -> Option<(Poll, Events<Global>)> {
-    let poll = Poll::new(net).ok()?;
-    if poll.as_raw_fd() <= STANDARD_ERROR {
-        return None;
-    }
-    let events = Events::with_capacity(alloc, 1).ok()?;
-    let mut source = SourceFd(&STANDARD_ERROR);
-    poll.registry()
-        .register(&mut source, Token(0), Interest::WRITABLE)
-        .ok()?;
-    Some((poll, events))
 }
 
 /// A log on standard error that nobody waits for: where it is full, as a pipe is that nobody reads, lines are passed over. How many, the next line

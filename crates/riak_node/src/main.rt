@@ -19,24 +19,29 @@
 mod command_line;
 mod drained_console;
 mod options;
+mod watch;
+mod watched_input;
 
 use clap::error::ErrorKind;
-use command_line::{Command, PipeOptions, ServeOptions, ServeSomeOptions, StepsOptions};
+use command_line::{Command, PipeOptions, ServeOptions, StepsOptions};
 use drained_console::DrainedConsole;
 use log::{Level, Log, Logged, warn};
-use node_commands::{ServeFault, Served, Settings, UntilSettings, pipe, serve_on, serve_on_until};
+use node_commands::{ServeFault, UntilSettings, pipe, serve_on_until};
 use node_session::{Ended, SessionFault, exit_status, write_fault};
 use ring_map::Ring;
 use schedule_player::{StepsFault, steps_on};
+use socket_server::log_sinks;
 use std::alloc::Global;
 use std::io;
 use std::io::{BufWriter, Read, Write};
-use std::net::{IpAddr, Ipv4Addr, Net, TcpListener, TcpStream};
+use std::net::{IpAddr, Net, TcpListener, TcpStream};
 use std::os::fd::AsRawFd;
 use std::process::ExitCode;
 use std::rt::Clock;
 use std::sync::Wait;
 use std::thread::Threads;
+use watch::STANDARD_ERROR;
+use watched_input::WatchedInput;
 
 /// One line on standard error for a fault of a session, and the status.
 fn end(rt: &HostRuntime, outcome: Result<Ended, SessionFault>) -> io::Result<ExitCode> {
@@ -74,9 +79,6 @@ fn serve_streams(rt: &HostRuntime, options: PipeOptions) -> io::Result<ExitCode>
         pipe(rt.alloc(), ring, run, sweep, &mut input, &mut output),
     )
 }
-
-/// The greatest descriptor of the standard streams.
-const STANDARD_ERROR: i32 = 2;
 
 /// A listener on this address and port. None where there is none, and where a standard stream was closed before the program began: sockets
 /// would get its descriptor, and what is printed or logged would go to clients. The log says why.
@@ -116,45 +118,22 @@ fn tell_cannot_listen<R: Eprint>(rt: &R) -> io::Result<ExitCode> {
     Ok(ExitCode::from(1))
 }
 
-/// Serves so many connections, by a ring of the asked size if there is one.
-fn serve_some<R, W>(
-    rt: &R,
+/// What ends serving before its last connection: the end of standard input, where that is asked for.
+fn input_of<R: Net, I: Drop>(
+    net: &R,
     alloc: Global,
-    options: ServeSomeOptions,
-    output: &mut W,
-) -> io::Result<ExitCode>
-where
-    R: Log
-        + Clock
-        + Eprint
-        + Net<Listener = TcpListener, Stream = TcpStream>
-        + Threads
-        + Wait
-        + Sync,
-    W: Write,
-{
-    let threads = options.threads;
-    let Some(ring) = Ring::new(threads.ring) else {
-        return tell_no_ring(rt);
-    };
-    let address = IpAddr::V4(Ipv4Addr::LOCALHOST);
-    let Some(listener) = listen(rt, address, threads.port) else {
-        return tell_cannot_listen(rt);
-    };
-    let settings = Settings {
-        connections: options.connections,
-        workers: threads.workers,
-        ring,
-        run: threads.run,
-        sweep: threads.sweep,
-    };
-    end_serving(
-        rt,
-        fault_of(serve_on(rt, alloc, listener, &settings, output)),
-    )
+    options: ServeOptions,
+    input: I,
+) -> Option<WatchedInput<I>> {
+    if options.until_eof {
+        Some(WatchedInput::new(net, alloc, input))
+    } else {
+        None
+    }
 }
 
-/// Serves the connections that come, by a ring of the asked size if there is one, until the input ends, where that is asked for.
+/// Serves the connections that come, by a ring of the asked size if there is one, until as many have ended as are to be served, or the input
+/// ends, where that is asked for.
 fn serve_all<R, W, I>(
     rt: &R,
     alloc: Global,
@@ -184,15 +163,18 @@ where
     let Some(listener) = listen(rt, address, threads.port) else {
         return tell_cannot_listen(rt);
     };
+    let Ok(sinks) = log_sinks(alloc, threads.workers) else {
+        return end_serving(rt, Some(ServeFault::NoMemory));
+    };
     let settings = UntilSettings {
-        workers: threads.workers,
+        connections: options.connections,
         ring,
         run: threads.run,
         sweep: threads.sweep,
         idle_seconds: options.idle_seconds,
     };
-    let until = if options.until_eof { Some(input) } else { None };
-    let outcome = serve_on_until(rt, alloc, listener, &settings, until, output);
+    let until = input_of(rt, alloc, options, input);
+    let outcome = serve_on_until(rt, alloc, listener, &settings, sinks, until, output);
     end_serving(rt, outcome.err())
 }
 
@@ -218,11 +200,6 @@ fn play_steps(rt: &HostRuntime, options: StepsOptions) -> io::Result<ExitCode> {
     }
 }
 
-/// Why serving stopped, if it did. What was served is let go.
-fn fault_of(outcome: Result<Served, ServeFault>) -> Option<ServeFault> {
-    outcome.err()
-}
-
 fn main(rt: HostRuntime) -> io::Result<ExitCode> {
     let alloc = rt.alloc();
     let args: Vec<String> = std::env::args(&rt)?.collect(alloc)?;
@@ -232,10 +209,6 @@ fn main(rt: HostRuntime) -> io::Result<ExitCode> {
         Ok(Command::Serve(options)) => {
             let logged = Logged::new(rt, Level::Info, DrainedConsole::new(rt, alloc));
             serve_all(&logged, alloc, options, rt.stdin(), &mut rt.stdout())
-        }
-        Ok(Command::ServeSome(options)) => {
-            let logged = Logged::new(rt, Level::Info, DrainedConsole::new(rt, alloc));
-            serve_some(&logged, alloc, options, &mut rt.stdout())
         }
         Err(error) => tell(&rt, error),
     }

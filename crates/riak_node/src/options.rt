@@ -2,7 +2,7 @@
 
 use clap::builder::ValueParser;
 use clap::{Arg, ArgAction, value_parser};
-use std::alloc::{AllocError, Global};
+use std::alloc::Global;
 
 /// An option whose value is a number, with the one that it has where it isn't given.
 fn number<'a>(
@@ -28,23 +28,22 @@ pub(crate) fn connections<'a>(alloc: Global) -> Arg<'a> {
         .value_name("N")
         .value_parser(value_parser!(u16).range(1..=65_535))
         .help(
-            "Serve so many connections, from 1 to 65535, and end with the last of them. Each thread then serves one connection from its beginning to its end",
+            "Accept so many connections, from 1 to 65535, and end once the last of them has ended. Without it as many are served as come",
         )
 }
 
 /// The address.
-pub(crate) fn address<'a>(alloc: Global) -> Result<Arg<'a>, AllocError> {
+pub(crate) fn address<'a>(alloc: Global) -> Arg<'a> {
     Arg::new(alloc, "address")
         .long("address")
         .value_name("A")
         .help(
             "The IP address that is listened on, 127.0.0.1 where none is given. Whoever can reach it can read, change and delete every key: there is no authentication and no encryption",
         )
-        .conflicts_with("connections")
 }
 
 /// After how long a silent connection is closed.
-pub(crate) fn idle<'a>(alloc: Global) -> Result<Arg<'a>, AllocError> {
+pub(crate) fn idle<'a>(alloc: Global) -> Arg<'a> {
     Arg::new(alloc, "idle")
         .long("idle")
         .value_name("SECONDS")
@@ -52,18 +51,16 @@ pub(crate) fn idle<'a>(alloc: Global) -> Result<Arg<'a>, AllocError> {
         .help(
             "Close a connection of which no byte has come or gone for so many seconds. Without it none is closed",
         )
-        .conflicts_with("connections")
 }
 
 /// Whether the end of standard input ends serving.
-pub(crate) fn until_eof<'a>(alloc: Global) -> Result<Arg<'a>, AllocError> {
+pub(crate) fn until_eof<'a>(alloc: Global) -> Arg<'a> {
     Arg::new(alloc, "until-eof")
         .long("until-eof")
         .action(ArgAction::SetTrue)
         .help(
             "End in order, with totals, at the end of standard input. Without it serving goes on until the program is ended from outside",
         )
-        .conflicts_with("connections")
 }
 
 /// The port.
@@ -86,7 +83,7 @@ pub(crate) fn workers<'a>(alloc: Global) -> Arg<'a> {
         "W",
         value_parser!(u16).range(1..=64),
         "4",
-        "How many threads serve, from 1 to 64. Each serves many connections; with --connections, one at a time, and those that come in between wait",
+        "How many threads serve, from 1 to 64, each many connections",
     )
 }
 

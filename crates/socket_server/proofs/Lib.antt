@@ -1,2 +1,3 @@
 -- The lemmas of this crate.
+pub mod Noting
 pub mod Summing

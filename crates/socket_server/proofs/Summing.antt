@@ -1,18 +1,59 @@
 -- What workers counted, one after another.
-use Rattle.std.proofs.Common.{ℕ, suc, Result, Ok, Err}
+use Rattle.std.proofs.Common.{◌≡◌, ◌+◌, ◌++◌, ℕ, suc, List, [], ◌∷◌, length, map, Result, Ok, Err, refl, sym, ap, subst, ◌∙◌, arith}
 use Rattle.std.specs.Prelude.{IfOk}
+use Rattle.std.proofs.lemmas.List.{length-append, map-append}
 use Rattle.stats_book.specs.declared.totals.Totals.{Totals}
+use Rattle.stats_book.specs.Counting.{zeros, both, numbers}
 use Rattle.gate_node.specs.Gates.{Gates}
-use Rattle.socket_server.specs.Counting.{WorkerCounts, AreTotals, AddsUp}
+use Rattle.node_server.specs.declared.end.End.{End}
+use Rattle.socket_server.specs.Counting.{WorkerCounts, AreTotals, IsAdded}
+use Rattle.socket_server.specs.declared.child.AllCounted.{AllCounted}
+use Rattle.socket_server.specs.declared.counting.WorkerOutcome.{WorkerOutcome}
 use Rattle.socket_server.specs.declared.fault.ServerFault.{ServerFault}
 
--- one worker more
-pub one_more : (gates : Gates) (n : ℕ) (others own all : Result Totals ServerFault) → AddsUp others own all → IfOk others (AreTotals gates n) → IfOk own (WorkerCounts gates) → IfOk all (AreTotals gates (suc n))
-one_more gates n (Ok others) (Ok own) (Ok all) sum before counts = (own, others, counts, before, sum)
-one_more gates n (Ok others) (Err fault) (Ok all) sum before counts = absurd sum
-one_more gates n (Err fault) (Ok own) (Ok all) sum before counts = absurd sum
-one_more gates n (Err fault) (Err other) (Ok all) sum before counts = absurd sum
-one_more gates n (Ok others) (Ok own) (Err fault) sum before counts = tt
-one_more gates n (Ok others) (Err other) (Err fault) sum before counts = tt
-one_more gates n (Err others) (Ok own) (Err fault) sum before counts = tt
-one_more gates n (Err others) (Err other) (Err fault) sum before counts = tt
+-- of three numbers the first two change places
+swapped : (a b c : ℕ) → a + (b + c) ≡ b + (a + c)
+swapped a b c = omega arith
+
+-- two counts beside a third change places
+pub both-swapped : (a b c : Totals) → both a (both b c) ≡ both b (both a c)
+both-swapped a b c =
+    rw (swapped a.gets b.gets c.gets, swapped a.puts b.puts c.puts, swapped a.deletes b.deletes c.deletes, swapped a.refusals b.refusals c.refusals, swapped a.reaps b.reaps c.reaps) refl
+
+-- one worker more, behind the others
+pub one_more : (gates : Gates) (all : List (List End)) (ends : List End) (others own : Totals)
+    → AreTotals gates all others → WorkerCounts gates ends own → AreTotals gates (all ++ ends ∷ []) (both own others)
+one_more gates [] ends others own before counts = (own, others, counts, before, refl)
+one_more gates (one ∷ all) ends others own before counts = (
+  before.0,
+  both own before.1,
+  before.2,
+  one_more gates all ends before.1 own before.3 counts,
+  ap (λ (t : Totals). both own t) before.4 ∙ both-swapped own before.0 before.1,
+)
+
+-- one sink more is one worker fewer to be joined
+longer : (before after joined left all : ℕ) → after ≡ before + 1 → joined ≡ suc left → before + joined ≡ all → after + left ≡ all
+longer before after joined left all p q r = omega (arith, p, q, r)
+
+module _ {S : Type 0} where
+  -- as many workers were joined or are to be
+  pub one_joined : (others : Result (AllCounted S) ServerFault) (own : Result (WorkerOutcome S) ServerFault) (all : AllCounted S) (joined left workers : ℕ)
+      → IsAdded others own all → joined ≡ suc left → IfOk others (λ o. length o.sinks.items + joined ≡ workers) → length all.sinks.items + left ≡ workers
+  one_joined (Ok others) (Ok own) all joined left workers added one before =
+      longer (length others.sinks.items) (length all.sinks.items) joined left workers (ap length added.0 ∙ length-append others.sinks.items (own.sink ∷ [])) one before
+  one_joined (Ok others) (Err fault) all joined left workers added one before = absurd added
+  one_joined (Err fault) (Ok own) all joined left workers added one before = absurd added
+  one_joined (Err fault) (Err other) all joined left workers added one before = absurd added
+
+  -- what a worker counted is added to what the others did
+  pub one_counted : (given : S → List End) (gates : Gates) (others : Result (AllCounted S) ServerFault) (own : Result (WorkerOutcome S) ServerFault) (all : AllCounted S)
+      → IsAdded others own all → IfOk others (λ o. AreTotals gates (map given o.sinks.items) o.totals)
+      → IfOk own (λ o. WorkerCounts gates (given o.sink) o.totals) → AreTotals gates (map given all.sinks.items) all.totals
+  one_counted given gates (Ok others) (Ok own) all added before counts =
+      subst (λ ends. AreTotals gates ends all.totals) (sym (ap (map given) added.0 ∙ map-append given others.sinks.items (own.sink ∷ [])))
+      (subst (λ totals. AreTotals gates (map given others.sinks.items ++ given own.sink ∷ []) totals) (sym added.1)
+      (one_more gates (map given others.sinks.items) (given own.sink) others.totals own.totals before counts))
+  one_counted given gates (Ok others) (Err fault) all added before counts = absurd added
+  one_counted given gates (Err fault) (Ok own) all added before counts = absurd added
+  one_counted given gates (Err fault) (Err other) all added before counts = absurd added

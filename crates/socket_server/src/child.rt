@@ -1,12 +1,16 @@
 //! The threads of the workers.
-ghost use Rattle.std.specs.Prelude.{length, IfOk};
+ghost use Rattle.std.specs.Prelude.{◌≡◌, ◌++◌, ◌∷◌, [], length, map, Ok, IfOk};
 ghost use Rattle.std.specs.List.{All};
-ghost use Rattle.socket_server.specs.Counting.{AddsUp, AreTotals, IsOver};
+ghost use Rattle.stats_book.specs.Counting.{both};
+ghost use Rattle.socket_server.specs.Counting.{AreTotals, IsOver, IsAdded};
 
+use crate::counting::WorkerOutcome;
+use crate::end_sink::EndSink;
 use crate::fault::ServerFault;
 use crate::totals::sum;
 use gate_node::Shared;
 use stats_book::Totals;
+use std::alloc::Global;
 use std::snapshot::Snapshot;
 use std::thread::{Promise, PromisedHandle, Threads};
 
@@ -16,44 +20,63 @@ pub struct ServesOver {
     pub gates: Snapshot<Shared>,
 }
 
-impl Promise<Result<Totals, ServerFault>> for ServesOver {
+impl<S: EndSink> Promise<Result<WorkerOutcome<S>, ServerFault>> for ServesOver {
     ghost use Rattle.std.specs.Prelude.{IfOk};
     ghost use Rattle.socket_server.specs.Counting.{WorkerCounts};
 
-    ghost kept_by = { λ promise counted. IfOk counted (WorkerCounts promise.gates.value) };
+    ghost kept_by = { λ promise counted. IfOk counted (λ outcome.
+        WorkerCounts promise.gates.value (S.given outcome.sink) outcome.totals) };
 }
 
 /// A worker's thread.
-pub(crate) type Child = PromisedHandle<Result<Totals, ServerFault>, ServesOver>;
+pub(crate) type Child<S> = PromisedHandle<Result<WorkerOutcome<S>, ServerFault>, ServesOver>;
+
+/// What workers counted together, and their sinks.
+#[derive(Drop)]
+pub(crate) struct AllCounted<S> {
+    pub(crate) totals: Totals,
+    pub(crate) sinks: Vec<S>,
+}
 
 /// What workers counted, together with what a further one did.
-fn add(
-    counted: Result<Totals, ServerFault>,
-    further: Result<Totals, ServerFault>,
-) -> Result<Totals, ServerFault>
-    ensures { AddsUp counted further result }
+fn add<S: Drop>(
+    counted: Result<AllCounted<S>, ServerFault>,
+    further: Result<WorkerOutcome<S>, ServerFault>,
+) -> Result<AllCounted<S>, ServerFault>
+    ensures { IfOk result (IsAdded counted further) }
 {
-    match sum(further?, counted?) {
-        Some(totals) => Ok(totals),
-        None => Err(ServerFault::BookFull),
+    let AllCounted { totals, mut sinks } = counted?;
+    let WorkerOutcome { totals: own, sink } = further?;
+    let Some(totals) = sum(own, totals) else {
+        return Err(ServerFault::BookFull);
+    };
+    match sinks.push(sink) {
+        Ok(()) => Ok(AllCounted { totals, sinks }),
+        Err(_) => Err(ServerFault::NoMemory),
     }
 }
 
-/// Waits for the workers' ends. What they counted, together; where one failed, its fault, once all have ended.
-pub(crate) fn join_workers<X: Threads>(
+/// Waits for the workers' ends. What they counted, together, and their sinks; where one failed, its fault, once all have ended.
+pub(crate) fn join_workers<X: Threads, S: EndSink + Drop>(
     rt: &X,
+    alloc: Global,
     gates: Snapshot<Shared>,
-    children: Vec<Child>,
-) -> Result<Totals, ServerFault>
+    children: Vec<Child<S>>,
+) -> Result<AllCounted<S>, ServerFault>
     requires { All (IsOver gates.value) children.items }
-    ensures { IfOk result (AreTotals gates.value (length children.items)) }
+    ensures workers { IfOk result (λ all. length all.sinks.items ≡ length children.items) }
+    ensures totals { IfOk result (λ all.
+        AreTotals gates.value (map S.given all.sinks.items) all.totals) }
 {
-    let mut counted = Ok(Totals {
-        gets: 0,
-        puts: 0,
-        deletes: 0,
-        refusals: 0,
-        reaps: 0,
+    let mut counted = Ok(AllCounted {
+        totals: Totals {
+            gets: 0,
+            puts: 0,
+            deletes: 0,
+            refusals: 0,
+            reaps: 0,
+        },
+        sinks: Vec::new(alloc),
     });
     for child in children {
         counted = add(counted, child.join(rt));

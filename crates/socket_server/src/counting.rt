@@ -1,32 +1,202 @@
 //! A worker's life: a node over the gates with a book of its own.
-ghost use Rattle.std.specs.Prelude.{◌≡◌, IfOk};
+ghost use Rattle.std.specs.Prelude.{◌≡◌, [], ◌∷◌, ◌++◌, false, true, IfOk, IfSome};
+ghost use Rattle.stats_book.specs.Counting.{zeros};
 ghost use Rattle.stats_book.specs.Holdings.{AllAre};
+ghost use Rattle.stats_book.specs.declared.totals.Totals.{Totals};
+ghost use Rattle.gate_node.specs.Passes.{ArePassesOf, AreUnused};
 ghost use Rattle.socket_server.specs.Counting.{WorkerCounts};
 
+use crate::end_sink::EndSink;
 use crate::fault::ServerFault;
 use crate::inbox::Inbox;
 use crate::worker::{Waits, attend};
 use gate_node::{GateNode, Open, Passes, Shared};
 use log::Log;
-use stats_book::{Blanks, Book, Totals, close};
+use stats_book::{Blanks, Book, Share, Totals, close};
 use std::alloc::Global;
 use std::marker::Brand;
 use std::rt::Clock;
 use std::sync::Wait;
 use std::sync::ledger::Ledger;
 
-/// Serves the connections that come to an inbox by a node over the gates, whose book has these ledgers. Returns what it counted.
-fn count_by<X, G, P, D, E, R>(
+/// What a worker is started with: what it waits with, and the sink of its connections' ends.
+#[derive(Drop)]
+pub(crate) struct Station<S> {
+    pub(crate) waits: Waits,
+    pub(crate) sink: S,
+}
+
+/// What a worker counted, and the sink that was given the ends of its connections.
+#[derive(Drop)]
+pub(crate) struct WorkerOutcome<S> {
+    pub(crate) totals: Totals,
+    pub(crate) sink: S,
+}
+
+/// What a worker served by, once it has ended: the share of its book, the sink, and whether the book was full.
+type Served<S, G, P, D, E, R> = (Share<G, P, D, E, R>, S, bool);
+
+/// Serves the connections that come to an inbox by a node over the gates, with these passes and this share of a book.
+fn serve_by<X, S, G, P, D, E, R>(
     rt: &X,
     alloc: Global,
     shared: &Shared,
-    waits: Waits,
+    book: &Book<G, P, D, E, R>,
+    share: Share<G, P, D, E, R>,
+    passes: Passes,
+    station: Station<S>,
+    inbox: &Inbox,
+    idle_seconds: Option<u32>,
+) -> Served<S, G, P, D, E, R>
+where
+    X: Log + Clock + Wait,
+    S: EndSink + Drop,
+    G: Ledger,
+    P: Ledger,
+    D: Ledger,
+    E: Ledger,
+    R: Ledger,
+    requires share { share ≡ zeros }
+    requires passes { ArePassesOf shared.now passes }
+    requires unused { AreUnused passes }
+    requires sink { S.given station.sink ≡ [] }
+    ensures { result.2 ≡ false → WorkerCounts shared.now (S.given result.1) result.0 }
+{
+    let Station { waits, sink } = station;
+    let node = GateNode::new(rt, shared, book, share, passes, &Open);
+    let (node, sink) = attend(rt, alloc, node, sink, waits, inbox, idle_seconds);
+    let (share, _, is_full) = node.parts();
+    (share, sink, is_full)
+}
+
+/// Puts a share back. False where memory is refused; it is let go then.
+fn put_back<G: Ledger, P: Ledger, D: Ledger, E: Ledger, R: Ledger>(
+    shares: &mut Vec<Share<G, P, D, E, R>>,
+    share: Share<G, P, D, E, R>,
+) -> bool
+    ensures { result ≡ true → shares.new.items ≡ shares.old.items ++ share ∷ [] }
+{
+    shares.push(share).is_ok()
+}
+
+/// The same by a share that is put back where it was taken. None where memory is refused.
+fn serve_by_one<X, S, G, P, D, E, R>(
+    rt: &X,
+    alloc: Global,
+    shared: &Shared,
+    book: &Book<G, P, D, E, R>,
+    share: Share<G, P, D, E, R>,
+    shares: &mut Vec<Share<G, P, D, E, R>>,
+    station: Station<S>,
+    inbox: &Inbox,
+    idle_seconds: Option<u32>,
+) -> Option<(S, bool)>
+where
+    X: Log + Clock + Wait,
+    S: EndSink + Drop,
+    G: Ledger,
+    P: Ledger,
+    D: Ledger,
+    E: Ledger,
+    R: Ledger,
+    requires share { share ≡ zeros }
+    requires none { shares.old.items ≡ [] }
+    requires sink { S.given station.sink ≡ [] }
+    ensures { IfSome result (λ served. (counted : Totals)
+        × (shares.new.items ≡ counted ∷ [])
+        × (served.1 ≡ false → WorkerCounts shared.now (S.given served.0) counted)) }
+{
+    let Ok(passes) = Passes::new(alloc, shared) else {
+        return None;
+    };
+    let (share, sink, is_full) = serve_by(
+        rt,
+        alloc,
+        shared,
+        book,
+        share,
+        passes,
+        station,
+        inbox,
+        idle_seconds,
+    );
+    if put_back(shares, share) {
+        Some((sink, is_full))
+    } else {
+        None
+    }
+}
+
+/// The same by the one share that there is, which is put back. None where there is none, or where memory is refused.
+fn serve_by_all<X, S, G, P, D, E, R>(
+    rt: &X,
+    alloc: Global,
+    shared: &Shared,
+    book: &Book<G, P, D, E, R>,
+    shares: &mut Vec<Share<G, P, D, E, R>>,
+    station: Station<S>,
+    inbox: &Inbox,
+    idle_seconds: Option<u32>,
+) -> Option<(S, bool)>
+where
+    X: Log + Clock + Wait,
+    S: EndSink + Drop,
+    G: Ledger,
+    P: Ledger,
+    D: Ledger,
+    E: Ledger,
+    R: Ledger,
+    requires shares { shares.old.items ≡ zeros ∷ [] }
+    requires sink { S.given station.sink ≡ [] }
+    ensures { IfSome result (λ served. (counted : Totals)
+        × (shares.new.items ≡ counted ∷ [])
+        × (served.1 ≡ false → WorkerCounts shared.now (S.given served.0) counted)) }
+{
+    match shares.pop() {
+        Some(share) => serve_by_one(
+            rt,
+            alloc,
+            shared,
+            book,
+            share,
+            shares,
+            station,
+            inbox,
+            idle_seconds,
+        ),
+        None => None,
+    }
+}
+
+/// What a worker counted, where its book was never full.
+fn outcome_of<S: Drop>(
+    totals: Totals,
+    sink: S,
+    is_full: bool,
+) -> Result<WorkerOutcome<S>, ServerFault>
+    ensures { IfOk result (λ outcome.
+        (is_full ≡ false) × (outcome.totals ≡ totals) × (outcome.sink ≡ sink)) }
+{
+    if is_full {
+        Err(ServerFault::BookFull)
+    } else {
+        Ok(WorkerOutcome { totals, sink })
+    }
+}
+
+/// Serves the connections that come to an inbox by a node over the gates, whose book has these ledgers. Returns what it counted.
+fn count_by<X, S, G, P, D, E, R>(
+    rt: &X,
+    alloc: Global,
+    shared: &Shared,
+    station: Station<S>,
     inbox: &Inbox,
     idle_seconds: Option<u32>,
     blanks: Blanks,
-) -> Result<Totals, ServerFault>
+) -> Result<WorkerOutcome<S>, ServerFault>
 where
     X: Log + Clock + Wait,
+    S: EndSink + Drop,
     G: Ledger,
     P: Ledger,
     D: Ledger,
@@ -38,48 +208,48 @@ where
     requires refusals { (blanks.refusals.name ≡ E.name) × (blanks.refusals.parts ≡ E.parts) }
     requires reaps { (blanks.reaps.name ≡ R.name) × (blanks.reaps.parts ≡ R.parts) }
     requires parts { AllAre 1 G.parts P.parts D.parts E.parts R.parts }
-    ensures { IfOk result (WorkerCounts shared.now) }
+    requires sink { S.given station.sink ≡ [] }
+    ensures { IfOk result (λ outcome.
+        WorkerCounts shared.now (S.given outcome.sink) outcome.totals) }
 {
     let Ok((book, mut shares)) = Book::<G, P, D, E, R>::new(alloc, 1, blanks) else {
         return Err(ServerFault::NoMemory);
     };
-    let Some(share) = shares.pop() else {
-        return Err(ServerFault::NoMemory);
-    };
-    let Ok(passes) = Passes::new(alloc, shared) else {
-        return Err(ServerFault::NoMemory);
-    };
-    let node = GateNode::new(rt, shared, &book, share, passes, &Open);
-    let node = attend(rt, alloc, node, waits, inbox, idle_seconds);
-    let (share, _, is_full) = node.parts();
-    let Ok(()) = shares.push(share) else {
-        return Err(ServerFault::NoMemory);
-    };
-    let totals = close(book, shares);
-    if is_full {
-        Err(ServerFault::BookFull)
-    } else {
-        Ok(totals)
-    }
-}
-
-/// A worker's life: it serves the connections that come to its inbox, until that is told to stop and all of them have ended. Returns what
-/// it counted. Where it fails, the inbox is closed.
-pub(crate) fn work<X: Log + Clock + Wait>(
-    rt: &X,
-    alloc: Global,
-    shared: &Shared,
-    waits: Waits,
-    inbox: &Inbox,
-    idle_seconds: Option<u32>,
-) -> Result<Totals, ServerFault>
-    ensures { IfOk result (WorkerCounts shared.now) }
-{
-    let counted = count_by::<X, Brand, Brand, Brand, Brand, Brand>(
+    let served = serve_by_all(
         rt,
         alloc,
         shared,
-        waits,
+        &book,
+        &mut shares,
+        station,
+        inbox,
+        idle_seconds,
+    );
+    match served {
+        Some((sink, is_full)) => outcome_of(close(book, shares), sink, is_full),
+        None => Err(ServerFault::NoMemory),
+    }
+}
+
+/// A worker's life: it serves the connections that come to its inbox, until no more come or that is told to stop, and all of them
+/// have ended. Returns what it counted. Where it fails, the inbox is closed.
+pub(crate) fn work<X: Log + Clock + Wait, S: EndSink + Drop>(
+    rt: &X,
+    alloc: Global,
+    shared: &Shared,
+    station: Station<S>,
+    inbox: &Inbox,
+    idle_seconds: Option<u32>,
+) -> Result<WorkerOutcome<S>, ServerFault>
+    requires { S.given station.sink ≡ [] }
+    ensures { IfOk result (λ outcome.
+        WorkerCounts shared.now (S.given outcome.sink) outcome.totals) }
+{
+    let counted = count_by::<X, S, Brand, Brand, Brand, Brand, Brand>(
+        rt,
+        alloc,
+        shared,
+        station,
         inbox,
         idle_seconds,
         Blanks::new(1),

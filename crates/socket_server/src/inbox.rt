@@ -22,6 +22,8 @@ pub(crate) struct Inbox {
     load: AtomicUsize,
     /// Whether the worker takes connections.
     is_closed: AtomicBool,
+    /// Whether no more connections come, so that the worker is to end once those that it has have ended.
+    is_ending: AtomicBool,
     /// Whether the worker is to end its connections, and then itself.
     is_stopping: AtomicBool,
 }
@@ -34,6 +36,7 @@ impl Inbox {
             waker,
             load: AtomicUsize::new(0),
             is_closed: AtomicBool::new(false),
+            is_ending: AtomicBool::new(false),
             is_stopping: AtomicBool::new(false),
         }
     }
@@ -76,10 +79,21 @@ impl Inbox {
         drop(self.take(rt, alloc));
     }
 
-    /// The worker is to end its connections, and then itself.
+    /// No more connections come: the worker is to end once all that it has have ended by themselves.
+    pub(crate) fn finish(&self) {
+        self.is_ending.store(true, Ordering::SeqCst);
+        let _ = self.waker.wake();
+    }
+
+    /// No more connections come: the worker is to end its connections, and then itself.
     pub(crate) fn stop(&self) {
         self.is_stopping.store(true, Ordering::SeqCst);
-        let _ = self.waker.wake();
+        self.finish();
+    }
+
+    /// Whether no more connections come, and the worker is to end once it has none.
+    pub(crate) fn is_ending(&self) -> bool {
+        self.is_ending.load(Ordering::SeqCst)
     }
 
     /// Whether the worker is to end its connections, and then itself.

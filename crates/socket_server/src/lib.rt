@@ -1,37 +1,44 @@
 //! A server over a listener: threads that serve as many connections as come, each as its socket is ready.
 //!
 //! ```text
-//! let settings = ServerSettings { workers: 4, idle_seconds: None };
-//! serve_until(&rt, alloc, &listener, &shared, settings, Some(input))?   returns once the input has ended and so have all connections
-//!     .totals                                                          // what the four workers counted, together
+//! let settings = ServerSettings { connections: Some(2), idle_seconds: None };
+//! let sinks = log_sinks(alloc, 4)?;                                        // four workers, whose connections' ends are logged
+//! serve_until(&rt, alloc, &listener, &shared, settings, sinks, Some(input))?   returns once two connections have ended, or the input and all
+//!     .totals                                                              // what the four workers counted, together
 //! ```
 //!
 //! What it means: each worker answers by one node over the gates of a run, for as long as it lives, by passes that had seen nothing and a
-//! book of its own. Its connections are the jobs of `node_server`, whose steps are interleaved; each that began has ended, once
-//! (`specs/Serving`). The totals are the sums of what the workers counted ([`serve_until`]).
+//! book of its own. Its connections are the jobs of `node_server`, whose steps are interleaved; each that began has ended, once, and its end was
+//! given to the worker's [`EndSink`], once (`specs/Serving`). The totals are the sums of what the workers counted ([`serve_until`]).
 //!
 //! How it is built: the calling thread accepts connections, and hands each to the worker that has the fewest, through an inbox. A worker waits
 //! until sockets are ready, or its inbox is, and gives each ready connection a turn of some steps. Nothing that two workers write stands on a
 //! request's way but the gate of the request's vnode.
 //!
-//! What no clause says: which connections are accepted, who is ready, whose turn it is, what is logged, and when a connection is closed
-//! that was silent for too long.
+//! What no clause says: that a connection which was accepted is begun, who is ready, whose turn it is, what is logged, and when a
+//! connection is closed that was silent for too long.
 #![tactic(auto)]
 
 mod accept_fault;
 mod accepting;
 mod child;
 mod counting;
+mod end_sink;
 mod fault;
 mod inbox;
 mod lingering;
+mod noted_jobs;
+mod seats;
 mod server;
 mod sockets;
+mod starting;
 mod stop;
 mod totals;
 mod worker;
+mod worker_clock;
 
 pub use accept_fault::AcceptFault;
+pub use end_sink::{EndSink, LogSink, log_sinks};
 pub use fault::ServerFault;
 pub use server::{ServerOutcome, ServerSettings, serve_until};
 pub use sockets::{ReplySocket, RequestSocket};

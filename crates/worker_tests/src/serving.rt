@@ -4,6 +4,7 @@ ghost use Rattle.std.specs.Prelude.{◌≤◌, IfSome};
 mod clients;
 mod listener;
 mod served;
+mod sinks;
 mod stopped;
 mod until;
 

@@ -1,14 +1,15 @@
-//! Servers for as many clients as come, until an input ends, and their clients beside them.
+//! Servers for as many clients as come, until an input ends or so many have come, and their clients beside them.
 use crate::serving::clients::{Action, Step, take_all};
 use crate::serving::is_text;
 use crate::serving::listener::{new_listener, port_of};
 use crate::serving::served::{ONE_KEY, PUT_V_GET, PUT_W_GET, STORED_V, STORED_W, TWO_CLIENTS};
+use crate::serving::sinks::{has_one_of_each, new_sinks};
 use log::sink::Console;
 use log::{LevelFilter, Log, Logged};
 use node_commands::{UntilSettings, serve_on_until};
 use ring_map::Ring;
 use std::alloc::Global;
-use std::io::Read;
+use std::io::{ErrorKind, Read};
 use std::net::{Net, TcpListener, TcpStream};
 use std::process::Abort;
 use std::rt::Clock;
@@ -19,22 +20,20 @@ use std::thread::Threads;
 use std::time::Duration;
 use std::{io, thread};
 
-/// An input that ends once that is said, and gives nothing before.
+/// An input that ends once that is said, and until then says that it has nothing yet.
 #[derive(Drop)]
 struct Awaited<'a, R> {
     rt: &'a R,
     has_ended: &'a AtomicBool,
 }
 
-impl<'a, R: Clock + Wait> Read for Awaited<'a, R> {
+impl<'a, R: Clock> Read for Awaited<'a, R> {
     fn read(&mut self, _buf: &mut [u8]) -> io::Result<usize> {
-        for _ in self.rt.forever() {
-            if self.has_ended.load(Ordering::SeqCst) {
-                break;
-            }
-            thread::sleep(self.rt, Duration::from_millis(1));
+        if self.has_ended.load(Ordering::SeqCst) {
+            return Ok(0);
         }
-        Ok(0)
+        thread::sleep(self.rt, Duration::from_millis(1));
+        Err(ErrorKind::WouldBlock.into())
     }
 }
 
@@ -42,6 +41,10 @@ impl<'a, R: Clock + Wait> Read for Awaited<'a, R> {
 struct Server {
     shows: &'static str,
     workers: u16,
+    /// After how many connections no more are accepted, if there is such a number.
+    limit: Option<u64>,
+    /// Whether there is an input whose end ends it.
+    has_input: bool,
     idle_seconds: Option<u32>,
     steps: &'static [Step],
     connections: u64,
@@ -128,6 +131,22 @@ const SILENT: &[Step] = &[
     Step::Acts(1, Action::Gets(STORED_V, 12)),
 ];
 
+/// A client that says nothing.
+const ONE_SILENT: &[Step] = &[Step::Connects, Step::Acts(0, Action::IsEnded)];
+
+/// Of two clients the first ends before the second is served, and a third comes too late.
+const ONE_TOO_MANY: &[Step] = &[
+    Step::Connects,
+    Step::Connects,
+    Step::Connects,
+    Step::Acts(0, Action::Shuts),
+    Step::Acts(0, Action::IsEnded),
+    Step::Acts(1, Action::Sends(PUT_V_GET)),
+    Step::Acts(1, Action::Gets(STORED_V, 12)),
+    Step::Acts(1, Action::Shuts),
+    Step::Acts(1, Action::IsEnded),
+];
+
 const ONE_OF_EACH: Option<&str> = Some("gets 1 puts 1 deletes 0 refusals 0 reaps 0\n");
 
 const TWO_OF_EACH: Option<&str> = Some("gets 2 puts 2 deletes 0 refusals 0 reaps 0\n");
@@ -136,6 +155,8 @@ const SERVERS: &[Server] = &[
     Server {
         shows: "one worker serves two clients at once",
         workers: 1,
+        limit: None,
+        has_input: true,
         idle_seconds: None,
         steps: TWO_CLIENTS,
         connections: 2,
@@ -144,6 +165,8 @@ const SERVERS: &[Server] = &[
     Server {
         shows: "two clients of one key see one history of it, whichever workers serve them",
         workers: 3,
+        limit: None,
+        has_input: true,
         idle_seconds: None,
         steps: ONE_KEY,
         connections: 2,
@@ -152,6 +175,8 @@ const SERVERS: &[Server] = &[
     Server {
         shows: "clients that wait hold nobody up, and are ended with the input",
         workers: 1,
+        limit: None,
+        has_input: true,
         idle_seconds: None,
         steps: TWO_WAIT,
         connections: 3,
@@ -160,6 +185,8 @@ const SERVERS: &[Server] = &[
     Server {
         shows: "bytes may come one by one",
         workers: 1,
+        limit: None,
+        has_input: true,
         idle_seconds: None,
         steps: ONE_BY_ONE,
         connections: 2,
@@ -168,6 +195,8 @@ const SERVERS: &[Server] = &[
     Server {
         shows: "who sends no more gets its replies",
         workers: 2,
+        limit: None,
+        has_input: true,
         idle_seconds: None,
         steps: HALF_CLOSED,
         connections: 1,
@@ -176,6 +205,8 @@ const SERVERS: &[Server] = &[
     Server {
         shows: "a bad length ends its connection alone",
         workers: 1,
+        limit: None,
+        has_input: true,
         idle_seconds: None,
         steps: BAD_LENGTH,
         connections: 2,
@@ -184,6 +215,8 @@ const SERVERS: &[Server] = &[
     Server {
         shows: "who still sends when its connection ends gets the error that says why",
         workers: 1,
+        limit: None,
+        has_input: true,
         idle_seconds: None,
         steps: LARGE_FRAME,
         connections: 1,
@@ -192,6 +225,8 @@ const SERVERS: &[Server] = &[
     Server {
         shows: "who goes without replies ends its connection alone",
         workers: 1,
+        limit: None,
+        has_input: true,
         idle_seconds: None,
         steps: ONE_GOES,
         connections: 2,
@@ -200,14 +235,68 @@ const SERVERS: &[Server] = &[
     Server {
         shows: "who is silent for too long is closed",
         workers: 1,
+        limit: None,
+        has_input: true,
         idle_seconds: Some(1),
         steps: SILENT,
         connections: 2,
         totals: ONE_OF_EACH,
     },
     Server {
+        shows: "it ends once so many connections have ended, and accepts no more",
+        workers: 2,
+        limit: Some(2),
+        has_input: false,
+        idle_seconds: None,
+        steps: ONE_TOO_MANY,
+        connections: 2,
+        totals: ONE_OF_EACH,
+    },
+    Server {
+        shows: "it accepts no more than so many while its input goes on",
+        workers: 1,
+        limit: Some(2),
+        has_input: true,
+        idle_seconds: None,
+        steps: ONE_TOO_MANY,
+        connections: 2,
+        totals: ONE_OF_EACH,
+    },
+    Server {
+        shows: "the last of so many may end by its silence",
+        workers: 1,
+        limit: Some(1),
+        has_input: false,
+        idle_seconds: Some(1),
+        steps: ONE_SILENT,
+        connections: 1,
+        totals: Some("gets 0 puts 0 deletes 0 refusals 0 reaps 0\n"),
+    },
+    Server {
+        shows: "the input may end before so many have come",
+        workers: 1,
+        limit: Some(5),
+        has_input: true,
+        idle_seconds: None,
+        steps: TWO_WAIT,
+        connections: 3,
+        totals: ONE_OF_EACH,
+    },
+    Server {
+        shows: "the input may end while the last of so many wait",
+        workers: 2,
+        limit: Some(3),
+        has_input: true,
+        idle_seconds: None,
+        steps: TWO_WAIT,
+        connections: 3,
+        totals: ONE_OF_EACH,
+    },
+    Server {
         shows: "without a client it ends with the input",
         workers: 2,
+        limit: None,
+        has_input: true,
         idle_seconds: None,
         steps: &[],
         connections: 0,
@@ -227,22 +316,31 @@ fn serves<R: Log + Clock + Net + Threads + Wait + Sync>(
     let Some(ring) = Ring::new(1) else {
         return false;
     };
+    let Ok(sinks) = new_sinks(alloc, server.workers) else {
+        return false;
+    };
     let settings = UntilSettings {
-        workers: server.workers,
+        connections: server.limit,
         ring,
         run: 1,
         sweep: 0,
         idle_seconds: server.idle_seconds,
     };
     let mut written = Vec::new(alloc);
-    let input = Awaited { rt, has_ended };
-    let outcome = serve_on_until(rt, alloc, listener, &settings, Some(input), &mut written);
+    let input = if server.has_input {
+        Some(Awaited { rt, has_ended })
+    } else {
+        None
+    };
+    let outcome = serve_on_until(rt, alloc, listener, &settings, sinks, input, &mut written);
     let is_written = match server.totals {
         Some(totals) => is_text(alloc, written.as_slice(), port, totals),
         None => true,
     };
     match outcome {
-        Ok(outcome) => is_written && outcome.connections == server.connections,
+        Ok(outcome) => is_written
+            && outcome.connections == server.connections
+            && has_one_of_each(outcome.sinks.as_slice(), server.connections),
         Err(_) => false,
     }
 }
@@ -258,7 +356,7 @@ fn listen<N: Net<Listener = TcpListener, Stream = TcpStream>>(
 
 // The threads are started in the test itself: both use the network, and of any runtime it isn't known that another thread may.
 #[test]
-fn clients_are_served_until_the_input_ends(rt: HostRuntime) {
+fn clients_are_served_until_the_end(rt: HostRuntime) {
     let quiet = Logged::new(rt, LevelFilter::Off, Console(rt));
     for server in SERVERS {
         let Some((listener, port)) = listen(&rt) else {

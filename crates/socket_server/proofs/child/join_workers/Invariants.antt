@@ -1,4 +1,4 @@
-use Rattle.std.proofs.Common.{◌≡◌, ◌+◌, ℕ, length}
+use Rattle.std.proofs.Common.{◌≡◌, ◌+◌, ℕ, length, map}
 use Rattle.std.specs.Prelude.{IfOk}
 use Rattle.std.specs.List.{All}
 use Rattle.std.specs.Vec.Iter.{into_iter_items}
@@ -8,4 +8,5 @@ use Rattle.socket_server.proofs.child.join_workers.Given as goal
 abbrev pub invariant-loop-child : goal.invariant-loop-child
 invariant-loop-child g l =
     All (IsOver l.gates.value) (into_iter_items l.child-iterator)
-    × ((joined : ℕ) × (joined + length (into_iter_items l.child-iterator) ≡ length l.fn.children.items) × IfOk l.counted (AreTotals l.gates.value joined))
+    × IfOk l.counted (λ all. length all.sinks.items + length (into_iter_items l.child-iterator) ≡ length l.fn.children.items)
+    × IfOk l.counted (λ all. AreTotals l.gates.value (map g.S.EndSink.given all.sinks.items) all.totals)
