@@ -1,5 +1,5 @@
 -- What a worker counts, and what all workers of a server do together.
-use Rattle.std.specs.Prelude.{◌≡◌, ◌++◌, ℕ, List, [], ◌∷◌, false, Result, Ok, Err}
+use Rattle.std.specs.Prelude.{◌≡◌, ◌++◌, ℕ, List, [], ◌∷◌, false, Result, Ok}
 use Rattle.std.specs.declared.thread.PromisedHandle.{PromisedHandle}
 use Rattle.stats_book.specs.declared.totals.Totals.{Totals}
 use Rattle.stats_book.specs.Counting.{zeros, both}
