@@ -1,8 +1,8 @@
 -- Bytes decode to the pairs that they encode.
-use Rattle.std.proofs.Common.{◌≡◌, ℕ, suc, ◌/◌, ◌%◌, ◌<◌, ◌&&◌, ◌^◌, cond, Bool, true, false, IsTrue, List, [], ◌∷◌, length, get_or, refl, sym, ◌∙◌, ap, subst, inl, inr, arith}
-use Rattle.std.specs.Prelude.{◌↔◌, ◌⊎◌, flat_map, nat_eq, Option, Some, None}
+use Rattle.std.proofs.Common.{◌≡◌, ℕ, suc, ◌/◌, ◌%◌, ◌<◌, ◌&&◌, ◌^◌, ◌*◌, cond, Bool, true, false, IsTrue, List, [], ◌∷◌, length, get_or, refl, sym, ◌∙◌, ap, subst, inl, inr, arith}
+use Rattle.std.specs.Prelude.{◌↔◌, ◌⊎◌, flat_map, nat_eq, Option, Some, None, is_some}
 use Rattle.std.specs.List.{All, list_all}
-use Rattle.std.proofs.lemmas.Bool.{cases_lt}
+use Rattle.std.proofs.lemmas.Bool.{cases_lt, and_right as and_not, eqb-true as same_is, true≢false}
 use Rattle.std.proofs.lemmas.List.{get_or_past}
 use Rattle.std.proofs.lemmas.Bool.Decides.{nat_tests}
 use Rattle.actor_epoch.specs.declared.dot.Dot.{Dot}
@@ -23,9 +23,6 @@ AreBytes bytes = (i : ℕ) → get_or bytes i 0 < 256
 
 is_same : (a b : ℕ) → a ≡ b → nat_eq a b ≡ true
 is_same a b h = grind (arith, nat_tests)
-
-same_is : (a b : ℕ) → nat_eq a b ≡ true → a ≡ b
-same_is a b h = grind (arith, nat_tests)
 
 -- what encodes pairs is a context
 is_context-encoding : (version : Version) (entries : List ℕ) (pairs : List Dot) → IsTrue (is_well_formed pairs) → IsTrue (list_all (has_room version) pairs)
@@ -146,10 +143,6 @@ unfolding context_of
 context_of-none [] = (λ e. refl, λ e. refl)
 context_of-none (version ∷ entries) = (λ e. cc, λ e. cc)
 
-and_not : (a b : Bool) → b ≡ false → (a && b) ≡ false
-and_not true b h = h
-and_not false b h = refl
-
 is_context-found : (version : Version) (entries : List ℕ) → length entries % entry_len version ≡ 0 → is_well_formed (pairs_in version entries) ≡ true
     → is_context version entries ≡ true
 is_context-found version entries w h = (λ i. is_same (length entries % entry_len version) 0 w i && is_well_formed (pairs_in version entries)) ∙ h
@@ -177,3 +170,32 @@ pub read-unformed : (bytes : List ℕ) (byte : ℕ) (version : Version) (entries
 read-unformed bytes byte version entries size e v s f =
     let t : is_well_formed (pairs_in version entries) ≡ false = ap (λ n. is_well_formed (entries_in version (length entries / n) entries)) (sym s) ∙ sym f in
     read-malformed bytes byte version entries e (sym v) (and_not (nat_eq (length entries % entry_len version) 0) _ t)
+
+-- bytes of the form: some stand, the first names a version, and behind it stands a context
+pub formed-some : (bytes : List ℕ) → length bytes ≡ 0 → IsTrue (is_some (pairs_read (context_of bytes))) → ⊥
+formed-some bytes e h = true≢false (sym h ∙ ap is_some (sym (read-none bytes e)))
+
+pub formed-version : (bytes : List ℕ) (byte : ℕ) (entries : List ℕ) → bytes ≡ byte ∷ entries → version_of byte ≡ None
+    → IsTrue (is_some (pairs_read (context_of bytes))) → ⊥
+formed-version bytes byte entries e v h = true≢false (sym h ∙ ap is_some (sym (read-other bytes byte entries e v)))
+
+pub formed-context : (bytes : List ℕ) (byte : ℕ) (version : Version) (entries : List ℕ) → bytes ≡ byte ∷ entries → version_of byte ≡ Some version
+    → IsTrue (is_some (pairs_read (context_of bytes))) → is_context version entries ≡ true
+formed-context bytes byte version entries e v h = by (is_context version entries) refl
+  where
+    by : (b : Bool) → is_context version entries ≡ b → is_context version entries ≡ true
+    by true t = t
+    by false t = absurd (true≢false (sym h ∙ ap is_some (sym (read-malformed bytes byte version entries e v t))))
+
+-- and its entries are whole, and of the form, by the length of an entry that the code divides by
+pub formed-entries : (version : Version) (entries : List ℕ) (size : ℕ) → size ≡ entry_len version → is_context version entries ≡ true
+    → (length entries ≡ entry_len version * (length entries / size)) × IsTrue (is_well_formed (entries_in version (length entries / size) entries))
+formed-entries version entries size s h = (
+  count-whole version (length entries) (whole version entries h) ∙ ap (λ n. entry_len version * (length entries / n)) (sym s),
+  ap (λ n. is_well_formed (entries_in version (length entries / n) entries)) s ∙ formed version entries h,
+)
+
+pub formed-pairs : (bytes : List ℕ) (byte : ℕ) (version : Version) (entries : List ℕ) (size : ℕ) → bytes ≡ byte ∷ entries → version_of byte ≡ Some version
+    → size ≡ entry_len version → is_context version entries ≡ true → pairs_read (context_of bytes) ≡ Some (entries_in version (length entries / size) entries)
+formed-pairs bytes byte version entries size e v s h =
+    sym (read-context bytes byte version entries e v h) ∙ ap (λ n. Some (entries_in version (length entries / n) entries)) (sym s)

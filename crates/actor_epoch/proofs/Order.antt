@@ -13,6 +13,7 @@ use Rattle.actor_epoch.specs.declared.dot.Dot.{Dot}
 use Rattle.actor_epoch.specs.Dots.{actor_cmp, actor_eq, covers, counter_in}
 use Rattle.actor_epoch.specs.Contexts.{is_rising}
 use Rattle.actor_epoch.proofs.Rising.{and_first, and_second}
+use Rattle.std.proofs.lemmas.Bool.{eq-eqb, and_from as both}
 
 pub actor_cmp_total : IsTotalOrder actor_cmp
 actor_cmp_total = then_total (on_total (λ (a : Actor). a.vnode) nat_cmp_total) (on_total (λ (a : Actor). a.epoch) nat_cmp_total)
@@ -22,13 +23,10 @@ abbrev pub is_below_all : Actor → List Dot → Bool
 is_below_all actor [] = true
 is_below_all actor (pair ∷ pairs) = is_lt (actor_cmp actor pair.actor) && is_below_all actor pairs
 
-is_lt-less : (o : Ordering) → IsTrue (is_lt o) → o ≡ Less
+pub is_lt-less : (o : Ordering) → IsTrue (is_lt o) → o ≡ Less
 is_lt-less Less h = refl
 is_lt-less Equal h = cc
 is_lt-less Greater h = cc
-
-both : (a b : Bool) → a ≡ true → b ≡ true → (a && b) ≡ true
-both a b p q = λ i. p i && q i
 
 is_below_all-less : (a b : Actor) (pairs : List Dot) → actor_cmp a b ≡ Less → IsTrue (is_below_all b pairs) → IsTrue (is_below_all a pairs)
 is_below_all-less a b [] less h = refl
@@ -49,11 +47,8 @@ pub rising-tail : (pair : Dot) (pairs : List Dot) → IsTrue (is_rising (pair �
 rising-tail pair [] h = refl
 rising-tail pair (next ∷ pairs) h = and_second (is_lt (actor_cmp pair.actor next.actor)) _ h
 
-nat_eq_itself : (a : ℕ) → nat_eq a a ≡ true
-nat_eq_itself a = grind (arith, nat_tests)
-
 pub actor_eq-itself : (a : Actor) → actor_eq a a ≡ true
-actor_eq-itself a = both _ _ (nat_eq_itself a.vnode) (nat_eq_itself a.epoch)
+actor_eq-itself a = both _ _ (eq-eqb a.vnode a.vnode refl) (eq-eqb a.epoch a.epoch refl)
 
 pub actor_eq-same : (a b : Actor) → actor_eq a b ≡ true → a ≡ b
 actor_eq-same a b h =

@@ -40,7 +40,7 @@ swapped true false c = refl
 swapped false true c = refl
 swapped false false c = refl
 
-grouped : (a b c : Bool) → ((a || b) || c) ≡ (a || (b || c))
+pub grouped : (a b c : Bool) → ((a || b) || c) ≡ (a || (b || c))
 grouped true b c = refl
 grouped false b c = refl
 

@@ -5,6 +5,7 @@ use Rattle.std.specs.List.{list_all}
 use Rattle.actor_epoch.specs.declared.actor.Actor.{Actor}
 use Rattle.actor_epoch.specs.declared.dot.Dot.{Dot}
 use Rattle.actor_epoch.specs.Contexts.{may_follow, is_rising, is_within_limits}
+pub use Rattle.std.proofs.lemmas.Bool.{and_from as and_both}
 
 pub and_first : (a b : Bool) → (a && b) ≡ true → a ≡ true
 and_first true b h = refl
@@ -13,10 +14,6 @@ and_first false b h = cc
 pub and_second : (a b : Bool) → (a && b) ≡ true → b ≡ true
 and_second true b h = h
 and_second false b h = cc
-
-pub and_both : (a b : Bool) → a ≡ true → b ≡ true → (a && b) ≡ true
-and_both true b h k = k
-and_both false b h k = cc
 
 -- each pair is within its limits, and its actor may follow the one before
 abbrev pub all_go_on : Option Actor → List Dot → Bool

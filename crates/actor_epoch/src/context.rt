@@ -1,6 +1,6 @@
 //! A context: what a client has seen of a key, as the bytes that it gives back.
 
-ghost use Rattle.std.specs.Prelude.{◌≡◌, IsTrue, IfOk, IfErr, Some, ◌&&◌};
+ghost use Rattle.std.specs.Prelude.{◌≡◌, IsTrue, IfOk, IfErr, Some, ◌&&◌, is_some};
 ghost use Rattle.std.specs.Option.{option_map};
 ghost use Rattle.std.specs.List.{list_all};
 ghost use Rattle.actor_epoch.specs.Dots.{covers, counter_in};
@@ -86,6 +86,27 @@ impl<'a> Context<'a> {
             count,
             entries,
         })
+    }
+
+    /// The context that bytes of the form encode (a condition), as `read` gives it, with no second look at its pairs.
+    /// Takes no memory.
+    #[inline(always)]
+    pub fn of_form(bytes: &'a [u8]) -> Context<'a>
+        requires { IsTrue (is_some (pairs_read (context_of bytes.now))) }
+        ensures { pairs_read (context_of bytes.now) ≡ Some result }
+    {
+        let Some((first, entries)) = bytes.split_first() else {
+            unreachable!()
+        };
+        let Some(version) = Version::from_byte(*first) else {
+            unreachable!()
+        };
+        let count = entries.len() / version.entry_len();
+        Context {
+            version,
+            count,
+            entries,
+        }
     }
 
     /// What was given as a context: none where there are no bytes, else the context that they are. Refused exactly where

@@ -9,7 +9,7 @@ use Rattle.std.specs.Ordering.{is_lt, is_eq, eq_by_cmp}
 use Rattle.std.specs.FinMap.Entries.{where_key, is_sorted, below_all, is_sorted-where_key}
 use Rattle.std.proofs.lemmas.Float.{T_from_true}
 use Rattle.std.proofs.lemmas.List.{map-append, take-map, drop-map}
-use Rattle.std.proofs.lemmas.Option.{slice_get_within}
+use Rattle.std.proofs.lemmas.Option.{slice_get_within, slice_get-map}
 use Rattle.riak_msgs.specs.declared.Key.{Key}
 use Rattle.riak_msgs.specs.Contents.{Content}
 use Rattle.riak_msgs.specs.KeyOrder.{key_cmp}
@@ -101,10 +101,6 @@ module _ {X : Type 0} (test : X → Bool) where
       by true t h rest = cc
       by false t h rest = ap (λ b. cond b (x ∷ filter test xs) (filter test xs)) t ∙ rest h
 
-first-map : {X Y : Type 0} (f : X → Y) (xs : List X) → slice_get (map f xs) 0 ≡ option_map f (slice_get xs 0)
-first-map f [] = refl
-first-map f (x ∷ xs) = refl
-
 -- the first dead key, by its place in a sorted list
 pub record DeadAt (keys : Keys) (from : Option Key) (i : ℕ) : Type 0 where
   pub key : Key
@@ -123,7 +119,7 @@ module _ (keys : Keys) (sorted : is_sorted key_cmp keys ≡ true) (from : Option
         within = slice_get_within keys i at.x get;
         first =
             ap (λ ks. slice_get ks 0) (dead_entries (holding keys) from sorted)
-            ∙ first-map (λ entry. entry.0) (filter (is_dead_from from) keys)
+            ∙ slice_get-map (λ entry. entry.0) (filter (is_dead_from from) keys) 0
             ∙ ap (option_map (λ entry. entry.0)) at.first;
         left = remove-where keys i at.x sorted get;
       }

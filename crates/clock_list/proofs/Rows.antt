@@ -28,11 +28,12 @@ use Rattle.clock_list.specs.declared.row.Row.{Row}
 use Rattle.clock_list.specs.Places.{place_in}
 use Rattle.clock_store.specs.declared.store.WriteKind.{WriteKind}
 use Rattle.clock_store.specs.declared.store.WriteKind.TheVariants.{Value, Tombstone}
-use Rattle.clock_store.specs.Contents.{Reservation, HasPlaceIfDead, HasRoom}
+use Rattle.clock_store.specs.Contents.{Reservation, HasPlaceIfDead, HasWriteRoom}
 use Rattle.clock_store.specs.Keys.{Keys, stored_of, empty, clock_at, own_at, written, overwritten}
 use Rattle.std.specs.Ordering.{eq_by_cmp}
-use Rattle.clock_list.specs.Rows.{entry_of, nothing, place_entry, first_place, FitsAt, ReadyAt, SyncFitsAt, SyncReadyAt, reservation_of, contents_in, IsRoom, IsList}
+use Rattle.clock_list.specs.Rows.{entry_of, nothing, place_entry, first_place, RowFits, ReadyAt, SyncFitsAt, SyncReadyAt, reservation_of, contents_in, IsRowRoom, IsList}
 use Rattle.clock_list.proofs.Finding.{at_place, new_place}
+pub use Rattle.clock_store.proofs.Nested.{on_ok}
 
 -- a key stands at its place
 pub record HoldsAt (items : List Row) (key : Key) (i : ℕ) : Type 0 where
@@ -101,7 +102,7 @@ slice_get-set xs i x h =
 module _ (seen : Option (List Dot)) (actor : Actor) where
   -- a clock at a place, as it is read
   pub fits_at : (items : List Row) (key : Key) (i : ℕ) → place_in key (map entry_of items) ≡ At i → IsWithin (clock_at (map entry_of items) key).known seen actor
-      → FitsAt items i seen actor
+      → RowFits items i seen actor
   fits_at items key i h fits =
       let at = stands items key i h in
       let clock : clock_at (map entry_of items) key ≡ at.row.stored.clock.meaning = let o = at.find in rw o refl in
@@ -211,11 +212,6 @@ overwritten_new keys key actor value none =
     let s : DotState (Option Content) → Stored Content = λ m. record { own = Some actor; clock = event actor value m } in
     ap (λ m. put key_cmp key (s m) keys) (was ∙ (λ i. discard (sym was i).known (sym was i)))
 
--- one fact of a value that there is for another
-pub on_ok : {X E A B : Type 0} (r : Result X E) → (A → B) → OnOk r A → OnOk r B
-on_ok (Ok x) f a = f a
-on_ok (Err e) f a = tt
-
 pub true_from : (b : Bool) → T b → IsTrue b
 true_from true t = refl
 true_from false t = absurd t
@@ -225,7 +221,7 @@ pub list_after : (rows : Vec Row Global) (room : Option Room) (old : Keys) (key 
     → map entry_of rows.items ≡ put key_cmp key s old → IsTrue (is_sorted key_cmp old) → IsList (record { rows = rows; room = room })
 list_after rows room old key s none is sorted = record {
   sorted = subst (λ es. IsTrue (is_sorted key_cmp es)) (sym is) (true_from _ (is_sorted-put key_cmp key_cmp_total key s old (T_from_true _ sorted)));
-  room = subst (IsRoom rows) (sym none) tt;
+  room = subst (IsRowRoom rows) (sym none) tt;
 }
 
 has-place : (kind : WriteKind) → HasPlaceIfDead kind true
@@ -234,7 +230,7 @@ has-place Tombstone = refl
 
 module _ (items : List Row) (key : Key) (seen : Option (List Dot)) (actor : Actor) (kind : WriteKind) where
   -- room that was made in a list is what a write finds
-  pub found-new : (i : ℕ) (row : Row) → HasRoom (contents_in items (Some (rooms.New i row))) key seen actor kind → IsReady row.stored.clock seen actor × (row.key ≡ key)
+  pub found-new : (i : ℕ) (row : Row) → HasWriteRoom (contents_in items (Some (rooms.New i row))) key seen actor kind → IsReady row.stored.clock seen actor × (row.key ≡ key)
   found-new i row room =
       let e : room.reserved ≡ reservation_of row.key row = cc in
       (subst (λ (r : Reservation). IsReady r.clock seen actor) e room.ready, ap (λ (r : Reservation). r.key) (sym e) ∙ room.same)

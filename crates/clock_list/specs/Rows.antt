@@ -27,7 +27,7 @@ abbrev pub entry_of : Row → Key × Stored Content
 entry_of row = (row.key, stored_of row.stored)
 
 -- the clock of the key at a place is within its limits after a write
-pub record FitsAt (items : List Row) (i : ℕ) (seen : Option (List Dot)) (actor : Actor) : Type 0 where
+pub record RowFits (items : List Row) (i : ℕ) (seen : Option (List Dot)) (actor : Actor) : Type 0 where
   pub row : Row
   pub get : slice_get items i ≡ Some row
   pub fits : IsWithin row.stored.clock.meaning.known seen actor
@@ -93,11 +93,11 @@ pub record FitsIn (rows : Vec Row Global) (i : ℕ) (row : Row) : Type 0 where
   pub placed : place_in row.key (map entry_of rows.items) ≡ places.New i
   pub none : stored_of row.stored ≡ nothing
 
-abbrev pub IsRoom : Vec Row Global → Option Room → Type 0
-IsRoom rows None = Unit {0}
-IsRoom rows (Some (At i key)) = place_in key (map entry_of rows.items) ≡ places.At i
-IsRoom rows (Some (New i row)) = FitsIn rows i row
+abbrev pub IsRowRoom : Vec Row Global → Option Room → Type 0
+IsRowRoom rows None = Unit {0}
+IsRowRoom rows (Some (At i key)) = place_in key (map entry_of rows.items) ≡ places.At i
+IsRowRoom rows (Some (New i row)) = FitsIn rows i row
 
 pub record IsList (v : Inside) : Type 0 where
   pub sorted : IsTrue (is_sorted key_cmp (map entry_of v.rows.items))
-  pub room : IsRoom v.rows v.room
+  pub room : IsRowRoom v.rows v.room

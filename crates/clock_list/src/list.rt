@@ -6,9 +6,9 @@ ghost use Rattle.riak_msgs.specs.KeyOrder.{key_cmp};
 ghost use Rattle.dvv_set.specs.Held.{IsWithin, pairs_of as seen_in};
 ghost use Rattle.actor_epoch.specs.Limits.{max_actors};
 ghost use Rattle.dvv_set.specs.Clocks.{sync};
-ghost use Rattle.clock_store.specs.Contents.{HasRoom, HasSyncRoom};
+ghost use Rattle.clock_store.specs.Contents.{HasWriteRoom, HasSyncRoom};
 ghost use Rattle.clock_store.specs.Keys.{clock_at};
-ghost use Rattle.clock_list.specs.Rows.{entry_of, contents_in, IsRoom};
+ghost use Rattle.clock_list.specs.Rows.{entry_of, contents_in, IsRowRoom};
 
 use crate::place::{Place, next_row, place_of};
 use crate::removal::{first_dead, forget_at};
@@ -68,8 +68,8 @@ fn make_room(
         (seen_in seen) actor }
     ensures same { map entry_of rows.new.items ≡ map entry_of rows.old.items }
     ensures ok { IfOk result (λ room.
-        HasRoom (contents_in rows.new.items (Some room)) key.now (seen_in seen.entry) actor kind) }
-    ensures fits { IfOk result (λ room. IsRoom rows.new (Some room)) }
+        HasWriteRoom (contents_in rows.new.items (Some room)) key.now (seen_in seen.entry) actor kind) }
+    ensures fits { IfOk result (λ room. IsRowRoom rows.new (Some room)) }
 {
     let _kind = kind; // a list has room for either
     match place_of(rows.as_slice(), key) {
@@ -99,7 +99,7 @@ fn make_sync_room(
     ensures same { map entry_of rows.new.items ≡ map entry_of rows.old.items }
     ensures ok { IfOk result (λ room.
         HasSyncRoom (contents_in rows.new.items (Some room)) key.now other.now.meaning) }
-    ensures fits { IfOk result (λ room. IsRoom rows.new (Some room)) }
+    ensures fits { IfOk result (λ room. IsRowRoom rows.new (Some room)) }
 {
     match place_of(rows.as_slice(), key) {
         Place::At(i) => {

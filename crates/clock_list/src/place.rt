@@ -3,8 +3,8 @@
 ghost use Rattle.std.specs.Prelude.{◌≡◌, map};
 ghost use Rattle.std.specs.Option.{option_map};
 ghost use Rattle.riak_msgs.specs.KeyOrder.{key_cmp};
-ghost use Rattle.place_map.specs.Behind.{is_behind, next_entry};
-ghost use Rattle.place_map.specs.KeyRefs.{key_after};
+ghost use Rattle.clock_store.specs.Behind.{is_behind, next_entry};
+ghost use Rattle.clock_store.specs.KeyRefs.{key_after};
 ghost use Rattle.clock_list.specs.Places.{place_in};
 ghost use Rattle.clock_list.specs.Rows.{entry_of};
 

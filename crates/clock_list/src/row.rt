@@ -9,7 +9,7 @@ ghost use Rattle.dvv_set.specs.Held.{IsWithin, IsReady, IsSyncReady, pairs_of as
 ghost use Rattle.clock_store.specs.Keys.{empty, stored_of, written, overwritten, synced};
 ghost use Rattle.clock_list.specs.declared.place.Place.TheVariants as places;
 ghost use Rattle.clock_list.specs.Places.{place_in};
-ghost use Rattle.clock_list.specs.Rows.{entry_of, nothing, FitsAt, ReadyAt, SyncFitsAt, SyncReadyAt, FitsIn, IsNewRow, IsNewSyncRow};
+ghost use Rattle.clock_list.specs.Rows.{entry_of, nothing, RowFits, ReadyAt, SyncFitsAt, SyncReadyAt, FitsIn, IsNewRow, IsNewSyncRow};
 
 use actor_epoch::{Actor, Context};
 use clock_store::{OwnActor, StoredClock};
@@ -31,7 +31,7 @@ pub(crate) fn reserve_at(
     seen: Option<&Context<'_>>,
     actor: Actor,
 ) -> Result<(), AllocError>
-    requires { FitsAt rows.old.items i (seen_in seen) actor }
+    requires { RowFits rows.old.items i (seen_in seen) actor }
     ensures same { map entry_of rows.new.items ≡ map entry_of rows.old.items }
     ensures ok { OnOk result (ReadyAt rows.new.items i (seen_in seen.entry) actor) }
 {

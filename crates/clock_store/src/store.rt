@@ -1,10 +1,10 @@
 //! What a form of storage promises.
 
 use crate::found::{Found, Place};
+use crate::key_ref::KeyRef;
 use crate::stored_clock::StoredClock;
 use actor_epoch::{Actor, Context};
 use dvv_set::Clock;
-use place_map::KeyRef;
 use riak_msgs::{Content, Key};
 use std::alloc::{AllocError, Global};
 
@@ -43,14 +43,14 @@ pub trait ClockStore: Drop {
     ghost use Rattle.std.specs.Option.{option_map};
     ghost use Rattle.std.specs.FinMap.Entries.{find};
     ghost use Rattle.riak_msgs.specs.KeyOrder.{key_cmp};
-    ghost use Rattle.place_map.specs.Behind.{next_entry};
-    ghost use Rattle.place_map.specs.KeyRefs.{key_in, key_after};
+    ghost use Rattle.clock_store.specs.Behind.{next_entry};
+    ghost use Rattle.clock_store.specs.KeyRefs.{key_in, key_after};
     ghost use Rattle.actor_epoch.specs.Limits.{max_actors};
     ghost use Rattle.dvv_set.specs.Clocks.{sync};
     ghost use Rattle.dvv_set.specs.Held.{IsWithin, pairs_of as seen_in};
     ghost use Rattle.vnode_machine.specs.Dead.{has_dead};
     ghost use Rattle.clock_store.specs.Keys.{stored_of, clock_at, written, overwritten, synced};
-    ghost use Rattle.clock_store.specs.Contents.{Contents, HasRoom, HasSyncRoom, kind_of};
+    ghost use Rattle.clock_store.specs.Contents.{Contents, HasWriteRoom, HasSyncRoom, kind_of};
     ghost use Rattle.clock_store.specs.Forgetting.{holding, key_given, reap_result, after_reap, after_first_reap};
 
     // The keys in their order, the place of each, and the room that was made for one write.
@@ -95,7 +95,7 @@ pub trait ClockStore: Drop {
             (seen_in seen) actor }
         ensures same { (shows self.new).keys ≡ (shows self.old).keys }
         ensures ok { OnOk result
-            (HasRoom (shows self.new) key.now (seen_in seen.entry) actor kind) }
+            (HasWriteRoom (shows self.new) key.now (seen_in seen.entry) actor kind) }
         ensures none { OnErr result ((shows self.new).room ≡ None) };
 
     /// Gives what room there was away. Each key keeps its place.
@@ -106,7 +106,7 @@ pub trait ClockStore: Drop {
 
     /// Writes a value of a key where there is room for it, or a tombstone; the room is used up. It takes no memory.
     fn write(&mut self, key: Key, seen: Option<&Context<'_>>, actor: Actor, value: Option<Content>)
-        requires { HasRoom (shows self.old) key (seen_in seen) actor (kind_of value) }
+        requires { HasWriteRoom (shows self.old) key (seen_in seen) actor (kind_of value) }
         ensures keys { (shows self.new).keys
             ≡ written (shows self.old).keys key (seen_in seen.entry) actor value }
         ensures room { (shows self.new).room ≡ None };
@@ -114,7 +114,7 @@ pub trait ClockStore: Drop {
     /// Writes a value of a key, or a tombstone, in place of all its values, where there is room for it without a context;
     /// the room is used up. It takes no memory.
     fn overwrite(&mut self, key: Key, actor: Actor, value: Option<Content>)
-        requires { HasRoom (shows self.old) key None actor (kind_of value) }
+        requires { HasWriteRoom (shows self.old) key None actor (kind_of value) }
         ensures keys { (shows self.new).keys ≡ overwritten (shows self.old).keys key actor value }
         ensures room { (shows self.new).room ≡ None };
 

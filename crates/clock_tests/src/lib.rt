@@ -1,4 +1,4 @@
-//! Tests of `actor_epoch`, `dvv_set`, `place_map`, `clock_map` and `clock_list`, from outside: contexts, epochs, clocks, and what keeps the clocks of keys.
+//! Tests of `actor_epoch`, `dvv_set`, `clock_store` and `clock_list`, from outside: contexts, epochs, clocks, and what keeps the clocks of keys.
 //!
 //! They stand in a crate of their own, since a crate with tests is proved twice.
 #![tactic(auto)]

@@ -1,6 +1,6 @@
 //! Places of keys in more than one bucket type and bucket, each call tried again where memory is refused.
 
-use place_map::{KeyRef, PlaceMap};
+use clock_store::{KeyRef, PlaceMap};
 use riak_msgs::{BucketType, Bytes, Key};
 use std::alloc::{AllocError, Global};
 

@@ -4,7 +4,7 @@ ghost use Rattle.std.specs.Prelude.{◌≡◌, ◌≤◌, ◌<◌, true, None, O
 ghost use Rattle.actor_epoch.specs.Limits.{max_actors, max_counter};
 ghost use Rattle.dvv_set.specs.Held.{IsWithin};
 ghost use Rattle.clock_store.specs.Keys.{clock_at};
-ghost use Rattle.clock_store.specs.Contents.{HasRoom};
+ghost use Rattle.clock_store.specs.Contents.{HasWriteRoom};
 
 mod rows;
 mod syncs;
@@ -14,8 +14,7 @@ use crate::storage::rows::Step::{self, Clear, DropRoom, HasDead, Next, Sweep, To
 use crate::storage::rows::{A, FOUR, ROWS, Row};
 use actor_epoch::{Actor, MAX_ACTORS, MAX_COUNTER};
 use clock_list::ClockList;
-use clock_map::ClockMap;
-use clock_store::{ClockStore, KeyRef, StoredClock, WriteKind, place_in};
+use clock_store::{ClockMap, ClockStore, KeyRef, StoredClock, WriteKind, place_in};
 use dvv_set::{Clock, Needed};
 use riak_msgs::{Content, Key};
 use std::alloc::{AllocError, Global};
@@ -50,7 +49,7 @@ fn reserve<S: ClockStore>(
     actor: Actor,
     kind: WriteKind,
 ) -> Result<(), AllocError>
-    ensures ok { OnOk result (HasRoom (S.shows store.new) key.now None actor kind) }
+    ensures ok { OnOk result (HasWriteRoom (S.shows store.new) key.now None actor kind) }
 {
     if !is_within(store, alloc, key, actor) {
         return Err(AllocError);

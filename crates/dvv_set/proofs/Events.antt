@@ -21,6 +21,7 @@ use Rattle.dvv_set.proofs.ClockEntries.{value_at, actor_eq-back, find-live_of, i
 use Rattle.dvv_set.proofs.Merges.{AreEntries-merge_all, entry_for-put, list_all-put, entry_for-within}
 use Rattle.dvv_set.proofs.Known.{same_pairs, ArePairs-known_of, ArePairs-insert_max}
 use Rattle.dvv_set.proofs.Live.{dot_state_of-merge_all, show_cmp-same}
+use Rattle.std.proofs.lemmas.Bool.{and_from as both}
 
 below_all-pairs : (V : Type 0) (a : Actor) (pairs : List Dot) → IsTrue (is_below_all a pairs) → T (below_all actor_cmp a (let entries : ClockEntries V = entries_of_pairs pairs in entries))
 below_all-pairs V a [] h = tt
@@ -33,9 +34,6 @@ is_sorted-pairs V [] h = tt
 is_sorted-pairs V (pair ∷ pairs) h =
     T-both (below_all actor_cmp pair.actor (let entries : ClockEntries V = entries_of_pairs pairs in entries)) _
     (below_all-pairs V pair.actor pairs (rising-below pair pairs h)) (is_sorted-pairs V pairs (rising-tail pair pairs h))
-
-both : (a b : Bool) → a ≡ true → b ≡ true → (a && b) ≡ true
-both a b p q = λ i. p i && q i
 
 counts : (v e c d : Bool) → (v && (e && (c && d))) ≡ true → c ≡ true
 counts true true true d h = refl

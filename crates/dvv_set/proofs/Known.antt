@@ -17,6 +17,7 @@ use Rattle.dvv_set.specs.ClockEntries.{ClockEntries, AreEntries, known_of, is_en
 use Rattle.dvv_set.proofs.Orders.{T-first, T-second, T-both, T-is, find-below, below_all-less, eq_by_cmp-actor}
 use Rattle.dvv_set.proofs.ClockEntries.{actor_eq-back, counter_in-known_of}
 use Rattle.dvv_set.proofs.Merges.{entry_for-merge_all, AreEntries-merge_all}
+use Rattle.std.proofs.lemmas.Bool.{and_from as both}
 
 -- pairs as a map from actors to counters
 abbrev pub as_entries : List Dot → List (Actor × ℕ)
@@ -101,9 +102,6 @@ is_sorted-insert_max dot (pair ∷ pairs) h =
     by Greater e rest =
         T-both (below_all actor_cmp pair.actor (as_entries (insert_max dot pairs))) _
         (below_all-insert_max pair.actor dot pairs (actor_cmp_total.antisymm pair.actor dot.actor ∙ ap ordering_reverse e) (T-first _ (is_sorted actor_cmp (as_entries pairs)) h)) rest
-
-both : (a b : Bool) → a ≡ true → b ≡ true → (a && b) ≡ true
-both a b p q = λ i. p i && q i
 
 positive-insert_max : (dot : Dot) (pairs : List Dot) → IsTrue (is_positive dot) → IsTrue (list_all is_positive pairs) → IsTrue (list_all is_positive (insert_max dot pairs))
 positive-insert_max dot [] p h = both _ true p refl

@@ -15,9 +15,7 @@ use Rattle.actor_epoch.proofs.Order.{actor_cmp_total, actor_eq-same}
 use Rattle.dvv_set.specs.ClockEntries.{ClockEntries, is_entry, entry_for, merged, merge_entry, merge_all, AreEntries}
 use Rattle.dvv_set.proofs.Orders.{T-first, T-second, eq_by_cmp-actor}
 use Rattle.dvv_set.proofs.ClockEntries.{entry_for-below, is_entry-within, is_entry-positive}
-
-both : (a b : Bool) → a ≡ true → b ≡ true → (a && b) ≡ true
-both a b p q = λ i. p i && q i
+use Rattle.std.proofs.lemmas.Bool.{and_from as both}
 
 is_entry-of : (n k : ℕ) → 1 ≤ n → k ≤ n → (nat_le 1 n && nat_le k n) ≡ true
 is_entry-of n k h g = grind (arith, nat_tests)

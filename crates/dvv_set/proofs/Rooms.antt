@@ -13,6 +13,7 @@ use Rattle.dvv_set.specs.declared.entry.Entry.{Entry}
 use Rattle.dvv_set.specs.ClockEntries.{live_of}
 use Rattle.dvv_set.specs.Held.{values_of}
 use Rattle.dvv_set.specs.Stored.{clock_entry, clock_entries, has_room, values_room}
+pub use Rattle.std.proofs.lemmas.List.{nil_from_length as no_items}
 
 -- fewer values in the same room
 pub room_fewer : (n k c : ℕ) → k ≤ n → nat_lt n c ≡ true → nat_lt k c ≡ true
@@ -23,10 +24,6 @@ above_room n c r = grind (arith, nat_tests)
 
 pub below_room : (n c : ℕ) → nat_lt n c ≡ true → n < c
 below_room n c r = grind (arith, nat_tests)
-
-pub no_items : {A : Type 0} (xs : List A) → length xs ≡ 0 → xs ≡ []
-no_items [] h = refl
-no_items (x ∷ xs) h = absurd (omega arith)
 
 -- what a test for items says
 pub some_items : {A : Type 0} (xs : List A) → (length xs == 0) ≡ false → 0 < length xs

@@ -8,7 +8,7 @@ use Rattle.std.proofs.lemmas.Bool.Decides.{nat_tests}
 use Rattle.actor_epoch.specs.declared.Actor.{Actor}
 use Rattle.actor_epoch.specs.declared.Dot.{Dot}
 use Rattle.actor_epoch.specs.Dots.{actor_eq, dot_eq, covers, covers_by, counter_in}
-use Rattle.actor_epoch.proofs.Pairs.{covers-union, covers-insert_max}
+use Rattle.actor_epoch.proofs.Pairs.{covers-union, covers-insert_max, grouped as or_grouped}
 use Rattle.actor_epoch.proofs.Order.{covers-counter_in, actor_eq-same}
 use Rattle.dvv_set.specs.Clocks.{DotState, show_cmp, sync, discard, event, is_live, value_in}
 use Rattle.dvv_set.specs.Laws.{KnowsItsLive, SameDots, SyncKnows, is_synced, DiscardKnows, DiscardKeeps, EventKnows, EventKeeps, next_dot}
@@ -135,10 +135,6 @@ or_turned true true = refl
 or_turned true false = refl
 or_turned false true = refl
 or_turned false false = refl
-
-or_grouped : (a b c : Bool) → ((a || b) || c) ≡ (a || (b || c))
-or_grouped true b c = refl
-or_grouped false b c = refl
 
 module _ {V : Type 0} where
   is_some-or : (a b : Option V) → is_some (option_or a b) ≡ (is_some a || is_some b)

@@ -6,19 +6,19 @@ use mathlib.Core.List.{IsPrefix}
 use Rattle.riak_msgs.specs.declared.Key.{Key}
 use Rattle.rw_gate.specs.Views.{GateId}
 use Rattle.rw_gate.proofs.Prefixes.{prefix_trans}
-use Rattle.vnode_protocol.specs.declared.ask.Ask.TheVariants as asks
-use Rattle.vnode_protocol.specs.declared.entry.Entry.{Entry}
-use Rattle.vnode_protocol.specs.declared.entry.Entry.TheVariants as entries
-use Rattle.vnode_protocol.specs.declared.event.Event.TheVariants as events
-use Rattle.vnode_protocol.specs.Events.{Asks}
-use Rattle.vnode_protocol.specs.KeyCopies.{KeyCopyView}
-use Rattle.vnode_protocol.specs.Plans.{View}
+use Rattle.vnode_core.specs.declared.ask.Ask.TheVariants as asks
+use Rattle.vnode_core.specs.declared.entry.Entry.{Entry}
+use Rattle.vnode_core.specs.declared.entry.Entry.TheVariants as entries
+use Rattle.vnode_core.specs.declared.event.Event.TheVariants as events
+use Rattle.vnode_core.specs.Events.{EntryAsks}
+use Rattle.vnode_core.specs.KeyCopies.{KeyCopyView}
+use Rattle.vnode_core.specs.Plans.{View}
 use Rattle.handoff.specs.declared.copying.Step.{Step}
 use Rattle.handoff.specs.declared.fault.Stop.{Stop}
 use Rattle.handoff.specs.declared.copying.Step.TheVariants.{End, Passed, Made, Stuck}
-use Rattle.handoff.specs.Copying.{IsCopy, HasCopyAt, AreCopies, CopiesOne}
-use Rattle.handoff.specs.Sights.{Sight, LeadsTo}
-use Rattle.handoff.specs.Steps.{Steps}
+use Rattle.handoff.specs.Copying.{IsCopyOf, HasCopyAt, AreCopies, CopiesOne}
+use Rattle.handoff.specs.Sights.{Sight, LeadsVnodeTo}
+use Rattle.handoff.specs.Steps.{CopiesOrStays}
 use Rattle.handoff.proofs.Opened.{none_some}
 
 get_more : {A : Type 0} (xs ys : List A) (k : ℕ) (x : A) → slice_get xs k ≡ Some x → slice_get (xs ++ ys) k ≡ Some x
@@ -33,7 +33,7 @@ get_last (y ∷ xs) x = get_last xs x
 get_prefix : {A : Type 0} (xs ys : List A) (k : ℕ) (x : A) → IsPrefix xs ys → slice_get xs k ≡ Some x → slice_get ys k ≡ Some x
 get_prefix xs ys k x p at = subst (λ zs. slice_get zs k ≡ Some x) p.1 (get_more xs p.0 k x at)
 
-copy-more : (n : ℕ) (theirs theirs' : Sight) (entry : Entry) → theirs'.gate ≡ theirs.gate → IsPrefix theirs.prefix theirs'.prefix → IsCopy n theirs entry → IsCopy n theirs' entry
+copy-more : (n : ℕ) (theirs theirs' : Sight) (entry : Entry) → theirs'.gate ≡ theirs.gate → IsPrefix theirs.prefix theirs'.prefix → IsCopyOf n theirs entry → IsCopyOf n theirs' entry
 copy-more n theirs theirs' entry gate more copy = record {
   copy = copy.copy;
   is = copy.is;
@@ -42,7 +42,7 @@ copy-more n theirs theirs' entry gate more copy = record {
   begins = prefix_trans copy.prefix theirs.prefix theirs'.prefix copy.begins more;
   commands = copy.commands;
   state = copy.state;
-  leads = subst (λ (g : GateId View). LeadsTo g copy.prefix copy.state) (sym gate) copy.leads;
+  leads = subst (λ (g : GateId View). LeadsVnodeTo g copy.prefix copy.state) (sym gate) copy.leads;
   unclosed = copy.unclosed;
   there = copy.there;
   held = copy.held;
@@ -76,19 +76,19 @@ same-copies n old mine theirs theirs' gate there here all own =
     subst (λ (ks : List ℕ). AreCopies n mine theirs' ks) (sym own) (copies-more n old mine theirs theirs' old.own here gate there all)
 
 pub step-copies : (n : ℕ) (old mine theirs theirs' : Sight) (step : Step) → theirs'.gate ≡ theirs.gate → IsPrefix theirs.prefix theirs'.prefix → IsPrefix old.prefix mine.prefix
-    → AreCopies n old theirs old.own → Steps n old mine theirs' step → AreCopies n mine theirs' mine.own
+    → AreCopies n old theirs old.own → CopiesOrStays n old mine theirs' step → AreCopies n mine theirs' mine.own
 step-copies n old mine theirs theirs' End gate there here all own = same-copies n old mine theirs theirs' gate there here all own
 step-copies n old mine theirs theirs' (Passed key) gate there here all own = same-copies n old mine theirs theirs' gate there here all own
 step-copies n old mine theirs theirs' (Stuck key) gate there here all own = same-copies n old mine theirs theirs' gate there here all own
 step-copies n old mine theirs theirs' (Made key) gate there here all one = copies-push n old mine theirs theirs' gate there all one
 
-pub made-length : (n : ℕ) (old mine theirs : Sight) (step : Step) (key : Key) → step ≡ Made key → Steps n old mine theirs step → length mine.own ≡ length old.own + 1
+pub made-length : (n : ℕ) (old mine theirs : Sight) (step : Step) (key : Key) → step ≡ Made key → CopiesOrStays n old mine theirs step → length mine.own ≡ length old.own + 1
 made-length n old mine theirs step key is steps =
-    let one : CopiesOne n old mine theirs = subst (λ s. Steps n old mine theirs s) is steps in
+    let one : CopiesOne n old mine theirs = subst (λ s. CopiesOrStays n old mine theirs s) is steps in
     ap length one.own ∙ length-append old.own (length one.position ∷ [])
 
 -- a step behind a look in which nothing was published
-later-step : (n : ℕ) (old mid mine theirs : Sight) (step : Step) → IsPrefix old.prefix mid.prefix → mid.own ≡ old.own → Steps n mid mine theirs step → Steps n old mine theirs step
+later-step : (n : ℕ) (old mid mine theirs : Sight) (step : Step) → IsPrefix old.prefix mid.prefix → mid.own ≡ old.own → CopiesOrStays n mid mine theirs step → CopiesOrStays n old mine theirs step
 later-step n old mid mine theirs End more same steps = steps ∙ same
 later-step n old mid mine theirs (Passed key) more same steps = steps ∙ same
 later-step n old mid mine theirs (Stuck key) more same steps = steps ∙ same
@@ -101,13 +101,13 @@ later-step n old mid mine theirs (Made key) more same one = record {
   copy = one.copy;
 }
 
-pub later-steps : (n : ℕ) (old mid mine theirs : Sight) (result : Result Step Stop) → IsPrefix old.prefix mid.prefix → mid.own ≡ old.own → IfOk result (Steps n mid mine theirs)
-    → IfOk result (Steps n old mine theirs)
+pub later-steps : (n : ℕ) (old mid mine theirs : Sight) (result : Result Step Stop) → IsPrefix old.prefix mid.prefix → mid.own ≡ old.own → IfOk result (CopiesOrStays n mid mine theirs)
+    → IfOk result (CopiesOrStays n old mine theirs)
 later-steps n old mid mine theirs (Ok step) more same steps = later-step n old mid mine theirs step more same steps
 later-steps n old mid mine theirs (Err stop) more same steps = tt
 
 -- the entry of an asked copy
-pub entry-copied : (entry : Entry) (copy : KeyCopyView) → Asks entry (asks.Copy copy) → entry ≡ entries.Copied copy
+pub entry-copied : (entry : Entry) (copy : KeyCopyView) → EntryAsks entry (asks.Copy copy) → entry ≡ entries.Copied copy
 entry-copied (entries.Command (events.Put put reply)) copy h = cc
 entry-copied (entries.Command (events.Del del)) copy h = cc
 entry-copied (entries.Command (events.Reap key)) copy h = absurd h

@@ -27,15 +27,15 @@ use Rattle.copy_laws.specs.Sides.{Partition}
 use Rattle.copy_laws.proofs.JoinLaw.{copies_join}
 use Rattle.copy_laws.proofs.LastBrought.{last_dot_brings_all}
 use Rattle.rw_gate.specs.Machines.{MachineRun}
-use Rattle.vnode_protocol.specs.declared.entry.Entry.{Entry}
-use Rattle.vnode_protocol.specs.declared.entry.Entry.TheVariants.{Command, Copied, Closed}
-use Rattle.vnode_protocol.specs.Events.{Makes, all_commands, commands_of, event_command, history_after}
-use Rattle.vnode_protocol.specs.Plans.{View}
-use Rattle.vnode_protocol.proofs.Entries.{commands_of-all_commands}
-use Rattle.handoff.specs.Joined.{IsHandedOff, IsJoinedIn, IsOfLastFallback, IsOfPrimary, ReturnsJoin, log_after, log_entry}
+use Rattle.vnode_core.specs.declared.entry.Entry.{Entry}
+use Rattle.vnode_core.specs.declared.entry.Entry.TheVariants.{Command, Copied, Closed}
+use Rattle.vnode_core.specs.Events.{Makes, all_commands, commands_of, event_command, history_after}
+use Rattle.vnode_core.specs.Plans.{View}
+use Rattle.vnode_core.proofs.Entries.{commands_of-all_commands}
+use Rattle.handoff.specs.Joined.{IsHandedOff, IsJoinedIn, IsOfLastFallback, IsOfPrimary, ReturnJoinsKeys, log_after, log_entry}
 use Rattle.handoff.specs.Left.{AreCopied, has_last_dot, is_copied}
 use Rattle.handoff.specs.Returning.{EndsDiversion}
-use Rattle.handoff.specs.Sights.{Sight, LeadsTo, Shows}
+use Rattle.handoff.specs.Sights.{Sight, LeadsVnodeTo, ShowsState}
 use Rattle.handoff.proofs.Meeting.{prefix-replays}
 
 -- what an accepted command changes
@@ -87,11 +87,11 @@ module _ (partition : Partition) where
       (entry-applies log first mid entry makes ∙ ap (λ (s : State Content). apply_entry s (log_entry partition log entry)) is) run
 
   -- a pass of the primary shows that state
-  shown-state : (primary : Log) (mine : Sight) (state : State Content) → IsOfPrimary partition primary mine → Shows mine state → state ≡ primary_after partition primary
+  shown-state : (primary : Log) (mine : Sight) (state : State Content) → IsOfPrimary partition primary mine → ShowsState mine state → state ≡ primary_after partition primary
   shown-state primary mine state of shows =
       let first = of.made_new.first in
       let run : MachineRun Makes first.state mine.prefix state =
-      subst (λ (o : Option View). LeadsTo (record { book = mine.gate.book; opening = o }) mine.prefix state) of.made_new.made shows in
+      subst (λ (o : Option View). LeadsVnodeTo (record { book = mine.gate.book; opening = o }) mine.prefix state) of.made_new.made shows in
       log-leads mine.prefix [] first.state state of.made_new.new run ∙ ap (primary_after partition) of.log
 
 -- what stands before the last of a list
@@ -191,6 +191,6 @@ module _ (partition : Partition) (primary : Log) (fallbacks : Fallbacks) (mine t
     pub joined-in : IsJoinedIn partition primary fallbacks key ended.primary
     joined-in = record { is = here; joined = joined; siblings = copies_join partition primary fallbacks key joined }
 
-pub returns-join : (partition : Partition) (primary : Log) (fallbacks : Fallbacks) (mine theirs : Sight) → ReturnsJoin partition primary fallbacks mine theirs
+pub returns-join : (partition : Partition) (primary : Log) (fallbacks : Fallbacks) (mine theirs : Sight) → ReturnJoinsKeys partition primary fallbacks mine theirs
 returns-join partition primary fallbacks mine theirs ended of_primary of_fallback key handed =
     joined-in partition primary fallbacks mine theirs ended of_primary of_fallback key handed

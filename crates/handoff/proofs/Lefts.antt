@@ -10,8 +10,8 @@ use Rattle.std.specs.FinMap.Entries.{is_sorted, below_all}
 use Rattle.riak_msgs.specs.declared.Key.{Key}
 use Rattle.riak_msgs.specs.Contents.{Content}
 use Rattle.riak_msgs.specs.KeyOrder.{key_cmp}
-use Rattle.place_map.specs.Behind.{entries_behind, next_entry}
-use Rattle.place_map.proofs.NextEntry.{no_head, goes_on}
+use Rattle.clock_store.specs.Behind.{entries_behind, next_entry}
+use Rattle.clock_store.proofs.NextEntry.{no_head, goes_on}
 use Rattle.clock_store.specs.Keys.{Keys, stored_of}
 use Rattle.vnode_machine.specs.Machine.{State, Stored}
 use Rattle.vnode_machine.specs.Sound.{IsClock, IsSound}
@@ -19,7 +19,7 @@ use Rattle.vnode_machine.proofs.Keys.{key_cmp_total}
 use Rattle.vnode_machine.proofs.Seen.{less}
 use Rattle.vnode_machine.proofs.Tests.{and_left, and_right}
 use Rattle.vnode_core.proofs.Walking.{next-found}
-use Rattle.handoff.specs.Left.{is_copied, AreCopied, Finds, GoesOn, IsFirstLeft, IsHeldAt, IsNextLeft, count_left, keys_behind, one_unless}
+use Rattle.handoff.specs.Left.{is_copied, AreCopied, FindsLeft, GoesOnInRest, IsFirstLeft, IsHeldAt, IsNextLeft, count_left, keys_behind, one_unless}
 use Rattle.handoff.specs.declared.left.Found.{Found}
 use Rattle.handoff.specs.declared.left.Left.{Left}
 use Rattle.handoff.specs.declared.left.Found.TheVariants.{End, Passed, Next}
@@ -77,20 +77,20 @@ pub behind-fewer : (keys rest : Keys) (entry : Key × Stored Content) → keys �
 behind-fewer keys rest entry is = let many = ap length is in omega (arith, many)
 
 -- of themselves
-pub goes-on : (primary : State Content) (keys : Keys) → GoesOn primary keys keys
+pub goes-on : (primary : State Content) (keys : Keys) → GoesOnInRest primary keys keys
 goes-on primary keys = record { copied = λ all. all; left = λ entry first. first }
 
 -- and so on
-pub goes-through : (primary : State Content) (whole keys rest : Keys) → GoesOn primary whole keys → GoesOn primary keys rest → GoesOn primary whole rest
+pub goes-through : (primary : State Content) (whole keys rest : Keys) → GoesOnInRest primary whole keys → GoesOnInRest primary keys rest → GoesOnInRest primary whole rest
 goes-through primary whole keys rest on further = record { copied = λ all. on.copied (further.copied all); left = λ entry first. on.left entry (further.left entry first) }
 
-go-on : (primary : State Content) (whole keys rest : Keys) (entry : Key × Stored Content) → GoesOn primary whole keys → keys ≡ entry ∷ rest → is_copied primary entry ≡ true → GoesOn primary whole rest
+go-on : (primary : State Content) (whole keys rest : Keys) (entry : Key × Stored Content) → GoesOnInRest primary whole keys → keys ≡ entry ∷ rest → is_copied primary entry ≡ true → GoesOnInRest primary whole rest
 go-on primary whole keys rest entry on is here =
     goes-through primary whole keys rest on
     (record { copied = λ all. copied-more primary keys rest entry is here all; left = λ first left. left-more primary keys rest entry first is here left })
 
 -- the next key isn't copied, and nothing before it is left
-pub next-left : (primary fallback : State Content) → IsSound fallback → (after at : Option Key) (parts key : Key) (there : Stored Content) → GoesOn primary (keys_behind after fallback) (keys_behind at fallback)
+pub next-left : (primary fallback : State Content) → IsSound fallback → (after at : Option Key) (parts key : Key) (there : Stored Content) → GoesOnInRest primary (keys_behind after fallback) (keys_behind at fallback)
     → next_entry key_cmp at fallback.keys ≡ Some (parts, there) → key ≡ parts → is_copied primary (key, there) ≡ false → IsClock there.clock → IsNextLeft primary fallback after key there
 next-left primary fallback sound after at parts key there on next same left clock =
     let first : next_entry key_cmp at fallback.keys ≡ Some (key, there) = next ∙ ap (λ k. Some (k, there)) (sym same) in
@@ -101,8 +101,8 @@ next-left primary fallback sound after at parts key there on next same left cloc
     }
 
 -- the next key is copied
-pub next-copied : (primary fallback : State Content) → IsSound fallback → (after at : Option Key) (parts key : Key) (there : Stored Content) → GoesOn primary (keys_behind after fallback) (keys_behind at fallback)
-    → next_entry key_cmp at fallback.keys ≡ Some (parts, there) → key ≡ parts → is_copied primary (key, there) ≡ true → GoesOn primary (keys_behind after fallback) (keys_behind (Some parts) fallback)
+pub next-copied : (primary fallback : State Content) → IsSound fallback → (after at : Option Key) (parts key : Key) (there : Stored Content) → GoesOnInRest primary (keys_behind after fallback) (keys_behind at fallback)
+    → next_entry key_cmp at fallback.keys ≡ Some (parts, there) → key ≡ parts → is_copied primary (key, there) ≡ true → GoesOnInRest primary (keys_behind after fallback) (keys_behind (Some parts) fallback)
 next-copied primary fallback sound after at parts key there on next same copied =
     go-on primary (keys_behind after fallback) (keys_behind at fallback) (keys_behind (Some parts) fallback) (parts, there) on
     (behind-next fallback sound at (parts, there) next) (ap (λ k. is_copied primary (k, there)) (sym same) ∙ copied)
@@ -113,17 +113,17 @@ pub next-fewer : (fallback : State Content) → IsSound fallback → (at : Optio
 next-fewer fallback sound at parts there next = behind-fewer (keys_behind at fallback) (keys_behind (Some parts) fallback) (parts, there) (behind-next fallback sound at (parts, there) next)
 
 -- up to a key that is copied none is left
-pub next-passed : (primary fallback : State Content) → IsSound fallback → (after at : Option Key) (parts key : Key) (there : Stored Content) → GoesOn primary (keys_behind after fallback) (keys_behind at fallback)
+pub next-passed : (primary fallback : State Content) → IsSound fallback → (after at : Option Key) (parts key : Key) (there : Stored Content) → GoesOnInRest primary (keys_behind after fallback) (keys_behind at fallback)
     → length (keys_behind at fallback) ≤ length (keys_behind after fallback) → next_entry key_cmp at fallback.keys ≡ Some (parts, there) → key ≡ parts → is_copied primary (key, there) ≡ true
-    → Finds primary fallback after (Passed key)
+    → FindsLeft primary fallback after (Passed key)
 next-passed primary fallback sound after at parts key there on within next same copied =
     let further = next-copied primary fallback sound after at parts key there on next same copied in
     let fewer = next-fewer fallback sound at parts there next in
     let less : length (keys_behind (Some parts) fallback) < length (keys_behind after fallback) = omega (arith, fewer, within) in
-    subst (λ k. GoesOn primary (keys_behind after fallback) (keys_behind (Some k) fallback) × (length (keys_behind (Some k) fallback) < length (keys_behind after fallback))) (sym same) (further, less)
+    subst (λ k. GoesOnInRest primary (keys_behind after fallback) (keys_behind (Some k) fallback) × (length (keys_behind (Some k) fallback) < length (keys_behind after fallback))) (sym same) (further, less)
 
 -- the first of a stretch is that of all
-pub first-found : (primary fallback : State Content) (after : Option Key) (left : Left) → GoesOn primary fallback.keys (keys_behind after fallback) → Finds primary fallback after (Next left)
+pub first-found : (primary fallback : State Content) (after : Option Key) (left : Left) → GoesOnInRest primary fallback.keys (keys_behind after fallback) → FindsLeft primary fallback after (Next left)
     → IsNextLeft primary fallback None left.key (stored_of left.stored.now)
 first-found primary fallback after left on found = record {
   first = subst (λ (keys : Keys). IsFirstLeft primary keys (left.key, stored_of left.stored.now)) (sym (behind-none fallback)) (on.left (left.key, stored_of left.stored.now) found.first);
@@ -131,7 +131,7 @@ first-found primary fallback after left on found = record {
 }
 
 -- what a walk found is held
-pub found-held : (primary fallback : State Content) (after : Option Key) (found : Found) → Finds primary fallback after found → IsHeldAt fallback found
+pub found-held : (primary fallback : State Content) (after : Option Key) (found : Found) → FindsLeft primary fallback after found → IsHeldAt fallback found
 found-held primary fallback after End finds = tt
 found-held primary fallback after (Passed key) finds = tt
 found-held primary fallback after (Next left) finds = finds.is_held

@@ -11,15 +11,15 @@ use Rattle.vnode_machine.proofs.Keys.{key_eq-same}
 use Rattle.copy_laws.specs.Joining.{Log, Fallbacks, IsTrueCopy}
 use Rattle.copy_laws.specs.Sides.{Partition}
 use Rattle.rw_gate.specs.Views.{GateId}
-use Rattle.vnode_protocol.specs.declared.entry.Entry.{Entry}
-use Rattle.vnode_protocol.specs.declared.event.Event.{Event}
-use Rattle.vnode_protocol.specs.Events.{IsMadeNew, GoesOnTo, all_commands, commands_of, history_after, register_event}
-use Rattle.vnode_protocol.specs.Plans.{View}
-use Rattle.vnode_protocol.proofs.Entries.{all_commands-commands_of, commands_before, commands_of-append}
-use Rattle.vnode_protocol.proofs.Events.{gate-history-is-legal}
-use Rattle.handoff.specs.Copying.{IsCopy}
+use Rattle.vnode_core.specs.declared.entry.Entry.{Entry}
+use Rattle.vnode_core.specs.declared.event.Event.{Event}
+use Rattle.vnode_core.specs.Events.{IsMadeNew, GoesOnTo, all_commands, commands_of, history_after, register_event}
+use Rattle.vnode_core.specs.Plans.{View}
+use Rattle.vnode_core.proofs.Entries.{all_commands-commands_of, commands_before, commands_of-append}
+use Rattle.vnode_core.proofs.Events.{gate-history-is-legal}
+use Rattle.handoff.specs.Copying.{IsCopyOf}
 use Rattle.handoff.specs.Meeting.{IsOfFallback, CopiesAreTrue, copy_of}
-use Rattle.handoff.specs.Sights.{Sight, LeadsTo}
+use Rattle.handoff.specs.Sights.{Sight, LeadsVnodeTo}
 
 module _ (v l : ℕ) where
   -- a history grows by the events behind it
@@ -44,12 +44,12 @@ module _ (v l : ℕ) where
       (later ++ grown.0, append_assoc later grown.0 here ∙ ap (λ (h : History). later ++ h) (grown.1 ∙ sym same) ∙ all)
 
   -- the state to which a prefix of commands leads is the replay of their history
-  pub prefix-replays : (gate : GateId View) (prefix : List Entry) (state : State Content) → IsWithinLimits v l → IsMadeNew v l gate → prefix ≡ all_commands (commands_of prefix) → LeadsTo gate prefix state
+  pub prefix-replays : (gate : GateId View) (prefix : List Entry) (state : State Content) → IsWithinLimits v l → IsMadeNew v l gate → prefix ≡ all_commands (commands_of prefix) → LeadsVnodeTo gate prefix state
       → state ≡ replay v l (history_after v l [] (commands_of prefix))
   prefix-replays gate prefix state limits made are leads =
       let vnode : View = record { state = state; prepared = None } in
       let legal : GoesOnTo v l [] (commands_of prefix) state
-      = gate-history-is-legal v l gate (commands_of prefix) vnode limits made (subst (λ (es : List Entry). LeadsTo gate es state) are leads) in
+      = gate-history-is-legal v l gate (commands_of prefix) vnode limits made (subst (λ (es : List Entry). LeadsVnodeTo gate es state) are leads) in
       legal.after.is
 
 -- the clock of a key that is held
@@ -57,7 +57,7 @@ held-clock : (state : State Content) (key : Key) (there : Stored Content) → st
 held-clock state key there held = ap (λ (o : Option (Stored Content)). option_map_or (λ s. s.clock) o (record { known = []; live = [] })) held
 
 module _ (partition : Partition) (primary : Log) (fallbacks : Fallbacks) where
-  true-copy : (theirs : Sight) (entry : Entry) (n : ℕ) (copy : IsCopy n theirs entry) → IsOfFallback partition fallbacks copy.copy.diversion theirs → (key : Key) → copy.copy.key ≡ key
+  true-copy : (theirs : Sight) (entry : Entry) (n : ℕ) (copy : IsCopyOf n theirs entry) → IsOfFallback partition fallbacks copy.copy.diversion theirs → (key : Key) → copy.copy.key ≡ key
       → IsTrueCopy partition primary fallbacks key (copy_of partition copy.copy)
   true-copy theirs entry n copy of key same =
       let v = partition.fallback in

@@ -5,11 +5,12 @@ use Rattle.std.proofs.lemmas.Option.{slice_get-get_or}
 use Rattle.ring_map.specs.Ring.{id_of}
 use Rattle.rw_gate.specs.Views.{GateId}
 use Rattle.vnode_machine.specs.Replay.{IsWithinLimits}
-use Rattle.vnode_protocol.specs.Plans.{View}
-use Rattle.vnode_protocol.specs.Events.{IsMadeNew}
+use Rattle.vnode_core.specs.Plans.{View}
+use Rattle.vnode_core.specs.Events.{IsMadeNew}
 use Rattle.handoff.specs.declared.gates.Fallback.{Fallback}
 use Rattle.handoff.specs.Partitions.{HandoffView, AreMadeNew, AreNone, BeginsBehind, IsDiverted, IsFallback, AreFallbacks, fallback_id, number_in, number_of}
 use Rattle.handoff.specs.Sights.{IsOfVnode}
+pub use Rattle.std.proofs.lemmas.Option.{none-some as none_some}
 
 -- one gate more
 pub made_new_push : (run index : ℕ) (gates : List (GateId View)) (gate : GateId View) → AreMadeNew run index gates → IsMadeNew (id_of run (index + length gates)) 0 gate
@@ -37,9 +38,6 @@ fallbacks_set run index zero (x ∷ xs) fallback all one = (subst (λ n. IfSome 
 fallbacks_set run index (suc i) (x ∷ xs) fallback all one =
     let next : index + suc i ≡ (index + 1) + i = omega arith in
     (all.0, fallbacks_set run (index + 1) i xs fallback all.1 (subst (λ n. IfSome fallback (IsFallback run n)) next one))
-
-pub none_some : {A : Type 0} (x : A) → None ≡ Some x → ⊥
-none_some x h = cc
 
 pub fallbacks_get : (run index i : ℕ) (all : List (Option Fallback)) (fallback : Option Fallback) → AreFallbacks run index all → slice_get all i ≡ Some fallback → IfSome fallback (IsFallback run (index + i))
 fallbacks_get run index i [] fallback all at = absurd (none_some fallback at)

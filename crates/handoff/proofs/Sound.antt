@@ -9,12 +9,12 @@ use Rattle.vnode_machine.proofs.Copying.{sound-copy, sound-close}
 use Rattle.vnode_machine.proofs.Formed.{sound-opening, sound-next}
 use Rattle.rw_gate.specs.Machines.{MachineRun}
 use Rattle.rw_gate.specs.Views.{GateId}
-use Rattle.vnode_protocol.specs.declared.entry.Entry.{Entry}
-use Rattle.vnode_protocol.specs.declared.entry.Entry.TheVariants.{Command, Copied, Closed}
-use Rattle.vnode_protocol.specs.Events.{Makes, event_command}
-use Rattle.vnode_protocol.specs.Plans.{View}
-use Rattle.handoff.specs.Sights.{LeadsTo, IsOfVnode}
-use Rattle.vnode_protocol.proofs.Sound.{untrue}
+use Rattle.vnode_core.specs.declared.entry.Entry.{Entry}
+use Rattle.vnode_core.specs.declared.entry.Entry.TheVariants.{Command, Copied, Closed}
+use Rattle.vnode_core.specs.Events.{Makes, event_command}
+use Rattle.vnode_core.specs.Plans.{View}
+use Rattle.handoff.specs.Sights.{LeadsVnodeTo, IsOfVnode}
+use Rattle.vnode_core.proofs.Sound.{untrue}
 
 -- an entry that is taken keeps a state sound
 sound-entry : (state next : State Content) (entry : Entry) → IsSound state → Makes state entry next → IsSound next
@@ -27,8 +27,8 @@ sound-run : (entries : List Entry) (first last : State Content) → IsSound firs
 sound-run [] first last sound is = subst IsSound is sound
 sound-run (entry ∷ entries) first last sound (mid, makes, run) = sound-run entries mid last (sound-entry first mid entry sound makes) run
 
-pub gate-sound : (gate : GateId View) (history : List Entry) (state : State Content) → IsOfVnode gate → LeadsTo gate history state → IsSound state
+pub gate-sound : (gate : GateId View) (history : List Entry) (state : State Content) → IsOfVnode gate → LeadsVnodeTo gate history state → IsSound state
 gate-sound gate history state of leads =
     let first = of.made_new.first in
-    let run : MachineRun Makes first.state history state = subst (λ (o : Option View). LeadsTo (record { book = gate.book; opening = o }) history state) of.made_new.made leads in
+    let run : MachineRun Makes first.state history state = subst (λ (o : Option View). LeadsVnodeTo (record { book = gate.book; opening = o }) history state) of.made_new.made leads in
     sound-run history first.state state (subst IsSound (sym of.made_new.new) (sound-opening of.id of.last_epoch of.limits)) run

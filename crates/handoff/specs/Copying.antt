@@ -4,22 +4,22 @@ use mathlib.Core.List.{IsPrefix}
 use Rattle.riak_msgs.specs.Contents.{Content}
 use Rattle.rw_gate.specs.Views.{GateId}
 use Rattle.vnode_machine.specs.Machine.{State, Stored, stored}
-use Rattle.vnode_protocol.specs.KeyCopies.{KeyCopyView}
-use Rattle.vnode_protocol.specs.declared.entry.Entry.{Entry}
-use Rattle.vnode_protocol.specs.declared.entry.Entry.TheVariants as entries
-use Rattle.vnode_protocol.specs.Events.{commands_of}
-use Rattle.vnode_protocol.specs.Plans.{View}
+use Rattle.vnode_core.specs.KeyCopies.{KeyCopyView}
+use Rattle.vnode_core.specs.declared.entry.Entry.{Entry}
+use Rattle.vnode_core.specs.declared.entry.Entry.TheVariants as entries
+use Rattle.vnode_core.specs.Events.{commands_of}
+use Rattle.vnode_core.specs.Plans.{View}
 use Rattle.handoff.specs.declared.copying.Copied.{Copied}
 use Rattle.handoff.specs.declared.fault.HandoffFault.{HandoffFault}
 use Rattle.handoff.specs.declared.fault.HandoffFault.TheVariants as faults
 use Rattle.handoff.specs.declared.gates.Fallback.{Fallback}
 use Rattle.handoff.specs.Left.{count_left}
 use Rattle.handoff.specs.Partitions.{HandoffView}
-use Rattle.handoff.specs.Sights.{Sight, LeadsTo, Shows, ShowsClosed}
+use Rattle.handoff.specs.Sights.{Sight, LeadsVnodeTo, ShowsState, ShowsClosed}
 
 -- an entry copies what the fallback held of a key at the end of some prefix of what its pass has seen: the key's clock there, with the
 -- diversion's number and the commands of that prefix
-pub record IsCopy (diversion : ℕ) (theirs : Sight) (entry : Entry) : Type 0 where
+pub record IsCopyOf (diversion : ℕ) (theirs : Sight) (entry : Entry) : Type 0 where
   pub copy : KeyCopyView
   pub is : entry ≡ entries.Copied copy
   pub number : copy.diversion ≡ diversion
@@ -27,7 +27,7 @@ pub record IsCopy (diversion : ℕ) (theirs : Sight) (entry : Entry) : Type 0 wh
   pub begins : IsPrefix prefix theirs.prefix
   pub commands : copy.prefix ≡ commands_of prefix
   pub state : State Content
-  pub leads : LeadsTo theirs.gate prefix state
+  pub leads : LeadsVnodeTo theirs.gate prefix state
   pub unclosed : state.closed ≡ None
   pub there : Stored Content
   pub held : stored state copy.key ≡ Some there
@@ -37,7 +37,7 @@ pub record IsCopy (diversion : ℕ) (theirs : Sight) (entry : Entry) : Type 0 wh
 pub record HasCopyAt (diversion : ℕ) (mine theirs : Sight) (position : ℕ) : Type 0 where
   pub entry : Entry
   pub stands : slice_get mine.prefix position ≡ Some entry
-  pub copy : IsCopy diversion theirs entry
+  pub copy : IsCopyOf diversion theirs entry
 
 -- and at each of these
 abbrev pub AreCopies : ℕ → Sight → Sight → List ℕ → Type 0
@@ -50,14 +50,14 @@ pub record CopiesOne (diversion : ℕ) (old mine theirs : Sight) : Type 0 where
   pub begins : IsPrefix old.prefix position
   pub seen : mine.prefix ≡ position ++ entry ∷ []
   pub own : mine.own ≡ old.own ++ length position ∷ []
-  pub copy : IsCopy diversion theirs entry
+  pub copy : IsCopyOf diversion theirs entry
 
 -- at the ends of what both passes have seen so many keys of the fallback aren't copied as they are now
 pub record CountsLeft (mine theirs : Sight) (left : ℕ) : Type 0 where
   pub primary : State Content
   pub fallback : State Content
-  pub shows : Shows mine primary
-  pub shows_there : Shows theirs fallback
+  pub shows : ShowsState mine primary
+  pub shows_there : ShowsState theirs fallback
   pub unclosed : fallback.closed ≡ None
   pub is : left ≡ min (count_left primary fallback.keys) (2 ^ 32 - 1)
 

@@ -1,8 +1,8 @@
 -- How an attempt to end a diversion comes out, by the passes that made it.
 use Rattle.std.specs.Prelude.{◌≡◌, ℕ, [], ◌∷◌, ◌++◌, length}
 use Rattle.rw_gate.specs.Views.{GateId}
-use Rattle.vnode_protocol.specs.declared.entry.Entry.TheVariants as entries
-use Rattle.vnode_protocol.specs.Plans.{View}
+use Rattle.vnode_core.specs.declared.entry.Entry.TheVariants as entries
+use Rattle.vnode_core.specs.Plans.{View}
 use Rattle.handoff.specs.declared.fault.HandoffFault.{HandoffFault}
 use Rattle.handoff.specs.declared.fault.HandoffFault.TheVariants as faults
 use Rattle.handoff.specs.declared.gates.Fallback.{Fallback}

@@ -10,10 +10,10 @@ use Rattle.copy_laws.specs.Copies.{LogEntry, Command as LawCommand, Copied as La
 use Rattle.copy_laws.specs.CopyReplay.{primary_after, seen_at}
 use Rattle.copy_laws.specs.Joining.{Log, Fallbacks, IsDiversion, IsHandOff, IsJoined, AreJointSiblings, NamesWhatCame, SidesRise}
 use Rattle.copy_laws.specs.Sides.{Partition}
-use Rattle.vnode_protocol.specs.declared.entry.Entry.{Entry}
-use Rattle.vnode_protocol.specs.declared.entry.Entry.TheVariants.{Command, Copied, Closed}
-use Rattle.vnode_protocol.specs.declared.event.Event.{Event}
-use Rattle.vnode_protocol.specs.Events.{IsMadeNew, all_commands, event_command, event_deed, history_after}
+use Rattle.vnode_core.specs.declared.entry.Entry.{Entry}
+use Rattle.vnode_core.specs.declared.entry.Entry.TheVariants.{Command, Copied, Closed}
+use Rattle.vnode_core.specs.declared.event.Event.{Event}
+use Rattle.vnode_core.specs.Events.{IsMadeNew, all_commands, event_command, event_deed, history_after}
 use Rattle.handoff.specs.Meeting.{copy_of}
 use Rattle.handoff.specs.Returning.{EndsDiversion}
 use Rattle.handoff.specs.Sights.{Sight}
@@ -69,7 +69,7 @@ pub record IsJoinedIn (partition : Partition) (primary : Log) (fallbacks : Fallb
   pub siblings : AreJointSiblings partition primary fallbacks key
 
 -- where a diversion has ended, each key is joined in the state that the primary's pass shows
-abbrev pub ReturnsJoin : Partition → Log → Fallbacks → (mine theirs : Sight) → Type 0
-ReturnsJoin partition primary fallbacks mine theirs =
+abbrev pub ReturnJoinsKeys : Partition → Log → Fallbacks → (mine theirs : Sight) → Type 0
+ReturnJoinsKeys partition primary fallbacks mine theirs =
     (ended : EndsDiversion mine theirs) → IsOfPrimary partition primary mine → IsOfLastFallback partition fallbacks theirs
     → (key : Key) → IsHandedOff partition primary fallbacks key → IsJoinedIn partition primary fallbacks key ended.primary

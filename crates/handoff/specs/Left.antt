@@ -5,7 +5,7 @@ use Rattle.riak_msgs.specs.declared.Key.{Key}
 use Rattle.riak_msgs.specs.Contents.{Content}
 use Rattle.riak_msgs.specs.KeyOrder.{key_cmp}
 use Rattle.actor_epoch.specs.Dots.{counter_in}
-use Rattle.place_map.specs.Behind.{entries_behind}
+use Rattle.clock_store.specs.Behind.{entries_behind}
 use Rattle.clock_store.specs.Keys.{Keys, stored_of}
 use Rattle.vnode_machine.specs.Machine.{State, Stored, stored}
 use Rattle.vnode_machine.specs.Sound.{IsClock}
@@ -35,7 +35,7 @@ pub record IsFirstLeft (primary : State Content) (entries : Keys) (entry : Key �
   pub left : is_copied primary entry ≡ false
 
 -- what is found of the rest of these keys is found of the whole: those before it are copied
-pub record GoesOn (primary : State Content) (whole rest : Keys) : Type 0 where
+pub record GoesOnInRest (primary : State Content) (whole rest : Keys) : Type 0 where
   pub copied : AreCopied primary rest → AreCopied primary whole
   pub left : (entry : Key × Stored Content) → IsFirstLeft primary rest entry → IsFirstLeft primary whole entry
 
@@ -68,9 +68,9 @@ IsHeldAt fallback (Passed key) = Unit {0}
 IsHeldAt fallback (Next left) = IsHeld fallback left.key (stored_of left.stored.now)
 
 -- what a walk behind a key found, over some of the keys: none is left; all up to a later key are copied; or the first that isn't
-abbrev pub Finds : (primary fallback : State Content) (after : Option Key) → Found → Type 0
-Finds primary fallback after End = AreCopied primary (keys_behind after fallback)
-Finds primary fallback after (Passed key) =
-    GoesOn primary (keys_behind after fallback) (keys_behind (Some key) fallback)
+abbrev pub FindsLeft : (primary fallback : State Content) (after : Option Key) → Found → Type 0
+FindsLeft primary fallback after End = AreCopied primary (keys_behind after fallback)
+FindsLeft primary fallback after (Passed key) =
+    GoesOnInRest primary (keys_behind after fallback) (keys_behind (Some key) fallback)
     × (length (keys_behind (Some key) fallback) < length (keys_behind after fallback))
-Finds primary fallback after (Next left) = IsNextLeft primary fallback after left.key (stored_of left.stored.now)
+FindsLeft primary fallback after (Next left) = IsNextLeft primary fallback after left.key (stored_of left.stored.now)

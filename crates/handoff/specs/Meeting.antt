@@ -7,9 +7,9 @@ use Rattle.vnode_machine.specs.Replay.{History, IsWithinLimits}
 use Rattle.copy_laws.specs.Copies.{Copy}
 use Rattle.copy_laws.specs.Joining.{Log, Fallbacks, IsTrueCopy}
 use Rattle.copy_laws.specs.Sides.{Partition}
-use Rattle.vnode_protocol.specs.KeyCopies.{KeyCopyView}
-use Rattle.vnode_protocol.specs.declared.entry.Entry.TheVariants.{Copied}
-use Rattle.vnode_protocol.specs.Events.{AreCommands, IsMadeNew, commands_of, history_after}
+use Rattle.vnode_core.specs.KeyCopies.{KeyCopyView}
+use Rattle.vnode_core.specs.declared.entry.Entry.TheVariants.{Copied}
+use Rattle.vnode_core.specs.Events.{AreCommands, IsMadeNew, commands_of, history_after}
 use Rattle.handoff.specs.Copying.{HasCopyAt}
 use Rattle.handoff.specs.Sights.{Sight}
 

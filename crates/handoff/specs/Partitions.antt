@@ -3,8 +3,8 @@ use Rattle.std.specs.Prelude.{◌≡◌, ◌<◌, ◌≤◌, ◌+◌, ◌^◌, �
 use Rattle.ring_map.specs.Ring.{id_of}
 use Rattle.rw_gate.specs.Views.{GateId}
 use Rattle.vnode_machine.specs.Replay.{IsWithinLimits}
-use Rattle.vnode_protocol.specs.Plans.{View}
-use Rattle.vnode_protocol.specs.Events.{IsMadeNew}
+use Rattle.vnode_core.specs.Plans.{View}
+use Rattle.vnode_core.specs.Events.{IsMadeNew}
 use Rattle.handoff.specs.declared.fault.HandoffFault.{HandoffFault}
 use Rattle.handoff.specs.declared.fault.HandoffFault.TheVariants.{AlreadyDiverted, NoMemory}
 use Rattle.handoff.specs.declared.gates.Fallback.{Fallback}
@@ -81,6 +81,6 @@ pub record IsDiverted (index : ℕ) (old new : HandoffView) : Type 0 where
   pub is : new ≡ record old { fallbacks = slice_set old.fallbacks index (Some fallback) }
 
 -- why a partition isn't diverted: memory was refused, or it has a fallback
-abbrev pub IsRefused : HandoffView → (index : ℕ) → HandoffFault → Type 0
-IsRefused old index fault = (fault ≡ NoMemory)
+abbrev pub IsDivertRefused : HandoffView → (index : ℕ) → HandoffFault → Type 0
+IsDivertRefused old index fault = (fault ≡ NoMemory)
     ⊎ ((fault ≡ AlreadyDiverted) × (fallback : Fallback) × (slice_get old.fallbacks index ≡ Some (Some fallback)))

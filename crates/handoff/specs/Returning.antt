@@ -4,9 +4,9 @@ use Rattle.riak_msgs.specs.declared.Key.{Key}
 use Rattle.riak_msgs.specs.Contents.{Content}
 use Rattle.rw_gate.specs.Views.{GateId}
 use Rattle.vnode_machine.specs.Machine.{State, Stored}
-use Rattle.vnode_protocol.specs.declared.entry.Entry.{Entry}
-use Rattle.vnode_protocol.specs.declared.entry.Entry.TheVariants.{Closed}
-use Rattle.vnode_protocol.specs.Plans.{View}
+use Rattle.vnode_core.specs.declared.entry.Entry.{Entry}
+use Rattle.vnode_core.specs.declared.entry.Entry.TheVariants.{Closed}
+use Rattle.vnode_core.specs.Plans.{View}
 use Rattle.handoff.specs.declared.fault.HandoffFault.{HandoffFault}
 use Rattle.handoff.specs.declared.fault.HandoffFault.TheVariants as faults
 use Rattle.handoff.specs.declared.fault.Returned.{Returned}
@@ -14,7 +14,7 @@ use Rattle.handoff.specs.declared.gates.Fallback.{Fallback}
 use Rattle.handoff.specs.Copying.{IsUndiverted, HasFallback}
 use Rattle.handoff.specs.Left.{AreCopied, IsFirstLeft}
 use Rattle.handoff.specs.Partitions.{HandoffView}
-use Rattle.handoff.specs.Sights.{Sight, LeadsTo, Shows}
+use Rattle.handoff.specs.Sights.{Sight, LeadsVnodeTo, ShowsState}
 
 -- the history of the fallback ends with a close, at a position where each of its keys was copied as it was then, by what the primary's
 -- pass has seen; the close has the length of that, and nothing was published at the primary
@@ -22,8 +22,8 @@ pub record EndsDiversion (mine theirs : Sight) : Type 0 where
   pub before : List Entry
   pub primary : State Content
   pub fallback : State Content
-  pub shows : Shows mine primary
-  pub leads : LeadsTo theirs.gate before fallback
+  pub shows : ShowsState mine primary
+  pub leads : LeadsVnodeTo theirs.gate before fallback
   pub unclosed : fallback.closed ≡ None
   pub copied : AreCopied primary fallback.keys
   pub seen : theirs.prefix ≡ before ++ Closed (length mine.prefix) ∷ []
@@ -35,8 +35,8 @@ pub record EndsDiversion (mine theirs : Sight) : Type 0 where
 pub record HasLeft (mine theirs : Sight) : Type 0 where
   pub primary : State Content
   pub fallback : State Content
-  pub shows : Shows mine primary
-  pub shows_there : Shows theirs fallback
+  pub shows : ShowsState mine primary
+  pub shows_there : ShowsState theirs fallback
   pub unclosed : fallback.closed ≡ None
   pub key : Key
   pub there : Stored Content
@@ -51,7 +51,7 @@ pub record OfGates (primary : GateId View) (fallback : Fallback) (passes : Retur
   pub sees : Sees passes.primary passes.fallback
 
 -- of the gates of the partition at an index, whose fallback stands there
-pub record AtPartition (handoff : HandoffView) (index : ℕ) (passes : Returned) (Sees : Sight → Sight → Type 0) : Type 0 where
+pub record GatesAtPartition (handoff : HandoffView) (index : ℕ) (passes : Returned) (Sees : Sight → Sight → Type 0) : Type 0 where
   pub primary : GateId View
   pub fallback : Fallback
   pub stands : slice_get handoff.gates index ≡ Some primary
@@ -59,13 +59,13 @@ pub record AtPartition (handoff : HandoffView) (index : ℕ) (passes : Returned)
   pub of_gates : OfGates primary fallback passes Sees
 
 -- the diversion of the partition at an index has ended
-abbrev pub IsReturned : HandoffView → (index : ℕ) → Returned → Type 0
-IsReturned handoff index passes = AtPartition handoff index passes EndsDiversion
+abbrev pub HasReturned : HandoffView → (index : ℕ) → Returned → Type 0
+HasReturned handoff index passes = GatesAtPartition handoff index passes EndsDiversion
 
 -- why it hasn't
 abbrev pub IsReturnFault : HandoffView → (index : ℕ) → HandoffFault → Type 0
 IsReturnFault handoff index faults.AlreadyDiverted = ⊥
 IsReturnFault handoff index faults.NotDiverted = IsUndiverted handoff index
-IsReturnFault handoff index (faults.LeftOver passes) = AtPartition handoff index passes HasLeft
+IsReturnFault handoff index (faults.LeftOver passes) = GatesAtPartition handoff index passes HasLeft
 IsReturnFault handoff index faults.NoMemory = HasFallback handoff index
 IsReturnFault handoff index faults.GateStopped = HasFallback handoff index

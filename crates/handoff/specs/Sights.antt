@@ -5,9 +5,9 @@ use Rattle.vnode_machine.specs.Machine.{State}
 use Rattle.vnode_machine.specs.Replay.{IsWithinLimits}
 use Rattle.rw_gate.specs.Views.{GateId, PassView}
 use Rattle.rw_gate.specs.Histories.{RunFrom}
-use Rattle.vnode_protocol.specs.declared.entry.Entry.{Entry}
-use Rattle.vnode_protocol.specs.Events.{IsMadeNew, Makes}
-use Rattle.vnode_protocol.specs.Plans.{View}
+use Rattle.vnode_core.specs.declared.entry.Entry.{Entry}
+use Rattle.vnode_core.specs.Events.{IsMadeNew, Makes}
+use Rattle.vnode_core.specs.Plans.{View}
 
 -- what a caller has seen of a vnode's history, and at which positions of it the caller published
 abbrev pub Sight : Type 0
@@ -18,18 +18,18 @@ abbrev pub state_of : View → State Content
 state_of vnode = vnode.state
 
 -- a history of the gate leads its vnode to this state
-abbrev pub LeadsTo : GateId View → List Entry → State Content → Type 0
-LeadsTo gate history state = RunFrom state_of Makes gate.opening history state
+abbrev pub LeadsVnodeTo : GateId View → List Entry → State Content → Type 0
+LeadsVnodeTo gate history state = RunFrom state_of Makes gate.opening history state
 
 -- so does what a pass has seen
-abbrev pub Shows : Sight → State Content → Type 0
-Shows pass state = LeadsTo pass.gate pass.prefix state
+abbrev pub ShowsState : Sight → State Content → Type 0
+ShowsState pass state = LeadsVnodeTo pass.gate pass.prefix state
 
 -- some history of the gate leads its vnode to a state in which it is closed
 pub record ShowsClosed (gate : GateId View) : Type 0 where
   pub history : List Entry
   pub state : State Content
-  pub leads : LeadsTo gate history state
+  pub leads : LeadsVnodeTo gate history state
   pub closed : IsSome state.closed
 
 -- it had given this epoch last then

@@ -1,7 +1,7 @@
 -- What became of one key more, and why no further one could be tried.
 use Rattle.std.specs.Prelude.{◌≡◌, ℕ}
 use Rattle.rw_gate.specs.Views.{GateId}
-use Rattle.vnode_protocol.specs.Plans.{View}
+use Rattle.vnode_core.specs.Plans.{View}
 use Rattle.handoff.specs.declared.copying.Step.{Step}
 use Rattle.handoff.specs.declared.copying.Step.TheVariants.{End, Passed, Made, Stuck}
 use Rattle.handoff.specs.declared.fault.Stop.{Stop}
@@ -12,11 +12,11 @@ use Rattle.handoff.specs.Copying.{CopiesOne}
 use Rattle.handoff.specs.Sights.{Sight, ShowsClosed}
 
 -- where it was copied, the history of the primary has that copy, and else nothing was published
-abbrev pub Steps : ℕ → (old mine theirs : Sight) → Step → Type 0
-Steps diversion old mine theirs End = mine.own ≡ old.own
-Steps diversion old mine theirs (Passed key) = mine.own ≡ old.own
-Steps diversion old mine theirs (Made key) = CopiesOne diversion old mine theirs
-Steps diversion old mine theirs (Stuck key) = mine.own ≡ old.own
+abbrev pub CopiesOrStays : ℕ → (old mine theirs : Sight) → Step → Type 0
+CopiesOrStays diversion old mine theirs End = mine.own ≡ old.own
+CopiesOrStays diversion old mine theirs (Passed key) = mine.own ≡ old.own
+CopiesOrStays diversion old mine theirs (Made key) = CopiesOne diversion old mine theirs
+CopiesOrStays diversion old mine theirs (Stuck key) = mine.own ≡ old.own
 
 -- where the fallback was found closed, some history of it leads there
 abbrev pub IsStopOf : (fallback : GateId View) → Stop → Type 0

@@ -3,13 +3,13 @@ ghost use Rattle.std.specs.Prelude.{◌≡◌, ◌+◌, ◌<◌, ◌≤◌, ◌^
 ghost use mathlib.Core.List.{IsPrefix};
 ghost use Rattle.clock_store.specs.Keys.{stored_of};
 ghost use Rattle.rw_gate.specs.Views.{GateId};
-ghost use Rattle.vnode_protocol.specs.Events.{commands_of};
-ghost use Rattle.vnode_protocol.specs.Plans.{View};
+ghost use Rattle.vnode_core.specs.Events.{commands_of};
+ghost use Rattle.vnode_core.specs.Plans.{View};
 ghost use Rattle.vnode_machine.specs.Sound.{IsSound};
 ghost use Rattle.handoff.specs.Copying.{AreCopies, CopiesBack, CopiesOne, CountsLeft};
-ghost use Rattle.handoff.specs.Sights.{IsOfVnode, Shows};
+ghost use Rattle.handoff.specs.Sights.{IsOfVnode, ShowsState};
 ghost use Rattle.handoff.specs.Left.{IsHeld, IsHeldAt};
-ghost use Rattle.handoff.specs.Steps.{IsStopOf, Steps};
+ghost use Rattle.handoff.specs.Steps.{IsStopOf, CopiesOrStays};
 
 use crate::counting::look_left;
 use crate::fault::Stop;
@@ -52,7 +52,7 @@ pub(crate) struct Diverted<'a> {
 struct Commands;
 
 impl Listing<Pass<Vnode>, Event> for Commands {
-    ghost use Rattle.vnode_protocol.specs.Events.{commands_of};
+    ghost use Rattle.vnode_core.specs.Events.{commands_of};
 
     ghost list = { λ pass. commands_of pass.prefix };
 }
@@ -227,7 +227,7 @@ fn copy_next<R: Wait>(
     ensures more { IsPrefix mine.old.prefix mine.new.prefix }
     ensures more_there { IsPrefix theirs.old.prefix theirs.new.prefix }
     ensures own_there { theirs.new.own ≡ theirs.old.own }
-    ensures step { IfOk result (Steps partition.now.fallback.now.diversion
+    ensures step { IfOk result (CopiesOrStays partition.now.fallback.now.diversion
         mine.old mine.new theirs.new) }
     ensures stop { IfErr result (IsStopOf partition.now.fallback.now.gate) }
 {
@@ -256,7 +256,7 @@ fn copy_under<R: Wait>(
     ensures more { IsPrefix mine.old.prefix mine.new.prefix }
     ensures more_there { IsPrefix theirs.old.prefix theirs.new.prefix }
     ensures own_there { theirs.new.own ≡ theirs.old.own }
-    ensures step { IfOk result (Steps partition.now.fallback.now.diversion
+    ensures step { IfOk result (CopiesOrStays partition.now.fallback.now.diversion
         mine.old mine.new theirs.new) }
     ensures stop { IfErr result (IsStopOf partition.now.fallback.now.gate) }
 {
@@ -332,12 +332,12 @@ fn copy_to(
     theirs: &Pass<Vnode>,
 ) -> Result<Step, Stop>
     requires mine { mine.old.gate ≡ writer.old.gate }
-    requires shown { Shows theirs.now from.now.state }
+    requires shown { ShowsState theirs.now from.now.state }
     requires unclosed { from.now.state.closed ≡ None }
     requires held { IsHeld from.now.state left.key (stored_of left.stored.now) }
     ensures mine { mine.new.gate ≡ mine.old.gate }
     ensures more { IsPrefix mine.old.prefix mine.new.prefix }
-    ensures step { IfOk result (Steps diversion mine.old mine.new theirs.now) }
+    ensures step { IfOk result (CopiesOrStays diversion mine.old mine.new theirs.now) }
     ensures stop { IfErr result (IsStopOf theirs.now.gate) }
 {
     let to = writer.look(mine)?;

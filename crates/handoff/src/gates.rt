@@ -1,7 +1,7 @@
 //! Gates round new vnodes: those of the primaries, and that of a fallback.
 ghost use Rattle.std.specs.Prelude.{◌≡◌, ◌+◌, ◌≤◌, ◌^◌, IfOk, IfNone, IfSome, IsSome, length};
 ghost use Rattle.vnode_machine.specs.Replay.{IsWithinLimits};
-ghost use Rattle.vnode_protocol.specs.Events.{IsMadeNew};
+ghost use Rattle.vnode_core.specs.Events.{IsMadeNew};
 ghost use Rattle.handoff.specs.Partitions.{AreMadeNew, AreNone, BeginsBehind, fallback_id, number_of};
 ghost use Rattle.handoff.specs.Sights.{ClosedBehind};
 

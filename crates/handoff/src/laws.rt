@@ -2,7 +2,7 @@
 ghost use Rattle.std.specs.Prelude.{ℕ};
 ghost use Rattle.copy_laws.specs.Joining.{Log, Fallbacks};
 ghost use Rattle.copy_laws.specs.Sides.{Partition};
-ghost use Rattle.handoff.specs.Joined.{ReturnsJoin};
+ghost use Rattle.handoff.specs.Joined.{ReturnJoinsKeys};
 ghost use Rattle.handoff.specs.Meeting.{CopiesAreTrue};
 ghost use Rattle.handoff.specs.Sights.{Sight};
 
@@ -28,5 +28,5 @@ pub fn copies_are_true()
 /// each earlier fallback copies brought all: so this law says it of the return that ended that one's diversion.
 pub fn returns_join()
     ensures { (partition : Partition) (primary : Log) (fallbacks : Fallbacks)
-        (mine theirs : Sight) → ReturnsJoin partition primary fallbacks mine theirs }
+        (mine theirs : Sight) → ReturnJoinsKeys partition primary fallbacks mine theirs }
 {}

@@ -1,10 +1,10 @@
 //! The keys of a fallback that aren't copied as they are now.
 ghost use Rattle.std.specs.Prelude.{◌≡◌, ◌+◌, ◌-◌, ◌^◌, min, IfOk, IfNone, IfSome, None};
 ghost use Rattle.std.specs.Option.{option_map};
-ghost use Rattle.place_map.specs.KeyRefs.{key_after};
+ghost use Rattle.clock_store.specs.KeyRefs.{key_after};
 ghost use Rattle.clock_store.specs.Keys.{stored_of};
 ghost use Rattle.vnode_machine.specs.Sound.{IsSound};
-ghost use Rattle.handoff.specs.Left.{AreCopied, Finds, IsNextLeft, count_left, is_copied, one_unless};
+ghost use Rattle.handoff.specs.Left.{AreCopied, FindsLeft, IsNextLeft, count_left, is_copied, one_unless};
 
 use clock_store::{KeyRef, StoredClock};
 use dvv_set::Clock;
@@ -63,7 +63,7 @@ pub(crate) fn next_left<'a>(
     most: u32,
 ) -> Result<Found<'a>, AllocError>
     requires sound { IsSound fallback.now.state }
-    ensures { IfOk result (Finds primary.now.state fallback.now.state
+    ensures { IfOk result (FindsLeft primary.now.state fallback.now.state
         (option_map (λ k. k.now) after.entry)) }
 {
     let mut looked: u32 = 0;

@@ -3,9 +3,9 @@ ghost use Rattle.std.specs.Prelude.{◌≡◌, ◌<◌, ◌≤◌, ◌^◌, Some
 ghost use Rattle.std.specs.Prelude.{IfOk, IfErr, IfNone, IfSome, IsOkUnless, OnOk, OnErr, None};
 ghost use Rattle.std.specs.Option.{option_map};
 ghost use Rattle.handoff.specs.Partitions.{AreMadeNew, AreOfNewRun, AreNone, IsFallback};
-ghost use Rattle.handoff.specs.Partitions.{IsDiverted, IsRefused, diversion_at};
+ghost use Rattle.handoff.specs.Partitions.{IsDiverted, IsDivertRefused, diversion_at};
 ghost use Rattle.handoff.specs.Copying.{IsCopiedBack, IsCopyFault};
-ghost use Rattle.handoff.specs.Returning.{IsReturned, IsReturnFault};
+ghost use Rattle.handoff.specs.Returning.{HasReturned, IsReturnFault};
 ghost use Rattle.handoff.specs.Diverted.{IsDivertedAt};
 
 use crate::copying::{Copied, Diverted, copy_keys};
@@ -103,7 +103,7 @@ impl Handoff {
         requires { index < 2 ^ self.old.index_bits }
         ensures ok { OnOk result (IsDiverted index self.old self.new) }
         ensures err { OnErr result (self.new ≡ self.old) }
-        ensures fault { IfErr result (IsRefused self.old index) }
+        ensures fault { IfErr result (IsDivertRefused self.old index) }
     {
         let at = usize::from(index);
         let Some(next) = next_diversion(&self.fallbacks[at]) else {
@@ -173,7 +173,7 @@ impl Handoff {
         index: u16,
     ) -> Result<Returned, HandoffFault>
         requires { index < 2 ^ self.now.index_bits }
-        ensures ok { IfOk result (IsReturned self.now index) }
+        ensures ok { IfOk result (HasReturned self.now index) }
         ensures fault { IfErr result (IsReturnFault self.now index) }
     {
         let Some(partition) = self.diverted(index) else {

@@ -1,7 +1,7 @@
 //! The end of a diversion.
 ghost use Rattle.std.specs.Prelude.{◌≡◌, IfOk, IfErr, OnOk, []};
 ghost use Rattle.rw_gate.specs.Histories.{IsReplayed};
-ghost use Rattle.vnode_protocol.specs.Events.{Makes};
+ghost use Rattle.vnode_core.specs.Events.{Makes};
 ghost use Rattle.handoff.specs.Endings.{ClosesWith, EndsSo, IsEndFault};
 ghost use Rattle.handoff.specs.Returning.{EndsDiversion, OfGates};
 ghost use Rattle.handoff.specs.Sights.{IsOfVnode, state_of};

@@ -10,6 +10,7 @@ use Rattle.job_pool.specs.declared.worker.NumberedEnd.{NumberedEnd}
 use Rattle.job_pool.specs.Queue.{IsNumbered}
 use Rattle.job_pool.specs.Ends.{IsTurnOfTaken, IsTurnOfGiven, AreFilled, AreCollected, HasServed, placed}
 use Rattle.job_pool.proofs.Lists.{get_more, get_last, all_at, set_length, pairs_more, pairs_snoc}
+use Rattle.std.proofs.lemmas.Option.{none-some as none_some}
 
 module _ {E : Type 0} where
   -- a place that isn't there
@@ -22,9 +23,6 @@ module _ {E : Type 0} where
   pub placed_length : (places : List (Option E)) (ends : List (NumberedEnd E)) → length (placed places ends) ≡ length places
   placed_length places [] = refl
   placed_length places (one ∷ rest) = placed_length (slice_set places one.number (Some one.end)) rest ∙ set_length places one.number (Some one.end)
-
-none_some : {A : Type 0} (x : A) → None ≡ Some x → ⊥
-none_some x h = cc
 
 -- empty places, at most one a job
 filled_none : {J E : Type 0} (W : Type 0) (jobs : List J) (places : List (Option E)) → Every (λ place. place ≡ None) places → length places ≤ length jobs → AreFilled {W = W} jobs places []

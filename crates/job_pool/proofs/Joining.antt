@@ -1,6 +1,6 @@
 -- The workers are joined one after another.
 use Rattle.std.proofs.Common.{◌≡◌, ◌∙◌, ◌<◌, ◌≤◌, List, [], ◌∷◌, ◌++◌, length, length-append, map, arith, ap, sym, refl, subst, inl, inr}
-use Rattle.std.proofs.lemmas.List.{length-map}
+use Rattle.std.proofs.lemmas.List.{length-map, append-nil as and_none}
 use Rattle.std.specs.List.Sorted.{IsPermutation}
 use Rattle.std.specs.Prelude.{Option, Some, ◌⊎◌}
 use Rattle.job_pool.specs.Turns.{Turn, Share, IsChain, ServedOnce, firsts_of, lasts_of, turns_of, ends_of}
@@ -8,10 +8,6 @@ use Rattle.job_pool.specs.declared.queue.NumberedJob.{NumberedJob}
 use Rattle.job_pool.specs.Ends.{AreFilled, AreCollected, IsJoined, AreJoined}
 use Rattle.job_pool.proofs.Lists.{all_snoc}
 use Rattle.job_pool.proofs.Ends.{filled_jobs, filled_ends}
-
-and_none : {A : Type 0} (xs : List A) → xs ++ [] ≡ xs
-and_none [] = refl
-and_none (x ∷ xs) = ap (λ l. x ∷ l) (and_none xs)
 
 module _ {A B : Type 0} (f : A → B) where
   pub map_snoc : (xs : List A) (x : A) (rest : List B) → map f (xs ++ x ∷ []) ++ rest ≡ map f xs ++ f x ∷ rest

@@ -2,9 +2,7 @@
 use Rattle.std.proofs.Common.{◌≡◌, ℕ, zero, suc, List, [], ◌∷◌, ◌++◌, length, arith, refl, subst}
 use Rattle.job_pool.specs.Lists.{Every, Pairwise}
 use Rattle.std.specs.Prelude.{Some, None, slice_get, slice_set}
-
-none_some : {A : Type 0} (x : A) → None ≡ Some x → ⊥
-none_some x h = cc
+use Rattle.std.proofs.lemmas.Option.{none-some as none_some}
 
 module _ {A : Type 0} where
   pub get_more : (xs ys : List A) (k : ℕ) (x : A) → slice_get xs k ≡ Some x → slice_get (xs ++ ys) k ≡ Some x

@@ -22,8 +22,8 @@ use Rattle.node_session.specs.Moves.{ReadsOnce, WritesOnce}
 use Rattle.node_session.specs.Nexts.{AnswersNext}
 use Rattle.node_session.specs.Views.{SessionView}
 use Rattle.node_server.specs.declared.connections.Streams.{Streams}
-use Rattle.node_server.specs.declared.end.End.{End}
-use Rattle.node_server.specs.Steps.{Continues, Ends, TakesStep}
+use Rattle.node_server.specs.declared.end.ConnectionEnd.{ConnectionEnd}
+use Rattle.node_server.specs.Steps.{Continues, EndsConnection, TakesConnectionStep}
 use Rattle.node_server.specs.Exchanges.{exchange_of, AnswersExchange}
 
 pub last_of : (es : List Exchange) (e : Exchange) → slice_get (es ++ e ∷ []) (length es) ≡ Some e
@@ -66,7 +66,7 @@ module _ {N : Type 0} (Step : N → Request → Reply → N → Type 0) where
     was_read from to buffer reads.Failed p = ap (λ (v : ConnectionView R W). v.session.exchanges) p.1
     was_read from to buffer reads.NoMemory p = ap (λ (v : ConnectionView R W). v.session.exchanges) p.same
 
-    pub moved : (from to : ConnectionView R W) → TakesStep remaining contents from to None → to.session.exchanges ≡ from.session.exchanges
+    pub moved : (from to : ConnectionView R W) → TakesConnectionStep remaining contents from to None → to.session.exchanges ≡ from.session.exchanges
     moved from to (inl p) = written from to p.sent p.writes
     moved from to (inr p) = was_read from to p.buffer p.received p.reads
 
@@ -74,7 +74,7 @@ module _ {N : Type 0} (Step : N → Request → Reply → N → Type 0) where
     continued node node' from to (inl p) = by_next node node' from.session to.session p.result p.next
     continued node node' from to (inr p) = stays node node' from.session.exchanges to.session.exchanges (moved from to p.1) p.0
 
-    pub each_step : (node : N) (event : JobEvent (Streams R W) (ConnectionView R W) End) (node' : N) → Moves (Continues Step remaining contents) (Ends remaining contents) node event node' → MovesBy (AnswersExchange Step) node (exchange_of event) node'
+    pub each_step : (node : N) (event : JobEvent (Streams R W) (ConnectionView R W) ConnectionEnd) (node' : N) → Moves (Continues Step remaining contents) (EndsConnection remaining contents) node event node' → MovesBy (AnswersExchange Step) node (exchange_of event) node'
     each_step node (Began job opened) node' p = p
     each_step node (Continued from to) node' p = continued node node' from to p
     each_step node (Ended from end) node' p = p.0

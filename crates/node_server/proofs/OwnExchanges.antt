@@ -19,8 +19,8 @@ use Rattle.node_session.specs.Connections.{ConnectionView}
 use Rattle.node_session.specs.Nexts.{AnswersNext}
 use Rattle.node_session.specs.Views.{SessionView}
 use Rattle.node_server.specs.declared.connections.Streams.{Streams}
-use Rattle.node_server.specs.declared.end.End.{End}
-use Rattle.node_server.specs.Steps.{Continues, Ends}
+use Rattle.node_server.specs.declared.end.ConnectionEnd.{ConnectionEnd}
+use Rattle.node_server.specs.Steps.{Continues, EndsConnection}
 use Rattle.node_server.specs.Exchanges.{exchanges_at, AreSteps, HasItsExchanges}
 use Rattle.node_server.proofs.Answering.{none_more, one_more, moved}
 
@@ -48,7 +48,7 @@ module _ {N : Type 0} (Step : N → Request → Reply → N → Type 0) where
     by_step node node' from to (inl p) = by_next node node' from.session to.session p.result p.next
     by_step node node' from to (inr p) = inr (moved Step remaining contents from to p.1)
 
-    own : (first last : ConnectionView R W) (events : List (JobEvent (Streams R W) (ConnectionView R W) End)) → StaysOpen first events last → AreSteps Step remaining contents events → last.session.exchanges ≡ first.session.exchanges ++ exchanges_at events
+    own : (first last : ConnectionView R W) (events : List (JobEvent (Streams R W) (ConnectionView R W) ConnectionEnd)) → StaysOpen first events last → AreSteps Step remaining contents events → last.session.exchanges ≡ first.session.exchanges ++ exchanges_at events
     own first last [] stays steps = ap (λ (v : ConnectionView R W). v.session.exchanges) stays ∙ sym (append-nil first.session.exchanges)
     own first last (Began job opened ∷ events) stays steps = absurd stays
     own first last (Continued from to ∷ events) stays steps =
@@ -57,19 +57,19 @@ module _ {N : Type 0} (Step : N → Request → Reply → N → Type 0) where
         ∙ ap (λ (v : ConnectionView R W). v.session.exchanges ++ with_first (slice_get to.session.exchanges (length from.session.exchanges)) (exchanges_at events)) stays.0
     own first last (Ended from end ∷ events) stays steps = absurd stays
 
-    pub has_its_exchanges : (life : Life (Streams R W) (ConnectionView R W) End) → HasItsExchanges Step remaining contents life
+    pub has_its_exchanges : (life : Life (Streams R W) (ConnectionView R W) ConnectionEnd) → HasItsExchanges Step remaining contents life
     has_its_exchanges life begins stays steps =
         own life.opened life.last life.steps stays steps
         ∙ ap (λ (v : ConnectionView R W). v.session.exchanges ++ exchanges_at life.steps) begins
 
-    with_event : (b : Bool) (event : JobEvent (Streams R W) (ConnectionView R W) End) (events : List (JobEvent (Streams R W) (ConnectionView R W) End))
-        → ((node : N) × (node' : N) × Moves (Continues Step remaining contents) (Ends remaining contents) node event node')
+    with_event : (b : Bool) (event : JobEvent (Streams R W) (ConnectionView R W) ConnectionEnd) (events : List (JobEvent (Streams R W) (ConnectionView R W) ConnectionEnd))
+        → ((node : N) × (node' : N) × Moves (Continues Step remaining contents) (EndsConnection remaining contents) node event node')
         → AreSteps Step remaining contents events
         → AreSteps Step remaining contents (if b then event ∷ events else events)
     with_event true event events moves steps = (moves, steps)
     with_event false event events moves steps = steps
 
-    pub slots_take_steps : (first last : N) (steps : List (JobStep N (Streams R W) (ConnectionView R W) End)) → Chain (Continues Step remaining contents) (Ends remaining contents) first steps last → (slot : ℕ) → AreSteps Step remaining contents (at_slot slot steps)
+    pub slots_take_steps : (first last : N) (steps : List (JobStep N (Streams R W) (ConnectionView R W) ConnectionEnd)) → Chain (Continues Step remaining contents) (EndsConnection remaining contents) first steps last → (slot : ℕ) → AreSteps Step remaining contents (at_slot slot steps)
     slots_take_steps first last [] chain slot = tt
     slots_take_steps first last (step ∷ steps) chain slot =
         with_event (step.slot == slot) step.event (at_slot slot steps) (step.before, step.after, chain.1) (slots_take_steps step.after last steps chain.2 slot)

@@ -10,15 +10,15 @@ use Rattle.node_session.specs.declared.connection.Sent.{Sent}
 use Rattle.node_session.specs.declared.session.Next.{Next}
 use Rattle.node_session.specs.declared.session.Halt.{Halt}
 use Rattle.node_session.specs.Connections.{ConnectionView}
-use Rattle.node_session.specs.Moves.{AnswersOnce, ReadsOnce, WritesOnce, IsOutcome, new_connection}
+use Rattle.node_session.specs.Moves.{AnswersOnce, ReadsOnce, WritesOnce, IsConnectionOutcome, new_connection}
 use Rattle.node_session.specs.Nexts.{AnswersNext}
 use Rattle.node_server.specs.declared.connections.Streams.{Streams}
-use Rattle.node_server.specs.declared.end.End.{End}
-use Rattle.node_server.specs.declared.end.End.TheVariants.{Through, Closed}
+use Rattle.node_server.specs.declared.end.ConnectionEnd.{ConnectionEnd}
+use Rattle.node_server.specs.declared.end.ConnectionEnd.TheVariants.{Through, Closed}
 
 -- a connection begins with its streams, of which nothing was read or written
-abbrev pub Begins : {R W : Type 0} → Streams R W → ConnectionView R W → Type 0
-Begins streams opened = opened ≡ new_connection streams.reader streams.writer
+abbrev pub BeginsConnection : {R W : Type 0} → Streams R W → ConnectionView R W → Type 0
+BeginsConnection streams opened = opened ≡ new_connection streams.reader streams.writer
 
 module _ {N R W : Type 0} (Step : N → Request → Reply → N → Type 0) where
   -- its next message was answered, or nothing more is answered
@@ -36,7 +36,7 @@ module _ {R W : Type 0} (remaining : R → Option (List ℕ)) (contents : W → 
     pub writes : WritesOnce contents from to sent
 
   -- the reader was called once: all that was whole was answered, and all was sent
-  pub record Reads (from to : ConnectionView R W) : Type 0 where
+  pub record ReadsPiece (from to : ConnectionView R W) : Type 0 where
     pub is_open : from.input ≡ Open
     pub idle : IsPartial max_request_len from.session.rest
     pub all_sent : from.session.unsent ≡ []
@@ -46,27 +46,27 @@ module _ {R W : Type 0} (remaining : R → Option (List ℕ)) (contents : W → 
 
   -- how a connection stands that ends so: this came of it, all being sent or the writer having failed; or it waits for its client, with no
   -- whole message to be answered, or with something to be sent
-  abbrev pub IsEnd : ConnectionView R W → End → Type 0
-  IsEnd from (Through outcome) = IsOutcome remaining contents from outcome
-  IsEnd from Closed = IsPartial max_request_len from.session.rest ⊎ (0 < length from.session.unsent)
+  abbrev pub IsConnectionEnd : ConnectionView R W → ConnectionEnd → Type 0
+  IsConnectionEnd from (Through outcome) = IsConnectionOutcome remaining contents from outcome
+  IsConnectionEnd from Closed = IsPartial max_request_len from.session.rest ⊎ (0 < length from.session.unsent)
 
   -- a step that leaves the node
-  abbrev pub TakesStep : ConnectionView R W → ConnectionView R W → Option End → Type 0
-  TakesStep from to None = Writes from to ⊎ Reads from to
-  TakesStep from to (Some end) = IsEnd from end
+  abbrev pub TakesConnectionStep : ConnectionView R W → ConnectionView R W → Option ConnectionEnd → Type 0
+  TakesConnectionStep from to None = Writes from to ⊎ ReadsPiece from to
+  TakesConnectionStep from to (Some end) = IsConnectionEnd from end
 
 module _ {N R W : Type 0} (Step : N → Request → Reply → N → Type 0) (remaining : R → Option (List ℕ)) (contents : W → Option (List ℕ)) where
   -- a step after which the connection is open: the node answers, or it stays and one call of a stream is made
   abbrev pub Continues : N → ConnectionView R W → N → ConnectionView R W → Type 0
-  Continues node from node' to = AnswersMessage Step node node' from to ⊎ ((node' ≡ node) × TakesStep remaining contents from to None)
+  Continues node from node' to = AnswersMessage Step node node' from to ⊎ ((node' ≡ node) × TakesConnectionStep remaining contents from to None)
 
 module _ {N R W : Type 0} (remaining : R → Option (List ℕ)) (contents : W → Option (List ℕ)) where
   -- a step to the end, which leaves the node
-  abbrev pub Ends : N → ConnectionView R W → N → End → Type 0
-  Ends node from node' end = (node' ≡ node) × IsEnd remaining contents from end
+  abbrev pub EndsConnection : N → ConnectionView R W → N → ConnectionEnd → Type 0
+  EndsConnection node from node' end = (node' ≡ node) × IsConnectionEnd remaining contents from end
 
 -- a connection that would have to wait stays open, or is closed
-abbrev pub StaysOrCloses : Option End → Type 0
+abbrev pub StaysOrCloses : Option ConnectionEnd → Type 0
 StaysOrCloses None = Unit {0}
 StaysOrCloses (Some Closed) = Unit {0}
 StaysOrCloses (Some (Through outcome)) = ⊥

@@ -4,9 +4,9 @@ ghost use Rattle.pb_frame.specs.Limits.{max_request_len};
 ghost use Rattle.pb_frame.specs.Message.{IsPartial};
 ghost use Rattle.open_jobs.specs.Jobs.{OneStep};
 ghost use Rattle.node_session.specs.declared.connection.Input.TheVariants.{Open};
-ghost use Rattle.node_server.specs.Steps.{Continues, Ends, TakesStep, StaysOrCloses};
+ghost use Rattle.node_server.specs.Steps.{Continues, EndsConnection, TakesConnectionStep, StaysOrCloses};
 
-use crate::end::End;
+use crate::end::ConnectionEnd;
 use crate::open_connection::OpenConnection;
 use node_session::{Input, Next, Node, Sent};
 use open_jobs::Stepping;
@@ -30,7 +30,7 @@ pub struct Streams<R, W> {
 /// let slot = jobs.begin(alloc, &service, Streams { reader, writer })?;   // reader: a ping, and then the end
 /// jobs.step(alloc, &service, slot)    // None: the ping is read; then None: it is answered; then None: the reply is written
 /// jobs.step(alloc, &service, slot)    // None: the end is read
-/// jobs.step(alloc, &service, slot)    // Some(End::Through(Ok(Ended { replies: 1, rest: 0 }))): the slot is free
+/// jobs.step(alloc, &service, slot)    // Some(ConnectionEnd::Through(Ok(Ended { replies: 1, rest: 0 }))): the slot is free
 /// ```
 ///
 /// It has a clock that its caller sets, by which connections are closed that have been silent for too long.
@@ -59,20 +59,20 @@ impl<N: Node, R: Read, W: Write> Connections<N, R, W> {
     }
 
     /// What comes of a step that would have to wait for the client.
-    fn wait(&self, opened: &OpenConnection<R, W>) -> Option<End>
+    fn wait(&self, opened: &OpenConnection<R, W>) -> Option<ConnectionEnd>
         ensures { StaysOrCloses result }
     {
         if opened.moved() < self.closes_before.get() {
-            Some(End::Closed)
+            Some(ConnectionEnd::Closed)
         } else {
             None
         }
     }
 
     /// A step where some replies are to be sent before a message is answered.
-    fn write(&self, opened: &mut OpenConnection<R, W>) -> Option<End>
+    fn write(&self, opened: &mut OpenConnection<R, W>) -> Option<ConnectionEnd>
         requires { opened.old.failed ≡ false }
-        ensures { TakesStep R.remaining W.contents opened.old opened.new result }
+        ensures { TakesConnectionStep R.remaining W.contents opened.old opened.new result }
     {
         match opened.write(self.now.get()) {
             Sent::Blocked => self.wait(opened),
@@ -81,9 +81,9 @@ impl<N: Node, R: Read, W: Write> Connections<N, R, W> {
     }
 
     /// A step behind the input's end: it writes, and once all was sent it is the last one.
-    fn write_or_end(&self, opened: &mut OpenConnection<R, W>) -> Option<End>
+    fn write_or_end(&self, opened: &mut OpenConnection<R, W>) -> Option<ConnectionEnd>
         requires { opened.old.failed ≡ false }
-        ensures { TakesStep R.remaining W.contents opened.old opened.new result }
+        ensures { TakesConnectionStep R.remaining W.contents opened.old opened.new result }
     {
         match opened.write(self.now.get()) {
             Sent::Nothing => opened.end(),
@@ -93,11 +93,11 @@ impl<N: Node, R: Read, W: Write> Connections<N, R, W> {
     }
 
     /// A step where all was answered and sent: it reads, or ends a connection that was silent for too long.
-    fn read(&self, opened: &mut OpenConnection<R, W>) -> Option<End>
+    fn read(&self, opened: &mut OpenConnection<R, W>) -> Option<ConnectionEnd>
         requires is_open { opened.old.input ≡ Open }
         requires idle { IsPartial max_request_len opened.old.session.rest }
         requires all_sent { opened.old.session.unsent ≡ [] }
-        ensures { TakesStep R.remaining W.contents opened.old opened.new result }
+        ensures { TakesConnectionStep R.remaining W.contents opened.old opened.new result }
     {
         let due = self.wait(opened);
         if due.is_none() {
@@ -107,11 +107,11 @@ impl<N: Node, R: Read, W: Write> Connections<N, R, W> {
     }
 
     /// A step where all was answered: it writes, and once all was sent it reads.
-    fn write_or_read(&self, opened: &mut OpenConnection<R, W>) -> Option<End>
+    fn write_or_read(&self, opened: &mut OpenConnection<R, W>) -> Option<ConnectionEnd>
         requires works { opened.old.failed ≡ false }
         requires is_open { opened.old.input ≡ Open }
         requires idle { IsPartial max_request_len opened.old.session.rest }
-        ensures { TakesStep R.remaining W.contents opened.old opened.new result }
+        ensures { TakesConnectionStep R.remaining W.contents opened.old opened.new result }
     {
         match opened.write(self.now.get()) {
             Sent::Nothing => self.read(opened),
@@ -126,11 +126,11 @@ impl<N: Node, R: Read, W: Write> Connections<N, R, W> {
         alloc: Global,
         node: &mut N,
         opened: &mut OpenConnection<R, W>,
-    ) -> Option<End>
+    ) -> Option<ConnectionEnd>
         requires works { opened.old.failed ≡ false }
         requires is_open { opened.old.input ≡ Open }
         ensures { OneStep (Continues N.step R.remaining W.contents)
-            (Ends R.remaining W.contents) node.old opened.old node.new opened.new result }
+            (EndsConnection R.remaining W.contents) node.old opened.old node.new opened.new result }
     {
         match opened.answer(alloc, node) {
             Ok(Next::Answered) => None,
@@ -148,15 +148,15 @@ impl<N: Node + Drop, R: Read + Drop, W: Write + Drop> Stepping for Connections<N
 
     type Open = OpenConnection<R, W>;
 
-    type End = End;
+    type End = ConnectionEnd;
 
-    ghost use Rattle.node_server.specs.Steps.{Begins, Continues, Ends};
+    ghost use Rattle.node_server.specs.Steps.{BeginsConnection, Continues, EndsConnection};
 
-    ghost begins = { Begins };
+    ghost begins = { BeginsConnection };
 
     ghost continues = { Continues N.step R.remaining W.contents };
 
-    ghost ends = { Ends R.remaining W.contents };
+    ghost ends = { EndsConnection R.remaining W.contents };
 
     fn begin(&self, alloc: Global, job: Streams<R, W>) -> OpenConnection<R, W> {
         let Streams { reader, writer } = job;
@@ -168,7 +168,7 @@ impl<N: Node + Drop, R: Read + Drop, W: Write + Drop> Stepping for Connections<N
         alloc: Global,
         worker: &mut N,
         opened: &mut OpenConnection<R, W>,
-    ) -> Option<End> {
+    ) -> Option<ConnectionEnd> {
         if opened.has_failed() {
             return opened.end();
         }

@@ -14,6 +14,6 @@ mod laws;
 mod open_connection;
 
 pub use connections::{Connections, Streams};
-pub use end::End;
+pub use end::ConnectionEnd;
 pub use laws::{connections_have_their_exchanges, steps_are_run};
 pub use open_connection::OpenConnection;

@@ -5,9 +5,9 @@ ghost use Rattle.pb_frame.specs.Message.{IsPartial};
 ghost use Rattle.node_session.specs.Moves.{AnswersOnce, ReadsOnce, WritesOnce, new_connection};
 ghost use Rattle.node_session.specs.Nexts.{AnswersNext};
 ghost use Rattle.node_session.specs.declared.connection.Input.TheVariants.{Open};
-ghost use Rattle.node_server.specs.Steps.{IsEnd};
+ghost use Rattle.node_server.specs.Steps.{IsConnectionEnd};
 
-use crate::end::End;
+use crate::end::ConnectionEnd;
 use node_session::{Connection, Halt, Input, Next, Node, Received, Sent};
 use std::alloc::Global;
 use std::io::{Read, Write};
@@ -77,13 +77,13 @@ impl<R: Read, W: Write> OpenConnection<R, W> {
     }
 
     /// How it ended, where its writer has failed, or its input has ended and all was sent. None where it goes on.
-    pub(crate) fn end(&self) -> Option<End>
+    pub(crate) fn end(&self) -> Option<ConnectionEnd>
         requires { self.now.failed ≡ false → self.now.session.unsent ≡ [] }
-        ensures is { IfSome result (IsEnd R.remaining W.contents self.now) }
+        ensures is { IfSome result (IsConnectionEnd R.remaining W.contents self.now) }
         ensures goes { IfNone result (self.now.failed ≡ false) }
     {
         match self.connection.outcome() {
-            Some(outcome) => Some(End::Through(outcome)),
+            Some(outcome) => Some(ConnectionEnd::Through(outcome)),
             None => None,
         }
     }

@@ -9,7 +9,7 @@ use Rattle.sibling_register.specs.Answers.{Ask}
 use Rattle.actor_epoch.specs.Given.{Context}
 use Rattle.vnode_machine.specs.Machine.{State}
 use Rattle.vnode_machine.specs.Step.{outcome}
-use Rattle.vnode_protocol.specs.Plans.{View}
+use Rattle.vnode_core.specs.Plans.{View}
 use Rattle.node_session.specs.PlainNodes.{NodeState, AnswersAndSweeps, AnswersAt, states_of}
 
 module _ (bits budget : ℕ) (vnodes : List View) (ask : Ask Content Context) (reply : Reply) where

@@ -17,8 +17,8 @@ use Rattle.node_session.specs.declared.progress.Progress.{Progress}
 use Rattle.node_session.specs.Limits.{max_read_len}
 use Rattle.node_session.specs.Answers.{reply_frame, frame_fault_text}
 use Rattle.node_session.specs.Answered.{CameInLastRead}
-use Rattle.node_session.specs.Connections.{Carried, InputIs, IsKept, due_of}
-use Rattle.node_session.specs.Nexts.{IsAnswered, IsBadNext, IsLost}
+use Rattle.node_session.specs.Connections.{Carried, InputIs, ConnectionStands, due_of}
+use Rattle.node_session.specs.Nexts.{IsNextAnswered, IsBadNext, IsLost}
 use Rattle.node_session.specs.Progress.{SentFrames}
 use Rattle.node_session.specs.Unsent.{IsFront}
 use Rattle.node_session.specs.Views.{SessionView, IsRead, message_of, new_session, replies_of}
@@ -31,7 +31,7 @@ abbrev pub not_begun : Progress
 not_begun = record { begun = 0; left = 0 }
 
 -- nothing was read or written
-pub kept_none : (u h : Option (List ℕ)) (failed : Bool) → (failed ≡ true → ⊥) → IsKept u u h h new_session [] Open 0 not_begun failed
+pub kept_none : (u h : Option (List ℕ)) (failed : Bool) → (failed ≡ true → ⊥) → ConnectionStands u u h h new_session [] Open 0 not_begun failed
 kept_none u h failed goes = record {
   carried = record {
     done = [];
@@ -67,7 +67,7 @@ keeps_written a b bytes n e p = none a b (subst (λ (k : ℕ). Appends a b (take
 -- no byte moved, and the input or the writer came to stand otherwise
 pub kept_to : (u u' u'' h h' h'' : Option (List ℕ)) (s : SessionView) (unfed : List ℕ) (i j : Input) (answered : ℕ) (progress : Progress) (failed failed' : Bool) → Keeps u' u'' → Keeps h' h''
     → ((put : List Exchange) (error : List Reply) → InputIs i s unfed put error → InputIs j s unfed put error) → (failed' ≡ true → (failed ≡ true → 0 < length s.unsent) → 0 < length s.unsent)
-    → IsKept u u' h h' s unfed i answered progress failed → IsKept u u'' h h'' s unfed j answered progress failed'
+    → ConnectionStands u u' h h' s unfed i answered progress failed → ConnectionStands u u'' h h'' s unfed j answered progress failed'
 kept_to u u' u'' h h' h'' s unfed i j answered progress failed failed' left kept to stops q =
     let p = q.carried in
     record {
@@ -86,9 +86,9 @@ kept_to u u' u'' h h' h'' s unfed i j answered progress failed failed' left kept
     }
 
 -- the session is the same
-pub kept_same : (u u' h h' : Option (List ℕ)) (s t : SessionView) (unfed : List ℕ) (i : Input) (answered : ℕ) (progress : Progress) (failed : Bool) → t ≡ s → IsKept u u' h h' s unfed i answered progress failed
-    → IsKept u u' h h' t unfed i answered progress failed
-kept_same u u' h h' s t unfed i answered progress failed e q = subst (λ (v : SessionView). IsKept u u' h h' v unfed i answered progress failed) (sym e) q
+pub kept_same : (u u' h h' : Option (List ℕ)) (s t : SessionView) (unfed : List ℕ) (i : Input) (answered : ℕ) (progress : Progress) (failed : Bool) → t ≡ s → ConnectionStands u u' h h' s unfed i answered progress failed
+    → ConnectionStands u u' h h' t unfed i answered progress failed
+kept_same u u' h h' s t unfed i answered progress failed e q = subst (λ (v : SessionView). ConnectionStands u u' h h' v unfed i answered progress failed) (sym e) q
 
 -- what an open input is
 abbrev is_open : (s : SessionView) (unfed : List ℕ) (i : Input) (put : List Exchange) (error : List Reply) → i ≡ Open → InputIs i s unfed put error → InputIs Open s unfed put error
@@ -107,13 +107,13 @@ all_fed u u' input unfed none p = subst (Consumes u u') (ap (λ (l : List ℕ). 
 
 -- a piece was read and fed
 pub kept_fed : (u u' u'' h h' : Option (List ℕ)) (s t : SessionView) (unfed : List ℕ) (i : Input) (answered : ℕ) (progress : Progress) (failed : Bool) (piece : List ℕ) → i ≡ Open → Consumes u' u'' piece
-    → t ≡ record s { input = s.input ++ piece; rest = s.rest ++ piece } → IsKept u u' h h' s unfed i answered progress failed → IsKept u u'' h h' t unfed i answered progress failed
+    → t ≡ record s { input = s.input ++ piece; rest = s.rest ++ piece } → ConnectionStands u u' h h' s unfed i answered progress failed → ConnectionStands u u'' h h' t unfed i answered progress failed
 kept_fed u u' u'' h h' s t unfed i answered progress failed piece going read e q =
     let p = q.carried in
     let st = is_open s unfed i p.put p.error going p.stands in
     let fed : SessionView = record s { input = s.input ++ piece; rest = s.rest ++ piece } in
     let all : Consumes u u'' (s.input ++ piece) = Consumes-trans u u' u'' s.input piece (all_fed u u' s.input unfed st.1.fed p.read) read in
-    subst (λ (v : SessionView). IsKept u u'' h h' v unfed i answered progress failed) (sym e) (record {
+    subst (λ (v : SessionView). ConnectionStands u u'' h h' v unfed i answered progress failed) (sym e) (record {
       carried = record {
         done = p.done;
         put = p.put;
@@ -130,13 +130,13 @@ kept_fed u u' u'' h h' s t unfed i answered progress failed piece going read e q
 
 -- a piece was read and not fed
 pub kept_lost_piece : (u u' u'' h h' : Option (List ℕ)) (s t : SessionView) (unfed unfed' : List ℕ) (i : Input) (answered : ℕ) (progress : Progress) (failed : Bool) (piece : List ℕ) → i ≡ Open → Consumes u' u'' piece → t ≡ s
-    → unfed' ≡ piece → IsPartial max_request_len s.rest → 0 < length piece → length piece ≤ max_read_len → IsKept u u' h h' s unfed i answered progress failed
-    → IsKept u u'' h h' t unfed' PieceLost answered progress failed
+    → unfed' ≡ piece → IsPartial max_request_len s.rest → 0 < length piece → length piece ≤ max_read_len → ConnectionStands u u' h h' s unfed i answered progress failed
+    → ConnectionStands u u'' h h' t unfed' PieceLost answered progress failed
 kept_lost_piece u u' u'' h h' s t unfed unfed' i answered progress failed piece going read e f partial some few q =
     let p = q.carried in
     let st = is_open s unfed i p.put p.error going p.stands in
-    subst (λ (v : SessionView). IsKept u u'' h h' v unfed' PieceLost answered progress failed) (sym e)
-    (subst (λ (l : List ℕ). IsKept u u'' h h' s l PieceLost answered progress failed) (sym f) (record {
+    subst (λ (v : SessionView). ConnectionStands u u'' h h' v unfed' PieceLost answered progress failed) (sym e)
+    (subst (λ (l : List ℕ). ConnectionStands u u'' h h' s l PieceLost answered progress failed) (sym f) (record {
       carried = record {
         done = p.done;
         put = p.put;
@@ -164,10 +164,10 @@ still s bytes unfed PieceLost put error p = record { partial = p.partial; some =
 pub kept_sent : (u u' h h' h'' : Option (List ℕ)) (s t : SessionView) (unfed : List ℕ) (i : Input) (answered : ℕ) (progress further : Progress) (failed : Bool) (front : List ℕ) (n : ℕ) → IsFront front s.unsent → n ≤ length front
     → Appends h' h'' (take n front) → t ≡ record s { unsent = drop n s.unsent } → (failed ≡ true → ⊥)
     → ((due : List Reply) (done : List ℕ) → SentFrames due done s.unsent progress.begun progress.left → SentFrames due (done ++ take n s.unsent) (drop n s.unsent) further.begun further.left)
-    → IsKept u u' h h' s unfed i answered progress failed → IsKept u u' h h'' t unfed i answered further failed
+    → ConnectionStands u u' h h' s unfed i answered progress failed → ConnectionStands u u' h h'' t unfed i answered further failed
 kept_sent u u' h h' h'' s t unfed i answered progress further failed front n is le wrote e goes after q =
     let p = q.carried in
-    subst (λ (v : SessionView). IsKept u u' h h'' v unfed i answered further failed) (sym e) (record {
+    subst (λ (v : SessionView). ConnectionStands u u' h h'' v unfed i answered further failed) (sym e) (record {
       carried = record {
         done = p.done ++ take n s.unsent;
         put = p.put;
@@ -193,7 +193,7 @@ count_more n answered more counted is few =
 due_more : (put : List Exchange) (error : List Reply) (r : Reply) → error ≡ [] → replies_of put ++ r ∷ [] ≡ due_of put error ++ r ∷ []
 due_more put error r none = ap (λ (l : List Reply). l ++ r ∷ []) (sym (append-nil (replies_of put)) ∙ ap (λ (l : List Reply). replies_of put ++ l) (sym none))
 
-module _ {S : Type 0} (Step : S → Request → Reply → S → Type 0) (a b : S) (u u' h h' : Option (List ℕ)) (s t : SessionView) (unfed : List ℕ) (i : Input) (answered : ℕ) (progress : Progress) (failed : Bool) (going : i ≡ Open) (q : IsKept u u' h h' s unfed i answered progress failed) where
+module _ {S : Type 0} (Step : S → Request → Reply → S → Type 0) (a b : S) (u u' h h' : Option (List ℕ)) (s t : SessionView) (unfed : List ℕ) (i : Input) (answered : ℕ) (progress : Progress) (failed : Bool) (going : i ≡ Open) (q : ConnectionStands u u' h h' s unfed i answered progress failed) where
   abbrev p : Carried u u' h h' s unfed i
   p = q.carried
 
@@ -213,7 +213,7 @@ module _ {S : Type 0} (Step : S → Request → Reply → S → Type 0) (a b : S
       omega (arith, len, q.waits stopped)
 
   -- a message was answered
-  pub kept_answered : (more : ℕ) → more ≡ min (answered + 1) 18446744073709551615 → IsAnswered Step a b s t → IsKept u u' h h' t unfed i more progress failed
+  pub kept_answered : (more : ℕ) → more ≡ min (answered + 1) 18446744073709551615 → IsNextAnswered Step a b s t → ConnectionStands u u' h h' t unfed i more progress failed
   kept_answered more is one =
       let x = one.exchange in
       let r = x.reply in
@@ -243,7 +243,7 @@ module _ {S : Type 0} (Step : S → Request → Reply → S → Type 0) (a b : S
       }
 
   -- a bad length stood next
-  pub kept_bad : IsBadNext s t → IsKept u u' h h' t unfed BadFrame answered progress failed
+  pub kept_bad : IsBadNext s t → ConnectionStands u u' h h' t unfed BadFrame answered progress failed
   kept_bad bad =
       let r = Error (frame_fault_text bad.bad) in
       let due : due_of p.put (r ∷ []) ≡ due_of p.put p.error ++ r ∷ [] = due_more p.put p.error r st.1.none in
@@ -269,7 +269,7 @@ module _ {S : Type 0} (Step : S → Request → Reply → S → Type 0) (a b : S
       }
 
   -- a reply was lost
-  pub kept_lost_reply : IsRead s.input s.exchanges s.rest → IsLost Step a b s t → IsKept u u' h h' t unfed ReplyLost answered progress failed
+  pub kept_lost_reply : IsRead s.input s.exchanges s.rest → IsLost Step a b s t → ConnectionStands u u' h h' t unfed ReplyLost answered progress failed
   kept_lost_reply read lost = record {
     carried = record {
       done = p.done;

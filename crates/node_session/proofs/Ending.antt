@@ -24,24 +24,24 @@ use Rattle.node_session.specs.declared.session.Next.{Next}
 use Rattle.node_session.specs.declared.session.Next.TheVariants as nexts
 use Rattle.node_session.specs.declared.session.Halt.{Halt}
 use Rattle.node_session.specs.declared.session.Halt.TheVariants as halts
-use Rattle.node_session.specs.Answers.{Answers, AnswersRead, Run, reply_frame, frame_fault_text}
-use Rattle.node_session.specs.Answered.{Answered, AllAnswered, AtLastRead, IsBad, IsOutOfMemory, CameInLastRead}
+use Rattle.node_session.specs.Answers.{Answers, AnswersRead, AnswersInTurn, reply_frame, frame_fault_text}
+use Rattle.node_session.specs.Answered.{AnsweredInput, AllAnswered, AtLastRead, IsBadLengthTold, IsMemoryRefused, CameInLastRead}
 use Rattle.node_session.specs.Connections.{ConnectionView, AllPut, AtBadFrame, AtLostReply, AtLostPiece, InputIs, due_of}
-use Rattle.node_session.specs.Moves.{IsThrough, IsBroken, IsOutcome}
+use Rattle.node_session.specs.Moves.{IsThrough, IsBroken, IsConnectionOutcome}
 use Rattle.node_session.specs.Nexts.{AnswersNext}
-use Rattle.node_session.specs.Session.{IsEnd}
+use Rattle.node_session.specs.Session.{IsInputEnd}
 use Rattle.node_session.specs.SharedNode.{AnswersSome, StepAmid, AnsweredAmid, IsDueNext, SentInPart, ConnectionEnds, EndsAmid}
 use Rattle.node_session.specs.Views.{SessionView, IsRead, message_of, messages_of, replies_of}
 use Rattle.node_session.proofs.Standing.{run_more, came_in, faulty_not, read_count}
 
 module _ {S : Type 0} (Step : S → Request → Reply → S → Type 0) where
-  run_append : (a b c : S) (ms ns : List Message) (rs qs : List Reply) → Run Step a ms rs b → Run Step b ns qs c → Run Step a (ms ++ ns) (rs ++ qs) c
-  run_append a b c [] ns [] qs p q = subst (λ (x : S). Run Step x ns qs c) p q
+  run_append : (a b c : S) (ms ns : List Message) (rs qs : List Reply) → AnswersInTurn Step a ms rs b → AnswersInTurn Step b ns qs c → AnswersInTurn Step a (ms ++ ns) (rs ++ qs) c
+  run_append a b c [] ns [] qs p q = subst (λ (x : S). AnswersInTurn Step x ns qs c) p q
   run_append a b c (m ∷ ms) ns (r ∷ rs) qs p q = (p.0, p.1, run_append p.0 b c ms ns rs qs p.2 q)
   run_append a b c [] ns (r ∷ rs) qs p q = absurd p
   run_append a b c (m ∷ ms) ns [] qs p q = absurd p
 
-  run_split : (a c : S) (ms ns : List Message) (rs qs : List Reply) → length ms ≡ length rs → Run Step a (ms ++ ns) (rs ++ qs) c → (b : S) × Run Step a ms rs b × Run Step b ns qs c
+  run_split : (a c : S) (ms ns : List Message) (rs qs : List Reply) → length ms ≡ length rs → AnswersInTurn Step a (ms ++ ns) (rs ++ qs) c → (b : S) × AnswersInTurn Step a ms rs b × AnswersInTurn Step b ns qs c
   run_split a c [] ns [] qs e p = (a, refl, p)
   run_split a c (m ∷ ms) ns (r ∷ rs) qs e p = let more = run_split p.0 c ms ns rs qs (omega (arith, e)) p.2 in (more.0, (p.0, p.1, more.1), more.2)
   run_split a c [] ns (r ∷ rs) qs e p = absurd (omega (arith, e))
@@ -74,9 +74,9 @@ module _ {S : Type 0} (Step : S → Request → Reply → S → Type 0) where
       let rs : replies_of (es ++ x ∷ []) ≡ replies_of es ++ x.reply ∷ [] = map-append (λ (y : Exchange). y.reply) es (x ∷ []) in
       record {
         last = one.0;
-        run = subst (λ (l : List Exchange). Run (StepAmid Step) first (messages_of l) (replies_of l) one.0) (sym is)
-            (subst (λ (l : List Message). Run (StepAmid Step) first l (replies_of (es ++ x ∷ [])) one.0) (sym ms)
-            (subst (λ (l : List Reply). Run (StepAmid Step) first (messages_of es ++ message_of x ∷ []) l one.0) (sym rs)
+        run = subst (λ (l : List Exchange). AnswersInTurn (StepAmid Step) first (messages_of l) (replies_of l) one.0) (sym is)
+            (subst (λ (l : List Message). AnswersInTurn (StepAmid Step) first l (replies_of (es ++ x ∷ [])) one.0) (sym ms)
+            (subst (λ (l : List Reply). AnswersInTurn (StepAmid Step) first (messages_of es ++ message_of x ∷ []) l one.0) (sym rs)
             (run_more (StepAmid Step) first p.last one.0 (messages_of es) (replies_of es) (message_of x) x.reply p.run one.1)));
         others = one.2;
       }
@@ -143,7 +143,7 @@ module _ (s : SessionView) (unfed : List ℕ) (put : List Exchange) (error : Lis
   behind_is inputs.PieceLost p = record { lost = []; listed = p.listed ∙ sym (append-nil put); few = omega (arith, ap length p.none); error_is = λ next e. absurd (no_error error p.none next e) }
 
 module _ {S R W : Type 0} (Step : S → Request → Reply → S → Type 0) (remaining : R → Option (List ℕ)) (contents : W → Option (List ℕ)) (c : ConnectionView R W) (first last : S)
-    (run : Run Step first (messages_of c.session.exchanges) (replies_of c.session.exchanges) last) (few : length c.session.input < 9223372036854775808) (read : IsRead c.session.input c.session.exchanges c.session.rest) where
+    (run : AnswersInTurn Step first (messages_of c.session.exchanges) (replies_of c.session.exchanges) last) (few : length c.session.input < 9223372036854775808) (read : IsRead c.session.input c.session.exchanges c.session.rest) where
   abbrev s : SessionView
   s = c.session
 
@@ -158,12 +158,12 @@ module _ {S R W : Type 0} (Step : S → Request → Reply → S → Type 0) (rem
 
   -- the replies to the first messages were written, and then this; the other messages were answered
   made : (front back : List Exchange) → s.exchanges ≡ front ++ back → (count : ℕ) → length front ≡ count → (behind : List ℕ) → Appends held held' (flat_map reply_frame (replies_of front) ++ behind) → (Ends : S → List ℕ → List ℕ → Type 0)
-      → ((mid : S) → Run Step mid (messages_of back) (replies_of back) last → All (IsWithin max_request_len) (messages_of back) → Ends mid (rest_behind back) behind) → Answered Step first (s.input ++ c.unfed) held held' count Ends
+      → ((mid : S) → AnswersInTurn Step mid (messages_of back) (replies_of back) last → All (IsWithin max_request_len) (messages_of back) → Ends mid (rest_behind back) behind) → AnsweredInput Step first (s.input ++ c.unfed) held held' count Ends
   made front back is count counted behind wrote Ends ends =
       let ms : messages_of s.exchanges ≡ messages_of front ++ messages_of back = ap messages_of is ∙ map-append message_of front back in
       let rs : replies_of s.exchanges ≡ replies_of front ++ replies_of back = ap replies_of is ∙ map-append (λ (y : Exchange). y.reply) front back in
       let len : length (messages_of front) ≡ length (replies_of front) = length-map front message_of ∙ sym (length-map front (λ (y : Exchange). y.reply)) in
-      let all = subst (λ (l : List Reply). Run Step first (messages_of front ++ messages_of back) l last) rs (subst (λ (l : List Message). Run Step first l (replies_of s.exchanges) last) ms run) in
+      let all = subst (λ (l : List Reply). AnswersInTurn Step first (messages_of front ++ messages_of back) l last) rs (subst (λ (l : List Message). AnswersInTurn Step first l (replies_of s.exchanges) last) ms run) in
       let parts = run_split Step first last (messages_of front) (messages_of back) (replies_of front) (replies_of back) len all in
       let each = All-same (IsWithin max_request_len) (messages_of front ++ messages_of back) (messages_of s.exchanges) (sym ms) read.each in
       let fs = flat_map frame (messages_of front) in
@@ -199,8 +199,8 @@ module _ {S R W : Type 0} (Step : S → Request → Reply → S → Type 0) (rem
 
     -- all that was due was written
     through : (lost : List Exchange) → s.exchanges ≡ put ++ lost → (Ends : S → List ℕ → List ℕ → Type 0)
-        → ((mid : S) → Run Step mid (messages_of lost) (replies_of lost) last → All (IsWithin max_request_len) (messages_of lost) → Ends mid (rest_behind lost) (flat_map reply_frame error))
-        → Answered Step first (s.input ++ c.unfed) held held' count Ends
+        → ((mid : S) → AnswersInTurn Step mid (messages_of lost) (replies_of lost) last → All (IsWithin max_request_len) (messages_of lost) → Ends mid (rest_behind lost) (flat_map reply_frame error))
+        → AnsweredInput Step first (s.input ++ c.unfed) held held' count Ends
     through lost is Ends ends =
         let wrote : t.carried.done ≡ flat_map reply_frame (replies_of put) ++ flat_map reply_frame error =
         sym (append-nil t.carried.done) ∙ ap (λ (l : List ℕ). t.carried.done ++ l) (sym t.sent) ∙ t.carried.splits ∙ flat_map-append reply_frame (replies_of put) error in
@@ -220,14 +220,14 @@ module _ {S R W : Type 0} (Step : S → Request → Reply → S → Type 0) (rem
     all_listed : AllPut s c.unfed put error → s.exchanges ≡ put ++ []
     all_listed p = p.listed ∙ sym (append-nil put)
 
-    at_end : (len : ℕ) → len ≡ length s.rest → IsPartial max_request_len s.rest × AllPut s c.unfed put error → Answered Step first (s.input ++ c.unfed) held held' count (IsEnd last len)
-    at_end len is p = through [] (all_listed p.1) (IsEnd last len) (λ mid same each. record { through = all_answered mid same p.0 p.1; left = ap length (rest_fed p.1.fed) ∙ sym is })
+    at_end : (len : ℕ) → len ≡ length s.rest → IsPartial max_request_len s.rest × AllPut s c.unfed put error → AnsweredInput Step first (s.input ++ c.unfed) held held' count (IsInputEnd last len)
+    at_end len is p = through [] (all_listed p.1) (IsInputEnd last len) (λ mid same each. record { through = all_answered mid same p.0 p.1; left = ap length (rest_fed p.1.fed) ∙ sym is })
 
-    at_failed : IsPartial max_request_len s.rest × AllPut s c.unfed put error → Answered Step first (s.input ++ c.unfed) held held' count (AllAnswered last)
+    at_failed : IsPartial max_request_len s.rest × AllPut s c.unfed put error → AnsweredInput Step first (s.input ++ c.unfed) held held' count (AllAnswered last)
     at_failed p = through [] (all_listed p.1) (AllAnswered last) (λ mid same each. all_answered mid same p.0 p.1)
 
-    at_bad : AtBadFrame s c.unfed put error → Answered Step first (s.input ++ c.unfed) held held' count (AtLastRead (IsBad last))
-    at_bad p = through [] (p.listed ∙ sym (append-nil put)) (AtLastRead (IsBad last)) (λ mid same each. (
+    at_bad : AtBadFrame s c.unfed put error → AnsweredInput Step first (s.input ++ c.unfed) held held' count (AtLastRead (IsBadLengthTold last))
+    at_bad p = through [] (p.listed ∙ sym (append-nil put)) (AtLastRead (IsBadLengthTold last)) (λ mid same each. (
       subst CameInLastRead (sym (rest_fed p.fed)) (came_in s.rest read.last (faulty_not s.rest p.bad p.faulty)),
       record {
         fault = p.bad;
@@ -237,13 +237,13 @@ module _ {S R W : Type 0} (Step : S → Request → Reply → S → Type 0) (rem
       },
     ))
 
-    at_lost_reply : AtLostReply s c.unfed put error → Answered Step first (s.input ++ c.unfed) held held' count (AtLastRead (IsOutOfMemory Step last))
+    at_lost_reply : AtLostReply s c.unfed put error → AnsweredInput Step first (s.input ++ c.unfed) held held' count (AtLastRead (IsMemoryRefused Step last))
     at_lost_reply p =
         let x = p.exchange in
         let f = frame (message_of x) in
         let more = s.rest ++ c.unfed in
         let whole : rest_behind (x ∷ []) ≡ f ++ more = ap (λ (l : List ℕ). l ++ more) (append-nil f) in
-        through (x ∷ []) p.listed (AtLastRead (IsOutOfMemory Step last)) (λ mid one each. (
+        through (x ∷ []) p.listed (AtLastRead (IsMemoryRefused Step last)) (λ mid one each. (
           subst CameInLastRead (sym (whole ∙ ap (λ (l : List ℕ). f ++ l) (rest_fed p.fed))) p.came,
           inl (record {
             nothing = nothing_behind p.none;
@@ -261,8 +261,8 @@ module _ {S R W : Type 0} (Step : S → Request → Reply → S → Type 0) (rem
           }),
         ))
 
-    at_lost_piece : AtLostPiece s c.unfed put error → Answered Step first (s.input ++ c.unfed) held held' count (AtLastRead (IsOutOfMemory Step last))
-    at_lost_piece p = through [] (p.listed ∙ sym (append-nil put)) (AtLastRead (IsOutOfMemory Step last)) (λ mid same each. (
+    at_lost_piece : AtLostPiece s c.unfed put error → AnsweredInput Step first (s.input ++ c.unfed) held held' count (AtLastRead (IsMemoryRefused Step last))
+    at_lost_piece p = through [] (p.listed ∙ sym (append-nil put)) (AtLastRead (IsMemoryRefused Step last)) (λ mid same each. (
       record { before = s.rest; piece = c.unfed; splits = refl; some = p.some; bound = p.few; partial = p.partial },
       inr (record { node = same; nothing = nothing_behind p.none }),
     ))
@@ -270,7 +270,7 @@ module _ {S R W : Type 0} (Step : S → Request → Reply → S → Type 0) (rem
     abbrev stands_at : (i : Input) → c.input ≡ i → InputIs i s c.unfed put error
     stands_at i is = subst (λ (k : Input). InputIs k s c.unfed put error) is t.carried.stands
 
-    out_of_memory : (c.input ≡ inputs.ReplyLost) ⊎ (c.input ≡ inputs.PieceLost) → Answered Step first (s.input ++ c.unfed) held held' count (AtLastRead (IsOutOfMemory Step last))
+    out_of_memory : (c.input ≡ inputs.ReplyLost) ⊎ (c.input ≡ inputs.PieceLost) → AnsweredInput Step first (s.input ++ c.unfed) held held' count (AtLastRead (IsMemoryRefused Step last))
     out_of_memory (inl is) = at_lost_reply (stands_at inputs.ReplyLost is)
     out_of_memory (inr is) = at_lost_piece (stands_at inputs.PieceLost is)
 
@@ -283,7 +283,7 @@ module _ {S R W : Type 0} (Step : S → Request → Reply → S → Type 0) (rem
       let bad = error_is next d.1 in
       subst (λ (l : List Exchange). IsDueNext Step (replies_of (l ++ lost)) (s.rest ++ unfed) next) (sym d.0) (subst (λ (l : List Exchange). IsDueNext Step (replies_of l) (s.rest ++ unfed) next) (sym bad.0) bad.1)
 
-  broken : (count : ℕ) → IsBroken remaining contents c count → Answered Step first (s.input ++ c.unfed) held held' count (SentInPart Step last)
+  broken : (count : ℕ) → IsBroken remaining contents c count → AnsweredInput Step first (s.input ++ c.unfed) held held' count (SentInPart Step last)
   broken count b =
       let p = b.carried in
       let cut = b.cut in
@@ -310,7 +310,7 @@ module _ {S R W : Type 0} (Step : S → Request → Reply → S → Type 0) (rem
         begins = refl;
       })
 
-  pub outcome_ends : (outcome : Result Ended SessionFault) → IsOutcome remaining contents c outcome → ConnectionEnds Step first last (s.input ++ c.unfed) held held' outcome
+  pub outcome_ends : (outcome : Result Ended SessionFault) → IsConnectionOutcome remaining contents c outcome → ConnectionEnds Step first last (s.input ++ c.unfed) held held' outcome
   outcome_ends (Ok end) p = at_end end.replies p.2 end.rest p.1 (stands_at end.replies p.2 inputs.Ended p.0)
   outcome_ends (Err (faults.ReadFailed n)) p = at_failed n p.1 (stands_at n p.1 inputs.Failed p.0)
   outcome_ends (Err (faults.WriteFailed n)) p = broken n p
@@ -319,7 +319,7 @@ module _ {S R W : Type 0} (Step : S → Request → Reply → S → Type 0) (rem
   outcome_ends (Err (faults.NoMemory n)) p = out_of_memory n p.1 p.0
 
 module _ {S R W : Type 0} (Step : S → Request → Reply → S → Type 0) (remaining : R → Option (List ℕ)) (contents : W → Option (List ℕ)) (c : ConnectionView R W) (first now : S) (few : length c.session.input < 9223372036854775808) (p : AnsweredAmid Step first now c.session.exchanges) where
-  ends_so : (outcome : Result Ended SessionFault) → IsRead c.session.input c.session.exchanges c.session.rest → Consumes (remaining c.first_reader) (remaining c.reader) (c.session.input ++ c.unfed) → IsOutcome remaining contents c outcome
+  ends_so : (outcome : Result Ended SessionFault) → IsRead c.session.input c.session.exchanges c.session.rest → Consumes (remaining c.first_reader) (remaining c.reader) (c.session.input ++ c.unfed) → IsConnectionOutcome remaining contents c outcome
       → EndsAmid Step remaining contents first now c outcome
   ends_so outcome read came is = record {
     input = c.session.input ++ c.unfed;
@@ -329,7 +329,7 @@ module _ {S R W : Type 0} (Step : S → Request → Reply → S → Type 0) (rem
     others = p.others;
   }
 
-  pub ends_amid : (outcome : Result Ended SessionFault) → IsOutcome remaining contents c outcome → EndsAmid Step remaining contents first now c outcome
+  pub ends_amid : (outcome : Result Ended SessionFault) → IsConnectionOutcome remaining contents c outcome → EndsAmid Step remaining contents first now c outcome
   ends_amid (Ok end) is = ends_so (Ok end) is.2.read is.2.carried.read is
   ends_amid (Err (faults.ReadFailed n)) is = ends_so (Err (faults.ReadFailed n)) is.1.read is.1.carried.read is
   ends_amid (Err (faults.WriteFailed n)) is = ends_so (Err (faults.WriteFailed n)) is.read is.carried.read is

@@ -7,9 +7,9 @@ use Rattle.riak_msgs.specs.declared.Request.{Request}
 use Rattle.riak_msgs.specs.declared.Reply.{Reply}
 use Rattle.node_session.specs.declared.fault.SessionFault.{SessionFault}
 use Rattle.node_session.specs.declared.fault.SessionFault.TheVariants.{ReadFailed, WriteFailed, BadFrame, TooManyReads, NoMemory}
-use Rattle.node_session.specs.Answers.{AnswersRead, Run}
-use Rattle.node_session.specs.Answered.{Answered, AllAnswered, NextReply, IsError, IsBad, WriteFailedAt, IsOutOfMemory, AtLastRead}
-use Rattle.node_session.specs.Session.{IsEnd, Stops}
+use Rattle.node_session.specs.Answers.{AnswersRead, AnswersInTurn}
+use Rattle.node_session.specs.Answered.{AnsweredInput, AllAnswered, NextReply, IsError, IsBadLengthTold, WriteFailedAt, IsMemoryRefused, AtLastRead}
+use Rattle.node_session.specs.Session.{IsInputEnd, Stops}
 
 module _ {S : Type 0} (Step : S → Request → Reply → S → Type 0) (Holds : S → Type 0)
     (back : (old : S) (request : Request) (reply : Reply) (new : S) → Step old request reply new → Holds new → Holds old) where
@@ -30,13 +30,13 @@ module _ {S : Type 0} (Step : S → Request → Reply → S → Type 0) (Holds :
   read_in old (Ok request) reply new (inr stays) held = inr stays
   read_in old (Err fault) reply new stays held = stays
 
-  run_held : (old : S) (messages : List Message) (replies : List Reply) (new : S) → Run Step old messages replies new → Holds new → Holds old
+  run_held : (old : S) (messages : List Message) (replies : List Reply) (new : S) → AnswersInTurn Step old messages replies new → Holds new → Holds old
   run_held old [] [] new run held = same_held old new run held
   run_held old [] (reply ∷ replies) new run held = absurd run
   run_held old (message ∷ messages) [] new run held = absurd run
   run_held old (message ∷ messages) (reply ∷ replies) new run held = read_held old run.1.said reply run.0 run.1.answers (run_held run.0 messages replies new run.2 held)
 
-  pub run_in : (old : S) (messages : List Message) (replies : List Reply) (new : S) → Run Step old messages replies new → Holds new → Run Held old messages replies new
+  pub run_in : (old : S) (messages : List Message) (replies : List Reply) (new : S) → AnswersInTurn Step old messages replies new → Holds new → AnswersInTurn Held old messages replies new
   run_in old [] [] new run held = run
   run_in old [] (reply ∷ replies) new run held = absurd run
   run_in old (message ∷ messages) [] new run held = absurd run
@@ -79,18 +79,18 @@ module _ {S : Type 0} (Step : S → Request → Reply → S → Type 0) (Holds :
   write_held new mid rest last (inl h) held = due_held mid rest h.1.next new h.1.due held
   write_held new mid rest last (inr h) held = same_held mid new h.node held
 
-  memory_in : (new mid : S) (rest last : List ℕ) → IsOutOfMemory Step new mid rest last → Holds new → IsOutOfMemory Held new mid rest last
+  memory_in : (new mid : S) (rest last : List ℕ) → IsMemoryRefused Step new mid rest last → Holds new → IsMemoryRefused Held new mid rest last
   unfolding next_in
   memory_in new mid rest last (inl h) held = inl (record { nothing = h.nothing; next = h.next; due = next_in mid rest h.next new h.due held; no_error = h.no_error })
   memory_in new mid rest last (inr h) held = inr h
 
-  memory_held : (new mid : S) (rest last : List ℕ) → IsOutOfMemory Step new mid rest last → Holds new → Holds mid
+  memory_held : (new mid : S) (rest last : List ℕ) → IsMemoryRefused Step new mid rest last → Holds new → Holds mid
   memory_held new mid rest last (inl h) held = next_held mid rest h.next new h.due held
   memory_held new mid rest last (inr h) held = same_held mid new h.node held
 
   -- the messages before it
-  answered_in : (old : S) (input : List ℕ) (wrote wrote' : Option (List ℕ)) (count : ℕ) (Ends Ends' : S → List ℕ → List ℕ → Type 0) → (h : Answered Step old input wrote wrote' count Ends) → Holds h.mid → Ends' h.mid h.rest h.last
-      → Answered Held old input wrote wrote' count Ends'
+  answered_in : (old : S) (input : List ℕ) (wrote wrote' : Option (List ℕ)) (count : ℕ) (Ends Ends' : S → List ℕ → List ℕ → Type 0) → (h : AnsweredInput Step old input wrote wrote' count Ends) → Holds h.mid → Ends' h.mid h.rest h.last
+      → AnsweredInput Held old input wrote wrote' count Ends'
   answered_in old input wrote wrote' count Ends Ends' h held ends =
       record {
         messages = h.messages;
@@ -106,16 +106,16 @@ module _ {S : Type 0} (Step : S → Request → Reply → S → Type 0) (Holds :
         ends = ends;
       }
 
-  pub end_in : (old new : S) (input : List ℕ) (wrote wrote' : Option (List ℕ)) (count len : ℕ) → Answered Step old input wrote wrote' count (IsEnd new len) → Holds new → Answered Held old input wrote wrote' count (IsEnd new len)
-  end_in old new input wrote wrote' count len h held = answered_in old input wrote wrote' count (IsEnd new len) (IsEnd new len) h (same_held h.mid new h.ends.through.node held) h.ends
+  pub end_in : (old new : S) (input : List ℕ) (wrote wrote' : Option (List ℕ)) (count len : ℕ) → AnsweredInput Step old input wrote wrote' count (IsInputEnd new len) → Holds new → AnsweredInput Held old input wrote wrote' count (IsInputEnd new len)
+  end_in old new input wrote wrote' count len h held = answered_in old input wrote wrote' count (IsInputEnd new len) (IsInputEnd new len) h (same_held h.mid new h.ends.through.node held) h.ends
 
   pub stops_in : (old new : S) (input : List ℕ) (wrote wrote' : Option (List ℕ)) (fault : SessionFault) → Stops Step old new input wrote wrote' fault → Holds new → Stops Held old new input wrote wrote' fault
   stops_in old new input wrote wrote' (ReadFailed count) h held = answered_in old input wrote wrote' count (AllAnswered new) (AllAnswered new) h (same_held h.mid new h.ends.node held) h.ends
   stops_in old new input wrote wrote' (WriteFailed count) h held =
       answered_in old input wrote wrote' count (WriteFailedAt Step new) (WriteFailedAt Held new) h (write_held new h.mid h.rest h.last h.ends held) (write_in new h.mid h.rest h.last h.ends held)
   stops_in old new input wrote wrote' (BadFrame count) h held =
-      answered_in old input wrote wrote' count (AtLastRead (IsBad new)) (AtLastRead (IsBad new)) h (same_held h.mid new h.ends.1.node held) h.ends
+      answered_in old input wrote wrote' count (AtLastRead (IsBadLengthTold new)) (AtLastRead (IsBadLengthTold new)) h (same_held h.mid new h.ends.1.node held) h.ends
   stops_in old new input wrote wrote' (TooManyReads count) h held = answered_in old input wrote wrote' count (AllAnswered new) (AllAnswered new) h (same_held h.mid new h.ends.node held) h.ends
   stops_in old new input wrote wrote' (NoMemory count) h held =
-      answered_in old input wrote wrote' count (AtLastRead (IsOutOfMemory Step new)) (AtLastRead (IsOutOfMemory Held new)) h (memory_held new h.mid h.rest h.last h.ends.1 held)
+      answered_in old input wrote wrote' count (AtLastRead (IsMemoryRefused Step new)) (AtLastRead (IsMemoryRefused Held new)) h (memory_held new h.mid h.rest h.last h.ends.1 held)
       (h.ends.0, memory_in new h.mid h.rest h.last h.ends.1 held)

@@ -16,7 +16,7 @@ use Rattle.vnode_machine.proofs.RunLaw.{run_is_played}
 use Rattle.vnode_machine.proofs.Tests.{nat_eq-refl}
 use Rattle.node_session.specs.ByIndex.{AnswersAsk}
 use Rattle.node_session.specs.Registers.{Histories, AreAfter}
-use Rattle.node_session.specs.SessionLaws.{IsRun}
+use Rattle.node_session.specs.SessionLaws.{IsRunNumber}
 
 -- another history at one index
 abbrev changed_at : Histories → ℕ → History → Histories
@@ -36,7 +36,7 @@ pub each_legal : (run : ℕ) (vnodes : (index : ℕ) → State Content) (histori
 each_legal run vnodes histories each =
     record { after = each; legal = λ index. replay_is_legal (id_of run index) 0 (histories index) (each index).replays }
 
-module _ (run : ℕ) (is : IsRun run) where
+module _ (run : ℕ) (is : IsRunNumber run) where
   pub limits : (index : ℕ) → index < 65536 → IsWithinLimits (id_of run index) 0
   limits index inside = (omega (arith, is.1, inside), omega arith)
 

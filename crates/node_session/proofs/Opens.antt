@@ -5,7 +5,7 @@ use Rattle.riak_msgs.specs.declared.Key.{Key}
 use Rattle.riak_msgs.specs.Contents.{Content}
 use Rattle.vnode_machine.specs.Machine.{State}
 use Rattle.vnode_machine.specs.Dead.{dead_keys, reaped, reaped_each, swept}
-use Rattle.vnode_protocol.specs.Plans.{View}
+use Rattle.vnode_core.specs.Plans.{View}
 use Rattle.node_session.specs.PlainNodes.{AreOpen}
 
 pub open-set : (vnodes : List View) (i : ℕ) (vnode : View) → AreOpen vnodes → vnode.state.closed ≡ None → AreOpen (set vnodes i vnode)

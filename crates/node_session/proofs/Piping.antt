@@ -3,16 +3,16 @@ use Rattle.std.proofs.Common.{◌≡◌, ℕ, List, Option, Result, Ok, Err, ref
 use Rattle.std.specs.Prelude.{◌⊎◌, IfOk, IfErr}
 use Rattle.node_session.specs.declared.ended.Ended.{Ended}
 use Rattle.node_session.specs.declared.fault.SessionFault.{SessionFault}
-use Rattle.node_session.specs.Answered.{Answered}
-use Rattle.node_session.specs.Session.{Given, IsEnd, Stops}
-use Rattle.node_session.specs.PlainNodes.{NodeState, PlainStep, IsNew}
-use Rattle.node_session.specs.SessionLaws.{IsRun}
+use Rattle.node_session.specs.Answered.{AnsweredInput}
+use Rattle.node_session.specs.Session.{Given, IsInputEnd, Stops}
+use Rattle.node_session.specs.PlainNodes.{NodeState, PlainStep, IsNewNode}
+use Rattle.node_session.specs.SessionLaws.{IsRunNumber}
 use Rattle.node_session.specs.Pipes.{PipeEnds, PipeStops, IsNotBegun}
 use Rattle.node_session.proofs.RegisterLaw.{ends_are_registers, stops_are_registers}
 
-module _ (run index_bits budget : ℕ) (is : IsRun run) (unread unread' held held' : Option (List ℕ)) (reads : ℕ) (first node : NodeState) (new : IsNew run index_bits budget first) where
+module _ (run index_bits budget : ℕ) (is : IsRunNumber run) (unread unread' held held' : Option (List ℕ)) (reads : ℕ) (first node : NodeState) (new : IsNewNode run index_bits budget first) where
   pub pipe_ended : (r : Result Ended SessionFault)
-      → IfOk r (λ e. Given unread unread' reads (λ input. Answered PlainStep first input held held' e.replies (IsEnd node e.rest)))
+      → IfOk r (λ e. Given unread unread' reads (λ input. AnsweredInput PlainStep first input held held' e.replies (IsInputEnd node e.rest)))
       → IfOk r (λ e. Given unread unread' reads (λ input. PipeEnds run index_bits budget input held held' e.replies e.rest))
   pipe_ended (Ok e) p = record {
     input = p.input;
@@ -34,6 +34,6 @@ module _ (run index_bits budget : ℕ) (is : IsRun run) (unread unread' held hel
   })
 
 -- a new node is as new with another budget
-pub with_sweeps : (run index_bits budget : ℕ) (first node : NodeState) → IsNew run index_bits 0 first → node ≡ record first { budget = budget } → IsNew run index_bits budget node
+pub with_sweeps : (run index_bits budget : ℕ) (first node : NodeState) → IsNewNode run index_bits 0 first → node ≡ record first { budget = budget } → IsNewNode run index_bits budget node
 with_sweeps run index_bits budget first node new is =
-    subst (IsNew run index_bits budget) (sym is) (record { bits = new.bits; sweeps = refl; vnodes = new.vnodes; bound = new.bound })
+    subst (IsNewNode run index_bits budget) (sym is) (record { bits = new.bits; sweeps = refl; vnodes = new.vnodes; bound = new.bound })

@@ -11,7 +11,7 @@ use Rattle.pb_frame.proofs.Headers.{given_length-frame, length-frame}
 use Rattle.riak_msgs.specs.declared.reply.Reply.{Reply}
 use Rattle.riak_msgs.specs.Replies.{reply_code, reply_body}
 use Rattle.node_session.specs.Answers.{reply_frame, IsFramed}
-use Rattle.node_session.specs.Progress.{SentFrames, IsCut, CutShort}
+use Rattle.node_session.specs.Progress.{SentFrames, IsReplyCut, CutShort}
 
 -- the first four bytes are the number that a list begins with; behind its end stand zeros
 first_four : (ys : List ℕ) → from_be_bytes w32 (get_or ys 0 0 ∷ get_or ys 1 0 ∷ get_or ys 2 0 ∷ get_or ys 3 0 ∷ []) ≡ given_length ys
@@ -117,7 +117,7 @@ module _ (due : List Reply) (done unsent : List ℕ) (n : ℕ) where
     counted = p.counted;
   }
     where
-      reached : (left ≡ 0) ⊎ IsCut p.begun left → (left ≡ 0) ⊎ IsReached p.begun n left
+      reached : (left ≡ 0) ⊎ IsReplyCut p.begun left → (left ≡ 0) ⊎ IsReached p.begun n left
       reached (inl none) = inl none
       reached (inr c) = let some = c.some in inr (record { whole = c.whole; last = c.last; are = c.are; some = omega (arith, some) })
 
@@ -173,7 +173,7 @@ module _ (due : List Reply) (done unsent : List ℕ) (n : ℕ) where
         counted = p.counted;
       }
     where
-      cut : (end ≡ 0) ⊎ IsReached p.begun n end → (left ≡ 0) ⊎ IsCut p.begun left
+      cut : (end ≡ 0) ⊎ IsReached p.begun n end → (left ≡ 0) ⊎ IsReplyCut p.begun left
       cut (inl none) = absurd (omega (arith, none, some, le))
       cut (inr c) = let short = c.some in inr (record { whole = c.whole; last = c.last; are = c.are; some = omega (arith, short, is, le) })
 
@@ -197,7 +197,7 @@ nothing [] e = refl
 nothing (x ∷ xs) e = absurd (omega (arith, e))
 
 -- the last frame that was begun didn't end
-within : (due : List Reply) (done unsent : List ℕ) (count left total : ℕ) (p : SentFrames due done unsent total left) → 0 < left → count ≡ total - 1 → (left ≡ 0) ⊎ IsCut p.begun left → CutShort due done count
+within : (due : List Reply) (done unsent : List ℕ) (count left total : ℕ) (p : SentFrames due done unsent total left) → 0 < left → count ≡ total - 1 → (left ≡ 0) ⊎ IsReplyCut p.begun left → CutShort due done count
 within due done unsent count left total p some is (inl none) = absurd (omega (arith, none, some))
 within due done unsent count left total p some is (inr c) =
     let f = reply_frame c.last in

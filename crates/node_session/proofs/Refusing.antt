@@ -9,18 +9,18 @@ use Rattle.sibling_register.specs.History.{Operation}
 use Rattle.vnode_machine.specs.Asks.{put_command, del_command}
 use Rattle.vnode_machine.specs.Machine.{State}
 use Rattle.vnode_machine.specs.Step.{Response, StepOutcome, Refused, Answered, Accepted, DelDone, outcome, unless_refused}
-use Rattle.vnode_protocol.specs.declared.ask.Ask.{Ask}
-use Rattle.vnode_protocol.specs.declared.ask.Ask.TheVariants.{Put, Del, Reap, ReapFirst, Copy, Close}
-use Rattle.vnode_protocol.specs.declared.ask.Answer.{Answer}
-use Rattle.vnode_protocol.specs.declared.refusal.Refusal.{Refusal}
-use Rattle.vnode_protocol.specs.declared.refusal.Refusal.TheVariants.{NoMemory}
-use Rattle.vnode_protocol.specs.Plans.{IsAccepted, IsWrite, IsAnswered, Refuses, Steps}
-use Rattle.vnode_protocol.specs.Refusals.{number_of}
+use Rattle.vnode_core.specs.declared.ask.Ask.{Ask}
+use Rattle.vnode_core.specs.declared.ask.Ask.TheVariants.{Put, Del, Reap, ReapFirst, Copy, Close}
+use Rattle.vnode_core.specs.declared.ask.Answer.{Answer}
+use Rattle.vnode_core.specs.declared.refusal.Refusal.{Refusal}
+use Rattle.vnode_core.specs.declared.refusal.Refusal.TheVariants.{NoMemory}
+use Rattle.vnode_core.specs.Plans.{IsAcceptedStep, IsWrite, IsAnsweredUnchanged, Refuses, Steps}
+use Rattle.vnode_core.specs.Refusals.{number_of}
 use Rattle.sibling_register.specs.Refusals.{refusal_text}
 use Rattle.node_session.specs.PlainStep.{StepsBy, StepsByWrite, answer_reply}
 
 -- what the machine accepts may be refused memory
-gives_up : (state new : State Content) (o : StepOutcome) → IsAccepted o → new ≡ state → StepsBy state o (Error (refusal_text (number_of NoMemory))) new
+gives_up : (state new : State Content) (o : StepOutcome) → IsAcceptedStep o → new ≡ state → StepsBy state o (Error (refusal_text (number_of NoMemory))) new
 gives_up state new (Accepted operation response next) is same = inr (refl, same)
 gives_up state new (Refused number) is same = elim is [ ]
 gives_up state new (Answered response) is same = elim is [ ]
@@ -60,7 +60,7 @@ module _ (state new : State Content) where
   made (Close number) write answer step = tt
 
   -- one that changes nothing, of a vnode that isn't closed
-  pub told : state.closed ≡ None → (ask : Ask) → IsWrite ask → new ≡ state → (answer : Answer) → IsAnswered state ask answer → StepsByWrite state ask (answer_reply answer) new
+  pub told : state.closed ≡ None → (ask : Ask) → IsWrite ask → new ≡ state → (answer : Answer) → IsAnsweredUnchanged state ask answer → StepsByWrite state ask (answer_reply answer) new
   told opened ask write same answer (inr (closed, is)) = absurd (no_some state.closed closed opened)
   told opened (Put put) write same answer (inl (open_now, h)) = absurd h
   told opened (Del del) write same answer (inl (open_now, (is, step))) =

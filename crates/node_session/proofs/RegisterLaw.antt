@@ -19,14 +19,14 @@ use Rattle.vnode_machine.specs.Registers.{key_of}
 use Rattle.vnode_machine.specs.Dead.{swept}
 use Rattle.vnode_machine.proofs.RunLaw.{run_is_played}
 use Rattle.vnode_machine.specs.Runs.{Turn, TakesTurn, TakesEach, AnswersTurn, reply_of as result_of, state_after_step}
-use Rattle.node_session.specs.Answers.{Run}
-use Rattle.node_session.specs.Answered.{Answered as Output}
-use Rattle.node_session.specs.Session.{IsEnd, Stops}
+use Rattle.node_session.specs.Answers.{AnswersInTurn}
+use Rattle.node_session.specs.Answered.{AnsweredInput as Output}
+use Rattle.node_session.specs.Session.{IsInputEnd, Stops}
 use Rattle.node_session.specs.PlainStep.{StepsBy, reply_of}
-use Rattle.node_session.specs.PlainNodes.{NodeState, PlainStep, AnswersAt, AnswersByKey, IsNew, partition_of, vnode_at}
+use Rattle.node_session.specs.PlainNodes.{NodeState, PlainStep, AnswersAt, AnswersByKey, IsNewNode, partition_of, vnode_at}
 use Rattle.node_session.specs.ByIndex.{IsReap, AnswersAsk}
 use Rattle.node_session.specs.Registers.{Histories, no_events}
-use Rattle.node_session.specs.SessionLaws.{IsRun, RingRegister, OfHistories, RunsAreRegisters, EndsAreRegisters, StopsAreRegisters}
+use Rattle.node_session.specs.SessionLaws.{IsRunNumber, RingRegister, OfHistories, RunsAreRegisters, EndsAreRegisters, StopsAreRegisters}
 use Rattle.node_session.proofs.Histories.{EachAfter, each_legal, ask_followed, limits}
 use Rattle.node_session.proofs.Sweeping.{sweep_taken}
 use Rattle.node_session.proofs.Simulating.{run_like, end_like, stops_like}
@@ -83,7 +83,7 @@ module _ (run index : ℕ) (old new : NodeState) (ask : Ask Content Context) (re
   answered_bits : new.index_bits ≡ old.index_bits
   answered_bits = ap (λ (node : NodeState). node.index_bits) step.new
 
-module _ (run index_bits budget : ℕ) (is : IsRun run) (bound : 2 ^ index_bits ≤ 1024) where
+module _ (run index_bits budget : ℕ) (is : IsRunNumber run) (bound : 2 ^ index_bits ≤ 1024) where
   -- the node is of the ring and has the budget, and its vnodes are after these histories
   record IsLike (node : NodeState) (histories : Histories) : Type 0 where
     bits : node.index_bits ≡ index_bits
@@ -91,7 +91,7 @@ module _ (run index_bits budget : ℕ) (is : IsRun run) (bound : 2 ^ index_bits 
     size : length node.vnodes ≡ 2 ^ index_bits
     each : EachAfter run (vnode_at run node) histories
 
-  opens : (first : NodeState) → IsNew run index_bits budget first → IsLike first no_events
+  opens : (first : NodeState) → IsNewNode run index_bits budget first → IsLike first no_events
   opens first new = record {
     bits = new.bits;
     sweeps = new.sweeps;
@@ -178,16 +178,16 @@ module _ (run index_bits budget : ℕ) (is : IsRun run) (bound : 2 ^ index_bits 
   of_histories node Holds (histories, like, holds) =
       record { histories = histories; are = each_legal run (vnode_at run node) histories like.each; holds = holds }
 
-module _ (run index_bits budget : ℕ) (is : IsRun run) where
+module _ (run index_bits budget : ℕ) (is : IsRunNumber run) where
   pub runs_are_registers : RunsAreRegisters run index_bits budget
   runs_are_registers first node new messages replies answered =
-      of_histories run index_bits budget is new.bound node (λ histories. Run (RingRegister run index_bits budget) no_events messages replies histories)
+      of_histories run index_bits budget is new.bound node (λ histories. AnswersInTurn (RingRegister run index_bits budget) no_events messages replies histories)
       (run_like PlainStep (RingRegister run index_bits budget) (IsLike run index_bits budget is new.bound) (node_like run index_bits budget is new.bound) first node no_events messages replies
       (opens run index_bits budget is new.bound first new) answered)
 
   pub ends_are_registers : EndsAreRegisters run index_bits budget
   ends_are_registers first node new input held held' count len answered =
-      of_histories run index_bits budget is new.bound node (λ histories. Output (RingRegister run index_bits budget) no_events input held held' count (IsEnd histories len))
+      of_histories run index_bits budget is new.bound node (λ histories. Output (RingRegister run index_bits budget) no_events input held held' count (IsInputEnd histories len))
       (end_like PlainStep (RingRegister run index_bits budget) (IsLike run index_bits budget is new.bound) (node_like run index_bits budget is new.bound) first node no_events input held held' count len
       (opens run index_bits budget is new.bound first new) answered)
 

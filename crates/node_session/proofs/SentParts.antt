@@ -5,7 +5,7 @@ use Rattle.std.proofs.KnownBytes.{Appends-trans, Appends-nil, Appends-kept}
 use Rattle.std.proofs.lemmas.List.{take-append-le, take-append-drop, length-drop}
 use Rattle.std.proofs.lemmas.Bool.{false≢true}
 use Rattle.std.proofs.Math.Seq.{take-append_seam}
-use Rattle.node_session.specs.Sending.{IsCutShort}
+use Rattle.node_session.specs.Sending.{IsWriteCutShort}
 use Rattle.node_session.specs.Unsent.{IsFront}
 use Rattle.node_session.specs.Views.{SessionView}
 
@@ -55,7 +55,7 @@ all_sent a b old new front p is none =
     nothing (x ∷ xs) e = absurd (omega (arith, e))
 
 -- some is left
-pub sent_short : (a b c : Option (List ℕ)) (old new : SessionView) → SentPart a b old new → 0 < length new.unsent → Keeps b c → IsCutShort a c old.unsent
+pub sent_short : (a b c : Option (List ℕ)) (old new : SessionView) → SentPart a b old new → 0 < length new.unsent → Keeps b c → IsWriteCutShort a c old.unsent
 sent_short a b c old new p some kept =
     let all : length old.unsent ≡ length p.done + length new.unsent = ap length p.splits ∙ length-append p.done new.unsent in
     record {

@@ -6,9 +6,9 @@ use Rattle.riak_msgs.specs.declared.Request.{Request}
 use Rattle.riak_msgs.specs.declared.Reply.{Reply}
 use Rattle.node_session.specs.declared.fault.SessionFault.{SessionFault}
 use Rattle.node_session.specs.declared.fault.SessionFault.TheVariants as faults
-use Rattle.node_session.specs.Answers.{Answers, AnswersRead, Run}
-use Rattle.node_session.specs.Answered.{Answered, AllAnswered, NextReply, IsBad, PartlyWritten, ReplyNotWritten, WriteFailedAt, Unanswered, IsOutOfMemory, AtLastRead}
-use Rattle.node_session.specs.Session.{IsEnd, Stops}
+use Rattle.node_session.specs.Answers.{Answers, AnswersRead, AnswersInTurn}
+use Rattle.node_session.specs.Answered.{AnsweredInput, AllAnswered, NextReply, IsBadLengthTold, PartlyWritten, ReplyNotWritten, WriteFailedAt, Unanswered, IsMemoryRefused, AtLastRead}
+use Rattle.node_session.specs.Session.{IsInputEnd, Stops}
 
 module _ {S T : Type 0} (Step : S → Request → Reply → S → Type 0) (Step' : T → Request → Reply → T → Type 0) (Like : S → T → Type 0)
     (step : (s s' : S) (t : T) (request : Request) (reply : Reply) → Like s t → Step s request reply s' → (t' : T) × Like s' t' × Step' t request reply t') where
@@ -25,7 +25,7 @@ module _ {S T : Type 0} (Step : S → Request → Reply → S → Type 0) (Step'
       let next = read_like s s' t a.said reply like a.answers in
       (next.0, next.1, record { said = a.said; says = a.says; answers = next.2 })
 
-  pub run_like : (s s' : S) (t : T) (ms : List Message) (rs : List Reply) → Like s t → Run Step s ms rs s' → (t' : T) × Like s' t' × Run Step' t ms rs t'
+  pub run_like : (s s' : S) (t : T) (ms : List Message) (rs : List Reply) → Like s t → AnswersInTurn Step s ms rs s' → (t' : T) × Like s' t' × AnswersInTurn Step' t ms rs t'
   run_like s s' t [] [] like e = (t, subst (λ (x : S). Like x t) (sym e) like, refl)
   run_like s s' t (m ∷ ms) (r ∷ rs) like (mid, first, rest) =
       let one = answers_like s mid t m r like first in
@@ -40,7 +40,7 @@ module _ {S T : Type 0} (Step : S → Request → Reply → S → Type 0) (Step'
     Ending Ends Ends' = (mid : S) (t' : T) (rest last : List ℕ) → Like mid t' → Ends s' mid rest last → (u : T) × Like s' u × Ends' u t' rest last
 
     answered_like : (Ends : S → S → List ℕ → List ℕ → Type 0) (Ends' : T → T → List ℕ → List ℕ → Type 0) → Ending Ends Ends'
-        → Answered Step s input held held' count (Ends s') → (u : T) × Like s' u × Answered Step' t input held held' count (Ends' u)
+        → AnsweredInput Step s input held held' count (Ends s') → (u : T) × Like s' u × AnsweredInput Step' t input held held' count (Ends' u)
     answered_like Ends Ends' ending a =
         let run = run_like s a.mid t a.messages a.replies like a.run in
         let end = ending a.mid run.0 a.rest a.last run.1 a.ends in (
@@ -68,12 +68,12 @@ module _ {S T : Type 0} (Step : S → Request → Reply → S → Type 0) (Step'
     through : Ending AllAnswered AllAnswered
     through mid t' rest last l p = (t', stays mid t' l p.node, record { node = refl; partial = p.partial; nothing = p.nothing })
 
-    ended : (len : ℕ) → Ending (λ node. IsEnd node len) (λ node. IsEnd node len)
+    ended : (len : ℕ) → Ending (λ node. IsInputEnd node len) (λ node. IsInputEnd node len)
     ended len mid t' rest last l p =
         let q = through mid t' rest last l p.through in
         (q.0, q.1, record { through = q.2; left = p.left })
 
-    bad : Ending (λ node. AtLastRead (IsBad node)) (λ node. AtLastRead (IsBad node))
+    bad : Ending (λ node. AtLastRead (IsBadLengthTold node)) (λ node. AtLastRead (IsBadLengthTold node))
     bad mid t' rest last l p =
         let e = p.1 in
         (t', stays mid t' l e.node, (p.0, record { fault = e.fault; faulty = e.faulty; node = refl; is = e.is }))
@@ -111,14 +111,14 @@ module _ {S T : Type 0} (Step : S → Request → Reply → S → Type 0) (Step'
     unkept : Ending Unanswered Unanswered
     unkept mid t' rest last l p = (t', stays mid t' l p.node, record { node = refl; nothing = p.nothing })
 
-    out_of_memory : Ending (λ node. AtLastRead (IsOutOfMemory Step node)) (λ node. AtLastRead (IsOutOfMemory Step' node))
+    out_of_memory : Ending (λ node. AtLastRead (IsMemoryRefused Step node)) (λ node. AtLastRead (IsMemoryRefused Step' node))
     out_of_memory mid t' rest last l (just, inl p) = let q = lost mid t' rest last l p in (q.0, q.1, (just, inl q.2))
     out_of_memory mid t' rest last l (just, inr p) = let q = unkept mid t' rest last l p in (q.0, q.1, (just, inr q.2))
 
   pub end_like : (s s' : S) (t : T) (input : List ℕ) (held held' : Option (List ℕ)) (count len : ℕ) → Like s t
-      → Answered Step s input held held' count (IsEnd s' len) → (u : T) × Like s' u × Answered Step' t input held held' count (IsEnd u len)
+      → AnsweredInput Step s input held held' count (IsInputEnd s' len) → (u : T) × Like s' u × AnsweredInput Step' t input held held' count (IsInputEnd u len)
   end_like s s' t input held held' count len like a =
-      answered_like s s' t input held held' count like (λ node. IsEnd node len) (λ node. IsEnd node len) (ended s s' t input held held' count like len) a
+      answered_like s s' t input held held' count like (λ node. IsInputEnd node len) (λ node. IsInputEnd node len) (ended s s' t input held held' count like len) a
 
   pub stops_like : (s s' : S) (t : T) (input : List ℕ) (held held' : Option (List ℕ)) (fault : SessionFault) → Like s t
       → Stops Step s s' input held held' fault → (u : T) × Like s' u × Stops Step' t u input held held' fault
@@ -127,8 +127,8 @@ module _ {S T : Type 0} (Step : S → Request → Reply → S → Type 0) (Step'
   stops_like s s' t input held held' (faults.WriteFailed count) like a =
       answered_like s s' t input held held' count like (WriteFailedAt Step) (WriteFailedAt Step') (unsent s s' t input held held' count like) a
   stops_like s s' t input held held' (faults.BadFrame count) like a =
-      answered_like s s' t input held held' count like (λ node. AtLastRead (IsBad node)) (λ node. AtLastRead (IsBad node)) (bad s s' t input held held' count like) a
+      answered_like s s' t input held held' count like (λ node. AtLastRead (IsBadLengthTold node)) (λ node. AtLastRead (IsBadLengthTold node)) (bad s s' t input held held' count like) a
   stops_like s s' t input held held' (faults.TooManyReads count) like a =
       answered_like s s' t input held held' count like AllAnswered AllAnswered (through s s' t input held held' count like) a
   stops_like s s' t input held held' (faults.NoMemory count) like a =
-      answered_like s s' t input held held' count like (λ node. AtLastRead (IsOutOfMemory Step node)) (λ node. AtLastRead (IsOutOfMemory Step' node)) (out_of_memory s s' t input held held' count like) a
+      answered_like s s' t input held held' count like (λ node. AtLastRead (IsMemoryRefused Step node)) (λ node. AtLastRead (IsMemoryRefused Step' node)) (out_of_memory s s' t input held held' count like) a

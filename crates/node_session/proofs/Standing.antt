@@ -18,14 +18,14 @@ use Rattle.node_session.specs.declared.exchange.Exchange.{Exchange}
 use Rattle.node_session.specs.declared.session.Next.{Next}
 use Rattle.node_session.specs.declared.session.Halt.{Halt}
 use Rattle.node_session.specs.declared.fault.SessionFault.TheVariants.{BadFrame, NoMemory}
-use Rattle.node_session.specs.Answers.{Answers, Run, reply_frame, frame_fault_text}
-use Rattle.node_session.specs.Answered.{AllAnswered, Answered, NextReply, IsError, IsBad, CameInLastRead, AtLastRead, WriteFailedAt, IsOutOfMemory}
-use Rattle.node_session.specs.Session.{IsEnd, MadeReads, Stops, fault_for}
+use Rattle.node_session.specs.Answers.{Answers, AnswersInTurn, reply_frame, frame_fault_text}
+use Rattle.node_session.specs.Answered.{AllAnswered, AnsweredInput, NextReply, IsError, IsBadLengthTold, CameInLastRead, AtLastRead, WriteFailedAt, IsMemoryRefused}
+use Rattle.node_session.specs.Session.{IsInputEnd, MadeReads, Stops, fault_for}
 use Rattle.node_session.specs.declared.fault.SessionFault.{SessionFault}
 use Rattle.node_session.specs.Sending.{AnswersRest, SendsAll, Stands}
 use Rattle.std.specs.Prelude.{OnOk}
 use Rattle.std.proofs.lemmas.Bool.{false≢true}
-use Rattle.node_session.specs.Nexts.{AnswersNext, IsAnswered, IsBadNext, IsLost}
+use Rattle.node_session.specs.Nexts.{AnswersNext, IsNextAnswered, IsBadNext, IsLost}
 use Rattle.node_session.specs.Views.{SessionView, EndsInPiece, IsRead, message_of, messages_of, replies_of}
 pub use Rattle.node_session.proofs.Frames.{some_frame}
 
@@ -83,7 +83,7 @@ module _ {S : Type 0} (Step : S → Request → Reply → S → Type 0) where
   halt_at b c s t r n n' e d p = subst (λ (x : Halt). AnswersNext Step b c s t (Err x)) d (subst (λ (x : Result Next Halt). AnswersNext Step b c s t x) e p)
 
   -- one message more
-  pub run_more : (a b c : S) (ms : List Message) (rs : List Reply) (m : Message) (r : Reply) → Run Step a ms rs b → Answers Step b m r c → Run Step a (ms ++ m ∷ []) (rs ++ r ∷ []) c
+  pub run_more : (a b c : S) (ms : List Message) (rs : List Reply) (m : Message) (r : Reply) → AnswersInTurn Step a ms rs b → Answers Step b m r c → AnswersInTurn Step a (ms ++ m ∷ []) (rs ++ r ∷ []) c
   run_more a b c [] [] m r p q = (c, subst (λ (x : S). Answers Step x m r c) p q, refl)
   run_more a b c (n ∷ ms) (t ∷ rs) m r p q = (p.0, p.1, run_more p.0 b c ms rs m r p.2 q)
   run_more a b c [] (t ∷ rs) m r p q = absurd p
@@ -91,19 +91,19 @@ module _ {S : Type 0} (Step : S → Request → Reply → S → Type 0) where
 
   pub stands_none : (a : S) (h : Option (List ℕ)) (s : SessionView) → s.exchanges ≡ [] → Stands Step a a h h s
   stands_none a h s e = record {
-    run = subst (λ (es : List Exchange). Run Step a (messages_of es) (replies_of es) a) (sym e) refl;
+    run = subst (λ (es : List Exchange). AnswersInTurn Step a (messages_of es) (replies_of es) a) (sym e) refl;
     written = subst (λ (es : List Exchange). Appends h h (flat_map reply_frame (replies_of es))) (sym e) (Appends-nil h);
   }
 
   -- the exchanges alone count
   pub stands_same : (a b : S) (h h' : Option (List ℕ)) (s t : SessionView) → t.exchanges ≡ s.exchanges → Stands Step a b h h' s → Stands Step a b h h' t
   stands_same a b h h' s t e p = record {
-    run = subst (λ (es : List Exchange). Run Step a (messages_of es) (replies_of es) b) (sym e) p.run;
+    run = subst (λ (es : List Exchange). AnswersInTurn Step a (messages_of es) (replies_of es) b) (sym e) p.run;
     written = subst (λ (es : List Exchange). Appends h h' (flat_map reply_frame (replies_of es))) (sym e) p.written;
   }
 
   -- one exchange more, whose reply was written
-  pub stands_more : (a b c : S) (h h' h'' : Option (List ℕ)) (s t u : SessionView) → s.unsent ≡ [] → IsAnswered Step b c s t → Appends h' h'' t.unsent → u ≡ record t { unsent = [] }
+  pub stands_more : (a b c : S) (h h' h'' : Option (List ℕ)) (s t u : SessionView) → s.unsent ≡ [] → IsNextAnswered Step b c s t → Appends h' h'' t.unsent → u ≡ record t { unsent = [] }
       → Stands Step a b h h' s → Stands Step a c h h'' u
   stands_more a b c h h' h'' s t u none one wrote e p =
       let es = s.exchanges in
@@ -116,9 +116,9 @@ module _ {S : Type 0} (Step : S → Request → Reply → S → Type 0) where
       let frames_are : flat_map reply_frame (replies_of (es ++ x ∷ [])) ≡ flat_map reply_frame (replies_of es) ++ reply_frame r =
       ap (flat_map reply_frame) rs ∙ flat_map-append reply_frame (replies_of es) (r ∷ []) ∙ ap (λ (l : List ℕ). flat_map reply_frame (replies_of es) ++ l) (append-nil (reply_frame r)) in
       record {
-        run = subst (λ (l : List Exchange). Run Step a (messages_of l) (replies_of l) c) (sym all)
-            (subst (λ (l : List Message). Run Step a l (replies_of (es ++ x ∷ [])) c) (sym ms)
-            (subst (λ (l : List Reply). Run Step a (messages_of es ++ message_of x ∷ []) l c) (sym rs)
+        run = subst (λ (l : List Exchange). AnswersInTurn Step a (messages_of l) (replies_of l) c) (sym all)
+            (subst (λ (l : List Message). AnswersInTurn Step a l (replies_of (es ++ x ∷ [])) c) (sym ms)
+            (subst (λ (l : List Reply). AnswersInTurn Step a (messages_of es ++ message_of x ∷ []) l c) (sym rs)
             (run_more a b c (messages_of es) (replies_of es) (message_of x) r p.run one.answers)));
         written = subst (λ (l : List Exchange). Appends h h'' (flat_map reply_frame (replies_of l))) (sym all)
             (subst (Appends h h'') (sym frames_are) (Appends-trans h h' h'' _ _ p.written (subst (Appends h' h'') sent wrote)));
@@ -126,7 +126,7 @@ module _ {S : Type 0} (Step : S → Request → Reply → S → Type 0) where
 
   module _ (a b : S) (h h' h'' : Option (List ℕ)) (s : SessionView) (count : ℕ) (p : Stands Step a b h h' s) (read : IsRead s.input s.exchanges s.rest) (counted : length s.exchanges ≡ count) where
     -- it ended so behind what was written
-    pub ended : (last : List ℕ) (Ends : S → List ℕ → List ℕ → Type 0) → Appends h' h'' last → Ends b s.rest last → Answered Step a s.input h h'' count Ends
+    pub ended : (last : List ℕ) (Ends : S → List ℕ → List ℕ → Type 0) → Appends h' h'' last → Ends b s.rest last → AnsweredInput Step a s.input h h'' count Ends
     ended last Ends wrote ends = record {
       messages = messages_of s.exchanges;
       replies = replies_of s.exchanges;
@@ -143,7 +143,7 @@ module _ {S : Type 0} (Step : S → Request → Reply → S → Type 0) where
 
     module _ (c : S) (t : SessionView) (none : s.unsent ≡ []) where
       -- a reply was cut short
-      pub cut_reply : (stop : Stop) (u : SessionView) → IsAnswered Step b c s t → SendsAll h' h'' t u (Err stop) → Stops Step a c s.input h h'' (fault_for stop count)
+      pub cut_reply : (stop : Stop) (u : SessionView) → IsNextAnswered Step b c s t → SendsAll h' h'' t u (Err stop) → Stops Step a c s.input h h'' (fault_for stop count)
       cut_reply stops.WriteFailed u one cut =
           let r = one.exchange.reply in
           let sent : t.unsent ≡ reply_frame r = one.unsent ∙ ap (λ (l : List ℕ). l ++ reply_frame r) none in
@@ -177,7 +177,7 @@ module _ {S : Type 0} (Step : S → Request → Reply → S → Type 0) where
       told_error bad same wrote =
           let error = reply_frame (Error (frame_fault_text bad.bad)) in
           let sent : t.unsent ≡ error = bad.unsent ∙ ap (λ (l : List ℕ). l ++ error) none in
-          ended error (AtLastRead (IsBad c)) (subst (Appends h' h'') sent wrote)
+          ended error (AtLastRead (IsBadLengthTold c)) (subst (Appends h' h'') sent wrote)
           (came_in s.rest read.last (faulty_not s.rest bad.bad bad.faulty), bad_error bad same)
 
       abbrev lost_due : (lost : IsLost Step b c s t) → NextReply Step b s.rest (reply_frame lost.exchange.reply) c
@@ -186,7 +186,7 @@ module _ {S : Type 0} (Step : S → Request → Reply → S → Type 0) where
       -- a reply was lost
       pub lost_reply : IsLost Step b c s t → Appends h' h'' [] → Stops Step a c s.input h h'' (NoMemory count)
       lost_reply lost wrote =
-          ended [] (AtLastRead (IsOutOfMemory Step c)) wrote (
+          ended [] (AtLastRead (IsMemoryRefused Step c)) wrote (
             came_in s.rest read.last (λ q. q.left (message_of lost.exchange) t.rest lost.within lost.front),
             inl (record { nothing = refl; next = reply_frame lost.exchange.reply; due = lost_due lost; no_error = lost.no_error }),
           )
@@ -196,7 +196,7 @@ module _ {S : Type 0} (Step : S → Request → Reply → S → Type 0) where
   pub stands_kept : (a b : S) (h h' h'' : Option (List ℕ)) (s : SessionView) → Keeps h' h'' → Stands Step a b h h' s → Stands Step a b h h'' s
   stands_kept a b h h' h'' s kept p = record { run = p.run; written = Appends-kept h h' h'' _ p.written kept }
 
-  pub answered_kept : (a : S) (input : List ℕ) (h h' h'' : Option (List ℕ)) (count : ℕ) (Ends : S → List ℕ → List ℕ → Type 0) → Keeps h' h'' → Answered Step a input h h' count Ends → Answered Step a input h h'' count Ends
+  pub answered_kept : (a : S) (input : List ℕ) (h h' h'' : Option (List ℕ)) (count : ℕ) (Ends : S → List ℕ → List ℕ → Type 0) → Keeps h' h'' → AnsweredInput Step a input h h' count Ends → AnsweredInput Step a input h h'' count Ends
   answered_kept a input h h' h'' count Ends kept p = record {
     messages = p.messages;
     replies = p.replies;
@@ -213,25 +213,25 @@ module _ {S : Type 0} (Step : S → Request → Reply → S → Type 0) where
 
   pub stops_kept : (a b : S) (input : List ℕ) (h h' h'' : Option (List ℕ)) (count : ℕ) (stop : Stop) (fault : SessionFault) → fault ≡ fault_for stop count → Keeps h' h'' → Stops Step a b input h h' (fault_for stop count) → Stops Step a b input h h'' fault
   stops_kept a b input h h' h'' count stops.WriteFailed fault is kept p = subst (Stops Step a b input h h'') (sym is) (answered_kept a input h h' h'' count (WriteFailedAt Step b) kept p)
-  stops_kept a b input h h' h'' count stops.BadFrame fault is kept p = subst (Stops Step a b input h h'') (sym is) (answered_kept a input h h' h'' count (AtLastRead (IsBad b)) kept p)
-  stops_kept a b input h h' h'' count stops.NoMemory fault is kept p = subst (Stops Step a b input h h'') (sym is) (answered_kept a input h h' h'' count (AtLastRead (IsOutOfMemory Step b)) kept p)
+  stops_kept a b input h h' h'' count stops.BadFrame fault is kept p = subst (Stops Step a b input h h'') (sym is) (answered_kept a input h h' h'' count (AtLastRead (IsBadLengthTold b)) kept p)
+  stops_kept a b input h h' h'' count stops.NoMemory fault is kept p = subst (Stops Step a b input h h'') (sym is) (answered_kept a input h h' h'' count (AtLastRead (IsMemoryRefused Step b)) kept p)
 
   module _ (a b : S) (h h' h'' : Option (List ℕ)) (s : SessionView) (count : ℕ) (p : Stands Step a b h h' s) (read : IsRead s.input s.exchanges s.rest) (counted : length s.exchanges ≡ count) (kept : Keeps h' h'') where
     abbrev none_more : Appends h' h'' []
     none_more = Appends-kept h' h' h'' [] (Appends-nil h') kept
 
     -- no whole message is left
-    pub all_answered : IsPartial max_request_len s.rest → Answered Step a s.input h h'' count (AllAnswered b)
+    pub all_answered : IsPartial max_request_len s.rest → AnsweredInput Step a s.input h h'' count (AllAnswered b)
     all_answered partial = ended Step a b h h' h'' s count p read counted [] (AllAnswered b) none_more (record { node = refl; partial = partial; nothing = refl })
 
-    pub none_flushed : IsPartial max_request_len s.rest → Answered Step a s.input h h'' count (WriteFailedAt Step b)
+    pub none_flushed : IsPartial max_request_len s.rest → AnsweredInput Step a s.input h h'' count (WriteFailedAt Step b)
     none_flushed partial = ended Step a b h h' h'' s count p read counted [] (WriteFailedAt Step b) none_more (inr (record { node = refl; partial = partial; nothing = refl }))
 
-    pub at_end : (len : ℕ) → len ≡ length s.rest → IsPartial max_request_len s.rest → Answered Step a s.input h h'' count (IsEnd b len)
-    at_end len is partial = ended Step a b h h' h'' s count p read counted [] (IsEnd b len) none_more (record { through = record { node = refl; partial = partial; nothing = refl }; left = sym is })
+    pub at_end : (len : ℕ) → len ≡ length s.rest → IsPartial max_request_len s.rest → AnsweredInput Step a s.input h h'' count (IsInputEnd b len)
+    at_end len is partial = ended Step a b h h' h'' s count p read counted [] (IsInputEnd b len) none_more (record { through = record { node = refl; partial = partial; nothing = refl }; left = sym is })
 
     -- memory was refused for a piece
-    pub unkept : (piece : List ℕ) → 0 < length piece → length piece ≤ 4096 → IsPartial max_request_len s.rest → Answered Step a (s.input ++ piece) h h'' count (AtLastRead (IsOutOfMemory Step b))
+    pub unkept : (piece : List ℕ) → 0 < length piece → length piece ≤ 4096 → IsPartial max_request_len s.rest → AnsweredInput Step a (s.input ++ piece) h h'' count (AtLastRead (IsMemoryRefused Step b))
     unkept piece some few partial =
         record {
           messages = messages_of s.exchanges;

@@ -9,11 +9,11 @@ use Rattle.riak_msgs.specs.declared.request.Request.{Request}
 use Rattle.riak_msgs.specs.declared.reply.Reply.{Reply}
 use Rattle.riak_msgs.specs.declared.reply.Reply.TheVariants.{Error}
 use Rattle.node_session.specs.Limits.{max_read_len}
-use Rattle.node_session.specs.Answers.{Answers, Run, reply_frame, frame_fault_text, IsNoError}
+use Rattle.node_session.specs.Answers.{Answers, AnswersInTurn, reply_frame, frame_fault_text, IsNoError}
 
 -- The input begins with the frames of messages, each of them was answered in its turn, and so many whole replies were
 -- written, and after them `last`. Ends says how it ended, with the node as it is after them and with what the input has after them.
-pub record Answered {S : Type 0} (Step : S → Request → Reply → S → Type 0) (node : S) (input : List ℕ) (held held' : Option (List ℕ)) (count : ℕ) (Ends : S → List ℕ → List ℕ → Type 0) : Type 0 where
+pub record AnsweredInput {S : Type 0} (Step : S → Request → Reply → S → Type 0) (node : S) (input : List ℕ) (held held' : Option (List ℕ)) (count : ℕ) (Ends : S → List ℕ → List ℕ → Type 0) : Type 0 where
   pub messages : List Message
   pub replies : List Reply
   pub mid : S
@@ -21,7 +21,7 @@ pub record Answered {S : Type 0} (Step : S → Request → Reply → S → Type 
   pub last : List ℕ
   pub stream : input ≡ flat_map frame messages ++ rest
   pub each : All (IsWithin max_request_len) messages
-  pub run : Run Step node messages replies mid
+  pub run : AnswersInTurn Step node messages replies mid
   pub counted : length messages ≡ count
   pub written : Appends held held' (flat_map reply_frame replies ++ last)
   pub ends : Ends mid rest last
@@ -56,8 +56,8 @@ pub record IsError {S : Type 0} (mid : S) (rest : List ℕ) (next : List ℕ) (n
   pub is : next ≡ reply_frame (Error (frame_fault_text fault))
 
 -- the error for a bad length was written whole
-abbrev pub IsBad : {S : Type 0} (node' : S) → S → List ℕ → List ℕ → Type 0
-IsBad node' mid rest last = IsError mid rest last node'
+abbrev pub IsBadLengthTold : {S : Type 0} (node' : S) → S → List ℕ → List ℕ → Type 0
+IsBadLengthTold node' mid rest last = IsError mid rest last node'
 
 -- what was written begins what was due next, and doesn't end it
 pub record PartlyWritten {S : Type 0} (Step : S → Request → Reply → S → Type 0) (node' : S) (mid : S) (rest last : List ℕ) : Type 0 where
@@ -97,5 +97,5 @@ pub record Unanswered {S : Type 0} (node' : S) (mid : S) (rest last : List ℕ) 
   pub nothing : last ≡ []
 
 -- memory was refused for the next reply, or for the piece that was read last
-abbrev pub IsOutOfMemory : {S : Type 0} (Step : S → Request → Reply → S → Type 0) (node' : S) → S → List ℕ → List ℕ → Type 0
-IsOutOfMemory Step node' mid rest last = ReplyNotWritten Step node' mid rest last ⊎ Unanswered node' mid rest last
+abbrev pub IsMemoryRefused : {S : Type 0} (Step : S → Request → Reply → S → Type 0) (node' : S) → S → List ℕ → List ℕ → Type 0
+IsMemoryRefused Step node' mid rest last = ReplyNotWritten Step node' mid rest last ⊎ Unanswered node' mid rest last

@@ -9,7 +9,7 @@ use Rattle.node_session.specs.declared.session.Next.{Next}
 use Rattle.node_session.specs.declared.session.Halt.{Halt}
 use Rattle.node_session.specs.Nexts.{AnswersNext}
 use Rattle.node_session.specs.Connections.{ConnectionView}
-use Rattle.node_session.specs.Moves.{IsOutcome}
+use Rattle.node_session.specs.Moves.{IsConnectionOutcome}
 use Rattle.node_session.specs.SharedNode.{AnsweredAmid, AnswersSome, EndsAmid}
 use Rattle.node_session.specs.Views.{SessionView}
 
@@ -32,5 +32,5 @@ module _ {S : Type 0} (Step : S → Request → Reply → S → Type 0) where
     -- a connection that has come to an end and has read fewer bytes than a count counts is a session
     abbrev pub OutcomesAreEnds : Type 0
     OutcomesAreEnds =
-        (c : ConnectionView R W) (outcome : Result Ended SessionFault) (first now : S) → IsOutcome remaining contents c outcome → length c.session.input < 2 ^ 63
+        (c : ConnectionView R W) (outcome : Result Ended SessionFault) (first now : S) → IsConnectionOutcome remaining contents c outcome → length c.session.input < 2 ^ 63
         → AnsweredAmid Step first now c.session.exchanges → EndsAmid Step remaining contents first now c outcome

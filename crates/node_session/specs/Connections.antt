@@ -85,7 +85,7 @@ pub record Carried (unread unread' held held' : Option (List ℕ)) (session : Se
   pub stands : InputIs input session unfed put error
 
 -- how a connection stands, how many replies were put, and how many of these were sent; something waits for a writer that has failed
-pub record IsKept (unread unread' held held' : Option (List ℕ)) (session : SessionView) (unfed : List ℕ) (input : Input) (answered : ℕ) (progress : Progress) (failed : Bool) : Type 0 where
+pub record ConnectionStands (unread unread' held held' : Option (List ℕ)) (session : SessionView) (unfed : List ℕ) (input : Input) (answered : ℕ) (progress : Progress) (failed : Bool) : Type 0 where
   pub carried : Carried unread unread' held held' session unfed input
   pub counted : length carried.put < 2 ^ 64 → answered ≡ length carried.put
   pub frames : SentFrames (due_of carried.put carried.error) carried.done session.unsent progress.begun progress.left

@@ -103,10 +103,10 @@ module _ {R W : Type 0} where
     pub cut : CutShort (due_of carried.put carried.error) carried.done replies
 
   -- what came of the writer, where it has failed, or of the input: its end, with so many bytes behind the last whole frame, or a fault
-  abbrev pub IsOutcome : (R → Option (List ℕ)) → (W → Option (List ℕ)) → ConnectionView R W → Result Ended SessionFault → Type 0
-  IsOutcome remaining contents c (Ok end) = (c.input ≡ inputs.Ended) × (end.rest ≡ length c.session.rest) × IsThrough remaining contents c end.replies
-  IsOutcome remaining contents c (Err (faults.ReadFailed n)) = (c.input ≡ inputs.Failed) × IsThrough remaining contents c n
-  IsOutcome remaining contents c (Err (faults.WriteFailed n)) = IsBroken remaining contents c n
-  IsOutcome remaining contents c (Err (faults.BadFrame n)) = (c.input ≡ inputs.BadFrame) × IsThrough remaining contents c n
-  IsOutcome remaining contents c (Err (faults.TooManyReads n)) = ⊥
-  IsOutcome remaining contents c (Err (faults.NoMemory n)) = ((c.input ≡ inputs.ReplyLost) ⊎ (c.input ≡ inputs.PieceLost)) × IsThrough remaining contents c n
+  abbrev pub IsConnectionOutcome : (R → Option (List ℕ)) → (W → Option (List ℕ)) → ConnectionView R W → Result Ended SessionFault → Type 0
+  IsConnectionOutcome remaining contents c (Ok end) = (c.input ≡ inputs.Ended) × (end.rest ≡ length c.session.rest) × IsThrough remaining contents c end.replies
+  IsConnectionOutcome remaining contents c (Err (faults.ReadFailed n)) = (c.input ≡ inputs.Failed) × IsThrough remaining contents c n
+  IsConnectionOutcome remaining contents c (Err (faults.WriteFailed n)) = IsBroken remaining contents c n
+  IsConnectionOutcome remaining contents c (Err (faults.BadFrame n)) = (c.input ≡ inputs.BadFrame) × IsThrough remaining contents c n
+  IsConnectionOutcome remaining contents c (Err (faults.TooManyReads n)) = ⊥
+  IsConnectionOutcome remaining contents c (Err (faults.NoMemory n)) = ((c.input ≡ inputs.ReplyLost) ⊎ (c.input ≡ inputs.PieceLost)) × IsThrough remaining contents c n

@@ -26,7 +26,7 @@ pub record IsBadNext (old new : SessionView) : Type 0 where
 
 module _ {S : Type 0} (Step : S → Request → Reply → S → Type 0) where
   -- the next message was answered, and its reply is to be sent
-  pub record IsAnswered (node node' : S) (old new : SessionView) : Type 0 where
+  pub record IsNextAnswered (node node' : S) (old new : SessionView) : Type 0 where
     pub exchange : Exchange
     pub front : old.rest ≡ frame (message_of exchange) ++ new.rest
     pub within : IsWithin max_request_len (message_of exchange)
@@ -49,7 +49,7 @@ module _ {S : Type 0} (Step : S → Request → Reply → S → Type 0) where
     pub unsent : new.unsent ≡ old.unsent
 
   abbrev pub AnswersNext : S → S → SessionView → SessionView → Result Next Halt → Type 0
-  AnswersNext node node' old new (Ok Answered) = IsAnswered node node' old new
+  AnswersNext node node' old new (Ok Answered) = IsNextAnswered node node' old new
   AnswersNext node node' old new (Ok Idle) = IsPartial max_request_len old.rest × (new ≡ old) × (node' ≡ node)
   AnswersNext node node' old new (Ok Full) = (0 < length old.unsent) × (new ≡ old) × (node' ≡ node)
   AnswersNext node node' old new (Err BadFrame) = IsBadNext old new × (node' ≡ node)

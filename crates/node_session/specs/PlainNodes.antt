@@ -12,8 +12,8 @@ use Rattle.vnode_machine.specs.Machine.{State, opening}
 use Rattle.vnode_machine.specs.Step.{StepOutcome, outcome}
 use Rattle.vnode_machine.specs.Dead.{swept}
 use Rattle.vnode_machine.specs.Registers.{key_of}
-use Rattle.vnode_protocol.specs.Plans.{View}
-use Rattle.vnode_protocol.specs.declared.ask.Ask.{Ask as AskOfVnode}
+use Rattle.vnode_core.specs.Plans.{View}
+use Rattle.vnode_core.specs.declared.ask.Ask.{Ask as AskOfVnode}
 use Rattle.node_session.specs.PlainStep.{StepsBy, StepsByWrite, ask_of}
 
 -- how many bits number the partitions, how many dead keys a sweep forgets at most, and the state of the vnode of each
@@ -46,7 +46,7 @@ pub record AreNew (run size : ℕ) (vnodes : List (State Content)) : Type 0 wher
   pub each : (index : ℕ) → get_or vnodes index (opening (id_of run index) 0) ≡ opening (id_of run index) 0
 
 -- a node of a run, with a new vnode for each partition of the ring, and with this budget
-pub record IsNew (run index_bits budget : ℕ) (node : NodeState) : Type 0 where
+pub record IsNewNode (run index_bits budget : ℕ) (node : NodeState) : Type 0 where
   pub bits : node.index_bits ≡ index_bits
   pub sweeps : node.budget ≡ budget
   pub vnodes : AreNew run (2 ^ index_bits) node.vnodes

@@ -12,10 +12,10 @@ use Rattle.actor_epoch.specs.Given.{Context}
 use Rattle.vnode_machine.specs.Machine.{State}
 use Rattle.vnode_machine.specs.Asks.{get_command, put_command, del_command}
 use Rattle.vnode_machine.specs.Step.{Response, GetDone, PutDone, DelDone, ReapDone, ReapKept, StepOutcome, Refused, Answered, Accepted, outcome}
-use Rattle.vnode_protocol.specs.declared.ask.Ask.{Ask as AskOfVnode}
-use Rattle.vnode_protocol.specs.declared.ask.Ask.TheVariants as asks
-use Rattle.vnode_protocol.specs.declared.ask.Answer.{Answer}
-use Rattle.vnode_protocol.specs.declared.ask.Answer.TheVariants as answers
+use Rattle.vnode_core.specs.declared.ask.Ask.{Ask as AskOfVnode}
+use Rattle.vnode_core.specs.declared.ask.Ask.TheVariants as asks
+use Rattle.vnode_core.specs.declared.ask.Answer.{Answer}
+use Rattle.vnode_core.specs.declared.ask.Answer.TheVariants as answers
 
 -- the ask that a request makes of a vnode; a ping makes none
 abbrev pub ask_of : Request → Option (Ask Content Context)

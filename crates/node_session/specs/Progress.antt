@@ -5,7 +5,7 @@ use Rattle.riak_msgs.specs.declared.reply.Reply.{Reply}
 use Rattle.node_session.specs.Answers.{reply_frame, IsFramed}
 
 -- so many bytes of the last one's frame are still to be sent, and not all of them
-pub record IsCut (begun : List Reply) (left : ℕ) : Type 0 where
+pub record IsReplyCut (begun : List Reply) (left : ℕ) : Type 0 where
   pub whole : List Reply
   pub last : Reply
   pub are : begun ≡ whole ++ last ∷ []
@@ -22,7 +22,7 @@ pub record SentFrames (due : List Reply) (done unsent : List ℕ) (count left : 
   pub waits : unsent ≡ tail ++ flat_map reply_frame later
   pub framed : All IsFramed later
   pub remains : length tail ≡ left
-  pub cut : (left ≡ 0) ⊎ IsCut begun left
+  pub cut : (left ≡ 0) ⊎ IsReplyCut begun left
   pub counted : length begun < 2 ^ 64 → count ≡ length begun
 
 -- The first of the replies that are due were sent whole, so many, and of the next one's frame a beginning, and not all.

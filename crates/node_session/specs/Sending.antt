@@ -8,12 +8,12 @@ use Rattle.riak_msgs.specs.declared.request.Request.{Request}
 use Rattle.riak_msgs.specs.declared.reply.Reply.{Reply}
 use Rattle.node_session.specs.declared.sending.Stop.{Stop}
 use Rattle.node_session.specs.declared.sending.Stop.TheVariants.{WriteFailed, BadFrame, NoMemory}
-use Rattle.node_session.specs.Answers.{Run, reply_frame}
+use Rattle.node_session.specs.Answers.{AnswersInTurn, reply_frame}
 use Rattle.node_session.specs.Session.{Stops, fault_for}
 use Rattle.node_session.specs.Views.{SessionView, messages_of, replies_of}
 
 -- a beginning of the bytes was written, and not all
-pub record IsCutShort (held held' : Option (List ℕ)) (bytes : List ℕ) : Type 0 where
+pub record IsWriteCutShort (held held' : Option (List ℕ)) (bytes : List ℕ) : Type 0 where
   pub len : ℕ
   pub short : len < length bytes
   pub written : Appends held held' (take len bytes)
@@ -21,12 +21,12 @@ pub record IsCutShort (held held' : Option (List ℕ)) (bytes : List ℕ) : Type
 -- all that was to be sent was written, or a beginning of it
 abbrev pub SendsAll : Option (List ℕ) → Option (List ℕ) → SessionView → SessionView → Result (Unit {0}) Stop → Type 0
 SendsAll held held' old new (Ok u) = Appends held held' old.unsent × (new ≡ record old { unsent = [] })
-SendsAll held held' old new (Err WriteFailed) = IsCutShort held held' old.unsent
+SendsAll held held' old new (Err WriteFailed) = IsWriteCutShort held held' old.unsent
 SendsAll held held' old new (Err BadFrame) = ⊥
 SendsAll held held' old new (Err NoMemory) = ⊥
 
 -- a session of so many replies goes on, and all that was answered was sent
-pub record IsOpen (session : SessionView) (count : ℕ) : Type 0 where
+pub record IsSessionOpen (session : SessionView) (count : ℕ) : Type 0 where
   pub counted : length session.exchanges ≡ count
   pub fault : session.fault ≡ None
   pub sent : session.unsent ≡ []
@@ -34,7 +34,7 @@ pub record IsOpen (session : SessionView) (count : ℕ) : Type 0 where
 module _ {S : Type 0} (Step : S → Request → Reply → S → Type 0) where
   -- the session's messages were answered by a run of the node from the first state, and all replies were written
   pub record Stands (first now : S) (held held' : Option (List ℕ)) (session : SessionView) : Type 0 where
-    pub run : Run Step first (messages_of session.exchanges) (replies_of session.exchanges) now
+    pub run : AnswersInTurn Step first (messages_of session.exchanges) (replies_of session.exchanges) now
     pub written : Appends held held' (flat_map reply_frame (replies_of session.exchanges))
 
   -- all whole messages of what was read were answered, or how the session ends
@@ -44,6 +44,6 @@ module _ {S : Type 0} (Step : S → Request → Reply → S → Type 0) where
 
 -- a session that goes on, with no whole message left
 pub record IsAllAnswered (old new : SessionView) (count : ℕ) : Type 0 where
-  pub going : IsOpen new count
+  pub going : IsSessionOpen new count
   pub partial : IsPartial max_request_len new.rest
   pub input : new.input ≡ old.input

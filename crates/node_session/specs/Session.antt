@@ -8,7 +8,7 @@ use Rattle.node_session.specs.declared.sending.Stop.{Stop}
 use Rattle.node_session.specs.declared.sending.Stop.TheVariants as stops
 use Rattle.node_session.specs.declared.fault.SessionFault.{SessionFault}
 use Rattle.node_session.specs.declared.fault.SessionFault.TheVariants.{ReadFailed, WriteFailed, BadFrame, TooManyReads, NoMemory}
-use Rattle.node_session.specs.Answered.{Answered, AllAnswered, IsBad, WriteFailedAt, IsOutOfMemory, AtLastRead}
+use Rattle.node_session.specs.Answered.{AnsweredInput, AllAnswered, IsBadLengthTold, WriteFailedAt, IsMemoryRefused, AtLastRead}
 
 -- a reader gave an input, by so many reads at most, each of which takes at most so much
 pub record Given (unread unread' : Option (List ℕ)) (reads : ℕ) (Serves : List ℕ → Type 0) : Type 0 where
@@ -25,17 +25,17 @@ pub record MadeReads (unread unread' : Option (List ℕ)) (reads : ℕ) : Type 0
   pub gave : reads ≤ interrupted + length input
 
 -- the end of the input was met, and this much is left of it
-pub record IsEnd {S : Type 0} (node' : S) (len : ℕ) (mid : S) (rest last : List ℕ) : Type 0 where
+pub record IsInputEnd {S : Type 0} (node' : S) (len : ℕ) (mid : S) (rest last : List ℕ) : Type 0 where
   pub through : AllAnswered node' mid rest last
   pub left : length rest ≡ len
 
 -- The fault, with how many whole replies were written.
 abbrev pub Stops : {S : Type 0} → (S → Request → Reply → S → Type 0) → S → S → List ℕ → Option (List ℕ) → Option (List ℕ) → SessionFault → Type 0
-Stops Step old new input held held' (ReadFailed count) = Answered Step old input held held' count (AllAnswered new)
-Stops Step old new input held held' (WriteFailed count) = Answered Step old input held held' count (WriteFailedAt Step new)
-Stops Step old new input held held' (BadFrame count) = Answered Step old input held held' count (AtLastRead (IsBad new))
-Stops Step old new input held held' (TooManyReads count) = Answered Step old input held held' count (AllAnswered new)
-Stops Step old new input held held' (NoMemory count) = Answered Step old input held held' count (AtLastRead (IsOutOfMemory Step new))
+Stops Step old new input held held' (ReadFailed count) = AnsweredInput Step old input held held' count (AllAnswered new)
+Stops Step old new input held held' (WriteFailed count) = AnsweredInput Step old input held held' count (WriteFailedAt Step new)
+Stops Step old new input held held' (BadFrame count) = AnsweredInput Step old input held held' count (AtLastRead (IsBadLengthTold new))
+Stops Step old new input held held' (TooManyReads count) = AnsweredInput Step old input held held' count (AllAnswered new)
+Stops Step old new input held held' (NoMemory count) = AnsweredInput Step old input held held' count (AtLastRead (IsMemoryRefused Step new))
 
 -- the fault for a stop
 abbrev pub fault_for : Stop → ℕ → SessionFault

@@ -4,15 +4,15 @@ use Rattle.pb_frame.specs.Message.{Message}
 use Rattle.riak_msgs.specs.declared.Request.{Request}
 use Rattle.riak_msgs.specs.declared.Reply.{Reply}
 use Rattle.node_session.specs.declared.fault.SessionFault.{SessionFault}
-use Rattle.node_session.specs.Answers.{Run}
-use Rattle.node_session.specs.Answered.{Answered}
-use Rattle.node_session.specs.Session.{IsEnd, Stops}
-use Rattle.node_session.specs.PlainNodes.{NodeState, PlainStep, IsNew, partition_of, vnode_at}
+use Rattle.node_session.specs.Answers.{AnswersInTurn}
+use Rattle.node_session.specs.Answered.{AnsweredInput}
+use Rattle.node_session.specs.Session.{IsInputEnd, Stops}
+use Rattle.node_session.specs.PlainNodes.{NodeState, PlainStep, IsNewNode, partition_of, vnode_at}
 use Rattle.node_session.specs.Registers.{Histories, no_events, AreAfter, RegisterStep}
 
 -- the numbers of runs
-abbrev pub IsRun : ℕ → Type 0
-IsRun run = (1 ≤ run) × (run < 2 ^ 32)
+abbrev pub IsRunNumber : ℕ → Type 0
+IsRunNumber run = (1 ≤ run) × (run < 2 ^ 32)
 
 -- of a run's node on a ring of so many index bits, whose sweeps forget so many keys at most
 module _ (run index_bits budget : ℕ) where
@@ -29,7 +29,7 @@ module _ (run index_bits budget : ℕ) where
   -- a session over the register, from no event on, wrote this for its input and came to the end
   abbrev pub RegisterEnds : NodeState → (input : List ℕ) (held held' : Option (List ℕ)) (count len : ℕ) → Type 0
   RegisterEnds node input held held' count len =
-      OfHistories node (λ histories. Answered RingRegister no_events input held held' count (IsEnd histories len))
+      OfHistories node (λ histories. AnsweredInput RingRegister no_events input held held' count (IsInputEnd histories len))
 
   -- and this, and stopped at a fault
   abbrev pub RegisterStops : NodeState → (input : List ℕ) (held held' : Option (List ℕ)) → SessionFault → Type 0
@@ -39,20 +39,20 @@ module _ (run index_bits budget : ℕ) where
   -- what a new node answers to messages, one after another, is what the register answers to them
   abbrev pub RunsAreRegisters : Type 0
   RunsAreRegisters =
-      (first node : NodeState) → IsNew run index_bits budget first → (messages : List Message) (replies : List Reply)
-      → Run PlainStep first messages replies node
-      → OfHistories node (λ histories. Run RingRegister no_events messages replies histories)
+      (first node : NodeState) → IsNewNode run index_bits budget first → (messages : List Message) (replies : List Reply)
+      → AnswersInTurn PlainStep first messages replies node
+      → OfHistories node (λ histories. AnswersInTurn RingRegister no_events messages replies histories)
 
   -- a session over a new node that comes to the end is one over the register
   abbrev pub EndsAreRegisters : Type 0
   EndsAreRegisters =
-      (first node : NodeState) → IsNew run index_bits budget first → (input : List ℕ) (held held' : Option (List ℕ)) (count len : ℕ)
-      → Answered PlainStep first input held held' count (IsEnd node len)
+      (first node : NodeState) → IsNewNode run index_bits budget first → (input : List ℕ) (held held' : Option (List ℕ)) (count len : ℕ)
+      → AnsweredInput PlainStep first input held held' count (IsInputEnd node len)
       → RegisterEnds node input held held' count len
 
   -- and so is one that stops at a fault
   abbrev pub StopsAreRegisters : Type 0
   StopsAreRegisters =
-      (first node : NodeState) → IsNew run index_bits budget first → (input : List ℕ) (held held' : Option (List ℕ)) (fault : SessionFault)
+      (first node : NodeState) → IsNewNode run index_bits budget first → (input : List ℕ) (held held' : Option (List ℕ)) (fault : SessionFault)
       → Stops PlainStep first node input held held' fault
       → RegisterStops node input held held' fault

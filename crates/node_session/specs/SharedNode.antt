@@ -12,9 +12,9 @@ use Rattle.node_session.specs.declared.ended.Ended.{Ended}
 use Rattle.node_session.specs.declared.exchange.Exchange.{Exchange}
 use Rattle.node_session.specs.declared.fault.SessionFault.{SessionFault}
 use Rattle.node_session.specs.declared.fault.SessionFault.TheVariants.{ReadFailed, WriteFailed, BadFrame, TooManyReads, NoMemory}
-use Rattle.node_session.specs.Answers.{Run, reply_frame, frame_fault_text}
-use Rattle.node_session.specs.Answered.{Answered}
-use Rattle.node_session.specs.Session.{IsEnd, Stops}
+use Rattle.node_session.specs.Answers.{AnswersInTurn, reply_frame, frame_fault_text}
+use Rattle.node_session.specs.Answered.{AnsweredInput}
+use Rattle.node_session.specs.Session.{IsInputEnd, Stops}
 use Rattle.node_session.specs.Connections.{ConnectionView}
 use Rattle.node_session.specs.Views.{messages_of, replies_of}
 
@@ -23,7 +23,7 @@ module _ {S : Type 0} (Step : S → Request → Reply → S → Type 0) where
   pub record AnswersSome (old new : S) : Type 0 where
     pub messages : List Message
     pub replies : List Reply
-    pub run : Run Step old messages replies new
+    pub run : AnswersInTurn Step old messages replies new
 
   -- a step of the node, after answers to others
   pub record StepAmid (old : S) (request : Request) (reply : Reply) (new : S) : Type 0 where
@@ -34,7 +34,7 @@ module _ {S : Type 0} (Step : S → Request → Reply → S → Type 0) where
   -- these messages were answered one after another, and between them and behind them those of others
   pub record AnsweredAmid (first now : S) (exchanges : List Exchange) : Type 0 where
     pub last : S
-    pub run : Run StepAmid first (messages_of exchanges) (replies_of exchanges) last
+    pub run : AnswersInTurn StepAmid first (messages_of exchanges) (replies_of exchanges) last
     pub others : AnswersSome last now
 
   -- what is due next: the first of these replies or, where none is left, the error for a bad length
@@ -49,7 +49,7 @@ module _ {S : Type 0} (Step : S → Request → Reply → S → Type 0) where
     pub more : List ℕ
     pub front : rest ≡ flat_map frame messages ++ more
     pub each : All (IsWithin max_request_len) messages
-    pub run : Run Step mid messages replies node'
+    pub run : AnswersInTurn Step mid messages replies node'
     pub next : Reply
     pub due : IsDueNext replies more next
     pub len : ℕ
@@ -59,8 +59,8 @@ module _ {S : Type 0} (Step : S → Request → Reply → S → Type 0) where
   -- How a connection ended that was to write the replies to an input: as a session that writes each reply before the next does, but for a
   -- writer that failed, before which the node may have answered more.
   abbrev pub ConnectionEnds : (first last : S) (input : List ℕ) (held held' : Option (List ℕ)) → Result Ended SessionFault → Type 0
-  ConnectionEnds first last input held held' (Ok end) = Answered Step first input held held' end.replies (IsEnd last end.rest)
-  ConnectionEnds first last input held held' (Err (WriteFailed count)) = Answered Step first input held held' count (SentInPart last)
+  ConnectionEnds first last input held held' (Ok end) = AnsweredInput Step first input held held' end.replies (IsInputEnd last end.rest)
+  ConnectionEnds first last input held held' (Err (WriteFailed count)) = AnsweredInput Step first input held held' count (SentInPart last)
   ConnectionEnds first last input held held' (Err (ReadFailed count)) = Stops Step first last input held held' (ReadFailed count)
   ConnectionEnds first last input held held' (Err (BadFrame count)) = Stops Step first last input held held' (BadFrame count)
   ConnectionEnds first last input held held' (Err (TooManyReads count)) = ⊥

@@ -5,7 +5,7 @@ ghost use Rattle.pb_frame.specs.Limits.{max_request_len};
 ghost use Rattle.pb_frame.specs.Message.{IsPartial};
 ghost use Rattle.node_session.specs.Connections.{Carried};
 ghost use Rattle.node_session.specs.Limits.{max_read_len};
-ghost use Rattle.node_session.specs.Moves.{AnswersOnce, ReadsOnce, WritesOnce, IsOutcome, new_connection};
+ghost use Rattle.node_session.specs.Moves.{AnswersOnce, ReadsOnce, WritesOnce, IsConnectionOutcome, new_connection};
 ghost use Rattle.node_session.specs.Nexts.{AnswersNext};
 ghost use Rattle.node_session.specs.Views.{IsRead};
 ghost use Rattle.node_session.specs.declared.connection.Input.TheVariants.{Open};
@@ -101,7 +101,7 @@ pub struct Connection<R: Read, W: Write> {
 }
 
 impl<R: Read, W: Write> Model for Connection<R, W> {
-    ghost use Rattle.node_session.specs.Connections.{ConnectionView, IsKept};
+    ghost use Rattle.node_session.specs.Connections.{ConnectionView, ConnectionStands};
 
     ghost Value = { ConnectionView R W };
 
@@ -116,7 +116,7 @@ impl<R: Read, W: Write> Model for Connection<R, W> {
       failed = c.writer_failed;
     } };
 
-    ghost invariant = { λ c. IsKept (R.remaining c.first_reader.value) (R.remaining c.reader)
+    ghost invariant = { λ c. ConnectionStands (R.remaining c.first_reader.value) (R.remaining c.reader)
         (W.contents c.first_writer.value) (W.contents c.writer) c.session c.unfed c.input
         c.answered c.progress c.writer_failed };
 }
@@ -267,7 +267,7 @@ impl<R: Read, W: Write> Connection<R, W> {
     /// replies and a beginning of the next frame. The node may have answered more messages, whose replies are lost.
     pub fn outcome(&self) -> Option<Result<Ended, SessionFault>>
         requires { self.now.failed ≡ false → self.now.session.unsent ≡ [] }
-        ensures over { IfSome result (λ outcome. IsOutcome R.remaining W.contents self.now outcome) }
+        ensures over { IfSome result (λ outcome. IsConnectionOutcome R.remaining W.contents self.now outcome) }
         ensures none { IfNone result (self.now.input ≡ Open) }
         ensures goes { IfNone result (self.now.failed ≡ false) }
     {

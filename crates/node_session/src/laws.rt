@@ -2,7 +2,7 @@
 
 ghost use Rattle.std.specs.Prelude.{ℕ, ◌≡◌};
 ghost use Rattle.node_session.specs.Limits.{max_read_len};
-ghost use Rattle.node_session.specs.SessionLaws.{IsRun, RunsAreRegisters, EndsAreRegisters, StopsAreRegisters};
+ghost use Rattle.node_session.specs.SessionLaws.{IsRunNumber, RunsAreRegisters, EndsAreRegisters, StopsAreRegisters};
 
 use crate::serving::MAX_READ_LEN;
 
@@ -21,10 +21,10 @@ use crate::serving::MAX_READ_LEN;
 ///
 /// A context counts as having seen what it names, whoever sends it; a delete without context saw all of its key.
 pub fn plain_node_is_register()
-    ensures run { (run index_bits budget : ℕ) → IsRun run → RunsAreRegisters run index_bits budget }
-    ensures ended { (run index_bits budget : ℕ) → IsRun run
+    ensures run { (run index_bits budget : ℕ) → IsRunNumber run → RunsAreRegisters run index_bits budget }
+    ensures ended { (run index_bits budget : ℕ) → IsRunNumber run
         → EndsAreRegisters run index_bits budget }
-    ensures stopped { (run index_bits budget : ℕ) → IsRun run
+    ensures stopped { (run index_bits budget : ℕ) → IsRunNumber run
         → StopsAreRegisters run index_bits budget }
 {}
 

@@ -3,7 +3,7 @@
 ghost use Rattle.std.specs.Prelude.{◌≡◌, ◌≤◌, IfOk};
 ghost use Rattle.sibling_register.specs.Answers.{AskGet, AskPut, AskDel};
 ghost use Rattle.vnode_machine.specs.Asks.{get_command, put_command, del_command};
-ghost use Rattle.node_session.specs.PlainNodes.{states_of, AnswersByKey, AreNew, AreOpen, IsNew};
+ghost use Rattle.node_session.specs.PlainNodes.{states_of, AnswersByKey, AreNew, AreOpen, IsNewNode};
 
 use crate::node::Node;
 use crate::vnode_reply::{change_and_sweep, get_and_sweep};
@@ -85,7 +85,7 @@ impl PlainNode {
     /// A node of no keys, of this run, with one vnode: as [`PlainNode::on_ring`] with a ring of one partition.
     pub fn new(alloc: Global, run: u32) -> Result<PlainNode, NodeFault>
         requires { 1 ≤ run }
-        ensures { IfOk result (λ n. IsNew run 0 0 n) }
+        ensures { IfOk result (λ n. IsNewNode run 0 0 n) }
     {
         let Some(ring) = Ring::new(1) else {
             unreachable!()
@@ -98,7 +98,7 @@ impl PlainNode {
     /// cover what their holders never saw, so a run's number is used once. `NoMemory` where memory is refused.
     pub fn on_ring(alloc: Global, ring: Ring, run: u32) -> Result<PlainNode, NodeFault>
         requires { 1 ≤ run }
-        ensures { IfOk result (λ n. IsNew run ring 0 n) }
+        ensures { IfOk result (λ n. IsNewNode run ring 0 n) }
     {
         let vnodes = new_vnodes(alloc, run, ring.size())?;
         Ok(PlainNode {

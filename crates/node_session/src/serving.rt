@@ -2,10 +2,10 @@
 
 ghost use Rattle.std.specs.Prelude.{◌≡◌, ◌<◌, ◌≤◌, ◌^◌, Option, List, ℕ, IfOk, IfErr, OnOk, length};
 ghost use Rattle.std.specs.Io.KnownBytes.{IsAtEnd, Keeps};
-ghost use Rattle.node_session.specs.Answered.{Answered};
-ghost use Rattle.node_session.specs.Session.{Given, IsEnd, IsTooManyReads, MadeReads, Stops, fault_for};
+ghost use Rattle.node_session.specs.Answered.{AnsweredInput};
+ghost use Rattle.node_session.specs.Session.{Given, IsInputEnd, IsTooManyReads, MadeReads, Stops, fault_for};
 ghost use Rattle.node_session.specs.Views.{new_session};
-ghost use Rattle.node_session.specs.Sending.{IsOpen, IsAllAnswered, Stands, AnswersRest};
+ghost use Rattle.node_session.specs.Sending.{IsSessionOpen, IsAllAnswered, Stands, AnswersRest};
 
 use crate::ended::Ended;
 use crate::fault::SessionFault;
@@ -46,7 +46,7 @@ fn answer_rest<W: Write, N: Node>(
     before: u64,
 ) -> (u64, Result<(), Stop>)
     requires room { length session.old.input < 2 ^ 64 }
-    requires going { IsOpen session.old before }
+    requires going { IsSessionOpen session.old before }
     ensures all { OnOk result.1 (IsAllAnswered session.old session.new result.0) }
     ensures rest { (first : N) (held : Option (List ℕ))
         → Stands N.step first node.old held (W.contents writer.old) session.old
@@ -96,8 +96,8 @@ pub fn serve<R: Read, W: Write, N: Node>(
     // What was written is the output for what was read, and all of it was read.
     ensures ended { IfOk result (λ e.
         Given (R.remaining reader.old) (R.remaining reader.new) reads (λ input.
-        Answered N.step node.old input (W.contents writer.old) (W.contents writer.new)
-        e.replies (IsEnd node.new e.rest))) }
+        AnsweredInput N.step node.old input (W.contents writer.old) (W.contents writer.new)
+        e.replies (IsInputEnd node.new e.rest))) }
     ensures all { IfOk result (λ _. IsAtEnd (R.remaining reader.new)) }
 
     // What was written is the output for what was read, as far as the fault lets it come.
@@ -127,8 +127,8 @@ fn serve_from<R: Read, W: Write, N: Node>(
     requires new { session.old ≡ new_session }
     ensures ended { IfOk result (λ e.
         Given (R.remaining reader.old) (R.remaining reader.new) reads (λ input.
-        Answered N.step node.old input (W.contents writer.old) (W.contents writer.new)
-        e.replies (IsEnd node.new e.rest))) }
+        AnsweredInput N.step node.old input (W.contents writer.old) (W.contents writer.new)
+        e.replies (IsInputEnd node.new e.rest))) }
     ensures all { IfOk result (λ _. IsAtEnd (R.remaining reader.new)) }
     ensures stopped { IfErr result (λ fault.
         Given (R.remaining reader.old) (R.remaining reader.new) reads (λ input.

@@ -5,7 +5,7 @@ ghost use Rattle.sibling_register.specs.Answers.{AskGet};
 ghost use Rattle.vnode_machine.specs.Asks.{get_command};
 ghost use Rattle.vnode_machine.specs.Dead.{swept};
 ghost use Rattle.vnode_machine.specs.Step.{outcome};
-ghost use Rattle.vnode_protocol.specs.Plans.{IsWrite};
+ghost use Rattle.vnode_core.specs.Plans.{IsWrite};
 ghost use Rattle.node_session.specs.PlainStep.{answer_reply, StepsBy, StepsByWrite};
 ghost use Rattle.node_session.specs.PlainNodes.{AnswersAndSweeps, WritesAndSweeps};
 

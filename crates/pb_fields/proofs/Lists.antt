@@ -7,7 +7,7 @@ use Rattle.pb_fields.specs.Encoding.{encoding, value_encoding, Fits, ValueFits}
 use Rattle.pb_fields.proofs.Parts.{field_once, field_some, wire_type-lt}
 
 -- no bytes begin with no field
-nothing : (rest : List ℕ) (field : WireField) → BeginsWithField [] field rest → ⊥
+pub nothing : (rest : List ℕ) (field : WireField) → BeginsWithField [] field rest → ⊥
 nothing rest field begins = let some = field_some [] rest field begins in omega arith
 
 -- bytes stand for one list of fields at most

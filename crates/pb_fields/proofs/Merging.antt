@@ -8,7 +8,7 @@ use Rattle.pb_fields.specs.Merging.{MergesAll, RefusesOne, Tracks}
 use Rattle.pb_fields.specs.declared.field.Field.{Field}
 use Rattle.pb_fields.specs.declared.fault.FieldFault.{FieldFault}
 use Rattle.pb_fields.proofs.Parts.{field_once, field_some}
-use Rattle.pb_fields.proofs.Lists.{fields_more}
+use Rattle.pb_fields.proofs.Lists.{fields_more, nothing}
 
 -- one field more
 pub MergesAll-more : {A : Type 0} (step : A → WireField → A → Type 0) (a b c : A) (fields : List WireField) (field : WireField) →
@@ -35,9 +35,6 @@ pub MergesAll-tracks : {A : Type 0} (has : A → List WireField → Type 0) (a b
     has a [] → MergesAll (Tracks has) a fields b → has b fields
 MergesAll-tracks has a b fields none all =
     MergesAll-keeps (Tracks has) (λ fs x. has x fs) a b [] fields (λ fs f x y holds step. step fs holds) none all
-
-nothing : (rest : List ℕ) (field : WireField) → BeginsWithField [] field rest → ⊥
-nothing rest field begins = let some = field_some [] rest field begins in omega arith
 
 -- bytes that begin with some fields and stand for a list stand for these and more
 pub Encodes-split : (bs rest : List ℕ) (fs gs : List WireField) → BeginsWithFields bs fs rest → Encodes bs gs →

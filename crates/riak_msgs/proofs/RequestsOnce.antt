@@ -11,6 +11,7 @@ use Rattle.riak_msgs.specs.Picking.{each_bytes}
 use Rattle.riak_msgs.specs.Embedded.{StandForContent}
 use Rattle.riak_msgs.specs.Reading.{PutFields, EncodesPut, DecodesBy, Decodes, IsRequestCode, said_by, names_fault, get_of, put_fault, put_of, del_of}
 use Rattle.riak_msgs.specs.ContentOnce.{content_once}
+use Rattle.riak_msgs.proofs.RepliesSaid.{DecodesBy-once}
 
 -- bytes stand for one put at most
 put_once : (bs : List ℕ) (p q : PutFields) → EncodesPut bs p → EncodesPut bs q → p ≡ q
@@ -20,14 +21,6 @@ put_once bs p q a b =
     let content : p.content ≡ q.content =
     content_once (each_bytes 4 p.own) p.content q.content a.content (subst P (sym own) b.content) in
     rw (own, content) refl
-
--- where a body stands for one thing at most it says one thing
-DecodesBy-once : {A F : Type 0} (Holds : F → Type 0) (decoded : F → Result A MsgFault) (a b : Result A MsgFault) →
-    ((f g : F) → Holds f → Holds g → f ≡ g) → DecodesBy Holds decoded a → DecodesBy Holds decoded b → a ≡ b
-DecodesBy-once Holds decoded a b once (inl (f, x, p)) (inl (g, y, q)) = p ∙ ap decoded (once f g x y) ∙ sym q
-DecodesBy-once Holds decoded a b once (inl (f, x, p)) (inr (none, q)) = absurd (none f x)
-DecodesBy-once Holds decoded a b once (inr (none, p)) (inl (g, y, q)) = absurd (none g y)
-DecodesBy-once Holds decoded a b once (inr (none, p)) (inr (other, q)) = p ∙ sym q
 
 -- what a message of each code says
 says_ping : (code : ℕ) (body : List ℕ) (a : Result Request MsgFault) → code ≡ 1 → Decodes code body a → a ≡ Ok requests.Ping

@@ -8,6 +8,7 @@ use Rattle.riak_msgs.specs.declared.key.Key.{Key}
 use Rattle.riak_msgs.specs.KeyOrder.{key_eq}
 use Rattle.sibling_register.specs.History.{Event, events_of, count_of, numbered, is_update, numbers_to}
 use Rattle.sibling_register.specs.Siblings.{is_among, unseen_by, siblings}
+pub use Rattle.std.proofs.lemmas.Bool.{ne_eqb as differs}
 
 -- the numbers left where an event saw some
 abbrev pub left_by : List ℕ → List ℕ → List ℕ
@@ -16,9 +17,6 @@ left_by saw numbers = filter (λ n. not (is_among saw n)) numbers
 pub and_true : (b : Bool) → (b && true) ≡ b
 and_true true = refl
 and_true false = refl
-
-pub differs : (a b : ℕ) → a ≢ b → (a == b) ≡ false
-differs a b h = grind (arith, nat_tests)
 
 pub one_differs : {X : Type 0} (a b : ℕ) (x y : X) → a ≢ b → cond (a == b) x y ≡ y
 one_differs a b x y h = rw (differs a b h) refl

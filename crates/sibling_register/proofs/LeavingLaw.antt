@@ -14,39 +14,21 @@ use Rattle.sibling_register.specs.Answers.{Told, Reaped, Kept, Done, Ask, AskGet
 use Rattle.sibling_register.specs.Legal.{IsAccepted}
 use Rattle.sibling_register.specs.Leaving.{is_seen_in, LeavesOnlySeen}
 use Rattle.sibling_register.proofs.Following.{left_by, siblings-own, siblings-other, numbered-later}
-
-nat_eq-same : (a b : ℕ) → nat_eq a b ≡ true → a ≡ b
-nat_eq-same a b h = grind (arith, nat_tests)
-
-and_left : (a b : Bool) → (a && b) ≡ true → a ≡ true
-and_left true b h = refl
-and_left false b h = h
-
-and_right : (a b : Bool) → (a && b) ≡ true → b ≡ true
-and_right true b h = h
-and_right false b h = cc
+use Rattle.std.proofs.lemmas.Bool.{eqb-true as nat_eq-same, and_parts, or_right, or_cases}
 
 bytes_eq-same : (a b : List ℕ) → bytes_eq a b ≡ true → a ≡ b
 bytes_eq-same [] [] h = refl
 bytes_eq-same [] (y ∷ b) h = cc
 bytes_eq-same (x ∷ a) [] h = cc
-bytes_eq-same (x ∷ a) (y ∷ b) h = λ i. nat_eq-same x y (and_left (nat_eq x y) (bytes_eq a b) h) i ∷ bytes_eq-same a b (and_right (nat_eq x y) (bytes_eq a b) h) i
+bytes_eq-same (x ∷ a) (y ∷ b) h = λ i. nat_eq-same x y (and_parts (nat_eq x y) (bytes_eq a b) h).0 i ∷ bytes_eq-same a b (and_parts (nat_eq x y) (bytes_eq a b) h).1 i
 
 pub key_eq-same : (a b : Key) → key_eq a b ≡ true → a ≡ b
 key_eq-same a b h =
-    let types : a.bucket_type ≡ b.bucket_type = bytes_eq-same a.bucket_type b.bucket_type (and_left _ _ h) in
-    let rest = and_right (bytes_eq a.bucket_type b.bucket_type) _ h in
-    let buckets : a.bucket ≡ b.bucket = bytes_eq-same a.bucket b.bucket (and_left _ _ rest) in
-    let keys : a.key ≡ b.key = bytes_eq-same a.key b.key (and_right (bytes_eq a.bucket b.bucket) _ rest) in
+    let types : a.bucket_type ≡ b.bucket_type = bytes_eq-same a.bucket_type b.bucket_type (and_parts _ _ h).0 in
+    let rest = (and_parts (bytes_eq a.bucket_type b.bucket_type) _ h).1 in
+    let buckets : a.bucket ≡ b.bucket = bytes_eq-same a.bucket b.bucket (and_parts _ _ rest).0 in
+    let keys : a.key ≡ b.key = bytes_eq-same a.key b.key (and_parts (bytes_eq a.bucket b.bucket) _ rest).1 in
     λ i. record { bucket_type = types i; bucket = buckets i; key = keys i }
-
-or_right : (a b : Bool) → b ≡ true → (a || b) ≡ true
-or_right true b h = refl
-or_right false b h = h
-
-or_cases : (a b : Bool) → (a || b) ≡ true → (a ≡ true) ⊎ (b ≡ true)
-or_cases true b h = inl refl
-or_cases false b h = inr h
 
 -- what passes a test is kept by it
 among-filter : (p : ℕ → Bool) (xs : List ℕ) (n : ℕ) → is_among xs n ≡ true → p n ≡ true → is_among (filter p xs) n ≡ true
@@ -61,7 +43,7 @@ among-filter p (x ∷ xs) n h t =
     kept true c h = or_right (nat_eq x n) (is_among (filter p xs) n) h
     kept false c h = h
 
-any-among : (p : ℕ → Bool) (xs : List ℕ) (n : ℕ) → is_among xs n ≡ true → p n ≡ true → list_any p xs ≡ true
+pub any-among : (p : ℕ → Bool) (xs : List ℕ) (n : ℕ) → is_among xs n ≡ true → p n ≡ true → list_any p xs ≡ true
 any-among p [] n h t = cc
 any-among p (x ∷ xs) n h t =
     elim (or_cases (nat_eq x n) (is_among xs n) h) [
@@ -131,7 +113,7 @@ module _ {V C : Type 0} where
       dead e u =
           let is : is_dead before key ≡ true = ap (is_dead before) (sym (key_eq-same event.key key e)) ∙ found_dead naming before accepted.ask event accepted.told accepted.given u in
           let here : is_present before key ≡ true = any-among (λ n. is_some (content_of before key n)) (siblings before key) number sibling (some_of (content_of before key number) content) in
-          clash (is_present before key) here (and_right (is_defined before key) _ is)
+          clash (is_present before key) here (and_parts (is_defined before key) _ is).1
 
       seen : (u : Bool) → is_update event.operation ≡ u → key_eq event.key key ≡ true → is_among event.saw number ≡ true
           → ((key_eq event.key key && is_update event.operation) && is_among event.saw number) ≡ true

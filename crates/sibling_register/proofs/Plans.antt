@@ -19,13 +19,11 @@ use Rattle.sibling_register.specs.Counting.{by_count}
 use Rattle.sibling_register.specs.Plans.{saw_by, first_check_of, get_told_of, plain_outcome, put_outcome_by, del_saw}
 use Rattle.sibling_register.proofs.Following.{siblings-own, unseen_by-positive, left_by-numbers_to}
 use Rattle.sibling_register.proofs.Scanning.{follows}
-
-nat_eq-refl : (n : ℕ) → nat_eq n n ≡ true
-nat_eq-refl n = grind (arith, nat_tests)
+use Rattle.std.proofs.lemmas.Bool.{eq-eqb}
 
 bytes_eq-refl : (bytes : List ℕ) → bytes_eq bytes bytes ≡ true
 bytes_eq-refl [] = refl
-bytes_eq-refl (b ∷ bytes) = rw (nat_eq-refl b) (bytes_eq-refl bytes)
+bytes_eq-refl (b ∷ bytes) = rw (eq-eqb b b refl) (bytes_eq-refl bytes)
 
 not_not : (b : Bool) → b ≡ not (not b)
 not_not true = refl

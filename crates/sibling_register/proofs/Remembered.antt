@@ -25,7 +25,7 @@ use Rattle.sibling_register.proofs.Scanning.{follows}
 use Rattle.sibling_register.proofs.Places.{length-places_in, places-rise, below-places, content-at}
 use Rattle.sibling_register.proofs.LeavingLaw.{key_eq-same}
 
-is_eq-then : (a b : Ordering) → is_eq (ordering_then a b) ≡ (is_eq a && is_eq b)
+pub is_eq-then : (a b : Ordering) → is_eq (ordering_then a b) ≡ (is_eq a && is_eq b)
 is_eq-then Less b = refl
 is_eq-then Equal b = refl
 is_eq-then Greater b = refl
@@ -109,7 +109,7 @@ module _ {V : Type 0} where
   rising-found history keys key index was e = rw (found history keys key (Some index) was e) (places-rise history key)
 
 -- a key that is compared as one is that key
-same_key : (a b : Key) → is_at (key_cmp a) b ≡ true → a ≡ b
+pub same_key : (a b : Key) → is_at (key_cmp a) b ≡ true → a ≡ b
 same_key a b e = key_eq-same a b (sym (is_at-key_cmp a b) ∙ e)
 
 -- an index without events, of a key that had none, adds nothing

@@ -12,9 +12,7 @@ use Rattle.sibling_register.specs.Siblings.{is_defined}
 use Rattle.sibling_register.specs.Naming.{named, SeesBy, PutSees, DelSees}
 use Rattle.sibling_register.specs.Counting.{by_count, up_to, context_at}
 use Rattle.sibling_register.specs.Plans.{saw_by, del_saw}
-
-equal : (a b : ℕ) → nat_eq a b ≡ true → a ≡ b
-equal a b h = grind (arith, nat_tests)
+use Rattle.std.proofs.lemmas.Bool.{eqb-true as equal}
 
 found : {X : Type 0} (d s : Bool) (here position : X) (rest : Option X) (count : X → ℕ) (context : ℕ) → (s ≡ true → context ≡ count here)
     → (rest ≡ Some position → context ≡ count position) → cond (d && s) (Some here) rest ≡ Some position → context ≡ count position

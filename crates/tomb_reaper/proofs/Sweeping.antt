@@ -7,8 +7,8 @@ use Rattle.riak_msgs.specs.Contents.{Content}
 use Rattle.vnode_machine.specs.Machine.{State}
 use Rattle.vnode_machine.specs.Dead.{dead_keys, has_dead, reaped, reaped_each, swept, swept_keys}
 use Rattle.clock_store.specs.declared.store.Reaped.TheVariants.{Gone}
-use Rattle.vnode_protocol.specs.Plans.{View, RegistersReap, RegistersFirstReap}
-use Rattle.vnode_protocol.specs.Reaping.{after_first_reap, LosesFirstDead}
+use Rattle.vnode_core.specs.Plans.{View, RegistersReap, RegistersFirstReap}
+use Rattle.vnode_core.specs.Reaping.{after_first_reap, LosesFirstDead}
 use Rattle.tomb_reaper.specs.Sweeps.{RegistersReaps, prepared_after}
 
 -- so many keys are reaped, and so many may still be

@@ -4,7 +4,7 @@ use Rattle.riak_msgs.specs.declared.Key.{Key}
 use Rattle.riak_msgs.specs.Contents.{Content}
 use Rattle.vnode_machine.specs.Machine.{State}
 use Rattle.clock_store.specs.declared.store.Reaped.TheVariants.{Gone}
-use Rattle.vnode_protocol.specs.Plans.{RegistersReap}
+use Rattle.vnode_core.specs.Plans.{RegistersReap}
 
 -- what was prepared ends, where the budget allows a reap
 abbrev pub prepared_after : {X : Type 0} → (budget : ℕ) → Option X → Option X

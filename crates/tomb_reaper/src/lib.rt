@@ -16,7 +16,7 @@
 
 ghost use Rattle.std.specs.Prelude.{◌≡◌, length};
 ghost use Rattle.vnode_machine.specs.Dead.{has_dead, swept, swept_keys};
-ghost use Rattle.vnode_protocol.specs.Reaping.{key_given};
+ghost use Rattle.vnode_core.specs.Reaping.{key_given};
 ghost use Rattle.tomb_reaper.specs.Sweeps.{RegistersReaps, prepared_after};
 
 use riak_msgs::Key;

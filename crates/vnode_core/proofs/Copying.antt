@@ -15,11 +15,11 @@ use Rattle.vnode_machine.specs.Machine.{State, Stored, stored, clock_of}
 use Rattle.clock_store.specs.Keys.{Keys, synced}
 use Rattle.vnode_machine.specs.Copying.{IsClock, is_stuck, apply_copy}
 use Rattle.vnode_machine.specs.Sound.{IsSound}
-use Rattle.vnode_protocol.specs.declared.ask.Ask.TheVariants.{Copy}
-use Rattle.vnode_protocol.specs.declared.ask.Answer.TheVariants.{Copied}
-use Rattle.vnode_protocol.specs.KeyCopies.{KeyCopyView}
-use Rattle.vnode_protocol.specs.Plans.{Accepts}
-use Rattle.vnode_protocol.proofs.Sound.{sound-after}
+use Rattle.vnode_core.specs.declared.ask.Ask.TheVariants.{Copy}
+use Rattle.vnode_core.specs.declared.ask.Answer.TheVariants.{Copied}
+use Rattle.vnode_core.specs.KeyCopies.{KeyCopyView}
+use Rattle.vnode_core.specs.Plans.{AcceptsAsk}
+use Rattle.vnode_core.proofs.Sound.{sound-after}
 
 -- a copy that isn't stuck leaves few enough actors
 pub few-actors : (state : State Content) (key : Key) (clock : DotState (Option Content)) → is_stuck state key clock ≡ false → length (sync (clock_of state key) clock).known ≤ max_actors
@@ -36,13 +36,13 @@ not-stuck false h = refl
 -- it is taken, by what its key and its clock were lent as, and by a vnode with the same keys
 pub takes-copy : (state : State Content) (keys : Keys) (copy : KeyCopyView) (key : Key) (clock : DotState (Option Content))
     → key ≡ copy.key → clock ≡ copy.clock → IsClock copy.clock → state.closed ≡ None → is_stuck state key clock ≡ false → keys ≡ state.keys
-    → Accepts (record state { keys = keys }) (Copy copy)
+    → AcceptsAsk (record state { keys = keys }) (Copy copy)
 takes-copy state keys copy key clock of-key of-clock form opened unstuck same =
     let free : is_stuck state copy.key copy.clock ≡ false = (λ i. is_stuck state (sym of-key i) (sym of-clock i)) ∙ unstuck in
-    subst (λ (keys : Keys). Accepts (record state { keys = keys }) (Copy copy)) (sym same) (opened, (form, not-stuck (is_stuck state copy.key copy.clock) free))
+    subst (λ (keys : Keys). AcceptsAsk (record state { keys = keys }) (Copy copy)) (sym same) (opened, (form, not-stuck (is_stuck state copy.key copy.clock) free))
 
 -- a copy that is taken keeps the state sound
-pub sound-copied : (state : State Content) → IsSound state → (copy : KeyCopyView) → Accepts state (Copy copy) → IsSound (apply_copy state copy.key copy.clock)
+pub sound-copied : (state : State Content) → IsSound state → (copy : KeyCopyView) → AcceptsAsk state (Copy copy) → IsSound (apply_copy state copy.key copy.clock)
 sound-copied state is copy accepted =
     sound-after state is (Copy copy) Copied (apply_copy state copy.key copy.clock) (accepted.0, (refl, accepted.1, refl))
 

@@ -21,14 +21,14 @@ use Rattle.vnode_machine.specs.Step.{StepOutcome, Refused, del_step}
 use Rattle.vnode_machine.proofs.Formed.{sound-next}
 use Rattle.vnode_machine.proofs.Seen.{form-within}
 use Rattle.vnode_machine.proofs.Tests.{and_left, and_right, and_both}
-use Rattle.vnode_protocol.specs.declared.ask.Ask.TheVariants.{Del}
-use Rattle.vnode_protocol.specs.declared.ask.Answer.{Answer}
+use Rattle.vnode_core.specs.declared.ask.Ask.TheVariants.{Del}
+use Rattle.vnode_core.specs.declared.ask.Answer.{Answer}
 use Rattle.vnode_machine.specs.Sound.{IsForm, IsFormed, IsSound}
-use Rattle.vnode_protocol.specs.Plans.{StepsOpen}
+use Rattle.vnode_core.specs.Plans.{StepsOpen}
 use Rattle.clock_store.specs.Keys.{deleted}
 use Rattle.vnode_core.specs.Vnodes.{state_after}
 use Rattle.vnode_core.proofs.Putting.{find-next}
-use Rattle.vnode_protocol.proofs.Sound.{known-at}
+use Rattle.vnode_core.proofs.Sound.{known-at}
 
 -- a delete of a key by what was given as its context
 abbrev step_by : State Content → Key → Option Context → StepOutcome

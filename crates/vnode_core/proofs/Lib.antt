@@ -1,10 +1,15 @@
+pub mod Contexts
 pub mod Copying
 pub mod Deleting
+pub mod Entries
+pub mod Events
 pub mod Finishing
 pub mod Options
 pub mod Previews
 pub mod Putting
 pub mod Reaping
+pub mod Registers
 pub mod Rooms
 pub mod Showing
+pub mod Sound
 pub mod Walking

@@ -13,11 +13,11 @@ use Rattle.actor_epoch.specs.Dots.{actor_eq, counter_in}
 use Rattle.actor_epoch.specs.Given.{Context, Pairs, context_of}
 use Rattle.vnode_machine.specs.Asks.{put_command}
 use Rattle.vnode_machine.specs.Machine.{State, Stored, stored, is_bad_context, has_value, matches_clock, own_of, clock_of, put_check, pairs_of, room_checks}
-use Rattle.vnode_protocol.specs.declared.refusal.Refusal.{Refusal}
-use Rattle.vnode_protocol.specs.declared.refusal.Refusal.TheVariants.{NoMemory}
+use Rattle.vnode_core.specs.declared.refusal.Refusal.{Refusal}
+use Rattle.vnode_core.specs.declared.refusal.Refusal.TheVariants.{NoMemory}
 use Rattle.vnode_core.specs.Checks.{pairs_in, AreRead, is_ahead, last_dot, has_value_in, is_current_in, options_check}
 use Rattle.vnode_machine.specs.Sound.{IsFormed, IsSound}
-use Rattle.vnode_protocol.specs.Refusals.{RefusedBy}
+use Rattle.vnode_core.specs.Refusals.{RefusedBy}
 use Rattle.vnode_machine.proofs.Invariants.{clock_in}
 
 pub pairs-given : (seen : Option (List Dot)) → pairs_of (option_map Pairs seen) ≡ pairs_in seen

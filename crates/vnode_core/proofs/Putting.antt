@@ -25,7 +25,7 @@ use Rattle.vnode_machine.proofs.Keys.{find_stored, key_eq-refl}
 use Rattle.vnode_machine.proofs.Seen.{form-within, without-pairs}
 use Rattle.clock_store.specs.Keys.{Keys, written}
 use Rattle.vnode_machine.specs.Sound.{IsForm, IsFormed, IsSound}
-use Rattle.vnode_protocol.proofs.Sound.{known-at}
+use Rattle.vnode_core.proofs.Sound.{known-at}
 use Rattle.vnode_core.specs.Checks.{pairs_in}
 use Rattle.vnode_core.specs.Replies.{reply_after}
 use Rattle.vnode_core.proofs.Options.{pairs-given}

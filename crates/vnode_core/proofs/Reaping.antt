@@ -16,16 +16,16 @@ use denote.Enum.Bare.{sameb}
 use Rattle.clock_store.specs.contracts.store.Reaped.{the_type}
 use Rattle.clock_store.specs.declared.store.Reaped.{Reaped}
 use Rattle.clock_store.specs.declared.store.Reaped.TheVariants.{Gone, Kept, Absent}
-use Rattle.vnode_protocol.specs.declared.ask.Ask.TheVariants.{Reap as ReapAsk}
+use Rattle.vnode_core.specs.declared.ask.Ask.TheVariants.{Reap as ReapAsk}
 use Rattle.vnode_machine.specs.Sound.{IsSound}
 use Rattle.vnode_machine.proofs.Formed.{sound-next}
-use Rattle.vnode_protocol.specs.declared.ask.Answer.TheVariants as answers
-use Rattle.vnode_protocol.specs.Plans.{IsAccepted, Accepts, Registers, Steps, first_reap}
+use Rattle.vnode_core.specs.declared.ask.Answer.TheVariants as answers
+use Rattle.vnode_core.specs.Plans.{IsAcceptedStep, AcceptsAsk, Registers, Steps, first_reap}
 use Rattle.clock_store.specs.Forgetting.{holding, reap_result, after_reap, after_first_reap}
-use Rattle.vnode_protocol.specs.Reaping.{reap_outcome}
+use Rattle.vnode_core.specs.Reaping.{reap_outcome}
 use Rattle.clock_store.specs.Keys.{Keys}
-use Rattle.vnode_core.specs.Vnodes.{state_of, Fields}
-use Rattle.vnode_protocol.proofs.Sound.{registers-view}
+use Rattle.vnode_core.specs.Vnodes.{state_of, VnodeFields}
+use Rattle.vnode_core.proofs.Sound.{registers-view}
 
 -- a reap, by its result and the state after it
 module _ (state : State Content) (key : Key) (result : Reaped) (after : State Content) (exact : result ≡ reap_result state key) (leads : after ≡ after_reap state key) where
@@ -50,7 +50,7 @@ module _ (state : State Content) (key : Key) (result : Reaped) (after : State Co
       by false h = is
 
 -- the fields of a vnode that has forgotten a key
-pub gone-is : (v : Fields) (key : Key) (reaps : ℕ) (keys : Keys) → reaps ≡ counted v.reaps → Gone ≡ reap_result (holding v.store.keys) key
+pub gone-is : (v : VnodeFields) (key : Key) (reaps : ℕ) (keys : Keys) → reaps ≡ counted v.reaps → Gone ≡ reap_result (holding v.store.keys) key
     → keys ≡ (after_reap (holding v.store.keys) key).keys → record (state_of v) { reaps = reaps; keys = keys } ≡ after_reap (state_of v) key
 gone-is v key reaps keys n gone k = by (holds_dead (state_of v) key) (has_value (state_of v) key) gone k
   where
@@ -62,7 +62,7 @@ gone-is v key reaps keys n gone k = by (holds_dead (state_of v) key) (has_value 
     by false false gone k = cc
 
 -- and of one that has forgotten none
-pub kept-is : (v : Fields) (key : Key) (keys : Keys) (result : Reaped) → (result ≡ Gone → ⊥) → result ≡ reap_result (holding v.store.keys) key
+pub kept-is : (v : VnodeFields) (key : Key) (keys : Keys) (result : Reaped) → (result ≡ Gone → ⊥) → result ≡ reap_result (holding v.store.keys) key
     → keys ≡ (after_reap (holding v.store.keys) key).keys → record (state_of v) { keys = keys } ≡ after_reap (state_of v) key
 kept-is v key keys result not_gone exact k = by (holds_dead (state_of v) key) (has_value (state_of v) key) exact k
   where
@@ -100,7 +100,7 @@ pub record IsFirstGone (state : State Content) (from : Option Key) (after : Stat
   pub first : first_dead state from ≡ Some key
   pub is : after ≡ reaped state key
 
-pub first-gone : (v : Fields) (from : Option Key) (reaps : ℕ) (keys : Keys) → reaps ≡ counted v.reaps → true ≡ has_dead (holding v.store.keys) from
+pub first-gone : (v : VnodeFields) (from : Option Key) (reaps : ℕ) (keys : Keys) → reaps ≡ counted v.reaps → true ≡ has_dead (holding v.store.keys) from
     → keys ≡ (after_first_reap (holding v.store.keys) from).keys → IsFirstGone (state_of v) from (record (state_of v) { reaps = reaps; keys = keys })
 first-gone v from reaps keys n found k = by (first_dead (state_of v) from) refl found k
   where
@@ -122,15 +122,15 @@ gone-not Absent h e = cc
 
 -- a reap that is planned, by its result
 module _ (state : State Content) (key : Key) where
-  pub is-accepted : Gone ≡ reap_result state key → IsAccepted (outcome state (AskReap key))
-  is-accepted e = subst IsAccepted (sym (outcome-is state key Gone (after_reap state key) e refl)) tt
+  pub is-accepted : Gone ≡ reap_result state key → IsAcceptedStep (outcome state (AskReap key))
+  is-accepted e = subst IsAcceptedStep (sym (outcome-is state key Gone (after_reap state key) e refl)) tt
 
   -- one that is accepted forgets its key
-  pub steps-reap : (result : Reaped) (after : State Content) → Accepts state (ReapAsk key) → result ≡ reap_result state key → after ≡ after_reap state key
+  pub steps-reap : (result : Reaped) (after : State Content) → AcceptsAsk state (ReapAsk key) → result ≡ reap_result state key → after ≡ after_reap state key
       → Steps state (ReapAsk key) (answers.Reaped result) after
   steps-reap Gone after accepted e leads = (accepted.0, (refl, outcome-is state key Gone after e leads))
-  steps-reap Kept after accepted e leads = absurd (subst IsAccepted (outcome-is state key Kept after e leads) accepted.1)
-  steps-reap Absent after accepted e leads = absurd (subst IsAccepted (outcome-is state key Absent after e leads) accepted.1)
+  steps-reap Kept after accepted e leads = absurd (subst IsAcceptedStep (outcome-is state key Kept after e leads) accepted.1)
+  steps-reap Absent after accepted e leads = absurd (subst IsAcceptedStep (outcome-is state key Absent after e leads) accepted.1)
 
 -- a reap of the first dead key that is planned
 module _ (state : State Content) (is : IsSound state) (from : Option Key) where
@@ -142,13 +142,13 @@ module _ (state : State Content) (is : IsSound state) (from : Option Key) where
       by None e h = cc
       by (Some key) e h = accepts-first state is from key e
 
-  pub accepts-some : true ≡ has_dead state from → IsAccepted (first_reap state from)
-  accepts-some h = subst IsAccepted (sym (some-first (sym h))) tt
+  pub accepts-some : true ≡ has_dead state from → IsAcceptedStep (first_reap state from)
+  accepts-some h = subst IsAcceptedStep (sym (some-first (sym h))) tt
 
-  pub found-first : IsAccepted (first_reap state from) → has_dead state from ≡ true
+  pub found-first : IsAcceptedStep (first_reap state from) → has_dead state from ≡ true
   found-first a = by (first_dead state from) a
     where
-      by : (o : Option Key) → IsAccepted (option_map_or (λ key. outcome state (AskReap key)) o (Answered ReapKept)) → is_some o ≡ true
+      by : (o : Option Key) → IsAcceptedStep (option_map_or (λ key. outcome state (AskReap key)) o (Answered ReapKept)) → is_some o ≡ true
       by None a = absurd a
       by (Some key) a = refl
 

@@ -7,9 +7,9 @@ use Rattle.std.specs.FinMap.Entries.{find, is_sorted, below_all}
 use Rattle.riak_msgs.specs.declared.Key.{Key}
 use Rattle.riak_msgs.specs.Contents.{Content}
 use Rattle.riak_msgs.specs.KeyOrder.{key_cmp}
-use Rattle.place_map.specs.Behind.{is_behind, entries_behind, next_entry}
-use Rattle.place_map.specs.KeyRefs.{key_in}
-use Rattle.place_map.specs.declared.key_ref.KeyRef.{KeyRef}
+use Rattle.clock_store.specs.Behind.{is_behind, entries_behind, next_entry}
+use Rattle.clock_store.specs.KeyRefs.{key_in}
+use Rattle.clock_store.specs.declared.key_ref.KeyRef.{KeyRef}
 use Rattle.clock_store.specs.Keys.{stored_of}
 use Rattle.clock_store.specs.declared.stored_clock.StoredClock.{StoredClock}
 use Rattle.vnode_machine.specs.Machine.{State, Stored}

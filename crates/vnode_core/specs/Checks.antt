@@ -17,8 +17,8 @@ use Rattle.dvv_set.specs.Held.{actors_after, uncovered}
 use Rattle.vnode_machine.specs.Machine.{State, Stored, stored, actor_for, epoch_after, same_pairs, room_checks}
 use Rattle.clock_store.specs.Keys.{stored_of}
 use Rattle.clock_store.specs.declared.stored_clock.StoredClock.{StoredClock}
-use Rattle.vnode_protocol.specs.declared.refusal.Refusal.{Refusal}
-use Rattle.vnode_protocol.specs.Refusals.{GivenBy}
+use Rattle.vnode_core.specs.declared.refusal.Refusal.{Refusal}
+use Rattle.vnode_core.specs.Refusals.{GivenBy}
 use Rattle.vnode_core.specs.declared.checks.Writer.{Writer}
 
 abbrev pub pairs_in : Option (List Dot) → List Dot

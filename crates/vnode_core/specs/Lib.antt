@@ -1,4 +1,9 @@
 pub mod Checks
+pub mod Events
+pub mod KeyCopies
+pub mod Plans
 pub mod Readiness
+pub mod Reaping
+pub mod Refusals
 pub mod Replies
 pub mod Vnodes

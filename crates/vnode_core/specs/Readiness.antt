@@ -1,7 +1,7 @@
 -- The plan of a command that isn't refused.
-use Rattle.vnode_protocol.specs.declared.ask.Ask.{Ask}
-use Rattle.vnode_protocol.specs.declared.ask.Answer.{Answer}
-use Rattle.vnode_protocol.specs.declared.ask.Answer.TheVariants as answers
+use Rattle.vnode_core.specs.declared.ask.Ask.{Ask}
+use Rattle.vnode_core.specs.declared.ask.Answer.{Answer}
+use Rattle.vnode_core.specs.declared.ask.Answer.TheVariants as answers
 use Rattle.rw_gate.specs.declared.kept.Plan.{Plan}
 use Rattle.rw_gate.specs.declared.kept.Plan.TheVariants.{Change, Nothing}
 use Rattle.vnode_core.specs.declared.ready.Readiness.{Readiness}

@@ -1,11 +1,11 @@
 -- What a vnode's fields mean, and what is always true of them.
-use Rattle.std.specs.Prelude.{◌≡◌, ℕ, true, false, List, Option, Some, None, Result, Ok, Err}
+use Rattle.std.specs.Prelude.{◌≡◌, ◌≢◌, ℕ, true, false, List, Option, Some, None, Result, Ok, Err}
 use Rattle.riak_msgs.specs.declared.Key.{Key}
 use Rattle.riak_msgs.specs.Contents.{Content}
 use Rattle.riak_msgs.specs.declared.DelAsk.{DelAsk}
 use Rattle.riak_msgs.specs.declared.PutAsk.{PutAsk}
 use Rattle.sibling_register.specs.History.{Write, Tombstone}
-use Rattle.actor_epoch.specs.Given.{Pairs, context_of, pairs_read}
+use Rattle.actor_epoch.specs.Given.{Malformed, Pairs, context_of, pairs_read}
 use Rattle.actor_epoch.specs.declared.Actor.{Actor}
 use Rattle.actor_epoch.specs.declared.Dot.{Dot}
 use Rattle.dvv_set.specs.Clocks.{join}
@@ -16,24 +16,24 @@ use Rattle.vnode_machine.specs.Machine.{State, is_held, clock_of, actor_for, put
 use Rattle.vnode_machine.specs.Replies.{put_reply}
 use Rattle.vnode_machine.specs.Step.{DelDone, Answered, outcome}
 use Rattle.sibling_register.specs.Answers.{AskDel}
-use Rattle.vnode_protocol.specs.declared.ask.Ask.{Ask}
-use Rattle.vnode_protocol.specs.declared.ask.Ask.TheVariants.{Put, Del, Reap, ReapFirst, Copy, Close}
-use Rattle.vnode_protocol.specs.declared.ask.Answer.{Answer}
-use Rattle.vnode_protocol.specs.declared.ask.Answer.TheVariants as answers
-use Rattle.vnode_protocol.specs.declared.refusal.Refusal.{Refusal}
+use Rattle.vnode_core.specs.declared.ask.Ask.{Ask}
+use Rattle.vnode_core.specs.declared.ask.Ask.TheVariants.{Put, Del, Reap, ReapFirst, Copy, Close}
+use Rattle.vnode_core.specs.declared.ask.Answer.{Answer}
+use Rattle.vnode_core.specs.declared.ask.Answer.TheVariants as answers
+use Rattle.vnode_core.specs.declared.refusal.Refusal.{Refusal}
 use Rattle.vnode_core.specs.declared.ready.Ready.{Ready}
 use Rattle.vnode_core.specs.declared.checks.Writer.{Writer}
 use Rattle.vnode_machine.specs.Sound.{IsSound}
-use Rattle.vnode_protocol.specs.Plans.{View, Accepts, IsWrite, StepsOpen, Steps, RefusesOpen}
+use Rattle.vnode_core.specs.Plans.{View, AcceptsAsk, IsWrite, StepsOpen, Steps, RefusesOpen}
 use Rattle.clock_store.specs.declared.store.WriteKind.TheVariants.{Value, Tombstone as Dead}
-use Rattle.clock_store.specs.Contents.{Contents, HasRoom, HasSyncRoom}
+use Rattle.clock_store.specs.Contents.{Contents, HasWriteRoom, HasSyncRoom}
 use Rattle.clock_store.specs.Forgetting.{after_first_reap}
 use Rattle.clock_store.specs.Keys.{Keys, written, deleted}
-use Rattle.vnode_protocol.specs.Refusals.{RefusedBy}
+use Rattle.vnode_core.specs.Refusals.{RefusedBy}
 use Rattle.vnode_core.specs.Checks.{writer_of}
 
 -- the fields of a vnode, its store as what it means
-pub record Fields : Type 0 where
+pub record VnodeFields : Type 0 where
   pub id : ℕ
   pub epochs : ℕ
   pub writes : ℕ
@@ -44,7 +44,7 @@ pub record Fields : Type 0 where
   pub prepared : Option Ask
   pub closed : Option ℕ
 
-abbrev pub fields : (id epochs writes tombstones reaps : ℕ) → Contents → Option Ready → Option Ask → Option ℕ → Fields
+abbrev pub fields : (id epochs writes tombstones reaps : ℕ) → Contents → Option Ready → Option Ask → Option ℕ → VnodeFields
 fields id epochs writes tombstones reaps store ready prepared closed = record {
   id = id;
   epochs = epochs;
@@ -57,7 +57,7 @@ fields id epochs writes tombstones reaps store ready prepared closed = record {
   closed = closed;
 }
 
-abbrev pub state_of : Fields → State Content
+abbrev pub state_of : VnodeFields → State Content
 state_of v = record {
   vnode = v.id;
   last_epoch = v.epochs;
@@ -68,7 +68,7 @@ state_of v = record {
   closed = v.closed;
 }
 
-abbrev pub view_of : Fields → View
+abbrev pub view_of : VnodeFields → View
 view_of v = record { state = state_of v; prepared = v.prepared }
 
 -- the key of a write
@@ -89,9 +89,18 @@ written_by keys (ReapFirst from) actor = keys
 written_by keys (Copy copy) actor = keys
 written_by keys (Close number) actor = keys
 
+-- the context of a write, where it gives one, is of the form
+abbrev pub IsOfForm : Ask → Type 0
+IsOfForm (Put put) = context_of put.context ≢ Some Malformed
+IsOfForm (Del del) = context_of del.context ≢ Some Malformed
+IsOfForm (Reap key) = Unit {0}
+IsOfForm (ReapFirst from) = Unit {0}
+IsOfForm (Copy copy) = Unit {0}
+IsOfForm (Close number) = Unit {0}
+
 abbrev pub HasRoomFor : Contents → Ask → Actor → Type 0
-HasRoomFor store (Put put) actor = HasRoom store put.key (pairs_read (context_of put.context)) actor Value
-HasRoomFor store (Del del) actor = HasRoom store del.key (pairs_read (context_of del.context)) actor Dead
+HasRoomFor store (Put put) actor = HasWriteRoom store put.key (pairs_read (context_of put.context)) actor Value
+HasRoomFor store (Del del) actor = HasWriteRoom store del.key (pairs_read (context_of del.context)) actor Dead
 HasRoomFor store (Reap key) actor = ⊥
 HasRoomFor store (ReapFirst from) actor = ⊥
 HasRoomFor store (Copy copy) actor = ⊥
@@ -131,18 +140,18 @@ abbrev pub del_check_of_all : State Content → Key → Option ℕ
 del_check_of_all state key = update_check state key None (join (clock_of state key))
 
 -- the machine accepts a put, and this is who writes it and its answer
-pub record PutGives (state : State Content) (put : PutAsk) (ready : Ready) : Type 0 where
+pub record AcceptsPut (state : State Content) (put : PutAsk) (ready : Ready) : Type 0 where
   pub free : put_check state (put_command put) ≡ None
   pub writer : ready.writer ≡ writer_of state put.key
   pub answer : ready.answer ≡ answers.Put (put_reply (state_after state (Put put)) (put_command put))
 
 -- who writes the tombstone of a delete, or nobody, where it does nothing; or its refusal
-abbrev pub DelGives : State Content → DelAsk → Result (Option Writer) Refusal → Type 0
-DelGives state del (Ok None) = outcome state (AskDel (del_command del)) ≡ Answered DelDone
-DelGives state del (Ok (Some writer)) =
+abbrev pub PlansDel : State Content → DelAsk → Result (Option Writer) Refusal → Type 0
+PlansDel state del (Ok None) = outcome state (AskDel (del_command del)) ≡ Answered DelDone
+PlansDel state del (Ok (Some writer)) =
     StepsOpen state (Del del) answers.Del (state_after state (Del del))
     × (writer ≡ writer_of state del.key)
-DelGives state del (Err refusal) = RefusesOpen state (Del del) refusal
+PlansDel state del (Err refusal) = RefusesOpen state (Del del) refusal
 
 -- the machine accepts a tombstone over all that is stored of a key, and this is who writes it
 pub record IsToOverwrite (state : State Content) (key : Key) (writer : Writer) : Type 0 where
@@ -158,7 +167,7 @@ DelOfAllGives state key (Err refusal) =
     (is_held state key ≡ true) × RefusedBy refusal (del_check_of_all state key)
 
 -- the machine accepts the write, which has room, and its answer lies ready
-pub record IsReady (state : State Content) (store : Contents) (ready : Option Ready) (ask : Ask) (write : IsWrite ask) : Type 0 where
+pub record IsWriteReady (state : State Content) (store : Contents) (ready : Option Ready) (ask : Ask) (write : IsWrite ask) : Type 0 where
   pub answer : Answer
   pub step : Steps state ask answer (state_after state ask)
   pub room : HasRoomFor store ask (actor_for state (key_in ask write))
@@ -167,13 +176,13 @@ pub record IsReady (state : State Content) (store : Contents) (ready : Option Re
 -- what is prepared is ready; a reap and a close need nothing but to be accepted
 abbrev pub IsReadyFor : State Content → Contents → Option Ready → Option Ask → Type 0
 IsReadyFor state store ready None = Unit {0}
-IsReadyFor state store ready (Some (Put put)) = IsReady state store ready (Put put) tt
-IsReadyFor state store ready (Some (Del del)) = IsReady state store ready (Del del) tt
-IsReadyFor state store ready (Some (Reap key)) = Accepts state (Reap key)
-IsReadyFor state store ready (Some (ReapFirst from)) = Accepts state (ReapFirst from)
-IsReadyFor state store ready (Some (Copy copy)) = Accepts state (Copy copy) × HasSyncRoom store copy.key copy.clock
-IsReadyFor state store ready (Some (Close number)) = Accepts state (Close number)
+IsReadyFor state store ready (Some (Put put)) = IsWriteReady state store ready (Put put) tt
+IsReadyFor state store ready (Some (Del del)) = IsWriteReady state store ready (Del del) tt
+IsReadyFor state store ready (Some (Reap key)) = AcceptsAsk state (Reap key)
+IsReadyFor state store ready (Some (ReapFirst from)) = AcceptsAsk state (ReapFirst from)
+IsReadyFor state store ready (Some (Copy copy)) = AcceptsAsk state (Copy copy) × HasSyncRoom store copy.key copy.clock
+IsReadyFor state store ready (Some (Close number)) = AcceptsAsk state (Close number)
 
-pub record IsVnode (v : Fields) : Type 0 where
+pub record IsVnode (v : VnodeFields) : Type 0 where
   pub sound : IsSound (state_of v)
   pub ready : IsReadyFor (state_of v) v.store v.ready v.prepared

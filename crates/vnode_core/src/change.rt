@@ -1,7 +1,7 @@
 //! A change that is planned and not yet made.
 
+use crate::ask::Ask;
 use std::marker::Model;
-use vnode_protocol::Ask;
 
 /// A command that a vnode has accepted and not yet made; contracts see the command. It can only be made, by the vnode
 /// that prepared it last, or be let go, which leaves the vnode as it is.
@@ -11,7 +11,7 @@ pub struct Change {
 }
 
 impl Model for Change {
-    ghost use Rattle.vnode_protocol.specs.declared.ask.Ask.{Ask};
+    ghost use Rattle.vnode_core.specs.declared.ask.Ask.{Ask};
 
     ghost Value = { Ask };
 

@@ -6,14 +6,14 @@ ghost use Rattle.dvv_set.specs.Held.{pairs_of as seen_in};
 ghost use Rattle.dvv_set.specs.Laws.{IsClock};
 ghost use Rattle.vnode_core.specs.Checks.{found_in, last_dot, has_value_in, is_current_in, options_check, ChecksStored, ChecksRoom, first_writer, next_writer, GivesWriter, GivesWriterOf, siblings_check, actor_check, writer_check};
 ghost use Rattle.vnode_machine.specs.Sound.{IsForm, IsFormed};
-ghost use Rattle.vnode_protocol.specs.Refusals.{GivenBy, RefusedBy};
+ghost use Rattle.vnode_core.specs.Refusals.{GivenBy, RefusedBy};
 ghost use Rattle.clock_store.specs.Keys.{stored_of};
 
 use crate::context;
+use crate::refusal::Refusal;
 use actor_epoch::{Actor, Context, Dot, MAX_ACTORS, MAX_COUNTER, MAX_EPOCH};
 use clock_store::StoredClock;
 use riak_msgs::PutAsk;
-use vnode_protocol::Refusal;
 
 /// The most siblings of a key, as the clock counts them.
 pub(crate) const MAX_SIBLINGS: u128 = sibling_register::MAX_SIBLINGS as u128;

@@ -1,7 +1,8 @@
 //! The context that a command gives.
 
-ghost use Rattle.std.specs.Prelude.{◌≡◌, length};
+ghost use Rattle.std.specs.Prelude.{◌≡◌, ◌≢◌, Some, length};
 ghost use Rattle.std.specs.List.{list_any};
+ghost use Rattle.actor_epoch.specs.Given.{context_of, pairs_read, Malformed};
 ghost use Rattle.dvv_set.specs.Held.{pairs_of as seen_in};
 ghost use Rattle.vnode_core.specs.Checks.{pairs_in, AreRead, is_ahead};
 
@@ -15,6 +16,17 @@ pub(crate) fn len(context: Option<&Context<'_>>) -> usize
         None => 0,
         Some(context) => context.pairs().len(),
     }
+}
+
+/// What the context of a command has seen whose form was checked, with no second look at it; None where it gives none.
+pub(crate) fn seen_by(given: &[u8]) -> Option<Context<'_>>
+    requires { context_of given.now ≢ Some Malformed }
+    ensures { result ≡ pairs_read (context_of given.now) }
+{
+    if given.is_empty() {
+        return None;
+    }
+    Some(Context::of_form(given))
 }
 
 /// Whether some pair can't have been given by a vnode of this id, which gave this epoch last and this dot last in the

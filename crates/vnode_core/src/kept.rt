@@ -2,13 +2,15 @@
 
 ghost use Rattle.std.specs.Prelude.{◌≡◌};
 
+use crate::ask::{Answer, Ask, Plan};
 use crate::change::Change;
+use crate::entry::Entry;
+use crate::refusal::Refusal;
 use crate::vnode::VnodeOver;
 use clock_store::ClockStore;
 use rw_gate::Kept;
 use std::alloc::Global;
 use std::snapshot::Snapshot;
-use vnode_protocol::{Answer, Ask, Entry, Plan, Refusal};
 
 /// A change, and for clauses alone the vnode as it was when the change was prepared: the two fix the event that the
 /// change makes in a gate's history, its answer too.
@@ -35,8 +37,8 @@ impl<S: ClockStore> Kept for VnodeOver<S> {
     ghost use Rattle.std.specs.Prelude.{◌≡◌};
     ghost use Rattle.riak_msgs.specs.Contents.{Content};
     ghost use Rattle.vnode_machine.specs.Machine.{State};
-    ghost use Rattle.vnode_protocol.specs.Plans.{Refuses, IsAnswered};
-    ghost use Rattle.vnode_protocol.specs.Events.{Makes, Asks, AnsweredBy, entry_of, IsLoggable};
+    ghost use Rattle.vnode_core.specs.Plans.{Refuses, IsAnsweredUnchanged};
+    ghost use Rattle.vnode_core.specs.Events.{Makes, EntryAsks, AnsweredBy, entry_of, IsLoggable};
 
     ghost State = { State Content };
 
@@ -44,11 +46,11 @@ impl<S: ClockStore> Kept for VnodeOver<S> {
 
     ghost accepts = { Makes };
 
-    ghost answers = { IsAnswered };
+    ghost answers = { IsAnsweredUnchanged };
 
     ghost refuses = { Refuses };
 
-    ghost asks = { Asks };
+    ghost asks = { EntryAsks };
 
     ghost answered_by = { AnsweredBy };
 

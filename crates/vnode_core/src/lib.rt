@@ -4,13 +4,20 @@
 //! (`outcome` in its `specs/Step`): each key that it holds has the actor of its life, but where it came by copies alone, and
 //! a clock whose live dots are its siblings. A command is refused, or planned by [`Vnode::prepare`] and made by
 //! [`Vnode::finish`]. At every history that may have led to its state, each call answers as the sibling register does
-//! (`Registers` in `specs/Plans` of `vnode_protocol`, which has the commands, answers, refusals and events too).
+//! (`Registers` in `specs/Plans`).
+//!
+//! What a command comes to is the machine's outcome of it (`ask_outcome` in `specs/Plans`). A call that plans a command meets
+//! `Plans`, or refuses it as `Refuses` says; one that makes it meets `Steps`; and in each sound state (`IsSound` of
+//! `vnode_machine`) these are outcomes of the sibling register (`RegistersAsk`). Each [`Refusal`] has its number (`specs/Refusals`)
+//! and its error text.
 //!
 //! What is prepared is in the vnode's model, the whole command with its options and its context as given, and a
 //! [`Change`] is that command and nothing else. Room, the actor and the answer that were made for it lie in the vnode, so
 //! nothing that callers see is a place, an index or a number of actors; the next `prepare` or `finish` ends it.
 //!
-//! Behind a gate (`rw_gate`) a vnode is a [`Kept`] state. Its change there, a [`LoggedChange`], carries for clauses alone the
+//! Behind a gate (`rw_gate`) a vnode is a [`Kept`] state, and an [`Entry`] is what its history consists of: an [`Event`], which is a
+//! command that was accepted with its answer, a copy of a key from another vnode, or the close of a vnode, after which it takes nothing
+//! more. Its change there, a [`LoggedChange`], carries for clauses alone the
 //! vnode that it was prepared from, and the two name the [`Event`] that it makes in the gate's history, with its answer.
 //! [`histories_are_legal`] is the law of such a history.
 //!
@@ -29,30 +36,45 @@
 //! vnode.tally()                             writes: 1, tombstones: 0, reaps: 0
 //! ```
 //!
+//! ```text
+//! Ask::Put(put)              planned as Plan::Change, made with Answer::Put(reply)     Event::Put(put, reply)
+//! Ask::Del(del)              planned as Plan::Change, made with Answer::Del            Event::Del(del)
+//! Ask::Del(del), absent      planned as Plan::Nothing(Answer::Del)                     no event
+//! Ask::Reap(key), dead       made with Answer::Reaped(Reaped::Gone)                    Event::Reap(key)
+//! Ask::Put(put), 64 stay     Refusal::TooManySiblings, Text::TooManySiblings           no event
+//! ```
+//!
 //! Sources: the documentation of Riak's Protocol Buffers client API for get, put and delete, and of its actor epochs;
 //! dotted version vector sets (Preguiça, Baquero, Almeida, Fonte, Gonçalves) for dots, and for which siblings stay.
 #![tactic(auto)]
 
+mod ask;
 mod change;
 mod checks;
 mod context;
+mod entry;
+mod event;
 mod kept;
+mod key_copy;
 mod laws;
 mod ready;
+mod refusal;
 mod replies;
 mod vnode;
 
+pub use ask::{Answer, Ask, Plan, Reaped};
 pub use change::Change;
 /// The law of copies between a primary vnode and its fallbacks: what is live of a key at the primary are its joint siblings.
 pub use copy_laws::copy_joins;
+pub use entry::Entry;
+pub use event::{Event, histories_are_legal};
 pub use kept::LoggedChange;
+pub use key_copy::KeyCopy;
 pub use laws::{
     dots_are_of_lives, first_dead_is_least, machine_is_register, no_dot_is_issued_twice,
     runs_are_histories, shown_context_is_the_name, shown_contexts_name_positions,
     values_leave_only_covered,
 };
+pub use refusal::Refusal;
 pub use rw_gate::Kept;
 pub use vnode::{Tally, Vnode, VnodeOver};
-pub use vnode_protocol::{
-    Answer, Ask, Entry, Event, KeyCopy, Plan, Reaped, Refusal, histories_are_legal,
-};

@@ -6,14 +6,15 @@ ghost use Rattle.riak_msgs.specs.Contents.{Content};
 ghost use Rattle.rw_gate.specs.declared.kept.Plan.TheVariants.{Nothing};
 ghost use Rattle.vnode_machine.specs.Machine.{State, stored};
 ghost use Rattle.vnode_core.specs.Checks.{found_in};
-ghost use Rattle.vnode_protocol.specs.Reaping.{reap_result};
+ghost use Rattle.vnode_core.specs.Reaping.{reap_result};
 ghost use Rattle.vnode_core.specs.Vnodes.{writes_after, tombstones_after};
 ghost use Rattle.vnode_core.specs.Readiness.{plan_in};
 
+use crate::ask::{Answer, Ask, Plan, Reaped};
 use crate::change::Change;
 use crate::checks::Writer;
+use crate::refusal::Refusal;
 use clock_store::StoredClock;
-use vnode_protocol::{Answer, Ask, Plan, Reaped, Refusal};
 
 /// Who makes the write that is prepared, and its answer.
 #[derive(Drop)]

@@ -10,12 +10,12 @@ ghost use Rattle.vnode_machine.specs.Machine.{opening, stored, put_check};
 ghost use Rattle.vnode_machine.specs.Replay.{IsAfter};
 ghost use Rattle.vnode_machine.specs.Step.{outcome, Answered, GetDone};
 ghost use Rattle.vnode_core.specs.Checks.{found_in, writer_of};
-ghost use Rattle.vnode_protocol.specs.declared.ask.Ask.TheVariants.{Put, Del};
+ghost use Rattle.vnode_core.specs.declared.ask.Ask.TheVariants.{Put, Del};
 ghost use Rattle.vnode_machine.specs.Sound.{IsSound};
-ghost use Rattle.vnode_protocol.specs.Plans.{IsPrepared, Plans, Refuses, RefusesOpen, Registers, RegistersPlan, RegistersStep, Steps, AcceptsPrepared, IsWrite};
+ghost use Rattle.vnode_core.specs.Plans.{IsPrepared, Plans, Refuses, RefusesOpen, Registers, RegistersPlan, RegistersStep, Steps, AcceptsPrepared, IsWrite};
 ghost use Rattle.vnode_core.specs.Readiness.{plan_in};
-ghost use Rattle.vnode_protocol.specs.Refusals.{GivenBy};
-ghost use Rattle.vnode_core.specs.Vnodes.{written_by, HasRoomFor, PutGives};
+ghost use Rattle.vnode_core.specs.Refusals.{GivenBy};
+ghost use Rattle.vnode_core.specs.Vnodes.{written_by, IsOfForm, HasRoomFor, AcceptsPut};
 
 mod copying;
 mod deleting;
@@ -23,20 +23,20 @@ mod keys;
 mod reaping;
 mod tally;
 
+use crate::ask::{Answer, Ask, Plan};
 use crate::change::Change;
 use crate::checks::{Writer, check_options, check_room, last_of};
-use crate::context::names_unissued_dot;
+use crate::context::{self, names_unissued_dot};
 use crate::ready::{Readiness, Ready, plan_of, refuse, set_ready, tombstones_after, writes_after};
+use crate::refusal::Refusal;
 use crate::replies::{absent_reply, put_reply, siblings_reply};
 use actor_epoch::{Actor, Context, EpochSource};
-use clock_map::ClockMap;
-use clock_store::{ClockStore, StoredClock, WriteKind, place_in, stored_in};
+use clock_store::{ClockMap, ClockStore, StoredClock, WriteKind, place_in, stored_in};
 use ghost_state::GhostValue;
 use riak_msgs::{DelAsk, GetAsk, GetReply, PutAsk};
 use std::alloc::Global;
 use std::marker::Model;
 pub use tally::Tally;
-use vnode_protocol::{Answer, Ask, Plan, Refusal};
 
 /// One vnode: the keys that it holds, each with its siblings. Contracts see the vnode machine's state, and the command
 /// that was prepared last and isn't made yet.
@@ -90,7 +90,7 @@ impl<S: ClockStore> Drop for VnodeOver<S> {
 }
 
 impl<S: ClockStore> Model for VnodeOver<S> {
-    ghost use Rattle.vnode_protocol.specs.Plans.{View};
+    ghost use Rattle.vnode_core.specs.Plans.{View};
 
     ghost Value = { View };
 
@@ -106,9 +106,19 @@ impl<S: ClockStore> Model for VnodeOver<S> {
 /// A vnode over the ordered map of clocks.
 pub type Vnode = VnodeOver<ClockMap>;
 
+/// Gives up what lies ready, with its room.
+fn give_up<S: ClockStore>(store: &mut S, ready: &mut Option<Ready>)
+    ensures { (S.shows store.new).keys ≡ (S.shows store.old).keys }
+{
+    if ready.take().is_some() {
+        store.drop_room();
+    }
+}
+
 /// Writes what a command asks for, at an actor, where there is room.
 fn write<S: ClockStore>(store: &mut S, ask: Ask, actor: Actor)
-    requires { HasRoomFor (S.shows store.old) ask actor }
+    requires form { IsOfForm ask }
+    requires room { HasRoomFor (S.shows store.old) ask actor }
     ensures { (S.shows store.new).keys ≡ written_by (S.shows store.old).keys ask actor }
 {
     match ask {
@@ -120,7 +130,8 @@ fn write<S: ClockStore>(store: &mut S, ask: Ask, actor: Actor)
 
 /// Writes the content of a put.
 fn write_content<S: ClockStore>(store: &mut S, put: PutAsk, actor: Actor)
-    requires { HasRoomFor (S.shows store.old) (Put put) actor }
+    requires form { IsOfForm (Put put) }
+    requires room { HasRoomFor (S.shows store.old) (Put put) actor }
     ensures { (S.shows store.new).keys ≡ written_by (S.shows store.old).keys (Put put) actor }
 {
     let PutAsk {
@@ -129,17 +140,18 @@ fn write_content<S: ClockStore>(store: &mut S, put: PutAsk, actor: Actor)
         content,
         ..
     } = put;
-    let seen = Context::read(context.as_slice());
+    let seen = context::seen_by(context.as_slice());
     store.write(key, seen.as_ref(), actor, Some(content));
 }
 
 /// Writes the tombstone of a delete: over what its context has seen, or without one over all.
 fn write_tombstone<S: ClockStore>(store: &mut S, del: DelAsk, actor: Actor)
-    requires { HasRoomFor (S.shows store.old) (Del del) actor }
+    requires form { IsOfForm (Del del) }
+    requires room { HasRoomFor (S.shows store.old) (Del del) actor }
     ensures { (S.shows store.new).keys ≡ written_by (S.shows store.old).keys (Del del) actor }
 {
     let DelAsk { key, context } = del;
-    match Context::read(context.as_slice()) {
+    match context::seen_by(context.as_slice()) {
         None => store.overwrite(key, actor, None),
         Some(seen) => store.write(key, Some(&seen), actor, None),
     }
@@ -203,8 +215,7 @@ impl<S: ClockStore> VnodeOver<S> {
         ensures accepted { AcceptsPrepared self.old }
     {
         self.prepared = GhostValue::none(); // the earlier one is given up
-        self.ready = None;
-        self.store.drop_room();
+        give_up(&mut self.store, &mut self.ready);
     }
 
     /// Makes ready all that a command needs, where nothing is prepared; then it is what is prepared.
@@ -239,7 +250,7 @@ impl<S: ClockStore> VnodeOver<S> {
     ) -> Result<Ready, Refusal>
         requires given { context_of put.now.context ≡ option_map Pairs (seen_in context) }
         requires found { found_in found ≡ stored self.now.state put.now.key }
-        ensures ok { IfOk result (λ ready. PutGives self.now.state put.now ready) }
+        ensures ok { IfOk result (λ ready. AcceptsPut self.now.state put.now ready) }
         ensures err { IfErr result (λ refusal. RefusesOpen self.now.state (Put put.now) refusal) }
     {
         let writer = self.check_put(put, found, context)?;

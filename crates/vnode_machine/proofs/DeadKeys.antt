@@ -149,7 +149,7 @@ module _ (state : State Content) (key : Key) where
       tests other = ap (λ b. is_from from other && b) (reaped-dead other) ∙ turned (is_from from other) (not (eq_by_cmp key_cmp key other)) (holds_dead state other)
 
 -- the first that passes a test passes it
-first-passes : {X : Type 0} (p : X → Bool) (xs : List X) (x : X) → slice_get (filter p xs) 0 ≡ Some x → p x ≡ true
+pub first-passes : {X : Type 0} (p : X → Bool) (xs : List X) (x : X) → slice_get (filter p xs) 0 ≡ Some x → p x ≡ true
 first-passes p [] x h = cc
 first-passes {X} p (y ∷ xs) x h = by (p y) refl h (first-passes p xs x)
   where

@@ -22,6 +22,7 @@ use Rattle.vnode_machine.proofs.Keys.{find_stored, find_reaped, key_eq-same}
 use Rattle.actor_epoch.proofs.Pairs.{counter_in-insert_max, counter_in-union}
 use Rattle.vnode_machine.proofs.Counters.{actor_eq-refl}
 use Rattle.vnode_machine.proofs.Tests.{and_both, and_left, and_right}
+use Rattle.dvv_set.proofs.ClockEntries.{actor_eq-back as actor_eq-sym}
 
 -- no dot of this actor is past this counter
 abbrev pub is_below : Actor → ℕ → List Dot → Bool
@@ -90,12 +91,6 @@ next_new own n (d ∷ ds) h =
     by : (a : Bool) → (not a || nat_le d.counter n) ≡ true → (a && (d.counter == suc n)) ≡ false
     by true h = grind (arith, nat_tests)
     by false h = refl
-
-actor_eq-sym : (a b : Actor) → actor_eq a b ≡ actor_eq b a
-actor_eq-sym a b = rw (nat_eq-sym a.vnode b.vnode, nat_eq-sym a.epoch b.epoch) refl
-  where
-    nat_eq-sym : (a b : ℕ) → nat_eq a b ≡ nat_eq b a
-    nat_eq-sym a b = grind (arith, nat_tests)
 
 -- a write or tombstone more, at an actor and counter that fit
 put_sound : (look look' : Key → Option (Stored Content)) (last last' : ℕ) (ds : List Dot) (at : Key) (next : Stored Content) (c : ℕ)

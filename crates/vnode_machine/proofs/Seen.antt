@@ -19,11 +19,7 @@ use Rattle.dvv_set.specs.Held.{IsWithin, actors_after, known_after, known_with, 
 use Rattle.vnode_machine.specs.Sound.{IsForm}
 use Rattle.vnode_machine.proofs.Forms.{counter-most}
 use Rattle.vnode_machine.proofs.Tests.{or_left, or_right}
-
-pub less : (o : Ordering) → IsTrue (is_lt o) → o ≡ Less
-less Less h = refl
-less Equal h = cc
-less Greater h = cc
+pub use Rattle.actor_epoch.proofs.Order.{is_lt-less as less}
 
 -- a rising list without what no context saw
 insert_max-rising : (pair : Dot) (pairs : List Dot) → is_rising (pair ∷ pairs) ≡ true → insert_max pair pairs ≡ pair ∷ pairs

@@ -32,7 +32,7 @@ IsSeen pairs saw entry number = covers pairs entry.0 ≡ is_among saw number
 abbrev pub next_in : Actor → List Dot → Option Content → Option (Stored Content) → Stored Content
 next_in own pairs value o = record { own = Some own; clock = event own value (discard pairs (clock_in o)) }
 
-nat_cmp-less : (a b : ℕ) → a < b → nat_cmp a b ≡ Less
+pub nat_cmp-less : (a b : ℕ) → a < b → nat_cmp a b ≡ Less
 nat_cmp-less a b h = let t : nat_lt a b ≡ true = grind (arith, nat_tests) in rw t refl
 
 not_later : (n m t c : ℕ) → m ≤ n → c ≤ t → nat_le (suc n) m ≡ nat_le (t + 1) c

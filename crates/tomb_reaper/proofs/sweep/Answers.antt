@@ -1,6 +1,6 @@
 use Rattle.std.proofs.Common.{◌∙◌, sym, ap, subst}
 use Rattle.vnode_machine.specs.Dead.{swept_keys}
-use Rattle.vnode_protocol.specs.Reaping.{key_given}
+use Rattle.vnode_core.specs.Reaping.{key_given}
 use Rattle.tomb_reaper.specs.Sweeps.{RegistersReaps}
 use Rattle.tomb_reaper.proofs.Sweeping.{sweep-begins, sweep-goes-on, spent, used-up}
 use Rattle.tomb_reaper.proofs.sweep.Goals.{then-loop-reaped-test+else-reap_first, else-loop-reaped-test}

@@ -1,5 +1,5 @@
 use Rattle.std.proofs.Common.{◌-◌}
-use Rattle.vnode_protocol.specs.Reaping.{key_given}
+use Rattle.vnode_core.specs.Reaping.{key_given}
 use Rattle.tomb_reaper.proofs.Sweeping.{IsSweeping}
 use Rattle.tomb_reaper.proofs.sweep.Given as goal
 

@@ -5,13 +5,16 @@ ghost use Rattle.riak_msgs.specs.declared.Key.{Key};
 ghost use Rattle.riak_msgs.specs.Contents.{Content};
 ghost use Rattle.vnode_machine.specs.Copying.{is_stuck};
 ghost use Rattle.vnode_machine.specs.Machine.{State, stored};
-ghost use Rattle.vnode_protocol.specs.declared.ask.Ask.TheVariants.{Copy, Close};
-ghost use Rattle.vnode_protocol.specs.Plans.{Plans, Refuses, RegistersStep, Steps};
+ghost use Rattle.vnode_core.specs.declared.ask.Ask.TheVariants.{Copy, Close};
+ghost use Rattle.vnode_core.specs.Plans.{Plans, Refuses, RegistersStep, Steps};
 ghost use Rattle.vnode_core.specs.Checks.{found_in};
 ghost use Rattle.vnode_core.specs.Readiness.{plan_in};
 
+use crate::ask::{Answer, Ask};
 use crate::checks::MAX_SIBLINGS;
+use crate::key_copy::KeyCopy;
 use crate::ready::Readiness;
+use crate::refusal::Refusal;
 use crate::vnode::VnodeOver;
 use actor_epoch::MAX_ACTORS;
 use clock_store::{ClockStore, StoredClock, place_in, stored_in};
@@ -19,7 +22,6 @@ use dvv_set::Clock;
 use ghost_state::GhostValue;
 use riak_msgs::Content;
 use std::alloc::Global;
-use vnode_protocol::{Answer, Ask, KeyCopy, Refusal};
 
 /// Whether a key would have too many siblings, or its clock too many actors, once it is synced with another clock.
 fn is_stuck(alloc: Global, found: Option<&StoredClock>, other: &Clock<Option<Content>>) -> bool

@@ -4,24 +4,25 @@ ghost use Rattle.std.specs.Prelude.{◌≡◌, None, IfOk, IfErr};
 ghost use Rattle.std.specs.Option.{option_map};
 ghost use Rattle.actor_epoch.specs.Given.{context_of, Pairs};
 ghost use Rattle.dvv_set.specs.Held.{pairs_of as seen_in};
-ghost use Rattle.vnode_protocol.specs.declared.ask.Ask.TheVariants.{Del};
-ghost use Rattle.vnode_protocol.specs.Plans.{Plans, Refuses};
-ghost use Rattle.vnode_protocol.specs.Refusals.{GivenBy};
+ghost use Rattle.vnode_core.specs.declared.ask.Ask.TheVariants.{Del};
+ghost use Rattle.vnode_core.specs.Plans.{Plans, Refuses};
+ghost use Rattle.vnode_core.specs.Refusals.{GivenBy};
 ghost use Rattle.vnode_machine.specs.Machine.{stored};
 ghost use Rattle.vnode_core.specs.Checks.{found_in, writer_of};
 ghost use Rattle.vnode_core.specs.Readiness.{plan_in};
-ghost use Rattle.vnode_core.specs.Vnodes.{del_check_by, DelOfAllGives, DelGives};
+ghost use Rattle.vnode_core.specs.Vnodes.{del_check_by, DelOfAllGives, PlansDel};
 
+use crate::ask::{Answer, Ask};
 use crate::checks::{Writer, check_overwrite, check_room, last_of};
 use crate::context::names_unissued_dot;
 use crate::ready::{Readiness, Ready, set_ready};
+use crate::refusal::Refusal;
 use crate::vnode::VnodeOver;
 use actor_epoch::Context;
 use clock_store::{ClockStore, StoredClock, WriteKind, place_in, stored_in};
 use ghost_state::GhostValue;
 use riak_msgs::{DelAsk, Key};
 use std::alloc::Global;
-use vnode_protocol::{Answer, Ask, Refusal};
 
 impl<S: ClockStore> VnodeOver<S> {
     /// Checks a delete by a context, by what was found of its key; returns who writes its tombstone.
@@ -70,7 +71,7 @@ impl<S: ClockStore> VnodeOver<S> {
     ) -> Result<Option<Writer>, Refusal>
         requires given { context_of del.now.context ≡ option_map Pairs (seen_in context) }
         requires found { found_in found ≡ stored self.now.state del.now.key }
-        ensures { DelGives self.now.state del.now result }
+        ensures { PlansDel self.now.state del.now result }
     {
         match context {
             None => self.check_del_of_all(&del.key, found),

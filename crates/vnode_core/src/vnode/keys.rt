@@ -3,8 +3,8 @@
 ghost use Rattle.std.specs.Prelude.{◌≡◌, [], None, IfSome};
 ghost use Rattle.std.specs.Option.{option_map};
 ghost use Rattle.riak_msgs.specs.KeyOrder.{key_cmp};
-ghost use Rattle.place_map.specs.Behind.{next_entry};
-ghost use Rattle.place_map.specs.KeyRefs.{key_in, key_after};
+ghost use Rattle.clock_store.specs.Behind.{next_entry};
+ghost use Rattle.clock_store.specs.KeyRefs.{key_in, key_after};
 ghost use Rattle.clock_store.specs.Keys.{stored_of};
 ghost use Rattle.vnode_machine.specs.Copying.{IsClock};
 ghost use Rattle.vnode_machine.specs.Machine.{opening, stored};

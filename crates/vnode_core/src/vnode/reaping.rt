@@ -2,17 +2,17 @@
 
 ghost use Rattle.std.specs.Prelude.{◌≡◌, None, Some};
 ghost use Rattle.vnode_machine.specs.Dead.{has_dead};
-ghost use Rattle.vnode_protocol.specs.declared.ask.Ask.TheVariants.{Reap, ReapFirst};
-ghost use Rattle.vnode_protocol.specs.Plans.{Plans, RegistersReap, RegistersFirstReap, RegistersStep, Steps};
+ghost use Rattle.vnode_core.specs.declared.ask.Ask.TheVariants.{Reap, ReapFirst};
+ghost use Rattle.vnode_core.specs.Plans.{Plans, RegistersReap, RegistersFirstReap, RegistersStep, Steps};
 ghost use Rattle.vnode_core.specs.Readiness.{plan_in};
-ghost use Rattle.vnode_protocol.specs.Reaping.{key_given, reap_result, after_reap, after_first_reap, LosesFirstDead};
+ghost use Rattle.vnode_core.specs.Reaping.{key_given, reap_result, after_reap, after_first_reap, LosesFirstDead};
 
+use crate::ask::{Answer, Ask, Reaped};
 use crate::ready::{Readiness, reap_result};
 use crate::vnode::VnodeOver;
 use clock_store::ClockStore;
 use ghost_state::GhostValue;
 use riak_msgs::Key;
-use vnode_protocol::{Answer, Ask, Reaped};
 
 impl<S: ClockStore> VnodeOver<S> {
     /// Forgets a dead key whole, with its clock; its next write begins a new life, at a new actor. `Gone`: it was dead, and

@@ -1,7 +1,7 @@
 use Rattle.std.proofs.Common.{◌≡◌, map, drop}
 use Rattle.riak_msgs.specs.KeyOrder.{key_cmp}
-use Rattle.place_map.specs.Behind.{next_entry}
-use Rattle.place_map.specs.KeyRefs.{key_after}
+use Rattle.clock_store.specs.Behind.{next_entry}
+use Rattle.clock_store.specs.KeyRefs.{key_after}
 use Rattle.clock_list.specs.Rows.{entry_of}
 use Rattle.clock_list.proofs.place.next_row.Given as goal
 

@@ -1,5 +1,5 @@
 use Rattle.std.proofs.Common.{◌-◌, ◌^◌, min, sym, arith}
-use Rattle.place_map.specs.KeyRefs.{key_after, key_in}
+use Rattle.clock_store.specs.KeyRefs.{key_after, key_in}
 use Rattle.clock_store.specs.Keys.{stored_of}
 use Rattle.handoff.specs.Left.{count_left}
 use Rattle.handoff.proofs.Lefts.{count-first, count-next, count-last, next-fewer}

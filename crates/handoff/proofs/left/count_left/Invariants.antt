@@ -1,5 +1,5 @@
 use Rattle.std.proofs.Common.{◌≡◌, ◌+◌, ◌-◌, ◌≤◌, ◌^◌, min, length}
-use Rattle.place_map.specs.KeyRefs.{key_after}
+use Rattle.clock_store.specs.KeyRefs.{key_after}
 use Rattle.handoff.specs.Left.{count_left, keys_behind}
 use Rattle.handoff.proofs.left.count_left.Given as goal
 

@@ -1,10 +1,10 @@
 use Rattle.std.proofs.Common.{◌∙◌, ◌≤◌, length, sym, subst, arith}
 use Rattle.std.specs.Prelude.{Option}
 use Rattle.std.specs.Option.{option_map}
-use Rattle.place_map.specs.KeyRefs.{key_after, key_in}
+use Rattle.clock_store.specs.KeyRefs.{key_after, key_in}
 use Rattle.clock_store.specs.Keys.{stored_of}
 use Rattle.riak_msgs.specs.declared.Key.{Key}
-use Rattle.handoff.specs.Left.{GoesOn, keys_behind}
+use Rattle.handoff.specs.Left.{GoesOnInRest, keys_behind}
 use Rattle.handoff.proofs.Lefts.{behind-last, copied-none, goes-on, next-copied, next-fewer, next-left, next-passed}
 use Rattle.handoff.proofs.left.next_left.Goals as goal
 
@@ -14,7 +14,7 @@ loop-parts-init c =
     let fallback = c.args.fallback.now.state in
     let all = keys_behind (option_map (λ k. k.now) c.args.after) fallback in
     let same = sym c.refs_of-at.ensures in (
-      subst (λ (after : Option Key). GoesOn primary all (keys_behind after fallback)) same (goes-on primary all),
+      subst (λ (after : Option Key). GoesOnInRest primary all (keys_behind after fallback)) same (goes-on primary all),
       subst (λ (after : Option Key). length (keys_behind after fallback) ≤ length all) same (omega arith),
     )
 

@@ -1,12 +1,12 @@
 use Rattle.std.proofs.Common.{◌≤◌, length}
 use Rattle.std.specs.Option.{option_map}
-use Rattle.place_map.specs.KeyRefs.{key_after}
-use Rattle.handoff.specs.Left.{GoesOn, keys_behind}
+use Rattle.clock_store.specs.KeyRefs.{key_after}
+use Rattle.handoff.specs.Left.{GoesOnInRest, keys_behind}
 use Rattle.handoff.proofs.left.next_left.Given as goal
 
 abbrev pub invariant-loop-parts : goal.invariant-loop-parts
 invariant-loop-parts l =
-    GoesOn l.primary.state (keys_behind (option_map (λ k. k.now) l.after) l.fallback.state) (keys_behind (key_after l.at) l.fallback.state)
+    GoesOnInRest l.primary.state (keys_behind (option_map (λ k. k.now) l.after) l.fallback.state) (keys_behind (key_after l.at) l.fallback.state)
     × (length (keys_behind (key_after l.at) l.fallback.state) ≤ length (keys_behind (option_map (λ k. k.now) l.after) l.fallback.state))
 
 abbrev pub decreases-loop-parts : goal.decreases-loop-parts

@@ -2,11 +2,11 @@ use Rattle.std.proofs.Common.{◌∙◌, [], ◌∷◌, ◌++◌, ap, sym, subst
 use Rattle.std.specs.Prelude.{None}
 use Rattle.clock_store.specs.Keys.{Keys, stored_of}
 use Rattle.rw_gate.specs.Views.{GateId}
-use Rattle.vnode_protocol.specs.declared.entry.Entry.TheVariants.{Closed}
-use Rattle.vnode_protocol.specs.Plans.{View}
+use Rattle.vnode_core.specs.declared.entry.Entry.TheVariants.{Closed}
+use Rattle.vnode_core.specs.Plans.{View}
 use Rattle.handoff.specs.declared.left.Left.{Left}
 use Rattle.handoff.specs.Left.{IsFirstLeft, IsNextLeft}
-use Rattle.handoff.specs.Sights.{LeadsTo}
+use Rattle.handoff.specs.Sights.{LeadsVnodeTo}
 use Rattle.handoff.proofs.Copies.{if-none, if-some}
 use Rattle.handoff.proofs.Lefts.{behind-none}
 use Rattle.handoff.proofs.Showing.{shown, shown-sound}
@@ -47,7 +47,7 @@ returns-clause-ending c =
       primary = primary;
       fallback = fallback;
       shows = shown c.args.reader.now c.look.new.pass c.in_ok-to.to.now c.look.ensures.replay (c.look.ensures.gate ∙ c.requires.mine) c.in_ok-to.ensures.seen c.in_ok-to.ensures.shown;
-      leads = subst (λ (gate : GateId View). LeadsTo gate before fallback) (sym c.close.ensures.gate)
+      leads = subst (λ (gate : GateId View). LeadsVnodeTo gate before fallback) (sym c.close.ensures.gate)
           (shown c.args.writer.now c.look-2.new.pass c.in_ok-from.from.now c.look-2.ensures.replay (c.look-2.ensures.gate ∙ c.requires.theirs) c.in_ok-from.ensures.seen c.in_ok-from.ensures.shown);
       unclosed = sym c.closed_at.ensures ∙ c.in-None.is;
       copied = if-none c.in_ok-left.left c.in-None-left.is c.in_ok-left.ensures.none;

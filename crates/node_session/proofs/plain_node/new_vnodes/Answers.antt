@@ -1,5 +1,5 @@
 use Rattle.std.proofs.Common.{◌≡◌, ◌+◌, List, ℕ, sym, ap, subst, arith}
-use Rattle.vnode_protocol.specs.Plans.{View}
+use Rattle.vnode_core.specs.Plans.{View}
 use Rattle.riak_msgs.specs.Contents.{Content}
 use Rattle.vnode_machine.specs.Machine.{State}
 use Rattle.node_session.specs.PlainNodes.{AreNew, AreOpen, states_of}

@@ -1,7 +1,7 @@
 use Rattle.std.proofs.Common.{sym, subst}
 use Rattle.riak_msgs.specs.declared.Reply.TheVariants.{Error}
 use Rattle.node_session.specs.PlainStep.{StepsByWrite}
-use Rattle.vnode_protocol.specs.Plans.{Plans, Steps}
+use Rattle.vnode_core.specs.Plans.{Plans, Steps}
 use Rattle.node_session.proofs.Refusing.{refused, stays-open}
 use Rattle.node_session.proofs.vnode_reply.answer_change.Goals as goal
 

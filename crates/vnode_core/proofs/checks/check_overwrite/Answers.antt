@@ -1,5 +1,5 @@
 use Rattle.std.proofs.Common.{subst}
-use Rattle.vnode_protocol.specs.Refusals.{GivenBy}
+use Rattle.vnode_core.specs.Refusals.{GivenBy}
 use Rattle.clock_store.specs.Keys.{stored_of}
 use Rattle.vnode_core.proofs.Rooms.{overwrite-checks}
 use Rattle.vnode_core.proofs.checks.check_overwrite.Goals as goal

@@ -1,6 +1,6 @@
 use Rattle.std.proofs.Common.{subst}
 use Rattle.dvv_set.specs.Held.{pairs_of as seen_in}
-use Rattle.vnode_protocol.specs.Refusals.{GivenBy}
+use Rattle.vnode_core.specs.Refusals.{GivenBy}
 use Rattle.clock_store.specs.Keys.{stored_of}
 use Rattle.vnode_core.proofs.Rooms.{writer-checks}
 use Rattle.vnode_core.proofs.checks.check_stored.Goals as goal

@@ -1,6 +1,6 @@
 use Rattle.std.proofs.Common.{subst}
-use Rattle.vnode_protocol.specs.Plans.{Plans}
-use Rattle.vnode_protocol.proofs.Events.{loggable}
+use Rattle.vnode_core.specs.Plans.{Plans}
+use Rattle.vnode_core.proofs.Events.{loggable}
 use Rattle.vnode_core.proofs.kept.VnodeOverKept.prepare.Goals as goal
 
 pub returns-in-Ok-Change-clause-change : goal.returns-in-Ok-Change-clause-change

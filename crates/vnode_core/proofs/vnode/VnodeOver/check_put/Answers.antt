@@ -6,7 +6,7 @@ use Rattle.vnode_machine.specs.Asks.{put_command}
 use Rattle.vnode_machine.specs.Machine.{stored, put_check}
 use Rattle.dvv_set.specs.Held.{pairs_of as seen_in}
 use Rattle.vnode_core.specs.Checks.{is_ahead, pairs_in}
-use Rattle.vnode_protocol.specs.Refusals.{RefusedBy, GivenBy}
+use Rattle.vnode_core.specs.Refusals.{RefusedBy, GivenBy}
 use Rattle.clock_store.specs.Keys.{stored_of}
 use Rattle.vnode_machine.specs.Sound.{IsSound}
 use Rattle.vnode_core.specs.Vnodes.{fields, state_of}

@@ -1,5 +1,5 @@
 use Rattle.std.proofs.Common.{◌∙◌, sym, ap, subst}
-use Rattle.vnode_protocol.specs.Plans.{View}
+use Rattle.vnode_core.specs.Plans.{View}
 use Rattle.vnode_machine.specs.Sound.{IsSound}
 use Rattle.clock_store.specs.Keys.{Keys, synced}
 use Rattle.vnode_core.specs.Vnodes.{fields, state_of, IsReadyFor}

@@ -2,8 +2,8 @@ use Rattle.std.proofs.Common.{◌≡◌, ◌∙◌, true, false, refl, sym, ap}
 use Rattle.vnode_machine.specs.Dead.{has_dead}
 use Rattle.vnode_machine.specs.Step.{Accepted, ReapDone}
 use Rattle.sibling_register.specs.History.{Reap}
-use Rattle.vnode_protocol.specs.declared.ask.Ask.TheVariants.{ReapFirst}
-use Rattle.vnode_protocol.specs.Reaping.{key_given, after_first_reap}
+use Rattle.vnode_core.specs.declared.ask.Ask.TheVariants.{ReapFirst}
+use Rattle.vnode_core.specs.Reaping.{key_given, after_first_reap}
 use Rattle.vnode_core.proofs.Reaping.{found-first, some-first}
 use Rattle.vnode_core.proofs.vnode.VnodeOver.finish_first_reap.Goals as goal
 

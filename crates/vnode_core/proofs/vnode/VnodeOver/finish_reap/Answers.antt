@@ -1,7 +1,7 @@
 use Rattle.std.proofs.Common.{◌∙◌, ap}
-use Rattle.vnode_protocol.specs.declared.ask.Ask.TheVariants.{Reap}
-use Rattle.vnode_protocol.specs.Reaping.{reap_result, after_reap}
-use Rattle.vnode_protocol.proofs.Sound.{registers-step}
+use Rattle.vnode_core.specs.declared.ask.Ask.TheVariants.{Reap}
+use Rattle.vnode_core.specs.Reaping.{reap_result, after_reap}
+use Rattle.vnode_core.proofs.Sound.{registers-step}
 use Rattle.vnode_core.proofs.Reaping.{steps-reap}
 use Rattle.vnode_core.proofs.vnode.VnodeOver.finish_reap.Goals as goal
 

@@ -1,7 +1,13 @@
-use Rattle.std.proofs.Common.{◌∙◌, sym, subst}
+use Rattle.std.proofs.Common.{◌∙◌, sym, ap, subst}
+use Rattle.vnode_core.specs.Plans.{View}
 use Rattle.vnode_core.specs.Vnodes.{fields, IsReadyFor}
-use Rattle.vnode_core.proofs.Finishing.{finished}
+use Rattle.vnode_core.proofs.Finishing.{finished, form-prepared}
 use Rattle.vnode_core.proofs.vnode.VnodeOver.finish_write.Goals as goal
+
+pub write-requires-clause-form : goal.write-requires-clause-form
+write-requires-clause-form g c =
+    let v = fields c.self.inside.id c.self.inside.epochs c.self.inside.writes c.self.inside.tombstones c.self.inside.reaps (g.S.ClockStore.shows c.self.inside.store) c.self.inside.ready c.self.inside.prepared c.self.inside.closed in
+    form-prepared v c.self.invariant c.args.ask c.requires.write (ap (λ (w : View). w.prepared) c.self.view_is ∙ c.requires.prepared)
 
 pub invariant_of-self : goal.invariant_of-self
 invariant_of-self g c =

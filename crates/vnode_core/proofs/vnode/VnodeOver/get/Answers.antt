@@ -5,7 +5,7 @@ use Rattle.vnode_machine.specs.Asks.{get_command}
 use Rattle.vnode_machine.specs.Step.{Answered, GetDone}
 use Rattle.clock_store.specs.Keys.{stored_of}
 use Rattle.vnode_core.specs.Vnodes.{fields, state_of}
-use Rattle.vnode_protocol.proofs.Sound.{of-form, registers-view}
+use Rattle.vnode_core.proofs.Sound.{of-form, registers-view}
 use Rattle.vnode_core.proofs.Showing.{get-absent, get-stored}
 use Rattle.vnode_core.proofs.vnode.VnodeOver.get.Goals as goal
 

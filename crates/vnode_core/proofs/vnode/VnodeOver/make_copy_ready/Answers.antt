@@ -1,8 +1,8 @@
 use Rattle.std.proofs.Common.{◌∙◌, sym, ap, subst, refl}
 use Rattle.std.specs.Prelude.{Some}
 use Rattle.vnode_machine.specs.Sound.{IsSound}
-use Rattle.vnode_protocol.specs.KeyCopies.{KeyCopyView}
-use Rattle.vnode_protocol.specs.Plans.{View}
+use Rattle.vnode_core.specs.KeyCopies.{KeyCopyView}
+use Rattle.vnode_core.specs.Plans.{View}
 use Rattle.clock_store.specs.Contents.{Contents, HasSyncRoom}
 use Rattle.clock_store.specs.Keys.{Keys}
 use Rattle.clock_store.proofs.Founds.{stored_found}

@@ -1,8 +1,8 @@
 use Rattle.std.proofs.Common.{◌∙◌, sym, ap, subst, refl, inl}
 use Rattle.std.specs.Prelude.{Some}
 use Rattle.vnode_machine.specs.Dead.{first_dead}
-use Rattle.vnode_protocol.specs.Reaping.{key_given}
-use Rattle.vnode_protocol.specs.Plans.{View}
+use Rattle.vnode_core.specs.Reaping.{key_given}
+use Rattle.vnode_core.specs.Plans.{View}
 use Rattle.vnode_core.specs.Vnodes.{fields, IsReadyFor, state_of}
 use Rattle.vnode_core.proofs.Reaping.{accepts-some, none-first}
 use Rattle.vnode_core.proofs.vnode.VnodeOver.make_first_reap_ready.Goals as goal

@@ -11,7 +11,7 @@ use Rattle.clock_store.specs.Keys.{Keys}
 use Rattle.vnode_core.specs.Vnodes.{fields, state_of, IsReadyFor}
 use Rattle.vnode_core.specs.Checks.{found_in}
 use Rattle.vnode_machine.specs.Sound.{IsSound}
-use Rattle.vnode_protocol.specs.Plans.{View}
+use Rattle.vnode_core.specs.Plans.{View}
 use Rattle.vnode_core.specs.declared.checks.Writer.{Writer}
 use Rattle.vnode_core.proofs.Putting.{within-put}
 use Rattle.vnode_core.proofs.Finishing.{put-ready}

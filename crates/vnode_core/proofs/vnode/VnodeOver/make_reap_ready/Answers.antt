@@ -2,7 +2,7 @@ use Rattle.std.proofs.Common.{◌≡◌, ◌∙◌, sym, ap, subst, refl}
 use Rattle.std.specs.Prelude.{Some}
 use Rattle.clock_store.specs.declared.store.Reaped.TheVariants.{Gone}
 use Rattle.clock_store.specs.Forgetting.{reap_result}
-use Rattle.vnode_protocol.specs.Plans.{View}
+use Rattle.vnode_core.specs.Plans.{View}
 use Rattle.vnode_core.specs.Vnodes.{fields, IsReadyFor, state_of}
 use Rattle.vnode_core.proofs.Reaping.{is-accepted}
 use Rattle.vnode_core.proofs.vnode.VnodeOver.make_reap_ready.Goals as goal

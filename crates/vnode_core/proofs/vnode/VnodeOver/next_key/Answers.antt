@@ -1,4 +1,4 @@
-use Rattle.place_map.specs.KeyRefs.{key_after}
+use Rattle.clock_store.specs.KeyRefs.{key_after}
 use Rattle.vnode_core.specs.Vnodes.{fields, state_of}
 use Rattle.vnode_core.proofs.Walking.{next-lent}
 use Rattle.vnode_core.proofs.vnode.VnodeOver.next_key.Goals as goal

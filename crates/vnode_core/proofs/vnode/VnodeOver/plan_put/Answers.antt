@@ -7,7 +7,7 @@ use Rattle.actor_epoch.specs.Contexts.{is_well_formed}
 use Rattle.dvv_set.specs.Held.{IsWithin, known_after, known_with, without, pairs_of as seen_in}
 use Rattle.vnode_machine.specs.Machine.{State, clock_of}
 use Rattle.vnode_core.specs.Replies.{clock_found, reply_after}
-use Rattle.vnode_protocol.specs.declared.ask.Answer.TheVariants as answers
+use Rattle.vnode_core.specs.declared.ask.Answer.TheVariants as answers
 use Rattle.vnode_core.specs.declared.checks.Writer.{Writer}
 use Rattle.vnode_core.proofs.Putting.{within-put, form-after, reply-put}
 use Rattle.vnode_core.proofs.vnode.VnodeOver.plan_put.Goals as goal

@@ -1,6 +1,6 @@
 use Rattle.std.proofs.Common.{rules}
-use Rattle.vnode_protocol.proofs.Sound.{registers-plan}
-use Rattle.vnode_protocol.proofs.Registers.{registers-refused}
+use Rattle.vnode_core.proofs.Sound.{registers-plan}
+use Rattle.vnode_core.proofs.Registers.{registers-refused}
 use Rattle.vnode_core.proofs.vnode.VnodeOver.prepare.Goals as goal
 
 pub returns-in-Ok-clause-register : goal.returns-in-Ok-clause-register

@@ -2,7 +2,7 @@ use Rattle.std.proofs.Common.{◌∙◌, sym, ap, subst, drop}
 use Rattle.riak_msgs.specs.Contents.{Content}
 use Rattle.vnode_machine.specs.Dead.{dead_keys}
 use Rattle.vnode_machine.specs.Machine.{State}
-use Rattle.vnode_protocol.specs.Reaping.{key_given}
+use Rattle.vnode_core.specs.Reaping.{key_given}
 use Rattle.vnode_core.specs.Vnodes.{fields, IsReadyFor, state_of}
 use Rattle.vnode_machine.specs.Sound.{IsSound}
 use Rattle.vnode_core.proofs.Reaping.{first-gone, sound-first, left-first, register-first}

@@ -1,3 +1,0 @@
-pub mod Index
-pub mod Maps
-pub mod Places

@@ -1,0 +1,209 @@
+//! An ordered map from keys to places: a map of bucket types, in each a map of buckets, in each a map of keys.
+//!
+//! ```text
+//! let mut map = PlaceMap::new(alloc);
+//! map.insert(alloc, &k, 7)?;            b/k has the place 7
+//! map.insert(alloc, &j, 8)?;            b/j has the place 8; the name of the bucket b is not copied again
+//! map.get(&k)                           Some(7)
+//! map.next(None)                        b/j and 8, by references to the three parts of the key
+//! map.remove(&k)                        Some(7): b/k has no place, b/j has 8
+//! ```
+//!
+//! A place is a number, as the index of what belongs to a key in a slab. Contracts see a [`PlaceMap`] as the list of all
+//! keys in the order of [`Key`](riak_msgs::Key), each with its place (`AssocList`): they say what is found of each key, and
+//! that the keys ascend.
+//!
+//! Cost: a call is one search among the bucket types, one among the buckets of that type, and one among the keys of that
+//! bucket, in each of which only the names of that level are compared. An `insert` of a new key is one search more, in the
+//! level that gets a new entry; a `remove` that leaves a bucket or a bucket type without keys is one search more for each. A
+//! `next` is a search in each level, and one more in each that has no key behind.
+//!
+//! Memory: the name of a bucket is held once, whatever the number of its keys, and a key takes its own bytes and its place
+//! alone. A bucket has a tree of its own, of one node or more, and so has a bucket type: many buckets of one key each take
+//! more than one map of whole keys would.
+
+ghost use Rattle.std.specs.Prelude.{◌≡◌, [], OnOk, OnErr, Some, None, if◌then◌else◌};
+ghost use Rattle.std.specs.BTreeMap.{is_at};
+ghost use Rattle.std.specs.Option.{option_map};
+ghost use Rattle.riak_msgs.specs.declared.key.Key.{Key};
+ghost use Rattle.riak_msgs.specs.KeyOrder.{key_cmp};
+ghost use Rattle.clock_store.specs.AssocList.{get, IsOrdered};
+ghost use Rattle.clock_store.specs.Behind.{next_entry};
+ghost use Rattle.clock_store.specs.KeyRefs.{key_in, key_after};
+ghost use Rattle.clock_store.specs.Nested.{bytes_cmp, bucket_key_cmp, bucket_entries, key_of, next_inside, first_behind, AreTypes};
+
+mod behind;
+mod buckets;
+mod keys;
+
+use crate::key_ref::KeyRef;
+use behind::next_entry;
+use buckets::BucketPlaces;
+use riak_msgs::{BucketType, Key};
+use std::alloc::{AllocError, Global};
+use std::collections::BTreeMap;
+use std::marker::Model;
+
+/// Keys in their order, each with its place.
+///
+/// A bucket type is held once, a bucket once in its type, and in the bucket the bytes of each key. No bucket type is held
+/// without buckets, and no bucket without keys. Contracts see the list of all keys with their places.
+pub struct PlaceMap {
+    types: BTreeMap<BucketType, BucketPlaces>,
+}
+
+/// One call at each place where one is let go.
+impl Drop for PlaceMap {
+    fn drop(self) {
+        let PlaceMap { types: _types } = self;
+    }
+}
+
+impl Model for PlaceMap {
+    ghost use Rattle.std.specs.Prelude.{ℕ};
+    ghost use Rattle.riak_msgs.specs.declared.key.Key.{Key};
+    ghost use Rattle.clock_store.specs.AssocList.{AssocList};
+    ghost use Rattle.clock_store.specs.Nested.{places_of, AreTypes};
+
+    ghost Value = { AssocList Key ℕ };
+
+    ghost view = { λ p. places_of p.types };
+
+    ghost invariant = { λ p. AreTypes p.types };
+}
+
+/// The least key behind one in its own bucket type, with its place.
+fn next_in_type<'a>(
+    types: &'a BTreeMap<BucketType, BucketPlaces>,
+    after: KeyRef<'_>,
+) -> Option<(KeyRef<'a>, usize)>
+    ensures { option_map (λ entry. (key_in entry.0, entry.1)) result
+        ≡ next_inside bucket_entries key_of bytes_cmp bucket_key_cmp after.entry.bucket_type.now
+        (after.entry.bucket.now, after.entry.key.now) types.now.entries }
+{
+    match types.get_key_value(after.bucket_type) {
+        None => None,
+        Some((bucket_type, buckets)) => match buckets.next(Some((after.bucket, after.key))) {
+            None => None,
+            Some((bucket, key, place)) => {
+                let key = KeyRef {
+                    bucket_type,
+                    bucket,
+                    key,
+                };
+                Some((key, place))
+            }
+        },
+    }
+}
+
+/// The least key of the bucket types behind one, or of all where none is given, with its place.
+fn first_behind<'a>(
+    types: &'a BTreeMap<BucketType, BucketPlaces>,
+    after: Option<&BucketType>,
+) -> Option<(KeyRef<'a>, usize)>
+    requires { AreTypes types.now }
+    ensures { option_map (λ entry. (key_in entry.0, entry.1)) result
+        ≡ first_behind bucket_entries key_of bytes_cmp
+        (option_map (λ bucket_type. bucket_type.now) after.entry) types.now.entries }
+{
+    match next_entry(types, after) {
+        None => None,
+        Some((bucket_type, buckets)) => match buckets.next(None) {
+            None => unreachable!(),
+            Some((bucket, key, place)) => {
+                let key = KeyRef {
+                    bucket_type,
+                    bucket,
+                    key,
+                };
+                Some((key, place))
+            }
+        },
+    }
+}
+
+impl PlaceMap {
+    /// No keys. It takes no memory.
+    pub fn new(alloc: Global) -> PlaceMap
+        ensures { result.entries ≡ [] }
+    {
+        PlaceMap {
+            types: BTreeMap::new(alloc),
+        }
+    }
+
+    /// The place of a key, if it has one.
+    pub fn get(&self, key: &Key) -> Option<usize>
+        ensures place { result ≡ get key_cmp self.now key.now }
+        ensures ordered { IsOrdered key_cmp self.now }
+    {
+        match self.types.get(&key.bucket_type) {
+            Some(buckets) => buckets.get(&key.bucket, &key.key),
+            None => None,
+        }
+    }
+
+    /// The least key behind one, or of all where none is given, with its place. It takes no memory.
+    pub fn next(&self, after: Option<KeyRef<'_>>) -> Option<(KeyRef<'_>, usize)>
+        ensures next { option_map (λ entry. (key_in entry.0, entry.1)) result
+            ≡ next_entry key_cmp (key_after after.entry) self.now.entries }
+        ensures ordered { IsOrdered key_cmp self.now }
+    {
+        let Some(after) = after else {
+            return first_behind(&self.types, None);
+        };
+        match next_in_type(&self.types, after) {
+            None => first_behind(&self.types, Some(after.bucket_type)),
+            Some(found) => Some(found),
+        }
+    }
+
+    /// Gives a key a place, which replaces the one that it has. The key's bytes are copied, its bucket and its
+    /// bucket type where they are new. Refused where memory is, and then each key has the place that it had.
+    pub fn insert(&mut self, alloc: Global, key: &Key, place: usize) -> Result<(), AllocError>
+        ensures inserted { OnOk result ((other : Key) → get key_cmp self.new other
+            ≡ (if is_at (key_cmp key.now) other then Some place else get key_cmp self.old other)) }
+        ensures refused { OnErr result (self.new.entries ≡ self.old.entries) }
+        ensures ordered { IsOrdered key_cmp self.new }
+    {
+        match self.types.get_mut(&key.bucket_type) {
+            Some(buckets) => return buckets.insert(alloc, &key.bucket, &key.key, place),
+            None => {}
+        }
+        let buckets = BucketPlaces::one_key(alloc, &key.bucket, &key.key, place)?;
+        let own = key.bucket_type.clone(alloc)?;
+        match self.types.insert(own, buckets) {
+            Ok(_) => Ok(()),
+            Err(_) => Err(AllocError),
+        }
+    }
+
+    /// Removes all keys. It takes no memory.
+    pub fn clear(&mut self)
+        ensures { self.new.entries ≡ [] }
+    {
+        self.types.clear();
+    }
+
+    /// Removes a key, and its bucket and its bucket type where these have no other key; returns the place that it had, if
+    /// it had one. It takes no memory.
+    pub fn remove(&mut self, key: &Key) -> Option<usize>
+        ensures place { result ≡ get key_cmp self.old key.now }
+        ensures removed { (other : Key) → get key_cmp self.new other
+            ≡ (if is_at (key_cmp key.now) other then None else get key_cmp self.old other) }
+        ensures ordered { IsOrdered key_cmp self.new }
+    {
+        match self.types.get_mut(&key.bucket_type) {
+            None => None,
+            Some(buckets) => {
+                let place = buckets.remove(&key.bucket, &key.key);
+                let is_empty = buckets.is_empty();
+                if is_empty {
+                    drop(self.types.remove(&key.bucket_type));
+                }
+                place
+            }
+        }
+    }
+}

@@ -1,0 +1,177 @@
+//! The keys of one bucket type, with their places.
+
+ghost use Rattle.std.specs.Prelude.{◌≡◌, [], ◌∷◌, IfOk, OnOk, OnErr, Some, None, IsTrue, ◌↔◌, if◌then◌else◌};
+ghost use Rattle.std.specs.BTreeMap.{is_at};
+ghost use Rattle.std.specs.Option.{option_map};
+ghost use Rattle.clock_store.specs.AssocList.{get, IsOrdered};
+ghost use Rattle.clock_store.specs.Behind.{next_entry};
+ghost use Rattle.clock_store.specs.Nested.{BucketKey, bucket_key, bytes_cmp, bucket_key_cmp, key_entries, next_inside, first_behind, AreBuckets};
+
+use crate::place_map::behind::next_entry;
+use crate::place_map::keys;
+use riak_msgs::Bytes;
+use std::alloc::{AllocError, Global};
+use std::collections::BTreeMap;
+use std::marker::Model;
+
+/// Buckets in their order, each with its keys in theirs, and each key with its place. No bucket is without keys.
+///
+/// Contracts see the list of all keys, each with its bucket and its place.
+pub(crate) struct BucketPlaces {
+    buckets: BTreeMap<Bytes, BTreeMap<Bytes, usize>>,
+}
+
+/// One call at each place where one is let go.
+impl Drop for BucketPlaces {
+    fn drop(self) {
+        let BucketPlaces { buckets: _buckets } = self;
+    }
+}
+
+impl Model for BucketPlaces {
+    ghost use Rattle.clock_store.specs.Nested.{BucketKeyPlaces, bucket_places, AreBuckets};
+
+    ghost Value = { BucketKeyPlaces };
+
+    ghost view = { λ b. bucket_places b.buckets };
+
+    ghost invariant = { λ b. AreBuckets b.buckets };
+}
+
+/// The least key behind one in its own bucket, with its bucket and its place.
+fn next_in_bucket<'a>(
+    buckets: &'a BTreeMap<Bytes, BTreeMap<Bytes, usize>>,
+    bucket: &Bytes,
+    key: &Bytes,
+) -> Option<(&'a Bytes, &'a Bytes, usize)>
+    ensures { option_map (λ entry. ((entry.0.now, entry.1.now), entry.2)) result
+        ≡ next_inside key_entries bucket_key bytes_cmp bytes_cmp bucket.now key.now
+        buckets.now.entries }
+{
+    match buckets.get_key_value(bucket) {
+        None => None,
+        Some((bucket, keys)) => match next_entry(keys, Some(key)) {
+            None => None,
+            Some((key, place)) => Some((bucket, key, *place)),
+        },
+    }
+}
+
+/// The least key of the buckets behind one, or of all where none is given, with its bucket and its place.
+fn first_behind<'a>(
+    buckets: &'a BTreeMap<Bytes, BTreeMap<Bytes, usize>>,
+    after: Option<&Bytes>,
+) -> Option<(&'a Bytes, &'a Bytes, usize)>
+    requires { AreBuckets buckets.now }
+    ensures { option_map (λ entry. ((entry.0.now, entry.1.now), entry.2)) result
+        ≡ first_behind key_entries bucket_key bytes_cmp
+        (option_map (λ bucket. bucket.now) after.entry) buckets.now.entries }
+{
+    match next_entry(buckets, after) {
+        None => None,
+        Some((bucket, keys)) => match next_entry(keys, None) {
+            None => unreachable!(),
+            Some((key, place)) => Some((bucket, key, *place)),
+        },
+    }
+}
+
+impl BucketPlaces {
+    /// One key with its place. Refused where memory is.
+    pub(crate) fn one_key(
+        alloc: Global,
+        bucket: &Bytes,
+        key: &Bytes,
+        place: usize,
+    ) -> Result<BucketPlaces, AllocError>
+        ensures { IfOk result (λ places. places.entries ≡ ((bucket.now, key.now), place) ∷ []) }
+    {
+        let keys = keys::one_key(alloc, key, place)?;
+        let own = bucket.clone(alloc)?;
+        let mut buckets = BTreeMap::new(alloc);
+        match buckets.insert(own, keys) {
+            Ok(_) => Ok(BucketPlaces { buckets }),
+            Err(_) => Err(AllocError),
+        }
+    }
+
+    /// The place of a key, if it has one.
+    pub(crate) fn get(&self, bucket: &Bytes, key: &Bytes) -> Option<usize>
+        ensures place { result ≡ get bucket_key_cmp self.now (bucket.now, key.now) }
+        ensures ordered { IsOrdered bucket_key_cmp self.now }
+    {
+        match self.buckets.get(bucket) {
+            Some(keys) => keys.get(key).copied(),
+            None => None,
+        }
+    }
+
+    /// The least key behind one, or of all where none is given, with its bucket and its place.
+    pub(crate) fn next(&self, after: Option<(&Bytes, &Bytes)>) -> Option<(&Bytes, &Bytes, usize)>
+        ensures { option_map (λ entry. ((entry.0.now, entry.1.now), entry.2)) result
+            ≡ next_entry bucket_key_cmp (option_map (λ key. (key.0.now, key.1.now)) after.entry)
+            self.now.entries }
+    {
+        let Some((bucket, key)) = after else {
+            return first_behind(&self.buckets, None);
+        };
+        match next_in_bucket(&self.buckets, bucket, key) {
+            None => first_behind(&self.buckets, Some(bucket)),
+            Some(found) => Some(found),
+        }
+    }
+
+    /// Whether there is no key.
+    pub(crate) fn is_empty(&self) -> bool
+        ensures { IsTrue result ↔ (self.now.entries ≡ []) }
+    {
+        self.buckets.is_empty()
+    }
+
+    /// Gives a key a place, which replaces the one that it has. Refused where memory is, and then nothing changes.
+    pub(crate) fn insert(
+        &mut self,
+        alloc: Global,
+        bucket: &Bytes,
+        key: &Bytes,
+        place: usize,
+    ) -> Result<(), AllocError>
+        ensures inserted { OnOk result ((other : BucketKey) → get bucket_key_cmp self.new other
+            ≡ (if is_at (bucket_key_cmp (bucket.now, key.now)) other then Some place
+            else get bucket_key_cmp self.old other)) }
+        ensures refused { OnErr result (self.new.entries ≡ self.old.entries) }
+        ensures ordered { IsOrdered bucket_key_cmp self.new }
+    {
+        match self.buckets.get_mut(bucket) {
+            Some(keys) => return keys::insert_key(keys, alloc, key, place),
+            None => {}
+        }
+        let keys = keys::one_key(alloc, key, place)?;
+        let own = bucket.clone(alloc)?;
+        match self.buckets.insert(own, keys) {
+            Ok(_) => Ok(()),
+            Err(_) => Err(AllocError),
+        }
+    }
+
+    /// Removes a key, and its bucket where that has no other; returns the place that the key had. It takes no memory.
+    pub(crate) fn remove(&mut self, bucket: &Bytes, key: &Bytes) -> Option<usize>
+        ensures place { result ≡ get bucket_key_cmp self.old (bucket.now, key.now) }
+        ensures removed { (other : BucketKey) → get bucket_key_cmp self.new other
+            ≡ (if is_at (bucket_key_cmp (bucket.now, key.now)) other then None
+            else get bucket_key_cmp self.old other) }
+        ensures ordered { IsOrdered bucket_key_cmp self.new }
+    {
+        match self.buckets.get_mut(bucket) {
+            None => None,
+            Some(keys) => {
+                let place = keys.remove(key);
+                let is_empty = keys.is_empty();
+                if is_empty {
+                    drop(self.buckets.remove(bucket));
+                }
+                place
+            }
+        }
+    }
+}

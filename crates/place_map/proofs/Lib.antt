@@ -1,2 +1,0 @@
-mod Nested
-pub mod NextEntry

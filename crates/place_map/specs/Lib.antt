@@ -1,4 +1,0 @@
-pub mod AssocList
-pub mod Behind
-pub mod KeyRefs
-pub mod Nested

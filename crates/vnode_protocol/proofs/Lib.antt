@@ -1,4 +1,0 @@
-pub mod Entries
-pub mod Events
-pub mod Sound
-pub mod Registers
