@@ -23,25 +23,25 @@ use Rattle.vnode_machine.specs.Step.{Response, GetDone, DelDone, Answered, Refus
 use Rattle.vnode_machine.specs.Replies.{get_reply}
 use Rattle.vnode_machine.proofs.StepLaw.{registers-after}
 use Rattle.rw_gate.proofs.Prefixes.{prefix_trans}
-use Rattle.vnode_protocol.specs.declared.ask.Ask.{Ask}
-use Rattle.vnode_protocol.specs.declared.ask.Ask.TheVariants as asks
-use Rattle.vnode_protocol.specs.declared.ask.Answer.{Answer}
-use Rattle.vnode_protocol.specs.declared.event.Event.{Event}
-use Rattle.vnode_protocol.specs.declared.event.Event.TheVariants as events
-use Rattle.vnode_protocol.specs.declared.entry.Entry.{Entry}
-use Rattle.vnode_protocol.specs.declared.entry.Entry.TheVariants.{Command as Commanded, Copied, Closed}
-use Rattle.vnode_protocol.specs.declared.refusal.Refusal.{Refusal}
-use Rattle.vnode_protocol.specs.declared.refusal.Refusal.TheVariants as refusals
-use Rattle.vnode_protocol.specs.Events.{Asks, AnsweredBy, AsksEvent, AnswersEvent, Makes, IsMadeNew, commands_of, all_commands, GoesOnTo, AreNext, event_command, event_deed, event_response, history_after, register_event}
-use Rattle.vnode_protocol.specs.Plans.{IsAnswered, IsWrite, Refuses}
-use Rattle.vnode_protocol.specs.Refusals.{number_of}
-use Rattle.vnode_protocol.proofs.Entries.{all_commands-commands_of, commands_before, commands_begin, commands_of-all_commands, commands_of-append}
+use Rattle.vnode_core.specs.declared.ask.Ask.{Ask}
+use Rattle.vnode_core.specs.declared.ask.Ask.TheVariants as asks
+use Rattle.vnode_core.specs.declared.ask.Answer.{Answer}
+use Rattle.vnode_core.specs.declared.event.Event.{Event}
+use Rattle.vnode_core.specs.declared.event.Event.TheVariants as events
+use Rattle.vnode_core.specs.declared.entry.Entry.{Entry}
+use Rattle.vnode_core.specs.declared.entry.Entry.TheVariants.{Command as Commanded, Copied, Closed}
+use Rattle.vnode_core.specs.declared.refusal.Refusal.{Refusal}
+use Rattle.vnode_core.specs.declared.refusal.Refusal.TheVariants as refusals
+use Rattle.vnode_core.specs.Events.{EntryAsks, AnsweredBy, AsksEvent, AnswersEvent, Makes, IsMadeNew, commands_of, all_commands, GoesOnTo, AreNext, event_command, event_deed, event_response, history_after, register_event}
+use Rattle.vnode_core.specs.Plans.{IsAnsweredUnchanged, IsWrite, Refuses}
+use Rattle.vnode_core.specs.Refusals.{number_of}
+use Rattle.vnode_core.proofs.Entries.{all_commands-commands_of, commands_before, commands_begin, commands_of-all_commands, commands_of-append}
 use Rattle.rw_gate.specs.declared.asking.Outcome.{Outcome}
 use Rattle.rw_gate.specs.declared.asking.Outcome.TheVariants as Outcomes
 use Rattle.node_session.specs.PlainStep.{answer_reply, reply_of}
 use Rattle.stats_book.specs.declared.quantity.Quantity.{Quantity}
-use Rattle.gate_node.specs.Asked.{Sight, state_of, Gets, ComesOf, IsMadeBy, IsSaidOf, Shows, outcome_reply}
-use Rattle.gate_node.specs.Registers.{VnodeId, Commands, history_of, AnswersAmongOthers, IsOfGate}
+use Rattle.gate_node.specs.Asked.{Sight, state_of, Gets, ComesOf, IsMadeBy, IsSaidOf, RepliesToGet, outcome_reply}
+use Rattle.gate_node.specs.Registers.{VnodeId, Commands, history_of, AnswersAmongOthers, IsGateError}
 use Rattle.gate_node.proofs.Legal.{position-is-legal}
 
 module _ (v e : ℕ) where
@@ -123,7 +123,7 @@ module _ (id : VnodeId) (limits : IsWithinLimits id.vnode id.last_epoch) (old ne
     (begins : IsPrefix old.prefix new.prefix) (more : IsPrefix new.prefix (all_commands last)) (reply : Reply) where
   -- the answer to a command, by the register or by the gate
   abbrev Answer_to : Command Content Context → Type 0
-  Answer_to command = AnswersAmongOthers id command (commands_of old.prefix) reply last ⊎ (IsOfGate reply × IsPrefix (commands_of old.prefix) last)
+  Answer_to command = AnswersAmongOthers id command (commands_of old.prefix) reply last ⊎ (IsGateError reply × IsPrefix (commands_of old.prefix) last)
 
   -- what begins what was seen is commands alone, and they begin the last ones
   is_commands : (entries : List Entry) → IsPrefix entries new.prefix → entries ≡ all_commands (commands_of entries)
@@ -186,26 +186,26 @@ module _ (id : VnodeId) (limits : IsWithinLimits id.vnode id.last_epoch) (old ne
   made_answers : (ask : Ask) → IsWrite ask → (command : Command Content Context) (answer : Answer) → IsMadeBy ask old new answer
       → ((event : Event) → AsksEvent event ask → event_command event ≡ command) → reply ≡ answer_reply answer → Answer_to command
   made_answers ask write command answer made of_command replied = by made.event made.asked made.answered made.step made.seen where
-    by : (entry : Entry) → Asks entry ask → AnsweredBy entry answer → Makes made.state entry made.after → new.prefix ≡ made.position ++ entry ∷ [] → Answer_to command
+    by : (entry : Entry) → EntryAsks entry ask → AnsweredBy entry answer → Makes made.state entry made.after → new.prefix ≡ made.position ++ entry ∷ [] → Answer_to command
     by (Commanded event) asked answered step seen =
         made_by command answer event made.position made.state made.after made.begins made.leads step answered seen (of_command event asked) replied
     by (Copied copy) asked answered step seen = absurd (subst IsWrite asked write)
     by (Closed number) asked answered step seen = absurd (subst IsWrite asked write)
 
   -- an error of the gate, which is no command
-  of_gate : (command : Command Content Context) → IsOfGate reply → Answer_to command
+  of_gate : (command : Command Content Context) → IsGateError reply → Answer_to command
   of_gate command is = inr (is, begins_last old.prefix begins)
 
   -- a closed vnode says so, and a delete without context may have nothing to delete
-  put_told : (put : PutAsk) (answer : Answer) → IsSaidOf (λ s. IsAnswered s (asks.Put put) answer) old new → reply ≡ answer_reply answer → Answer_to (AskPut (put_command put))
+  put_told : (put : PutAsk) (answer : Answer) → IsSaidOf (λ s. IsAnsweredUnchanged s (asks.Put put) answer) old new → reply ≡ answer_reply answer → Answer_to (AskPut (put_command put))
   put_told put answer said replied = elim said.says [
     | inl told ↦ absurd told.1
     | inr closed ↦ of_gate (AskPut (put_command put)) (inl (replied ∙ ap answer_reply closed.1))
   ]
 
-  del_told : (del : DelAsk) (answer : Answer) → IsSaidOf (λ s. IsAnswered s (asks.Del del) answer) old new → reply ≡ answer_reply answer → Answer_to (AskDel (del_command del))
+  del_told : (del : DelAsk) (answer : Answer) → IsSaidOf (λ s. IsAnsweredUnchanged s (asks.Del del) answer) old new → reply ≡ answer_reply answer → Answer_to (AskDel (del_command del))
   del_told del answer said replied = elim said.says [
-    | inl told ↦ said_answers (AskDel (del_command del)) (Ok DelDone) (λ s. IsAnswered s (asks.Del del) answer) said
+    | inl told ↦ said_answers (AskDel (del_command del)) (Ok DelDone) (λ s. IsAnsweredUnchanged s (asks.Del del) answer) said
         (λ history after. turn_told id.vnode id.last_epoch limits history said.state (AskDel (del_command del)) DelDone after told.1.1) (replied ∙ ap answer_reply told.1.0)
     | inr closed ↦ of_gate (AskDel (del_command del)) (inl (replied ∙ ap answer_reply closed.1))
   ]
@@ -228,8 +228,8 @@ module _ (id : VnodeId) (limits : IsWithinLimits id.vnode id.last_epoch) (old ne
 
   pub get_answers : (get : GetAsk) (quantity : Option Quantity) → Gets get old new reply quantity → Answer_to (AskGet (get_command get))
   get_answers get quantity (inl said, counted) = elim said.says [
-    | inl shown ↦ said_answers (AskGet (get_command get)) (Ok (GetDone (get_reply said.state (get_command get)))) (Shows get reply) said
+    | inl shown ↦ said_answers (AskGet (get_command get)) (Ok (GetDone (get_reply said.state (get_command get)))) (RepliesToGet get reply) said
         (λ history after. turn_told id.vnode id.last_epoch limits history said.state (AskGet (get_command get)) (GetDone (get_reply said.state (get_command get))) after refl) shown.0
-    | inr refused ↦ said_answers (AskGet (get_command get)) (Err no_memory) (Shows get reply) said (λ history after. inr (refl, refl)) refused.0
+    | inr refused ↦ said_answers (AskGet (get_command get)) (Err no_memory) (RepliesToGet get reply) said (λ history after. inr (refl, refl)) refused.0
   ]
   get_answers get quantity (inr moved, counted) = of_gate (AskGet (get_command get)) (inl moved.0)

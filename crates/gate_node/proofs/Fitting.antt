@@ -10,13 +10,13 @@ use Rattle.handoff.specs.Partitions.{AreNone, number_in, number_of}
 use Rattle.gate_node.specs.declared.passes.FallbackPass.{FallbackPass}
 use Rattle.gate_node.specs.Asked.{Sight}
 use Rattle.gate_node.specs.Gates.{Gates}
-use Rattle.gate_node.specs.Passes.{Sights, Fits, AllFit, OutliveDiversion, AnswersAtFallback, AnswersBy, FindsClosed, IsClosedBy, IsRenewed, Resumes, is_of, kept_of}
+use Rattle.gate_node.specs.Passes.{Sights, FitsPartition, AllFit, OutliveDiversion, AnswersAtFallback, AnswersBy, FindsClosed, IsClosedBy, IsRenewed, Resumes, is_of, kept_of}
 use Rattle.handoff.proofs.Opened.{none_some}
 
 -- where nothing is kept, that fits
-none_fits : (fallback : Option Fallback) (kept : Option FallbackPass) → kept ≡ None → Fits fallback kept
-none_fits None kept is = subst (λ k. Fits None k) (sym is) tt
-none_fits (Some fallback) kept is = subst (λ k. Fits (Some fallback) k) (sym is) tt
+none_fits : (fallback : Option Fallback) (kept : Option FallbackPass) → kept ≡ None → FitsPartition fallback kept
+none_fits None kept is = subst (λ k. FitsPartition None k) (sym is) tt
+none_fits (Some fallback) kept is = subst (λ k. FitsPartition (Some fallback) k) (sym is) tt
 
 pub none_fit : (fallbacks : List (Option Fallback)) (all : List (Option FallbackPass)) → length all ≡ length fallbacks → AreNone all → AllFit fallbacks all
 none_fit [] [] many none = tt
@@ -26,21 +26,21 @@ none_fit (fallback ∷ fallbacks) (kept ∷ all) many none = (none_fits fallback
 
 -- what is kept at an index fits there
 pub fit_at : (fallbacks : List (Option Fallback)) (all : List (Option FallbackPass)) (i : ℕ) (f : Option Fallback) (k : Option FallbackPass)
-    → AllFit fallbacks all → slice_get fallbacks i ≡ Some f → slice_get all i ≡ Some k → Fits f k
+    → AllFit fallbacks all → slice_get fallbacks i ≡ Some f → slice_get all i ≡ Some k → FitsPartition f k
 fit_at [] [] i f k fit here there = absurd (none_some f here)
 fit_at [] (x ∷ all) i f k fit here there = absurd fit
 fit_at (y ∷ ys) [] i f k fit here there = absurd fit
 fit_at (y ∷ ys) (x ∷ xs) zero f k fit here there =
-    let a : y ≡ f = cc in let b : x ≡ k = cc in subst (λ (o : Option Fallback). Fits o k) a (subst (λ (o : Option FallbackPass). Fits y o) b fit.0)
+    let a : y ≡ f = cc in let b : x ≡ k = cc in subst (λ (o : Option Fallback). FitsPartition o k) a (subst (λ (o : Option FallbackPass). FitsPartition y o) b fit.0)
 fit_at (y ∷ ys) (x ∷ xs) (suc i) f k fit here there = fit_at ys xs i f k fit.1 here there
 
 -- another one there that fits
 pub fit_set : (fallbacks : List (Option Fallback)) (all : List (Option FallbackPass)) (i : ℕ) (f : Option Fallback) (k : Option FallbackPass)
-    → AllFit fallbacks all → slice_get fallbacks i ≡ Some f → Fits f k → AllFit fallbacks (slice_set all i k)
+    → AllFit fallbacks all → slice_get fallbacks i ≡ Some f → FitsPartition f k → AllFit fallbacks (slice_set all i k)
 fit_set [] [] i f k fit here one = absurd (none_some f here)
 fit_set [] (x ∷ all) i f k fit here one = absurd fit
 fit_set (y ∷ ys) [] i f k fit here one = absurd fit
-fit_set (y ∷ ys) (x ∷ xs) zero f k fit here one = let a : f ≡ y = cc in (subst (λ (o : Option Fallback). Fits o k) a one, fit.1)
+fit_set (y ∷ ys) (x ∷ xs) zero f k fit here one = let a : f ≡ y = cc in (subst (λ (o : Option Fallback). FitsPartition o k) a one, fit.1)
 fit_set (y ∷ ys) (x ∷ xs) (suc i) f k fit here one = (fit.0, fit_set ys xs i f k fit.1 here one)
 
 fit_length : (fallbacks : List (Option Fallback)) (all : List (Option FallbackPass)) → AllFit fallbacks all → length all ≡ length fallbacks
@@ -55,16 +55,16 @@ place_at fallbacks all i f fit here =
     let many = fit_length fallbacks all fit in let inside = slice_get_within fallbacks i f here in omega (arith, many, inside)
 
 -- a pass by which a fallback was asked fits
-pub answered_fits : (fallback : Fallback) (old new : Option FallbackPass) (Answers : Sight → Sight → Type 0) → AnswersAtFallback fallback old new Answers → Fits (Some fallback) new
+pub answered_fits : (fallback : Fallback) (old new : Option FallbackPass) (Answers : Sight → Sight → Type 0) → AnswersAtFallback fallback old new Answers → FitsPartition (Some fallback) new
 answered_fits fallback old new Answers h =
-    subst (λ (o : Option FallbackPass). Fits (Some fallback) o) (sym h.kept) (omega arith, (λ same. h.gate ∙ h.of_gate), tt)
+    subst (λ (o : Option FallbackPass). FitsPartition (Some fallback) o) (sym h.kept) (omega arith, (λ same. h.gate ∙ h.of_gate), tt)
 
-pub closed_fits : (fallback : Fallback) (old new : Option FallbackPass) (number : ℕ) → FindsClosed fallback old new number → Fits (Some fallback) new
+pub closed_fits : (fallback : Fallback) (old new : Option FallbackPass) (number : ℕ) → FindsClosed fallback old new number → FitsPartition (Some fallback) new
 closed_fits fallback old new number h =
-    subst (λ (o : Option FallbackPass). Fits (Some fallback) o) (sym h.kept) (omega arith, (λ same. h.closed.gate ∙ h.of_gate), h.closed.closed)
+    subst (λ (o : Option FallbackPass). FitsPartition (Some fallback) o) (sym h.kept) (omega arith, (λ same. h.closed.gate ∙ h.of_gate), h.closed.closed)
 
 -- what is kept fits a fallback with a greater number
-later_fits : (fallback : Fallback) (earlier : Option Fallback) (kept : Option FallbackPass) → number_of earlier < fallback.diversion → Fits earlier kept → Fits (Some fallback) kept
+later_fits : (fallback : Fallback) (earlier : Option Fallback) (kept : Option FallbackPass) → number_of earlier < fallback.diversion → FitsPartition earlier kept → FitsPartition (Some fallback) kept
 later_fits fallback None None later fit = tt
 later_fits fallback None (Some kept) later fit = absurd fit
 later_fits fallback (Some earlier) None later fit = tt
@@ -93,7 +93,7 @@ outlive_diversion index old new passes diverted are =
 none_kept : {A : Type 0} (fallback : Fallback) → is_of fallback None ≡ true → A
 none_kept fallback h = cc
 
-pub kept_is : (fallback : Fallback) (kept : Option FallbackPass) → Fits (Some fallback) kept → is_of fallback kept ≡ true → IsRenewed fallback kept kept
+pub kept_is : (fallback : Fallback) (kept : Option FallbackPass) → FitsPartition (Some fallback) kept → is_of fallback kept ≡ true → IsRenewed fallback kept kept
 kept_is fallback None fit is = absurd (none_kept fallback is)
 kept_is fallback (Some kept) fit is =
     let same = eqb-true kept.diversion fallback.diversion is in

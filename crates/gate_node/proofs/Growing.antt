@@ -21,18 +21,18 @@ use Rattle.stats_book.specs.Counting.{raised, number_of, zeros}
 use Rattle.vnode_machine.specs.Machine.{State}
 use Rattle.vnode_machine.specs.Asks.{get_command}
 use Rattle.vnode_machine.specs.Replies.{get_reply}
-use Rattle.vnode_protocol.specs.declared.ask.Ask.{Ask}
-use Rattle.vnode_protocol.specs.declared.ask.Ask.TheVariants as asks
-use Rattle.vnode_protocol.specs.declared.ask.Answer.{Answer}
-use Rattle.vnode_protocol.specs.declared.ask.Answer.TheVariants as answers
+use Rattle.vnode_core.specs.declared.ask.Ask.{Ask}
+use Rattle.vnode_core.specs.declared.ask.Ask.TheVariants as asks
+use Rattle.vnode_core.specs.declared.ask.Answer.{Answer}
+use Rattle.vnode_core.specs.declared.ask.Answer.TheVariants as answers
 use Rattle.clock_store.specs.declared.store.Reaped.{Reaped}
-use Rattle.vnode_protocol.specs.declared.event.Event.TheVariants as events
-use Rattle.vnode_protocol.specs.declared.entry.Entry.{Entry}
-use Rattle.vnode_protocol.specs.declared.entry.Entry.TheVariants.{Command as Commanded, Copied, Closed}
-use Rattle.vnode_protocol.specs.declared.refusal.Refusal.{Refusal}
-use Rattle.vnode_protocol.specs.Events.{AsksReap, Asks, AnsweredBy}
-use Rattle.vnode_protocol.specs.Plans.{IsAnswered, IsWrite}
-use Rattle.node_session.specs.Answers.{AnswersRead, Run, message_fault_text}
+use Rattle.vnode_core.specs.declared.event.Event.TheVariants as events
+use Rattle.vnode_core.specs.declared.entry.Entry.{Entry}
+use Rattle.vnode_core.specs.declared.entry.Entry.TheVariants.{Command as Commanded, Copied, Closed}
+use Rattle.vnode_core.specs.declared.refusal.Refusal.{Refusal}
+use Rattle.vnode_core.specs.Events.{AsksReap, EntryAsks, AnsweredBy}
+use Rattle.vnode_core.specs.Plans.{IsAnsweredUnchanged, IsWrite}
+use Rattle.node_session.specs.Answers.{AnswersRead, AnswersInTurn, message_fault_text}
 use Rattle.node_session.specs.PlainNodes.{partition_of}
 use Rattle.node_session.specs.PlainStep.{answer_reply}
 use Rattle.rw_gate.specs.declared.asking.Outcome.{Outcome}
@@ -41,7 +41,7 @@ use Rattle.rw_gate.specs.declared.asking.Outcome.TheVariants as Outcomes
 use Rattle.gate_node.specs.Asked.{Sight, Changes, ChangesOpen, GetsOpen, ComesOf, IsMadeBy, answer_quantity, get_quantity, outcome_quantity, outcome_reply, told_quantity}
 use Rattle.gate_node.specs.Asked.{Gets as AnswersGet}
 use Rattle.gate_node.specs.Gates.{Gates}
-use Rattle.gate_node.specs.GateStep.{Node, GateStep, AnswersMoved, AtIndex, AtIndexFrom, AtPartition}
+use Rattle.gate_node.specs.GateStep.{NodeOverGates, GateStep, AnswersMoved, AtIndex, AtIndexFrom, AnswersAtPartition}
 use Rattle.stats_book.specs.Counter.{Count, Counts, CountsReply, CountsAnswer}
 use Rattle.gate_node.specs.Sessions.{reply_most, most_of, CountsUpTo}
 use Rattle.stats_book.proofs.Raising.{raised_none}
@@ -168,7 +168,7 @@ copied-reaped reaped h = cc
 closed-reaped : (reaped : Reaped) → answers.Reaped reaped ≡ answers.Closed → ⊥
 closed-reaped reaped h = cc
 
-made-no-reap : (ask : Ask) → IsWrite ask → (entry : Entry) (reaped : Reaped) → Asks entry ask → AnsweredBy entry (answers.Reaped reaped) → ⊥
+made-no-reap : (ask : Ask) → IsWrite ask → (entry : Entry) (reaped : Reaped) → EntryAsks entry ask → AnsweredBy entry (answers.Reaped reaped) → ⊥
 made-no-reap ask write (Commanded (events.Put put reply)) reaped asked answered = put-reaped reaped reply answered
 made-no-reap ask write (Commanded (events.Del del)) reaped asked answered = del-reaped reaped answered
 made-no-reap ask write (Commanded (events.Reap key)) reaped asked answered = no-reap ask write key asked
@@ -184,7 +184,7 @@ made-fits ask write old new answers.Copied made = refl
 made-fits ask write old new answers.Stuck made = refl
 made-fits ask write old new answers.Closed made = refl
 
-told-fits : (state : State Content) (ask : Ask) → IsWrite ask → (answer : Answer) → IsAnswered state ask answer → Fits (answer_reply answer) (told_quantity answer)
+told-fits : (state : State Content) (ask : Ask) → IsWrite ask → (answer : Answer) → IsAnsweredUnchanged state ask answer → Fits (answer_reply answer) (told_quantity answer)
 told-fits state ask write answer (inr (closed, is)) = subst (λ (a : Answer). Fits (answer_reply a) (told_quantity a)) (sym is) refl
 told-fits state (asks.Put put) write answer (inl (opened, says)) = absurd says
 told-fits state (asks.Del del) write answer (inl (opened, (is, step))) = subst (λ (a : Answer). Fits (answer_reply a) (told_quantity a)) (sym is) (inr refl)
@@ -267,48 +267,48 @@ none-counts most old gets puts = record {
   full = λ full. full;
 }
 
-abbrev CountsAs : Node → Reply → Node → Type 0
+abbrev CountsAs : NodeOverGates → Reply → NodeOverGates → Type 0
 CountsAs old reply new = CountsUpTo (λ q. reply_most old.shared.budget q reply) old.count new.count
 
-index-counts : (index : ℕ) (old : Node) (reply : Reply) (new : Node) (Says : Sight → Sight → Option Quantity → Type 0) → ((p q : Sight) (quantity : Option Quantity) → Says p q quantity → Fits reply quantity)
+index-counts : (index : ℕ) (old : NodeOverGates) (reply : Reply) (new : NodeOverGates) (Says : Sight → Sight → Option Quantity → Type 0) → ((p q : Sight) (quantity : Option Quantity) → Says p q quantity → Fits reply quantity)
     → AtIndex index old new Says → CountsAs old reply new
 index-counts index old reply new Says fits at =
     let few : at.reaps ≤ old.shared.budget = at.steps.reaps.few in
-    subst (λ (n : Node). CountsAs old reply n) (sym at.node)
+    subst (λ (n : NodeOverGates). CountsAs old reply n) (sym at.node)
     (one-counts old.shared.budget at.reaps reply at.quantity old.count at.count (fits at.before at.steps.answered at.quantity at.steps.answers) few at.counts)
 
-moved-counts : (old : Node) (reply : Reply) (new : Node) → AnswersMoved old reply new → CountsAs old reply new
+moved-counts : (old : NodeOverGates) (reply : Reply) (new : NodeOverGates) → AnswersMoved old reply new → CountsAs old reply new
 moved-counts old reply new moved =
-    subst (λ (n : Node). CountsAs old reply n) (sym moved.node)
+    subst (λ (n : NodeOverGates). CountsAs old reply n) (sym moved.node)
     (one-counts old.shared.budget 0 reply (Some Refusals) old.count moved.count (subst (λ (r : Reply). Fits r (Some Refusals)) (sym moved.replied) refl) (omega arith) moved.counts)
 
 -- a look counts nothing
-module _ (index number : ℕ) (old : Node) (reply : Reply) (new : Node) (Answers : Sight → Sight → Reply → Option Quantity → Type 0)
+module _ (index number : ℕ) (old : NodeOverGates) (reply : Reply) (new : NodeOverGates) (Answers : Sight → Sight → Reply → Option Quantity → Type 0)
     (fits : (p q : Sight) (quantity : Option Quantity) → Answers p q reply quantity → Fits reply quantity) where
   from-counts : AtIndexFrom index number old reply new Answers → CountsAs old reply new
   from-counts at =
-      let looked : (at.looked.shared, at.looked.count) ≡ (old.shared, old.count) = ap (λ (n : Node). (n.shared, n.count)) at.looks.node in
+      let looked : (at.looked.shared, at.looked.count) ≡ (old.shared, old.count) = ap (λ (n : NodeOverGates). (n.shared, n.count)) at.looks.node in
       let here : CountsAs at.looked reply new = elim at.answers [
         | inl far ↦ index-counts index at.looked reply new (λ p q. Answers p q reply) fits far.1
         | inr short ↦ moved-counts at.looked reply new short.1
       ] in
       subst (λ (p : Gates × Count). CountsUpTo (λ q. reply_most p.0.budget q reply) p.1 new.count) looked here
 
-at-counts : (index : ℕ) (old : Node) (reply : Reply) (new : Node) (Answers AnswersOpen : Sight → Sight → Reply → Option Quantity → Type 0)
+at-counts : (index : ℕ) (old : NodeOverGates) (reply : Reply) (new : NodeOverGates) (Answers AnswersOpen : Sight → Sight → Reply → Option Quantity → Type 0)
     → ((p q : Sight) (quantity : Option Quantity) → Answers p q reply quantity → Fits reply quantity) → ((p q : Sight) (quantity : Option Quantity) → AnswersOpen p q reply quantity → Answers p q reply quantity)
-    → AtPartition index old reply new Answers AnswersOpen → CountsAs old reply new
+    → AnswersAtPartition index old reply new Answers AnswersOpen → CountsAs old reply new
 at-counts index old reply new Answers AnswersOpen fits opened (inl (none, at)) = index-counts index old reply new (λ p q. Answers p q reply) fits at
 at-counts index old reply new Answers AnswersOpen fits opened (inr (inl at)) =
-    subst (λ (n : Node). CountsAs old reply n) (sym at.node)
+    subst (λ (n : NodeOverGates). CountsAs old reply n) (sym at.node)
     (one-counts old.shared.budget 0 reply at.quantity old.count at.count (fits at.before at.after at.quantity (opened at.before at.after at.quantity at.answers)) (omega arith) at.counts)
 at-counts index old reply new Answers AnswersOpen fits opened (inr (inr at)) =
-    subst (λ (p : Gates × Count). CountsUpTo (λ q. reply_most p.0.budget q reply) p.1 new.count) (ap (λ (n : Node). (n.shared, n.count)) at.closed.node)
+    subst (λ (p : Gates × Count). CountsUpTo (λ q. reply_most p.0.budget q reply) p.1 new.count) (ap (λ (n : NodeOverGates). (n.shared, n.count)) at.closed.node)
     (from-counts index at.number at.found reply new Answers fits at.answers)
 
-same-counts : (most : Quantity → ℕ) (old new : Node) → new ≡ old → most Gets ≡ 0 → most Puts ≡ 0 → CountsUpTo most old.count new.count
-same-counts most old new same gets puts = subst (λ (n : Node). CountsUpTo most old.count n.count) (sym same) (none-counts most old.count gets puts)
+same-counts : (most : Quantity → ℕ) (old new : NodeOverGates) → new ≡ old → most Gets ≡ 0 → most Puts ≡ 0 → CountsUpTo most old.count new.count
+same-counts most old new same gets puts = subst (λ (n : NodeOverGates). CountsUpTo most old.count n.count) (sym same) (none-counts most old.count gets puts)
 
-step-counts : (old : Node) (request : Request) (reply : Reply) (new : Node) → GateStep old request reply new → CountsUpTo (λ q. reply_most old.shared.budget q reply) old.count new.count
+step-counts : (old : NodeOverGates) (request : Request) (reply : Reply) (new : NodeOverGates) → GateStep old request reply new → CountsUpTo (λ q. reply_most old.shared.budget q reply) old.count new.count
 step-counts old requests.Ping reply new step =
     subst (λ (r : Reply). CountsUpTo (λ q. reply_most old.shared.budget q r) old.count new.count) (sym step.0) (same-counts (λ q. reply_most old.shared.budget q replies.Ping) old new step.1 refl refl)
 step-counts old (requests.Get get) reply new step =
@@ -318,11 +318,11 @@ step-counts old (requests.Put put) reply new step =
 step-counts old (requests.Del del) reply new step =
     at-counts (partition_of old.shared.index_bits del.key) old reply new (Changes (asks.Del del)) (ChangesOpen (asks.Del del)) (λ p q quantity. changes-fit (asks.Del del) tt p q reply quantity) (λ p q quantity says. says.0) step
 
-error-counts : (old new : Node) (reply : Reply) (text : Text) → reply ≡ replies.Error text → new ≡ old → CountsUpTo (λ q. reply_most old.shared.budget q reply) old.count new.count
+error-counts : (old new : NodeOverGates) (reply : Reply) (text : Text) → reply ≡ replies.Error text → new ≡ old → CountsUpTo (λ q. reply_most old.shared.budget q reply) old.count new.count
 error-counts old new reply text is same =
     subst (λ (r : Reply). CountsUpTo (λ q. reply_most old.shared.budget q r) old.count new.count) (sym is) (same-counts (λ q. reply_most old.shared.budget q (replies.Error text)) old new same refl refl)
 
-read-counts : (old : Node) (said : Result Request MsgFault) (reply : Reply) (new : Node) → AnswersRead GateStep old said reply new → CountsUpTo (λ q. reply_most old.shared.budget q reply) old.count new.count
+read-counts : (old : NodeOverGates) (said : Result Request MsgFault) (reply : Reply) (new : NodeOverGates) → AnswersRead GateStep old said reply new → CountsUpTo (λ q. reply_most old.shared.budget q reply) old.count new.count
 read-counts old (Ok request) reply new (inl step) = step-counts old request reply new step
 read-counts old (Ok request) reply new (inr stays) = error-counts old new reply texts.NoMemory stays.0 stays.1
 read-counts old (Err fault) reply new stays = error-counts old new reply (message_fault_text fault) stays.0 stays.1
@@ -339,7 +339,7 @@ both-count f g old mid new one two =
       full = λ full. two.full (one.full full);
     }
 
-pub run-counts : (old : Node) (messages : List Message) (replies : List Reply) (new : Node) → Run GateStep old messages replies new → CountsUpTo (most_of old.shared.budget replies) old.count new.count
+pub run-counts : (old : NodeOverGates) (messages : List Message) (replies : List Reply) (new : NodeOverGates) → AnswersInTurn GateStep old messages replies new → CountsUpTo (most_of old.shared.budget replies) old.count new.count
 run-counts old [] [] new run = same-counts (most_of old.shared.budget []) old new run refl refl
 run-counts old [] (reply ∷ replies) new run = absurd run
 run-counts old (message ∷ messages) [] new run = absurd run

@@ -5,10 +5,10 @@ use Rattle.vnode_machine.specs.Machine.{State}
 use Rattle.rw_gate.specs.Machines.{MachineRun}
 use Rattle.rw_gate.specs.Views.{GateId}
 use Rattle.rw_gate.specs.Histories.{RunFrom}
-use Rattle.vnode_protocol.specs.declared.event.Event.{Event}
-use Rattle.vnode_protocol.specs.Plans.{View}
-use Rattle.vnode_protocol.specs.Events.{all_commands, Makes}
-use Rattle.vnode_protocol.proofs.Events.{run-is-legal}
+use Rattle.vnode_core.specs.declared.event.Event.{Event}
+use Rattle.vnode_core.specs.Plans.{View}
+use Rattle.vnode_core.specs.Events.{all_commands, Makes}
+use Rattle.vnode_core.proofs.Events.{run-is-legal}
 use Rattle.gate_node.specs.Asked.{state_of}
 use Rattle.gate_node.specs.Legal.{PositionIsLegal}
 

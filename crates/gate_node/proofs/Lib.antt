@@ -9,3 +9,5 @@ pub mod Registers
 pub mod Resuming
 pub mod Seeing
 pub mod Unclosed
+pub mod Histories
+pub mod InHistories

@@ -9,8 +9,8 @@ use Rattle.std.proofs.lemmas.Option.{slice_get-map, slice_get_within}
 use Rattle.ring_map.specs.Ring.{id_of}
 use Rattle.rw_gate.specs.Views.{GateId}
 use Rattle.vnode_machine.specs.Replay.{IsWithinLimits}
-use Rattle.vnode_protocol.specs.Plans.{View}
-use Rattle.vnode_protocol.specs.Events.{IsMadeNew}
+use Rattle.vnode_core.specs.Plans.{View}
+use Rattle.vnode_core.specs.Events.{IsMadeNew}
 use Rattle.stats_book.specs.declared.quantity.Quantity.{Quantity}
 use Rattle.stats_book.specs.Counter.{Count, CountsAnswer}
 use Rattle.handoff.specs.declared.gates.Fallback.{Fallback}
@@ -18,7 +18,7 @@ use Rattle.handoff.specs.Partitions.{AreMadeNew, AreOfNewRun, IsFallback}
 use Rattle.handoff.proofs.Opened.{got, none_some}
 use Rattle.gate_node.specs.declared.passes.FallbackPass.{FallbackPass}
 use Rattle.gate_node.specs.Asked.{Sight, AnswersAndReaps}
-use Rattle.gate_node.specs.GateStep.{Node, AtIndex, AtFallback, AtClosed, Looks, events_seen}
+use Rattle.gate_node.specs.GateStep.{NodeOverGates, AtIndex, AtFallback, AtClosed, LooksAtPrimary, events_seen}
 use Rattle.gate_node.specs.Passes.{AnswersAtFallback, FindsClosed}
 use Rattle.gate_node.proofs.Seeing.{set_here}
 
@@ -62,7 +62,7 @@ new_there run i gates passes p new of at =
     new_at run gates new i p.gate gate
 
 -- what is answered by the pass at an index is answered at that index
-pub at_index : (node : Node) (i : ℕ) (p q : Sight) (Answers : Sight → Sight → Option Quantity → Type 0) (quantity : Option Quantity) (reaps : ℕ) (count : Count)
+pub at_index : (node : NodeOverGates) (i : ℕ) (p q : Sight) (Answers : Sight → Sight → Option Quantity → Type 0) (quantity : Option Quantity) (reaps : ℕ) (count : Count)
     → AreOfNewRun node.shared.run node.shared.gates → map (λ (s : Sight). s.gate) node.passes.primaries ≡ node.shared.gates → i < length node.passes.primaries
     → p ≡ get_or node.passes.primaries i p → q.gate ≡ p.gate → AnswersAndReaps node.shared.budget reaps (λ x y. Answers x y quantity) p q → CountsAnswer quantity reaps node.count count
     → AtIndex i node (record node { passes = record node.passes { primaries = slice_set node.passes.primaries i q }; count = count }) Answers
@@ -72,7 +72,7 @@ at_index node i p q Answers quantity reaps count all of within is gate steps cou
     record { before = p; after = q; quantity = quantity; reaps = reaps; count = count; stands = at; made_new = new.0; limits = new.1; gate = gate; steps = steps; counts = counts; node = refl }
 
 -- and what is answered by the pass that is kept of a fallback, at that
-pub at_fallback : (node : Node) (i : ℕ) (fallback : Fallback) (kept new : Option FallbackPass) (Answers : Sight → Sight → Option Quantity → Type 0) (quantity : Option Quantity) (count : Count)
+pub at_fallback : (node : NodeOverGates) (i : ℕ) (fallback : Fallback) (kept new : Option FallbackPass) (Answers : Sight → Sight → Option Quantity → Type 0) (quantity : Option Quantity) (count : Count)
     → slice_get node.shared.fallbacks i ≡ Some (Some fallback) → IsFallback node.shared.run i fallback → i < length node.passes.fallbacks → kept ≡ get_or node.passes.fallbacks i kept
     → AnswersAtFallback fallback kept new (λ x y. Answers x y quantity) → CountsAnswer quantity 0 node.count count
     → AtFallback i node (record node { passes = record node.passes { fallbacks = slice_set node.passes.fallbacks i new }; count = count }) Answers
@@ -96,7 +96,7 @@ at_fallback node i fallback kept new Answers quantity count some is_new within i
 }
 
 -- or finds that closed
-pub at_closed : (node : Node) (i : ℕ) (fallback : Fallback) (kept new : Option FallbackPass) (number : ℕ)
+pub at_closed : (node : NodeOverGates) (i : ℕ) (fallback : Fallback) (kept new : Option FallbackPass) (number : ℕ)
     → slice_get node.shared.fallbacks i ≡ Some (Some fallback) → IsFallback node.shared.run i fallback → i < length node.passes.fallbacks → kept ≡ get_or node.passes.fallbacks i kept
     → FindsClosed fallback kept new number → AtClosed i number node (record node { passes = record node.passes { fallbacks = slice_set node.passes.fallbacks i new } })
 at_closed node i fallback kept new number some is_new within is finds = record {
@@ -116,13 +116,13 @@ at_closed node i fallback kept new number some is_new within is finds = record {
 }
 
 -- a pass of a primary is shown what stands there
-pub looks_at : (node : Node) (i : ℕ) (p q : Sight) → i < length node.passes.primaries → p ≡ get_or node.passes.primaries i p → q.gate ≡ p.gate → IsPrefix p.prefix q.prefix → q.own ≡ p.own
-    → Looks i node (record node { passes = record node.passes { primaries = slice_set node.passes.primaries i q } })
+pub looks_at : (node : NodeOverGates) (i : ℕ) (p q : Sight) → i < length node.passes.primaries → p ≡ get_or node.passes.primaries i p → q.gate ≡ p.gate → IsPrefix p.prefix q.prefix → q.own ≡ p.own
+    → LooksAtPrimary i node (record node { passes = record node.passes { primaries = slice_set node.passes.primaries i q } })
 looks_at node i p q within is gate more own =
     record { before = p; after = q; stands = got node.passes.primaries i p within is; gate = gate; more = more; own = own; node = refl }
 
 -- and so many events were seen of it then
-pub seen_there : (node : Node) (i : ℕ) (p q : Sight) → i < length node.passes.primaries → p ≡ get_or node.passes.primaries i p
+pub seen_there : (node : NodeOverGates) (i : ℕ) (p q : Sight) → i < length node.passes.primaries → p ≡ get_or node.passes.primaries i p
     → length q.prefix ≡ events_seen (record node { passes = record node.passes { primaries = slice_set node.passes.primaries i q } }) i
 seen_there node i p q within is =
     ap (λ (o : Option Sight). option_map_or (λ (pass : Sight). length pass.prefix) o 0) (sym (set_here node.passes.primaries i p q (got node.passes.primaries i p within is)))

@@ -1,7 +1,7 @@
 -- Dead keys that were forgotten one after another.
 use Rattle.std.proofs.Common.{◌≡◌, ◌∙◌, ℕ, refl, ap, subst}
 use Rattle.std.specs.Prelude.{zero, suc}
-use Rattle.vnode_protocol.specs.declared.ask.Answer.{Answer}
+use Rattle.vnode_core.specs.declared.ask.Answer.{Answer}
 use Rattle.gate_node.specs.Asked.{Sight, Reaps, IsMadeBy, first_reap}
 
 -- one more behind them

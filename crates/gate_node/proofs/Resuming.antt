@@ -9,28 +9,28 @@ use Rattle.stats_book.specs.Counter.{Count, CountsAnswer}
 use Rattle.gate_node.specs.declared.passes.FallbackPass.{FallbackPass}
 use Rattle.gate_node.specs.Asked.{Sight}
 use Rattle.gate_node.specs.Gates.{Gates}
-use Rattle.gate_node.specs.GateStep.{Node, AtFallback, AtClosed}
-use Rattle.gate_node.specs.Passes.{AnswersAtFallback, ArePassesOf, FindsClosed, Fits}
+use Rattle.gate_node.specs.GateStep.{NodeOverGates, AtFallback, AtClosed}
+use Rattle.gate_node.specs.Passes.{AnswersAtFallback, ArePassesOf, FindsClosed, FitsPartition}
 use Rattle.gate_node.proofs.Fitting.{answered_fits, closed_fits, fit_at, fit_set, place_at}
 use Rattle.gate_node.proofs.Opened.{at_closed, at_fallback}
 
 -- a node by its parts
-abbrev pub node_of : Gates → List Sight → List (Option FallbackPass) → Count → Node
+abbrev pub node_of : Gates → List Sight → List (Option FallbackPass) → Count → NodeOverGates
 node_of shared primaries fallbacks count = record { shared = shared; passes = record { primaries = primaries; fallbacks = fallbacks }; count = count }
 
-module _ (inside node : Node) (i : ℕ) (fallback : Fallback) (is : inside ≡ node) (of : ArePassesOf inside.shared inside.passes) (diverted : slice_get node.shared.fallbacks i ≡ Some (Some fallback)) where
+module _ (inside node : NodeOverGates) (i : ℕ) (fallback : Fallback) (is : inside ≡ node) (of : ArePassesOf inside.shared inside.passes) (diverted : slice_get node.shared.fallbacks i ≡ Some (Some fallback)) where
   there : slice_get inside.shared.fallbacks i ≡ Some (Some fallback)
-  there = subst (λ (n : Node). slice_get n.shared.fallbacks i ≡ Some (Some fallback)) (sym is) diverted
+  there = subst (λ (n : NodeOverGates). slice_get n.shared.fallbacks i ≡ Some (Some fallback)) (sym is) diverted
 
   pub kept_place : i < length inside.passes.fallbacks
   kept_place = place_at inside.shared.fallbacks inside.passes.fallbacks i (Some fallback) of.fallbacks there
 
   module _ (kept : Option FallbackPass) (at : kept ≡ get_or inside.passes.fallbacks i kept) where
-    pub kept_fits : Fits (Some fallback) kept
+    pub kept_fits : FitsPartition (Some fallback) kept
     kept_fits = fit_at inside.shared.fallbacks inside.passes.fallbacks i (Some fallback) kept of.fallbacks there (got inside.passes.fallbacks i kept kept_place at)
 
     module _ (new : Option FallbackPass) where
-      still : Fits (Some fallback) new → ArePassesOf inside.shared (record inside.passes { fallbacks = slice_set inside.passes.fallbacks i new })
+      still : FitsPartition (Some fallback) new → ArePassesOf inside.shared (record inside.passes { fallbacks = slice_set inside.passes.fallbacks i new })
       still fits = record { primaries = of.primaries; fallbacks = fit_set inside.shared.fallbacks inside.passes.fallbacks i (Some fallback) new of.fallbacks there fits }
 
       pub still_answered : (Says : Sight → Sight → Type 0) → AnswersAtFallback fallback kept new Says → ArePassesOf inside.shared (record inside.passes { fallbacks = slice_set inside.passes.fallbacks i new })
@@ -41,17 +41,17 @@ module _ (inside node : Node) (i : ℕ) (fallback : Fallback) (is : inside ≡ n
 
       module _ (is_new : IsFallback node.shared.run i fallback) where
         there_new : IsFallback inside.shared.run i fallback
-        there_new = subst (λ (n : Node). IsFallback n.shared.run i fallback) (sym is) is_new
+        there_new = subst (λ (n : NodeOverGates). IsFallback n.shared.run i fallback) (sym is) is_new
 
         pub answered_there : (Says : Sight → Sight → Option Quantity → Type 0) (quantity : Option Quantity) (count : Count) → AnswersAtFallback fallback kept new (λ p q. Says p q quantity)
             → CountsAnswer quantity 0 inside.count count
             → AtFallback i node (record inside { passes = record inside.passes { fallbacks = slice_set inside.passes.fallbacks i new }; count = count }) Says
         answered_there Says quantity count answers counts =
-            let last : Node = record inside { passes = record inside.passes { fallbacks = slice_set inside.passes.fallbacks i new }; count = count } in
-            subst (λ (n : Node). AtFallback i n last Says) is (at_fallback inside i fallback kept new Says quantity count there there_new kept_place at answers counts)
+            let last : NodeOverGates = record inside { passes = record inside.passes { fallbacks = slice_set inside.passes.fallbacks i new }; count = count } in
+            subst (λ (n : NodeOverGates). AtFallback i n last Says) is (at_fallback inside i fallback kept new Says quantity count there there_new kept_place at answers counts)
 
         pub closed_there : (number : ℕ) → FindsClosed fallback kept new number
             → AtClosed i number node (record inside { passes = record inside.passes { fallbacks = slice_set inside.passes.fallbacks i new } })
         closed_there number finds =
-            let last : Node = record inside { passes = record inside.passes { fallbacks = slice_set inside.passes.fallbacks i new } } in
-            subst (λ (n : Node). AtClosed i number n last) is (at_closed inside i fallback kept new number there there_new kept_place at finds)
+            let last : NodeOverGates = record inside { passes = record inside.passes { fallbacks = slice_set inside.passes.fallbacks i new } } in
+            subst (λ (n : NodeOverGates). AtClosed i number n last) is (at_closed inside i fallback kept new number there there_new kept_place at finds)

@@ -9,16 +9,16 @@ use Rattle.riak_msgs.specs.declared.Request.{Request}
 use Rattle.riak_msgs.specs.declared.Request.TheVariants as requests
 use Rattle.riak_msgs.specs.declared.Reply.{Reply}
 use Rattle.rw_gate.proofs.Prefixes.{prefix_trans}
-use Rattle.vnode_protocol.specs.declared.ask.Ask.TheVariants as asks
-use Rattle.vnode_protocol.specs.declared.entry.Entry.{Entry}
-use Rattle.vnode_protocol.proofs.Entries.{commands_before}
+use Rattle.vnode_core.specs.declared.ask.Ask.TheVariants as asks
+use Rattle.vnode_core.specs.declared.entry.Entry.{Entry}
+use Rattle.vnode_core.proofs.Entries.{commands_before}
 use Rattle.handoff.specs.declared.gates.Fallback.{Fallback}
 use Rattle.node_session.specs.PlainNodes.{partition_of}
 use Rattle.stats_book.specs.declared.quantity.Quantity.{Quantity}
 use Rattle.stats_book.specs.Counter.{Count}
 use Rattle.gate_node.specs.Asked.{Sight, Gets, GetsOpen, Changes, ChangesOpen, Reaps, ReapsUpTo}
 use Rattle.gate_node.specs.declared.passes.FallbackPass.{FallbackPass}
-use Rattle.gate_node.specs.GateStep.{Node, GateStep, AtIndex, AtIndexFrom, AtPartition}
+use Rattle.gate_node.specs.GateStep.{NodeOverGates, GateStep, AtIndex, AtIndexFrom, AnswersAtPartition}
 use Rattle.gate_node.specs.Passes.{Resumes, kept_of}
 use Rattle.gate_node.specs.Registers.{seen_at, seen_at_fallback, entries_by, HasSeenCommands}
 
@@ -90,24 +90,24 @@ primary_grows None kept old new more = more
 
 -- a step only adds to what was seen
 module _ (index other : ℕ) where
-  abbrev Grows : Node → Node → Type 0
+  abbrev Grows : NodeOverGates → NodeOverGates → Type 0
   Grows old new = IsPrefix (entries_by old other) (entries_by new other)
 
-  then_grows : (old mid new : Node) → Grows old mid → Grows mid new → Grows old new
+  then_grows : (old mid new : NodeOverGates) → Grows old mid → Grows mid new → Grows old new
   then_grows old mid new one two = prefix_trans (entries_by old other) (entries_by mid other) (entries_by new other) one two
 
   -- by a pass of a primary that goes on
-  primary_adds : (old new : Node) (before after : Sight) (count : Count) → slice_get old.passes.primaries index ≡ Some before → IsPrefix before.prefix after.prefix
+  primary_adds : (old new : NodeOverGates) (before after : Sight) (count : Count) → slice_get old.passes.primaries index ≡ Some before → IsPrefix before.prefix after.prefix
       → new ≡ record old { passes = record old.passes { primaries = slice_set old.passes.primaries index after }; count = count } → Grows old new
   primary_adds old new before after count stands more is =
       let there = slice_get old.shared.fallbacks other in
       let kept = slice_get old.passes.fallbacks other in
-      subst (λ (node : Node). Grows old node) (sym is)
+      subst (λ (node : NodeOverGates). Grows old node) (sym is)
       (set_either old.passes.primaries index other before after (λ a b. IsPrefix (seen_at there a kept) (seen_at there b kept)) stands
       (λ same. primary_grows there kept before after more) (λ o. whole (seen_at there o kept)))
 
   -- and by one of a fallback
-  fallback_adds : (old new : Node) (fallback : Fallback) (had : Option FallbackPass) (before after : Sight) (known closed : Option ℕ) (count : Count)
+  fallback_adds : (old new : NodeOverGates) (fallback : Fallback) (had : Option FallbackPass) (before after : Sight) (known closed : Option ℕ) (count : Count)
       → slice_get old.shared.fallbacks index ≡ Some (Some fallback) → slice_get old.passes.fallbacks index ≡ Some had → Resumes fallback had before known → IsPrefix before.prefix after.prefix
       → new ≡ record old { passes = record old.passes { fallbacks = slice_set old.passes.fallbacks index (kept_of fallback after closed) }; count = count } → Grows old new
   fallback_adds old new fallback had before after known closed count diverted stood resumes more node =
@@ -119,26 +119,26 @@ module _ (index other : ℕ) where
       let first = diverted_seen there primary (Some had) fallback had is refl ∙ resumed_seen fallback had before known resumes in
       let last = diverted_seen there primary (Some kept) fallback kept is refl ∙ kept_seen fallback after closed in
       subst (λ (p : List Entry × List Entry). IsPrefix p.0 p.1) (λ i. (sym first i, sym last i)) more in
-      subst (λ (n : Node). Grows old n) (sym node)
+      subst (λ (n : NodeOverGates). Grows old n) (sym node)
       (set_either old.passes.fallbacks index other had kept (λ a b. IsPrefix (seen_at there primary a) (seen_at there primary b)) stood here (λ o. whole (seen_at there primary o)))
 
-  index_adds : (old new : Node) (Says : Sight → Sight → Option Quantity → Type 0) → AtIndex index old new Says → Grows old new
+  index_adds : (old new : NodeOverGates) (Says : Sight → Sight → Option Quantity → Type 0) → AtIndex index old new Says → Grows old new
   index_adds old new Says at =
       let answered = all_reaps_more old.shared.budget at.reaps at.steps.answered at.after at.steps.reaps in
       let more = prefix_trans at.before.prefix at.steps.answered.prefix at.after.prefix at.steps.more answered in
       primary_adds old new at.before at.after at.count at.stands more at.node
 
-  pub from_adds : (number : ℕ) (old : Node) (reply : Reply) (new : Node) (Answers : Sight → Sight → Reply → Option Quantity → Type 0) → AtIndexFrom index number old reply new Answers
+  pub from_adds : (number : ℕ) (old : NodeOverGates) (reply : Reply) (new : NodeOverGates) (Answers : Sight → Sight → Reply → Option Quantity → Type 0) → AtIndexFrom index number old reply new Answers
       → Grows old new
   from_adds number old reply new Answers at =
       let looked = primary_adds old at.looked at.looks.before at.looks.after old.count at.looks.stands at.looks.more at.looks.node in
       let last : Grows at.looked new = elim at.answers [
         | inl far ↦ index_adds at.looked new (λ p q. Answers p q reply) far.1
-        | inr short ↦ subst (λ (n : Node). Grows at.looked n) (sym short.1.node) (whole _)
+        | inr short ↦ subst (λ (n : NodeOverGates). Grows at.looked n) (sym short.1.node) (whole _)
       ] in
       then_grows old at.looked new looked last
 
-  adds : (old : Node) (reply : Reply) (new : Node) (Answers AnswersOpen : Sight → Sight → Reply → Option Quantity → Type 0) → AtPartition index old reply new Answers AnswersOpen → Grows old new
+  adds : (old : NodeOverGates) (reply : Reply) (new : NodeOverGates) (Answers AnswersOpen : Sight → Sight → Reply → Option Quantity → Type 0) → AnswersAtPartition index old reply new Answers AnswersOpen → Grows old new
   adds old reply new Answers AnswersOpen (inl (none, at)) = index_adds old new (λ p q. Answers p q reply) at
   adds old reply new Answers AnswersOpen (inr (inl at)) =
       fallback_adds old new at.fallback at.kept at.before at.after None None at.count at.diverted at.stood at.resumes at.more at.node
@@ -147,8 +147,8 @@ module _ (index other : ℕ) where
       let first = fallback_adds old at.found c.fallback c.kept c.before c.after c.known (Some at.number) old.count c.diverted c.stood c.resumes c.closed.more c.node in
       then_grows old at.found new first (from_adds at.number at.found reply new Answers at.answers)
 
-step_adds : (old : Node) (request : Request) (reply : Reply) (new : Node) → GateStep old request reply new → (index : ℕ) → IsPrefix (entries_by old index) (entries_by new index)
-step_adds old requests.Ping reply new step index = subst (λ (node : Node). IsPrefix (entries_by old index) (entries_by node index)) (sym step.1) (whole _)
+step_adds : (old : NodeOverGates) (request : Request) (reply : Reply) (new : NodeOverGates) → GateStep old request reply new → (index : ℕ) → IsPrefix (entries_by old index) (entries_by new index)
+step_adds old requests.Ping reply new step index = subst (λ (node : NodeOverGates). IsPrefix (entries_by old index) (entries_by node index)) (sym step.1) (whole _)
 step_adds old (requests.Get get) reply new step index = adds (partition_of old.shared.index_bits get.key) index old reply new (Gets get) (GetsOpen get) step
 step_adds old (requests.Put put) reply new step index =
     adds (partition_of old.shared.index_bits put.key) index old reply new (Changes (asks.Put put)) (ChangesOpen (asks.Put put)) step
@@ -156,5 +156,5 @@ step_adds old (requests.Del del) reply new step index =
     adds (partition_of old.shared.index_bits del.key) index old reply new (Changes (asks.Del del)) (ChangesOpen (asks.Del del)) step
 
 -- where commands alone were seen after it, so they were before
-pub step_commands : (old : Node) (request : Request) (reply : Reply) (new : Node) → GateStep old request reply new → HasSeenCommands new → HasSeenCommands old
+pub step_commands : (old : NodeOverGates) (request : Request) (reply : Reply) (new : NodeOverGates) → GateStep old request reply new → HasSeenCommands new → HasSeenCommands old
 step_commands old request reply new step are = λ index. commands_before (entries_by old index) (entries_by new index) (step_adds old request reply new step index) (are index)

@@ -13,15 +13,15 @@ use Rattle.actor_epoch.specs.Given.{Context}
 use Rattle.vnode_machine.specs.Machine.{State, opening, apply_operation, state_after}
 use Rattle.vnode_machine.specs.Replay.{History, IsWithinLimits}
 use Rattle.vnode_machine.specs.Step.{Accepted}
-use Rattle.vnode_protocol.specs.declared.ask.Ask.{Ask}
-use Rattle.vnode_protocol.specs.declared.ask.Ask.TheVariants as asks
-use Rattle.vnode_protocol.specs.declared.ask.Answer.{Answer}
-use Rattle.vnode_protocol.specs.declared.ask.Answer.TheVariants as answers
-use Rattle.vnode_protocol.specs.declared.entry.Entry.{Entry}
-use Rattle.vnode_protocol.specs.declared.entry.Entry.TheVariants.{Command as Commanded, Copied, Closed}
-use Rattle.vnode_protocol.specs.declared.refusal.Refusal.{Refusal}
-use Rattle.vnode_protocol.specs.Events.{AnsweredBy, AreCommands, Asks, IsMadeNew, Makes, event_deed, event_response, history_after}
-use Rattle.vnode_protocol.specs.Plans.{View, AnswersOpen, IsAnswered, Refuses}
+use Rattle.vnode_core.specs.declared.ask.Ask.{Ask}
+use Rattle.vnode_core.specs.declared.ask.Ask.TheVariants as asks
+use Rattle.vnode_core.specs.declared.ask.Answer.{Answer}
+use Rattle.vnode_core.specs.declared.ask.Answer.TheVariants as answers
+use Rattle.vnode_core.specs.declared.entry.Entry.{Entry}
+use Rattle.vnode_core.specs.declared.entry.Entry.TheVariants.{Command as Commanded, Copied, Closed}
+use Rattle.vnode_core.specs.declared.refusal.Refusal.{Refusal}
+use Rattle.vnode_core.specs.Events.{AnsweredBy, AreCommands, EntryAsks, IsMadeNew, Makes, event_deed, event_response, history_after}
+use Rattle.vnode_core.specs.Plans.{View, AnswersOpen, IsAnsweredUnchanged, Refuses}
 use Rattle.rw_gate.specs.declared.asking.Outcome.{Outcome}
 use Rattle.rw_gate.specs.declared.asking.Outcome.TheVariants as Outcomes
 use Rattle.rw_gate.specs.Asking.{SeesUnder}
@@ -68,7 +68,7 @@ never_closed state (asks.Close number) h = h
 
 -- what came of an ask under a right to a vnode that isn't closed
 pub comes_open : (ask : Ask) (old new : Sight) (history : List Entry) (state : State Content) (outcome : Outcome Answer Refusal) → ComesOf ask old new outcome
-    → RunFrom state_of Makes old.gate.opening history state → state.closed ≡ None → SeesUnder state_of Makes IsAnswered Refuses Asks AnsweredBy history new outcome → IsOfOpenVnode outcome
+    → RunFrom state_of Makes old.gate.opening history state → state.closed ≡ None → SeesUnder state_of Makes IsAnsweredUnchanged Refuses EntryAsks AnsweredBy history new outcome → IsOfOpenVnode outcome
 comes_open ask old new history state (Outcomes.Told answers.Closed) comes leads opened under = elim comes.says [
   | inl says ↦ never_closed comes.state ask says.1
   | inr closed ↦

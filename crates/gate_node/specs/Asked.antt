@@ -12,40 +12,31 @@ use Rattle.vnode_machine.specs.Machine.{State}
 use Rattle.vnode_machine.specs.Step.{outcome}
 use Rattle.stats_book.specs.declared.quantity.Quantity.{Quantity}
 use Rattle.stats_book.specs.declared.quantity.Quantity.TheVariants as quantities
-use Rattle.rw_gate.specs.Views.{PassView}
 use Rattle.rw_gate.specs.Histories.{RunFrom}
-use Rattle.vnode_protocol.specs.declared.ask.Ask.{Ask}
-use Rattle.vnode_protocol.specs.declared.ask.Ask.TheVariants as asks
-use Rattle.vnode_protocol.specs.declared.ask.Answer.{Answer}
-use Rattle.vnode_protocol.specs.declared.ask.Answer.TheVariants as answers
-use Rattle.vnode_protocol.specs.declared.entry.Entry.{Entry}
-use Rattle.vnode_protocol.specs.declared.refusal.Refusal.{Refusal}
-use Rattle.vnode_protocol.specs.Plans.{View, IsAnswered, Refuses}
-use Rattle.vnode_protocol.specs.Refusals.{number_of}
-use Rattle.vnode_protocol.specs.Events.{Makes, Asks, AnsweredBy}
+use Rattle.vnode_core.specs.declared.ask.Ask.{Ask}
+use Rattle.vnode_core.specs.declared.ask.Ask.TheVariants as asks
+use Rattle.vnode_core.specs.declared.ask.Answer.{Answer}
+use Rattle.vnode_core.specs.declared.ask.Answer.TheVariants as answers
+use Rattle.vnode_core.specs.declared.refusal.Refusal.{Refusal}
+use Rattle.vnode_core.specs.Plans.{IsAnsweredUnchanged, Refuses}
+use Rattle.vnode_core.specs.Refusals.{number_of}
+use Rattle.vnode_core.specs.Events.{Makes, EntryAsks, AnsweredBy}
 use Rattle.sibling_register.specs.Refusals.{refusal_text}
 use Rattle.node_session.specs.PlainStep.{answer_reply, StepsBy}
 use Rattle.rw_gate.specs.declared.asking.Outcome.{Outcome}
 use Rattle.rw_gate.specs.declared.asking.Outcome.TheVariants.{Made, Told, Refused, Moved, Full}
 use Rattle.rw_gate.specs.Asking.{Comes, IsMade, IsSaid, IsOvertaken}
-
--- what a caller has seen of a vnode's history, and at which positions of it the caller published
-abbrev pub Sight : Type 0
-Sight = PassView View Entry
-
--- the machine's state of a vnode
-abbrev pub state_of : View → State Content
-state_of vnode = vnode.state
+pub use Rattle.handoff.specs.Sights.{Sight, state_of}
 
 -- what came of an ask, an ask that was made, and what the machine says at the end of what was seen
 abbrev pub ComesOf : Ask → Sight → Sight → Outcome Answer Refusal → Type 0
-ComesOf = Comes state_of Makes IsAnswered Refuses Asks AnsweredBy
+ComesOf = Comes state_of Makes IsAnsweredUnchanged Refuses EntryAsks AnsweredBy
 
 abbrev pub IsMadeBy : Ask → Sight → Sight → Answer → Type 0
-IsMadeBy = IsMade state_of Makes IsAnswered Refuses Asks AnsweredBy
+IsMadeBy = IsMade state_of Makes IsAnsweredUnchanged Refuses EntryAsks AnsweredBy
 
 abbrev pub IsSaidOf : (State Content → Type 0) → Sight → Sight → Type 0
-IsSaidOf = IsSaid state_of Makes IsAnswered Refuses Asks AnsweredBy
+IsSaidOf = IsSaid state_of Makes IsAnsweredUnchanged Refuses EntryAsks AnsweredBy
 
 -- the reply for what came of an ask
 abbrev pub outcome_reply : Outcome Answer Refusal → Reply
@@ -92,12 +83,12 @@ abbrev pub ChangesOpen : Ask → Sight → Sight → Reply → Option Quantity �
 ChangesOpen ask old new reply quantity = (changes : Changes ask old new reply quantity) × IsOfOpenVnode changes.outcome
 
 -- the machine's reply to a get in this state, or memory is refused
-abbrev pub Shows : GetAsk → Reply → State Content → Type 0
-Shows get reply state = StepsBy state (outcome state (AskGet (get_command get))) reply state
+abbrev pub RepliesToGet : GetAsk → Reply → State Content → Type 0
+RepliesToGet get reply state = StepsBy state (outcome state (AskGet (get_command get))) reply state
 
 -- a get is shown the state at the end of what is then seen, or the history had gone on
-abbrev pub IsShown : GetAsk → Sight → Sight → Reply → Type 0
-IsShown get old new reply = IsSaidOf (Shows get reply) old new ⊎ ((reply ≡ replies.Error texts.Moved) × IsOvertaken old new)
+abbrev pub IsShownGet : GetAsk → Sight → Sight → Reply → Type 0
+IsShownGet get old new reply = IsSaidOf (RepliesToGet get reply) old new ⊎ ((reply ≡ replies.Error texts.Moved) × IsOvertaken old new)
 
 -- what a get is counted as, by its reply
 abbrev pub get_quantity : Reply → Quantity
@@ -106,11 +97,11 @@ get_quantity reply = quantities.Gets
 
 -- a get is shown the state, and that is counted
 abbrev pub Gets : GetAsk → Sight → Sight → Reply → Option Quantity → Type 0
-Gets get old new reply quantity = IsShown get old new reply × (quantity ≡ Some (get_quantity reply))
+Gets get old new reply quantity = IsShownGet get old new reply × (quantity ≡ Some (get_quantity reply))
 
 -- and the vnode that is shown isn't closed
 abbrev pub ShowsOpen : GetAsk → Reply → State Content → Type 0
-ShowsOpen get reply state = (state.closed ≡ None) × Shows get reply state
+ShowsOpen get reply state = (state.closed ≡ None) × RepliesToGet get reply state
 
 abbrev pub IsShownOpen : GetAsk → Sight → Sight → Reply → Type 0
 IsShownOpen get old new reply = IsSaidOf (ShowsOpen get reply) old new ⊎ ((reply ≡ replies.Error texts.Moved) × IsOvertaken old new)

@@ -1,7 +1,7 @@
 -- The gates of a run: one round the vnode of each partition, and the fallbacks of those that are diverted.
 use Rattle.std.specs.Prelude.{ℕ, List, Option}
 use Rattle.rw_gate.specs.Views.{GateId}
-use Rattle.vnode_protocol.specs.Plans.{View}
+use Rattle.vnode_core.specs.Plans.{View}
 use Rattle.handoff.specs.declared.gates.Fallback.{Fallback}
 use Rattle.handoff.specs.Partitions.{HandoffView}
 

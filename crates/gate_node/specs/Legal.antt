@@ -5,9 +5,9 @@ use Rattle.vnode_machine.specs.Machine.{State}
 use Rattle.vnode_machine.specs.Replay.{IsWithinLimits}
 use Rattle.rw_gate.specs.Views.{GateId}
 use Rattle.rw_gate.specs.Histories.{RunFrom}
-use Rattle.vnode_protocol.specs.declared.event.Event.{Event}
-use Rattle.vnode_protocol.specs.Plans.{View}
-use Rattle.vnode_protocol.specs.Events.{all_commands, Makes, IsMadeNew, GoesOnTo}
+use Rattle.vnode_core.specs.declared.event.Event.{Event}
+use Rattle.vnode_core.specs.Plans.{View}
+use Rattle.vnode_core.specs.Events.{all_commands, Makes, IsMadeNew, GoesOnTo}
 use Rattle.gate_node.specs.Asked.{state_of}
 
 -- at a position to which the history of a gate leads that was made round this new vnode, and before which there are commands

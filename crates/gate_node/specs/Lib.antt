@@ -5,3 +5,5 @@ pub mod GateStep
 pub mod Legal
 pub mod Sessions
 pub mod Registers
+pub mod Tallies
+pub mod OneHistory

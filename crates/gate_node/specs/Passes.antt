@@ -25,11 +25,11 @@ pub record AreUnused (passes : Sights) : Type 0 where
 
 -- what is kept of a partition is a pass of an earlier diversion, or of the fallback that stands there, and the number of the close that it
 -- has seen, where it has seen one; nothing, where the partition was never diverted
-abbrev pub Fits : Option Fallback → Option FallbackPass → Type 0
-Fits None None = Unit {0}
-Fits None (Some kept) = ⊥
-Fits (Some fallback) None = Unit {0}
-Fits (Some fallback) (Some kept) =
+abbrev pub FitsPartition : Option Fallback → Option FallbackPass → Type 0
+FitsPartition None None = Unit {0}
+FitsPartition None (Some kept) = ⊥
+FitsPartition (Some fallback) None = Unit {0}
+FitsPartition (Some fallback) (Some kept) =
     (kept.diversion ≤ fallback.diversion) × (kept.diversion ≡ fallback.diversion → kept.pass.gate ≡ fallback.gate)
     × IfSome kept.closed (HasSeenClose kept.pass)
 
@@ -37,7 +37,7 @@ abbrev pub AllFit : List (Option Fallback) → List (Option FallbackPass) → Ty
 AllFit [] [] = Unit {0}
 AllFit [] (kept ∷ all) = ⊥
 AllFit (fallback ∷ fallbacks) [] = ⊥
-AllFit (fallback ∷ fallbacks) (kept ∷ all) = Fits fallback kept × AllFit fallbacks all
+AllFit (fallback ∷ fallbacks) (kept ∷ all) = FitsPartition fallback kept × AllFit fallbacks all
 
 -- these passes are of the gates of this run, in their order, and of its fallbacks
 pub record ArePassesOf (shared : Gates) (passes : Sights) : Type 0 where

@@ -17,16 +17,16 @@ use Rattle.vnode_machine.specs.Replay.{History}
 use Rattle.vnode_machine.specs.Step.{Response}
 use Rattle.vnode_machine.specs.Registers.{key_of}
 use Rattle.vnode_machine.specs.Runs.{AnswersTurn}
-use Rattle.vnode_protocol.specs.declared.event.Event.{Event}
-use Rattle.vnode_protocol.specs.declared.entry.Entry.{Entry}
-use Rattle.vnode_protocol.specs.Events.{AreCommands, GoesOnTo, commands_of, history_after}
+use Rattle.vnode_core.specs.declared.event.Event.{Event}
+use Rattle.vnode_core.specs.declared.entry.Entry.{Entry}
+use Rattle.vnode_core.specs.Events.{AreCommands, GoesOnTo, commands_of, history_after}
 use Rattle.node_session.specs.declared.fault.SessionFault.{SessionFault}
-use Rattle.node_session.specs.Answers.{Run}
-use Rattle.node_session.specs.Answered.{Answered}
+use Rattle.node_session.specs.Answers.{AnswersInTurn}
+use Rattle.node_session.specs.Answered.{AnsweredInput}
 use Rattle.node_session.specs.PlainNodes.{partition_of}
 use Rattle.node_session.specs.PlainStep.{ask_of, reply_of}
-use Rattle.node_session.specs.Session.{IsEnd, Stops}
-use Rattle.vnode_protocol.specs.Plans.{View}
+use Rattle.node_session.specs.Session.{IsInputEnd, Stops}
+use Rattle.vnode_core.specs.Plans.{View}
 use Rattle.rw_gate.specs.Views.{GateId}
 use Rattle.handoff.specs.declared.gates.Fallback.{Fallback}
 use Rattle.handoff.specs.Partitions.{fallback_id}
@@ -34,7 +34,7 @@ use Rattle.gate_node.specs.declared.passes.FallbackPass.{FallbackPass}
 use Rattle.gate_node.specs.Asked.{Sight}
 use Rattle.gate_node.specs.Gates.{Gates}
 use Rattle.gate_node.specs.Passes.{is_of}
-use Rattle.gate_node.specs.GateStep.{Node, GateStep}
+use Rattle.gate_node.specs.GateStep.{NodeOverGates, GateStep}
 
 -- the commands that a vnode accepted, oldest first, each with its answer
 abbrev pub Commands : Type 0
@@ -55,15 +55,15 @@ seen_at (Some None) primary kept = option_map_or (λ (pass : Sight). pass.prefix
 seen_at None primary kept = option_map_or (λ (pass : Sight). pass.prefix) primary []
 
 -- what a node's passes have seen at an index, of the vnode that the calls of the partition are for
-abbrev pub entries_by : Node → ℕ → List Entry
+abbrev pub entries_by : NodeOverGates → ℕ → List Entry
 entries_by node index = seen_at (slice_get node.shared.fallbacks index) (slice_get node.passes.primaries index) (slice_get node.passes.fallbacks index)
 
 -- and the commands among that
-abbrev pub seen_by : Node → Seen
+abbrev pub seen_by : NodeOverGates → Seen
 seen_by node index = commands_of (entries_by node index)
 
 -- they have seen commands alone, at each index
-abbrev pub HasSeenCommands : Node → Type 0
+abbrev pub HasSeenCommands : NodeOverGates → Type 0
 HasSeenCommands node = (index : ℕ) → AreCommands (entries_by node index)
 
 -- a vnode: its id, and the last epoch that it had given before its history began
@@ -107,13 +107,13 @@ module _ (id : VnodeId) where
 
 -- the errors by which a gate answers in the place of the register: other commands came between, or its vnode is closed, or there is no
 -- room for one more
-abbrev pub IsOfGate : Reply → Type 0
-IsOfGate reply = (reply ≡ replies.Error texts.Moved) ⊎ (reply ≡ replies.Error texts.HistoryFull)
+abbrev pub IsGateError : Reply → Type 0
+IsGateError reply = (reply ≡ replies.Error texts.Moved) ⊎ (reply ≡ replies.Error texts.HistoryFull)
 
 -- an ask is answered at this vnode of the partition of this index: by the register, or by the gate, and then it is no command; what
 -- was seen of other partitions stays
 pub record AnswersAskAt (id : VnodeId) (index : ℕ) (ask : Ask Content Context) (old : Seen) (reply : Reply) (new : Seen) : Type 0 where
-  pub answers : AnswersAmongOthers id ask (old index) reply (new index) ⊎ (IsOfGate reply × IsPrefix (old index) (new index))
+  pub answers : AnswersAmongOthers id ask (old index) reply (new index) ⊎ (IsGateError reply × IsPrefix (old index) (new index))
   pub others : (other : ℕ) → other ≢ index → new other ≡ old other
 
 -- a ping is answered by a ping and shows nothing, any other request at the partition that its key lies in
@@ -128,19 +128,19 @@ SharedRegister shared = RegisterAmongOthers (vnode_at shared) (partition_of shar
 
 -- what a node over gates answers to messages, one after another, the register among others does, where the node has seen commands
 -- alone in the end
-abbrev pub RunIsRegister : (old new : Node) → List Message → List Reply → Type 0
+abbrev pub RunIsRegister : (old new : NodeOverGates) → List Message → List Reply → Type 0
 RunIsRegister old new messages replies =
-    HasSeenCommands new → Run GateStep old messages replies new
-    → Run (SharedRegister old.shared) (seen_by old) messages replies (seen_by new)
+    HasSeenCommands new → AnswersInTurn GateStep old messages replies new
+    → AnswersInTurn (SharedRegister old.shared) (seen_by old) messages replies (seen_by new)
 
 -- a session that comes to the end is one over the register among others
-abbrev pub EndIsRegister : (old new : Node) (input : List ℕ) (held held' : Option (List ℕ)) (count len : ℕ) → Type 0
+abbrev pub EndIsRegister : (old new : NodeOverGates) (input : List ℕ) (held held' : Option (List ℕ)) (count len : ℕ) → Type 0
 EndIsRegister old new input held held' count len =
-    HasSeenCommands new → Answered GateStep old input held held' count (IsEnd new len)
-    → Answered (SharedRegister old.shared) (seen_by old) input held held' count (IsEnd (seen_by new) len)
+    HasSeenCommands new → AnsweredInput GateStep old input held held' count (IsInputEnd new len)
+    → AnsweredInput (SharedRegister old.shared) (seen_by old) input held held' count (IsInputEnd (seen_by new) len)
 
 -- and so is one that stops at a fault
-abbrev pub StopIsRegister : (old new : Node) (input : List ℕ) (held held' : Option (List ℕ)) → SessionFault → Type 0
+abbrev pub StopIsRegister : (old new : NodeOverGates) (input : List ℕ) (held held' : Option (List ℕ)) → SessionFault → Type 0
 StopIsRegister old new input held held' fault =
     HasSeenCommands new → Stops GateStep old new input held held' fault
     → Stops (SharedRegister old.shared) (seen_by old) (seen_by new) input held held' fault

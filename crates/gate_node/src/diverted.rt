@@ -3,7 +3,7 @@ ghost use Rattle.std.specs.Prelude.{◌≡◌, Some, IfOk, IfErr, IfSome};
 ghost use mathlib.Core.List.{IsPrefix};
 ghost use Rattle.gate_node.specs.Asked.{ChangesOpen, GetsOpen, HasSeenClose, IsClosedWith};
 ghost use Rattle.gate_node.specs.Asked.{ComesOf, IsOfOpenVnode, IsShownOpen, ShowsOpen};
-ghost use Rattle.gate_node.specs.Passes.{AnswersAtFallback, AnswersBy, FindsClosed, Fits, IsClosedBy};
+ghost use Rattle.gate_node.specs.Passes.{AnswersAtFallback, AnswersBy, FindsClosed, FitsPartition, IsClosedBy};
 
 use crate::gated_vnode::show;
 use crate::passes::{FallbackPass, renew};
@@ -186,7 +186,7 @@ pub(crate) fn get_diverted<W: Wait, T: Turnstile>(
     kept: &mut Option<FallbackPass>,
     get: &GetAsk,
 ) -> Result<(Reply, Option<Quantity>), u64>
-    requires { Fits (Some fallback.now) kept.old }
+    requires { FitsPartition (Some fallback.now) kept.old }
     ensures answers { IfOk result (λ a. AnswersAtFallback fallback.now kept.old kept.new
         (λ p q. GetsOpen get.now p q a.0 a.1)) }
     ensures closed { IfErr result (FindsClosed fallback.now kept.old kept.new) }
@@ -209,7 +209,7 @@ pub(crate) fn change_diverted<W: Wait, T: Turnstile>(
     kept: &mut Option<FallbackPass>,
     change: Ask,
 ) -> Result<(Reply, Option<Quantity>), (u64, Ask)>
-    requires { Fits (Some fallback.now) kept.old }
+    requires { FitsPartition (Some fallback.now) kept.old }
     ensures answers { IfOk result (λ a. AnswersAtFallback fallback.now kept.old kept.new
         (λ p q. ChangesOpen change p q a.0 a.1)) }
     ensures closed { IfErr result (λ back. FindsClosed fallback.now kept.old kept.new back.0) }

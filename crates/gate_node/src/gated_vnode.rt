@@ -1,7 +1,7 @@
 //! The requests to one vnode behind a gate.
 ghost use Rattle.std.specs.Prelude.{◌≡◌, nat_le, length};
 ghost use mathlib.Core.List.{IsPrefix};
-ghost use Rattle.gate_node.specs.Asked.{Shows, IsShown, Gets, Changes, ReapsUpTo, AnswersAndReaps};
+ghost use Rattle.gate_node.specs.Asked.{RepliesToGet, IsShownGet, Gets, Changes, ReapsUpTo, AnswersAndReaps};
 
 use crate::replies::{get_quantity, outcome_quantity, outcome_reply};
 use crate::shared::Shared;
@@ -15,7 +15,7 @@ use vnode_core::{Ask, Vnode};
 
 /// Shows a vnode's state to a get.
 pub(crate) fn show(vnode: &Vnode, alloc: Global, get: &GetAsk) -> Reply
-    ensures { Shows get.now result vnode.now.state }
+    ensures { RepliesToGet get.now result vnode.now.state }
 {
     match vnode.get(alloc, get) {
         Ok(reply) => Reply::Get(reply),
@@ -44,7 +44,7 @@ fn answer_get<W: Wait, T: Turnstile>(
     requires { pass.old.gate ≡ gate.now }
     ensures gate { pass.new.gate ≡ pass.old.gate }
     ensures more { IsPrefix pass.old.prefix pass.new.prefix }
-    ensures shown { IsShown get.now pass.old pass.new result }
+    ensures shown { IsShownGet get.now pass.old pass.new result }
 {
     let right = gate.read(rt);
     shared.enter(turnstile);

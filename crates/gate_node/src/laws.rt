@@ -2,17 +2,20 @@
 ghost use Rattle.std.specs.Prelude.{◌≡◌, ℕ, List};
 ghost use Rattle.pb_frame.specs.Message.{Message};
 ghost use Rattle.riak_msgs.specs.Contents.{Content};
+ghost use Rattle.riak_msgs.specs.declared.Request.{Request};
 ghost use Rattle.riak_msgs.specs.declared.Reply.{Reply};
 ghost use Rattle.vnode_machine.specs.Machine.{State};
 ghost use Rattle.rw_gate.specs.Views.{GateId};
-ghost use Rattle.vnode_protocol.specs.declared.event.Event.{Event};
-ghost use Rattle.vnode_protocol.specs.Plans.{View};
-ghost use Rattle.node_session.specs.Answers.{Run};
-ghost use Rattle.gate_node.specs.GateStep.{Node, GateStep};
+ghost use Rattle.vnode_core.specs.declared.event.Event.{Event};
+ghost use Rattle.vnode_core.specs.Plans.{View};
+ghost use Rattle.node_session.specs.Answers.{AnswersInTurn};
+ghost use Rattle.gate_node.specs.GateStep.{NodeOverGates, GateStep};
 ghost use Rattle.gate_node.specs.Gates.{Gates};
 ghost use Rattle.gate_node.specs.Legal.{PositionIsLegal};
 ghost use Rattle.gate_node.specs.Passes.{Sights, OutliveDiversion};
 ghost use Rattle.gate_node.specs.Sessions.{most_of, CountsUpTo};
+ghost use Rattle.gate_node.specs.Tallies.{GateHistory};
+ghost use Rattle.gate_node.specs.OneHistory.{StepIn, AnswersIn};
 ghost use Rattle.gate_node.specs.Registers.{RunIsRegister, EndIsRegister, StopIsRegister};
 ghost use Rattle.node_session.specs.declared.fault.SessionFault.{SessionFault};
 ghost use Rattle.std.specs.Prelude.{Option};
@@ -30,8 +33,8 @@ pub fn positions_are_legal()
 /// A session over a [`GateNode`](crate::GateNode) keeps its gates: after the messages that `serve` has answered, by a run of
 /// the node's step, the node is over the gates that it was made over.
 pub fn sessions_keep_their_gates()
-    ensures { (old : Node) (messages : List Message) (replies : List Reply) (new : Node)
-        → Run GateStep old messages replies new → new.shared ≡ old.shared }
+    ensures { (old : NodeOverGates) (messages : List Message) (replies : List Reply) (new : NodeOverGates)
+        → AnswersInTurn GateStep old messages replies new → new.shared ≡ old.shared }
 {}
 
 /// A caller's passes outlive diversions: what passes of a run's gates have to be for a node over them, they are after a partition was
@@ -46,8 +49,8 @@ pub fn passes_outlive_diversions()
 /// at most each to a delete as a delete and each error as a refusal, and for each of them at most as many dead keys as the
 /// budget allows. It counts nothing else, and where the book had no room for something, less.
 pub fn sessions_count_their_replies()
-    ensures { (old : Node) (messages : List Message) (replies : List Reply) (new : Node)
-        → Run GateStep old messages replies new
+    ensures { (old : NodeOverGates) (messages : List Message) (replies : List Reply) (new : NodeOverGates)
+        → AnswersInTurn GateStep old messages replies new
         → CountsUpTo (most_of old.shared.budget replies) old.count new.count }
 {}
 
@@ -67,10 +70,21 @@ pub fn sessions_count_their_replies()
 ///
 /// What two sessions over the gates of one run have seen of a vnode begins one history (`Pass::is_behind` of `rw_gate`).
 pub fn gate_node_is_register()
-    ensures run { (old new : Node) (messages : List Message) (replies : List Reply)
+    ensures run { (old new : NodeOverGates) (messages : List Message) (replies : List Reply)
         → RunIsRegister old new messages replies }
-    ensures ended { (old new : Node) (input : List ℕ) (held held' : Option (List ℕ)) (count len : ℕ)
+    ensures ended { (old new : NodeOverGates) (input : List ℕ) (held held' : Option (List ℕ)) (count len : ℕ)
         → EndIsRegister old new input held held' count len }
-    ensures stopped { (old new : Node) (input : List ℕ) (held held' : Option (List ℕ)) (fault : SessionFault)
+    ensures stopped { (old new : NodeOverGates) (input : List ℕ) (held held' : Option (List ℕ)) (fault : SessionFault)
         → StopIsRegister old new input held held' fault }
+{}
+
+/// Each reply of a node whose passes have seen beginnings of one list of histories is at a position of the history of its key's vnode. For
+/// where a step in these histories answers a get, a put or a delete, the events of which the reply is (`answered` of `steps` of `AtIndex` in
+/// `specs/GateStep`) are a beginning of that history. These are the histories of the primaries: where a fallback answers, the law says
+/// nothing. Whoever serves several connections over the gates of a run, and takes the tallies of the run behind them
+/// ([`tallies_of`](crate::tallies_of)), can say of each of their steps that it is one in the same histories (`StepIn` of `specs/OneHistory`).
+pub fn replies_are_at_positions()
+    ensures { (histories : List GateHistory) (old : NodeOverGates) (request : Request) (reply : Reply)
+        (new : NodeOverGates) (step : StepIn histories old request reply new)
+        → AnswersIn histories old request reply new step }
 {}

@@ -28,17 +28,22 @@
 //! sees the close by the look by which it would have answered at the fallback, gives that right back, and asks for one at the primary;
 //! so it never has two. It keeps the number, and asks the fallback no more.
 //!
+//! Of two passes of a gate the one behind has seen a beginning of what the other has. So once callers have ended, one look at each primary
+//! by a new pass ([`tallies_of`]) shows a history of which all of them have seen beginnings, with how many events of each kind it has, and
+//! each of their replies at a primary is at a position of it ([`replies_are_at_positions`]).
+//!
 //! ```text
 //! let shared = Shared::new(alloc, ring, 1, 0, 100)?          the gates of run 1, each round a new vnode; no reaps, 100 reads a session
 //! let passes = Passes::new(alloc, &shared)?                  one pass for each gate, which has seen nothing
 //! GateNode::new(&rt, &shared, &book, share, passes, &Open)   a node of this thread; others may have nodes over the same gates
 //! node.answer(alloc, Request::Put(put))                      Reply::Put; the pass of the key's vnode has one event, its own; puts: 1
 //! node.parts()                                               the share, the passes, and whether the book was full
+//! tallies_of(&rt, alloc, &shared, &[passes])                 one tally for each gate; that of the key's vnode has one write
 //! ```
 //!
 //! What it costs: a request waits while another thread has its vnode's state in hand, and while another counts. What is
 //! answered lies between the taking and the giving back of a right, and so a get copies its reply while other readers may
-//! be in. Memory is taken by the vnode alone, and by `Shared::new` and `Passes::new`. Where nothing is diverted a request looks at one
+//! be in. Memory is taken by the vnode alone, and by `Shared::new`, `Passes::new` and `tallies_of`. Where nothing is diverted a request looks at one
 //! word more, whether its partition has a fallback, and a caller's passes have a place for the pass of each partition's fallback. After
 //! the end of a diversion a caller takes a right at the closed fallback once, and one at the primary to see that the copies are there,
 //! where it hadn't seen as many events; later requests compare two numbers and are answered as where nothing was diverted.
@@ -56,14 +61,16 @@ mod node;
 mod passes;
 mod replies;
 mod shared;
+mod tallies;
 mod turnstile;
 
 pub use fault::PoolFault;
 pub use laws::{
     gate_node_is_register, passes_outlive_diversions, positions_are_legal,
-    sessions_count_their_replies, sessions_keep_their_gates,
+    replies_are_at_positions, sessions_count_their_replies, sessions_keep_their_gates,
 };
 pub use node::GateNode;
-pub use passes::Passes;
+pub use passes::{HasPasses, Passes};
 pub use shared::Shared;
+pub use tallies::tallies_of;
 pub use turnstile::{Open, Turnstile};

@@ -3,8 +3,8 @@ ghost use Rattle.std.specs.Prelude.{◌≡◌, ◌<◌, ◌^◌, Some, IfOk, IfE
 ghost use Rattle.handoff.specs.Partitions.{IsFallback};
 ghost use Rattle.node_session.specs.PlainNodes.{partition_of};
 ghost use Rattle.gate_node.specs.Asked.{Gets, GetsOpen, Changes, ChangesOpen};
-ghost use Rattle.gate_node.specs.GateStep.{AtIndex, AtFallback, AtClosed, Looks, AtIndexFrom};
-ghost use Rattle.gate_node.specs.GateStep.{AnswersMoved, AtDiverted, AtPartition, events_seen};
+ghost use Rattle.gate_node.specs.GateStep.{AtIndex, AtFallback, AtClosed, LooksAtPrimary, AtIndexFrom};
+ghost use Rattle.gate_node.specs.GateStep.{AnswersMoved, AtDiverted, AnswersAtPartition, events_seen};
 ghost use Rattle.gate_node.specs.Passes.{ArePassesOf};
 
 use crate::diverted::{change_diverted, get_diverted};
@@ -56,10 +56,10 @@ pub struct GateNode<
 
 impl<'a, W: Wait, T: Turnstile, G: Ledger, P: Ledger, D: Ledger, E: Ledger, R: Ledger> Model
     for GateNode<'a, W, T, G, P, D, E, R> {
-    ghost use Rattle.gate_node.specs.GateStep.{Node};
+    ghost use Rattle.gate_node.specs.GateStep.{NodeOverGates};
     ghost use Rattle.gate_node.specs.Passes.{ArePassesOf};
 
-    ghost Value = { Node };
+    ghost Value = { NodeOverGates };
 
     ghost view = { λ n. record {
       shared = n.shared.now;
@@ -247,7 +247,7 @@ impl<'a, W: Wait, T: Turnstile, G: Ledger, P: Ledger, D: Ledger, E: Ledger, R: L
     /// then.
     fn catch_up(&mut self, index: usize, number: u64) -> bool
         requires { index < 2 ^ self.old.shared.index_bits }
-        ensures looks { Looks index self.old self.new }
+        ensures looks { LooksAtPrimary index self.old self.new }
         ensures far { result ≡ nat_le number (events_seen self.new index) }
     {
         let shared = self.shared;
@@ -333,7 +333,7 @@ impl<'a, W: Wait, T: Turnstile, G: Ledger, P: Ledger, D: Ledger, E: Ledger, R: L
     /// Answers a get, at the primary of a partition that has no fallback.
     fn get(&mut self, alloc: Global, index: usize, get: &GetAsk) -> Reply
         requires { index < 2 ^ self.old.shared.index_bits }
-        ensures { AtPartition index self.old result self.new (Gets get.now) (GetsOpen get.now) }
+        ensures { AnswersAtPartition index self.old result self.new (Gets get.now) (GetsOpen get.now) }
     {
         let shared = self.shared;
         match shared.handoff.fallback(index) {
@@ -345,7 +345,7 @@ impl<'a, W: Wait, T: Turnstile, G: Ledger, P: Ledger, D: Ledger, E: Ledger, R: L
     /// Answers what may change a vnode, at the primary of a partition that has no fallback.
     fn change(&mut self, alloc: Global, index: usize, change: Ask) -> Reply
         requires { index < 2 ^ self.old.shared.index_bits }
-        ensures { AtPartition index self.old result self.new (Changes change) (ChangesOpen change) }
+        ensures { AnswersAtPartition index self.old result self.new (Changes change) (ChangesOpen change) }
     {
         let shared = self.shared;
         match shared.handoff.fallback(index) {

@@ -1,7 +1,7 @@
 //! A caller's passes of the gates of a run, and of the fallbacks that it met.
 ghost use Rattle.std.specs.Prelude.{◌≡◌, IfOk, IsOkUnless, All, length, map};
 ghost use Rattle.handoff.specs.Partitions.{AreNone};
-ghost use Rattle.gate_node.specs.Passes.{ArePassesOf, AreUnused, IsUnused, Fits, IsRenewed, is_of};
+ghost use Rattle.gate_node.specs.Passes.{ArePassesOf, AreUnused, IsUnused, FitsPartition, IsRenewed, is_of};
 
 use crate::fault::PoolFault;
 use crate::shared::Shared;
@@ -78,7 +78,7 @@ fn is_of(fallback: &Fallback, kept: &Option<FallbackPass>) -> bool
 
 /// Keeps a pass of this fallback: the one that is kept, where it is of this diversion, else a new one.
 pub(crate) fn renew(kept: &mut Option<FallbackPass>, fallback: &Fallback)
-    requires { Fits (Some fallback.now) kept.old }
+    requires { FitsPartition (Some fallback.now) kept.old }
     ensures { IsRenewed fallback.now kept.old kept.new }
 {
     if is_of(fallback, kept) {
@@ -112,5 +112,26 @@ impl Passes {
         ensures { result.now ≡ self.now.primaries }
     {
         self.primaries.as_slice()
+    }
+}
+
+/// A caller, or what a caller left, with its passes of the gates of a run.
+pub trait HasPasses {
+    ghost use Rattle.std.specs.Prelude.{◌≡◌};
+    ghost use Rattle.gate_node.specs.Passes.{Sights};
+
+    // What it has seen and published by them.
+    ghost sights: { Self → Sights };
+
+    /// Its passes.
+    fn caller_passes(&self) -> &Passes
+        ensures { result.now ≡ sights self.now };
+}
+
+impl HasPasses for Passes {
+    ghost sights = { λ p. p };
+
+    fn caller_passes(&self) -> &Passes {
+        self
     }
 }

@@ -5,16 +5,16 @@ use Rattle.job_pool.specs.Lists.{Every}
 use Rattle.gate_node.specs.Gates.{Gates}
 use Rattle.worker_pool.specs.declared.job.Job.{Job}
 use Rattle.worker_pool.specs.Serving.{IsForGates}
-use Rattle.node_commands.specs.Sources.{GivesNext, IsNew}
+use Rattle.node_commands.specs.Sources.{GivesNext, IsNewConnection}
 
 module _ {I O S : Type 0} (gates : S → Gates) (left : S → ℕ) where
   pub keeps_gates : (first : S) (jobs : List (Job I O)) (next : S) → Gave (GivesNext gates left) first jobs next → gates next ≡ gates first
   keeps_gates first [] next is = ap gates is
   keeps_gates first (job ∷ jobs) next h = keeps_gates h.0 jobs next h.2 ∙ h.1.0
 
-  pub all_new : (first : S) (jobs : List (Job I O)) (next : S) → Gave (GivesNext gates left) first jobs next → Every (IsNew (gates first)) jobs
+  pub all_new : (first : S) (jobs : List (Job I O)) (next : S) → Gave (GivesNext gates left) first jobs next → Every (IsNewConnection (gates first)) jobs
   all_new first [] next is = tt
-  all_new first (job ∷ jobs) next h = (h.1.1.0, subst (λ g. Every (IsNew g) jobs) h.1.0 (all_new h.0 jobs next h.2))
+  all_new first (job ∷ jobs) next h = (h.1.1.0, subst (λ g. Every (IsNewConnection g) jobs) h.1.0 (all_new h.0 jobs next h.2))
 
   pub counts_jobs : (first : S) (jobs : List (Job I O)) (next : S) → Gave (GivesNext gates left) first jobs next → length jobs + left next ≡ left first
   counts_jobs first [] next is =

@@ -2,14 +2,15 @@
 use Rattle.std.specs.Prelude.{◌≡◌, ◌^◌, ℕ, List, None, length}
 use Rattle.job_pool.specs.Lists.{Every}
 use Rattle.handoff.specs.Partitions.{AreMadeNew, AreNone}
+use Rattle.vnode_core.specs.declared.vnode.tally.Tally.{Tally}
 use Rattle.gate_node.specs.Gates.{Gates}
 use Rattle.worker_pool.specs.declared.closed.Closed.{Closed}
 use Rattle.worker_pool.specs.declared.job.Job.{Job}
 use Rattle.worker_pool.specs.Run.{ServesAll}
-use Rattle.node_commands.specs.Sources.{IsNew}
-use Rattle.socket_server.specs.Counting.{AreTotals}
+use Rattle.node_commands.specs.Sources.{IsNewConnection}
+use Rattle.socket_server.specs.Counting.{ServeInHistories}
 use Rattle.stats_book.specs.declared.totals.Totals.{Totals}
-use Rattle.node_server.specs.declared.end.End.{End as ConnectionEnd}
+use Rattle.node_server.specs.declared.end.ConnectionEnd.{ConnectionEnd}
 use Rattle.node_commands.specs.declared.serving.Settings.{Settings}
 use Rattle.node_commands.specs.declared.until.UntilSettings.{UntilSettings}
 
@@ -22,26 +23,26 @@ pub record IsNewRun (ring run sweep : ℕ) (gates : Gates) : Type 0 where
   pub made_new : AreMadeNew run 0 gates.gates
   pub undiverted : AreNone gates.fallbacks
 
-abbrev pub AreOfRun : Settings → Gates → Type 0
-AreOfRun settings gates = IsNewRun settings.ring settings.run settings.sweep gates
+abbrev pub SettingsAreOfRun : Settings → Gates → Type 0
+SettingsAreOfRun settings gates = IsNewRun settings.ring settings.run settings.sweep gates
 
 module _ {I O : Type 0} where
   -- so many connections were served over these gates by so many workers; of the bytes of a socket nothing is known
   pub record AreServed (gates : Gates) (connections workers : ℕ) (closed : Closed I O) : Type 0 where
     pub jobs : List (Job I O)
     pub count : length jobs ≡ connections
-    pub new : Every (IsNew gates) jobs
+    pub new : Every (IsNewConnection gates) jobs
     pub served : ServesAll (λ _. None) (λ _. None) gates workers jobs closed
 
   -- the settings' connections were, over the gates of a new run
-  pub record IsServed (settings : Settings) (closed : Closed I O) : Type 0 where
+  pub record AreConnectionsServed (settings : Settings) (closed : Closed I O) : Type 0 where
     pub gates : Gates
-    pub of_run : AreOfRun settings gates
+    pub of_run : SettingsAreOfRun settings gates
     pub served : AreServed gates settings.connections settings.workers closed
 
--- connections were served over the gates of a new run for as long as was wanted: those of each worker came to these ends, and the workers
--- counted so much together
-pub record IsServedUntil (settings : UntilSettings) (ends : List (List ConnectionEnd)) (totals : Totals) : Type 0 where
+-- connections were served over the gates of a new run for as long as was wanted: those of each worker came to these ends, the workers counted
+-- so much together, and all their steps were in one history of the primary of each partition, of the whole of which the tallies are
+pub record IsServedUntil (settings : UntilSettings) (ends : List (List ConnectionEnd)) (tallies : List Tally) (totals : Totals) : Type 0 where
   pub gates : Gates
   pub of_run : IsNewRun settings.ring settings.run settings.sweep gates
-  pub are_totals : AreTotals gates ends totals
+  pub served : ServeInHistories gates ends tallies totals

@@ -1,6 +1,6 @@
 //! Connections as jobs of the pool.
 ghost use Rattle.std.specs.Prelude.{IfOk, IfSome};
-ghost use Rattle.node_commands.specs.Sources.{IsNew};
+ghost use Rattle.node_commands.specs.Sources.{IsNewConnection};
 
 use crate::accept::{MAX_ACCEPT_TRIES, accept};
 use crate::fault::ServeFault;
@@ -34,7 +34,7 @@ fn new_job(
     stream: TcpStream,
     peer: SocketAddr,
 ) -> Option<ConnectionJob>
-    ensures { IfSome result (IsNew shared.now) }
+    ensures { IfSome result (IsNewConnection shared.now) }
 {
     let passes = Passes::new(alloc, shared).ok()?;
     let (reader, writer) = new_halves(alloc, stream, peer).ok()?;
@@ -57,7 +57,7 @@ impl<'a, T: Log + Clock, L: OpenListener<Stream = TcpStream>> Connections<'a, T,
     /// The job of a connection that was accepted from `peer`. None where memory is refused: the connection is closed then, and that is
     /// logged.
     fn job(&self, stream: TcpStream, peer: SocketAddr) -> Option<ConnectionJob>
-        ensures { IfSome result (IsNew self.now.shared.now) }
+        ensures { IfSome result (IsNewConnection self.now.shared.now) }
     {
         self.begin(&stream, peer);
         let job = new_job(self.alloc, self.shared, stream, peer);
@@ -70,7 +70,7 @@ impl<'a, T: Log + Clock, L: OpenListener<Stream = TcpStream>> Connections<'a, T,
     /// Waits for the next connection for which there is memory. After [`MAX_ACCEPT_TRIES`] that had to be closed for want of it there is
     /// none.
     fn accept(&self) -> Result<ConnectionJob, ServeFault>
-        ensures { IfOk result (IsNew self.now.shared.now) }
+        ensures { IfOk result (IsNewConnection self.now.shared.now) }
     {
         for _ in 0..MAX_ACCEPT_TRIES {
             let Ok((stream, peer)) = accept(self.rt, self.listener) else {

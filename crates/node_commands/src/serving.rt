@@ -1,7 +1,7 @@
 //! Many connections by many threads.
 ghost use Rattle.std.specs.Prelude.{◌≤◌, IfOk, IfSome, OnOk};
 ghost use Rattle.std.specs.Io.KnownBytes.{Appends};
-ghost use Rattle.node_commands.specs.Runs.{AreOfRun, AreServed, IsServed};
+ghost use Rattle.node_commands.specs.Runs.{SettingsAreOfRun, AreServed, AreConnectionsServed};
 ghost use Rattle.node_commands.specs.Lines.{totals_line};
 
 use crate::connections::Connections;
@@ -61,7 +61,7 @@ fn serve_fault(fault: PoolFault, of_connections: ServeFault) -> ServeFault {
 /// The gates of a new run. Refused where memory is.
 fn new_shared(alloc: Global, settings: &Settings) -> Option<Shared>
     requires { 1 ≤ settings.now.run }
-    ensures { IfSome result (AreOfRun settings.now) }
+    ensures { IfSome result (SettingsAreOfRun settings.now) }
 {
     Shared::new(
         alloc,
@@ -158,7 +158,7 @@ where
 
     // Each connection was served once, to its end, over the gates of a new run, in one history of each vnode; these are the ends, the
     // tallies of the vnodes at the ends of these histories, and the totals.
-    ensures served { IfOk result (IsServed settings.now) }
+    ensures served { IfOk result (AreConnectionsServed settings.now) }
 {
     let Some(shared) = new_shared(alloc, settings) else {
         return Err(ServeFault::NoMemory);

@@ -86,6 +86,13 @@ fn new_shared(alloc: Global, settings: &UntilSettings) -> Option<Shared>
 /// listener fails, when it ends them. One for which memory is refused is closed, and is one of those that were accepted. It writes
 /// `listening ADDRESS` before the first connection is accepted, and the totals at the end. A failed write of these is passed over. The log
 /// has a line for each connection when it is accepted; its end is given to the sink of its thread.
+///
+/// There is one history of the primary of each partition, legal, and after each step of each connection its thread's passes have seen
+/// beginnings of these histories. So each reply is at a position of the history of its key's vnode
+/// ([`replies_are_at_positions`](gate_node::replies_are_at_positions)), and what two connections are told of one vnode fits together. The
+/// tallies are of the whole of these histories, in the order of the partitions, each of one look after the threads were joined, made
+/// again where a thread had seen more. Order in real time isn't said, nor any order between vnodes. Where memory is refused for a tally, it is
+/// refused with `NoMemory`; what the connections did stays.
 pub fn serve_on_until<T, W, S, I>(
     rt: &T,
     alloc: Global,
@@ -104,11 +111,13 @@ where
     requires unused { All (λ sink. S.given sink ≡ []) sinks.items }
 
     // There was a worker for each sink. Each served its connections by one node over the gates of a new run, until all of them had ended;
-    // its sink was given each of their ends, once, and nothing else; and the totals are what all workers counted, from zero.
+    // its sink was given each of their ends, once, and nothing else; and the totals are what all workers counted, from zero. There is one
+    // history of the primary of each partition, legal: after each step of each connection the passes have seen beginnings of these
+    // histories, and the tallies are of the whole of them.
     ensures workers { IfOk result (λ outcome.
         length outcome.sinks.items ≡ length sinks.items) }
-    ensures served { IfOk result (λ outcome.
-        IsServedUntil settings.now (map S.given outcome.sinks.items) outcome.totals) }
+    ensures served { IfOk result (λ outcome. IsServedUntil settings.now
+        (map S.given outcome.sinks.items) outcome.tallies.items outcome.totals) }
 
     // No more connections were accepted than were to be, and just as many where no input could end serving before.
     ensures most { IfOk result (λ outcome.

@@ -1,3 +1,4 @@
 -- The lemmas of this crate.
 pub mod Noting
 pub mod Summing
+pub mod InHistories

@@ -5,8 +5,10 @@ use Rattle.std.proofs.lemmas.List.{length-append, map-append}
 use Rattle.stats_book.specs.declared.totals.Totals.{Totals}
 use Rattle.stats_book.specs.Counting.{both, numbers}
 use Rattle.gate_node.specs.Gates.{Gates}
-use Rattle.node_server.specs.declared.end.End.{End}
-use Rattle.socket_server.specs.Counting.{WorkerCounts, AreTotals, IsAdded}
+use Rattle.gate_node.specs.GateStep.{GateStep}
+use Rattle.gate_node.specs.Passes.{Sights}
+use Rattle.node_server.specs.declared.end.ConnectionEnd.{ConnectionEnd}
+use Rattle.socket_server.specs.Counting.{WorkerCounts, AreTotals, AddsWorker}
 use Rattle.socket_server.specs.declared.child.AllCounted.{AllCounted}
 use Rattle.socket_server.specs.declared.counting.WorkerOutcome.{WorkerOutcome}
 use Rattle.socket_server.specs.declared.fault.ServerFault.{ServerFault}
@@ -21,14 +23,16 @@ both-swapped a b c =
     rw (swapped a.gets b.gets c.gets, swapped a.puts b.puts c.puts, swapped a.deletes b.deletes c.deletes, swapped a.refusals b.refusals c.refusals, swapped a.reaps b.reaps c.reaps) refl
 
 -- one worker more, behind the others
-pub one_more : (gates : Gates) (all : List (List End)) (ends : List End) (others own : Totals)
-    → AreTotals gates all others → WorkerCounts gates ends own → AreTotals gates (all ++ ends ∷ []) (both own others)
-one_more gates [] ends others own before counts = (own, others, counts, before, refl)
-one_more gates (one ∷ all) ends others own before counts = (
+pub one_more : (gates : Gates) (all : List (List ConnectionEnd)) (passes : List Sights) (ends : List ConnectionEnd) (left : Sights) (others own : Totals)
+    → AreTotals GateStep gates all passes others → WorkerCounts GateStep gates ends left own → AreTotals GateStep gates (all ++ ends ∷ []) (passes ++ left ∷ []) (both own others)
+one_more gates [] [] ends left others own before counts = (own, others, counts, before, refl)
+one_more gates [] (first ∷ passes) ends left others own before counts = absurd before
+one_more gates (one ∷ all) [] ends left others own before counts = absurd before
+one_more gates (one ∷ all) (first ∷ passes) ends left others own before counts = (
   before.0,
   both own before.1,
   before.2,
-  one_more gates all ends before.1 own before.3 counts,
+  one_more gates all passes ends left before.1 own before.3 counts,
   ap (λ (t : Totals). both own t) before.4 ∙ both-swapped own before.0 before.1,
 )
 
@@ -39,7 +43,7 @@ longer before after joined left all p q r = omega (arith, p, q, r)
 module _ {S : Type 0} where
   -- as many workers were joined or are to be
   pub one_joined : (others : Result (AllCounted S) ServerFault) (own : Result (WorkerOutcome S) ServerFault) (all : AllCounted S) (joined left workers : ℕ)
-      → IsAdded others own all → joined ≡ suc left → IfOk others (λ o. length o.sinks.items + joined ≡ workers) → length all.sinks.items + left ≡ workers
+      → AddsWorker others own all → joined ≡ suc left → IfOk others (λ o. length o.sinks.items + joined ≡ workers) → length all.sinks.items + left ≡ workers
   one_joined (Ok others) (Ok own) all joined left workers added one before =
       longer (length others.sinks.items) (length all.sinks.items) joined left workers (ap length added.0 ∙ length-append others.sinks.items (own.sink ∷ [])) one before
   one_joined (Ok others) (Err fault) all joined left workers added one before = absurd added
@@ -47,13 +51,15 @@ module _ {S : Type 0} where
   one_joined (Err fault) (Err other) all joined left workers added one before = absurd added
 
   -- what a worker counted is added to what the others did
-  pub one_counted : (given : S → List End) (gates : Gates) (others : Result (AllCounted S) ServerFault) (own : Result (WorkerOutcome S) ServerFault) (all : AllCounted S)
-      → IsAdded others own all → IfOk others (λ o. AreTotals gates (map given o.sinks.items) o.totals)
-      → IfOk own (λ o. WorkerCounts gates (given o.sink) o.totals) → AreTotals gates (map given all.sinks.items) all.totals
+  pub one_counted : (given : S → List ConnectionEnd) (gates : Gates) (others : Result (AllCounted S) ServerFault) (own : Result (WorkerOutcome S) ServerFault) (all : AllCounted S)
+      → AddsWorker others own all → IfOk others (λ o. AreTotals GateStep gates (map given o.sinks.items) o.passes.items o.totals)
+      → IfOk own (λ o. WorkerCounts GateStep gates (given o.sink) o.passes o.totals) → AreTotals GateStep gates (map given all.sinks.items) all.passes.items all.totals
   one_counted given gates (Ok others) (Ok own) all added before counts =
-      subst (λ ends. AreTotals gates ends all.totals) (sym (ap (map given) added.0 ∙ map-append given others.sinks.items (own.sink ∷ [])))
-      (subst (λ totals. AreTotals gates (map given others.sinks.items ++ given own.sink ∷ []) totals) (sym added.1)
-      (one_more gates (map given others.sinks.items) (given own.sink) others.totals own.totals before counts))
+      let ends = map given others.sinks.items in
+      let more = one_more gates ends others.passes.items (given own.sink) own.passes others.totals own.totals before counts in
+      subst (λ es. AreTotals GateStep gates es all.passes.items all.totals) (sym (ap (map given) added.0 ∙ map-append given others.sinks.items (own.sink ∷ [])))
+      (subst (λ ps. AreTotals GateStep gates (ends ++ given own.sink ∷ []) ps all.totals) (sym added.1)
+      (subst (λ totals. AreTotals GateStep gates (ends ++ given own.sink ∷ []) (others.passes.items ++ own.passes ∷ []) totals) (sym added.2) more))
   one_counted given gates (Ok others) (Err fault) all added before counts = absurd added
   one_counted given gates (Err fault) (Ok own) all added before counts = absurd added
   one_counted given gates (Err fault) (Err other) all added before counts = absurd added

@@ -2,13 +2,14 @@
 ghost use Rattle.std.specs.Prelude.{◌≡◌, ◌++◌, ◌∷◌, [], length, map, Ok, IfOk};
 ghost use Rattle.std.specs.List.{All};
 ghost use Rattle.stats_book.specs.Counting.{both};
-ghost use Rattle.socket_server.specs.Counting.{AreTotals, IsOver, IsAdded};
+ghost use Rattle.gate_node.specs.GateStep.{GateStep};
+ghost use Rattle.socket_server.specs.Counting.{AreTotals, IsOver, AddsWorker};
 
 use crate::counting::WorkerOutcome;
 use crate::end_sink::EndSink;
 use crate::fault::ServerFault;
 use crate::totals::sum;
-use gate_node::Shared;
+use gate_node::{Passes, Shared};
 use stats_book::Totals;
 use std::alloc::Global;
 use std::snapshot::Snapshot;
@@ -22,20 +23,22 @@ pub struct ServesOver {
 
 impl<S: EndSink> Promise<Result<WorkerOutcome<S>, ServerFault>> for ServesOver {
     ghost use Rattle.std.specs.Prelude.{IfOk};
+    ghost use Rattle.gate_node.specs.GateStep.{GateStep};
     ghost use Rattle.socket_server.specs.Counting.{WorkerCounts};
 
-    ghost kept_by = { λ promise counted. IfOk counted (λ outcome.
-        WorkerCounts promise.gates.value (S.given outcome.sink) outcome.totals) };
+    ghost kept_by = { λ promise counted. IfOk counted (λ outcome. WorkerCounts GateStep
+        promise.gates.value (S.given outcome.sink) outcome.passes outcome.totals) };
 }
 
 /// A worker's thread.
 pub(crate) type Child<S> = PromisedHandle<Result<WorkerOutcome<S>, ServerFault>, ServesOver>;
 
-/// What workers counted together, and their sinks.
+/// What workers counted together, their sinks, and the passes that they left.
 #[derive(Drop)]
 pub(crate) struct AllCounted<S> {
     pub(crate) totals: Totals,
     pub(crate) sinks: Vec<S>,
+    pub(crate) passes: Vec<Passes>,
 }
 
 /// What workers counted, together with what a further one did.
@@ -43,20 +46,33 @@ fn add<S: Drop>(
     counted: Result<AllCounted<S>, ServerFault>,
     further: Result<WorkerOutcome<S>, ServerFault>,
 ) -> Result<AllCounted<S>, ServerFault>
-    ensures { IfOk result (IsAdded counted further) }
+    ensures { IfOk result (AddsWorker counted further) }
 {
-    let AllCounted { totals, mut sinks } = counted?;
-    let WorkerOutcome { totals: own, sink } = further?;
+    let AllCounted {
+        totals,
+        mut sinks,
+        mut passes,
+    } = counted?;
+    let WorkerOutcome {
+        totals: own,
+        sink,
+        passes: left,
+    } = further?;
     let Some(totals) = sum(own, totals) else {
         return Err(ServerFault::BookFull);
     };
-    match sinks.push(sink) {
-        Ok(()) => Ok(AllCounted { totals, sinks }),
-        Err(_) => Err(ServerFault::NoMemory),
+    if passes.push(left).is_err() || sinks.push(sink).is_err() {
+        return Err(ServerFault::NoMemory);
     }
+    Ok(AllCounted {
+        totals,
+        sinks,
+        passes,
+    })
 }
 
-/// Waits for the workers' ends. What they counted, together, and their sinks; where one failed, its fault, once all have ended.
+/// Waits for the workers' ends. What they counted, together, their sinks, and the passes that they left; where one failed, its fault, once
+/// all have ended.
 pub(crate) fn join_workers<X: Threads, S: EndSink + Drop>(
     rt: &X,
     alloc: Global,
@@ -65,8 +81,8 @@ pub(crate) fn join_workers<X: Threads, S: EndSink + Drop>(
 ) -> Result<AllCounted<S>, ServerFault>
     requires { All (IsOver gates.value) children.items }
     ensures workers { IfOk result (λ all. length all.sinks.items ≡ length children.items) }
-    ensures totals { IfOk result (λ all.
-        AreTotals gates.value (map S.given all.sinks.items) all.totals) }
+    ensures totals { IfOk result (λ all. AreTotals GateStep gates.value
+        (map S.given all.sinks.items) all.passes.items all.totals) }
 {
     let mut counted = Ok(AllCounted {
         totals: Totals {
@@ -77,6 +93,7 @@ pub(crate) fn join_workers<X: Threads, S: EndSink + Drop>(
             reaps: 0,
         },
         sinks: Vec::new(alloc),
+        passes: Vec::new(alloc),
     });
     for child in children {
         counted = add(counted, child.join(rt));

@@ -3,8 +3,9 @@ ghost use Rattle.std.specs.Prelude.{◌≡◌, [], ◌∷◌, ◌++◌, false, t
 ghost use Rattle.stats_book.specs.Counting.{zeros};
 ghost use Rattle.stats_book.specs.Holdings.{AllAre};
 ghost use Rattle.stats_book.specs.declared.totals.Totals.{Totals};
+ghost use Rattle.gate_node.specs.GateStep.{GateStep};
 ghost use Rattle.gate_node.specs.Passes.{ArePassesOf, AreUnused};
-ghost use Rattle.socket_server.specs.Counting.{WorkerCounts};
+ghost use Rattle.socket_server.specs.Counting.{WorkerCounts, IsWorkerOutcome};
 
 use crate::end_sink::EndSink;
 use crate::fault::ServerFault;
@@ -26,15 +27,21 @@ pub(crate) struct Station<S> {
     pub(crate) sink: S,
 }
 
-/// What a worker counted, and the sink that was given the ends of its connections.
+/// What a worker counted, the sink that was given the ends of its connections, and the passes that it left.
 #[derive(Drop)]
 pub(crate) struct WorkerOutcome<S> {
     pub(crate) totals: Totals,
     pub(crate) sink: S,
+    pub(crate) passes: Passes,
 }
 
-/// What a worker served by, once it has ended: the share of its book, the sink, and whether the book was full.
-type Served<S, G, P, D, E, R> = (Share<G, P, D, E, R>, S, bool);
+/// What a worker leaves beside its share: the sink, the passes, and whether its book was full.
+#[derive(Drop)]
+pub(crate) struct WorkerParts<S> {
+    pub(crate) sink: S,
+    pub(crate) passes: Passes,
+    pub(crate) book_full: bool,
+}
 
 /// Serves the connections that come to an inbox by a node over the gates, with these passes and this share of a book.
 fn serve_by<X, S, G, P, D, E, R>(
@@ -47,7 +54,7 @@ fn serve_by<X, S, G, P, D, E, R>(
     station: Station<S>,
     inbox: &Inbox,
     idle_seconds: Option<u32>,
-) -> Served<S, G, P, D, E, R>
+) -> (Share<G, P, D, E, R>, WorkerParts<S>)
 where
     X: Log + Clock + Wait,
     S: EndSink + Drop,
@@ -60,13 +67,21 @@ where
     requires passes { ArePassesOf shared.now passes }
     requires unused { AreUnused passes }
     requires sink { S.given station.sink ≡ [] }
-    ensures { result.2 ≡ false → WorkerCounts shared.now (S.given result.1) result.0 }
+    ensures { result.1.book_full ≡ false →
+        WorkerCounts GateStep shared.now (S.given result.1.sink) result.1.passes result.0 }
 {
     let Station { waits, sink } = station;
     let node = GateNode::new(rt, shared, book, share, passes, &Open);
     let (node, sink) = attend(rt, alloc, node, sink, waits, inbox, idle_seconds);
-    let (share, _, is_full) = node.parts();
-    (share, sink, is_full)
+    let (share, passes, book_full) = node.parts();
+    (
+        share,
+        WorkerParts {
+            sink,
+            passes,
+            book_full,
+        },
+    )
 }
 
 /// Puts a share back. False where memory is refused; it is let go then.
@@ -90,7 +105,7 @@ fn serve_by_one<X, S, G, P, D, E, R>(
     station: Station<S>,
     inbox: &Inbox,
     idle_seconds: Option<u32>,
-) -> Option<(S, bool)>
+) -> Option<WorkerParts<S>>
 where
     X: Log + Clock + Wait,
     S: EndSink + Drop,
@@ -102,14 +117,14 @@ where
     requires share { share ≡ zeros }
     requires none { shares.old.items ≡ [] }
     requires sink { S.given station.sink ≡ [] }
-    ensures { IfSome result (λ served. (counted : Totals)
-        × (shares.new.items ≡ counted ∷ [])
-        × (served.1 ≡ false → WorkerCounts shared.now (S.given served.0) counted)) }
+    ensures { IfSome result (λ left. (counted : Totals) × (shares.new.items ≡ counted ∷ [])
+        × (left.book_full ≡ false →
+        WorkerCounts GateStep shared.now (S.given left.sink) left.passes counted)) }
 {
     let Ok(passes) = Passes::new(alloc, shared) else {
         return None;
     };
-    let (share, sink, is_full) = serve_by(
+    let (share, left) = serve_by(
         rt,
         alloc,
         shared,
@@ -121,7 +136,7 @@ where
         idle_seconds,
     );
     if put_back(shares, share) {
-        Some((sink, is_full))
+        Some(left)
     } else {
         None
     }
@@ -137,7 +152,7 @@ fn serve_by_all<X, S, G, P, D, E, R>(
     station: Station<S>,
     inbox: &Inbox,
     idle_seconds: Option<u32>,
-) -> Option<(S, bool)>
+) -> Option<WorkerParts<S>>
 where
     X: Log + Clock + Wait,
     S: EndSink + Drop,
@@ -148,9 +163,9 @@ where
     R: Ledger,
     requires shares { shares.old.items ≡ zeros ∷ [] }
     requires sink { S.given station.sink ≡ [] }
-    ensures { IfSome result (λ served. (counted : Totals)
-        × (shares.new.items ≡ counted ∷ [])
-        × (served.1 ≡ false → WorkerCounts shared.now (S.given served.0) counted)) }
+    ensures { IfSome result (λ left. (counted : Totals) × (shares.new.items ≡ counted ∷ [])
+        × (left.book_full ≡ false →
+        WorkerCounts GateStep shared.now (S.given left.sink) left.passes counted)) }
 {
     match shares.pop() {
         Some(share) => serve_by_one(
@@ -168,19 +183,26 @@ where
     }
 }
 
-/// What a worker counted, where its book was never full.
+/// What a worker counted, with what it left, where its book was never full.
 fn outcome_of<S: Drop>(
     totals: Totals,
-    sink: S,
-    is_full: bool,
+    left: WorkerParts<S>,
 ) -> Result<WorkerOutcome<S>, ServerFault>
-    ensures { IfOk result (λ outcome.
-        (is_full ≡ false) × (outcome.totals ≡ totals) × (outcome.sink ≡ sink)) }
+    ensures { IfOk result (IsWorkerOutcome totals left) }
 {
-    if is_full {
+    let WorkerParts {
+        sink,
+        passes,
+        book_full,
+    } = left;
+    if book_full {
         Err(ServerFault::BookFull)
     } else {
-        Ok(WorkerOutcome { totals, sink })
+        Ok(WorkerOutcome {
+            totals,
+            sink,
+            passes,
+        })
     }
 }
 
@@ -210,12 +232,12 @@ where
     requires parts { AllAre 1 G.parts P.parts D.parts E.parts R.parts }
     requires sink { S.given station.sink ≡ [] }
     ensures { IfOk result (λ outcome.
-        WorkerCounts shared.now (S.given outcome.sink) outcome.totals) }
+        WorkerCounts GateStep shared.now (S.given outcome.sink) outcome.passes outcome.totals) }
 {
     let Ok((book, mut shares)) = Book::<G, P, D, E, R>::new(alloc, 1, blanks) else {
         return Err(ServerFault::NoMemory);
     };
-    let served = serve_by_all(
+    let left = serve_by_all(
         rt,
         alloc,
         shared,
@@ -225,8 +247,8 @@ where
         inbox,
         idle_seconds,
     );
-    match served {
-        Some((sink, is_full)) => outcome_of(close(book, shares), sink, is_full),
+    match left {
+        Some(left) => outcome_of(close(book, shares), left),
         None => Err(ServerFault::NoMemory),
     }
 }
@@ -243,7 +265,7 @@ pub(crate) fn work<X: Log + Clock + Wait, S: EndSink + Drop>(
 ) -> Result<WorkerOutcome<S>, ServerFault>
     requires { S.given station.sink ≡ [] }
     ensures { IfOk result (λ outcome.
-        WorkerCounts shared.now (S.given outcome.sink) outcome.totals) }
+        WorkerCounts GateStep shared.now (S.given outcome.sink) outcome.passes outcome.totals) }
 {
     let counted = count_by::<X, S, Brand, Brand, Brand, Brand, Brand>(
         rt,

@@ -4,7 +4,7 @@ ghost use Rattle.std.specs.List.{All};
 
 use ghost_state::GhostList;
 use log::{Log, info, warn};
-use node_server::End;
+use node_server::ConnectionEnd;
 use node_session::SessionFault;
 use std::alloc::{AllocError, Global};
 use std::marker::Model;
@@ -15,27 +15,27 @@ use std::net::SocketAddr;
 /// Each worker has one of its own, so that ends of different workers wait for nothing that they share.
 pub trait EndSink {
     ghost use Rattle.std.specs.Prelude.{List};
-    ghost use Rattle.node_server.specs.declared.end.End.{End};
+    ghost use Rattle.node_server.specs.declared.end.ConnectionEnd.{ConnectionEnd};
 
     // The ends that it was given, in their order.
-    ghost given: { Self → List End };
+    ghost given: { Self → List ConnectionEnd };
 
     /// Takes the end of the connection of a client with this address. `log` is the log of the server.
-    fn note<L: Log>(&mut self, log: &L, peer: SocketAddr, end: End)
+    fn note<L: Log>(&mut self, log: &L, peer: SocketAddr, end: ConnectionEnd)
         ensures { given self.new ≡ given self.old ++ end ∷ [] };
 }
 
 /// Writes a line to the log for each end. It keeps nothing: clauses alone see the ends that it was given, as their list.
 #[derive(Drop)]
 pub struct LogSink {
-    ends: GhostList<End>,
+    ends: GhostList<ConnectionEnd>,
 }
 
 impl Model for LogSink {
     ghost use Rattle.std.specs.Prelude.{List};
-    ghost use Rattle.node_server.specs.declared.end.End.{End};
+    ghost use Rattle.node_server.specs.declared.end.ConnectionEnd.{ConnectionEnd};
 
-    ghost Value = { List End };
+    ghost Value = { List ConnectionEnd };
 
     ghost view = { λ sink. sink.ends };
 }
@@ -74,18 +74,18 @@ fn log_closed<L: Log>(log: &L, peer: SocketAddr) {
 }
 
 /// Logs how a connection ended.
-fn log_end<L: Log>(log: &L, peer: SocketAddr, end: End) {
+fn log_end<L: Log>(log: &L, peer: SocketAddr, end: ConnectionEnd) {
     match end {
-        End::Through(Ok(_)) => info!(log; "connection from {peer} ended"),
-        End::Through(Err(fault)) => log_fault(log, peer, fault),
-        End::Closed => log_closed(log, peer),
+        ConnectionEnd::Through(Ok(_)) => info!(log; "connection from {peer} ended"),
+        ConnectionEnd::Through(Err(fault)) => log_fault(log, peer, fault),
+        ConnectionEnd::Closed => log_closed(log, peer),
     }
 }
 
 impl EndSink for LogSink {
     ghost given = { λ sink. sink };
 
-    fn note<L: Log>(&mut self, log: &L, peer: SocketAddr, end: End) {
+    fn note<L: Log>(&mut self, log: &L, peer: SocketAddr, end: ConnectionEnd) {
         log_end(log, peer, end);
         self.ends.push(&end);
     }

@@ -6,7 +6,7 @@ ghost use Rattle.socket_server.specs.Serving.{ServesConnections};
 use crate::end_sink::EndSink;
 use crate::sockets::{ReplySocket, RequestSocket};
 use log::Log;
-use node_server::{Connections, End, Streams};
+use node_server::{ConnectionEnd, Connections, Streams};
 use node_session::Node;
 use open_jobs::OpenJobs;
 use std::alloc::{AllocError, Global};
@@ -32,12 +32,12 @@ impl<N: Node + Drop, S: EndSink> Model for NotedJobs<N, S> {
     ghost use Rattle.open_jobs.specs.Jobs.{OpenJobsView};
     ghost use Rattle.node_session.specs.Connections.{ConnectionView};
     ghost use Rattle.node_server.specs.declared.connections.Streams.{Streams};
-    ghost use Rattle.node_server.specs.declared.end.End.{End};
+    ghost use Rattle.node_server.specs.declared.end.ConnectionEnd.{ConnectionEnd};
     ghost use Rattle.socket_server.specs.declared.sockets.RequestSocket.{RequestSocket};
     ghost use Rattle.socket_server.specs.declared.sockets.ReplySocket.{ReplySocket};
 
     ghost Value = { OpenJobsView N (Streams RequestSocket ReplySocket)
-        (ConnectionView RequestSocket ReplySocket) End };
+        (ConnectionView RequestSocket ReplySocket) ConnectionEnd };
 
     ghost view = { λ it. it.jobs };
 
@@ -110,7 +110,7 @@ impl<N: Node + Drop, S: EndSink> NotedJobs<N, S> {
         alloc: Global,
         peer: SocketAddr,
         slot: usize,
-    ) -> Option<End>
+    ) -> Option<ConnectionEnd>
         ensures { self.new.first ≡ self.old.first }
     {
         match self.jobs.step(alloc, &self.service, slot) {

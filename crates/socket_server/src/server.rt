@@ -1,7 +1,9 @@
 //! A server over a listener.
-ghost use Rattle.std.specs.Prelude.{◌≡◌, ◌≤◌, [], length, map, Some, None, false, IfOk, IfSome};
+ghost use Rattle.std.specs.Prelude.{◌≡◌, ◌≤◌, [], length, map, Some, None, Ok, false, IfOk, IfSome};
 ghost use Rattle.std.specs.List.{All};
-ghost use Rattle.socket_server.specs.Counting.{AreTotals, IsOver, IsOutcome};
+ghost use Rattle.gate_node.specs.GateStep.{GateStep};
+ghost use Rattle.socket_server.specs.Counting.{AreTotals, IsOver, IsServerOutcome};
+ghost use Rattle.socket_server.specs.Counting.{ServeInHistories};
 
 use crate::accepting::Acceptor;
 use crate::child::{AllCounted, Child, join_workers};
@@ -12,7 +14,7 @@ use crate::inbox::Inbox;
 use crate::starting::{new_waits, new_workers, start_workers};
 use crate::stop::Stop;
 use crate::worker::Waits;
-use gate_node::Shared;
+use gate_node::{Shared, tallies_of};
 use log::Log;
 use mio::unix::SourceFd;
 use mio::{Interest, Token};
@@ -26,6 +28,7 @@ use std::snapshot::Snapshot;
 use std::sync::Wait;
 use std::thread::{Scope, Threads};
 use std::{io, thread};
+use vnode_core::Tally;
 
 /// The token of the listener.
 const LISTENER: usize = 0;
@@ -44,6 +47,9 @@ pub struct ServerSettings {
 pub struct ServerOutcome<S> {
     /// What all workers counted.
     pub totals: Totals,
+    /// The tally of the primary of each partition after the last connection, of all that the workers saw of it, in the order of the
+    /// partitions.
+    pub tallies: Vec<Tally>,
     /// How many connections were accepted.
     pub connections: u64,
     /// The workers' sinks.
@@ -137,20 +143,53 @@ where
     acceptor.accept_all(waits)
 }
 
-/// What came of a server whose workers were joined: what they counted, where they and the accepting went well.
-fn outcome_of<S: Drop>(
+/// What came of workers that were joined, with the tally of each primary behind all that they saw of it.
+fn with_tallies<X: Wait, S: EndSink + Drop>(
+    rt: &X,
+    alloc: Global,
+    shared: &Shared,
+    all: AllCounted<S>,
+    connections: u64,
+) -> Result<ServerOutcome<S>, ServerFault>
+    requires { AreTotals GateStep shared.now (map S.given all.sinks.items)
+        all.passes.items all.totals }
+    ensures outcome { IfOk result (IsServerOutcome (Ok all) (Ok connections)) }
+    ensures served { IfOk result (λ outcome. ServeInHistories shared.now
+        (map S.given outcome.sinks.items) outcome.tallies.items outcome.totals) }
+{
+    let AllCounted {
+        totals,
+        sinks,
+        passes,
+    } = all;
+    match tallies_of(rt, alloc, shared, passes.as_slice()) {
+        Ok(tallies) => Ok(ServerOutcome {
+            totals,
+            tallies,
+            connections,
+            sinks,
+        }),
+        Err(_) => Err(ServerFault::NoMemory),
+    }
+}
+
+/// What came of a server whose workers were joined, where they and the accepting went well.
+fn outcome_of<X: Wait, S: EndSink + Drop>(
+    rt: &X,
+    alloc: Global,
+    shared: &Shared,
     counted: Result<AllCounted<S>, ServerFault>,
     accepted: Result<u64, ServerFault>,
 ) -> Result<ServerOutcome<S>, ServerFault>
-    ensures { IfOk result (IsOutcome counted accepted) }
+    requires { IfOk counted (λ all. AreTotals GateStep shared.now
+        (map S.given all.sinks.items) all.passes.items all.totals) }
+    ensures outcome { IfOk result (IsServerOutcome counted accepted) }
+    ensures served { IfOk result (λ outcome. ServeInHistories shared.now
+        (map S.given outcome.sinks.items) outcome.tallies.items outcome.totals) }
 {
-    let AllCounted { totals, sinks } = counted?;
+    let all = counted?;
     let connections = accepted?;
-    Ok(ServerOutcome {
-        totals,
-        connections,
-        sinks,
-    })
+    with_tallies(rt, alloc, shared, all, connections)
 }
 
 /// Runs the workers and the accepting of their connections.
@@ -170,8 +209,8 @@ where
     requires { All (λ station. S.given station.sink ≡ []) stations.items }
     ensures workers { IfOk result (λ outcome.
         length outcome.sinks.items ≡ length acceptor.now.inboxes.now) }
-    ensures totals { IfOk result (λ outcome.
-        AreTotals shared.now (map S.given outcome.sinks.items) outcome.totals) }
+    ensures served { IfOk result (λ outcome. ServeInHistories shared.now
+        (map S.given outcome.sinks.items) outcome.tallies.items outcome.totals) }
     ensures most { IfOk result (λ outcome.
         IfSome acceptor.now.limit (λ limit. outcome.connections ≤ limit)) }
     ensures all { acceptor.now.can_stop ≡ false → IfOk result (λ outcome.
@@ -185,8 +224,8 @@ where
             requires { All (λ station. S.given station.sink ≡ []) stations.items }
             ensures workers { IfOk result (λ outcome.
                 length outcome.sinks.items ≡ length acceptor.entry.now.inboxes.now) }
-            ensures totals { IfOk result (λ outcome.
-                AreTotals shared.entry.now (map S.given outcome.sinks.items) outcome.totals) }
+            ensures served { IfOk result (λ outcome. ServeInHistories shared.entry.now
+                (map S.given outcome.sinks.items) outcome.tallies.items outcome.totals) }
             ensures most { IfOk result (λ outcome.
                 IfSome acceptor.entry.now.limit (λ limit. outcome.connections ≤ limit)) }
             ensures all { acceptor.entry.now.can_stop ≡ false → IfOk result (λ outcome.
@@ -207,7 +246,7 @@ where
             acceptor.end_workers(&accepted);
             let counted = join_workers(rt, alloc, Snapshot::of(shared), children);
             acceptor.stop.close();
-            outcome_of(counted, accepted)
+            outcome_of(rt, alloc, shared, counted, accepted)
         },
     )
 }
@@ -230,8 +269,8 @@ where
     requires { All (λ station. S.given station.sink ≡ []) stations.items }
     ensures workers { IfOk result (λ outcome.
         length outcome.sinks.items ≡ length inboxes.now) }
-    ensures totals { IfOk result (λ outcome.
-        AreTotals shared.now (map S.given outcome.sinks.items) outcome.totals) }
+    ensures served { IfOk result (λ outcome. ServeInHistories shared.now
+        (map S.given outcome.sinks.items) outcome.tallies.items outcome.totals) }
     ensures most { IfOk result (λ outcome.
         IfSome settings.connections (λ limit. outcome.connections ≤ limit)) }
     ensures all { until ≡ None → IfOk result (λ outcome.
@@ -268,6 +307,10 @@ where
 /// once what was read of it is answered and sent. The totals are the sums of what the threads counted, each in a book of its own. The sinks
 /// come back in the same order.
 ///
+/// The tallies are in the order of the partitions, each of one look at the primary after the threads were joined, made again where the
+/// history had gone on past the state that was found, or where a thread's pass had seen more. Where memory is refused for them, the
+/// fault is `NoMemory`; what the threads did to the vnodes stays.
+///
 /// It returns once a read of the input has returned that was begun before. Where the input has nothing yet and says so (`WouldBlock`), it
 /// is read again, every 10 ms.
 pub fn serve_until<X, S, I>(
@@ -287,11 +330,13 @@ where
 
     // There was a worker for each sink. Each served its connections by one node over these gates, from nothing seen and nothing counted,
     // until all of them had ended; its sink was given each of their ends, once, in the order in which they came, and nothing else. The
-    // totals are what all workers counted.
+    // totals are what all workers counted. There is one history of the primary of each partition, legal: after each step of each connection
+    // of each worker the passes have seen beginnings of these histories, and the tallies are of the whole of them. So each reply at a
+    // primary is at a position of its history (`replies_are_at_positions` of `gate_node`).
     ensures workers { IfOk result (λ outcome.
         length outcome.sinks.items ≡ length sinks.items) }
-    ensures totals { IfOk result (λ outcome.
-        AreTotals shared.now (map S.given outcome.sinks.items) outcome.totals) }
+    ensures served { IfOk result (λ outcome. ServeInHistories shared.now
+        (map S.given outcome.sinks.items) outcome.tallies.items outcome.totals) }
 
     // No more connections were accepted than were to be, and just as many where no input could end serving before.
     ensures most { IfOk result (λ outcome.

@@ -1,6 +1,7 @@
 //! How the workers are started.
 ghost use Rattle.std.specs.Prelude.{◌≡◌, ◌+◌, ◌++◌, ◌∷◌, [], length, IfOk, OnOk};
 ghost use Rattle.std.specs.List.{All};
+ghost use Rattle.gate_node.specs.GateStep.{GateStep};
 ghost use Rattle.socket_server.specs.Counting.{IsOver, WorkerCounts};
 ghost use Rattle.socket_server.specs.declared.counting.Station.{Station};
 
@@ -92,8 +93,8 @@ where
         promise,
         move || -> Result<WorkerOutcome<S>, ServerFault>
             requires { S.given station.sink ≡ [] }
-            ensures { IfOk result (λ outcome.
-                WorkerCounts shared.entry.now (S.given outcome.sink) outcome.totals) }
+            ensures { IfOk result (λ outcome. WorkerCounts GateStep shared.entry.now
+                (S.given outcome.sink) outcome.passes outcome.totals) }
         { work(rt, alloc, shared, station, inbox, idle_seconds) },
     ) {
         Ok(child) => Ok(child),

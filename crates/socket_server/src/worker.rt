@@ -14,7 +14,7 @@ use crate::worker_clock::WorkerClock;
 use log::Log;
 use mio::unix::SourceFd;
 use mio::{Events, Interest, Poll, Token};
-use node_server::{End, Streams};
+use node_server::{ConnectionEnd, Streams};
 use node_session::{Node, SessionFault};
 use std::alloc::{AllocError, Global};
 use std::net::{Shutdown, SocketAddr};
@@ -53,13 +53,13 @@ struct Desk<'a, X, N: Node + Drop, S: EndSink> {
 }
 
 /// Whether the client of a connection that ended so may still be sending.
-fn may_still_send(end: End) -> bool {
+fn may_still_send(end: ConnectionEnd) -> bool {
     match end {
-        End::Through(Ok(_)) => false,
-        End::Through(Err(SessionFault::ReadFailed(_))) => false,
-        End::Through(Err(SessionFault::WriteFailed(_))) => false,
-        End::Through(Err(_)) => true,
-        End::Closed => true,
+        ConnectionEnd::Through(Ok(_)) => false,
+        ConnectionEnd::Through(Err(SessionFault::ReadFailed(_))) => false,
+        ConnectionEnd::Through(Err(SessionFault::WriteFailed(_))) => false,
+        ConnectionEnd::Through(Err(_)) => true,
+        ConnectionEnd::Closed => true,
     }
 }
 
@@ -133,7 +133,7 @@ impl<'a, X: Log + Clock + Wait, N: Node + Drop, S: EndSink> Desk<'a, X, N, S> {
     }
 
     /// Lets go of the socket of a connection that has ended, or has it linger where its client may still be sending.
-    fn finish(&mut self, slot: usize, end: End)
+    fn finish(&mut self, slot: usize, end: ConnectionEnd)
         ensures { self.new.jobs.first ≡ self.old.jobs.first }
     {
         self.inbox.count_end();

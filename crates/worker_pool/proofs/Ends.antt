@@ -7,10 +7,7 @@ use Rattle.worker_pool.specs.declared.job.End.{End}
 use Rattle.worker_pool.specs.declared.server.Served.{Served}
 use Rattle.worker_pool.specs.Serving.{counted_whole}
 use Rattle.worker_pool.specs.Leaving.{MetFullBook}
-
-pub replicate_length : {A : Type 0} (n : ℕ) (x : A) → length (replicate n x) ≡ n
-replicate_length zero x = refl
-replicate_length (suc n) x = let rest = replicate_length n x in omega (arith, rest)
+pub use Rattle.std.proofs.lemmas.List.{length-replicate as replicate_length}
 
 module _ {I O : Type 0} where
   -- what is related to such ends
@@ -28,10 +25,3 @@ module _ {I O : Type 0} where
   -- one that didn't
   pub is_whole : (one : Served I O) → one.book_full ≡ false → counted_whole one.end ≡ one
   is_whole one whole = ap (λ b. record { end = one.end; book_full = b }) (sym whole)
-
--- one more of both
-pub pairwise_more : {A B : Type 0} (R : A → B → Type 0) (xs : List A) (ys : List B) (x : A) (y : B) → Pairwise R xs ys → R x y → Pairwise R (xs ++ x ∷ []) (ys ++ y ∷ [])
-pairwise_more R [] [] x y h r = (r, tt)
-pairwise_more R [] (other ∷ ys) x y h r = absurd h
-pairwise_more R (other ∷ xs) [] x y h r = absurd h
-pairwise_more R (first ∷ xs) (other ∷ ys) x y h r = (h.0, pairwise_more R xs ys x y h.1 r)

@@ -8,16 +8,16 @@ use Rattle.riak_msgs.specs.declared.reply.Reply.{Reply}
 use Rattle.node_session.specs.declared.ended.Ended.{Ended}
 use Rattle.node_session.specs.declared.fault.SessionFault.{SessionFault}
 use Rattle.node_session.specs.declared.fault.SessionFault.TheVariants.{ReadFailed, WriteFailed, BadFrame, TooManyReads, NoMemory}
-use Rattle.node_session.specs.Answered.{Answered}
-use Rattle.node_session.specs.Session.{Given, IsEnd, Stops, IsTooManyReads, MadeReads}
+use Rattle.node_session.specs.Answered.{AnsweredInput}
+use Rattle.node_session.specs.Session.{Given, IsInputEnd, Stops, IsTooManyReads, MadeReads}
 use Rattle.gate_node.specs.Gates.{Gates}
-use Rattle.gate_node.specs.GateStep.{Node, GateStep}
+use Rattle.gate_node.specs.GateStep.{NodeOverGates, GateStep}
 use Rattle.worker_pool.specs.declared.job.Job.{Job}
 use Rattle.worker_pool.specs.declared.job.End.{End}
 use Rattle.worker_pool.specs.Serving.{EndsAtEnd, EndsAtFault}
 
 module _ {S : Type 0} (Step : S → Request → Reply → S → Type 0) (held held' last : Option (List ℕ)) (kept : Keeps held' last) where
-  answered_kept : (node : S) (input : List ℕ) (count : ℕ) (Ends : S → List ℕ → List ℕ → Type 0) → Answered Step node input held held' count Ends → Answered Step node input held last count Ends
+  answered_kept : (node : S) (input : List ℕ) (count : ℕ) (Ends : S → List ℕ → List ℕ → Type 0) → AnsweredInput Step node input held held' count Ends → AnsweredInput Step node input held last count Ends
   answered_kept node input count Ends h =
       record {
         messages = h.messages;
@@ -40,11 +40,11 @@ module _ {S : Type 0} (Step : S → Request → Reply → S → Type 0) (held he
   stops_kept old new input (TooManyReads count) h = answered_kept old input count _ h
   stops_kept old new input (NoMemory count) h = answered_kept old input count _ h
 
-module _ {I O : Type 0} (remaining : I → Option (List ℕ)) (contents : O → Option (List ℕ)) (shared : Gates) (job : Job I O) (before after : Node) (read : I) (written : O) (reads : ℕ) (same : reads ≡ shared.reads) where
+module _ {I O : Type 0} (remaining : I → Option (List ℕ)) (contents : O → Option (List ℕ)) (shared : Gates) (job : Job I O) (before after : NodeOverGates) (read : I) (written : O) (reads : ℕ) (same : reads ≡ shared.reads) where
   -- what `serve` says of a session, of the reader and the writer that the end has
   pub session_kept : (end : End I O) → Keeps (remaining read) (remaining end.reader) → Keeps (contents written) (contents end.writer)
       → IfOk end.result (λ ended. Given (remaining job.reader) (remaining read) reads (λ input.
-      Answered GateStep before input (contents job.writer) (contents written) ended.replies (IsEnd after ended.rest)))
+      AnsweredInput GateStep before input (contents job.writer) (contents written) ended.replies (IsInputEnd after ended.rest)))
       → IfOk end.result (λ ended. IsAtEnd (remaining read))
       → IfErr end.result (λ fault. Given (remaining job.reader) (remaining read) reads (λ input.
       Stops GateStep before after input (contents job.writer) (contents written) fault))
@@ -53,7 +53,7 @@ module _ {I O : Type 0} (remaining : I → Option (List ℕ)) (contents : O → 
   session_kept end unread writes = by_result end.result where
     by_result : (result : Result Ended SessionFault)
         → IfOk result (λ ended. Given (remaining job.reader) (remaining read) reads (λ input.
-        Answered GateStep before input (contents job.writer) (contents written) ended.replies (IsEnd after ended.rest)))
+        AnsweredInput GateStep before input (contents job.writer) (contents written) ended.replies (IsInputEnd after ended.rest)))
         → IfOk result (λ ended. IsAtEnd (remaining read))
         → IfErr result (λ fault. Given (remaining job.reader) (remaining read) reads (λ input.
         Stops GateStep before after input (contents job.writer) (contents written) fault))
@@ -66,7 +66,7 @@ module _ {I O : Type 0} (remaining : I → Option (List ℕ)) (contents : O → 
           bound = subst (λ n. length h.input ≤ 4096 * n) same h.bound;
           serves = (
             Consumes-whole (remaining job.reader) (remaining read) h.input (λ xs. h.input ≡ xs) h.read all refl,
-            answered_kept GateStep _ _ _ writes before h.input ended.replies (IsEnd after ended.rest) h.serves,
+            answered_kept GateStep _ _ _ writes before h.input ended.replies (IsInputEnd after ended.rest) h.serves,
           );
         }
     by_result (Err fault) none all h many = (

@@ -15,7 +15,7 @@ use Rattle.worker_pool.specs.declared.job.Job.{Job}
 use Rattle.worker_pool.specs.declared.job.End.{End}
 use Rattle.worker_pool.specs.declared.server.Served.{Served}
 use Rattle.worker_pool.specs.Serving.{CountsInSession, Serves, counted_whole}
-use Rattle.worker_pool.specs.Summing.{Session, SumsSessions, sums_before, sums_after}
+use Rattle.worker_pool.specs.Summing.{SessionTurn, SumsSessions, sums_before, sums_after}
 
 module _ (q : Totals → ℕ) (none : q zeros ≡ 0) (add : (a b : Totals) → q (both a b) ≡ q a + q b) where
   number_sum : {A : Type 0} (f : A → Totals) (xs : List A) → q (sum_of (map f xs)) ≡ sum_by (λ x. q (f x)) xs
@@ -47,8 +47,8 @@ module _ (q : Totals → ℕ) (none : q zeros ≡ 0) (add : (a b : Totals) → q
         let all = once_sums R q jobs (replicate n zeros) ends lasts h in
         let first = none_sum n in
         let last = plain_sum lasts in
-        let before = number_sum (λ (s : Session I O). s.before) h.turns in
-        let after = number_sum (λ (s : Session I O). s.after) h.turns in
+        let before = number_sum (λ (s : SessionTurn I O). s.before) h.turns in
+        let after = number_sum (λ (s : SessionTurn I O). s.after) h.turns in
         let here = add (sums_before h.turns) (sum_of lasts) in
         omega (arith, all, first, last, before, after, here)
 

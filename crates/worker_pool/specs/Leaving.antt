@@ -36,8 +36,8 @@ module _ {J I O : Type 0} (Gives : J → Result (Option (Job I O)) JobFault → 
   ServedPastFullBook first last = (served : List (Served I O)) × AllServed Gives (Serves GateStep remaining contents shared) first served last × MetFullBook served
 
   -- what is left of the source of jobs
-  abbrev pub Leaves : PoolFault → J → J → Type 0
-  Leaves NoMemory first last = GaveSome Gives first last
-  Leaves NoThread first last = last ≡ first
-  Leaves JobsFailed first last = GaveThenFailed Gives first last
-  Leaves BookFull first last = ServedPastFullBook first last
+  abbrev pub LeavesSource : PoolFault → J → J → Type 0
+  LeavesSource NoMemory first last = GaveSome Gives first last
+  LeavesSource NoThread first last = last ≡ first
+  LeavesSource JobsFailed first last = GaveThenFailed Gives first last
+  LeavesSource BookFull first last = ServedPastFullBook first last

@@ -8,15 +8,15 @@ use Rattle.worker_pool.specs.declared.closed.Closed.{Closed}
 use Rattle.worker_pool.specs.declared.job.Job.{Job}
 use Rattle.worker_pool.specs.Serving.{EndsWell}
 use Rattle.worker_pool.specs.Summing.{SumsSessions}
-use Rattle.worker_pool.specs.Tallies.{History, IsTally}
-use Rattle.worker_pool.specs.OneHistory.{AreOfGates, StepIn}
+use Rattle.gate_node.specs.Tallies.{GateHistory, IsTally}
+use Rattle.gate_node.specs.OneHistory.{AreOfGates, StepIn}
 
 module _ {I O : Type 0} (remaining : I → Option (List ℕ)) (contents : O → Option (List ℕ)) (shared : Gates) where
   -- Each of these jobs was served by one of these workers, to its end in the jobs' order. There is one history of the primary of each
   -- partition: each reply of each session at it is at a position of that, and the primary's tally is of all of it. The totals are what the sessions
   -- counted.
   pub record ServesAll (workers : ℕ) (jobs : List (Job I O)) (closed : Closed I O) : Type 0 where
-    pub histories : List History
+    pub histories : List GateHistory
     pub of_gates : AreOfGates shared.gates histories
     pub ends : Pairwise (EndsWell (StepIn histories) remaining contents shared) jobs closed.ends.items
     pub tallies : Pairwise IsTally histories closed.tallies.items

@@ -2,14 +2,15 @@
 use Rattle.std.specs.Prelude.{◌≡◌, ℕ, false, List, Option, IfSome, MatchResult}
 use Rattle.riak_msgs.specs.declared.Request.{Request}
 use Rattle.riak_msgs.specs.declared.Reply.{Reply}
+use Rattle.job_pool.specs.Lists.{Every}
 use Rattle.node_session.specs.declared.ended.Ended.{Ended}
 use Rattle.node_session.specs.declared.fault.SessionFault.{SessionFault}
-use Rattle.node_session.specs.Answered.{Answered}
-use Rattle.node_session.specs.Session.{Given, IsEnd, Stops, IsTooManyReads, MadeReads}
+use Rattle.node_session.specs.Answered.{AnsweredInput}
+use Rattle.node_session.specs.Session.{Given, IsInputEnd, Stops, IsTooManyReads, MadeReads}
 use Rattle.stats_book.specs.declared.totals.Totals.{Totals}
 use Rattle.gate_node.specs.Gates.{Gates}
-use Rattle.gate_node.specs.GateStep.{Node, GateStep}
-use Rattle.gate_node.specs.Passes.{ArePassesOf}
+use Rattle.gate_node.specs.GateStep.{NodeOverGates, GateStep}
+use Rattle.gate_node.specs.Passes.{Sights, ArePassesOf}
 use Rattle.worker_pool.specs.declared.job.Job.{Job}
 use Rattle.worker_pool.specs.declared.job.End.{End}
 use Rattle.worker_pool.specs.declared.server.Served.{Served}
@@ -18,26 +19,34 @@ module _ {I O : Type 0} where
   abbrev pub IsForGates : Gates → Job I O → Type 0
   IsForGates shared job = ArePassesOf shared job.passes
 
+  -- the passes that a session left
+  abbrev pub end_passes : End I O → Sights
+  end_passes end = end.passes
+
+  -- the passes that each of these sessions left are of the gates of this run
+  abbrev pub WereOfRun : Gates → List (Served I O) → Type 0
+  WereOfRun shared all = Every (λ (served : Served I O). ArePassesOf shared served.end.passes) all
+
   -- an end at none of whose answers the book was full
   abbrev pub counted_whole : End I O → Served I O
   counted_whole end = record { end = end; book_full = false }
 
-  module _ (Step : Node → Request → Reply → Node → Type 0) (remaining : I → Option (List ℕ)) (contents : O → Option (List ℕ)) (shared : Gates) where
+  module _ (Step : NodeOverGates → Request → Reply → NodeOverGates → Type 0) (remaining : I → Option (List ℕ)) (contents : O → Option (List ℕ)) (shared : Gates) where
     -- what was written is the output for all that could be read, by a run of this step from the one node to the other
-    abbrev pub EndsAtEnd : Job I O → End I O → Node → Node → Ended → Type 0
+    abbrev pub EndsAtEnd : Job I O → End I O → NodeOverGates → NodeOverGates → Ended → Type 0
     EndsAtEnd job end before after ended = Given (remaining job.reader) (remaining end.reader) shared.reads (λ input.
         IfSome (remaining job.reader) (λ all. input ≡ all)
-        × Answered Step before input (contents job.writer) (contents end.writer) ended.replies (IsEnd after ended.rest))
+        × AnsweredInput Step before input (contents job.writer) (contents end.writer) ended.replies (IsInputEnd after ended.rest))
 
     -- what was written is the output for what was read, as far as the fault lets it come
-    abbrev pub EndsAtFault : Job I O → End I O → Node → Node → SessionFault → Type 0
+    abbrev pub EndsAtFault : Job I O → End I O → NodeOverGates → NodeOverGates → SessionFault → Type 0
     EndsAtFault job end before after fault = Given (remaining job.reader) (remaining end.reader) shared.reads (λ input.
         Stops Step before after input (contents job.writer) (contents end.writer) fault)
         × (IsTooManyReads fault → MadeReads (remaining job.reader) (remaining end.reader) shared.reads)
 
     -- between a node over these gates by the job's passes, which has met no full book, and one with what the end has,
     -- whose passes are of the same gates
-    pub record Joins (job : Job I O) (served : Served I O) (before after : Node) : Type 0 where
+    pub record Joins (job : Job I O) (served : Served I O) (before after : NodeOverGates) : Type 0 where
       pub gates : before.shared ≡ shared
       pub passes : before.passes ≡ job.passes
       pub begins : before.count.book_full ≡ false
@@ -48,7 +57,7 @@ module _ {I O : Type 0} where
 
     -- a session of the job came to this end
     abbrev pub Serves : Job I O → Served I O → Type 0
-    Serves job served = (before : Node) × (after : Node) × Joins job served before after
+    Serves job served = (before : NodeOverGates) × (after : NodeOverGates) × Joins job served before after
 
     -- and the book was full at none of its answers
     abbrev pub EndsWell : Job I O → End I O → Type 0
@@ -57,5 +66,5 @@ module _ {I O : Type 0} where
   module _ (remaining : I → Option (List ℕ)) (contents : O → Option (List ℕ)) (shared : Gates) where
     -- a session of the job over the gates counted on from the first numbers to the last, and came to this end
     abbrev pub CountsInSession : Totals → Job I O → Totals → Served I O → Type 0
-    CountsInSession first job last served = (before : Node) × (after : Node)
+    CountsInSession first job last served = (before : NodeOverGates) × (after : NodeOverGates)
         × (before.count.counted ≡ first) × (after.count.counted ≡ last) × Joins GateStep remaining contents shared job served before after

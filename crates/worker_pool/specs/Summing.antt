@@ -10,15 +10,15 @@ use Rattle.worker_pool.specs.declared.server.Served.{Served}
 use Rattle.worker_pool.specs.Serving.{CountsInSession, counted_whole}
 
 -- a session that was to be held, as a turn of a worker that counts
-abbrev pub Session : Type 0 → Type 0 → Type 0
-Session I O = Turn Totals (Job I O) (Served I O)
+abbrev pub SessionTurn : Type 0 → Type 0 → Type 0
+SessionTurn I O = Turn Totals (Job I O) (Served I O)
 
 -- the sums of what was counted before each of these sessions, and after each
-abbrev pub sums_before : {I O : Type 0} → List (Session I O) → Totals
-sums_before {I} {O} sessions = sum_of (map (λ (s : Session I O). s.before) sessions)
+abbrev pub sums_before : {I O : Type 0} → List (SessionTurn I O) → Totals
+sums_before {I} {O} sessions = sum_of (map (λ (s : SessionTurn I O). s.before) sessions)
 
-abbrev pub sums_after : {I O : Type 0} → List (Session I O) → Totals
-sums_after {I} {O} sessions = sum_of (map (λ (s : Session I O). s.after) sessions)
+abbrev pub sums_after : {I O : Type 0} → List (SessionTurn I O) → Totals
+sums_after {I} {O} sessions = sum_of (map (λ (s : SessionTurn I O). s.after) sessions)
 
 module _ {I O : Type 0} (remaining : I → Option (List ℕ)) (contents : O → Option (List ℕ)) (shared : Gates) where
   -- each of these jobs was served in one session, to its end, by one of these workers, who counted from zero; the totals are the sums of

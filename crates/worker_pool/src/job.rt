@@ -1,7 +1,7 @@
 //! A connection to be served, and what it comes to.
 ghost use Rattle.std.specs.Io.KnownBytes.{Keeps};
 
-use gate_node::Passes;
+use gate_node::{HasPasses, Passes};
 use node_session::{Ended, SessionFault};
 use std::io::{Read, Write};
 
@@ -34,4 +34,12 @@ pub struct End<R, W> {
     pub reader: R,
     pub writer: W,
     pub passes: Passes,
+}
+
+impl<R, W> HasPasses for End<R, W> {
+    ghost sights = { λ end. end.passes };
+
+    fn caller_passes(&self) -> &Passes {
+        &self.passes
+    }
 }

@@ -3,7 +3,7 @@
 //! What it means: [`Pool::run`] takes all jobs of a source, each a connection with passes of the run's gates, and gives one end for each,
 //! in the order in which the source gave the jobs (`specs/Run`: `ServesSource`). An end is what `serve` of `node_session` makes of that
 //! job's reader and writer, by a run of the step of a node over the gates (`gate_node`) from the job's passes to the end's. All these
-//! sessions are of one history of each primary (`specs/OneHistory`: `StepIn`), and each of their replies is at a position of it, unless its
+//! sessions are of one history of each primary (`StepIn` of `specs/OneHistory` of `gate_node`), and each of their replies is at a position of it, unless its
 //! partition is diverted ([`replies_are_at_positions`]). With the ends come the totals of what these sessions counted, each session once
 //! (`specs/Summing`: `SumsSessions`), and the tally of each primary at the end of that history.
 //!
@@ -25,14 +25,11 @@
 
 mod closed;
 mod job;
-mod laws;
 mod pool;
 mod server;
-mod tallies;
 
 pub use closed::Closed;
-pub use gate_node::{Open, Passes, PoolFault, Shared, Turnstile};
+pub use gate_node::{Open, Passes, PoolFault, Shared, Turnstile, replies_are_at_positions};
 pub use job::{End, EndRead, EndWrite, Job};
 pub use job_pool::{JobFault, Jobs};
-pub use laws::replies_are_at_positions;
 pub use pool::Pool;

@@ -3,16 +3,15 @@ ghost use Rattle.std.specs.Prelude.{◌≡◌, ◌≤◌, map, vec_len, IfOk, If
 ghost use Rattle.job_pool.specs.Giving.{GivesOnly};
 ghost use Rattle.stats_book.specs.Counting.{sum_of};
 ghost use Rattle.stats_book.specs.Holdings.{AllAre};
-ghost use Rattle.worker_pool.specs.Serving.{IsForGates, counted_whole};
-ghost use Rattle.worker_pool.specs.OneHistory.{WereOfRun, ShareHistories};
+ghost use Rattle.gate_node.specs.OneHistory.{ShareHistories};
+ghost use Rattle.worker_pool.specs.Serving.{IsForGates, WereOfRun, counted_whole, end_passes};
 ghost use Rattle.worker_pool.specs.Run.{ServesSource};
-ghost use Rattle.worker_pool.specs.Leaving.{Leaves, IsFaultAfter, pool_fault};
+ghost use Rattle.worker_pool.specs.Leaving.{LeavesSource, IsFaultAfter, pool_fault};
 
 use crate::closed::Closed;
 use crate::job::{End, EndRead, EndWrite, Job};
 use crate::server::{Served, Server};
-use crate::tallies::tallies_of;
-use gate_node::{PoolFault, Shared, Turnstile};
+use gate_node::{PoolFault, Shared, Turnstile, tallies_of};
 use job_pool::{Finished, Jobs, RunFault};
 use stats_book::{Blanks, Book, Share, close};
 use std::alloc::Global;
@@ -77,7 +76,7 @@ where
     ensures ends { IfOk result (λ closed.
         map counted_whole closed.ends.items ≡ finished.ends.items) }
     ensures history { IfOk result (λ closed.
-        ShareHistories shared.now.gates closed.ends.items closed.tallies.items) }
+        ShareHistories end_passes shared.now.gates closed.ends.items closed.tallies.items) }
     ensures totals { IfOk result (λ closed. closed.totals ≡ sum_of finished.workers.items) }
     ensures fault { IfErr result (IsFaultAfter finished.ends.items) }
 {
@@ -133,7 +132,7 @@ where
         ServesSource I.remaining O.contents shared.now J.gives workers
         jobs.old closed jobs.new) }
     ensures fault { IfErr result (λ fault.
-        Leaves J.gives I.remaining O.contents shared.now fault jobs.old jobs.new) }
+        LeavesSource J.gives I.remaining O.contents shared.now fault jobs.old jobs.new) }
 {
     let Ok((book, shares)) = Book::<G, P, D, E, R>::new(alloc, workers, blanks) else {
         return Err(PoolFault::NoMemory);
@@ -199,7 +198,7 @@ impl Pool {
             ServesSource I.remaining O.contents shared.now J.gives workers
             jobs.old closed jobs.new) }
         ensures fault { IfErr result (λ fault.
-            Leaves J.gives I.remaining O.contents shared.now fault jobs.old jobs.new) }
+            LeavesSource J.gives I.remaining O.contents shared.now fault jobs.old jobs.new) }
     {
         run_by::<X, J, I, O, T, Brand, Brand, Brand, Brand, Brand>(
             rt,

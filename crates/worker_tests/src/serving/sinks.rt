@@ -4,7 +4,7 @@ ghost use Rattle.std.specs.List.{All};
 
 use ghost_state::GhostList;
 use log::Log;
-use node_server::End;
+use node_server::ConnectionEnd;
 use socket_server::EndSink;
 use std::alloc::{AllocError, Global};
 use std::net::SocketAddr;
@@ -15,13 +15,13 @@ pub struct KeepingSink {
     peers: Vec<SocketAddr>,
     /// Whether there was memory for all of them.
     is_whole: bool,
-    ends: GhostList<End>,
+    ends: GhostList<ConnectionEnd>,
 }
 
 impl EndSink for KeepingSink {
     ghost given = { λ sink. sink.ends };
 
-    fn note<L: Log>(&mut self, _log: &L, peer: SocketAddr, end: End) {
+    fn note<L: Log>(&mut self, _log: &L, peer: SocketAddr, end: ConnectionEnd) {
         self.is_whole = self.peers.push(peer).is_ok() && self.is_whole;
         self.ends.push(&end);
     }

@@ -8,6 +8,7 @@ use log::sink::Console;
 use log::{LevelFilter, Log, Logged};
 use node_commands::{UntilSettings, serve_on_until};
 use ring_map::Ring;
+use stats_book::Totals;
 use std::alloc::Global;
 use std::io::{ErrorKind, Read};
 use std::net::{Net, TcpListener, TcpStream};
@@ -19,6 +20,7 @@ use std::test::*;
 use std::thread::Threads;
 use std::time::Duration;
 use std::{io, thread};
+use vnode_core::Tally;
 
 /// An input that ends once that is said, and until then says that it has nothing yet.
 #[derive(Drop)]
@@ -304,6 +306,16 @@ const SERVERS: &[Server] = &[
     },
 ];
 
+/// Whether the one primary accepted just what was counted.
+fn is_tallied(tallies: &[Tally], totals: Totals) -> bool {
+    let counted = Tally {
+        writes: totals.puts,
+        tombstones: totals.deletes,
+        reaps: totals.reaps,
+    };
+    tallies == [counted].as_slice()
+}
+
 /// Whether a server of this listener comes to what it should.
 fn serves<R: Log + Clock + Net + Threads + Wait + Sync>(
     rt: &R,
@@ -340,7 +352,8 @@ fn serves<R: Log + Clock + Net + Threads + Wait + Sync>(
     match outcome {
         Ok(outcome) => is_written
             && outcome.connections == server.connections
-            && has_one_of_each(outcome.sinks.as_slice(), server.connections),
+            && has_one_of_each(outcome.sinks.as_slice(), server.connections)
+            && is_tallied(outcome.tallies.as_slice(), outcome.totals),
         Err(_) => false,
     }
 }

@@ -2,8 +2,8 @@ use Rattle.std.proofs.Common.{◌≡◌, ◌∙◌, ap, sym, subst}
 use Rattle.std.specs.Prelude.{None}
 use Rattle.rw_gate.specs.Histories.{RunFrom}
 use Rattle.rw_gate.specs.Views.{GateId}
-use Rattle.vnode_protocol.specs.Events.{Makes}
-use Rattle.vnode_protocol.specs.Plans.{View}
+use Rattle.vnode_core.specs.Events.{Makes}
+use Rattle.vnode_core.specs.Plans.{View}
 use Rattle.gate_node.specs.Asked.{state_of}
 use Rattle.gate_node.proofs.Unclosed.{comes_open}
 use Rattle.gate_node.proofs.diverted.ask_open_under.Goals as goal

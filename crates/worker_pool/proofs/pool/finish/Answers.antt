@@ -1,5 +1,6 @@
 use Rattle.std.proofs.Common.{sym, subst}
-use Rattle.worker_pool.specs.OneHistory.{AreOfRun, WereOfRun}
+use Rattle.gate_node.specs.OneHistory.{CallersAreOfRun}
+use Rattle.worker_pool.specs.Serving.{WereOfRun, end_passes}
 use Rattle.worker_pool.proofs.Histories.{whole_of_run}
 use Rattle.worker_pool.proofs.pool.finish.Goals as goal
 
@@ -7,7 +8,7 @@ pub tallies_of-requires : goal.tallies_of-requires
 tallies_of-requires g c =
     let shared = c.args.shared.now in
     let whole = subst (λ all. WereOfRun shared all) (sym c.in-Ok.ensures.ends) c.requires.passes in
-    subst (λ ends. AreOfRun shared ends) (sym c.as_slice.ensures.value) (whole_of_run shared c.in-Ok.ends.items whole)
+    subst (λ ends. CallersAreOfRun end_passes shared ends) (sym c.as_slice.ensures.value) (whole_of_run shared c.in-Ok.ends.items whole)
 
 pub returns-in-Ok-tallies_of-clause-totals : goal.returns-in-Ok-tallies_of-clause-totals
 returns-in-Ok-tallies_of-clause-totals g c = c.close-totals.ensures

@@ -20,7 +20,7 @@ finish-requires g c =
     let ended = source_served g.J.Jobs.gives g.I.Read.remaining g.O.Write.contents c.args.shared.now _ _ _ _ _ c.in-Ok-run.ensures.served in
     record {
       all = (parts.0 ∙ all, parts.1 ∙ all, parts.2 ∙ all, parts.3 ∙ all, parts.4 ∙ all);
-      passes = served_of_run {I = g.row.I.Denot} {O = g.row.O.Denot} g.I.Read.remaining g.O.Write.contents c.args.shared.now ended.0 _ ended.2;
+      passes = served_of_run {I = g.row.I.Denot} {O = g.row.O.Denot} c.args.shared.now g.I.Read.remaining g.O.Write.contents ended.0 _ ended.2;
     }
 
 pub returns-in-Ok-run-clause-served : goal.returns-in-Ok-run-clause-served

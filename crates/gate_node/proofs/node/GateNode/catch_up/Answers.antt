@@ -1,7 +1,7 @@
 use Rattle.std.proofs.Common.{◌≡◌, ◌<◌, ◌^◌, ◌∙◌, ap, sym, subst, length}
 use Rattle.std.specs.Prelude.{nat_le}
 use Rattle.gate_node.specs.Gates.{Gates}
-use Rattle.gate_node.specs.GateStep.{Node}
+use Rattle.gate_node.specs.GateStep.{NodeOverGates}
 use Rattle.gate_node.proofs.Opened.{looks_at, same_gates, seen_there, within_passes}
 use Rattle.gate_node.proofs.Resuming.{node_of}
 use Rattle.gate_node.proofs.node.GateNode.catch_up.Goals as goal
@@ -18,7 +18,7 @@ returns-clause-looks g c =
     let primaries = c.self.inside.primaries.items in
     let size : length shared.gates ≡ 2 ^ shared.index_bits
     = subst (λ (s : Gates). length s.gates ≡ 2 ^ s.index_bits) c.shared.view_is (ap length (sym c.gates-gates.ensures.gates) ∙ c.gates-gates.ensures.size) in
-    let asked = subst (λ (n : Node). c.args.index < 2 ^ n.shared.index_bits) (sym c.self.view_is) c.requires in
+    let asked = subst (λ (n : NodeOverGates). c.args.index < 2 ^ n.shared.index_bits) (sym c.self.view_is) c.requires in
     let within = within_passes primaries shared.gates (2 ^ shared.index_bits) c.args.index c.self.invariant.primaries size asked in
     rw (← c.self.view_is)
     (looks_at (node_of shared primaries c.self.inside.fallbacks.items c.self.inside.counter) c.args.index c.index_mut-pass.result.now c.catch_up.new.pass within c.index_mut-pass.ensures.value c.catch_up.ensures.gate
@@ -30,7 +30,7 @@ returns-clause-far g c =
     let primaries = c.self.inside.primaries.items in
     let size : length shared.gates ≡ 2 ^ shared.index_bits
     = subst (λ (s : Gates). length s.gates ≡ 2 ^ s.index_bits) c.shared.view_is (ap length (sym c.gates-gates.ensures.gates) ∙ c.gates-gates.ensures.size) in
-    let asked = subst (λ (n : Node). c.args.index < 2 ^ n.shared.index_bits) (sym c.self.view_is) c.requires in
+    let asked = subst (λ (n : NodeOverGates). c.args.index < 2 ^ n.shared.index_bits) (sym c.self.view_is) c.requires in
     let within = within_passes primaries shared.gates (2 ^ shared.index_bits) c.args.index c.self.invariant.primaries size asked in
     c.catch_up.ensures.far
     ∙ ap (λ n. nat_le c.args.number n) (seen_there (node_of shared primaries c.self.inside.fallbacks.items c.self.inside.counter) c.args.index c.index_mut-pass.result.now c.catch_up.new.pass within c.index_mut-pass.ensures.value)

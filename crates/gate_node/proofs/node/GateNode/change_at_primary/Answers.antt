@@ -2,7 +2,7 @@ use Rattle.std.proofs.Common.{◌≡◌, ◌<◌, ◌^◌, ◌∙◌, ap, sym, s
 use Rattle.handoff.specs.Partitions.{AreOfNewRun}
 use Rattle.gate_node.specs.Asked.{Changes}
 use Rattle.gate_node.specs.Gates.{Gates}
-use Rattle.gate_node.specs.GateStep.{Node}
+use Rattle.gate_node.specs.GateStep.{NodeOverGates}
 use Rattle.gate_node.proofs.Opened.{same_gates, at_index, within_passes}
 use Rattle.gate_node.proofs.node.GateNode.change_at_primary.Goals as goal
 
@@ -19,7 +19,7 @@ returns g c =
     let size : length shared.gates ≡ 2 ^ shared.index_bits
     = subst (λ (s : Gates). length s.gates ≡ 2 ^ s.index_bits) c.shared.view_is (ap length (sym c.gates-gates.ensures.gates) ∙ c.gates-gates.ensures.size) in
     let all = subst (λ (s : Gates). AreOfNewRun s.run s.gates) c.shared.view_is c.gates-gates.ensures.new_run in
-    let asked = subst (λ (n : Node). c.args.index < 2 ^ n.shared.index_bits) (sym c.self.view_is) c.requires in
+    let asked = subst (λ (n : NodeOverGates). c.args.index < 2 ^ n.shared.index_bits) (sym c.self.view_is) c.requires in
     let within = within_passes primaries shared.gates (2 ^ shared.index_bits) c.args.index c.self.invariant.primaries size asked in
     rw (← c.self.view_is)
     (at_index (record { shared = shared; passes = record { primaries = primaries; fallbacks = c.self.inside.fallbacks.items }; count = c.self.inside.counter }) c.args.index c.index_mut-pass.result.now c.change_and_reap-answered.new.pass

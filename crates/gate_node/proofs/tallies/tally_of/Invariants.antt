@@ -1,5 +1,5 @@
 use Rattle.std.proofs.Common.{◌≡◌}
-use Rattle.worker_pool.proofs.tallies.tally_of.Given as goal
+use Rattle.gate_node.proofs.tallies.tally_of.Given as goal
 
 abbrev pub invariant-loop : goal.invariant-loop
 invariant-loop g l =
