@@ -1,6 +1,6 @@
 -- A copier's steps do not look at ids, epochs that vnodes were opened behind, histories and what workers have seen of them.
 use Rattle.std.proofs.Common.{◌≡◌, ℕ, zero, suc, Bool, true, false, [], refl, ap}
-use Rattle.std.specs.Prelude.{Option, Some, None, option_map}
+use Rattle.std.specs.Prelude.{Option, Some, None, is_some, option_map}
 use Rattle.riak_msgs.specs.declared.Key.{Key}
 use Rattle.riak_msgs.specs.Contents.{Content}
 use Rattle.dvv_set.specs.Clocks.{DotState}
@@ -8,22 +8,22 @@ use Rattle.vnode_machine.specs.Copying.{is_stuck}
 use Rattle.vnode_machine.specs.Machine.{State, is_held}
 use Rattle.vnode_machine.specs.Replay.{History}
 use Rattle.copy_laws.specs.Joining.{Log}
-use Rattle.node_steps.specs.World.{Word, Open, Taken, CopyStage, CopyAsked, CopyInside, CopyLooked, CopyTaken, CopyDone, Phase, Idle, Copying, Vnode}
-use Rattle.node_steps.specs.Steps.{Action, CopiesFrom, Enters, Leaves, Takes, Puts, Looks, Publishes, Turn, finds_by, syncs_by, turn_of}
+use Rattle.node_steps.specs.World.{Word, Open, Taken, CopyStage, CopyAsked, CopyInside, CopyLooked, CopyTaken, CopyDone, Phase, Idle, Copying, Brought, nothing_brought, Vnode}
+use Rattle.node_steps.specs.Steps.{Action, CopiesFrom, Enters, Leaves, Takes, Puts, Looks, Publishes, Turn, finds_by, finds_open, syncs_by, turn_of}
 use Rattle.node_steps.specs.Erased.{IsShown, erase_vnode}
 
 abbrev pub erase_turn : Turn → Turn
 erase_turn turn = record { phase = turn.phase; seen = []; vnode = erase_vnode turn.vnode; outcome = turn.outcome }
 
-module _ (id epoch : ℕ) (seen brought : History) (log : Log) (place : State Content) where
+module _ (id home epoch : ℕ) (seen : History) (brought : Brought) (log : Log) (place : State Content) where
   abbrev vnode_in : Word → Vnode
-  vnode_in word = record { id = id; last_epoch = epoch; word = word; log = log; place = place }
+  vnode_in word = record { id = id; own = home; last_epoch = epoch; word = word; log = log; place = place }
 
   -- the turn in the erased world is the erased turn
   abbrev pub IsErased : Word → Action → Phase → Type 0
   IsErased word action phase =
       option_map erase_turn (turn_of seen brought (vnode_in word) action phase)
-      ≡ option_map erase_turn (turn_of [] [] (erase_vnode (vnode_in word)) action phase)
+      ≡ option_map erase_turn (turn_of [] nothing_brought (erase_vnode (vnode_in word)) action phase)
 
   pub copy_asks : (word : Word) (own site : ℕ) (key : Key) → IsErased word (CopiesFrom own site key) Idle
   copy_asks (Open n mark) own site key = refl
@@ -71,12 +71,17 @@ module _ (id epoch : ℕ) (seen brought : History) (log : Log) (place : State Co
   copy_puts word own site key (CopyDone (Some hand)) = refl
 
   found : (n : ℕ) (mark : Bool) (own site : ℕ) (key : Key) (held : Bool)
-      → erase_turn (finds_by seen brought (vnode_in (Open n mark)) own site key held) ≡ erase_turn (finds_by [] [] (erase_vnode (vnode_in (Open n mark))) own site key held)
+      → erase_turn (finds_by seen brought (vnode_in (Open n mark)) own site key held) ≡ erase_turn (finds_by [] nothing_brought (erase_vnode (vnode_in (Open n mark))) own site key held)
   found n mark own site key true = refl
   found n mark own site key false = refl
 
+  found_open : (n : ℕ) (mark : Bool) (own site : ℕ) (key : Key) (closed : Bool)
+      → erase_turn (finds_open seen brought (vnode_in (Open n mark)) own site key closed) ≡ erase_turn (finds_open [] nothing_brought (erase_vnode (vnode_in (Open n mark))) own site key closed)
+  found_open n mark own site key true = refl
+  found_open n mark own site key false = found n mark own site key (is_held place key)
+
   synced : (word : Word) (own site : ℕ) (key : Key) (clock : DotState (Option Content)) (hand : State Content) (stuck : Bool)
-      → erase_turn (syncs_by seen brought (vnode_in word) own site key clock hand stuck) ≡ erase_turn (syncs_by [] [] (erase_vnode (vnode_in word)) own site key clock hand stuck)
+      → erase_turn (syncs_by seen brought (vnode_in word) own site key clock hand stuck) ≡ erase_turn (syncs_by [] nothing_brought (erase_vnode (vnode_in word)) own site key clock hand stuck)
   synced (Open n mark) own site key clock hand true = refl
   synced (Open n mark) own site key clock hand false = refl
   synced Taken own site key clock hand true = refl
@@ -84,7 +89,7 @@ module _ (id epoch : ℕ) (seen brought : History) (log : Log) (place : State Co
 
   pub copy_looks : (word : Word) (own site : ℕ) (key : Key) (stage : CopyStage) → IsShown word (Copying own site key stage) → IsErased word Looks (Copying own site key stage)
   copy_looks word own site key CopyAsked p = refl
-  copy_looks (Open n mark) own site key CopyInside p = ap (λ t. Some t) (found n mark own site key (is_held place key))
+  copy_looks (Open n mark) own site key CopyInside p = ap (λ t. Some t) (found_open n mark own site key (is_some place.closed))
   copy_looks Taken own site key CopyInside p = absurd p
   copy_looks word own site key (CopyLooked clock) p = refl
   copy_looks word own site key (CopyTaken clock hand None) p = ap (λ t. Some t) (synced word own site key clock hand (is_stuck hand key clock))

@@ -11,10 +11,10 @@ abbrev j : Key
 j = record { bucket_type = 100 ∷ []; bucket = 98 ∷ []; key = 106 ∷ [] }
 
 -- the worker writes where the calls go
-abbrev writes : List Step
+abbrev pub writes : List Step
 writes = does 1 (Asks 0 put) ∷ does 1 Takes ∷ does 1 Looks ∷ does 1 Publishes ∷ does 1 Puts ∷ []
 
-abbrev written : List Outcome
+abbrev pub written : List Outcome
 written = Happened ∷ Happened ∷ Happened ∷ stored ∷ Happened ∷ []
 
 -- each line of a copier, and before and after it those that aren't possible; nothing is copied where nothing is diverted, nor from a

@@ -1,380 +1,344 @@
--- A worker's step goes on with a partition's course, by one happening at most.
-use Rattle.std.proofs.Common.{◌≡◌, ◌≢◌, ◌⊎◌, inl, inr, ℕ, ◌<◌, ◌≤◌, false, ◌&&◌, cond, [], ◌∷◌, length, refl, sym, ◌∙◌, ap, arith, subst}
-use Rattle.std.specs.Prelude.{◌==◌, not, pred, Some, None, Ok, slice_get}
+-- A worker's step at one site goes on with a partition's course, by one happening at most.
+use Rattle.std.proofs.Common.{◌≡◌, ◌≢◌, ◌⊎◌, inl, inr, ℕ, ◌+◌, ◌<◌, ◌≤◌, true, false, not, ◌&&◌, cond, ◌∷◌, length, refl, sym, ◌∙◌, ap, subst}
+use Rattle.std.specs.Prelude.{◌==◌, pred, Some, None, slice_get}
+use Rattle.std.specs.Option.{option_map_or}
 use Rattle.riak_msgs.specs.declared.Key.{Key}
 use Rattle.riak_msgs.specs.Contents.{Content}
-use Rattle.riak_msgs.specs.KeyOrder.{key_eq}
 use Rattle.sibling_register.specs.Answers.{Ask}
-use Rattle.actor_epoch.specs.Given.{Context, Pairs, context_of}
-use Rattle.vnode_machine.specs.Machine.{State, clock_of}
-use Rattle.vnode_machine.specs.Replay.{History, naming}
-use Rattle.vnode_machine.specs.Step.{Response}
-use Rattle.vnode_machine.specs.Registers.{key_of, context_in_ask}
-use Rattle.vnode_machine.proofs.Keys.{key_eq-refl}
+use Rattle.actor_epoch.specs.Given.{Context}
+use Rattle.vnode_machine.specs.Copying.{is_stuck}
+use Rattle.vnode_machine.specs.Machine.{clock_of, is_held}
+use Rattle.vnode_machine.specs.Lives.{lives_begun}
+use Rattle.vnode_machine.specs.Replay.{History, Accepts}
 use Rattle.copy_laws.specs.Copies.{Command, Copied, all_commands, commands_of}
 use Rattle.copy_laws.specs.Joining.{Log}
-use Rattle.copy_laws.specs.CopyReplay.{name_at}
-use Rattle.copy_laws.specs.Diversions.{Course, AtPrimary, AtFallback, CopyBack, copy_of, fallback_of, fallback_state, primary_of, WasShown}
-use Rattle.node_steps.specs.World.{CopyTaken, Phase, Idle, Asked, Reading, Holding, Done, Copying, Vnode, Worker, World, CommandsAlone, Call, call_of, call_at, history_of}
-use Rattle.node_steps.specs.Steps.{Action, Asks, Enters, is_reap, Outcome, Replied, site_of}
-use Rattle.node_steps.specs.Contexts.{context_bytes, given_in}
-use Rattle.node_steps.specs.Courses.{IsSiteOf}
-use Rattle.node_steps.proofs.Lists.{set-here, same_or_other, get-below}
-use Rattle.node_steps.proofs.Inside.{same_test}
-use Rattle.node_steps.proofs.Shown.{held_shows}
+use Rattle.copy_laws.specs.Sides.{Partition}
+use Rattle.copy_laws.specs.CopyReplay.{primary_after}
+use Rattle.copy_laws.specs.Diversions.{Course, AtPrimary, AtFallback, CopyBack, copy_of, diversions_of, is_diverted, fallback_of, primary_of, WasShown, MayHappen, Happens}
+use Rattle.copy_laws.proofs.Courses.{legal-fallback}
+use Rattle.copy_laws.proofs.Fallback.{log-replay}
+use Rattle.node_steps.specs.HeldNames.{saw_held}
+use Rattle.node_steps.specs.World.{Vnode, Worker, World, Call, diversions_at, brought_by, call_of, copied_to, history_of}
+use Rattle.node_steps.specs.Steps.{Action, Asks, is_reap, Outcome, seeing}
+use Rattle.node_steps.proofs.Lists.{set-there, same_or_other}
+use Rattle.node_steps.proofs.Inside.{state_of, same_test, other_test, IsClockAt}
+use Rattle.node_steps.proofs.Unmixed.{commands-all, saw-plain, saw-course}
 use Rattle.node_steps.proofs.Coming.{CallIs}
-use Rattle.node_steps.proofs.Kept.{CopiesWell, IsOrderly, IsPossible}
-use Rattle.node_steps.proofs.Lifting.{here, turn, plain, replays_next, call_is, reply_is}
-use Rattle.node_steps.proofs.Coursing.{some_same, none_call, commands-all, IsVnode, IsOwn, IsAway, IsRun, IsNext, Grows, Copies, replied_alone, copy-is, at-copy, shown-later, name-primary, state-fallback, vnode-there, vnode-here, is_there, grown, at-primary, at-fallback, worker-next, alone-next, updates-next, next_of, partition_at}
+use Rattle.node_steps.proofs.Kept.{IsOrderly, IsPossible}
+use Rattle.node_steps.proofs.CloseSteps.{some_back, set_cases}
+use Rattle.node_steps.proofs.CallsApart.{IsApart, no_call, route_own}
+use Rattle.node_steps.proofs.Lifting.{here, turn, from_there, copied_fallback, copied_route}
+use Rattle.node_steps.proofs.Coursing.{IsVnode, home_id, away_id, Agrees, IsOwn, IsAway, WasFallback, IsLawful, IsRun, shown-later, ids, by-primary, by-fallback, away-state}
+use Rattle.node_steps.proofs.Growing.{next_of, Grows, Copies, grown, copied-home, closed-same, vnode-there, is_there, is_now, vnode-here, vnode-kept, as-known, comes-to}
 
--- the site of a call
-pub call_site : (phase : Phase) (call : Call) → call_of phase ≡ Some call → site_of Enters phase ≡ Some call.site
-call_site Idle call h = cc
-call_site (Asked site ask) call h = ap (λ (c : Call). Some c.site) (some_same _ call h)
-call_site (Reading site get) call h = ap (λ (c : Call). Some c.site) (some_same _ call h)
-call_site (Holding site ask hand plan) call h = ap (λ (c : Call). Some c.site) (some_same _ call h)
-call_site (Done site hand) call h = cc
-call_site (Copying own site key stage) call h = cc
-
-module _ (run index : ℕ) (w : World) (orderly : IsOrderly w) (number : ℕ) (action : Action) (r : World × Outcome) (p : IsPossible w number action r)
-    (course : Course) (Shown : Key → Context → Type 0) (run_is : IsRun run index w course Shown)
-    (gives : (site : ℕ) → IsSiteOf w index site → (key : Key) (context : Context) → given_in action site key ≡ Some context → Shown key context)
+module _ (run index : ℕ) (w : World) (orderly : IsOrderly w) (apart : IsApart w) (number : ℕ) (action : Action) (r : World × Outcome) (p : IsPossible w number action r)
     (sends : (site : ℕ) (ask : Ask Content Context) → action ≡ Asks site ask
-    → (other : ℕ) × (slice_get w.routes other ≡ Some site) × ((not (site == other) && is_reap ask) ≡ false)) where
+    → (other : ℕ) × (slice_get w.routes other ≡ Some site) × ((not (site == other) && is_reap ask) ≡ false))
+    (course : Course) (opened : ℕ → ℕ) (Shown : Key → Context → Type 0) (run_is : IsRun run index w course opened Shown) where
   abbrev next : World
-  next = next_of run index w orderly number action r p
+  next = next_of w orderly number action r p
 
-  abbrev Next : Course → Type 0
-  Next later = IsNext run index w orderly number action r p course Shown run_is gives sends later
+  abbrev now : Worker
+  now = record { phase = p.turn.phase; seen = seeing p.worker.seen p.index p.turn.seen }
 
-  abbrev primary : ℕ
-  primary = (partition_at run index).primary
+  mine : slice_get w.workers (pred number) ≡ Some p.worker
+  mine = here w orderly number action r p
 
-  abbrev fallback : ℕ
-  fallback = (partition_at run index).fallback
+  abbrev count : ℕ
+  count = diversions_of course
 
-  own-next : IsOwn run index w course → IsOwn run index next course
-  own-next own = record { route_is = own.route_is; not_diverted = own.not_diverted; none = own.none; empty = own.empty; only = own.only }
+  abbrev history : History
+  history = fallback_of course (diversions_of course)
 
-  away-next : (away : IsAway run index w course) → IsVnode next away.site fallback (all_commands (fallback_of course 1)) → IsAway run index next course
-  away-next away vnode = record {
+  -- what the law has of the course afterwards
+  pub record IsStep (partition : Partition) (later : Course) : Type 0 where
+    pub may_happen : Happens partition later
+    pub vnode : IsVnode next index (home_id run index) 0 (primary_of partition later)
+    pub still : (key : Key) (context : Context) → WasShown partition course key context → WasShown partition later key context
+
+  pub record IsNext (later : Course) : Type 0 where
+    pub number_is : diversions_of later ≡ diversions_of course
+    pub side : IsOwn run index next later opened ⊎ IsAway run index next later opened
+    pub fallbacks : (n : ℕ) → 1 ≤ n → n ≤ diversions_of later → (is_diverted later ≡ true → n ≢ diversions_of later) → WasFallback run index next later opened n
+    pub lawful : (partition : Partition) → Agrees run index opened (diversions_of course) partition → IsStep partition later
+
+  -- a closed fallback stays
+  was-kept : (later : Course) (n : ℕ) → fallback_of later n ≡ fallback_of course n → WasFallback run index w course opened n → WasFallback run index next later opened n
+  was-kept later n same f = elim (same_or_other p.index f.site) [
+    | inl e ↦
+        let t = turn w orderly number action r p in
+        let is = is_there w orderly number action r p f.site f.vnode e f.there in
+        let log : p.turn.vnode.log ≡ f.vnode.log =
+        closed-same w orderly number action r p (subst (λ (v : Vnode). (state_of v.id v.last_epoch v.log).closed ≢ None) (sym is) f.closed) ∙ ap (λ (v : Vnode). v.log) is in
+        let id = t.same_id ∙ ap (λ (v : Vnode). v.id) is in
+        let epoch = t.same_epoch ∙ ap (λ (v : Vnode). v.last_epoch) is in
+        record {
+          site = f.site;
+          vnode = p.turn.vnode;
+          there = is_now w orderly number action r p f.site e;
+          own_is = t.same_own ∙ ap (λ (v : Vnode). v.own) is ∙ f.own_is;
+          id_is = id ∙ f.id_is;
+          epoch_is = epoch ∙ f.epoch_is;
+          history_is = ap (λ (l : Log). commands_of l) log ∙ f.history_is ∙ sym same;
+          closed = λ none. f.closed (sym (λ i. (state_of (id i) (epoch i) (log i)).closed) ∙ none);
+        }
+    | inr n ↦ record {
+      site = f.site;
+      vnode = f.vnode;
+      there = set-there w.vnodes p.index f.site p.turn.vnode n ∙ f.there;
+      own_is = f.own_is;
+      id_is = f.id_is;
+      epoch_is = f.epoch_is;
+      history_is = f.history_is ∙ sym same;
+      closed = f.closed;
+    }
+  ]
+
+  -- no reap comes to a fallback
+  updates-next : (away : IsAway run index w course opened) (place : ℕ) (worker : Worker) → slice_get next.workers place ≡ Some worker → (call : Call) → call_of worker.phase ≡ Some call
+      → call.site ≡ away.site → is_reap call.ask ≡ false
+  updates-next away place worker h call asked at = elim (set_cases w (pred number) p.worker now mine place worker h) [
+    | inl d ↦ by (turn w orderly number action r p).call (ap (λ (x : Worker). call_of x.phase) d.1 ∙ asked)
+    | inr d ↦ away.updates place worker d.1 call asked at
+  ]
+    where
+      there : slice_get w.vnodes call.site ≡ Some away.vnode.vnode
+      there = ap (λ k. slice_get w.vnodes k) at ∙ away.vnode.there
+
+      own : away.vnode.vnode.own ≡ index
+      own = route_own w orderly index away.site away.route_is away.vnode.vnode away.vnode.there
+
+      apart_test : (call.site == index) ≡ false
+      apart_test = other_test call.site index (λ e. away.other (sym e ∙ at))
+
+      by : CallIs action p.worker.phase p.turn.phase → call_of p.turn.phase ≡ Some call → is_reap call.ask ≡ false
+      by (inl same) k = away.updates (pred number) p.worker mine call (sym same ∙ k) at
+      by (inr (inl none)) k = absurd (no_call call (sym none ∙ k))
+      by (inr (inr new)) k =
+          let same : new.0 ≡ call = some_back new.0 call (sym new.1 ∙ k) in
+          elim (comes-to w orderly number action r p sends call (new.2 ∙ ap (λ (c : Call). Some c) same) index away.vnode.vnode there own) [
+            | inl sent ↦ sym (ap (λ b. not b && is_reap call.ask) apart_test) ∙ sent.1
+            | inr home ↦ absurd (away.other (sym home.0 ∙ at))
+          ]
+
+  own-next : IsOwn run index w course opened → (later : Course) → is_diverted later ≡ false → diversions_of later ≡ diversions_of course → fallback_of later (diversions_of course) ≡ fallback_of course (diversions_of course)
+      → IsOwn run index next later opened
+  own-next own later not_diverted same kept = record {
+    route_is = own.route_is;
+    not_diverted = not_diverted;
+    epoch_is = own.epoch_is ∙ (λ i. Some (opened (sym same i) + lives_begun (sym kept i)))
+        ∙ ap (λ n. Some (opened (diversions_of later) + lives_begun (fallback_of later n))) (sym same);
+  }
+
+  away-next : (away : IsAway run index w course opened) → (p.index ≡ away.site → p.turn.vnode.log ≡ p.vnode.log) → IsAway run index next course opened
+  away-next away same = record {
     site = away.site;
     route_is = away.route_is;
     other = away.other;
     diverted = away.diverted;
-    one = away.one;
-    vnode = vnode;
-    alone = alone-next run index w orderly number action r p course Shown run_is gives sends away;
-    updates = updates-next run index w orderly number action r p course Shown run_is gives sends away;
+    vnode = vnode-kept w orderly number action r p away.site (away_id run index) (opened count) (all_commands history) same away.vnode;
+    updates = updates-next away;
   }
-
-  -- a vnode whose log stays
-  vnode-kept : (site id : ℕ) (log : Log) → p.turn.vnode.log ≡ p.vnode.log → IsVnode w site id log → IsVnode next site id log
-  vnode-kept site id log same v = elim (same_or_other p.index site) [
-    | inl e ↦
-        let later = vnode-here run index w orderly number action r p site id log e v in
-        record {
-          vnode = later.vnode;
-          there = later.there;
-          id_is = later.id_is;
-          epoch_is = later.epoch_is;
-          log_is = later.log_is ∙ same ∙ ap (λ (x : Vnode). x.log) (is_there run index w orderly number action r p site id log e v) ∙ v.log_is;
-        }
-    | inr n ↦ vnode-there run index w orderly number action r p site id log n v
-  ]
-
-  -- or gets the event
-  vnode-grown : (site id : ℕ) (log : Log) (g : Grows run index w orderly number action r p) → p.index ≡ site → IsVnode w site id log → IsVnode next site id (Command g.event ∷ log)
-  vnode-grown site id log g e v =
-      let later = vnode-here run index w orderly number action r p site id log e v in
-      record {
-        vnode = later.vnode;
-        there = later.there;
-        id_is = later.id_is;
-        epoch_is = later.epoch_is;
-        log_is = later.log_is ∙ g.is
-            ∙ ap (λ (l : Log). Command g.event ∷ l) (ap (λ (x : Vnode). x.log) (is_there run index w orderly number action r p site id log e v) ∙ v.log_is);
-      }
-
-  abbrev primary_log : Log
-  primary_log = primary_of (partition_at run index) course
-
-  abbrev fallback_log : Log
-  fallback_log = all_commands (fallback_of course 1)
 
   -- the course stays where the logs do
-  remains : IsVnode next index primary primary_log → IsOwn run index next course ⊎ IsAway run index next course → Next course
-  remains vnode side = record {
-    still = λ key context s. s;
-    may_happen = run_is.may_happen;
-    vnode = vnode;
-    side = side;
+  remains : (p.index ≡ index → p.turn.vnode.log ≡ p.vnode.log) → ((away : IsAway run index w course opened) → p.index ≡ away.site → p.turn.vnode.log ≡ p.vnode.log) → IsNext course
+  remains home there = record {
+    number_is = refl;
+    side = elim run_is.side [
+      | inl own ↦ inl (own-next own course own.not_diverted refl refl)
+      | inr away ↦ inr (away-next away (there away))
+    ];
+    fallbacks = λ n one most last. was-kept course n refl (run_is.fallbacks n one most last);
+    lawful = λ partition agrees. let law = run_is.lawful partition agrees in record {
+      may_happen = law.may_happen;
+      vnode = vnode-kept w orderly number action r p index (home_id run index) 0 (primary_of partition course) home law.vnode;
+      still = λ key context s. s;
+    };
   }
 
-  same-next : p.turn.vnode.log ≡ p.vnode.log → Next course
-  same-next same = remains (vnode-kept index primary primary_log same run_is.vnode) (elim run_is.side [
-    | inl own ↦ inl (own-next own)
-    | inr away ↦ inr (away-next away (vnode-kept away.site fallback fallback_log same away.vnode))
-  ])
+  module _ (partition : Partition) (agrees : Agrees run index opened (diversions_of course) partition) where
+    abbrev law : IsLawful run index partition w course Shown
+    law = run_is.lawful partition agrees
 
-  primary-next : (g : Grows run index w orderly number action r p) → p.index ≡ index → IsOwn run index w course → Next (AtPrimary g.event ∷ course)
+    abbrev primary_log : Log
+    primary_log = primary_of partition course
+
+    -- the context of an event had been shown
+    gives-event : (g : Grows w orderly number action r p) → p.vnode.own ≡ index → (context : Context) → g.event.context ≡ Some context → WasShown partition course g.event.key context
+    gives-event g own context e =
+        subst (λ k. WasShown partition course k context) (sym g.key_is)
+        (law.calls (pred number) p.worker mine g.call g.asked p.vnode (ap (λ k. slice_get w.vnodes k) g.at ∙ p.vnode_is) own context (sym g.context_is ∙ e)).0
+
+    -- an event at the primary may happen
+    at-primary : (g : Grows w orderly number action r p) → p.index ≡ index → p.vnode.own ≡ index → IsOwn run index w course opened → MayHappen partition course (AtPrimary g.event)
+    at-primary g at mine own =
+        let event = g.event in
+        let known = as-known w orderly number action r p index (home_id run index) 0 primary_log at law.vnode in (
+          own.not_diverted,
+          (
+            by-primary run index opened count partition agrees (λ id epoch. Accepts (state_of id epoch primary_log) event.key event.context event.operation)
+                (known (λ id epoch l. Accepts (state_of id epoch l) event.key event.context event.operation) g.accepts),
+            by-primary run index opened count partition agrees (λ id epoch. event.saw ≡ saw_held id epoch primary_log event.key event.context event.operation)
+                (known (λ id epoch l. event.saw ≡ saw_held id epoch l event.key event.context event.operation) g.saw)
+                ∙ saw-course partition (ids run index opened count partition agrees) course law.may_happen event.key event.context event.operation,
+          ),
+          gives-event g mine,
+        )
+
+    -- and one at the fallback
+    at-fallback : (g : Grows w orderly number action r p) (away : IsAway run index w course opened) → p.index ≡ away.site → p.vnode.own ≡ index → MayHappen partition course (AtFallback g.event)
+    at-fallback g away at own =
+        let event = g.event in
+        let known = as-known w orderly number action r p away.site (away_id run index) (opened count) (all_commands history) at away.vnode in
+        let replays = legal-fallback partition course law.may_happen count in (
+          away.diverted,
+          g.update (away.updates (pred number) p.worker mine g.call g.asked (g.at ∙ at)),
+          subst (λ s. Accepts s event.key event.context event.operation) (log-replay partition.fallback (partition.opened count) history)
+              (by-fallback run index opened count partition agrees (λ id epoch. Accepts (state_of id epoch (all_commands history)) event.key event.context event.operation)
+              (known (λ id epoch l. Accepts (state_of id epoch l) event.key event.context event.operation) g.accepts)),
+          by-fallback run index opened count partition agrees (λ id epoch. event.saw ≡ saw_held id epoch (all_commands history) event.key event.context event.operation)
+              (known (λ id epoch l. event.saw ≡ saw_held id epoch l event.key event.context event.operation) g.saw)
+              ∙ saw-plain partition.fallback (partition.opened count) history event.key event.context event.operation replays,
+          gives-event g own,
+        )
+
+    -- a copier is inside the fallback, whose state its clock is of
+    copies_from : (c : Copies w orderly number action r p) → p.index ≡ index → (away : IsAway run index w course opened) → c.site ≡ away.site
+    copies_from c at away = some_back c.site away.site (sym (copied_route w orderly number action r p c) ∙ ap (λ k. slice_get w.routes k) (c.at ∙ at) ∙ away.route_is)
+
+    from-fallback : (c : Copies w orderly number action r p) → p.index ≡ index → (away : IsAway run index w course opened)
+        → (IsClockAt away.vnode.vnode.id away.vnode.vnode.last_epoch away.vnode.vnode.log c.key c.clock) × ((brought_by w p.worker).prefix ≡ history_of away.vnode.vnode)
+    from-fallback c at away =
+        from_there w orderly number action r p c away.vnode.vnode (ap (λ k. slice_get w.vnodes k) (copies_from c at away) ∙ away.vnode.there)
+
+    -- the copy is the one of its key
+    copy-is : (c : Copies w orderly number action r p) → p.index ≡ index → (away : IsAway run index w course opened) → p.turn.vnode.log ≡ Copied (copy_of partition course c.key) ∷ p.vnode.log
+    copy-is c at away =
+        let from = from-fallback c at away in
+        let clock = from.0.0 ∙ ap (λ s. clock_of s c.key) (away-state run index opened course partition agrees w away) in
+        let prefix = from.1 ∙ ap (λ (l : Log). commands_of l) away.vnode.log_is ∙ commands-all history in
+        let number_is : (brought_by w p.worker).diversion ≡ count =
+        ap (λ phase. diversions_at w (copied_to phase)) c.phase_is ∙ ap (diversions_at w) (c.at ∙ at) ∙ ap (λ o. option_map_or (λ (n : ℕ). n) o 0) run_is.number in
+        c.later_is ∙ (λ i. Copied (record { key = c.key; clock = clock i; diversion = number_is i; prefix = prefix i }) ∷ p.vnode.log)
+
+    -- and may happen
+    at-copy : (c : Copies w orderly number action r p) → p.index ≡ index → (away : IsAway run index w course opened) → MayHappen partition course (CopyBack c.key)
+    at-copy c at away =
+        let from = from-fallback c at away in
+        let known = as-known w orderly number action r p index (home_id run index) 0 primary_log at law.vnode in
+        let fallback_is = away-state run index opened course partition agrees w away in
+        let clock = from.0.0 ∙ ap (λ s. clock_of s c.key) fallback_is in (
+          away.diverted,
+          ap not (ap (λ d. is_stuck (primary_after partition primary_log) c.key d) (sym clock)
+              ∙ by-primary run index opened count partition agrees (λ id epoch. is_stuck (state_of id epoch primary_log) c.key c.clock ≡ false)
+              (known (λ id epoch l. is_stuck (state_of id epoch l) c.key c.clock ≡ false) c.open_there)),
+          ap (λ s. is_held s c.key) (sym fallback_is) ∙ from.0.1,
+        )
+
+  -- the step's vnode is of the partition
+  own-home : p.index ≡ index → p.vnode.own ≡ index
+  own-home at = (orderly.homes p.index p.vnode (subst (λ k. k < length w.routes) (sym at) run_is.known) p.vnode_is).0 ∙ at
+
+  own-away : (away : IsAway run index w course opened) → p.index ≡ away.site → p.vnode.own ≡ index
+  own-away away at =
+      ap (λ (v : Vnode). v.own) (is_there w orderly number action r p away.site away.vnode.vnode at away.vnode.there)
+      ∙ route_own w orderly index away.site away.route_is away.vnode.vnode away.vnode.there
+
+  primary-next : (g : Grows w orderly number action r p) → p.index ≡ index → IsOwn run index w course opened → IsNext (AtPrimary g.event ∷ course)
   primary-next g at own = record {
-    still = shown-later run index (AtPrimary g.event) course;
-    may_happen = (run_is.may_happen, at-primary run index w orderly number action r p course Shown run_is gives sends g at own);
-    vnode = vnode-grown index primary primary_log g at run_is.vnode;
-    side = inl (record {
-      route_is = own.route_is;
-      not_diverted = own.not_diverted;
-      none = own.none;
-      empty = own.empty;
-      only = ap (λ (l : Log). Command g.event ∷ l) own.only;
-    });
+    number_is = refl;
+    side = inl (own-next own (AtPrimary g.event ∷ course) own.not_diverted refl refl);
+    fallbacks = λ n one most last. was-kept (AtPrimary g.event ∷ course) n refl (run_is.fallbacks n one most last);
+    lawful = λ partition agrees. let law = run_is.lawful partition agrees in record {
+      may_happen = (law.may_happen, at-primary partition agrees g at (own-home at) own);
+      vnode = vnode-here w orderly number action r p index (home_id run index) 0 (primary_of partition course) (Command g.event ∷ primary_of partition course) at law.vnode
+          (λ was. g.is ∙ ap (λ (l : Log). Command g.event ∷ l) was);
+      still = shown-later run index partition (AtPrimary g.event) course;
+    };
   }
 
-  fallback-next : (g : Grows run index w orderly number action r p) (away : IsAway run index w course) → p.index ≡ away.site → p.index ≢ index → Next (AtFallback g.event ∷ course)
+  fallback-next : (g : Grows w orderly number action r p) (away : IsAway run index w course opened) → p.index ≡ away.site → p.index ≢ index → IsNext (AtFallback g.event ∷ course)
   fallback-next g away at n =
-      let longer : g.event ∷ fallback_of course 1 ≡ fallback_of (AtFallback g.event ∷ course) 1 = sym (ap (λ d. cond (d == 1) (g.event ∷ fallback_of course 1) (fallback_of course 1)) away.one) in
+      let later : Course = AtFallback g.event ∷ course in
+      let longer : g.event ∷ history ≡ fallback_of later count = sym (ap (λ b. cond b (g.event ∷ history) history) (same_test count count refl)) in
       record {
-        still = shown-later run index (AtFallback g.event) course;
-        may_happen = (run_is.may_happen, at-fallback run index w orderly number action r p course Shown run_is gives sends g away at);
-        vnode = vnode-there run index w orderly number action r p index primary primary_log n run_is.vnode;
+        number_is = refl;
         side = inr (record {
           site = away.site;
           route_is = away.route_is;
           other = away.other;
           diverted = away.diverted;
-          one = away.one;
-          vnode = subst (λ (h : History). IsVnode next away.site fallback (all_commands h)) longer (vnode-grown away.site fallback fallback_log g at away.vnode);
-          alone = alone-next run index w orderly number action r p course Shown run_is gives sends away;
-          updates = updates-next run index w orderly number action r p course Shown run_is gives sends away;
+          vnode = subst (λ (h : History). IsVnode next away.site (away_id run index) (opened count) (all_commands h)) longer
+              (vnode-here w orderly number action r p away.site (away_id run index) (opened count) (all_commands history) (Command g.event ∷ all_commands history) at away.vnode
+              (λ was. g.is ∙ ap (λ (l : Log). Command g.event ∷ l) was));
+          updates = updates-next away;
         });
-      }
-
-  copy-next : (c : Copies run index w orderly number action r p) (away : IsAway run index w course) → p.index ≡ index → Next (CopyBack c.key ∷ course)
-  copy-next c away at =
-      let later = vnode-here run index w orderly number action r p index primary primary_log at run_is.vnode in
-      record {
-        still = shown-later run index (CopyBack c.key) course;
-        may_happen = (run_is.may_happen, at-copy run index w orderly number action r p course Shown run_is gives sends c at away);
-        vnode = record {
-          vnode = later.vnode;
-          there = later.there;
-          id_is = later.id_is;
-          epoch_is = later.epoch_is;
-          log_is = later.log_is ∙ copy-is run index w orderly number action r p course Shown run_is gives sends c at away
-              ∙ ap (λ (l : Log). Copied (copy_of (partition_at run index) course c.key) ∷ l)
-              (ap (λ (x : Vnode). x.log) (is_there run index w orderly number action r p index primary primary_log at run_is.vnode) ∙ run_is.vnode.log_is);
+        fallbacks = λ m one most last.
+            was-kept later m (ap (λ b. cond b (g.event ∷ fallback_of course m) (fallback_of course m)) (other_test count m (λ e. last away.diverted (sym e)))) (run_is.fallbacks m one most last);
+        lawful = λ partition agrees. let law = run_is.lawful partition agrees in record {
+          may_happen = (law.may_happen, at-fallback partition agrees g away at (own-away away at));
+          vnode = vnode-there w orderly number action r p index (home_id run index) 0 (primary_of partition course) n law.vnode;
+          still = shown-later run index partition (AtFallback g.event) course;
         };
-        side = inr (record {
-          site = away.site;
-          route_is = away.route_is;
-          other = away.other;
-          diverted = away.diverted;
-          one = away.one;
-          vnode = vnode-there run index w orderly number action r p away.site fallback fallback_log (λ e. away.other (sym at ∙ e)) away.vnode;
-          alone = alone-next run index w orderly number action r p course Shown run_is gives sends away;
-          updates = updates-next run index w orderly number action r p course Shown run_is gives sends away;
-        });
       }
 
-  -- a copier copies to a partition that is diverted, and to no fallback
-  copies-well : (c : Copies run index w orderly number action r p) → CopiesWell w c.own c.site
-  copies-well c = orderly.copiers (pred number) p.worker (here w orderly number action r p) c.own c.site c.key (CopyTaken c.clock c.hand (Some c.next)) c.phase_is
-
-  not-own : (c : Copies run index w orderly number action r p) → p.index ≡ index → IsOwn run index w course → ⊥
-  not-own c at own =
-      let same = some_same c.site index (sym (copies-well c).0 ∙ ap (λ k. slice_get w.routes k) (c.at ∙ at) ∙ own.route_is) in
-      (copies-well c).1 (c.at ∙ at ∙ sym same)
-
-  not-away : (c : Copies run index w orderly number action r p) (away : IsAway run index w course) → p.index ≡ away.site → ⊥
-  not-away c away at = elim (run_is.apart index away.site away.route_is) [
-    | inl e ↦ away.other (sym e)
-    | inr past ↦ too_far c.own away.site (length w.routes) (get-below w.routes c.own c.site (copies-well c).0) past (c.at ∙ at)
-  ]
-    where
-      too_far : (a b n : ℕ) → a < n → n ≤ b → a ≡ b → ⊥
-      too_far a b n h k e = omega (arith, h, k, e)
-
-  -- elsewhere the course stays
-  elsewhere-next : p.index ≢ index → ((away : IsAway run index w course) → p.index ≡ away.site → ⊥) → Next course
-  elsewhere-next n never =
-      let there = vnode-there run index w orderly number action r p index primary primary_log n run_is.vnode in
-      remains there (elim run_is.side [
-        | inl own ↦ inl (own-next own)
-        | inr away ↦ inr (away-next away (vnode-there run index w orderly number action r p away.site fallback fallback_log (never away) away.vnode))
-      ])
+  copy-next : (c : Copies w orderly number action r p) (away : IsAway run index w course opened) → p.index ≡ index → IsNext (CopyBack c.key ∷ course)
+  copy-next c away at = record {
+    number_is = refl;
+    side = inr (record {
+      site = away.site;
+      route_is = away.route_is;
+      other = away.other;
+      diverted = away.diverted;
+      vnode = vnode-there w orderly number action r p away.site (away_id run index) (opened count) (all_commands history) (λ e. away.other (sym at ∙ e)) away.vnode;
+      updates = updates-next away;
+    });
+    fallbacks = λ n one most last. was-kept (CopyBack c.key ∷ course) n refl (run_is.fallbacks n one most last);
+    lawful = λ partition agrees. let law = run_is.lawful partition agrees in record {
+      may_happen = (law.may_happen, at-copy partition agrees c at away);
+      vnode = vnode-here w orderly number action r p index (home_id run index) 0 (primary_of partition course) (Copied (copy_of partition course c.key) ∷ primary_of partition course) at law.vnode
+          (λ was. copy-is partition agrees c at away ∙ ap (λ (l : Log). Copied (copy_of partition course c.key) ∷ l) was);
+      still = shown-later run index partition (CopyBack c.key) course;
+    };
+  }
 
   -- by an event
-  grown-next : (g : Grows run index w orderly number action r p) → (later : Course) × Next later
+  grown-next : (g : Grows w orderly number action r p) → (later : Course) × IsNext later
   grown-next g = elim (same_or_other p.index index) [
     | inl at ↦ elim run_is.side [
       | inl own ↦ (AtPrimary g.event ∷ course, primary-next g at own)
-      | inr away ↦ absurd (away.alone (pred number) p.worker (here w orderly number action r p) g.call g.asked (g.at ∙ at))
+      | inr away ↦ absurd (away.other (sym (g.at ∙ at)
+          ∙ apart.away index away.site away.route_is (λ e. away.other (sym e)) (pred number) p.worker mine g.call g.asked p.vnode (ap (λ k. slice_get w.vnodes k) g.at ∙ p.vnode_is) (own-home at)))
     ]
-    | inr n ↦
-        let there = vnode-there run index w orderly number action r p index primary primary_log n run_is.vnode in
-        elim run_is.side [
-          | inl own ↦ (course, remains there (inl (own-next own)))
-          | inr away ↦ elim (same_or_other p.index away.site) [
-            | inl at ↦ (AtFallback g.event ∷ course, fallback-next g away at n)
-            | inr m ↦ (course, remains there (inr (away-next away (vnode-there run index w orderly number action r p away.site fallback fallback_log m away.vnode))))
-          ]
-        ]
+    | inr n ↦ elim run_is.side [
+      | inl own ↦ (course, remains (λ e. absurd (n e)) (λ away e. absurd (away.other (some_back index away.site (sym own.route_is ∙ away.route_is)))))
+      | inr away ↦ elim (same_or_other p.index away.site) [
+        | inl at ↦ (AtFallback g.event ∷ course, fallback-next g away at n)
+        | inr m ↦ (course, remains (λ e. absurd (n e)) (λ other e. absurd (m (e ∙ some_back other.site away.site (sym other.route_is ∙ away.route_is)))))
+      ]
+    ]
   ]
 
   -- by a copy
-  copied-next : (c : Copies run index w orderly number action r p) → (later : Course) × Next later
+  copied-next : (c : Copies w orderly number action r p) → (later : Course) × IsNext later
   copied-next c = elim (same_or_other p.index index) [
     | inl at ↦ elim run_is.side [
-      | inl own ↦ absurd (not-own c at own)
+      | inl own ↦ absurd ((copied_fallback w orderly number action r p c).apart
+          (c.at ∙ at ∙ some_back index c.site (sym own.route_is ∙ ap (λ k. slice_get w.routes k) (sym (c.at ∙ at)) ∙ copied_route w orderly number action r p c)))
       | inr away ↦ (CopyBack c.key ∷ course, copy-next c away at)
     ]
-    | inr n ↦ (course, elsewhere-next n (not-away c))
+    | inr n ↦ (
+      course,
+      remains (λ e. absurd (n e)) (λ away e.
+          absurd (n (sym (orderly.homes p.index p.vnode (copied-home w orderly number action r p c) p.vnode_is).0 ∙ own-away away e))),
+    )
   ]
 
-  pub course-next : (later : Course) × Next later
-  course-next = elim (grown run index w orderly number action r p) [
-    | inl same ↦ (course, same-next same)
+  pub course-next : (later : Course) × IsNext later
+  course-next = elim (grown w orderly number action r p) [
+    | inl same ↦ (course, remains (λ e. same) (λ away e. same))
     | inr more ↦ elim more [
       | inl g ↦ grown-next g
       | inr c ↦ copied-next c
     ]
   ]
-
-  -- a context that the step shows
-  pub record IsShownNow (key : Key) (context : Context) : Type 0 where
-    pub site : ℕ
-    pub there : IsSiteOf w index site
-    pub call : Call
-    pub asked : call_at w number ≡ Some call
-    pub at : call.site ≡ site
-    pub of_key : key_of call.ask ≡ key
-    pub response : Response
-    pub replied : p.turn.outcome ≡ Replied (Ok response)
-    pub decodes : context_of (context_bytes response) ≡ Some context
-
-  pub record IsNamed (key : Key) (context : Context) (site : ℕ) : Type 0 where
-    pub at : p.index ≡ site
-    pub name : context ≡ (naming {V = Content} p.turn.vnode.id p.turn.vnode.last_epoch).name (history_of p.turn.vnode) key
-
-  -- the log where it is shown is of commands alone: that of a partition that isn't diverted, or of a fallback
-  only-before : (key : Key) (context : Context) (s : IsShownNow key context) → p.index ≡ s.site → CommandsAlone p.vnode.log
-  only-before key context s at = elim run_is.side [
-    | inl own ↦ by_own own (elim s.there [
-      | inl e ↦ at ∙ e
-      | inr route ↦ at ∙ some_same s.site index (sym route ∙ own.route_is)
-    ])
-    | inr away ↦ elim s.there [
-      | inl e ↦ absurd (away.alone (pred number) p.worker (here w orderly number action r p) s.call
-          (sym (call_is w orderly number action r p) ∙ s.asked) (s.at ∙ e))
-      | inr route ↦ by_away away (at ∙ some_same s.site away.site (sym route ∙ away.route_is))
-    ]
-  ]
-    where
-      by_own : IsOwn run index w course → p.index ≡ index → CommandsAlone p.vnode.log
-      by_own own e = subst CommandsAlone (sym (ap (λ (x : Vnode). x.log) (is_there run index w orderly number action r p index primary primary_log e run_is.vnode) ∙ run_is.vnode.log_is)) own.only
-
-      by_away : (away : IsAway run index w course) → p.index ≡ away.site → CommandsAlone p.vnode.log
-      by_away away e =
-          subst CommandsAlone (sym (ap (λ (x : Vnode). x.log) (is_there run index w orderly number action r p away.site fallback fallback_log e away.vnode) ∙ away.vnode.log_is))
-          (ap (λ (h : History). all_commands h) (sym (commands-all (fallback_of course 1))))
-
-  named-now : (key : Key) (context : Context) (s : IsShownNow key context) → CommandsAlone p.turn.vnode.log × IsNamed key context s.site
-  named-now key context s =
-      let a = reply_is w orderly number action r p (Ok s.response) s.replied in
-      let same : a.0 ≡ s.call = some_same a.0 s.call (sym a.1 ∙ s.asked) in
-      let t = turn w orderly number action r p in
-      let here_is : p.index ≡ s.site = sym a.2.at ∙ ap (λ (c : Call). c.site) same ∙ s.at in
-      let only = only-before key context s here_is in
-      let only_after = replied_alone run index w orderly number action r p (Ok s.response) s.replied only in
-      let name = held_shows p.vnode.id p.vnode.last_epoch (history_of p.turn.vnode) (key_of a.0.ask) (context_bytes s.response) context (orderly.vnodes p.index p.vnode p.vnode_is).limits
-      (replays_next w orderly number action r p only_after) (a.2.shows (plain w orderly number action r p only)) s.decodes in (
-        only_after,
-        record {
-          at = here_is;
-          name = name
-              ∙ ap (λ k. (naming {V = Content} p.vnode.id p.vnode.last_epoch).name (history_of p.turn.vnode) k) (ap (λ (c : Call). key_of c.ask) same ∙ s.of_key)
-              ∙ ap (λ i. (naming {V = Content} i p.vnode.last_epoch).name (history_of p.turn.vnode) key) (sym t.same_id)
-              ∙ ap (λ e. (naming {V = Content} p.turn.vnode.id e).name (history_of p.turn.vnode) key) (sym t.same_epoch);
-        },
-      )
-
-  -- by the vnode at its site afterwards
-  vnode-now : (site id : ℕ) (log : Log) → p.index ≡ site → (v : IsVnode next site id log) → p.turn.vnode ≡ v.vnode
-  vnode-now site id log e v = some_same p.turn.vnode v.vnode (sym (ap (λ k. slice_get next.vnodes k) (sym e) ∙ set-here w.vnodes p.index p.vnode p.turn.vnode p.vnode_is) ∙ v.there)
-
-  -- its log is of commands alone, where the step leaves one
-  only-now : CommandsAlone p.turn.vnode.log → (site id : ℕ) (log : Log) → p.index ≡ site → IsVnode next site id log → CommandsAlone log
-  only-now only site id log e v = subst CommandsAlone (ap (λ (x : Vnode). x.log) (vnode-now site id log e v) ∙ v.log_is) only
-
-  name-at : (key : Key) (context : Context) (site id : ℕ) (log : Log) → IsNamed key context site → IsVnode next site id log
-      → context ≡ (naming {V = Content} id 0).name (commands_of log) key
-  name-at key context site id log n v =
-      let same = vnode-now site id log n.at v in
-      n.name
-      ∙ ap (λ (x : Vnode). (naming {V = Content} x.id x.last_epoch).name (history_of x) key) same
-      ∙ ap (λ i. (naming {V = Content} i v.vnode.last_epoch).name (history_of v.vnode) key) v.id_is
-      ∙ ap (λ e. (naming {V = Content} id e).name (history_of v.vnode) key) v.epoch_is
-      ∙ ap (λ (l : Log). (naming {V = Content} id 0).name (commands_of l) key) v.log_is
-
-  shown-now : (later : Course) → Next later → (key : Key) (context : Context) → IsShownNow key context → WasShown (partition_at run index) later key context
-  shown-now later goes key context s =
-      let both = named-now key context s in
-      record { later = []; moment = later; is = refl; shown = by both.0 both.1 s.there }
-    where
-      at_primary : CommandsAlone p.turn.vnode.log → IsNamed key context index → context ≡ name_at (partition_at run index) (primary_of (partition_at run index) later) key
-      at_primary only named =
-          let log = primary_of (partition_at run index) later in
-          name-at key context index primary log named goes.vnode ∙ sym (name-primary run index later (commands_of log) key (only-now only index primary log named.at goes.vnode))
-
-      at_route : CommandsAlone p.turn.vnode.log → (site : ℕ) → IsNamed key context site → slice_get w.routes index ≡ Some site → IsOwn run index next later ⊎ IsAway run index next later
-          → (context ≡ name_at (partition_at run index) (primary_of (partition_at run index) later) key) ⊎ (context ≡ Pairs (clock_of (fallback_state (partition_at run index) later) key).known)
-      at_route only site named route (inl own) = inl (at_primary only (subst (λ k. IsNamed key context k) (some_same site index (sym route ∙ own.route_is)) named))
-      at_route only site named route (inr away) =
-          inr (name-at key context away.site fallback (all_commands (fallback_of later 1)) (subst (λ k. IsNamed key context k) (some_same site away.site (sym route ∙ away.route_is)) named) away.vnode
-          ∙ ap (λ (h : History). (naming {V = Content} fallback 0).name h key) (commands-all (fallback_of later 1))
-          ∙ ap (λ (x : State Content). Pairs (clock_of x key).known) (sym (state-fallback run index later (fallback_of later 1) away.one refl)))
-
-      by : CommandsAlone p.turn.vnode.log → IsNamed key context s.site → IsSiteOf w index s.site
-          → (context ≡ name_at (partition_at run index) (primary_of (partition_at run index) later) key) ⊎ (context ≡ Pairs (clock_of (fallback_state (partition_at run index) later) key).known)
-      by only named (inl e) = inl (at_primary only (subst (λ k. IsNamed key context k) e named))
-      by only named (inr route) = at_route only s.site named route goes.side
-
-  -- the context of a call
-  given_is : (call : Call) → action ≡ Asks call.site call.ask → given_in action call.site (key_of call.ask) ≡ context_in_ask call.ask
-  given_is call asks =
-      ap (λ a. given_in a call.site (key_of call.ask)) asks
-      ∙ ap (λ b. cond (b && key_eq (key_of call.ask) (key_of call.ask)) (context_in_ask call.ask) None) (same_test call.site call.site refl)
-      ∙ ap (λ b. cond b (context_in_ask call.ask) None) (key_eq-refl (key_of call.ask))
-
-  calls-next : (later : Course) → Next later → (place : ℕ) (worker : Worker) → slice_get next.workers place ≡ Some worker → (call : Call) → call_of worker.phase ≡ Some call
-      → IsSiteOf w index call.site → (context : Context) → context_in_ask call.ask ≡ Some context → WasShown (partition_at run index) later (key_of call.ask) context
-  calls-next later goes place worker h call asked there context e =
-      goes.still (key_of call.ask) context (elim (worker-next run index w orderly number action r p course Shown run_is gives sends place worker h) [
-        | inl same ↦ by (turn w orderly number action r p).call (ap (λ (x : Worker). call_of x.phase) same ∙ asked)
-        | inr old ↦ run_is.calls place worker old call asked there context e
-      ])
-    where
-      by : CallIs action (call_of p.worker.phase) (call_of p.turn.phase) → call_of p.turn.phase ≡ Some call → WasShown (partition_at run index) course (key_of call.ask) context
-      by (inl same) k = run_is.calls (pred number) p.worker (here w orderly number action r p) call (sym same ∙ k) there context e
-      by (inr (inl none)) k = absurd (none_call call (sym none ∙ k))
-      by (inr (inr new)) k =
-          let same : new.0 ≡ call = some_same new.0 call (sym new.1 ∙ k) in
-          let asks : action ≡ Asks call.site call.ask = new.2 ∙ ap (λ (c : Call). Asks c.site c.ask) same in
-          run_is.shown (key_of call.ask) context (gives call.site there (key_of call.ask) context (given_is call asks ∙ e))
-
-  -- so it is a run still
-  pub run-next : (later : Course) → Next later → (Later : Key → Context → Type 0)
-      → ((key : Key) (context : Context) → Later key context → IsShownNow key context ⊎ Shown key context) → IsRun run index next later Later
-  run-next later goes Later splits = record {
-    known = run_is.known;
-    apart = run_is.apart;
-    vnode = goes.vnode;
-    may_happen = goes.may_happen;
-    side = goes.side;
-    shown = λ key context s. elim (splits key context s) [
-      | inl now ↦ shown-now later goes key context now
-      | inr was ↦ goes.still key context (run_is.shown key context was)
-    ];
-    calls = calls-next later goes;
-  }

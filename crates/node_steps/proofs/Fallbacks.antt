@@ -11,64 +11,83 @@ use Rattle.node_steps.specs.declared.outcome.Outcome.TheVariants as outcomes
 use Rattle.node_steps.specs.declared.parts.Parts.{Parts}
 use Rattle.node_steps.specs.declared.phase.Phase.{Phase as RunPhase}
 use Rattle.node_steps.specs.declared.site.Site.{Site}
-use Rattle.node_steps.specs.World.{Vnode, World, fresh_vnode}
-use Rattle.node_steps.specs.Steps.{Diverts, Outcome, NotPossible, Happened, is_about, fallback_ids, diverted_by, diverted}
+use Rattle.node_steps.specs.World.{Phase, Vnode, World, fresh_vnode}
+use Rattle.node_steps.specs.Steps.{Diverts, Outcome, NotPossible, Happened, is_for, fallback_ids, diverted_by, diverted}
 use Rattle.node_steps.specs.Erased.{erase, erase_vnode}
 use Rattle.node_steps.specs.Returned.{returned}
 use Rattle.node_steps.specs.Running.{phase_of, vnode_of, worker_of}
 use Rattle.node_steps.specs.Parts.{AreFit, IsOpen, DivertsTo, TakesFitStep, world_in}
-use Rattle.node_steps.proofs.Erasing.{map-more}
-use Rattle.node_steps.proofs.Fitting.{at_some}
+use Rattle.node_steps.proofs.Mapped.{at_some, map-more, tested_same}
 use Rattle.node_steps.proofs.Stepping.{vnodes_itself, workers_itself, not_possible}
 
--- no worker of these has a call at the site
-abbrev pub are_free : (site : ℕ) → List RunPhase → Bool
-are_free site phases = list_all (λ worker. not (is_about site worker.phase)) (map worker_of phases)
+-- no worker of these has to do with a partition whose sites are these
+abbrev pub are_free : List Vnode → (index : ℕ) → List RunPhase → Bool
+are_free vnodes index phases = list_all (λ worker. not (is_for vnodes index 0 worker.phase)) (map worker_of phases)
 
 -- by the first of them, and the rest
-pub free_on : (site : ℕ) (phases rest : List RunPhase) (phase : RunPhase) (about : Bool) → phases ≡ phase ∷ rest → about ≡ is_about site (phase_of phase)
-    → are_free site phases ≡ not about && are_free site rest
-free_on site phases rest phase about split e = ap (are_free site) split ∙ ap (λ b. not b && are_free site rest) (sym e)
+pub free_on : (vnodes : List Vnode) (index : ℕ) (phases rest : List RunPhase) (phase : RunPhase) (about : Bool) → phases ≡ phase ∷ rest → about ≡ is_for vnodes index 0 (phase_of phase)
+    → are_free vnodes index phases ≡ not about && are_free vnodes index rest
+free_on vnodes index phases rest phase about split e = ap (are_free vnodes index) split ∙ ap (λ b. not b && are_free vnodes index rest) (sym e)
 
-pub none_left : (site : ℕ) (phases : List RunPhase) → phases ≡ [] → are_free site phases ≡ true
-none_left site phases e = ap (are_free site) e
+-- the sites from a place on
+abbrev pub for_from : (index : ℕ) → Phase → (at : ℕ) → List Site → Bool
+for_from index phase at sites = is_for (map vnode_of sites) index at phase
 
 module _ (parts : Parts) (index : ℕ) where
   abbrev w : World
   w = world_in parts
 
   abbrev free : Bool
-  free = are_free index parts.workers.items
+  free = are_free w.vnodes index parts.workers.items
 
-  abbrev tested : ℕ → Vnode → Option World
-  tested site vnode = cond ((site == index) && free) (Some (diverted_by w index vnode)) None
+  abbrev tested : ℕ → ℕ → Vnode → Option World
+  tested site epoch vnode = cond ((site == index) && free) (Some (diverted_by w index epoch vnode)) None
+
+  abbrev by_epoch : ℕ → Option ℕ → Option World
+  by_epoch site o = option_and_then (λ epoch. option_and_then (tested site epoch) (slice_get w.vnodes index)) o
 
   abbrev by_route : Option ℕ → Option World
-  by_route o = option_and_then (λ site. option_and_then (tested site) (slice_get w.vnodes index)) o
+  by_route o = option_and_then (λ site. by_epoch site (slice_get w.epochs index)) o
 
   -- there is no such partition
   pub no_route : slice_get parts.routes.items index ≡ None → diverted w index ≡ None
   no_route e = ap by_route e
 
-  -- its calls go elsewhere, or a worker has one there
-  pub not_free : (site : ℕ) → slice_get parts.routes.items index ≡ Some site → (site == index) && free ≡ false → diverted w index ≡ None
-  not_free site e test = ap by_route e ∙ by (slice_get w.vnodes index)
+  pub no_epoch : slice_get parts.epochs.items index ≡ None → diverted w index ≡ None
+  no_epoch e = by (slice_get w.routes index)
     where
-      by : (o : Option Vnode) → option_and_then (tested site) o ≡ None
+      by : (o : Option ℕ) → by_route o ≡ None
       by None = refl
-      by (Some vnode) = ap (λ b. cond b (Some (diverted_by w index vnode)) None) test
+      by (Some site) = ap (by_epoch site) e
+
+  -- its calls go elsewhere, or a worker has to do with it
+  pub not_free : (site : ℕ) → slice_get parts.routes.items index ≡ Some site → (site == index) && free ≡ false → diverted w index ≡ None
+  not_free site e test = ap by_route e ∙ by (slice_get w.epochs index)
+    where
+      by_vnode : (epoch : ℕ) (o : Option Vnode) → option_and_then (tested site epoch) o ≡ None
+      by_vnode epoch None = refl
+      by_vnode epoch (Some vnode) = ap (λ b. cond b (Some (diverted_by w index epoch vnode)) None) test
+
+      by : (o : Option ℕ) → by_epoch site o ≡ None
+      by None = refl
+      by (Some epoch) = by_vnode epoch (slice_get w.vnodes index)
 
   -- it has no vnode
   pub no_primary : (site : ℕ) → slice_get parts.routes.items index ≡ Some site → slice_get parts.sites.items index ≡ None → diverted w index ≡ None
-  no_primary site e none =
-      ap by_route e ∙ ap (λ o. option_and_then (tested site) o) (slice_get-map vnode_of parts.sites.items index ∙ ap (λ o. option_map vnode_of o) none)
+  no_primary site e none = ap by_route e ∙ by (slice_get w.epochs index)
+    where
+      by : (o : Option ℕ) → by_epoch site o ≡ None
+      by None = refl
+      by (Some epoch) =
+          ap (λ o. option_and_then (tested site epoch) o) (slice_get-map vnode_of parts.sites.items index ∙ ap (λ o. option_map vnode_of o) none)
 
-  module _ (site : ℕ) (primary : Site) (routed : slice_get parts.routes.items index ≡ Some site) (own : (site == index) && free ≡ true)
-      (there : slice_get parts.sites.items index ≡ Some primary) where
-    diverted_is : diverted w index ≡ Some (diverted_by w index (vnode_of primary))
+  module _ (site epoch : ℕ) (primary : Site) (routed : slice_get parts.routes.items index ≡ Some site) (behind : slice_get parts.epochs.items index ≡ Some epoch)
+      (own : (site == index) && free ≡ true) (there : slice_get parts.sites.items index ≡ Some primary) where
+    diverted_is : diverted w index ≡ Some (diverted_by w index epoch (vnode_of primary))
     diverted_is =
-        ap by_route routed ∙ ap (λ o. option_and_then (tested site) o) (at_some vnode_of parts.sites.items index primary there)
-        ∙ ap (λ b. cond b (Some (diverted_by w index (vnode_of primary))) None) own
+        ap by_route routed ∙ ap (by_epoch site) behind
+        ∙ ap (λ o. option_and_then (tested site epoch) o) (at_some vnode_of parts.sites.items index primary there)
+        ∙ ap (λ b. cond b (Some (diverted_by w index epoch (vnode_of primary))) None) own
 
     both_true : (a b : Bool) → a && b ≡ true → b ≡ true
     both_true true b h = h
@@ -78,17 +97,25 @@ module _ (parts : Parts) (index : ℕ) where
     taken_open None e n is = subst (λ o. IsOpen (vnode_of (record primary { place = o })).word) e is
     taken_open (Some hand) e n is = cc
 
-    -- its state is in a worker's hand, and no worker has a call there: that never is
-    pub not_taken : index < length parts.routes.items → primary.place ≡ None → AreFit parts → diverted w index ≡ None
-    not_taken below taken fit =
-        absurd (taken_open None taken refl (fit.left index primary below there (both_true (site == index) free own)).opened)
+    first_true : (a b : Bool) → a && b ≡ true → a ≡ true
+    first_true true b h = refl
+    first_true false b h = cc
 
-    -- it is diverted to a fallback of this id
-    pub to_fallback : index < length parts.routes.items → (hand : Box Hand) → primary.place ≡ Some hand
-        → (id : ℕ) → (hand.value.state.vnode + fallback_ids < 2 ^ 64 → id ≡ hand.value.state.vnode + fallback_ids) → AreFit parts → DivertsTo w index id
-    to_fallback below hand in_place id is fit =
+    -- its calls go to its own site
+    own_route : slice_get parts.routes.items index ≡ Some index
+    own_route = routed ∙ ap (λ n. Some n) (tested_same site index (first_true (site == index) free own))
+
+    -- its state is in a worker's hand, and no worker has to do with it: that never is
+    pub not_taken : primary.place ≡ None → AreFit parts → diverted w index ≡ None
+    not_taken taken fit =
+        absurd (taken_open None taken refl (fit.left index primary own_route there (both_true (site == index) free own)).opened)
+
+    -- it is diverted to a fallback of this id, opened behind this epoch
+    pub to_fallback : (hand : Box Hand) → primary.place ≡ Some hand
+        → (id : ℕ) → (hand.value.state.vnode + fallback_ids < 2 ^ 64 → id ≡ hand.value.state.vnode + fallback_ids) → AreFit parts → DivertsTo w index id epoch
+    to_fallback hand in_place id is fit =
         let place : (vnode_of primary).place.vnode ≡ hand.value.state.vnode = ap (λ o. (vnode_of (record primary { place = o })).place.vnode) in_place in
-        let fits = (fit.left index primary below there (both_true (site == index) free own)).id_fits in
+        let fits = (fit.left index primary own_route there (both_true (site == index) free own)).id_fits in
         record {
           primary = vnode_of primary;
           diverted_is = diverted_is;
@@ -103,21 +130,22 @@ module _ (parts : Parts) (index : ℕ) where
 
   -- a partition that can't be diverted stays
   pub not_diverted : diverted w index ≡ None → TakesFitStep parts (Diverts index) outcomes.No parts
-  not_diverted e fit = not_possible parts.sites.items parts.routes.items parts.workers.items (Diverts index) (ap with_happened e)
+  not_diverted e fit = not_possible parts.sites.items parts.routes.items parts.epochs.items parts.workers.items (Diverts index) (ap with_happened e)
 
   -- a fallback stands at a new site, and the calls go there
-  pub is_diverted : (new : Parts) (id : ℕ) (fallback : Site) → (AreFit parts → DivertsTo w index id) → vnode_of fallback ≡ erase_vnode (fresh_vnode id 0)
+  pub is_diverted : (new : Parts) (id epoch : ℕ) (fallback : Site) → (AreFit parts → DivertsTo w index id epoch) → vnode_of fallback ≡ erase_vnode (fresh_vnode id index epoch)
       → new.sites.items ≡ parts.sites.items ++ fallback ∷ [] → new.routes.items ≡ slice_set parts.routes.items index (length parts.sites.items)
-      → new.workers.items ≡ parts.workers.items → TakesFitStep parts (Diverts index) outcomes.Done new
-  is_diverted new id fallback to is sites routes workers fit =
+      → new.epochs.items ≡ parts.epochs.items → new.workers.items ≡ parts.workers.items → TakesFitStep parts (Diverts index) outcomes.Done new
+  is_diverted new id epoch fallback to is sites routes epochs workers fit =
       let d = to fit in
       let count = ap (λ n. slice_set parts.routes.items index n) (sym (length-map parts.sites.items vnode_of)) in
       let all_routes = routes ∙ count in
       let vnodes = ap (λ ss. map vnode_of ss) sites ∙ map-more vnode_of parts.sites.items fallback
-      ∙ (λ i. vnodes_itself parts.sites.items i ++ (is ∙ ap (λ n. erase_vnode (fresh_vnode n 0)) d.id_is) i ∷ [])
-      ∙ sym (map-more erase_vnode (map vnode_of parts.sites.items) (fresh_vnode (d.primary.place.vnode + fallback_ids) 0)) in
+      ∙ (λ i. vnodes_itself parts.sites.items i ++ (is ∙ ap (λ n. erase_vnode (fresh_vnode n index epoch)) d.id_is) i ∷ [])
+      ∙ sym (map-more erase_vnode (map vnode_of parts.sites.items) (fresh_vnode (d.primary.place.vnode + fallback_ids) index epoch)) in
       let phases = ap (λ ps. map worker_of ps) workers ∙ workers_itself parts.workers.items in
-      let later : world_in new ≡ erase (diverted_by w index d.primary) = λ i. record { vnodes = vnodes i; routes = all_routes i; workers = phases i } in
+      let later : world_in new ≡ erase (diverted_by w index epoch d.primary) =
+      λ i. record { vnodes = vnodes i; routes = all_routes i; epochs = epochs i; diversions = []; workers = phases i } in
       record {
         returns_is = sym (ap (λ o. returned (option_map_or (λ (r : Result). r.1) (with_happened o) NotPossible)) d.diverted_is);
         world_is = later ∙ sym (ap (λ o. erase (option_map_or (λ (r : Result). r.0) (with_happened o) w)) d.diverted_is);

@@ -1,22 +1,25 @@
 -- What is always true of a world is true of the first.
-use Rattle.std.proofs.Common.{◌≡◌, ℕ, zero, suc, ◌+◌, ◌^◌, ◌<◌, ◌≤◌, true, List, [], length, refl, sym, ◌∙◌, ap, arith, subst}
+use Rattle.std.proofs.Common.{◌≡◌, inl, ℕ, zero, suc, ◌+◌, ◌^◌, ◌<◌, ◌≤◌, true, List, [], length, refl, sym, ◌∙◌, ap, arith, subst}
 use Rattle.std.specs.Prelude.{Some, slice_get, replicate}
-use Rattle.riak_msgs.specs.declared.Key.{Key}
+use Rattle.actor_epoch.specs.Limits.{max_epoch}
+use Rattle.vnode_machine.specs.Sound.{IsSound as IsSoundState}
+use Rattle.vnode_machine.proofs.Formed.{sound-opening}
 use Rattle.vnode_machine.specs.Replay.{IsWithinLimits}
-use Rattle.node_steps.specs.World.{CopyStage, Idle, Copying, Vnode, Worker, CommandsAlone, fresh_vnode, fresh_worker, id_of, opening_vnodes, own_sites, opening_world, seen_at}
+use Rattle.node_steps.specs.World.{Idle, Vnode, Worker, CommandsAlone, fresh_vnode, fresh_worker, id_of, opening_vnodes, own_sites, opening_world, seen_at}
 use Rattle.node_steps.specs.Steps.{is_about, fallback_ids}
 use Rattle.node_steps.specs.Schedules.{Start, IsStart}
 use Rattle.node_steps.proofs.Lists.{how_many, counted_none, get-replicate}
-use Rattle.node_steps.proofs.Own.{length-own, length-opening}
+use Rattle.node_steps.proofs.Own.{length-own, length-opening, own_is, from_zero}
 use Rattle.node_steps.proofs.Beginnings.{begins-itself}
-use Rattle.node_steps.proofs.Inside.{is_reader, is_holder, reads, holds, IsSound, sound-fresh, IsPlain, plain-fresh, IsAware}
+use Rattle.node_steps.proofs.Inside.{is_reader, is_holder, reads, holds, IsSound, sound-fresh, IsPlain, plain-fresh, IsAware, state_of, IsOpenAt}
+use Rattle.node_steps.proofs.Coming.{between_in}
 use Rattle.node_steps.proofs.Kept.{IsOrderly}
 
 -- a vnode of the opening world is a fresh one
 pub opened : (run from count index : ℕ) (vnode : Vnode) → slice_get (opening_vnodes run from count) index ≡ Some vnode
-    → (index < count) × (vnode ≡ fresh_vnode (id_of run (from + index)) 0)
+    → (index < count) × (vnode ≡ fresh_vnode (id_of run (from + index)) (from + index) 0)
 opened run from zero index vnode h = cc
-opened run from (suc count) zero vnode h = (omega arith, sym (same h) ∙ ap (λ n. fresh_vnode (id_of run n) 0) (plain from))
+opened run from (suc count) zero vnode h = (omega arith, sym (same h) ∙ ap (λ n. fresh_vnode (id_of run n) n 0) (plain from))
   where
     same : {a b : Vnode} → Some a ≡ Some b → a ≡ b
     same e = cc
@@ -25,7 +28,7 @@ opened run from (suc count) zero vnode h = (omega arith, sym (same h) ∙ ap (λ
     plain n = omega arith
 opened run from (suc count) (suc index) vnode h =
     let rest = opened run (from + 1) count index vnode h in
-    (omega (arith, rest.0), rest.1 ∙ ap (λ n. fresh_vnode (id_of run n) 0) (shift from index))
+    (omega (arith, rest.0), rest.1 ∙ ap (λ n. fresh_vnode (id_of run n) n 0) (shift from index))
   where
     shift : (a b : ℕ) → (a + 1) + b ≡ a + suc b
     shift a b = omega arith
@@ -42,8 +45,11 @@ same_length a b n h k = omega (arith, h, k)
 idle_nowhere : (site : ℕ) → is_about site Idle ≡ true → ⊥
 idle_nowhere site h = cc
 
-not_idle : (own site : ℕ) (key : Key) (stage : CopyStage) → Idle ≡ Copying own site key stage → ⊥
-not_idle own site key stage h = cc
+not_between : (own site : ℕ) → between_in Idle ≡ Some (own, site) → ⊥
+not_between own site h = cc
+
+plainly : (index n : ℕ) → index < n → 0 + index < n
+plainly index n h = omega (arith, h)
 
 nobody : (index : ℕ) (count : ℕ) (worker : Worker) → worker.phase ≡ Idle → how_many (reads index) (replicate count worker) ≡ 0
 nobody index count worker h = counted_none (reads index) count worker (ap (is_reader index) h)
@@ -58,7 +64,7 @@ orderly-opening start is =
       vnodes = λ index vnode h.
           let o = opened start.run 0 start.vnodes index vnode h in
           subst (λ v. IsSound (how_many (reads index) all) (how_many (holds index) all) v) (sym o.1)
-          (sound-fresh (id_of start.run (0 + index)) 0 (how_many (reads index) all) (how_many (holds index) all) (within start.run index start.vnodes is.run is.vnodes o.0)
+          (sound-fresh (id_of start.run (0 + index)) (0 + index) 0 (how_many (reads index) all) (how_many (holds index) all) (within start.run index start.vnodes is.run is.vnodes o.0)
           (nobody index start.workers fresh_worker refl) (nobody_holds index start.workers fresh_worker refl));
       workers = λ place worker k index vnode h.
           let o = opened start.run 0 start.vnodes index vnode h in
@@ -68,8 +74,21 @@ orderly-opening start is =
       plain = λ index vnode h.
           subst (λ (v : Vnode). CommandsAlone v.log → IsPlain v.id v.last_epoch v.log) (sym (opened start.run 0 start.vnodes index vnode h).1)
           (λ only. plain-fresh (id_of start.run (0 + index)) 0);
-      copiers = λ place worker k own site key stage h.
-          absurd (not_idle own site key stage (ap (λ (x : Worker). x.phase) (sym (get-replicate start.workers place fresh_worker worker k)) ∙ h));
+      sound = λ index vnode h.
+          let o = opened start.run 0 start.vnodes index vnode h in
+          subst (λ (v : Vnode). IsSoundState (state_of v.id v.last_epoch v.log)) (sym o.1) (sound-opening (id_of start.run (0 + index)) 0 (within start.run index start.vnodes is.run is.vnodes o.0));
+      between = λ place worker k own site h.
+          absurd (not_between own site (ap (λ (x : Worker). between_in x.phase) (sym (get-replicate start.workers place fresh_worker worker k)) ∙ h));
+      owned = λ index vnode h.
+          let o = opened start.run 0 start.vnodes index vnode h in
+          subst (λ n. vnode.own < n) (sym (length-own 0 start.vnodes)) (subst (λ (v : Vnode). v.own < start.vnodes) (sym o.1) (plainly index start.vnodes o.0));
+      homes = λ index vnode below h.
+          let o = opened start.run 0 start.vnodes index vnode h in
+          subst (λ (v : Vnode). (v.own ≡ index) × IsOpenAt v.id v.last_epoch v.log) (sym o.1) (from_zero index, refl);
+      routed_to = λ own site h. inl (own_is 0 start.vnodes own site h ∙ from_zero own);
+      opens = λ site vnode h n clear.
+          let o = opened start.run 0 start.vnodes site vnode h in absurd (n (ap (λ (v : Vnode). v.own) o.1 ∙ from_zero site));
+      limited = λ index epoch h. subst (λ n. n ≤ max_epoch) (sym (get-replicate start.vnodes index 0 epoch h)) (omega arith);
       bounds = λ index vnode below h.
           let o = opened start.run 0 start.vnodes index vnode h in
           subst (λ (v : Vnode). v.id + fallback_ids < 2 ^ 64) (sym o.1) (bounded start.run index start.vnodes is.run is.vnodes o.0);

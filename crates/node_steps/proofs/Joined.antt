@@ -1,7 +1,7 @@
 -- What the laws of copies say of a run's course, at its logs.
-use Rattle.std.proofs.Common.{ℕ, ◌+◌, ◌*◌, ◌^◌, ◌<◌, [], sym, ◌∙◌, arith, subst}
+use Rattle.std.proofs.Common.{◌≡◌, ℕ, ◌+◌, ◌*◌, ◌^◌, ◌<◌, ◌≤◌, [], sym, ◌∙◌, arith, subst}
 use Rattle.riak_msgs.specs.declared.Key.{Key}
-use Rattle.vnode_machine.specs.Replay.{IsWithinLimits}
+use Rattle.actor_epoch.specs.Limits.{max_epoch}
 use Rattle.copy_laws.specs.Sides.{Partition}
 use Rattle.copy_laws.specs.CopyReplay.{NamesPositions}
 use Rattle.copy_laws.specs.Diversions.{Course, fallback_of, primary_of}
@@ -16,47 +16,52 @@ use Rattle.copy_laws.proofs.Leaving.{courses_leave_only_seen, fallbacks_leave_on
 use Rattle.node_steps.specs.World.{World, id_of, log_at}
 use Rattle.node_steps.specs.Steps.{fallback_ids}
 use Rattle.node_steps.specs.Schedules.{Start, IsStart, world_after}
-use Rattle.node_steps.specs.Courses.{partition_of, IsCourseOf}
+use Rattle.node_steps.specs.Courses.{IsCourseOf, CallsMayBeAsked}
 use Rattle.node_steps.specs.HandOffs.{AnswersAsRegister, HandsOff, PartitionsHandOff}
 use Rattle.node_steps.proofs.CourseLaw.{runs_are_courses}
-
-above : (n : ℕ) → n < n + fallback_ids
-above n = omega arith
 
 low : (run index vnodes : ℕ) → run < 2 ^ 32 → vnodes < 2 ^ 16 → index < vnodes → run * 65536 + index + fallback_ids < 2 ^ 64
 low run index vnodes r v i = omega (arith, r, v, i)
 
-lower : (n m : ℕ) → n + fallback_ids < m → n < m
-lower n m h = omega (arith, h)
+lower : (n m k : ℕ) → k ≡ n → n + fallback_ids < m → k < m
+lower n m k e h = omega (arith, e, h)
 
-no_epoch : (n : ℕ) → n < 2 ^ 64 → IsWithinLimits n 0
-no_epoch n h = (h, omega arith)
+same_low : (n m k : ℕ) → k ≡ n + fallback_ids → n + fallback_ids < m → k < m
+same_low n m k e h = omega (arith, e, h)
 
-within : (start : Start) → IsStart start → (index : ℕ) → index < start.vnodes → AreWithinLimits (partition_of start.run index)
-within start is index known =
-    let small = low start.run index start.vnodes is.run is.vnodes known in
-    record { primary = no_epoch (id_of start.run index) (lower (id_of start.run index) (2 ^ 64) small); fallbacks = λ n below. no_epoch (id_of start.run index + fallback_ids) small }
+zero_epoch : (n : ℕ) → n ≡ 0 → n ≤ max_epoch
+zero_epoch n e = omega (arith, e)
 
-module _ (start : Start) (is : IsStart start) (index : ℕ) (known : index < start.vnodes) (course : Course) where
-  abbrev partition : Partition
-  partition = partition_of start.run index
+above : (a b n : ℕ) → a ≡ n → b ≡ n + fallback_ids → a < b
+above a b n e f = omega (arith, e, f)
 
-  abbrev ids : partition.primary < partition.fallback
-  ids = above (id_of start.run index)
+module _ (start : Start) (is : IsStart start) (index : ℕ) (known : index < start.vnodes) (partition : Partition) (course : Course) (w : World)
+    (of : IsCourseOf partition start.run w index course) (asked : CallsMayBeAsked partition w index course) where
+  within : AreWithinLimits partition
+  within =
+      let small = low start.run index start.vnodes is.run is.vnodes known in
+      record {
+        primary = (lower (id_of start.run index) (2 ^ 64) partition.primary of.primary_id small, zero_epoch partition.last_epoch of.first_epoch);
+        fallbacks = λ n below.
+            (same_low (id_of start.run index) (2 ^ 64) partition.fallback of.fallback_id small, of.limits n (subst (λ m. n ≤ m) of.diversions below));
+      }
+
+  ids : partition.primary < partition.fallback
+  ids = above partition.primary partition.fallback (id_of start.run index) of.primary_id of.fallback_id
 
   abbrev log : Log
   log = primary_of partition course
 
-  answers : (w : World) → IsCourseOf partition w index course → AnswersAsRegister partition course log
-  answers w of = record {
+  answers : AnswersAsRegister partition course log
+  answers = record {
     gets = courses_answer_gets partition course ids of.may_happen;
-    puts = courses_answer_puts partition course ids (within start is index known) of.may_happen;
-    deletes = courses_answer_dels partition course ids (within start is index known) of.may_happen;
+    puts = courses_answer_puts partition course ids within of.may_happen;
+    deletes = courses_answer_dels partition course ids within of.may_happen;
     reaps = courses_reap_dead partition course ids of.may_happen;
   }
 
-  hands_off : (w : World) → IsCourseOf partition w index course → HandsOff partition w index
-  hands_off w of =
+  hands_off : HandsOff partition start.run w index
+  hands_off =
       let by_key = courses_are_hand_offs partition course ids of.may_happen in
       let any : Key = record { bucket_type = []; bucket = []; key = [] } in
       record {
@@ -66,7 +71,8 @@ module _ (start : Start) (is : IsStart start) (index : ℕ) (known : index < sta
         rise = (by_key any).1;
         names = subst (NamesPositions partition) of.primary (courses_name_positions partition course ids of.may_happen);
         shows = λ key. subst (λ l. ShowsSiblings partition l (fallback_of course) key l) of.primary (courses_show partition course ids of.may_happen key);
-        answers = subst (λ l. AnswersAsRegister partition course l) of.primary (answers w of);
+        answers = subst (λ l. AnswersAsRegister partition course l) of.primary answers;
+        asked = asked;
         apart = λ key. dots_stand_apart partition (log_at w index) (fallback_of course) key (by_key key).1;
         leaves = λ key later between position e. courses_leave_only_seen partition course ids of.may_happen key later between position (e ∙ sym of.primary);
         leaves_there = fallbacks_leave_only_seen partition course;
@@ -75,4 +81,5 @@ module _ (start : Start) (is : IsStart start) (index : ℕ) (known : index < sta
 
 pub partitions_hand_off : PartitionsHandOff
 partitions_hand_off start is schedule index known gives =
-    let run = runs_are_courses start is schedule index known gives in hands_off start is index known run.0 (world_after start schedule) run.1
+    let run = runs_are_courses start is schedule index known gives in
+    (run.0, hands_off start is index known run.0 run.1 (world_after start schedule) run.2 run.3)

@@ -19,9 +19,8 @@ use Rattle.vnode_machine.proofs.LiveDots.{live_are_siblings}
 use Rattle.vnode_machine.proofs.LeavingLaw.{leaves_only_covered}
 use Rattle.node_steps.specs.World.{World, id_at, last_epoch_at, history_at}
 use Rattle.node_steps.specs.Claims.{IsSiblingNoMore, ValuesLeaveOnlyCovered}
-
-same_number : (a b : ℕ) → (a == b) ≡ true → a ≡ b
-same_number a b h = grind (arith, nat_tests)
+use Rattle.node_steps.proofs.Lifting.{HaveReplays}
+use Rattle.std.proofs.lemmas.Bool.{eqb-true as same_number}
 
 not_both : (b : Bool) → b ≡ true → not b ≡ true → ⊥
 not_both true h k = cc
@@ -68,6 +67,6 @@ module _ (id epoch : ℕ) (history between position : History) (key : Key) (numb
     | inr saw ↦ saw
   ]
 
-pub values_leave_only_covered : (w : World) → ((index : ℕ) → HasReplay (id_at w index) (last_epoch_at w index) (history_at w index)) → ValuesLeaveOnlyCovered w
-values_leave_only_covered w replays = λ index between position key number leaves.
-    covered (id_at w index) (last_epoch_at w index) (history_at w index) between position key number (replays index) leaves
+pub values_leave_only_covered : (w : World) → HaveReplays w → ValuesLeaveOnlyCovered w
+values_leave_only_covered w replays = λ index between position key number first leaves.
+    covered (id_at w index) (last_epoch_at w index) (history_at w index) between position key number (replays index first) leaves

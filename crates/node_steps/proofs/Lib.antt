@@ -1,4 +1,5 @@
 pub mod Lists
+pub mod Mapped
 pub mod Beginnings
 pub mod Shown
 pub mod Inside
@@ -6,10 +7,12 @@ pub mod Accepting
 pub mod Unmixed
 pub mod Coming
 pub mod Turns
+pub mod LookTurns
 pub mod CopyTurns
 pub mod EachTurn
 pub mod Own
 pub mod Kept
+pub mod KeptSteps
 pub mod FirstWorld
 pub mod Diverting
 pub mod Scheduled
@@ -19,14 +22,29 @@ pub mod Leaving
 pub mod Showing
 pub mod CopyErasing
 pub mod Erasing
+pub mod CallSites
+pub mod CallsApart
+pub mod CloseErasing
+pub mod CloseSteps
+pub mod CloseTurns
+pub mod Closes
+pub mod CourseCloses
+pub mod CourseDiverts
+pub mod CourseShows
+pub mod ErasedSteps
+pub mod Growing
+pub mod Judged
+pub mod Quiet
 pub mod Coursing
 pub mod CourseSteps
 pub mod CourseLaw
 pub mod Joined
 pub mod Uncopied
+pub mod Firsts
 pub mod Replaying
 pub mod Rows
 pub mod CopyRows
+mod CloseRows
 mod Fitting
 mod Following
 mod Looking
@@ -37,8 +55,12 @@ mod Stepping
 mod Finding
 mod Asking
 mod CopyAsking
+mod RunCloses
+mod Taking
 mod Preparing
 mod Syncing
+mod Sighting
+mod Lefts
 mod Fallbacks
 mod Opening
 mod RunsOn

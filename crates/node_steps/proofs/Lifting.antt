@@ -1,10 +1,9 @@
 -- The claims that speak of one step: from the turn to the world.
 use Rattle.std.proofs.Common.{◌≡◌, ◌≢◌, ◌⊎◌, inl, inr, ℕ, zero, suc, ◌+◌, ◌<◌, true, List, [], ◌∷◌, ◌++◌, length, refl, sym, ◌∙◌, ap, arith, subst}
-use Rattle.std.specs.Prelude.{◌==◌, pred, Option, Some, None, Result, option_map, slice_get}
+use Rattle.std.specs.Prelude.{pred, Option, Some, None, Result, option_map, slice_get}
 use Rattle.std.specs.Option.{option_map_or}
-use Rattle.std.proofs.lemmas.Option.{some_pair_parts}
+use Rattle.std.proofs.lemmas.Option.{some_pair_parts, same_Some as same_call}
 use Rattle.riak_msgs.specs.Contents.{Content}
-use Rattle.riak_msgs.specs.declared.Key.{Key}
 use Rattle.vnode_machine.specs.Machine.{State, opening, clock_of, stored}
 use Rattle.vnode_machine.specs.Replay.{replay, HasReplay}
 use Rattle.vnode_machine.specs.Step.{Response}
@@ -13,34 +12,39 @@ use Rattle.vnode_machine.proofs.Legals.{replay_is_legal}
 use Rattle.vnode_machine.proofs.DifferentDots.{no_dot_twice}
 use Rattle.vnode_machine.proofs.LiveDots.{dots_are_of_lives}
 use Rattle.vnode_machine.proofs.Steps.{known, alive, held_by}
-use Rattle.copy_laws.specs.Copies.{Copied}
+use Rattle.copy_laws.specs.Copies.{Command, Copied, Closed}
 use Rattle.copy_laws.specs.CopyReplay.{state_with}
 use Rattle.copy_laws.specs.Joining.{Log}
-use Rattle.node_steps.specs.World.{CopyStage, CopyAsked, CopyInside, CopyLooked, CopyTaken, CopyDone, Phase, Idle, Asked, Reading, Holding, Done, Copying, Vnode, Worker, World, CommandsAlone, Call, fresh_vnode, worker_at, id_at, last_epoch_at, log_at, history_at, front_at, call_of, call_at, seen_at, copied_from, brought_by, history_of}
-use Rattle.node_steps.specs.Steps.{Action, Diverts, Outcome, NotPossible, Happened, Replied, NotHeld, StuckThere, CopiedBack, Turn, is_about, seeing, turned, fallback_ids, diverted, after}
+use Rattle.node_steps.specs.World.{CopyAsked, CopyInside, CopyLooked, CopyTaken, CopyDone, CloseAsked, CloseTaken, CloseInside, CloseLooked, CloseDone, Phase, Idle, Asked, Reading, Holding, Done, Turned, Copying, Closing, Vnode, Worker, World, CommandsAlone, Call, fresh_vnode, worker_at, id_at, last_epoch_at, log_at, history_at, front_at, call_of, call_at, seen_at, copied_from, brought_by, history_of}
+use Rattle.node_steps.specs.Steps.{Action, Diverts, Outcome, NotPossible, Happened, Replied, NotHeld, StuckThere, CopiedBack, Elsewhere, LeftThere, Turn, seeing, turned, fallback_ids, diverted, after}
 use Rattle.node_steps.specs.Schedules.{Begins}
-use Rattle.node_steps.specs.Claims.{HistoriesAreLegal, IsReplayOf, LooksShowReplays, state_shown, CopiesIn, NoDotIsIssuedTwice, LivesAreOfDefinedKeys}
+use Rattle.node_steps.specs.Claims.{CommandsFirst, HistoriesAreLegal, IsReplayOf, LooksShowReplays, state_at, state_shown, hand_shown, CopiesIn, NoDotIsIssuedTwice, LivesAreOfDefinedKeys}
 use Rattle.node_steps.proofs.Lists.{how_many, set-here, set-there, same_or_other, counted_one}
-use Rattle.node_steps.proofs.Inside.{is_reader, reads, holds, state_of, replayed, IsInHand, IsClockAt, HasSeen, same_test, or_true, IsPlain, IsAware}
-use Rattle.node_steps.proofs.Coming.{IsReplyTo, CopyIs, Comes}
+use Rattle.node_steps.proofs.Inside.{is_reader, reads, holds, state_of, replayed, IsInHand, IsClockAt, HasSeen, same_test, IsPlain, IsAware, alone-before, copied-mixed, closed-mixed}
+use Rattle.node_steps.proofs.Coming.{between_in, IsReplyTo, CopyIs, Comes}
 use Rattle.node_steps.proofs.Turns.{IsTurn, place_read}
-use Rattle.node_steps.proofs.Kept.{IsOrderly, IsPossible, seeing-here, at_place, turn_at}
+use Rattle.node_steps.proofs.Kept.{IsFallback, IsOrderly, IsPossible, seeing-here, at_place}
+use Rattle.node_steps.proofs.KeptSteps.{turn_at}
 use Rattle.node_steps.proofs.Diverting.{diversion}
 
-pub histories_are_legal : (w : World) → ((index : ℕ) → HasReplay (id_at w index) (last_epoch_at w index) (history_at w index)) → HistoriesAreLegal w
-histories_are_legal w replays = λ index.
-    (replays index, replay_is_legal (id_at w index) (last_epoch_at w index) (history_at w index) (replays index))
+-- the history at each site where no command follows a copy has a replay
+abbrev pub HaveReplays : World → Type 0
+HaveReplays w = (site : ℕ) → CommandsFirst (log_at w site) → HasReplay (id_at w site) (last_epoch_at w site) (history_at w site)
+
+pub histories_are_legal : (w : World) → HaveReplays w → HistoriesAreLegal w
+histories_are_legal w replays = λ index first.
+    (replays index first, replay_is_legal (id_at w index) (last_epoch_at w index) (history_at w index) (replays index first))
 
 pub no_dots_twice : (w : World) → NoDotIsIssuedTwice w
 no_dots_twice w = λ index.
     (no_dot_twice (id_at w index) (last_epoch_at w index) (history_at w index), dots_are_of_lives (id_at w index) (last_epoch_at w index) (history_at w index))
 
-pub lives_are_defined : (w : World) → ((index : ℕ) → HasReplay (id_at w index) (last_epoch_at w index) (history_at w index)) → LivesAreOfDefinedKeys w
-lives_are_defined w replays = λ index key.
+pub lives_are_defined : (w : World) → HaveReplays w → LivesAreOfDefinedKeys w
+lives_are_defined w replays = λ index key first.
     let id = id_at w index in
     let epoch = last_epoch_at w index in
     let history = history_at w index in
-    let k = known id epoch history (replays index) in
+    let k = known id epoch history (replays index first) in
     let o = stored (replay id epoch history) key in
     alive id epoch history k key o (k.keys key) ∙ sym (held_by id epoch history k key o (k.keys key))
 
@@ -61,7 +65,7 @@ module _ (w : World) (orderly : IsOrderly w) (number index : ℕ) (worker : Work
   placed other reading h =
       let p = some_pair_parts other index vnode.place state h in
       let sound = orderly.vnodes index vnode there in
-      sym p.1 ∙ place_read vnode.id vnode.last_epoch index (how_many (reads index) w.workers) (how_many (holds index) w.workers) vnode.word vnode.log vnode.place sound.word
+      sym p.1 ∙ place_read vnode.id vnode.last_epoch vnode.own index (how_many (reads index) w.workers) (how_many (holds index) w.workers) vnode.word vnode.log vnode.place sound.word
       (counted_one (reads index) w.workers (pred number) worker here (subst (λ i. is_reader i worker.phase ≡ true) p.0 reading)) sound.place
 
   shown_by : (phase : Phase) → worker.phase ≡ phase → IsInHand vnode.id vnode.last_epoch index vnode.log worker.phase → state_shown phase vnode ≡ Some (index, state)
@@ -74,6 +78,7 @@ module _ (w : World) (orderly : IsOrderly w) (number index : ℕ) (worker : Work
       sym p.1 ∙ (subst (λ n. IsInHand vnode.id vnode.last_epoch index vnode.log n) e hand p.0).0
   shown_by (Holding other ask mine (Some plan)) e hand h = cc
   shown_by (Done other mine) e hand h = cc
+  shown_by (Turned own site ask mine) e hand h = cc
   shown_by (Copying own site key CopyAsked) e hand h = cc
   shown_by (Copying own site key CopyInside) e hand h = placed site (ap (is_reader site) e ∙ same_test site site refl) h
   shown_by (Copying own site key (CopyLooked clock)) e hand h = cc
@@ -82,12 +87,37 @@ module _ (w : World) (orderly : IsOrderly w) (number index : ℕ) (worker : Work
       sym p.1 ∙ ((subst (λ n. IsInHand vnode.id vnode.last_epoch index vnode.log n) e hand).1 p.0).0
   shown_by (Copying own site key (CopyTaken clock mine (Some next))) e hand h = cc
   shown_by (Copying own site key (CopyDone mine)) e hand h = cc
+  shown_by (Closing own site CloseAsked) e hand h = cc
+  shown_by (Closing own site (CloseTaken mine)) e hand h = cc
+  shown_by (Closing own site (CloseInside mine)) e hand h = placed own (ap (is_reader own) e ∙ same_test own own refl) h
+  shown_by (Closing own site (CloseLooked mine count)) e hand h = cc
+  shown_by (Closing own site (CloseDone mine inside)) e hand h = cc
+
+  -- a closer's hand
+  hand_by : (phase : Phase) → worker.phase ≡ phase → IsInHand vnode.id vnode.last_epoch index vnode.log worker.phase → hand_shown phase ≡ Some (index, state)
+      → state ≡ state_of vnode.id vnode.last_epoch vnode.log
+  hand_by (Closing own site (CloseInside mine)) e hand h =
+      let p = some_pair_parts site index mine state h in sym p.1 ∙ subst (λ n. IsInHand vnode.id vnode.last_epoch index vnode.log n) e hand p.0
+  hand_by (Closing own site CloseAsked) e hand h = cc
+  hand_by (Closing own site (CloseTaken mine)) e hand h = cc
+  hand_by (Closing own site (CloseLooked mine count)) e hand h = cc
+  hand_by (Closing own site (CloseDone mine inside)) e hand h = cc
+  hand_by Idle e hand h = cc
+  hand_by (Asked other ask) e hand h = cc
+  hand_by (Reading other get) e hand h = cc
+  hand_by (Holding other ask mine plan) e hand h = cc
+  hand_by (Done other mine) e hand h = cc
+  hand_by (Turned own site ask mine) e hand h = cc
+  hand_by (Copying own site key stage) e hand h = cc
 
 pub looks_show_replays : (w : World) → IsOrderly w → LooksShowReplays w
 looks_show_replays w orderly = λ number index worker vnode state worker_is vnode_is shows.
     let here = at_place w number worker worker_is in
     let hand = (orderly.workers (pred number) worker here index vnode vnode_is).hand in
-    replay_of w orderly index vnode vnode_is state (shown_by w orderly number index worker vnode state vnode_is here worker.phase refl hand shows)
+    replay_of w orderly index vnode vnode_is state (elim shows [
+      | inl it ↦ shown_by w orderly number index worker vnode state vnode_is here worker.phase refl hand it
+      | inr it ↦ hand_by w orderly number index worker vnode state vnode_is here worker.phase refl hand it
+    ])
 
 -- the worker after its turn
 worker_next : (w : World) (number index : ℕ) (worker : Worker) (turn : Turn) → worker_at w number ≡ Some worker
@@ -100,8 +130,12 @@ found [] i h = absurd (omega (arith, h))
 found (x ∷ xs) zero h = (x, refl)
 found (x ∷ xs) (suc i) h = found xs i (omega (arith, h))
 
-same_call : (a b : Call) → Some a ≡ Some b → a ≡ b
-same_call a b h = cc
+-- of commands alone they stand first
+pub alone-first : (log : Log) → CommandsAlone log → CommandsFirst log
+alone-first [] only = tt
+alone-first (Command event ∷ before) only = alone-before event before only
+alone-first (Copied copy ∷ before) only = absurd (copied-mixed copy before only)
+alone-first (Closed number ∷ before) only = absurd (closed-mixed number before only)
 
 module _ (w : World) (orderly : IsOrderly w) (number : ℕ) (action : Action) (r : World × Outcome) (p : IsPossible w number action r) where
   abbrev next : World
@@ -113,7 +147,7 @@ module _ (w : World) (orderly : IsOrderly w) (number : ℕ) (action : Action) (r
   pub aware : IsAware p.vnode.id p.vnode.last_epoch p.index p.vnode.log p.worker
   aware = orderly.workers (pred number) p.worker here p.index p.vnode p.vnode_is
 
-  pub turn : IsTurn p.vnode.id p.vnode.last_epoch p.index (how_many (reads p.index) w.workers) (how_many (holds p.index) w.workers) action p.worker.phase (brought_by p.worker) p.vnode.log p.turn
+  pub turn : IsTurn p.vnode.id p.vnode.last_epoch p.vnode.own p.index (how_many (reads p.index) w.workers) (how_many (holds p.index) w.workers) action p.worker.phase (brought_by w p.worker) p.vnode.log p.turn
   turn = turn_at w orderly number action r p
 
   -- the log, where it is of commands alone
@@ -187,8 +221,32 @@ module _ (w : World) (orderly : IsOrderly w) (number : ℕ) (action : Action) (r
   -- a reply answers the call
   pub reply_is : (reply : Result Response ℕ) → p.turn.outcome ≡ Replied reply → (call : Call) × (call_at w number ≡ Some call) × IsReplyTo p.vnode.id p.vnode.last_epoch p.index p.vnode.log p.turn reply call
   reply_is reply o =
-      let c = subst (λ u. Comes p.vnode.id p.vnode.last_epoch p.index p.worker.phase (brought_by p.worker) p.vnode.log p.turn u) o turn.comes in
+      let c = subst (λ u. Comes p.vnode.id p.vnode.last_epoch p.index p.worker.phase (brought_by w p.worker) p.vnode.log p.turn u) o turn.comes in
       (c.0, call_is ∙ c.1, c.2)
+
+  -- after a reply a log of commands alone still is one
+  pub replied_alone : (reply : Result Response ℕ) → p.turn.outcome ≡ Replied reply → CommandsAlone p.vnode.log → CommandsAlone p.turn.vnode.log
+  replied_alone reply o only = elim (reply_is reply o).2.event [
+    | inl same ↦ subst CommandsAlone (sym same) only
+    | inr made ↦ subst CommandsAlone (sym made.1) (ap (λ (l : Log). Command made.0 ∷ l) only)
+  ]
+
+  -- a log in which commands stand first was one
+  pub first_before : CommandsFirst p.turn.vnode.log → CommandsFirst p.vnode.log
+  first_before first = by p.turn.outcome turn.comes
+    where
+      by : (came : Outcome) → Comes p.vnode.id p.vnode.last_epoch p.index p.worker.phase (brought_by w p.worker) p.vnode.log p.turn came → CommandsFirst p.vnode.log
+      by NotPossible h = absurd h
+      by Happened h = subst CommandsFirst h first
+      by NotHeld h = subst CommandsFirst h first
+      by StuckThere h = subst CommandsFirst h first
+      by Elsewhere h = subst CommandsFirst h first
+      by (LeftThere keys) h = absurd h
+      by CopiedBack h = subst CommandsFirst h.later_is first
+      by (Replied reply) h = elim h.2.event [
+        | inl same ↦ subst CommandsFirst same first
+        | inr made ↦ alone-first p.vnode.log (subst CommandsFirst made.1 first)
+      ]
 
   answer_at : (reply : Result Response ℕ) (call : Call) → IsReplyTo p.vnode.id p.vnode.last_epoch p.index p.vnode.log p.turn reply call → CommandsAlone (log_at w call.site)
       → IsAnswer (id_at w call.site) (last_epoch_at w call.site) (history_at w call.site) (record { ask = call.ask; reply = reply }) (history_at next call.site)
@@ -204,33 +262,37 @@ module _ (w : World) (orderly : IsOrderly w) (number : ℕ) (action : Action) (r
   CopiesBy site = CopiesIn w (next, p.turn.outcome) site
 
   -- a copy's clock and prefix are those of the fallback, which its copier is inside
-  pub from_there : (c : CopyIs p.vnode.id p.vnode.last_epoch p.index p.worker.phase (brought_by p.worker) p.vnode.log p.turn.vnode.log) (vnode : Vnode) → slice_get w.vnodes c.site ≡ Some vnode
-      → (IsClockAt vnode.id vnode.last_epoch vnode.log c.key c.clock) × (brought_by p.worker ≡ history_of vnode)
+  pub from_there : (c : CopyIs p.vnode.id p.vnode.last_epoch p.index p.worker.phase (brought_by w p.worker) p.vnode.log p.turn.vnode.log) (vnode : Vnode) → slice_get w.vnodes c.site ≡ Some vnode
+      → (IsClockAt vnode.id vnode.last_epoch vnode.log c.key c.clock) × ((brought_by w p.worker).prefix ≡ history_of vnode)
   from_there c vnode there =
       let has = orderly.workers (pred number) p.worker here c.site vnode there in
       let hand = subst (λ phase. IsInHand vnode.id vnode.last_epoch c.site vnode.log phase) c.phase_is has.hand in
       let seen = subst (λ phase. HasSeen c.site phase (seen_at p.worker.seen c.site) (history_of vnode)) c.phase_is has.whole in
       (hand.0 refl, ap (λ phase. seen_at p.worker.seen (copied_from phase)) c.phase_is ∙ seen refl)
 
-  -- the site that a copier copies from is there
-  site_there : (own site : ℕ) (key : Key) (stage : CopyStage) → p.worker.phase ≡ Copying own site key stage → (vnode : Vnode) × (slice_get w.vnodes site ≡ Some vnode)
-  site_there own site key stage e =
-      found w.vnodes site (orderly.about (pred number) p.worker here site (ap (is_about site) e ∙ or_true (own == site) (site == site) (same_test site site refl)))
+  -- it is one of the copier's partition, to which its calls go
+  pub copied_fallback : (c : CopyIs p.vnode.id p.vnode.last_epoch p.index p.worker.phase (brought_by w p.worker) p.vnode.log p.turn.vnode.log) → IsFallback w c.own c.site
+  copied_fallback c = orderly.between (pred number) p.worker here c.own c.site (ap between_in c.phase_is)
 
-  copies_to : (c : CopyIs p.vnode.id p.vnode.last_epoch p.index p.worker.phase (brought_by p.worker) p.vnode.log p.turn.vnode.log) → p.turn.outcome ≡ CopiedBack → CopiesBy p.index
+  pub copied_route : (c : CopyIs p.vnode.id p.vnode.last_epoch p.index p.worker.phase (brought_by w p.worker) p.vnode.log p.turn.vnode.log) → slice_get w.routes c.own ≡ Some c.site
+  copied_route c =
+      let f = copied_fallback c in
+      ap (λ k. slice_get w.routes k) (sym f.own_is) ∙ orderly.opens c.site f.vnode f.there (λ e. f.apart (sym f.own_is ∙ e)) (from_there c f.vnode f.there).0.2
+
+  copies_to : (c : CopyIs p.vnode.id p.vnode.last_epoch p.index p.worker.phase (brought_by w p.worker) p.vnode.log p.turn.vnode.log) → p.turn.outcome ≡ CopiedBack → CopiesBy p.index
   copies_to c o =
-      let v = site_there c.own c.site c.key (CopyTaken c.clock c.hand (Some c.next)) c.phase_is in
-      let true_copy = from_there c v.0 v.1 in
-      let well = orderly.copiers (pred number) p.worker here c.own c.site c.key (CopyTaken c.clock c.hand (Some c.next)) c.phase_is in
+      let f = copied_fallback c in
+      let true_copy = from_there c f.vnode f.there in
+      let brought = brought_by w p.worker in
       record {
         copied = o;
-        copy = record { key = c.key; clock = c.clock; diversion = 1; prefix = brought_by p.worker };
-        log_is = log_after ∙ c.later_is ∙ ap (λ (l : Log). Copied (record { key = c.key; clock = c.clock; diversion = 1; prefix = brought_by p.worker }) ∷ l) (sym log_before);
+        copy = record { key = c.key; clock = c.clock; diversion = brought.diversion; prefix = brought.prefix };
+        log_is = log_after ∙ c.later_is ∙ ap (λ (l : Log). Copied (record { key = c.key; clock = c.clock; diversion = brought.diversion; prefix = brought.prefix }) ∷ l) (sym log_before);
         from = c.site;
-        from_is = ap (λ k. slice_get w.routes k) (sym c.at) ∙ well.0;
+        from_is = ap (λ k. slice_get w.routes k) (sym c.at) ∙ copied_route c;
         clock = true_copy.0.0 ∙ sym (ap (λ o. clock_of (state_with (opening (option_map_or (λ (x : Vnode). x.id) o 0) (option_map_or (λ (x : Vnode). x.last_epoch) o 0))
-            (option_map_or (λ (x : Vnode). x.log) o [])) c.key) v.1);
-        prefix = true_copy.1 ∙ sym (ap (λ o. option_map_or (λ (x : Vnode). history_of x) o []) v.1);
+            (option_map_or (λ (x : Vnode). x.log) o [])) c.key) f.there);
+        prefix = true_copy.1 ∙ sym (ap (λ o. option_map_or (λ (x : Vnode). history_of x) o []) f.there);
       }
 
   -- what comes of the turn
@@ -238,22 +300,29 @@ module _ (w : World) (orderly : IsOrderly w) (number : ℕ) (action : Action) (r
   RepliesBy index = (call : Call) × (call_at w number ≡ Some call) × (call.site ≡ index) × ((reply : Result Response ℕ) × (p.turn.outcome ≡ Replied reply))
 
   nothing_else : (came : Outcome) → p.turn.outcome ≡ came → (log_at next p.index ≡ log_at w p.index) ⊎ (RepliesBy p.index ⊎ CopiesBy p.index)
-  nothing_else came o = by came (subst (λ u. Comes p.vnode.id p.vnode.last_epoch p.index p.worker.phase (brought_by p.worker) p.vnode.log p.turn u) o turn.comes) o
+  nothing_else came o = by came (subst (λ u. Comes p.vnode.id p.vnode.last_epoch p.index p.worker.phase (brought_by w p.worker) p.vnode.log p.turn u) o turn.comes) o
     where
-      by : (came : Outcome) → Comes p.vnode.id p.vnode.last_epoch p.index p.worker.phase (brought_by p.worker) p.vnode.log p.turn came → p.turn.outcome ≡ came
+      by : (came : Outcome) → Comes p.vnode.id p.vnode.last_epoch p.index p.worker.phase (brought_by w p.worker) p.vnode.log p.turn came → p.turn.outcome ≡ came
           → (log_at next p.index ≡ log_at w p.index) ⊎ (RepliesBy p.index ⊎ CopiesBy p.index)
       by NotPossible h o = absurd h
       by Happened h o = inl (log_after ∙ h ∙ sym log_before)
       by (Replied reply) h o = let c = reply_is reply o in inr (inl (c.0, c.1, c.2.at, (reply, o)))
       by NotHeld h o = inl (log_after ∙ h ∙ sym log_before)
       by StuckThere h o = inl (log_after ∙ h ∙ sym log_before)
+      by Elsewhere h o = inl (log_after ∙ h ∙ sym log_before)
+      by (LeftThere keys) h o = absurd h
       by CopiedBack h o = inr (inr (copies_to h o))
 
+  opened_at : (reply : Result Response ℕ) (call : Call) → IsReplyTo p.vnode.id p.vnode.last_epoch p.index p.vnode.log p.turn reply call → (state_at w call.site).closed ≡ None
+  opened_at reply call is =
+      ap (λ k. (state_at w k).closed) is.at
+      ∙ (λ i. (state_with (opening (id_before i) (epoch_before i)) (log_before i)).closed) ∙ is.opened
+
   pub step_answers : (reply : Result Response ℕ) → p.turn.outcome ≡ Replied reply
-      → (call : Call) × (call_at w number ≡ Some call)
+      → (call : Call) × (call_at w number ≡ Some call) × ((state_at w call.site).closed ≡ None)
       × (CommandsAlone (log_at w call.site)
       → IsAnswer (id_at w call.site) (last_epoch_at w call.site) (history_at w call.site) (record { ask = call.ask; reply = reply }) (history_at next call.site))
-  step_answers reply o = let c = reply_is reply o in (c.0, c.1, answer_at reply c.0 c.2)
+  step_answers reply o = let c = reply_is reply o in (c.0, c.1, opened_at reply c.0 c.2, answer_at reply c.0 c.2)
 
   pub step_nothing_else : (index : ℕ) → (log_at next index ≡ log_at w index) ⊎ (RepliesBy index ⊎ CopiesBy index)
   step_nothing_else index = elim (same_or_other p.index index) [
@@ -306,4 +375,4 @@ log-diverted w index site = by (diverted w index) refl
     by (Some next) h =
         let d = diversion w index next h in
         subst (λ (x : World). log_at x site ≡ log_at w site) d.gives
-        (log-more w.vnodes (fresh_vnode (d.primary.place.vnode + fallback_ids) 0) refl site)
+        (log-more w.vnodes (fresh_vnode (d.primary.place.vnode + fallback_ids) index d.epoch) refl site)

@@ -20,11 +20,11 @@ pub length-opening : (run from n : ℕ) → length (opening_vnodes run from n) �
 length-opening run from zero = refl
 length-opening run from (suc n) = ap suc (length-opening run (from + 1) n)
 
-pub vnode_there : (run from count index : ℕ) → index < count → slice_get (opening_vnodes run from count) index ≡ Some (fresh_vnode (id_of run (from + index)) 0)
+pub vnode_there : (run from count index : ℕ) → index < count → slice_get (opening_vnodes run from count) index ≡ Some (fresh_vnode (id_of run (from + index)) (from + index) 0)
 vnode_there run from zero index h = absurd (omega (arith, h))
-vnode_there run from (suc count) zero h = ap (λ n. Some (fresh_vnode (id_of run n) 0)) (plain from)
+vnode_there run from (suc count) zero h = ap (λ n. Some (fresh_vnode (id_of run n) n 0)) (plain from)
 vnode_there run from (suc count) (suc index) h =
-    vnode_there run (from + 1) count index (omega (arith, h)) ∙ ap (λ n. Some (fresh_vnode (id_of run n) 0)) (shift from index)
+    vnode_there run (from + 1) count index (omega (arith, h)) ∙ ap (λ n. Some (fresh_vnode (id_of run n) n 0)) (shift from index)
 
 pub own_there : (from count index : ℕ) → index < count → slice_get (own_sites from count) index ≡ Some (from + index)
 own_there from zero index h = absurd (omega (arith, h))

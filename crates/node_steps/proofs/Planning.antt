@@ -11,17 +11,17 @@ use Rattle.vnode_machine.specs.Asks.{put_command, del_command}
 use Rattle.vnode_machine.specs.Machine.{State, is_held, holds_dead, has_value, put_check, del_check, apply_operation}
 use Rattle.vnode_machine.specs.Replies.{put_reply}
 use Rattle.vnode_machine.specs.Step.{Response, PutDone, DelDone, ReapDone, ReapKept, StepOutcome, Refused, Answered, Accepted, unless_refused, outcome}
-use Rattle.vnode_protocol.specs.declared.ask.Ask.{Ask}
-use Rattle.vnode_protocol.specs.declared.ask.Ask.TheVariants.{Put, Del, Reap, ReapFirst, Copy, Close}
-use Rattle.vnode_protocol.specs.declared.ask.Answer.{Answer}
-use Rattle.vnode_protocol.specs.declared.ask.Answer.TheVariants as answers
-use Rattle.vnode_protocol.specs.Plans.{View, IsAccepted, AcceptsOpen, IsPrepared, IsAnswered, StepsOpen}
+use Rattle.vnode_core.specs.declared.ask.Ask.{Ask}
+use Rattle.vnode_core.specs.declared.ask.Ask.TheVariants.{Put, Del, Reap, ReapFirst, Copy, Close}
+use Rattle.vnode_core.specs.declared.ask.Answer.{Answer}
+use Rattle.vnode_core.specs.declared.ask.Answer.TheVariants as answers
+use Rattle.vnode_core.specs.Plans.{View, IsAcceptedStep, AcceptsOpen, IsPrepared, IsAnsweredUnchanged, StepsOpen}
 use Rattle.node_steps.specs.declared.outcome.Outcome.{Outcome as Returned}
 use Rattle.node_steps.specs.World.{Plan}
 use Rattle.node_steps.specs.Returned.{returned_response}
 use Rattle.node_steps.specs.Hands.{command_of, response_of, IsReturned, plan_by, plan_of, PlansBy, PlansAsk}
 
-planned-outcome : (o : StepOutcome) → IsAccepted o → PlansBy o (plan_by o) None
+planned-outcome : (o : StepOutcome) → IsAcceptedStep o → PlansBy o (plan_by o) None
 planned-outcome (Refused number) a = absurd a
 planned-outcome (Answered response) a = absurd a
 planned-outcome (Accepted operation response next) a = (refl, refl)
@@ -56,7 +56,7 @@ not_closed None e s = cc
 not_closed (Some number) e s = cc
 
 -- what an open vnode answers to a command is the machine's
-pub answers_command : (state : State Content) (ask : Ask) (answer : Answer) → state.closed ≡ None → IsAnswered state ask answer
+pub answers_command : (state : State Content) (ask : Ask) (answer : Answer) → state.closed ≡ None → IsAnsweredUnchanged state ask answer
     → IfSome (command_of ask) (λ command. ComesTo (outcome state command) answer)
 answers_command state ask answer opened (inr closed) = absurd (not_closed state.closed opened closed.0)
 answers_command state (Put put) answer opened (inl open_one) = absurd open_one.1
@@ -128,21 +128,12 @@ module _ {X : Type 0} (part : State Content → X)
   still old answer new None s f = cc
   still old answer new (Some command) s f = sym (ap (part_after (part old)) f.comes) ∙ keeps old command
 
-closed-kept : (state : State Content) (key : Key) (given : Option Context) (operation : Operation Content) → (apply_operation state key given operation).closed ≡ state.closed
-closed-kept state key given (Write content) = refl
-closed-kept state key given Tombstone = refl
-closed-kept state key given Forget = refl
-
 vnode-kept : (state : State Content) (key : Key) (given : Option Context) (operation : Operation Content) → (apply_operation state key given operation).vnode ≡ state.vnode
 vnode-kept state key given (Write content) = refl
 vnode-kept state key given Tombstone = refl
 vnode-kept state key given Forget = refl
 
--- no command closes a vnode, or gives it another id
-pub still_open : (old : State Content) (answer : Answer) (new : State Content) (made : Option (Command Content Context)) → IsSome made
-    → IfSome made (λ command. Finishes (outcome old command) answer new) → new.closed ≡ old.closed
-still_open = still (λ s. s.closed) closed-kept
-
+-- no command gives a vnode another id
 pub still_named : (old : State Content) (answer : Answer) (new : State Content) (made : Option (Command Content Context)) → IsSome made
     → IfSome made (λ command. Finishes (outcome old command) answer new) → new.vnode ≡ old.vnode
 still_named = still (λ s. s.vnode) vnode-kept

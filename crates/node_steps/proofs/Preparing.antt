@@ -15,18 +15,15 @@ use Rattle.vnode_machine.specs.Asks.{put_command, del_command}
 use Rattle.vnode_machine.specs.Step.{StepOutcome, Refused, Answered, Accepted, outcome}
 use Rattle.vnode_machine.proofs.Copying.{sound-copy}
 use Rattle.vnode_machine.proofs.Formed.{sound-next}
-use Rattle.vnode_protocol.specs.KeyCopies.{KeyCopyView}
-use Rattle.vnode_protocol.specs.declared.ask.Ask.{Ask}
-use Rattle.vnode_protocol.specs.declared.ask.Ask.TheVariants.{Put, Del, Reap, ReapFirst, Copy, Close}
-use Rattle.vnode_protocol.specs.declared.ask.Answer.{Answer}
-use Rattle.vnode_protocol.specs.Plans.{View, IsAccepted, AcceptsOpen, IsPrepared, IsAnswered, StepsOpen}
+use Rattle.vnode_core.specs.KeyCopies.{KeyCopyView}
+use Rattle.vnode_core.specs.declared.ask.Ask.{Ask}
+use Rattle.vnode_core.specs.declared.ask.Ask.TheVariants.{Put, Del, Reap, ReapFirst, Copy, Close}
+use Rattle.vnode_core.specs.declared.ask.Answer.{Answer}
+use Rattle.vnode_core.specs.Plans.{View, IsAcceptedStep, AcceptsOpen, IsPrepared, IsAnsweredUnchanged, StepsOpen}
 use Rattle.node_steps.specs.Hands.{command_of, plan_by, plan_of}
 use Rattle.node_steps.specs.CopyHands.{copied_by, IsCopy, PlansCopy}
 use Rattle.node_steps.proofs.Planning.{Finishes}
-
-unstuck : (b : Bool) → not b ≡ true → b ≡ false
-unstuck true h = cc
-unstuck false h = refl
+use Rattle.std.proofs.lemmas.Bool.{not-true as unstuck}
 
 none_closed : (closed : Option ℕ) → closed ≡ None → IsSome closed → ⊥
 none_closed None e s = cc
@@ -45,7 +42,7 @@ module _ (key : Key) (clock : DotState (Option Content)) (copy : KeyCopyView) (k
   }
 
   -- or none, where it is stuck
-  pub is_stuck_then : (state : State Content) (answer : Answer) → state.closed ≡ None → IsAnswered state (Copy copy) answer → is_stuck state key clock ≡ true
+  pub is_stuck_then : (state : State Content) (answer : Answer) → state.closed ≡ None → IsAnsweredUnchanged state (Copy copy) answer → is_stuck state key clock ≡ true
   is_stuck_then state answer opened (inl h) = (λ i. is_stuck state (sym key_is i) (sym clock_is i)) ∙ h.1.1
   is_stuck_then state answer opened (inr h) = absurd (none_closed state.closed opened h.0)
 
@@ -58,7 +55,7 @@ makes_copy old (ReapFirst from) answer new is steps = absurd is
 makes_copy old (Copy copy) answer new is steps = steps.2
 makes_copy old (Close number) answer new is steps = absurd is
 
--- it stays sound, has its id and isn't closed
+-- it stays sound, and has its id
 pub keeps_named : (old : State Content) (change : Ask) → (copied_by old change).vnode ≡ old.vnode
 keeps_named old (Put put) = refl
 keeps_named old (Del del) = refl
@@ -66,14 +63,6 @@ keeps_named old (Reap key) = refl
 keeps_named old (ReapFirst from) = refl
 keeps_named old (Copy copy) = refl
 keeps_named old (Close number) = refl
-
-pub keeps_open : (old : State Content) (change : Ask) → (copied_by old change).closed ≡ old.closed
-keeps_open old (Put put) = refl
-keeps_open old (Del del) = refl
-keeps_open old (Reap key) = refl
-keeps_open old (ReapFirst from) = refl
-keeps_open old (Copy copy) = refl
-keeps_open old (Close number) = refl
 
 pub keeps_sound : (old : State Content) (change : Ask) (answer : Answer) (new : State Content) → IsCopy change → StepsOpen old change answer new → IsSound old → IsSound new
 keeps_sound old (Put put) answer new is steps sound = absurd is
@@ -122,7 +111,7 @@ clock-formed state key clock sound h = by (stored state key) (sound.keys key) h
     by None f h = cc
     by (Some s) f h = let same : s.clock ≡ clock = cc in subst IsClock same f.clock
 
-accepted-some : (o : StepOutcome) → IsAccepted o → true ≡ is_some (plan_by o)
+accepted-some : (o : StepOutcome) → IsAcceptedStep o → true ≡ is_some (plan_by o)
 accepted-some (Refused number) a = absurd a
 accepted-some (Answered response) a = absurd a
 accepted-some (Accepted operation response next) a = refl

@@ -9,6 +9,7 @@ use Rattle.node_steps.specs.Schedules.{Start, world_after}
 use Rattle.node_steps.specs.Returned.{returned}
 use Rattle.node_steps.specs.Asked.{step_of}
 use Rattle.node_steps.specs.Kept.{IsKeptAfter, Follows, FollowsAll, FollowsSome, extended, returned_by}
+use Rattle.std.proofs.lemmas.List.{append-nil}
 
 -- the steps but the rest were taken, and these are what they returned
 pub record HasTaken (old : World) (steps rest : List RunStep) (returns : List Returned) (now : World) : Type 0 where
@@ -26,10 +27,6 @@ returned_by-more : (start : Start) (schedule : List Step) (steps : List RunStep)
 returned_by-more start schedule [] step = refl
 returned_by-more start schedule (first ∷ steps) step =
     ap (λ rest. returned (outcome (world_after start schedule) (step_of first)) ∷ rest) (returned_by-more start (step_of first ∷ schedule) steps step)
-
-append-nil : {X : Type 0} (xs : List X) → xs ++ [] ≡ xs
-append-nil [] = refl
-append-nil (x ∷ xs) = ap (λ ys. x ∷ ys) (append-nil xs)
 
 append-one : {X : Type 0} (xs ys : List X) (x : X) → (xs ++ x ∷ []) ++ ys ≡ xs ++ x ∷ ys
 append-one [] ys x = refl

@@ -26,6 +26,7 @@ use Rattle.node_steps.specs.Steps.{is_reap}
 use Rattle.node_steps.specs.Contexts.{context_bytes}
 use Rattle.node_steps.specs.Schedules.{Begins}
 use Rattle.node_steps.proofs.Beginnings.{begins-itself, begins-trans}
+use Rattle.std.proofs.lemmas.Option.{same_Some as same_context}
 
 -- the context is the name of a position of the key
 pub record IsName (id epoch : ℕ) (history : History) (key : Key) (context : Context) : Type 0 where
@@ -127,9 +128,6 @@ accepts_update state (AskReap key) h = cc
 none_given : (context : Context) → context_of [] ≡ Some context → ⊥
 unfolding context_of
 none_given context h = cc
-
-same_context : (a b : Context) → Some a ≡ Some b → a ≡ b
-same_context a b h = cc
 
 -- what is shown of a held key is the name of the whole history
 pub held_shows : (id epoch : ℕ) (history : History) (key : Key) (bytes : List ℕ) (context : Context) → IsWithinLimits id epoch → HasReplay id epoch history

@@ -1,168 +1,231 @@
--- Where a worker has a call nothing was copied: copies go to the own site of a partition that is diverted, where nobody has one.
-use Rattle.std.proofs.Common.{◌≡◌, ◌≢◌, ◌⊎◌, inl, inr, ℕ, zero, suc, ◌+◌, ◌<◌, ◌≤◌, Bool, true, false, not, ◌&&◌, List, [], ◌∷◌, length, refl, sym, ◌∙◌, ap, arith, subst}
-use Rattle.std.specs.Prelude.{◌==◌, pred, Option, Some, None, option_map, slice_get}
+-- Where a worker has a call nothing was copied, unless a fallback of its partition was closed.
+use Rattle.std.proofs.Common.{◌≡◌, ◌≢◌, ◌⊎◌, inl, inr, ℕ, zero, suc, ◌+◌, ◌<◌, ◌≤◌, true, List, [], ◌∷◌, length, refl, sym, ◌∙◌, ap, arith, subst}
+use Rattle.std.specs.Prelude.{Option, Some, None, option_map, slice_get}
 use Rattle.std.specs.Option.{option_map_or}
 use Rattle.riak_msgs.specs.Contents.{Content}
-use Rattle.sibling_register.specs.Answers.{Ask}
-use Rattle.actor_epoch.specs.Given.{Context}
-use Rattle.node_steps.specs.World.{CopyTaken, Vnode, Worker, World, CommandsAlone, Call, fresh_vnode, fresh_worker, opening_world, opening_vnodes, route, log_at, call_of, call_at, brought_by}
-use Rattle.node_steps.specs.Steps.{Action, Asks, is_reap, Step, By, Diverts, Outcome, NotPossible, Happened, Replied, NotHeld, StuckThere, CopiedBack, routed, seeing, turned, fallback_ids, is_about, does, diverted, diverted_by}
+use Rattle.vnode_machine.specs.Machine.{State}
+use Rattle.copy_laws.specs.Copies.{Closed}
+use Rattle.node_steps.specs.World.{Phase, Vnode, Worker, World, CommandsAlone, Call, fresh_vnode, route, id_at, last_epoch_at, own_at, log_at, call_of, call_at}
+use Rattle.node_steps.specs.Steps.{Action, Step, By, Diverts, Outcome, Happened, routed, fallback_ids, is_about, acts, diverted, diverted_by}
 use Rattle.node_steps.specs.Schedules.{Start, IsStart, world_after}
-use Rattle.node_steps.specs.Claims.{CallsMeetNoCopies}
-use Rattle.node_steps.proofs.Lists.{set-here, set-there, same_or_other, get-replicate, get-below, length-set, each_passes}
-use Rattle.node_steps.proofs.Own.{own_is, from_zero}
-use Rattle.node_steps.proofs.Inside.{about_there}
-use Rattle.node_steps.proofs.Coming.{CallIs, Comes}
-use Rattle.node_steps.proofs.Kept.{IsOrderly, IsPossible, possible}
-use Rattle.node_steps.proofs.FirstWorld.{opened}
-use Rattle.node_steps.proofs.Diverting.{IsDiversion, diversion}
+use Rattle.node_steps.specs.Claims.{state_at, HadClose}
+use Rattle.node_steps.proofs.Lists.{set-here, set-there, same_or_other, get-below, get-first, get-more, found_below}
+use Rattle.node_steps.proofs.Inside.{about_there, state_of, IsOpenAt, false_true}
+use Rattle.node_steps.proofs.Coming.{between_in, is_turned}
+use Rattle.node_steps.proofs.Kept.{IsOrderly, possible}
+use Rattle.node_steps.proofs.Diverting.{IsDiversion, diversion, alone_about}
 use Rattle.node_steps.proofs.Scheduled.{orderly}
-use Rattle.node_steps.proofs.Lifting.{here, turn, log_before, log_after, log_elsewhere, log-more}
-use Rattle.node_steps.proofs.Coursing.{some_same, none_call, replied_alone}
-use Rattle.node_steps.proofs.CourseSteps.{call_site}
-use Rattle.node_steps.proofs.CourseLaw.{sent-by}
+use Rattle.node_steps.proofs.CloseSteps.{IsJudgement, IsClose, acts_cases, some_back}
+use Rattle.node_steps.proofs.Closes.{close_world, close_route, close_after, close_own}
+use Rattle.node_steps.proofs.Quiet.{IsQuiet, quiet-judged, quiet-closed, close_log}
+use Rattle.node_steps.proofs.Lifting.{log-more}
+use Rattle.node_steps.proofs.CallSites.{call_site, sent-by}
+use Rattle.node_steps.proofs.CallsApart.{IsApart, Logs, no_call, below_past, route_own, closed_in, closed_vnode, apart-opening, apart-does}
 
--- what is always true of routes, calls and logs
-pub record IsApart (w : World) : Type 0 where
-  -- a partition's calls go to its own site, or to one that is no partition's
-  pub apart : (other site : ℕ) → slice_get w.routes other ≡ Some site → (site ≡ other) ⊎ (length w.routes ≤ site)
-  -- where they go elsewhere, no worker has one at its own
-  pub left : (index to : ℕ) → slice_get w.routes index ≡ Some to → to ≢ index
-      → (place : ℕ) (worker : Worker) → slice_get w.workers place ≡ Some worker → (call : Call) → call_of worker.phase ≡ Some call → call.site ≡ index → ⊥
-  -- and nothing was copied but to there
-  pub logs : (site : ℕ) → CommandsAlone (log_at w site) ⊎ ((to : ℕ) × (slice_get w.routes site ≡ Some to) × (to ≢ site))
+-- a closer's look, and its publish: calls are as they were
+module _ (w : World) (orderly : IsOrderly w) (number : ℕ) (action : Action) (r : World × Outcome) (is : IsApart w) where
+  apart-judged : IsJudgement w number action r → IsApart r.0
+  apart-judged j =
+      let quiet = quiet-judged w number action r j in
+      subst (λ (q : World × Outcome). IsQuiet w q.0 → IsApart q.0) j.gives (λ calm. record {
+        away = λ index to route n place worker h call asked v there own.
+            let old = calm.calls place worker h call asked in is.away index to route n place old.0 old.1 call (ap call_of old.2 ∙ asked) v there own;
+        clear = is.clear;
+        turned_there = λ place worker h own site turned between v there clear.
+            let old = calm.turned place worker h turned in is.turned_there place old.0 old.1 own site (ap is_turned old.2 ∙ turned) (ap between_in old.2 ∙ between) v there clear;
+        logs = is.logs;
+      }) quiet
 
-empty-opening : (run vnodes site : ℕ) → option_map_or (λ (v : Vnode). v.log) (slice_get (opening_vnodes run 0 vnodes) site) [] ≡ []
-empty-opening run vnodes site = by (slice_get (opening_vnodes run 0 vnodes) site) refl
-  where
-    by : (o : Option Vnode) → slice_get (opening_vnodes run 0 vnodes) site ≡ o → option_map_or (λ (v : Vnode). v.log) o [] ≡ []
-    by None h = refl
-    by (Some v) h = ap (λ (u : Vnode). u.log) (opened run 0 vnodes site v h).1
+  module _ (c : IsClose w number action r) where
+    abbrev next : World
+    next = close_world w orderly number action r c
 
-apart-opening : (start : Start) → IsApart (opening_world start.run start.workers start.vnodes)
-apart-opening start = record {
-  apart = λ other site h. inl (own_is 0 start.vnodes other site h ∙ from_zero other);
-  left = λ index to h n place worker k call asked at.
-      none_call call (ap (λ (x : Worker). call_of x.phase) (sym (get-replicate start.workers place fresh_worker worker k)) ∙ asked);
-  logs = λ site. inl (subst CommandsAlone (sym (empty-opening start.run start.vnodes site)) refl);
-}
+    abbrev route_there : slice_get w.routes c.own ≡ Some c.site
+    route_there = close_route w orderly number action r c
 
-below_past : (a n : ℕ) → a < n → n ≤ a → ⊥
-below_past a n h k = omega (arith, h, k)
+    route_was : (index to : ℕ) → slice_get next.routes index ≡ Some to → to ≢ index → (c.own ≢ index) × (slice_get w.routes index ≡ Some to)
+    route_was index to route n = elim (same_or_other c.own index) [
+      | inl e ↦ absurd (n (sym (some_back c.own to (sym (set-here w.routes c.own c.site c.own route_there) ∙ ap (λ k. slice_get next.routes k) e ∙ route)) ∙ e))
+      | inr m ↦ (m, sym (set-there w.routes c.own index c.own m) ∙ route)
+    ]
 
-yes_no : (b : Bool) → not b ≡ true → b ≡ true → ⊥
-yes_no true h k = cc
-yes_no false h k = cc
+    -- a vnode elsewhere, or the closed one, by its partition
+    vnode_was : (site : ℕ) (v : Vnode) → slice_get next.vnodes site ≡ Some v → (old : Vnode) × (slice_get w.vnodes site ≡ Some old) × (v.own ≡ old.own)
+        × (IsOpenAt v.id v.last_epoch v.log → IsOpenAt old.id old.last_epoch old.log)
+    vnode_was site v h = elim (close_after w orderly number action r c site v h) [
+      | inl e ↦ (
+        c.fallback,
+        ap (λ k. slice_get w.vnodes k) (sym e.0) ∙ c.fallback_is,
+        ap (λ (u : Vnode). u.own) (sym e.1),
+        λ clear. absurd (not_closed (subst (λ (u : Vnode). IsOpenAt u.id u.last_epoch u.log) (sym e.1) clear)),
+      )
+      | inr e ↦ (v, e.1, refl, λ clear. clear)
+    ]
+      where
+        not_closed : Some c.count ≡ None → ⊥
+        not_closed e = cc
 
-module _ (w : World) (orderly : IsOrderly w) (number : ℕ) (action : Action) (r : World × Outcome) (p : IsPossible w number action r) (is : IsApart w)
-    (sends : (site : ℕ) (ask : Ask Content Context) → action ≡ Asks site ask
-    → (other : ℕ) × (slice_get w.routes other ≡ Some site) × ((not (site == other) && is_reap ask) ≡ false)) where
-  abbrev next : World
-  next = turned w (pred number) p.index p.worker p.turn
+    had-kept : (site : ℕ) → IsQuiet w next → HadClose w site → HadClose next site
+    had-kept site calm (other, own, closed) = (other, calm.owns other ∙ own ∙ sym (calm.owns site), by (calm.logs other))
+      where
+        not_none : (number : ℕ) (state : State Content) → (record state { keys = []; closed = Some number }).closed ≡ None → ⊥
+        not_none number state e = cc
 
-  abbrev new_worker : Worker
-  new_worker = record { phase = p.turn.phase; seen = seeing p.worker.seen p.index p.turn.seen }
+        by : (log_at next other ≡ log_at w other) ⊎ ((number : ℕ) × (log_at next other ≡ Closed number ∷ log_at w other)) → (state_at next other).closed ≢ None
+        by (inl same) = λ none. closed (sym ((λ i. (state_of (calm.ids other i) (calm.epochs other i) (same i)).closed)) ∙ none)
+        by (inr more) = λ none. not_none more.0 (state_of (id_at w other) (last_epoch_at w other) (log_at w other))
+            (sym ((λ i. (state_of (calm.ids other i) (calm.epochs other i) (more.1 i)).closed)) ∙ none)
 
-  -- no call is sent to the own site of a partition that is diverted
-  not_sent : (index to : ℕ) → slice_get w.routes index ≡ Some to → to ≢ index → (ask : Ask Content Context) → action ≡ Asks index ask → ⊥
-  not_sent index to route n ask asks =
-      let s = sends index ask asks in
-      elim (is.apart s.0 index s.1) [
-        | inl e ↦ n (some_same to index (sym route ∙ ap (λ k. slice_get w.routes k) e ∙ s.1))
-        | inr past ↦ below_past index (length w.routes) (get-below w.routes index to route) past
+    -- a site of the partition whose fallback is closed
+    had-now : (site : ℕ) → c.own ≡ own_at w site → IsQuiet w next → HadClose next site
+    had-now site e calm = (
+      c.site,
+      calm.owns c.site ∙ ap (λ o. option_map_or (λ (v : Vnode). v.own) o 0) c.fallback_is ∙ close_own w orderly number action r c ∙ e ∙ sym (calm.owns site),
+      λ none. is_closed (sym ((λ i. (state_of (calm.ids c.site i) (calm.epochs c.site i) (close_log w orderly number action r c i)).closed)) ∙ none),
+    )
+      where
+        is_closed : Some c.count ≡ None → ⊥
+        is_closed e = cc
+
+    below : (a b c : ℕ) → a < b → b ≤ c → a < c
+    below a b c h k = omega (arith, h, k)
+
+    own_there : (site : ℕ) → slice_get w.routes site ≢ None → own_at w site ≡ site
+    own_there site routed = by (slice_get w.routes site) refl
+      where
+        by : (o : Option ℕ) → slice_get w.routes site ≡ o → own_at w site ≡ site
+        by None h = absurd (routed h)
+        by (Some to) h =
+            let v = found_below w.vnodes site (below site (length w.routes) (length w.vnodes) (get-below w.routes site to h) orderly.sites) in
+            ap (λ o. option_map_or (λ (u : Vnode). u.own) o 0) v.1 ∙ (orderly.homes site v.0 (get-below w.routes site to h) v.1).0
+
+    logs-closed : IsQuiet w next → (site : ℕ) → Logs next site
+    logs-closed calm site = elim (calm.logs site) [
+      | inl same ↦ elim (is.logs site) [
+        | inl only ↦ inl (subst CommandsAlone (sym same) only)
+        | inr rest ↦ elim rest [
+          | inl away ↦ elim (same_or_other c.own site) [
+            | inl e ↦ inr (inr (had-now site (e ∙ sym (own_there site (λ none. no_route (sym none ∙ away.1)))) calm))
+            | inr n ↦ inr (inl (away.0, set-there w.routes c.own site c.own n ∙ away.1, away.2))
+          ]
+          | inr had ↦ inr (inr (had-kept site calm had))
+        ]
       ]
+      | inr more ↦ inr (inr (
+        site,
+        refl,
+        λ none. not_open more.0 (sym ((λ i. (state_of (calm.ids site i) (calm.epochs site i) (more.1 i)).closed)) ∙ none),
+      ))
+    ]
+      where
+        no_route : {to : ℕ} → None ≡ Some to → ⊥
+        no_route h = cc
 
-  left-next : (index to : ℕ) → slice_get w.routes index ≡ Some to → to ≢ index
-      → (place : ℕ) (worker : Worker) → slice_get next.workers place ≡ Some worker → (call : Call) → call_of worker.phase ≡ Some call → call.site ≡ index → ⊥
-  left-next index to route n place worker h call asked at = elim (same_or_other (pred number) place) [
-    | inl e ↦ by (turn w orderly number action r p).call
-        (ap (λ (x : Worker). call_of x.phase)
-        (some_same new_worker worker (sym (set-here w.workers (pred number) p.worker new_worker (here w orderly number action r p)) ∙ ap (λ k. slice_get next.workers k) e ∙ h)) ∙ asked)
-    | inr other ↦ is.left index to route n place worker (sym (set-there w.workers (pred number) place new_worker other) ∙ h) call asked at
-  ]
-    where
-      by : CallIs action (call_of p.worker.phase) (call_of p.turn.phase) → call_of p.turn.phase ≡ Some call → ⊥
-      by (inl same) k = is.left index to route n (pred number) p.worker (here w orderly number action r p) call (sym same ∙ k) at
-      by (inr (inl none)) k = none_call call (sym none ∙ k)
-      by (inr (inr new)) k =
-          let same : new.0 ≡ call = some_same new.0 call (sym new.1 ∙ k) in
-          not_sent index to route n call.ask (new.2 ∙ ap (λ (c : Call). Asks c.site c.ask) same ∙ ap (λ s. Asks s call.ask) at)
+        not_open : (number : ℕ) → Some number ≡ None → ⊥
+        not_open number e = cc
 
-  -- the log at the step's site
-  log-here : CommandsAlone (log_at next p.index) ⊎ ((to : ℕ) × (slice_get w.routes p.index ≡ Some to) × (to ≢ p.index))
-  log-here = elim (is.logs p.index) [
-    | inl only ↦ by p.turn.outcome refl (turn w orderly number action r p).comes (subst CommandsAlone (log_before w orderly number action r p) only)
-    | inr away ↦ inr away
-  ]
-    where
-      kept : p.turn.vnode.log ≡ p.vnode.log → CommandsAlone p.vnode.log → CommandsAlone (log_at next p.index)
-      kept same only = subst CommandsAlone (sym (log_after w orderly number action r p)) (subst CommandsAlone (sym same) only)
+    apart-closed : IsApart r.0
+    apart-closed = subst (λ (q : World × Outcome). IsQuiet w q.0 → IsApart q.0) c.gives (λ calm. record {
+      away = λ index to route n place worker h call asked v there own.
+          let was = route_was index to route n in
+          let old = calm.calls place worker h call asked in
+          let vnode = vnode_was call.site v there in
+          is.away index to was.1 n place old.0 old.1 call (ap call_of old.2 ∙ asked) vnode.0 vnode.1 (sym vnode.2 ∙ own);
+      clear = λ index to route n v there.
+          let was = route_was index to route n in
+          elim (close_after w orderly number action r c to v there) [
+            | inl e ↦ absurd (was.0 (sym (close_own w orderly number action r c) ∙ route_is index to was.1 e.0))
+            | inr e ↦ is.clear index to was.1 n v e.1
+          ];
+      turned_there = λ place worker h own site turned between v there clear.
+          let old = calm.turned place worker h turned in
+          let vnode = vnode_was site v there in
+          is.turned_there place old.0 old.1 own site (ap is_turned old.2 ∙ turned) (ap between_in old.2 ∙ between) vnode.0 vnode.1 (vnode.3 clear);
+      logs = logs-closed calm;
+    }) (quiet-closed w orderly number action r c)
+      where
+        route_is : (index to : ℕ) → slice_get w.routes index ≡ Some to → c.site ≡ to → c.fallback.own ≡ index
+        route_is index to route e = route_own w orderly index to route c.fallback (ap (λ k. slice_get w.vnodes k) (sym e) ∙ c.fallback_is)
 
-      by : (came : Outcome) → p.turn.outcome ≡ came → Comes p.vnode.id p.vnode.last_epoch p.index p.worker.phase (brought_by p.worker) p.vnode.log p.turn came → CommandsAlone p.vnode.log
-          → CommandsAlone (log_at next p.index) ⊎ ((to : ℕ) × (slice_get w.routes p.index ≡ Some to) × (to ≢ p.index))
-      by NotPossible o h only = absurd h
-      by Happened o h only = inl (kept h only)
-      by NotHeld o h only = inl (kept h only)
-      by StuckThere o h only = inl (kept h only)
-      by (Replied reply) o h only = inl (subst CommandsAlone (sym (log_after w orderly number action r p)) (replied_alone 0 0 w orderly number action r p reply o only))
-      by CopiedBack o h only =
-          let well = orderly.copiers (pred number) p.worker (here w orderly number action r p) h.own h.site h.key (CopyTaken h.clock h.hand (Some h.next)) h.phase_is in
-          inr (h.site, ap (λ k. slice_get w.routes k) (sym h.at) ∙ well.0, λ e. well.1 (h.at ∙ sym e))
-
-  pub apart-does : IsApart next
-  apart-does = record {
-    apart = is.apart;
-    left = left-next;
-    logs = λ site. elim (same_or_other p.index site) [
-      | inl e ↦ subst (λ k. CommandsAlone (log_at next k) ⊎ ((to : ℕ) × (slice_get w.routes k ≡ Some to) × (to ≢ k))) e log-here
-      | inr n ↦ elim (is.logs site) [
-        | inl only ↦ inl (subst CommandsAlone (sym (log_elsewhere w orderly number action r p site n)) only)
-        | inr away ↦ inr away
-      ]
-    ];
-  }
-
-module _ (w : World) (orderly : IsOrderly w) (other : ℕ) (next : World) (d : IsDiversion w other next) (is : IsApart w) where
+module _ (w : World) (orderly : IsOrderly w) (other : ℕ) (after : World) (d : IsDiversion w other after) (is : IsApart w) where
   abbrev new_site : ℕ
   new_site = length w.vnodes
 
   abbrev fresh : Vnode
-  fresh = fresh_vnode (d.primary.place.vnode + fallback_ids) 0
+  fresh = fresh_vnode (d.primary.place.vnode + fallback_ids) other d.epoch
 
   abbrev later : World
-  later = diverted_by w other d.primary
+  later = diverted_by w other d.epoch d.primary
 
-  past_other : new_site ≢ other
-  past_other e = below_past other (length w.routes) (get-below w.routes other other d.own) (subst (λ n. length w.routes ≤ n) e orderly.sites)
+  -- a site that the worker is about isn't of the partition
+  not_mine : (place : ℕ) (worker : Worker) → slice_get w.workers place ≡ Some worker → (site : ℕ) → is_about site worker.phase ≡ true → (v : Vnode) → slice_get w.vnodes site ≡ Some v → v.own ≡ other → ⊥
+  not_mine place worker h site about v there own = false_true (is_about site worker.phase) (alone_about w other d.alone place worker h site v there own) about
 
-  apart-diverted : IsApart next
+  called_about : (phase : Phase) (call : Call) → call_of phase ≡ Some call → is_about call.site phase ≡ true
+  called_about phase call asked = about_there call.site phase (call_site phase call asked)
+
+  old_vnode : (place : ℕ) (worker : Worker) → slice_get w.workers place ≡ Some worker → (site : ℕ) → is_about site worker.phase ≡ true → (v : Vnode) → slice_get later.vnodes site ≡ Some v
+      → slice_get w.vnodes site ≡ Some v
+  old_vnode place worker h site about v there = elim (get-more w.vnodes fresh site v there) [
+    | inl e ↦ e
+    | inr e ↦ absurd (below_past site new_site (orderly.about place worker h site about) (subst (λ n. new_site ≤ n) (sym e.0) (omega arith)))
+  ]
+
+  logs-diverted : (site : ℕ) → Logs later site
+  logs-diverted site = by (slice_get w.vnodes site) refl
+    where
+      had-more : HadClose w site → (v : Vnode) → slice_get w.vnodes site ≡ Some v → HadClose later site
+      had-more (at, own, closed) v there =
+          let u = closed_vnode w at closed in
+          let more = get-first w.vnodes fresh at u.0 u.1 in (
+            at,
+            ap (λ o. option_map_or (λ (x : Vnode). x.own) o 0) (more ∙ sym u.1) ∙ own ∙ ap (λ o. option_map_or (λ (x : Vnode). x.own) o 0) (there ∙ sym (get-first w.vnodes fresh site v there)),
+            λ none. closed (ap closed_in (u.1 ∙ sym more) ∙ none),
+          )
+
+      by : (o : Option Vnode) → slice_get w.vnodes site ≡ o → Logs later site
+      by None h = inl (subst CommandsAlone (sym (log-more w.vnodes fresh refl site ∙ ap (λ o. option_map_or (λ (x : Vnode). x.log) o []) h)) refl)
+      by (Some v) h = elim (is.logs site) [
+        | inl only ↦ inl (subst CommandsAlone (sym (log-more w.vnodes fresh refl site)) only)
+        | inr rest ↦ elim rest [
+          | inl away ↦ elim (same_or_other other site) [
+            | inl e ↦ inr (inl (
+              new_site,
+              ap (λ k. slice_get later.routes k) (sym e) ∙ set-here w.routes other other new_site d.own,
+              λ f. below_past site (length w.vnodes) (get-below w.vnodes site v h) (subst (λ n. new_site ≤ n) f (omega arith)),
+            ))
+            | inr n ↦ inr (inl (away.0, set-there w.routes other site new_site n ∙ away.1, away.2))
+          ]
+          | inr had ↦ inr (inr (had-more had v h))
+        ]
+      ]
+
+  apart-diverted : IsApart after
   apart-diverted = subst IsApart d.gives (record {
-    apart = λ o site h. elim (same_or_other other o) [
-      | inl e ↦
-          let at : new_site ≡ site = some_same new_site site (sym (set-here w.routes other other new_site d.own) ∙ ap (λ k. slice_get later.routes k) e ∙ h) in
-          inr (subst (λ n. n ≤ site) (sym (length-set w.routes other new_site)) (subst (λ s. length w.routes ≤ s) at orderly.sites))
-      | inr n ↦ elim (is.apart o site (sym (set-there w.routes other o new_site n) ∙ h)) [
-        | inl same ↦ inl same
-        | inr past ↦ inr (subst (λ m. m ≤ site) (sym (length-set w.routes other new_site)) past)
+    away = λ index to route n place worker h call asked v there own.
+        let old = old_vnode place worker h call.site (called_about worker.phase call asked) v there in
+        elim (same_or_other other index) [
+          | inl e ↦ absurd (not_mine place worker h call.site (called_about worker.phase call asked) v old (own ∙ sym e))
+          | inr m ↦ is.away index to (sym (set-there w.routes other index new_site m) ∙ route) n place worker h call asked v old own
+        ];
+    clear = λ index to route n v there. elim (get-more w.vnodes fresh to v there) [
+      | inl e ↦ elim (same_or_other other index) [
+        | inl same ↦ absurd (below_past to new_site (get-below w.vnodes to v e)
+            (subst (λ k. new_site ≤ k) (some_back new_site to (sym (set-here w.routes other other new_site d.own) ∙ ap (λ k. slice_get later.routes k) same ∙ route)) (omega arith)))
+        | inr m ↦ is.clear index to (sym (set-there w.routes other index new_site m) ∙ route) n v e
       ]
+      | inr e ↦ subst (λ (u : Vnode). IsOpenAt u.id u.last_epoch u.log) e.1 refl
     ];
-    left = λ index to h n place worker k call asked at. elim (same_or_other other index) [
-      | inl e ↦ yes_no (is_about other worker.phase) (each_passes (λ (x : Worker). not (is_about other x.phase)) w.workers d.alone place worker k)
-          (about_there other worker.phase (call_site worker.phase call asked ∙ ap (λ s. Some s) (at ∙ sym e)))
-      | inr m ↦ is.left index to (sym (set-there w.routes other index new_site m) ∙ h) n place worker k call asked at
-    ];
-    logs = λ site. elim (is.logs site) [
-      | inl only ↦ inl (subst CommandsAlone (sym (log-more w.vnodes fresh refl site)) only)
-      | inr away ↦ elim (same_or_other other site) [
-        | inl e ↦ inr (new_site, ap (λ k. slice_get later.routes k) (sym e) ∙ set-here w.routes other other new_site d.own, λ f. past_other (f ∙ sym e))
-        | inr n ↦ inr (away.0, set-there w.routes other site new_site n ∙ away.1, away.2)
-      ]
-    ];
+    turned_there = λ place worker h own site turned between v there clear.
+        let f = orderly.between place worker h own site between in
+        is.turned_there place worker h own site turned between f.vnode f.there
+        (subst (λ (u : Vnode). IsOpenAt u.id u.last_epoch u.log) (some_back v f.vnode (sym there ∙ get-first w.vnodes fresh site f.vnode f.there)) clear);
+    logs = logs-diverted;
   })
 
 pub stays_apart : (start : Start) → IsStart start → (schedule : List Step) → IsApart (world_after start schedule)
 stays_apart start is [] = apart-opening start
-stays_apart start is (By number action ∷ earlier) = by (does w number sent) refl (stays_apart start is earlier)
+stays_apart start is (By number action ∷ earlier) = by (acts w number sent) refl (stays_apart start is earlier)
   where
     w : World
     w = world_after start earlier
@@ -170,11 +233,17 @@ stays_apart start is (By number action ∷ earlier) = by (does w number sent) re
     sent : Action
     sent = routed (route w) action
 
-    by : (o : Option (World × Outcome)) → does w number sent ≡ o → IsApart w → IsApart (option_map_or (λ (r : World × Outcome). r.0) o w)
+    by : (o : Option (World × Outcome)) → acts w number sent ≡ o → IsApart w → IsApart (option_map_or (λ (r : World × Outcome). r.0) o w)
     by None h was = was
-    by (Some r) h was =
-        let p = possible w number sent r h in
-        subst (λ (q : World × Outcome). IsApart q.0) p.gives (apart-does w (orderly start is earlier) number sent r p was (sent-by w action))
+    by (Some r) h was = elim (acts_cases w number sent r h) [
+      | inl does ↦
+          let p = possible w number sent r does in
+          subst (λ (q : World × Outcome). IsApart q.0) p.gives (apart-does w (orderly start is earlier) number sent r p was (sent-by w action))
+      | inr two ↦ elim two [
+        | inl j ↦ apart-judged w (orderly start is earlier) number sent r was j
+        | inr c ↦ apart-closed w (orderly start is earlier) number sent r was c
+      ]
+    ]
 stays_apart start is (Diverts other ∷ earlier) = by (diverted w other) refl (stays_apart start is earlier)
   where
     w : World
@@ -184,20 +253,29 @@ stays_apart start is (Diverts other ∷ earlier) = by (diverted w other) refl (s
     by None h was = was
     by (Some next) h was = apart-diverted w (orderly start is earlier) other next (diversion w other next h) was
 
-call_there : (w : World) → IsApart w → CallsMeetNoCopies w
-call_there w is number call asked = elim (is.logs call.site) [
-  | inl only ↦ only
-  | inr away ↦ absurd (by away.0 away.1 away.2 number asked)
+-- where a worker has a call
+pub call_worker : (w : World) (number : ℕ) (call : Call) → call_at w number ≡ Some call
+    → (place : ℕ) × (worker : Worker) × (slice_get w.workers place ≡ Some worker) × (call_of worker.phase ≡ Some call)
+call_worker w zero call h = absurd (no_call call h)
+call_worker w (suc place) call h = by (slice_get w.workers place) refl h
+  where
+    by : (o : Option Worker) → slice_get w.workers place ≡ o → option_map_or (λ (worker : Worker). call_of worker.phase) o None ≡ Some call
+        → (at : ℕ) × (worker : Worker) × (slice_get w.workers at ≡ Some worker) × (call_of worker.phase ≡ Some call)
+    by None e h = absurd (no_call call h)
+    by (Some worker) e h = (place, worker, e, h)
+
+pub call_there : (w : World) → IsOrderly w → IsApart w → (number : ℕ) (call : Call) → call_at w number ≡ Some call → CommandsAlone (log_at w call.site) ⊎ HadClose w call.site
+call_there w orderly is number call asked = elim (is.logs call.site) [
+  | inl only ↦ inl only
+  | inr rest ↦ elim rest [
+    | inl away ↦
+        let x = call_worker w number call asked in
+        let below = get-below w.routes call.site away.0 away.1 in
+        let v = found_below w.vnodes call.site (under call.site (length w.routes) (length w.vnodes) below orderly.sites) in
+        absurd (away.2 (sym (is.away call.site away.0 away.1 away.2 x.0 x.1 x.2 call x.3 v.0 v.1 (orderly.homes call.site v.0 below v.1).0)))
+    | inr had ↦ inr had
+  ]
 ]
   where
-    by_worker : (to : ℕ) → slice_get w.routes call.site ≡ Some to → to ≢ call.site → (place : ℕ) (o : Option Worker) → slice_get w.workers place ≡ o
-        → option_map_or (λ (worker : Worker). call_of worker.phase) o None ≡ Some call → ⊥
-    by_worker to route n place None e h = none_call call h
-    by_worker to route n place (Some worker) e h = is.left call.site to route n place worker e call h refl
-
-    by : (to : ℕ) → slice_get w.routes call.site ≡ Some to → to ≢ call.site → (number : ℕ) → call_at w number ≡ Some call → ⊥
-    by to route n zero h = none_call call h
-    by to route n (suc place) h = by_worker to route n place (slice_get w.workers place) refl h
-
-pub calls_meet_no_copies : (start : Start) → IsStart start → (schedule : List Step) → CallsMeetNoCopies (world_after start schedule)
-calls_meet_no_copies start is schedule = call_there (world_after start schedule) (stays_apart start is schedule)
+    under : (a b c : ℕ) → a < b → b ≤ c → a < c
+    under a b c h k = omega (arith, h, k)

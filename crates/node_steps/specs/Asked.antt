@@ -12,7 +12,7 @@ use Rattle.node_steps.specs.declared.step.Step.{Step as RunStep}
 use Rattle.node_steps.specs.declared.step.Step.TheVariants as steps
 use Rattle.node_steps.specs.declared.step.Act.{Act}
 use Rattle.node_steps.specs.declared.step.Act.TheVariants as acts
-use Rattle.node_steps.specs.Steps.{Action, Asks, AsksNowhere, Copies, Enters, Leaves, Marks, Unmarks, Takes, Puts, Looks, Publishes, Step, By, Diverts}
+use Rattle.node_steps.specs.Steps.{Action, Asks, AsksNowhere, Copies, Closes, Enters, Leaves, Marks, Unmarks, Takes, Puts, Looks, Publishes, Step, By, Diverts}
 use Rattle.node_steps.specs.Running.{ask_of}
 
 -- the ask that a request makes of a vnode; a ping makes none
@@ -47,6 +47,9 @@ step_by worker act = By worker (action_of act)
 abbrev pub copying_step : ℕ → ℕ → Key → Step
 copying_step worker index key = By worker (Copies index key)
 
+abbrev pub closing_step : ℕ → ℕ → Step
+closing_step worker index = By worker (Closes index)
+
 abbrev pub asking_step : ℕ → ℕ → Ask Content Context → Step
 asking_step worker index ask = By worker (Asks index ask)
 
@@ -64,3 +67,4 @@ step_of (steps.Look worker) = By worker Looks
 step_of (steps.Publish worker) = By worker Publishes
 step_of (steps.Divert index) = Diverts index
 step_of (steps.Copy worker index key) = By worker (Copies index key)
+step_of (steps.Close worker index) = By worker (Closes index)

@@ -5,17 +5,26 @@ use Rattle.riak_msgs.specs.KeyOrder.{key_eq}
 use Rattle.actor_epoch.specs.Given.{Context, context_of}
 use Rattle.vnode_machine.specs.Step.{Response, GetDone, PutDone, DelDone, ReapDone, ReapKept}
 use Rattle.vnode_machine.specs.Registers.{key_of, context_in_ask}
-use Rattle.node_steps.specs.World.{World, Call, route, call_at}
-use Rattle.node_steps.specs.Steps.{Action, Asks, Step, By, Diverts, number_of, Replied, routed, happens, outcome}
+use Rattle.std.specs.Option.{option_map_or}
+use Rattle.node_steps.specs.World.{Phase, Turned, World, Call, worker_at, route, call_at}
+use Rattle.node_steps.specs.Steps.{Action, Asks, Leaves, Puts, Step, By, Diverts, number_of, Replied, routed, happens, outcome}
 use Rattle.node_steps.specs.Schedules.{Start, world_after}
 
--- the context by which the command of an action that is sent has seen something of the key at a site
-abbrev pub given_in : Action → (site : ℕ) → Key → Option Context
-given_in (Asks other ask) site key = if (other == site) && key_eq (key_of ask) key then context_in_ask ask else None
-given_in action site key = None
+-- the call that comes to a site by an action that is sent: one that is new, or that was turned away from a closed fallback
+abbrev pub call_by : Action → Phase → Option Call
+call_by (Asks site ask) phase = Some (record { site = site; ask = ask })
+call_by Leaves (Turned own site ask None) = Some (record { site = own; ask = ask })
+call_by Puts (Turned own site ask (Some hand)) = Some (record { site = own; ask = ask })
+call_by action phase = None
+
+-- the context by which its command has seen something of the key at a site
+abbrev pub given_in : Option Call → (site : ℕ) → Key → Option Context
+given_in None site key = None
+given_in (Some call) site key = if (call.site == site) && key_eq (key_of call.ask) key then context_in_ask call.ask else None
 
 abbrev pub given_by : World → Step → (site : ℕ) → Key → Option Context
-given_by w (By number action) site key = given_in (routed (route w) action) site key
+given_by w (By number action) site key =
+    option_map_or (λ worker. given_in (call_by (routed (route w) action) worker.phase) site key) (worker_at w number) None
 given_by w (Diverts index) site key = None
 
 -- the bytes of the context in a response, none where it has none

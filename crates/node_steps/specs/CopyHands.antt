@@ -6,9 +6,9 @@ use Rattle.riak_msgs.specs.Contents.{Content}
 use Rattle.dvv_set.specs.Clocks.{DotState}
 use Rattle.vnode_machine.specs.Copying.{is_stuck, apply_copy}
 use Rattle.vnode_machine.specs.Machine.{State, clock_of, is_held}
-use Rattle.vnode_protocol.specs.KeyCopies.{KeyCopyView}
-use Rattle.vnode_protocol.specs.declared.ask.Ask.{Ask}
-use Rattle.vnode_protocol.specs.declared.ask.Ask.TheVariants.{Put, Del, Reap, ReapFirst, Copy, Close}
+use Rattle.vnode_core.specs.KeyCopies.{KeyCopyView}
+use Rattle.vnode_core.specs.declared.ask.Ask.{Ask}
+use Rattle.vnode_core.specs.declared.ask.Ask.TheVariants.{Put, Del, Reap, ReapFirst, Copy, Close}
 use Rattle.node_steps.specs.declared.copied_clock.CopiedClock.{CopiedClock}
 use Rattle.node_steps.specs.declared.planned_copy.PlannedCopy.TheInside.{Inside}
 
@@ -42,7 +42,7 @@ IsCopy (ReapFirst from) = ⊥
 IsCopy (Copy copy) = Unit {0}
 IsCopy (Close number) = ⊥
 
--- the change is the copy of a key and its clock, and is what is prepared; without one the copy is stuck
+-- the change is the copy of a key and its clock, and is what is prepared; without one the copy is stuck, or the vnode closed
 pub record PlansTo (state : State Content) (prepared : Option Ask) (key : Key) (clock : DotState (Option Content)) (change : Ask) : Type 0 where
   pub copy : KeyCopyView
   pub is : change ≡ Copy copy
@@ -52,7 +52,7 @@ pub record PlansTo (state : State Content) (prepared : Option Ask) (key : Key) (
   pub unstuck : is_stuck state key clock ≡ false
 
 abbrev pub PlansCopy : State Content → (prepared : Option Ask) → Key → DotState (Option Content) → Option Ask → Type 0
-PlansCopy state prepared key clock None = is_stuck state key clock ≡ true
+PlansCopy state prepared key clock None = state.closed ≡ None → is_stuck state key clock ≡ true
 PlansCopy state prepared key clock (Some change) = PlansTo state prepared key clock change
 
 -- the primary's state in a copier's hand, the clock that is copied, and the state after it

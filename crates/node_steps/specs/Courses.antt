@@ -1,18 +1,19 @@
--- Each run of a partition as a course of the law of copies: what happened to its primary and its fallback, one thing after another.
-use Rattle.std.specs.Prelude.{◌≡◌, ◌≢◌, ◌⊎◌, ◌<◌, List, [], ◌∷◌, ℕ, Some, None}
+-- Each run of a partition as a course of the law of copies: what happened to its primary and its fallbacks, one thing after another.
+use Rattle.std.specs.Prelude.{◌≡◌, ◌≢◌, ◌⊎◌, ◌<◌, ◌≤◌, ◌+◌, true, false, List, [], ◌∷◌, ℕ, Some, None}
 use Rattle.riak_msgs.specs.declared.Key.{Key}
 use Rattle.actor_epoch.specs.Given.{Context}
+use Rattle.actor_epoch.specs.Limits.{max_epoch}
+use Rattle.riak_msgs.specs.Contents.{Content}
+use Rattle.sibling_register.specs.History.{Event}
+use Rattle.vnode_machine.specs.Registers.{key_of, context_in_ask}
 use Rattle.copy_laws.specs.Sides.{Partition}
-use Rattle.copy_laws.specs.Diversions.{Course, Happens, diversions_of, fallback_of, primary_of}
-use Rattle.node_steps.specs.Partitions.{partition_behind}
-use Rattle.node_steps.specs.World.{World, CommandsAlone, id_of, route, log_at, history_at}
+use Rattle.copy_laws.specs.JointAnswers.{MayAsk}
+use Rattle.copy_laws.specs.Diversions.{Course, Happens, diversions_of, is_diverted, fallback_of, primary_of}
+use Rattle.node_steps.specs.Partitions.{fallback_ids}
+use Rattle.node_steps.specs.World.{World, CommandsAlone, Call, call_at, id_of, route, id_at, own_at, last_epoch_at, log_at, history_at}
 use Rattle.node_steps.specs.Steps.{Step, happens}
 use Rattle.node_steps.specs.Schedules.{Start, IsStart, world_after}
 use Rattle.node_steps.specs.Contexts.{given_by, Shows}
-
--- the vnodes of a partition in a run; it is diverted once at most
-abbrev pub partition_of : (run index : ℕ) → Partition
-partition_of run index = partition_behind (id_of run index) 0
 
 -- a site of a partition: its own, or the one that its calls go to
 abbrev pub IsSiteOf : World → (index site : ℕ) → Type 0
@@ -35,17 +36,39 @@ module _ (start : Start) (index : ℕ) where
       × (happens w step ≢ None → (site : ℕ) → IsSiteOf w index site → (key : Key) (context : Context)
       → given_by w step site key ≡ Some context → WasShownThere earlier key context)
 
--- a course whose primary has the log at the partition's own site, of commands alone where it isn't diverted, and whose fallback, once it
--- is, has the history at the other, whose log is of commands alone
-pub record IsCourseOf (partition : Partition) (w : World) (index : ℕ) (course : Course) : Type 0 where
+-- a site is the one of the n-th diversion's fallback: with its id, the epoch that it was opened behind, and its history
+pub record IsFallbackOf (partition : Partition) (w : World) (index : ℕ) (course : Course) (n site : ℕ) : Type 0 where
+  pub own : own_at w site ≡ index
+  pub id : id_at w site ≡ partition.fallback
+  pub epoch : last_epoch_at w site ≡ partition.opened n
+  pub history : history_at w site ≡ fallback_of course n
+
+-- a course whose primary has the log at the partition's own site, of commands alone until it is diverted, and each of whose fallbacks has the
+-- history at a site: the last one, where it didn't return yet, at the site that the calls go to, with a log of commands alone
+pub record IsCourseOf (partition : Partition) (run : ℕ) (w : World) (index : ℕ) (course : Course) : Type 0 where
   pub may_happen : Happens partition course
+  pub primary_id : partition.primary ≡ id_of run index
+  pub fallback_id : partition.fallback ≡ id_of run index + fallback_ids
+  pub first_epoch : partition.last_epoch ≡ 0
+  pub diversions : partition.diversions ≡ diversions_of course
+  pub limits : (n : ℕ) → n ≤ diversions_of course → partition.opened n ≤ max_epoch
   pub primary : primary_of partition course ≡ log_at w index
-  pub own : route w index ≡ Some index → (diversions_of course ≡ 0) × CommandsAlone (log_at w index)
-  pub fallback : (site : ℕ) → route w index ≡ Some site → site ≢ index
-      → (diversions_of course ≡ 1) × (fallback_of course 1 ≡ history_at w site) × CommandsAlone (log_at w site)
+  pub undiverted : diversions_of course ≡ 0 → CommandsAlone (log_at w index)
+  pub own : route w index ≡ Some index → is_diverted course ≡ false
+  pub away : (site : ℕ) → route w index ≡ Some site → site ≢ index
+      → (is_diverted course ≡ true) × IsFallbackOf partition w index course (diversions_of course) site × CommandsAlone (log_at w site)
+  pub fallbacks : (n : ℕ) → 1 ≤ n → n ≤ diversions_of course → (site : ℕ) × IsFallbackOf partition w index course n site
+
+-- what a worker is asked at the partition's own site may be asked there: the partition isn't diverted, and a context that is given had been
+-- shown, where its key was defined
+abbrev pub CallsMayBeAsked : Partition → World → (index : ℕ) → Course → Type 0
+CallsMayBeAsked partition w index course =
+    (number : ℕ) (call : Call) → call_at w number ≡ Some call → call.site ≡ index
+    → (event : Event Content Context) → event.key ≡ key_of call.ask → event.context ≡ context_in_ask call.ask → MayAsk partition course event
 
 -- so is each run of a partition, where the contexts had been shown
 abbrev pub RunsAreCourses : Type 0
 RunsAreCourses =
     (start : Start) → IsStart start → (schedule : List Step) (index : ℕ) → index < start.vnodes → GivesShownThere start index schedule
-    → (course : Course) × IsCourseOf (partition_of start.run index) (world_after start schedule) index course
+    → (partition : Partition) × (course : Course) × IsCourseOf partition start.run (world_after start schedule) index course
+    × CallsMayBeAsked partition (world_after start schedule) index course

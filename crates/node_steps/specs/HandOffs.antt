@@ -18,7 +18,7 @@ use Rattle.copy_laws.specs.Leaving.{IsSeenWhereItLeft, FallbacksLeaveOnlySeen}
 use Rattle.node_steps.specs.World.{World, log_at}
 use Rattle.node_steps.specs.Steps.{Step}
 use Rattle.node_steps.specs.Schedules.{Start, IsStart, world_after}
-use Rattle.node_steps.specs.Courses.{partition_of, GivesShownThere, IsCourseOf}
+use Rattle.node_steps.specs.Courses.{GivesShownThere, IsCourseOf, CallsMayBeAsked}
 
 -- what the register answers at the primary at a moment, over the siblings of both sides, is what the machine does there
 pub record AnswersAsRegister (partition : Partition) (course : Course) (log : Log) : Type 0 where
@@ -30,9 +30,9 @@ pub record AnswersAsRegister (partition : Partition) (course : Course) (log : Lo
   pub reaps : (key : Key) → holds_dead (primary_after partition log) key ≡ is_dead_at partition log key
 
 -- a partition's logs, by its course
-pub record HandsOff (partition : Partition) (w : World) (index : ℕ) : Type 0 where
+pub record HandsOff (partition : Partition) (run : ℕ) (w : World) (index : ℕ) : Type 0 where
   pub course : Course
-  pub is : IsCourseOf partition w index course
+  pub is : IsCourseOf partition run w index course
   -- the machine accepted each entry, on both sides, and each command saw what it had to see; each copy is one of the fallback at
   -- some time
   pub hand_off : (key : Key) → IsHandOff partition (log_at w index) (fallback_of course) key
@@ -41,6 +41,8 @@ pub record HandsOff (partition : Partition) (w : World) (index : ℕ) : Type 0 w
   pub names : NamesPositions partition (log_at w index)
   pub shows : (key : Key) → ShowsSiblings partition (log_at w index) (fallback_of course) key (log_at w index)
   pub answers : AnswersAsRegister partition course (log_at w index)
+  -- what is asked at the primary may be asked there
+  pub asked : CallsMayBeAsked partition w index course
   -- no dot stands on two sides
   pub apart : (key : Key) (a b : Number) (dot : Dot) → HasDot partition (log_at w index) (fallback_of course) key a dot
       → HasDot partition (log_at w index) (fallback_of course) key b dot → a.side ≡ b.side
@@ -54,4 +56,4 @@ pub record HandsOff (partition : Partition) (w : World) (index : ℕ) : Type 0 w
 abbrev pub PartitionsHandOff : Type 0
 PartitionsHandOff =
     (start : Start) → IsStart start → (schedule : List Step) (index : ℕ) → index < start.vnodes → GivesShownThere start index schedule
-    → HandsOff (partition_of start.run index) (world_after start schedule) index
+    → (partition : Partition) × HandsOff partition start.run (world_after start schedule) index

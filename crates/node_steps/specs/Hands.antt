@@ -10,11 +10,11 @@ use Rattle.vnode_machine.specs.Replies.{get_reply}
 use Rattle.vnode_machine.specs.Sound.{IsSound}
 use Rattle.vnode_machine.specs.Step.{Response, GetDone, PutDone, DelDone, ReapDone, ReapKept, StepOutcome, Refused, Answered, Accepted, outcome}
 use Rattle.clock_store.specs.declared.store.Reaped.TheVariants.{Gone, Kept, Absent}
-use Rattle.vnode_protocol.specs.declared.ask.Ask.{Ask}
-use Rattle.vnode_protocol.specs.declared.ask.Ask.TheVariants.{Put, Del, Reap, ReapFirst, Copy, Close}
-use Rattle.vnode_protocol.specs.declared.ask.Answer.{Answer}
-use Rattle.vnode_protocol.specs.declared.ask.Answer.TheVariants as answers
-use Rattle.vnode_protocol.specs.Plans.{IsPrepared}
+use Rattle.vnode_core.specs.declared.ask.Ask.{Ask}
+use Rattle.vnode_core.specs.declared.ask.Ask.TheVariants.{Put, Del, Reap, ReapFirst, Copy, Close}
+use Rattle.vnode_core.specs.declared.ask.Answer.{Answer}
+use Rattle.vnode_core.specs.declared.ask.Answer.TheVariants as answers
+use Rattle.vnode_core.specs.Plans.{IsPrepared}
 use Rattle.node_steps.specs.declared.hand.Hand.TheInside.{Inside}
 use Rattle.node_steps.specs.declared.outcome.Outcome.{Outcome as Returned}
 use Rattle.node_steps.specs.World.{Plan}
@@ -31,8 +31,8 @@ plan_by (Refused number) = None
 plan_by (Answered response) = None
 plan_by (Accepted operation response next) = Some (record { operation = operation; response = response; next = next })
 
--- the command of the register that a worker's call makes of a vnode. No call makes one of the others: copies are no calls, the world has
--- no closes, and reaps the key that it names
+-- the command of the register that a worker's call makes of a vnode. No call makes one of the others: copies and closes are no calls,
+-- and it reaps the key that it names
 abbrev pub command_of : Ask → Option (Command Content Context)
 command_of (Put put) = Some (AskPut (put_command put))
 command_of (Del del) = Some (AskDel (del_command del))
@@ -63,10 +63,9 @@ plan_of state change = option_and_then (λ ask. option_and_then (λ command. pla
 abbrev pub hand_of : Inside → HandView
 hand_of h = record { state = h.vnode.state; plan = plan_of h.vnode.state h.change; prepared = h.vnode.prepared }
 
--- the vnode has this id, and isn't closed, and its clocks have their form; the change is what it prepared last, and the machine accepts it
+-- the vnode has this id, and its clocks have their form; the change is what it prepared last, and the machine accepts it
 pub record IsHand (h : Inside) : Type 0 where
   pub named : h.vnode.state.vnode ≡ h.id
-  pub opened : h.vnode.state.closed ≡ None
   pub sound : IsSound h.vnode.state
   pub planned : IfSome h.change (λ change. IsSome (command_of change) × IsPrepared h.vnode change change)
 

@@ -1,5 +1,7 @@
 pub mod World
 pub mod Partitions
+pub mod HeldNames
+pub mod Actions
 pub mod Steps
 pub mod Schedules
 pub mod Contexts
@@ -16,3 +18,7 @@ pub mod Asked
 pub mod Parts
 pub mod Kept
 pub mod Gates
+pub mod CloseHands
+pub mod Turning
+pub mod Lefts
+pub mod Closings

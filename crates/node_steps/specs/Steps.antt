@@ -19,70 +19,36 @@
 --     its take          Takes       turn_of Takes CopyLooked, taken
 --     its publish       Publishes   turn_of Publishes CopyTaken with a plan, copies_by
 --     its put, leave    Puts, ..    turn_of Puts, turn_of Leaves CopyDone, with the primary's state in hand and without
-use Rattle.std.specs.Prelude.{Bool, true, false, not, if◌then◌else◌, ◌==◌, ◌&&◌, ◌||◌, ◌+◌, ◌-◌, ◌++◌, List, [], ◌∷◌, ℕ, length, zero, suc, pred, Option, Some, None, Result, Ok, Err, option_map, option_and_then, slice_get, slice_set}
+--   close W P           Closes      turn_of ClosesFrom Idle; routed
+--     its take          Takes       turn_of Takes CloseAsked, taken
+--     its enter         Enters      turn_of Enters CloseTaken, entered
+--     its look          Looks       closes CloseInside, judged
+--     its publish       Publishes   closes CloseLooked
+--     its leave, put    Leaves, ..  turn_of Leaves, turn_of Puts CloseDone, inside the primary and not any more
+--   leave W, put W where the fallback was found closed: turn_of Leaves, turn_of Puts Turned
+use Rattle.std.specs.Prelude.{Bool, true, false, not, if◌then◌else◌, ◌==◌, ◌&&◌, ◌||◌, ◌+◌, ◌-◌, ◌^◌, ◌++◌, List, [], ◌∷◌, ℕ, length, filter, min, nat_le, zero, suc, pred, Option, Some, None, is_some, Result, Ok, Err, option_map, option_and_then, slice_get, slice_set}
 use Rattle.std.specs.Option.{option_map_or}
 use Rattle.std.specs.List.{list_all}
 use Rattle.riak_msgs.specs.declared.Key.{Key}
 use Rattle.riak_msgs.specs.Contents.{Content}
 use Rattle.sibling_register.specs.History.{Event}
-use Rattle.sibling_register.specs.Answers.{Ask, AskGet, AskReap}
+use Rattle.sibling_register.specs.Answers.{Ask, AskGet, AskReap, GetCommand}
+use Rattle.actor_epoch.specs.Dots.{counter_in}
 use Rattle.actor_epoch.specs.Given.{Context}
 use Rattle.dvv_set.specs.Clocks.{DotState}
-use Rattle.vnode_machine.specs.Copying.{is_stuck, apply_copy}
+use Rattle.vnode_machine.specs.Copying.{is_stuck, apply_copy, apply_close}
 use Rattle.vnode_machine.specs.Machine.{State, clock_of, is_held}
 use Rattle.vnode_machine.specs.Replay.{History}
 use Rattle.vnode_machine.specs.Replies.{get_reply}
 use Rattle.vnode_machine.specs.Step.{Response, GetDone, StepOutcome, Refused, Answered, Accepted, outcome as outcome_of_ask}
 use Rattle.vnode_machine.specs.Registers.{key_of, context_in_ask}
 use Rattle.sibling_register.specs.History.{Operation}
-use Rattle.copy_laws.specs.Copies.{Copy, Command, Copied}
-use Rattle.copy_laws.specs.CopyReplay.{seen_at as saw_at}
+use Rattle.copy_laws.specs.Copies.{Copy, Command, Copied, Closed}
 use Rattle.copy_laws.specs.Joining.{Log}
 pub use Rattle.node_steps.specs.Partitions.{fallback_ids}
-use Rattle.node_steps.specs.Partitions.{partition_behind}
-use Rattle.node_steps.specs.World.{Word, Open, Taken, Plan, CopyStage, CopyAsked, CopyInside, CopyLooked, CopyTaken, CopyDone, Phase, Idle, Asked, Reading, Holding, Done, Copying, Vnode, Worker, World, fresh_vnode, history_of, seen_at, brought_by, worker_at, route}
-
--- what a worker does
-pub data Action : Type 0 where
-  -- it gets a call for the partition at this index; an ask that no vnode answers, as of a ping, is never possible
-  Asks : (index : ℕ) (ask : Ask Content Context) → Action
-  AsksNowhere : Action
-  -- it is to copy a key of the partition at this index back; and so as it is sent, with the sites that it copies to and from
-  Copies : (index : ℕ) (key : Key) → Action
-  CopiesFrom : (own site : ℕ) (key : Key) → Action
-  -- it enters as a reader, and leaves
-  Enters : Action
-  Leaves : Action
-  -- it marks the word, so that no reader enters, and takes the mark away
-  Marks : Action
-  Unmarks : Action
-  -- it takes the state into its hand, and puts it back in place
-  Takes : Action
-  Puts : Action
-  -- it looks at the state, and publishes its plan
-  Looks : Action
-  Publishes : Action
-
-pub data Step : Type 0 where
-  -- the worker of a number does something
-  By : (number : ℕ) (action : Action) → Step
-  -- the partition at this index is diverted to a fallback
-  Diverts : (index : ℕ) → Step
-
--- the number of a step's worker; 0, which no worker has, of a partition's step
-abbrev pub number_of : Step → ℕ
-number_of (By number action) = number
-number_of (Diverts index) = 0
-
--- what comes of a step: it isn't possible; it happened, and answers nothing; it answers the worker's call, by a response or by the
--- number of a refusal; or of a copy: the fallback doesn't hold the key, the primary would have too much of it, it was copied
-pub data Outcome : Type 0 where
-  NotPossible : Outcome
-  Happened : Outcome
-  Replied : (reply : Result Response ℕ) → Outcome
-  NotHeld : Outcome
-  StuckThere : Outcome
-  CopiedBack : Outcome
+pub use Rattle.node_steps.specs.Actions.{Action, Asks, AsksNowhere, Copies, CopiesFrom, Closes, ClosesFrom, Enters, Leaves, Marks, Unmarks, Takes, Puts, Looks, Publishes, Step, By, Diverts, number_of, Outcome, NotPossible, Happened, Replied, NotHeld, StuckThere, CopiedBack, Elsewhere, LeftThere}
+use Rattle.node_steps.specs.HeldNames.{saw_held}
+use Rattle.node_steps.specs.World.{Word, Open, Taken, Plan, CopyStage, CopyAsked, CopyInside, CopyLooked, CopyTaken, CopyDone, CloseStage, CloseAsked, CloseTaken, CloseInside, CloseLooked, CloseDone, Phase, Idle, Asked, Reading, Holding, Done, Turned, Copying, Closing, Brought, Vnode, Worker, World, fresh_vnode, history_of, seen_at, diversions_at, brought_by, worker_at, route}
 
 -- what a step makes of its worker and of the vnode, the front of the vnode's history that the worker has then seen, and what comes
 -- of the step
@@ -127,10 +93,10 @@ event_at id last_epoch log ask operation = record {
   key = key_of ask;
   operation = operation;
   context = context_in_ask ask;
-  saw = saw_at (partition_behind id last_epoch) log (key_of ask) (context_in_ask ask) operation;
+  saw = saw_held id last_epoch log (key_of ask) (context_in_ask ask) operation;
 }
 
-module _ (seen brought : History) (vnode : Vnode) where
+module _ (seen : History) (brought : Brought) (vnode : Vnode) where
   -- the worker goes to a phase, and the vnode's word is this
   abbrev pub moves : Phase → Word → Turn
   moves phase word = record { phase = phase; seen = seen; vnode = record vnode { word = word }; outcome = Happened }
@@ -163,14 +129,29 @@ module _ (seen brought : History) (vnode : Vnode) where
         outcome = Replied (Ok plan.response);
       }
 
-  -- a copier has seen the vnode's whole history, and goes on or is done
+  -- a worker has seen the vnode's whole history, and goes on, is turned away or is done
   abbrev pub sees : Phase → Outcome → Turn
   sees phase came = record { phase = phase; seen = history_of vnode; vnode = vnode; outcome = came }
 
-  -- its look at the fallback: it keeps the key's clock, where the key is held
+  -- a reader's look: where the fallback is closed it is turned away
+  abbrev pub reads_by : (site : ℕ) (get : GetCommand Context) (closed : Bool) → Turn
+  reads_by site get true = sees (Turned vnode.own site (AskGet get) None) Elsewhere
+  reads_by site get false = answers (Done site None) (Ok (GetDone (get_reply vnode.place get)))
+
+  -- and a holder's
+  abbrev pub holds_by : (site : ℕ) (ask : Ask Content Context) (hand : State Content) (closed : Bool) → Turn
+  holds_by site ask hand true = sees (Turned vnode.own site ask (Some hand)) Elsewhere
+  holds_by site ask hand false = looks_by site ask hand (outcome_of_ask hand ask)
+
+  -- a copier's look at the fallback: it keeps the key's clock, where the key is held
   abbrev pub finds_by : (own site : ℕ) (key : Key) (held : Bool) → Turn
   finds_by own site key true = sees (Copying own site key (CopyLooked (clock_of vnode.place key))) Happened
   finds_by own site key false = sees (Copying own site key (CopyDone None)) NotHeld
+
+  -- where the fallback is closed it is done
+  abbrev pub finds_open : (own site : ℕ) (key : Key) (closed : Bool) → Turn
+  finds_open own site key true = sees (Copying own site key (CopyDone None)) Elsewhere
+  finds_open own site key false = finds_by own site key (is_held vnode.place key)
 
   -- its look at the primary: it keeps the state after the copy, unless that is stuck
   abbrev pub syncs_by : (own site : ℕ) (key : Key) (clock : DotState (Option Content)) (hand : State Content) (stuck : Bool) → Turn
@@ -180,7 +161,7 @@ module _ (seen brought : History) (vnode : Vnode) where
   -- its publish: the copy is the log's next entry
   abbrev pub copies_by : (own site : ℕ) (key : Key) (clock : DotState (Option Content)) (next : State Content) → Turn
   copies_by own site key clock next =
-      let copy : Copy Content = record { key = key; clock = clock; diversion = 1; prefix = brought } in
+      let copy : Copy Content = record { key = key; clock = clock; diversion = brought.diversion; prefix = brought.prefix } in
       record {
         phase = Copying own site key (CopyDone (Some next));
         seen = history_of vnode;
@@ -199,17 +180,24 @@ module _ (seen brought : History) (vnode : Vnode) where
   turn_of Takes (Asked site ask) = option_map (moves (Holding site ask vnode.place None)) (taken vnode.word)
   turn_of Puts (Holding site ask hand plan) = Some (lays (Asked site ask) hand)
   turn_of Puts (Done site (Some hand)) = Some (lays Idle hand)
-  turn_of Looks (Reading site get) = Some (answers (Done site None) (Ok (GetDone (get_reply vnode.place get))))
-  turn_of Looks (Holding site ask hand None) = Some (looks_by site ask hand (outcome_of_ask hand ask))
+  turn_of Looks (Reading site get) = Some (reads_by site get (is_some vnode.place.closed))
+  turn_of Looks (Holding site ask hand None) = Some (holds_by site ask hand (is_some hand.closed))
+  turn_of Leaves (Turned own site ask None) = Some (moves (Asked own ask) (left vnode.word))
+  turn_of Puts (Turned own site ask (Some hand)) = Some (lays (Asked own ask) hand)
   turn_of Publishes (Holding site ask hand (Some plan)) = Some (publishes_by site ask plan)
   turn_of (CopiesFrom own site key) Idle = Some (moves (Copying own site key CopyAsked) vnode.word)
   turn_of Enters (Copying own site key CopyAsked) = option_map (moves (Copying own site key CopyInside)) (entered vnode.word)
-  turn_of Looks (Copying own site key CopyInside) = Some (finds_by own site key (is_held vnode.place key))
+  turn_of Looks (Copying own site key CopyInside) = Some (finds_open own site key (is_some vnode.place.closed))
   turn_of Takes (Copying own site key (CopyLooked clock)) = option_map (moves (Copying own site key (CopyTaken clock vnode.place None))) (taken vnode.word)
   turn_of Looks (Copying own site key (CopyTaken clock hand None)) = Some (syncs_by own site key clock hand (is_stuck hand key clock))
   turn_of Publishes (Copying own site key (CopyTaken clock hand (Some next))) = Some (copies_by own site key clock next)
   turn_of Puts (Copying own site key (CopyDone (Some hand))) = Some (lays (Copying own site key (CopyDone None)) hand)
   turn_of Leaves (Copying own site key (CopyDone None)) = Some (moves Idle (left vnode.word))
+  turn_of (ClosesFrom own site) Idle = Some (moves (Closing own site CloseAsked) vnode.word)
+  turn_of Takes (Closing own site CloseAsked) = option_map (moves (Closing own site (CloseTaken vnode.place))) (taken vnode.word)
+  turn_of Enters (Closing own site (CloseTaken hand)) = option_map (moves (Closing own site (CloseInside hand))) (entered vnode.word)
+  turn_of Leaves (Closing own site (CloseDone hand true)) = Some (moves (Closing own site (CloseDone hand false)) (left vnode.word))
+  turn_of Puts (Closing own site (CloseDone hand false)) = Some (lays Idle hand)
   turn_of action phase = None
 
 abbrev pub is_reap : Ask Content Context → Bool
@@ -224,11 +212,17 @@ sent index site ask = if not (site == index) && is_reap ask then AsksNowhere els
 abbrev pub sent_copy : (index site : ℕ) → Key → Action
 sent_copy index site key = if site == index then AsksNowhere else CopiesFrom index site key
 
--- the action with its call sent to the site that the partition's calls go to; a copy's sites are found so alone
+-- a close of a partition's fallback at this site, where that isn't the partition's own
+abbrev pub sent_close : (index site : ℕ) → Action
+sent_close index site = if site == index then AsksNowhere else ClosesFrom index site
+
+-- the action with its call sent to the site that the partition's calls go to; a copy's and a close's sites are found so alone
 abbrev pub routed : (route : ℕ → Option ℕ) → Action → Action
 routed route (Asks index ask) = option_map_or (λ site. sent index site ask) (route index) AsksNowhere
 routed route (Copies index key) = option_map_or (λ site. sent_copy index site key) (route index) AsksNowhere
 routed route (CopiesFrom own site key) = AsksNowhere
+routed route (Closes index) = option_map_or (λ site. sent_close index site) (route index) AsksNowhere
+routed route (ClosesFrom own site) = AsksNowhere
 routed route action = action
 
 -- the site of a copier's next step: the fallback's, but for the steps with the primary's state in its hand and the one by which it
@@ -241,16 +235,28 @@ copy_site own site (CopyTaken clock hand plan) = own
 copy_site own site (CopyDone None) = site
 copy_site own site (CopyDone (Some hand)) = own
 
--- the site that an action is about: that of the call, or of a copier's next step
+-- the site of a closer's next step; of its look and its publish, which are about two sites, see below
+abbrev pub close_site : (own site : ℕ) → CloseStage → ℕ
+close_site own site CloseAsked = site
+close_site own site (CloseTaken hand) = own
+close_site own site (CloseInside hand) = own
+close_site own site (CloseLooked hand number) = site
+close_site own site (CloseDone hand true) = own
+close_site own site (CloseDone hand false) = site
+
+-- the site that an action is about: that of the call, or of a copier's or a closer's next step
 abbrev pub site_of : Action → Phase → Option ℕ
 site_of (Asks site ask) Idle = Some site
 site_of (CopiesFrom own site key) Idle = Some site
+site_of (ClosesFrom own site) Idle = Some site
 site_of action Idle = None
 site_of action (Asked site ask) = Some site
 site_of action (Reading site get) = Some site
 site_of action (Holding site ask hand plan) = Some site
 site_of action (Done site hand) = Some site
+site_of action (Turned own site ask hand) = Some site
 site_of action (Copying own site key stage) = Some (copy_site own site stage)
+site_of action (Closing own site stage) = Some (close_site own site stage)
 
 -- a worker has seen this front at a site, and elsewhere what it had seen
 abbrev pub seeing : List History → (site : ℕ) → History → List History
@@ -274,40 +280,99 @@ does w number action =
     option_and_then (λ site.
     option_and_then (λ vnode.
     option_map (λ turn. (turned w (pred number) site worker turn, turn.outcome))
-    (turn_of (seen_at worker.seen site) (brought_by worker) vnode action worker.phase))
+    (turn_of (seen_at worker.seen site) (brought_by w worker) vnode action worker.phase))
     (slice_get w.vnodes site))
     (site_of action worker.phase))
     (worker_at w number)
 
--- a worker in this phase has a call at the site, or copies from it or to it
+-- the keys of a fallback that the primary doesn't have as they are now: it knows less of the fallback's own actor of the key
+abbrev pub left_in : (primary fallback : State Content) → ℕ
+left_in primary fallback =
+    length (filter (λ entry. not (option_map_or
+    (λ own. nat_le (counter_in entry.1.clock.known own) (counter_in (clock_of primary entry.0).known own)) entry.1.own true)) fallback.keys)
+
+-- how many commands a vnode has accepted, up to the greatest number that a close can carry
+abbrev pub accepted_in : State Content → ℕ
+accepted_in state = min (state.writes + state.tombstones + state.reaps) (2 ^ 64 - 1)
+
+-- a closer's look at both: it is done where the fallback is closed, or something is left
+abbrev pub judged : (own site : ℕ) (hand primary : State Content) (closed : Bool) (left : ℕ) → Phase × Outcome
+judged own site hand primary true left = (Closing own site (CloseDone hand true), Elsewhere)
+judged own site hand primary false zero = (Closing own site (CloseLooked hand (accepted_in primary)), Happened)
+judged own site hand primary false (suc left) = (Closing own site (CloseDone hand true), LeftThere (suc left))
+
+-- the world after a closer's look, by which it has seen both histories
+abbrev pub judged_by : World → (place own site : ℕ) → Worker → (primary fallback : Vnode) → Phase → World
+judged_by w place own site worker primary fallback phase = record w {
+  workers = slice_set w.workers place (record { phase = phase; seen = seeing (seeing worker.seen site (history_of fallback)) own (history_of primary) });
+}
+
+-- and after its publish: the close is the last entry of the fallback's log, and the calls go to the partition's own site again
+abbrev pub closed_by : World → (place own site : ℕ) → Worker → (fallback : Vnode) (hand : State Content) (number : ℕ) → World
+closed_by w place own site worker fallback hand number = record w {
+  vnodes = slice_set w.vnodes site (record fallback { log = Closed number ∷ fallback.log });
+  routes = slice_set w.routes own own;
+  epochs = slice_set w.epochs own hand.last_epoch;
+  workers = slice_set w.workers place (record worker { phase = Closing own site (CloseDone (apply_close hand number) true) });
+}
+
+-- a closer's look and its publish: the two steps that are about two sites
+abbrev pub closes : World → (number : ℕ) → Worker → Action → Phase → Option (World × Outcome)
+closes w number worker Looks (Closing own site (CloseInside hand)) =
+    option_and_then (λ fallback.
+    option_map (λ primary.
+    let came = judged own site hand primary.place (is_some hand.closed) (left_in primary.place hand) in
+    (judged_by w (pred number) own site worker primary fallback came.0, came.1))
+    (slice_get w.vnodes own))
+    (slice_get w.vnodes site)
+closes w number worker Publishes (Closing own site (CloseLooked hand count)) =
+    option_map (λ fallback. (closed_by w (pred number) own site worker fallback hand count, Happened)) (slice_get w.vnodes site)
+closes w number worker action phase = None
+
+-- what a worker does at one site, or a closer at two
+abbrev pub acts : World → (number : ℕ) → Action → Option (World × Outcome)
+acts w number action =
+    option_and_then (λ worker. option_map_or (λ came. Some came) (closes w number worker action worker.phase) (does w number action)) (worker_at w number)
+
+-- a worker in this phase has a call at the site, or copies or closes there
 abbrev pub is_about : (site : ℕ) → Phase → Bool
 is_about site Idle = false
 is_about site (Asked other ask) = other == site
 is_about site (Reading other get) = other == site
 is_about site (Holding other ask hand plan) = other == site
 is_about site (Done other hand) = other == site
+is_about site (Turned own other ask hand) = (own == site) || (other == site)
 is_about site (Copying own other key stage) = (own == site) || (other == site)
+is_about site (Closing own other stage) = (own == site) || (other == site)
 
--- the partition's primary stands at its own site: then a fallback is opened at a new site, and the calls go there
-abbrev pub diverted_by : World → (index : ℕ) → Vnode → World
-diverted_by w index primary = record {
-  vnodes = w.vnodes ++ fresh_vnode (primary.place.vnode + fallback_ids) 0 ∷ [];
+-- it has to do with the partition: with a site of it
+abbrev pub is_for : List Vnode → (index : ℕ) → (site : ℕ) → Phase → Bool
+is_for [] index site phase = false
+is_for (vnode ∷ vnodes) index site phase = ((vnode.own == index) && is_about site phase) || is_for vnodes index (suc site) phase
+
+-- the partition's primary stands at its own site: then a fallback is opened at a new site, behind the epochs of the earlier ones, and
+-- the calls go there
+abbrev pub diverted_by : World → (index epoch : ℕ) → Vnode → World
+diverted_by w index epoch primary = record w {
+  vnodes = w.vnodes ++ fresh_vnode (primary.place.vnode + fallback_ids) index epoch ∷ [];
   routes = slice_set w.routes index (length w.vnodes);
-  workers = w.workers;
+  diversions = slice_set w.diversions index (diversions_at w index + 1);
 }
 
--- a partition is diverted where its calls go to its own site, and no worker has one there
+-- a partition is diverted where its calls go to its own site, and no worker has to do with it
 abbrev pub diverted : World → (index : ℕ) → Option World
 diverted w index =
     option_and_then (λ site.
+    option_and_then (λ epoch.
     option_and_then (λ vnode.
-    if (site == index) && list_all (λ worker. not (is_about index worker.phase)) w.workers then Some (diverted_by w index vnode) else None)
+    if (site == index) && list_all (λ worker. not (is_for w.vnodes index 0 worker.phase)) w.workers then Some (diverted_by w index epoch vnode) else None)
     (slice_get w.vnodes index))
+    (slice_get w.epochs index))
     (slice_get w.routes index)
 
 -- a step: the world after it and what comes of it, or nothing where it isn't possible
 abbrev pub happens : World → Step → Option (World × Outcome)
-happens w (By number action) = does w number (routed (route w) action)
+happens w (By number action) = acts w number (routed (route w) action)
 happens w (Diverts index) = option_map (λ next. (next, Happened)) (diverted w index)
 
 -- a step that isn't possible changes nothing

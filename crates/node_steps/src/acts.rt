@@ -1,15 +1,17 @@
 //! The actions of a worker at its vnode, but a look and a publish.
 
 ghost use Rattle.std.specs.Prelude.{◌≡◌, false, Some};
+ghost use Rattle.std.specs.Option.{option_map};
 ghost use Rattle.node_steps.specs.Steps.{Enters, Leaves, Marks, Unmarks, Takes, Puts};
-ghost use Rattle.node_steps.specs.Running.{HasRoom, phase_of, vnode_of, Turns};
+ghost use Rattle.node_steps.specs.World.{Turned};
+ghost use Rattle.node_steps.specs.Running.{HasRoom, ask_of, phase_of, vnode_of, Turns};
 
 use crate::call::Call;
-use crate::copier;
 use crate::hand::Hand;
 use crate::outcome::Outcome;
 use crate::phase::Phase;
 use crate::site::Site;
+use crate::{closer, copier};
 
 /// One reader more. There are fewer readers than 2 to the 64 in every world that is kept.
 pub(crate) fn enter(site: &mut Site, phase: Phase) -> (Phase, Outcome)
@@ -26,6 +28,7 @@ pub(crate) fn enter(site: &mut Site, phase: Phase) -> (Phase, Outcome)
             (Phase::Reading(index, get), Outcome::Done)
         }
         Phase::Copying(own, from, key, stage) => copier::enter(site, own, from, key, stage),
+        Phase::Closing(own, from, stage) => closer::enter(site, own, from, stage),
         other => (other, Outcome::No),
     }
 }
@@ -44,7 +47,12 @@ pub(crate) fn leave(site: &mut Site, phase: Phase) -> (Phase, Outcome)
             site.readers = site.readers.saturating_sub(1);
             (Phase::Idle, Outcome::Done)
         }
+        Phase::Turned(own, _, call, None) => {
+            site.readers = site.readers.saturating_sub(1);
+            (Phase::Asked(own, call), Outcome::Done)
+        }
         Phase::Copying(own, from, key, stage) => copier::leave(site, own, from, key, stage),
+        Phase::Closing(own, from, stage) => closer::leave(site, own, from, stage),
         other => (other, Outcome::No),
     }
 }
@@ -103,19 +111,43 @@ pub(crate) fn take(site: &mut Site, phase: Phase) -> (Phase, Outcome)
             }
         }
         Phase::Copying(own, from, key, stage) => copier::take(site, own, from, key, stage),
+        Phase::Closing(own, from, stage) => closer::take(site, own, from, stage),
         other => (other, Outcome::No),
     }
 }
 
 /// Lays a state in place.
 pub(crate) fn lay(site: &mut Site, hand: Box<Hand>)
-    ensures { site.new ≡ record { readers = 0; marked = false; place = Some hand } }
+    ensures { site.new ≡ record { own = site.old.own; readers = 0; marked = false; place = Some hand } }
 {
+    let own = site.own;
     *site = Site {
+        own,
         readers: 0,
         marked: false,
         place: Some(hand),
     };
+}
+
+/// Who was turned away puts the state back; then its call is for its partition's own site.
+fn put_turned(
+    site: &mut Site,
+    own: usize,
+    index: usize,
+    call: Call,
+    hand: Option<Box<Hand>>,
+) -> (Phase, Outcome)
+    ensures { Turns Puts (vnode_of site.old)
+        (Turned own index (ask_of call) (option_map (λ h. h.value.state) hand))
+        (vnode_of site.new) (phase_of result.0) result.1 }
+{
+    match hand {
+        Some(hand) => {
+            lay(site, hand);
+            (Phase::Asked(own, call), Outcome::Done)
+        }
+        None => (Phase::Turned(own, index, call, None), Outcome::No),
+    }
 }
 
 /// The state lies in place again, with no readers and no mark.
@@ -132,7 +164,9 @@ pub(crate) fn put(site: &mut Site, phase: Phase) -> (Phase, Outcome)
             lay(site, hand);
             (Phase::Idle, Outcome::Done)
         }
+        Phase::Turned(own, index, call, hand) => put_turned(site, own, index, call, hand),
         Phase::Copying(own, from, key, stage) => copier::put(site, own, from, key, stage),
+        Phase::Closing(own, from, stage) => closer::put(site, own, from, stage),
         other => (other, Outcome::No),
     }
 }

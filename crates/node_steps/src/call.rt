@@ -1,7 +1,7 @@
 //! What a worker is asked.
 
 ghost use Rattle.std.specs.Prelude.{◌≡◌, None, IfOk};
-ghost use Rattle.vnode_protocol.specs.declared.ask.Ask.TheVariants.{Put, Del, Reap};
+ghost use Rattle.vnode_core.specs.declared.ask.Ask.TheVariants.{Put, Del, Reap};
 ghost use Rattle.node_steps.specs.Asked.{CallsFor};
 ghost use Rattle.node_steps.specs.Running.{ask_of, IsChangeOf};
 ghost use Rattle.node_steps.specs.Steps.{is_reap};

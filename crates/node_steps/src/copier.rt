@@ -3,7 +3,7 @@
 ghost use Rattle.std.specs.Prelude.{◌≡◌, None, IfOk, IfErr};
 ghost use Rattle.node_steps.specs.declared.site.Site.{Site};
 ghost use Rattle.node_steps.specs.CopyLooks.{FindsTo, SyncsTo};
-ghost use Rattle.node_steps.specs.Erased.{IsShown};
+ghost use Rattle.node_steps.specs.Parts.{IsFit};
 ghost use Rattle.node_steps.specs.World.{Copying, CopyInside, CopyLooked, CopyTaken};
 ghost use Rattle.node_steps.specs.Steps.{Enters, Leaves, Takes, Puts, Looks, Publishes};
 ghost use Rattle.node_steps.specs.Running.{HasRoom, phase_of, stage_of, vnode_of, Turns};
@@ -135,11 +135,15 @@ pub(crate) fn put(
     }
 }
 
-/// A copier looks for its key in the state at the fallback.
+/// A copier looks for its key in the state at the fallback. Where that is closed it is done.
 fn find(alloc: Global, hand: &Hand, own: usize, from: usize, key: Box<Key>) -> Looked
     ensures ok { IfOk result (λ r. FindsTo hand.now.state own from key.value (phase_of r.0) r.1) }
     ensures err { IfErr result (λ p. phase_of p ≡ Copying own from key.value CopyInside) }
 {
+    if hand.is_closed() {
+        let phase = Phase::Copying(own, from, key, Stage::Done(None));
+        return Ok((phase, Outcome::Elsewhere));
+    }
     match hand.clock_of(alloc, &key) {
         Ok(Some(clock)) => {
             let phase = Phase::Copying(own, from, key, Stage::Looked(clock));
@@ -153,7 +157,7 @@ fn find(alloc: Global, hand: &Hand, own: usize, from: usize, key: Box<Key>) -> L
     }
 }
 
-/// A copier looks at the primary's state in its hand: it plans the copy, or finds it stuck.
+/// A copier looks at the primary's state in its hand, which isn't closed: it plans the copy, or finds it stuck.
 fn sync(
     alloc: Global,
     own: usize,
@@ -162,7 +166,7 @@ fn sync(
     clock: Box<CopiedClock>,
     mut hand: Box<Hand>,
 ) -> Looked
-    ensures ok { IfOk result (λ r.
+    ensures ok { IfOk result (λ r. hand.value.state.closed ≡ None →
         SyncsTo own from key.value clock.value hand.value.state (phase_of r.0) r.1) }
     ensures err { IfErr result (λ p.
         phase_of p ≡ Copying own from key.value (CopyTaken clock.value hand.value.state None)) }
@@ -195,7 +199,7 @@ pub(crate) fn look(
     stage: Stage,
 ) -> Looked
     ensures ok { IfOk result (λ r.
-        IsShown (vnode_of site.now).word (Copying own from key.value (stage_of stage))
+        IsFit (vnode_of site.now).word (Copying own from key.value (stage_of stage))
         → Turns Looks (vnode_of site.now) (Copying own from key.value (stage_of stage))
         (vnode_of site.now) (phase_of r.0) r.1) }
     ensures err { IfErr result (λ p. phase_of p ≡ Copying own from key.value (stage_of stage)) }

@@ -1,15 +1,18 @@
 //! A vnode as a worker holds it.
 
-ghost use Rattle.std.specs.Prelude.{◌≡◌, ◌-◌, Some, None, IfOk, IfErr, IsSome, is_some};
+ghost use Rattle.std.specs.Prelude.{◌≡◌, ◌-◌, ◌^◌, min, Some, None, IfOk, IfErr, IsSome, is_some};
+ghost use Rattle.vnode_machine.specs.Copying.{apply_close};
 ghost use Rattle.vnode_machine.specs.Step.{outcome};
 ghost use Rattle.node_steps.specs.Hands.{command_of, ShowsBy, PlansAsk, PlansBy, PublishesPlan};
 ghost use Rattle.node_steps.specs.CopyHands.{FindsClock, IsCopy, PlansCopy, copied_by};
 ghost use Rattle.node_steps.specs.Running.{ask_of};
+ghost use Rattle.node_steps.specs.Steps.{accepted_in, left_in};
 ghost use Rattle.vnode_machine.specs.Sound.{IsSound};
 
 use crate::call::Call;
 use crate::copied_clock::CopiedClock;
 use crate::fault::StepFault;
+use crate::left::count_left;
 use crate::outcome::{Outcome, answered};
 use clock_store::KeyRef;
 use ghost_state::GhostList;
@@ -18,7 +21,7 @@ use std::alloc::{AllocError, Global};
 use std::marker::Model;
 use vnode_core::{Ask, Change, KeyCopy, Plan, Refusal, Vnode};
 
-/// A vnode of an id that isn't closed, and the change that was planned at a look. Contracts see its state and the plan.
+/// A vnode of an id, and the change that was planned at a look. Contracts see its state and the plan.
 pub(crate) struct Hand {
     id: u64,
     vnode: Vnode,
@@ -57,7 +60,6 @@ impl Hand {
     /// A vnode of this id, of which nothing is planned.
     pub(crate) fn new(id: u64, vnode: Vnode) -> Hand
         requires named { vnode.state.vnode ≡ id }
-        requires opened { vnode.state.closed ≡ None }
         requires sound { IsSound vnode.state }
         ensures state { result.state ≡ vnode.state }
         ensures plan { result.plan ≡ None }
@@ -74,6 +76,31 @@ impl Hand {
         ensures { result ≡ self.now.state.vnode }
     {
         self.id
+    }
+
+    /// Whether the vnode is closed.
+    pub(crate) fn is_closed(&self) -> bool
+        ensures { result ≡ is_some self.now.state.closed }
+    {
+        self.vnode.closed_at().is_some()
+    }
+
+    /// The last epoch that the vnode gave.
+    pub(crate) fn last_epoch(&self) -> u32
+        ensures { result ≡ self.now.state.last_epoch }
+    {
+        self.vnode.last_epoch()
+    }
+
+    /// How many commands the vnode has accepted; 18,446,744,073,709,551,615 where there are more.
+    pub(crate) fn count_accepted(&self) -> u64
+        ensures { result ≡ accepted_in self.now.state }
+    {
+        let tally = self.vnode.tally();
+        tally
+            .writes
+            .saturating_add(tally.tombstones)
+            .saturating_add(tally.reaps)
     }
 
     /// Whether a change is planned.
@@ -118,7 +145,16 @@ impl Hand {
         }
     }
 
-    /// Prepares a copy of a key with this clock; none where it is stuck. Where memory is refused nothing is prepared.
+    /// How many keys a fallback has otherwise than this primary has them; at most 18,446,744,073,709,551,615. Refused where memory is.
+    pub(crate) fn left_of(&self, alloc: Global, fallback: &Hand) -> Result<u64, AllocError>
+        ensures { IfOk result (λ count. count
+            ≡ min (left_in self.now.state fallback.now.state) (2 ^ 64 - 1)) }
+    {
+        count_left(alloc, &self.vnode, &fallback.vnode)
+    }
+
+    /// Prepares a copy of a key with this clock; none where it is stuck, or the vnode is closed. Where memory is refused nothing is
+    /// prepared.
     pub(crate) fn plan_copy(
         &mut self,
         alloc: Global,
@@ -149,9 +185,24 @@ impl Hand {
         let _answer = self.vnode.finish(change);
     }
 
-    /// Looks for a call: answers it, or plans its change. Where memory is refused nothing is planned.
+    /// Closes the vnode, with this number. It takes no memory.
+    pub(crate) fn close(&mut self, alloc: Global, number: u64)
+        requires { self.old.state.closed ≡ None }
+        ensures { self.new.state ≡ apply_close self.old.state number }
+    {
+        replace(&mut self.change, None);
+        match self.vnode.prepare(alloc, Ask::Close(number)) {
+            Ok(Plan::Change(change)) => {
+                let _answer = self.vnode.finish(change);
+            }
+            Ok(Plan::Nothing(_)) | Err(_) => unreachable!(),
+        }
+    }
+
+    /// Looks for a call at a vnode that isn't closed: answers it, or plans its change. Where memory is refused nothing is planned.
     pub(crate) fn look(&mut self, alloc: Global, call: &Call) -> Result<Option<Outcome>, StepFault>
-        requires { self.old.plan ≡ None }
+        requires plan { self.old.plan ≡ None }
+        requires opened { self.old.state.closed ≡ None }
         ensures state { self.new.state ≡ self.old.state }
         ensures ok { IfOk result (λ answer.
             PlansBy (outcome self.old.state (ask_of call.now)) self.new.plan answer) }
@@ -168,7 +219,8 @@ impl Hand {
 
     /// Plans a change, or answers it: what the machine refuses, and what changes nothing.
     fn plan(&mut self, alloc: Global, ask: Ask) -> Result<Option<Outcome>, StepFault>
-        requires { IsSome (command_of ask) }
+        requires command { IsSome (command_of ask) }
+        requires opened { self.old.state.closed ≡ None }
         ensures state { self.new.state ≡ self.old.state }
         ensures ok { IfOk result (λ answer.
             PlansAsk self.old.state ask self.new.plan answer) }

@@ -14,22 +14,27 @@ ghost use Rattle.node_steps.specs.Gates.{RunsAreScheduled};
 /// or delete had seen it.**
 ///
 /// *Whatever order*: in every run, for any number of workers and partitions, and after every list of steps, also of such that
-/// divert a partition to a fallback, which has a history of its own, and copy keys back from there. *One thread*: the history is
-/// legal and has a replay (`histories`); the state that any look shows is the one after the log, which is that replay where
-/// nothing was copied (`looks`), as it is where a worker has a call (`uncopied`); what comes of a look for a call is what the
-/// vnode machine does with it in that state (`looked`). *Is answered*: each reply, a refusal too, the register may give at the
-/// end of the history at its look, or, of an accepted command, at its publish, by which the history has just that event more
-/// (`answers`); no other step changes a log, but a copy, which carries the clock that its key has at the fallback then, and the
-/// fallback's history (`nothing_else`). *Had seen*: the worker had seen no more than that history, and has seen all of it
-/// afterwards, its own event too (`seen`). *No second time*: whatever the keys and lives (`dots`); a key is in a life exactly
-/// where it is defined (`lives`). *Unless .. had seen it*: a value leaves only by a write or delete whose context covers its
-/// dot, or by a delete without context (`covered`); and where each context that was given for its key at a site had been shown
-/// for it there, such a write or delete had seen the value (`left`).
+/// divert a partition to a fallback, which has a history of its own, copy keys back from there, close it, so that the calls go to
+/// the primary again, and divert the partition once more. *One thread*: the history is legal and has a replay where no command
+/// follows a copy (`histories`); the state that any look shows is the one after the log, which is that replay where nothing was
+/// copied (`looks`), as it is where a worker has a call, unless a fallback of its partition was closed (`uncopied`); what comes of
+/// a look for a call is what the vnode machine does with it in that state, and where that is closed the call is turned away to the
+/// primary (`looked`). *Is answered*: nothing is answered where the state is closed, and each reply, a refusal too, the register
+/// may give at the end of the history at its look, or, of an accepted command, at its publish, by which the history has just that
+/// event more, where nothing was copied (`answers`); no other step changes a log, but a copy, which carries the clock that its key
+/// has at the fallback then, and the fallback's history, and a close, before which each key that the fallback holds is copied as it
+/// is there, and which carries the number of commands that the primary accepted (`nothing_else`). *Had seen*: the worker had seen no
+/// more than that history, and has seen all of it afterwards, its own event too (`seen`). *No second time*: whatever the keys and
+/// lives (`dots`); a key is in a life exactly where it is defined (`lives`). *Unless .. had seen it*: a value leaves only by a write
+/// or delete whose context covers its dot, or by a delete without context (`covered`); and where each context that was given for its
+/// key at a site had been shown for it there, such a write or delete had seen the value (`left`).
 ///
 /// Where each context that was given for a key at a site of a partition had been shown for it at one of them, its primary and its
-/// fallback, with the copies between, are a hand-off (`handed_off`, `specs/HandOffs`): each command saw what it had to see of both
-/// sides, the primary shows the siblings that are its own or came, in their order, no dot stands on two sides, and a value leaves
-/// the primary's siblings only by a write or delete of some side that had seen it.
+/// fallbacks, with the copies between, are a hand-off (`handed_off`, `specs/HandOffs`), also behind copies: each command saw what it
+/// had to see of all sides, each get, put, delete and reap is answered as the register does over (side, number), and what a worker is
+/// asked at the primary may be asked there, the primary shows the siblings that are its own or came, in their order, no dot stands on
+/// two sides, a value leaves the primary's siblings only by a write or delete of some side that had seen it, and once the fallback is
+/// closed they are the joint ones.
 pub fn always()
     ensures histories { AfterEvery HistoriesAreLegal }
     ensures looks { AfterEvery LooksShowReplays }
@@ -46,24 +51,26 @@ pub fn always()
 {}
 
 /// Where each context that was given for a key at a site of a partition had been shown for it at one of them, each run of the
-/// partition is a course of the law of copies: what its primary and its fallback accepted may happen so, one after another. So
-/// what `courses_are_hand_offs` of `copy_laws` says of courses holds of it: each key is handed off as it has to be, and what the
-/// fallback's contexts cover of the primary is just what had come.
+/// partition is a course of the law of copies: what its primary and its fallbacks accepted may happen so, one after another, with a
+/// return at each close, and each later fallback behind the epochs of the one before. So what `courses_are_hand_offs` of `copy_laws`
+/// says of courses holds of it: each key is handed off as it has to be, and what the fallbacks' contexts cover of the primary is just
+/// what had come.
 pub fn runs_are_courses()
     ensures { RunsAreCourses }
 {}
 
 /// A world may be kept without its history: after every schedule, the outcome of any step needs the words, the states in
-/// place and the phases alone, and so does what is left of them. The ids of vnodes, the epochs that they were opened behind, the
-/// histories and the fronts that workers have seen are what the claims of [`always`] speak of, and no step looks at them; nor at
-/// the state in place while it is taken, which is in its holder's hand.
+/// place, the routes, the epochs of fallbacks that were closed and the phases alone, and so does what is left of them. The ids of
+/// vnodes, the epochs that they were opened behind, the histories, the fronts that workers have seen and how often partitions were
+/// diverted are what the claims of [`always`] speak of, and no step looks at them; nor at the state in place while it is taken, which
+/// is in its holder's hand.
 pub fn needs_no_history()
     ensures { AtEveryStep NeedsNoHistory }
 {}
 
 /// What [`always`] claims of histories it claims of the running gate's: each run of commands of the vnode machine from the opening state
 /// of a vnode, which is what a gate round a new vnode keeps as its history, is the history of that vnode after some schedule, by
-/// one definition (`history_after` in `specs/Events` of `vnode_protocol`).
+/// one definition (`history_after` in `specs/Events` of `vnode_core`).
 pub fn gates_are_scheduled()
     ensures { RunsAreScheduled }
 {}

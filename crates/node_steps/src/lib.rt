@@ -14,17 +14,26 @@
 //! its history; then it puts the state back and leaves. What the copy brings is the history that it has seen at the fallback
 //! (`brought_by`), which nobody changes while it is inside.
 //!
+//! Or it is a closer of a partition's fallback: it takes the fallback's state, enters the primary as a reader, looks at both, and
+//! publishes the close where the primary has every key as it is at the fallback; from then on the partition's calls go to the primary,
+//! and who finds the fallback closed is turned away to there. Its look and its publish are the two steps that are about two sites
+//! (`closes` in `specs/Steps`); all else is a turn at one.
+//!
 //! A vnode has its id and the epoch that it was opened behind in its own record, and is found by its site in a list; of a site that
 //! it doesn't know a worker has seen nothing. So sites may be added while a world runs: what is always true of a vnode
 //! (`proofs/Inside`, `IsSound`) speaks of one vnode, and is true of a fresh one, whatever epochs were given before it, and
 //! whatever its log. That a log of commands alone has a replay is said apart (`IsPlain`).
 //!
 //! [`always`] is the theorem, over every schedule (`specs/Claims`). Its proof goes step by step: `proofs/Turns` derives what a
-//! turn makes of its worker and its vnode, and what comes of it (`proofs/Coming`), from the machine's step; of a copier in `proofs/CopyTurns`; `proofs/Kept` counts
-//! readers and holders, so that what is always true stays so; `proofs/Lifting`, `proofs/Leaving` and `proofs/Showing` draw the claims. `proofs/Diverting` is
-//! for a partition that is diverted; `proofs/Coursing` and those behind it make each run of a partition a course of `copy_laws`
-//! ([`runs_are_courses`], `specs/Courses`), and `proofs/Joined` draws from the laws what holds of it. `proofs/Uncopied` keeps calls and
-//! copies apart: a partition that is diverted is asked nothing at its own site.
+//! turn makes of its worker and its vnode, and what comes of it (`proofs/Coming`), from the machine's step; of a copier in
+//! `proofs/CopyTurns`, of a closer and of who is turned away in `proofs/CloseTurns`; `proofs/Kept` counts readers and holders, so that
+//! what is always true stays so, `proofs/CloseSteps` and `proofs/Closes` at the two steps of two sites, `proofs/Diverting` where a
+//! partition is diverted. `proofs/Lifting`, `proofs/Leaving` and `proofs/Showing` draw the claims; `proofs/Judged` keeps what a closer
+//! has seen until it publishes. `proofs/Coursing` and those behind it make each run of a partition a course of `copy_laws`
+//! ([`runs_are_courses`], `specs/Courses`): by a step at one site in `proofs/CourseSteps`, by a close in `proofs/CourseCloses`, by a
+//! diversion in `proofs/CourseDiverts`; the law's partition isn't known until the run is over, so all is said of each partition that
+//! agrees so far. `proofs/Joined` draws from the laws what holds of it. `proofs/CallsApart` and `proofs/Uncopied` keep calls and copies
+//! apart: a partition that is diverted is asked nothing but at its fallback.
 //!
 //! One exchange, of three workers over one vnode (`proofs/Rows` evaluates it):
 //!
@@ -42,11 +51,15 @@
 //! A world may be kept without its histories: no step looks at them ([`needs_no_history`], `specs/Erased`).
 //!
 //! A [`World`] runs it: [`World::step`] takes any step, and what it returns and the world after it are those of the
-//! theorem's world, whatever schedule led there (`specs/Kept`).
+//! theorem's world, whatever schedule led there (`specs/Kept`). What a worker does is told at one site by its turn, and of a closer's
+//! look and publish over all that runs but the workers (`specs/Closings`); `proofs/Taking` makes of it the step of the theorem's world.
 #![tactic(auto)]
 
 mod acts;
 mod call;
+mod close_stage;
+mod closer;
+mod closing;
 mod copied_clock;
 mod copier;
 mod copies;
@@ -54,10 +67,12 @@ mod divert;
 mod fault;
 mod hand;
 mod laws;
+mod left;
 mod looks;
 mod outcome;
 mod parts;
 mod phase;
+mod planned_close;
 mod planned_copy;
 mod site;
 mod stage;

@@ -23,6 +23,10 @@ pub enum Outcome {
     Copied,
     /// The key isn't copied: with the copy it would have too many siblings at the primary, or its clock too many actors.
     Stuck,
+    /// The fallback is closed: a call goes on to the primary, and a copier or a closer is done.
+    Elsewhere,
+    /// The fallback isn't closed: so many of its keys aren't copied as they are now. At most 18,446,744,073,709,551,615 are told.
+    Left(u64),
 }
 
 /// What a worker is returned for an answer of its vnode to a put, a delete or a reap.

@@ -1,14 +1,16 @@
 //! The running parts of a world, and what each kind of step does to them.
 
 ghost use Rattle.std.specs.Prelude.{◌≡◌, ◌<◌, length, IfOk, IfErr, OnErr};
-ghost use Rattle.node_steps.specs.Asked.{action_of, asking_step, copying_step, step_by, step_of};
-ghost use Rattle.node_steps.specs.Parts.{CopiesWhence, Finds, FindsIdle, IsFit, SendsTo, TakesFitStep, TakesStep, TurnsAt, world_in};
+ghost use Rattle.node_steps.specs.Asked.{action_of, asking_step, closing_step, copying_step, step_by, step_of};
+ghost use Rattle.node_steps.specs.Closings.{Moves, MovesAt, TurnsAt, ground_of};
+ghost use Rattle.node_steps.specs.Parts.{Finds, FindsIdle, HasFallback, IsFit, SendsTo, TakesFitStep, TakesStep, world_in};
 ghost use Rattle.node_steps.specs.Running.{ask_of, phase_of, vnode_of, Turns};
 
 use crate::acts::{enter, leave, mark, put, take, unmark};
 use crate::call::{Call, call_of};
+use crate::close_stage::CloseStage;
 use crate::fault::StepFault;
-use crate::looks::{look, publish};
+use crate::looks::{Looked, look, publish};
 use crate::outcome::Outcome;
 use crate::phase::Phase;
 use crate::site::Site;
@@ -18,16 +20,18 @@ use riak_msgs::{Key, Request};
 use std::alloc::{AllocError, Global};
 use std::mem;
 
-/// What runs: the vnode at each site, for each partition the site that its calls go to, and the phase of each worker.
+/// What runs: the vnode at each site, for each partition the site that its calls go to and the last epoch that its fallbacks gave
+/// before they were closed, and the phase of each worker.
 #[derive(Drop)]
 pub(crate) struct Parts {
     pub(crate) sites: Vec<Site>,
     pub(crate) routes: Vec<usize>,
+    pub(crate) epochs: Vec<u32>,
     pub(crate) workers: Vec<Phase>,
 }
 
 /// A turn of a worker at its vnode. Where memory is refused both are as they were.
-fn turn(alloc: Global, act: Act, site: &mut Site, phase: Phase) -> Result<(Phase, Outcome), Phase>
+fn turn(alloc: Global, act: Act, site: &mut Site, phase: Phase) -> Looked
     ensures ok { IfOk result (λ r. IsFit (vnode_of site.old).word (phase_of phase)
         → Turns (action_of act) (vnode_of site.old) (phase_of phase)
         (vnode_of site.new) (phase_of r.0) r.1) }
@@ -74,7 +78,45 @@ impl Parts {
         Some((place, index))
     }
 
-    /// A turn of the worker at a place, at the site of an index.
+    /// A turn at the site of an index. Where memory is refused nothing changes.
+    pub(crate) fn turn_site(
+        &mut self,
+        alloc: Global,
+        act: Act,
+        index: usize,
+        phase: Phase,
+    ) -> Looked
+        requires { index < length self.old.sites.items }
+        ensures ok { IfOk result (λ r.
+            MovesAt act index (ground_of self.old) (phase_of phase) (ground_of self.new) (phase_of r.0) r.1) }
+        ensures err { IfErr result (λ p. (phase_of p ≡ phase_of phase)
+            × (world_in self.new ≡ world_in self.old)) }
+        ensures workers { self.new.workers ≡ self.old.workers }
+    {
+        match turn(alloc, act, &mut self.sites[index], phase) {
+            Ok(came) => Ok(came),
+            Err(phase) => Err(phase),
+        }
+    }
+
+    /// What a worker in a phase does, whose step is about the site of an index. Where memory is refused nothing changes.
+    fn move_on(&mut self, alloc: Global, act: Act, index: usize, phase: Phase) -> Looked
+        requires { index < length self.old.sites.items }
+        ensures ok { IfOk result (λ r.
+            Moves (phase_of phase) act index (ground_of self.old) (ground_of self.new) (phase_of r.0) r.1) }
+        ensures err { IfErr result (λ p. (phase_of p ≡ phase_of phase)
+            × (world_in self.new ≡ world_in self.old)) }
+        ensures workers { self.new.workers ≡ self.old.workers }
+    {
+        match phase {
+            Phase::Closing(own, from, stage) => {
+                self.close_turn(alloc, act, index, own, from, stage)
+            }
+            other => self.turn_site(alloc, act, index, other),
+        }
+    }
+
+    /// A turn of the worker at a place, whose step is about the site of an index.
     fn turn_at(
         &mut self,
         alloc: Global,
@@ -88,7 +130,7 @@ impl Parts {
         ensures err { OnErr result (world_in self.new ≡ world_in self.old) }
     {
         let phase = mem::replace(&mut self.workers[place], Phase::Idle);
-        match turn(alloc, act, &mut self.sites[index], phase) {
+        match self.move_on(alloc, act, index, phase) {
             Ok((next, outcome)) => {
                 set_phase(&mut self.workers[place], next);
                 Ok(outcome)
@@ -120,7 +162,7 @@ impl Parts {
         match self.workers.get(place)? {
             Phase::Idle => Some(place),
             Phase::Asked(..) | Phase::Reading(..) | Phase::Holding(..) | Phase::Done(..) => None,
-            Phase::Copying(..) => None,
+            Phase::Turned(..) | Phase::Copying(..) | Phase::Closing(..) => None,
         }
     }
 
@@ -189,9 +231,9 @@ impl Parts {
         Ok(self.give(worker, index, call))
     }
 
-    /// The site that a copier of a partition copies from; none where the partition isn't diverted.
-    fn fallback_of(&self, index: u16, key: &Key) -> Option<usize>
-        ensures { CopiesWhence self.now index key.now result }
+    /// The site of a partition's fallback; none where the partition isn't diverted.
+    fn fallback_of(&self, index: u16) -> Option<usize>
+        ensures { HasFallback self.now index result }
     {
         let own = usize::from(index);
         let site = *self.routes.get(own)?;
@@ -212,7 +254,7 @@ impl Parts {
         let Some(place) = self.find_idle(worker) else {
             return Outcome::No;
         };
-        let Some(site) = self.fallback_of(index, &key) else {
+        let Some(site) = self.fallback_of(index) else {
             return Outcome::No;
         };
         let own = usize::from(index);
@@ -239,6 +281,25 @@ impl Parts {
         Ok(self.send_copier(worker, index, key))
     }
 
+    /// A worker is to close the fallback of the partition at an index.
+    fn close(&mut self, worker: u16, index: u16) -> Outcome
+        ensures { TakesStep (world_in self.old) (closing_step worker index) result
+            (world_in self.new) }
+    {
+        let Some(place) = self.find_idle(worker) else {
+            return Outcome::No;
+        };
+        let Some(site) = self.fallback_of(index) else {
+            return Outcome::No;
+        };
+        let own = usize::from(index);
+        set_phase(
+            &mut self.workers[place],
+            Phase::Closing(own, site, CloseStage::Asked),
+        );
+        Outcome::Done
+    }
+
     /// Takes a step. Where memory is refused nothing changes.
     pub(crate) fn step(&mut self, alloc: Global, step: Step) -> Result<Outcome, StepFault>
         ensures ok { IfOk result (λ outcome.
@@ -258,6 +319,7 @@ impl Parts {
             Step::Publish(worker) => self.act(alloc, worker, Act::Publish),
             Step::Divert(index) => self.divert(alloc, index),
             Step::Copy(worker, index, key) => self.copy(alloc, worker, index, key),
+            Step::Close(worker, index) => Ok(self.close(worker, index)),
         }
     }
 }

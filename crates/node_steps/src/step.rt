@@ -33,6 +33,8 @@ pub enum Step {
     Divert(u16),
     /// The worker gets a copy to do: of a key of the partition of this index, from its fallback to its primary.
     Copy(u16, u16, Key),
+    /// The worker is to close the fallback of the partition of this index.
+    Close(u16, u16),
 }
 
 impl Step {
@@ -56,6 +58,7 @@ impl Step {
             Step::Publish(worker) => Ok(Step::Publish(*worker)),
             Step::Divert(index) => Ok(Step::Divert(*index)),
             Step::Copy(worker, index, key) => { Ok(Step::Copy(*worker, *index, key.clone(alloc)?)) }
+            Step::Close(worker, index) => Ok(Step::Close(*worker, *index)),
         }
     }
 }

@@ -56,7 +56,8 @@ fn new_sites(alloc: Global, run: u32, vnodes: u16) -> Result<Vec<Site>, AllocErr
 {
     let mut sites = Vec::with_capacity(alloc, usize::from(vnodes))?;
     for index in 0..vnodes {
-        let site = new_site(alloc, u64::from(run) * 65_536 + u64::from(index))?;
+        let id = u64::from(run) * 65_536 + u64::from(index);
+        let site = new_site(alloc, id, usize::from(index), 0)?;
         sites.push(site)?;
     }
     Ok(sites)
@@ -71,6 +72,17 @@ fn new_routes(alloc: Global, vnodes: u16) -> Result<Vec<usize>, AllocError>
         routes.push(usize::from(index))?;
     }
     Ok(routes)
+}
+
+/// For each partition that no fallback has given an epoch.
+fn new_epochs(alloc: Global, vnodes: u16) -> Result<Vec<u32>, AllocError>
+    ensures { IfOk result (λ epochs. epochs.items ≡ replicate vnodes 0) }
+{
+    let mut epochs = Vec::with_capacity(alloc, usize::from(vnodes))?;
+    for _ in 0..vnodes {
+        epochs.push(0)?;
+    }
+    Ok(epochs)
 }
 
 /// Workers that have no call.
@@ -94,6 +106,7 @@ impl World {
             parts: Parts {
                 sites: new_sites(alloc, run, vnodes)?,
                 routes: new_routes(alloc, vnodes)?,
+                epochs: new_epochs(alloc, vnodes)?,
                 workers: new_workers(alloc, workers)?,
             },
         })
@@ -101,7 +114,7 @@ impl World {
 
     /// Takes a step, and returns its outcome, which is `No` exactly where it isn't possible. Where memory is refused nothing changes.
     ///
-    /// A look copies what it shows, and what it plans, a copier's the key's clock; a call, and a copier's key, is kept on the heap; a
+    /// A look copies what it shows, and what it plans, a copier's the key's clock, a closer's one key after another; a call, and a copier's key, is kept on the heap; a
     /// fallback takes a place. All else takes no memory.
     pub fn step(&mut self, alloc: Global, step: Step) -> Result<Outcome, StepFault>
         ensures step { IfOk result (λ outcome. TakesStep self.old (step_of step) outcome self.new) }

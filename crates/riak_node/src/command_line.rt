@@ -131,9 +131,9 @@ fn steps<'a>(alloc: Global) -> Result<clap::Command<'a>, AllocError> {
         )
         .after_help(
             "A line is a word and a worker's number, from 1: enter, leave, mark, unmark, take, put, look, publish; behind\n\
-             ask, reap and copy stand a request's message code and body in lower-case hexadecimal; behind divert stands a\n\
-             partition's index, from 0. Each line is answered by one, as in: 1 ok. The last line written compares all\n\
-             answers with those of a plain register, where no partition was diverted.\n\n\
+             ask, reap and copy stand a request's message code and body in lower-case hexadecimal, behind close a\n\
+             partition's index, from 0; behind divert stands such an index alone. Each line is answered by one, as in: 1 ok.\n\
+             The last line written compares all answers with those of a plain register, where no partition was diverted.\n\n\
              Exit status: 0 at the end of the schedule; 1 where it had to stop before, with one line on standard error, as\n\
              in: riak_node: bad step at line 3; 2 for a command line that isn't one of these.\n\n\
              Example: riak_node steps --workers 3 < schedule",

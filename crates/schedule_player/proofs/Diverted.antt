@@ -66,6 +66,8 @@ act-ended : (line worker : ℕ) (asked : Option (Ask Content Context)) (came : R
 act-ended line worker asked outcomes.No heard e = e
 act-ended line worker asked outcomes.Copied heard e = e
 act-ended line worker asked outcomes.Stuck heard e = e
+act-ended line worker asked outcomes.Elsewhere heard e = e
+act-ended line worker asked (outcomes.Left keys) heard e = e
 act-ended line worker asked outcomes.Done heard e = by_ask heard _ e (λ ask. call-ended ask heard.compared e) asked
 act-ended line worker asked (outcomes.Reply reply) heard e =
     by_ask heard _ e (λ ask. replied-ended line reply ask heard.compared e) (last_call heard.calls worker)
@@ -80,6 +82,8 @@ diversion-ended outcomes.Reaped heard e = e
 diversion-ended outcomes.Kept heard e = e
 diversion-ended outcomes.Copied heard e = e
 diversion-ended outcomes.Stuck heard e = e
+diversion-ended outcomes.Elsewhere heard e = e
+diversion-ended (outcomes.Left keys) heard e = e
 
 line-ended : (line : ℕ) (step : Step) (came : Returned) (heard : Heard) → IsEnded heard.compared → IsEnded (after_line line step came heard).compared
 line-ended line (By number action) came heard e = act-ended line number (asked_by action) came heard e

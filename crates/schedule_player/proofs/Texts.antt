@@ -1,13 +1,9 @@
 -- The lines of texts that are put together.
 use Rattle.std.proofs.Common.{◌≡◌, ℕ, ◌<◌, ◌==◌, length, arith, not, List, [], ◌∷◌, ◌++◌, true, false, Bool, if◌then◌else◌, sym, refl, ap, ◌∙◌, append_assoc, append-nil}
-use Rattle.std.proofs.lemmas.Bool.{and_parts}
+use Rattle.std.proofs.lemmas.Bool.{and_parts, not-true as is_false}
 use Rattle.std.specs.List.{list_all}
 use Rattle.schedule_text.specs.Cuts.{Lacks, lines_of, lengthen_first}
-
--- a test that isn't true is false
-is_false : (b : Bool) → not b ≡ true → b ≡ false
-is_false true e = cc e
-is_false false e = refl
+pub use Rattle.std.proofs.lemmas.List.{nil_from_length as no_bytes}
 
 -- the first line ends at the first line feed
 pub lines_at : (text rest : List ℕ) → Lacks 10 text → lines_of (text ++ 10 ∷ rest) ≡ text ∷ lines_of rest
@@ -48,7 +44,3 @@ whole_more answered text texts whole lacks rest =
 pub whole_alone : (answered : List ℕ) (texts : List (List ℕ)) → ((rest : List ℕ) → lines_of (answered ++ rest) ≡ texts ++ lines_of rest)
     → lines_of answered ≡ texts
 whole_alone answered texts whole = ap lines_of (sym (append-nil answered)) ∙ whole [] ∙ append-nil texts
-
-pub no_bytes : (xs : List ℕ) → length xs ≡ 0 → xs ≡ []
-no_bytes [] none = refl
-no_bytes (x ∷ xs) none = absurd (omega (arith, none))

@@ -1,6 +1,6 @@
 -- The line that is answered to a step.
 use Rattle.std.specs.Prelude.{ℕ, ◌+◌, List, [], ◌∷◌, ◌++◌, length, codes, decimal}
-use Rattle.schedule_text.specs.Outcomes.{reply_text}
+use Rattle.schedule_text.specs.Outcomes.{left_text, reply_text}
 use Rattle.node_steps.specs.declared.outcome.Outcome.{Outcome as Returned}
 use Rattle.node_steps.specs.declared.outcome.Outcome.TheVariants as outcomes
 use Rattle.node_steps.specs.Steps.{Step, outcome}
@@ -16,6 +16,8 @@ answer_text outcomes.Reaped = codes "reaped"
 answer_text outcomes.Kept = codes "kept"
 answer_text outcomes.Copied = codes "copied"
 answer_text outcomes.Stuck = codes "stuck"
+answer_text outcomes.Elsewhere = codes "elsewhere"
+answer_text (outcomes.Left keys) = left_text keys
 
 -- the line: its number, a space, what came of the step, and a line feed
 abbrev pub answer_line : ℕ → Returned → List ℕ

@@ -45,6 +45,7 @@ step_by ring worker (Gate step) = gate_step worker step
 abbrev pub line_step : ℕ → Line → RunStep
 line_step ring (lines.By worker action) = step_by ring worker action
 line_step ring (lines.Divert index) = steps.Divert index
+line_step ring (lines.Close worker index) = steps.Close worker index
 
 -- a line of text that asks for a step
 pub record AsksFor (workers ring : ℕ) (text : List ℕ) (step : Step) : Type 0 where

@@ -55,6 +55,8 @@ abbrev pub after_act : (line worker : ℕ) → Option (Ask Content Context) → 
 after_act line worker asked outcomes.No heard = heard
 after_act line worker asked outcomes.Copied heard = heard
 after_act line worker asked outcomes.Stuck heard = heard
+after_act line worker asked outcomes.Elsewhere heard = heard
+after_act line worker asked (outcomes.Left keys) heard = heard
 after_act line worker asked outcomes.Done heard =
     option_map_or (λ ask. record {
       calls = with_call heard.calls worker ask;

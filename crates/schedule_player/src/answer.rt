@@ -23,5 +23,7 @@ pub(crate) fn write_answer(
         Outcome::Kept => write_outcome(alloc, number, StepOutcome::Kept),
         Outcome::Copied => write_outcome(alloc, number, StepOutcome::Copied),
         Outcome::Stuck => write_outcome(alloc, number, StepOutcome::Stuck),
+        Outcome::Elsewhere => write_outcome(alloc, number, StepOutcome::Elsewhere),
+        Outcome::Left(keys) => write_outcome(alloc, number, StepOutcome::Left(*keys)),
     }
 }

@@ -43,7 +43,7 @@ fn gate_step(worker: u16, step: GateStep) -> Step
     }
 }
 
-/// The step of a line: its worker's, and where it asks, reaps or copies for the partition of the key; or a partition's.
+/// The step of a line: its worker's, and where it asks, reaps or copies for the partition of the key, or closes; or a partition's.
 fn line_step(ring: Ring, line: Line) -> Step
     ensures { result ≡ line_step ring line }
 {
@@ -62,6 +62,7 @@ fn line_step(ring: Ring, line: Line) -> Step
         }
         Line::By(worker, Action::Gate(step)) => gate_step(worker, step),
         Line::Divert(index) => Step::Divert(index),
+        Line::Close(worker, index) => Step::Close(worker, index),
     }
 }
 
@@ -102,7 +103,8 @@ pub(crate) fn asks(step: &Step) -> bool
         | Step::Look(_)
         | Step::Publish(_)
         | Step::Divert(_)
-        | Step::Copy(_, _, _) => false,
+        | Step::Copy(_, _, _)
+        | Step::Close(_, _) => false,
     }
 }
 
@@ -127,6 +129,7 @@ fn worker_of(step: &Step) -> u16
         Step::Ask(worker, _, _) => *worker,
         Step::Reap(worker, _, _) => *worker,
         Step::Copy(worker, _, _) => *worker,
+        Step::Close(worker, _) => *worker,
         Step::Enter(worker)
         | Step::Leave(worker)
         | Step::Mark(worker)
@@ -164,7 +167,8 @@ fn is_diversion(step: &Step) -> bool
         | Step::Put(_)
         | Step::Look(_)
         | Step::Publish(_)
-        | Step::Copy(_, _, _) => false,
+        | Step::Copy(_, _, _)
+        | Step::Close(_, _) => false,
     }
 }
 

@@ -107,7 +107,8 @@ fn tell(comparison: &mut Comparison, call: &Step)
         | Step::Look(_)
         | Step::Publish(_)
         | Step::Divert(_)
-        | Step::Copy(_, _, _) => {}
+        | Step::Copy(_, _, _)
+        | Step::Close(_, _) => {}
     }
 }
 
@@ -189,7 +190,7 @@ impl Referee {
         match outcome {
             Outcome::Done => self.comparison.end(),
             Outcome::No | Outcome::Reply(_) | Outcome::Reaped | Outcome::Kept => {}
-            Outcome::Copied | Outcome::Stuck => {}
+            Outcome::Copied | Outcome::Stuck | Outcome::Elsewhere | Outcome::Left(_) => {}
         }
     }
 
@@ -208,6 +209,7 @@ impl Referee {
     {
         match outcome {
             Outcome::No | Outcome::Copied | Outcome::Stuck => Ok(()),
+            Outcome::Elsewhere | Outcome::Left(_) => Ok(()),
             Outcome::Done => {
                 self.hear_call(worker, call);
                 Ok(())

@@ -48,6 +48,36 @@ pub const SHOWS_V_AT_FALLBACK: Message = Message {
     body: b"\x0a\x03\x0a\x01v\x12\x15\x02\0\0\0\0\0\x01\x80\0\0\0\0\x01\0\0\0\0\0\0\0\x01",
 };
 
+/// A put of "v" under another key of the bucket, j, without context.
+pub const PUT_J: Message = Message {
+    code: 11,
+    body: b"\x0a\x01b\x12\x01j\x22\x03\x0a\x01v",
+};
+
+/// The reply to a get that shows "v" from both sides: the first write of the vnode 0 of run 1 (65536), and that of its fallback
+/// (98304), by their contexts.
+pub const SHOWS_BOTH: Message = Message {
+    code: 10,
+    body: b"\x0a\x03\x0a\x01v\x0a\x03\x0a\x01v\x12\x29\x02\
+\0\0\0\0\0\x01\0\0\0\0\0\x01\0\0\0\0\0\0\0\x01\
+\0\0\0\0\0\x01\x80\0\0\0\0\x01\0\0\0\0\0\0\0\x01",
+};
+
+/// The reply to a get that shows "v", the first write of the second fallback, whose epochs go on behind those of the first.
+pub const SHOWS_V_AT_SECOND: Message = Message {
+    code: 10,
+    body: b"\x0a\x03\x0a\x01v\x12\x15\x02\0\0\0\0\0\x01\x80\0\0\0\0\x02\0\0\0\0\0\0\0\x01",
+};
+
+/// The reply to a get that shows "v" from the vnode, from its first fallback and from its second, by rising actors.
+pub const SHOWS_THREE: Message = Message {
+    code: 10,
+    body: b"\x0a\x03\x0a\x01v\x0a\x03\x0a\x01v\x0a\x03\x0a\x01v\x12\x3d\x02\
+\0\0\0\0\0\x01\0\0\0\0\0\x01\0\0\0\0\0\0\0\x01\
+\0\0\0\0\0\x01\x80\0\0\0\0\x01\0\0\0\0\0\0\0\x01\
+\0\0\0\0\0\x01\x80\0\0\0\0\x02\0\0\0\0\0\0\0\x01",
+};
+
 /// The reply to a put.
 pub const STORED: Message = Message {
     code: 12,

@@ -1,5 +1,8 @@
 //! Schedules, step by step. What is wanted stands in the formats of requests and replies.
 
+mod closing;
 mod copying;
+mod handing;
+mod meeting;
 mod playing;
 mod schedules;

@@ -1,6 +1,6 @@
 -- Where a text is cut at its first byte of a kind is settled by the text.
 use Rattle.std.proofs.Common.{◌≡◌, ℕ, ◌==◌, not, List, [], ◌∷◌, ◌++◌, ◌<◌, length, take, drop, true, false, Bool, if◌then◌else◌, sym, refl, ap, ◌∙◌, arith}
-use Rattle.std.proofs.lemmas.Bool.{and_parts}
+use Rattle.std.proofs.lemmas.Bool.{and_parts, not-true as is_false}
 use Rattle.std.proofs.lemmas.List.{take_all, drop_all}
 use Rattle.std.specs.List.{list_all}
 use Rattle.schedule_text.specs.Cuts.{Lacks, IsCut, lines_of, lengthen_first}
@@ -39,11 +39,6 @@ lacks_none byte [] ys lacks =
     not_first byte byte (and_parts (not (byte == byte)) (list_all (λ b. not (b == byte)) ys) lacks).0 refl
 lacks_none byte (x ∷ xs) ys lacks =
     lacks_none byte xs ys (and_parts (not (x == byte)) (list_all (λ b. not (b == byte)) (xs ++ byte ∷ ys)) lacks).1
-
--- a test that isn't true is false
-is_false : (b : Bool) → not b ≡ true → b ≡ false
-is_false true e = cc e
-is_false false e = refl
 
 -- the first line ends at the first line feed
 lines_at : (before rest : List ℕ) → Lacks 10 before → lines_of (before ++ 10 ∷ rest) ≡ before ∷ lines_of rest

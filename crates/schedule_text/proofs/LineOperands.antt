@@ -10,16 +10,16 @@ use Rattle.riak_msgs.specs.declared.request.Request.TheVariants as requests
 use Rattle.schedule_text.specs.declared.fault.LineFault.{LineFault}
 use Rattle.schedule_text.specs.declared.fault.LineFault.TheVariants.{BadStep, NoMemory}
 use Rattle.schedule_text.specs.declared.line.Line.{Line}
-use Rattle.schedule_text.specs.declared.line.Line.TheVariants.{By, Divert}
+use Rattle.schedule_text.specs.declared.line.Line.TheVariants.{By, Divert, Close}
 use Rattle.schedule_text.specs.declared.line.Action.{Action}
 use Rattle.schedule_text.specs.declared.line.Action.TheVariants.{Ask, Key as OfKey, Gate}
 use Rattle.schedule_text.specs.declared.line.KeyStep.{KeyStep}
 use Rattle.schedule_text.specs.declared.line.GateStep.{GateStep}
 use Rattle.schedule_text.specs.Cuts.{IsCut}
-use Rattle.schedule_text.specs.Lines.{gate_word, key_word, action_word, word_of, operand_text, IsWorker, HasWorker, HasOperands, IsLine}
+use Rattle.schedule_text.specs.Lines.{gate_word, key_word, action_word, word_of, operand_text, IsWorker, HasWorker, HasClose, HasOperands, IsLine}
 use Rattle.schedule_text.specs.Reading.{Reads, ReadsDecimal, ReadsOperands, Asks, ReadsAsked, MakesKeyed, ReadsHexMessage}
 use Rattle.schedule_text.proofs.Cutting.{cut_once}
-use Rattle.schedule_text.proofs.Words.{word-lacks_space, decimal-lacks_space, gate_word-not_ask, gate_word-not_key, key_word-not_ask, action_word-not_divert, divert-not_ask, divert-not_key}
+use Rattle.schedule_text.proofs.Words.{word-lacks_space, decimal-lacks_space, gate_word-not_ask, gate_word-not_key, key_word-not_ask, action_word-not_divert, action_word-not_close, divert-not_ask, divert-not_key, close-not_ask, close-not_key, close-not_divert}
 use Rattle.schedule_text.proofs.Hexadecimal.{hex_once}
 use Rattle.schedule_text.proofs.Messages.{asks_once}
 
@@ -117,6 +117,7 @@ no_ask workers text reads (By worker action) word has =
     let asks = ask_asks workers worker text action word has in
     reads worker asks.0 asks.1
 no_ask workers text reads (Divert index) word has = divert-not_ask word
+no_ask workers text reads (Close worker index) word has = close-not_ask word
 
 -- the same of a step with a key, where they ask for no get
 no_keyed_line : (kind : KeyStep) (workers : ℕ) (text : List ℕ) → ((worker : ℕ) (get : GetAsk) → ¬ (Asks workers text worker (requests.Get get)))
@@ -125,6 +126,7 @@ no_keyed_line kind workers text reads (By worker action) word has =
     let asks = keyed_asks kind workers worker text action word has in
     reads worker asks.0 asks.1
 no_keyed_line kind workers text reads (Divert index) word has = divert-not_key kind word
+no_keyed_line kind workers text reads (Close worker index) word has = close-not_key kind word
 
 pub ask_refused : (workers : ℕ) (text : List ℕ) (fault : LineFault) → ReadsAsked workers text (Err fault)
     → ReadsOperands (codes "ask") workers text (Err fault)
@@ -194,24 +196,47 @@ divert_refused workers text none = λ line word has. by line word has
     by : (line : Line) → word_of line ≡ codes "divert" → ¬ (HasOperands workers text line)
     by (By worker action) word has = action_word-not_divert action word
     by (Divert index) word has = none index has.fits has.whole
+    by (Close worker index) word has = close-not_divert word
+
+-- a worker's number and an index are cut at their space
+pub close_cut : (workers worker index : ℕ) (text number digits : List ℕ) → workers < 2 ^ 16 → IsCut 32 text number digits
+    → HasClose workers text worker index → (number ≡ decimal worker) × (digits ≡ decimal index)
+close_cut workers worker index text number digits few cut has =
+    cut_once 32 number digits (decimal worker) (decimal index) cut.first
+    (decimal-lacks_space worker (worker-small workers worker few has.is_worker)) (sym cut.whole ∙ has.whole)
+
+-- a close is refused where the text isn't of one
+pub close_refused : (workers : ℕ) (text : List ℕ) → ((worker index : ℕ) → ¬ (HasClose workers text worker index))
+    → ReadsOperands (codes "close") workers text (Err BadStep)
+close_refused workers text none = λ line word has. by line word has
+  where
+    by : (line : Line) → word_of line ≡ codes "close" → ¬ (HasOperands workers text line)
+    by (By worker action) word has = action_word-not_close action word
+    by (Divert index) word has = close-not_divert (sym word)
+    by (Close worker index) word has = none worker index has
 
 -- the word of a line, where it isn't one of these
 none_of : (line : Line) (word : List ℕ) → ((step : GateStep) → gate_word step ≢ word) → bytes_eq word (codes "ask") ≡ false
-    → ((step : KeyStep) → bytes_eq word (key_word step) ≡ false) → bytes_eq word (codes "divert") ≡ false → word_of line ≢ word
-none_of (By worker (Ask request)) word gate ask keyed divert e =
+    → ((step : KeyStep) → bytes_eq word (key_word step) ≡ false) → bytes_eq word (codes "divert") ≡ false
+    → bytes_eq word (codes "close") ≡ false → word_of line ≢ word
+none_of (By worker (Ask request)) word gate ask keyed divert close e =
     let yes : bytes_eq word (codes "ask") ≡ true = (bytes_eq-Decides word (codes "ask")).1 (sym e) in
     cc (sym yes ∙ ask)
-none_of (By worker (OfKey step key)) word gate ask keyed divert e =
+none_of (By worker (OfKey step key)) word gate ask keyed divert close e =
     let yes : bytes_eq word (key_word step) ≡ true = (bytes_eq-Decides word (key_word step)).1 (sym e) in
     cc (sym yes ∙ keyed step)
-none_of (By worker (Gate step)) word gate ask keyed divert e = gate step e
-none_of (Divert index) word gate ask keyed divert e =
+none_of (By worker (Gate step)) word gate ask keyed divert close e = gate step e
+none_of (Divert index) word gate ask keyed divert close e =
     let yes : bytes_eq word (codes "divert") ≡ true = (bytes_eq-Decides word (codes "divert")).1 (sym e) in
     cc (sym yes ∙ divert)
+none_of (Close worker index) word gate ask keyed divert close e =
+    let yes : bytes_eq word (codes "close") ≡ true = (bytes_eq-Decides word (codes "close")).1 (sym e) in
+    cc (sym yes ∙ close)
 
 pub no_word : (workers : ℕ) (text word operands : List ℕ) → IsCut 32 text word operands
     → ((step : GateStep) → gate_word step ≢ word) → bytes_eq word (codes "ask") ≡ false
-    → ((step : KeyStep) → bytes_eq word (key_word step) ≡ false) → bytes_eq word (codes "divert") ≡ false → (line : Line) → ¬ (IsLine workers text line)
-no_word workers text word operands cut gate ask keyed divert line has =
+    → ((step : KeyStep) → bytes_eq word (key_word step) ≡ false) → bytes_eq word (codes "divert") ≡ false
+    → bytes_eq word (codes "close") ≡ false → (line : Line) → ¬ (IsLine workers text line)
+no_word workers text word operands cut gate ask keyed divert close line has =
     let parts = cut_once 32 word operands (word_of line) has.operands cut.first (word-lacks_space line) (sym cut.whole ∙ has.whole) in
-    none_of line word gate ask keyed divert (sym parts.0)
+    none_of line word gate ask keyed divert close (sym parts.0)

@@ -10,18 +10,18 @@ use Rattle.riak_msgs.specs.declared.get.GetAsk.{GetAsk}
 use Rattle.riak_msgs.specs.declared.request.Request.{Request}
 use Rattle.riak_msgs.specs.declared.request.Request.TheVariants as requests
 use Rattle.schedule_text.specs.declared.line.Line.{Line}
-use Rattle.schedule_text.specs.declared.line.Line.TheVariants.{By, Divert}
+use Rattle.schedule_text.specs.declared.line.Line.TheVariants.{By, Divert, Close}
 use Rattle.schedule_text.specs.declared.line.Action.{Action}
 use Rattle.schedule_text.specs.declared.line.Action.TheVariants.{Ask, Key as OfKey, Gate}
 use Rattle.schedule_text.specs.declared.line.KeyStep.{KeyStep}
 use Rattle.schedule_text.specs.declared.line.GateStep.{GateStep}
 use Rattle.schedule_text.specs.declared.line.GateStep.TheVariants.{Enter, Leave, Mark, Unmark, Take, Put, Look, Publish}
 use Rattle.schedule_text.specs.Cuts.{IsCut}
-use Rattle.schedule_text.specs.Lines.{gate_word, key_word, action_word, word_of, operand_text, IsWorker, CarriesRequest, HasWorker, HasIndex, HasOperands, IsLine}
+use Rattle.schedule_text.specs.Lines.{gate_word, key_word, action_word, word_of, operand_text, IsWorker, CarriesRequest, HasWorker, HasIndex, HasClose, HasOperands, IsLine}
 use Rattle.schedule_text.specs.Reading.{Asks}
 use Rattle.schedule_text.proofs.Cutting.{cut_once}
-use Rattle.schedule_text.proofs.Words.{word-lacks_space, decimal-lacks_space, gate_word-not_ask, gate_word-not_key, key_word-not_ask, key_word-once, action_word-not_divert}
-use Rattle.schedule_text.proofs.LineOperands.{worker-small, operands_cut, asks_one}
+use Rattle.schedule_text.proofs.Words.{word-lacks_space, decimal-lacks_space, gate_word-not_ask, gate_word-not_key, key_word-not_ask, key_word-once, action_word-not_divert, action_word-not_close, close-not_divert}
+use Rattle.schedule_text.proofs.LineOperands.{worker-small, operands_cut, asks_one, close_cut}
 
 -- the step of a word
 abbrev step_at : List ℕ → Option GateStep
@@ -141,13 +141,29 @@ small_index index h = omega (arith, h)
 index_once : (text : List ℕ) (i j : ℕ) → HasIndex text i → HasIndex text j → Divert i ≡ Divert j
 index_once text i j x y = ap (λ n. Divert n) (decimal_injective i j (small_index i x.fits) (small_index j y.fits) (sym x.whole ∙ y.whole))
 
+close_once : (workers u v i j : ℕ) (text : List ℕ) → workers < 2 ^ 16 → HasClose workers text u i → HasClose workers text v j
+    → Close u i ≡ Close v j
+close_once workers u v i j text few x y =
+    let su = worker-small workers u few x.is_worker in
+    let sv = worker-small workers v few y.is_worker in
+    let cut : IsCut 32 text (decimal u) (decimal i) = record { whole = x.whole; first = decimal-lacks_space u su } in
+    let parts = close_cut workers v j text (decimal u) (decimal i) few cut y in
+    let worker : u ≡ v = decimal_injective u v su sv parts.0 in
+    let index : i ≡ j = decimal_injective i j (small_index i x.fits) (small_index j y.fits) parts.1 in
+    rw (worker, index) refl
+
 -- behind one word stand the operands of one line
 line_once : (workers : ℕ) (text : List ℕ) (a b : Line) → workers < 2 ^ 16 → word_of a ≡ word_of b
     → HasOperands workers text a → HasOperands workers text b → a ≡ b
 line_once workers text (By u p) (By v q) few word x y = action_once workers u v text p q few word x y
 line_once workers text (By u p) (Divert j) few word x y = absurd (action_word-not_divert p word)
 line_once workers text (Divert i) (By v q) few word x y = absurd (action_word-not_divert q (sym word))
+line_once workers text (By u p) (Close v j) few word x y = absurd (action_word-not_close p word)
 line_once workers text (Divert i) (Divert j) few word x y = index_once text i j x y
+line_once workers text (Divert i) (Close v j) few word x y = absurd (close-not_divert (sym word))
+line_once workers text (Close u i) (By v q) few word x y = absurd (action_word-not_close q (sym word))
+line_once workers text (Close u i) (Divert j) few word x y = absurd (close-not_divert word)
+line_once workers text (Close u i) (Close v j) few word x y = close_once workers u v i j text few x y
 
 pub one_step : (workers : ℕ) (text : List ℕ) (a b : Line) → workers < 2 ^ 16 → IsLine workers text a → IsLine workers text b
     → a ≡ b

@@ -16,17 +16,8 @@ use Rattle.schedule_text.specs.declared.shown_context.ShownContext.{ShownContext
 use Rattle.schedule_text.specs.Compared.{is_of, position_of}
 use Rattle.schedule_text.specs.ShownIndex.{digest_of, entry_digest, places_from, position_among, places_at, AreIndexed}
 use Rattle.actor_epoch.proofs.Rising.{and_first as and_left, and_second as and_right}
-
-same_number : (a b : ℕ) → (a == b) ≡ true → a ≡ b
-same_number a b h = grind (arith, nat_tests)
-
-same_dot : (a b : Dot) → dot_eq a b ≡ true → a ≡ b
-same_dot a b h =
-    let actors = and_left (actor_eq a.actor b.actor) (a.counter == b.counter) h in
-    let vnodes : a.actor.vnode ≡ b.actor.vnode = same_number _ _ (and_left (a.actor.vnode == b.actor.vnode) (a.actor.epoch == b.actor.epoch) actors) in
-    let epochs : a.actor.epoch ≡ b.actor.epoch = same_number _ _ (and_right (a.actor.vnode == b.actor.vnode) (a.actor.epoch == b.actor.epoch) actors) in
-    let counters : a.counter ≡ b.counter = same_number _ _ (and_right (actor_eq a.actor b.actor) (a.counter == b.counter) h) in
-    λ i. record { actor = record { vnode = vnodes i; epoch = epochs i }; counter = counters i }
+use Rattle.std.proofs.lemmas.Bool.{eqb-true as same_number}
+use Rattle.dvv_set.proofs.Live.{dot_eq-same as same_dot}
 
 same_pairs : (a b : List Dot) → pointwise dot_eq a b ≡ true → a ≡ b
 same_pairs [] [] h = refl

@@ -7,7 +7,7 @@ use Rattle.std.specs.Str.Parse.{AllDigits}
 use Rattle.std.proofs.lemmas.Fmt.{decimal_is_IsNumeral}
 use Rattle.std.proofs.lemmas.Str.Parse.{digit_from_value}
 use Rattle.schedule_text.specs.declared.line.Line.{Line}
-use Rattle.schedule_text.specs.declared.line.Line.TheVariants.{By, Divert}
+use Rattle.schedule_text.specs.declared.line.Line.TheVariants.{By, Divert, Close}
 use Rattle.schedule_text.specs.declared.line.Action.{Action}
 use Rattle.schedule_text.specs.declared.line.Action.TheVariants.{Ask, Key as OfKey, Gate}
 use Rattle.schedule_text.specs.declared.line.KeyStep.{KeyStep}
@@ -36,6 +36,7 @@ action_word-lacks_space (Gate step) = gate_word-lacks_space step
 pub word-lacks_space : (line : Line) → Lacks 32 (word_of line)
 word-lacks_space (By worker action) = action_word-lacks_space action
 word-lacks_space (Divert index) = refl
+word-lacks_space (Close worker index) = refl
 
 -- a digit isn't a space
 not_space : (c : ℕ) → digit_value c < 10 → not (c == 32) ≡ true
@@ -50,7 +51,7 @@ digits-lack_space (d ∷ ds) all = rw (not_space d all.0, digits-lack_space ds a
 pub decimal-lacks_space : (n : ℕ) → n < 2 ^ 64 → Lacks 32 (decimal n)
 decimal-lacks_space n small = digits-lack_space (decimal n) (decimal_is_IsNumeral n small).0.1
 
--- the word of a gate's step is neither `ask` nor `reap` nor `copy` nor `divert`
+-- the word of a gate's step is neither `ask` nor `reap` nor `copy` nor `divert` nor `close`
 other_than : (a b : List ℕ) → bytes_eq a b ≡ false → bytes_eq b b ≡ true → a ≢ b
 other_than a b unlike same e =
     let yes : bytes_eq a b ≡ true = ap (λ x. bytes_eq x b) e ∙ same in
@@ -94,6 +95,16 @@ gate_word-not_divert Put = other_than (codes "put") (codes "divert") refl refl
 gate_word-not_divert Look = other_than (codes "look") (codes "divert") refl refl
 gate_word-not_divert Publish = other_than (codes "publish") (codes "divert") refl refl
 
+gate_word-not_close : (step : GateStep) → gate_word step ≢ codes "close"
+gate_word-not_close Enter = other_than (codes "enter") (codes "close") refl refl
+gate_word-not_close Leave = other_than (codes "leave") (codes "close") refl refl
+gate_word-not_close Mark = other_than (codes "mark") (codes "close") refl refl
+gate_word-not_close Unmark = other_than (codes "unmark") (codes "close") refl refl
+gate_word-not_close Take = other_than (codes "take") (codes "close") refl refl
+gate_word-not_close Put = other_than (codes "put") (codes "close") refl refl
+gate_word-not_close Look = other_than (codes "look") (codes "close") refl refl
+gate_word-not_close Publish = other_than (codes "publish") (codes "close") refl refl
+
 -- the others are different
 pub key_word-not_ask : (step : KeyStep) → key_word step ≢ codes "ask"
 key_word-not_ask Reap = other_than (codes "reap") (codes "ask") refl refl
@@ -105,12 +116,28 @@ key_word-once Reap Copy e = absurd (other_than (codes "reap") (codes "copy") ref
 key_word-once Copy Reap e = absurd (other_than (codes "copy") (codes "reap") refl refl e)
 key_word-once Copy Copy e = refl
 
--- and none is a partition's
+-- and none names a partition
 pub action_word-not_divert : (action : Action) → action_word action ≢ codes "divert"
 action_word-not_divert (Ask request) = other_than (codes "ask") (codes "divert") refl refl
 action_word-not_divert (OfKey Reap key) = other_than (codes "reap") (codes "divert") refl refl
 action_word-not_divert (OfKey Copy key) = other_than (codes "copy") (codes "divert") refl refl
 action_word-not_divert (Gate step) = gate_word-not_divert step
+
+pub action_word-not_close : (action : Action) → action_word action ≢ codes "close"
+action_word-not_close (Ask request) = other_than (codes "ask") (codes "close") refl refl
+action_word-not_close (OfKey Reap key) = other_than (codes "reap") (codes "close") refl refl
+action_word-not_close (OfKey Copy key) = other_than (codes "copy") (codes "close") refl refl
+action_word-not_close (Gate step) = gate_word-not_close step
+
+pub close-not_ask : codes "close" ≢ codes "ask"
+close-not_ask = other_than (codes "close") (codes "ask") refl refl
+
+pub close-not_key : (step : KeyStep) → codes "close" ≢ key_word step
+close-not_key Reap = other_than (codes "close") (codes "reap") refl refl
+close-not_key Copy = other_than (codes "close") (codes "copy") refl refl
+
+pub close-not_divert : codes "close" ≢ codes "divert"
+close-not_divert = other_than (codes "close") (codes "divert") refl refl
 
 pub divert-not_ask : codes "divert" ≢ codes "ask"
 divert-not_ask = other_than (codes "divert") (codes "ask") refl refl

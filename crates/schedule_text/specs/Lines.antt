@@ -6,7 +6,7 @@ use Rattle.riak_msgs.specs.declared.request.Request.{Request}
 use Rattle.riak_msgs.specs.declared.request.Request.TheVariants as requests
 use Rattle.riak_msgs.specs.Reading.{Decodes}
 use Rattle.schedule_text.specs.declared.line.Line.{Line}
-use Rattle.schedule_text.specs.declared.line.Line.TheVariants.{By, Divert}
+use Rattle.schedule_text.specs.declared.line.Line.TheVariants.{By, Divert, Close}
 use Rattle.schedule_text.specs.declared.line.Action.{Action}
 use Rattle.schedule_text.specs.declared.line.Action.TheVariants.{Ask, Key as OfKey, Gate}
 use Rattle.schedule_text.specs.declared.line.KeyStep.{KeyStep}
@@ -51,6 +51,7 @@ action_word (Gate step) = gate_word step
 abbrev pub word_of : Line → List ℕ
 word_of (By worker action) = action_word action
 word_of (Divert index) = codes "divert"
+word_of (Close worker index) = codes "close"
 
 -- a space and a message in lower-case hexadecimal; nothing where there is no message
 abbrev pub message_text : Option (List ℕ) → List ℕ
@@ -102,10 +103,17 @@ pub record HasIndex (text : List ℕ) (index : ℕ) : Type 0 where
   pub whole : text ≡ decimal index
   pub fits : index < 2 ^ 16
 
+-- the text is a worker's number and a partition's index, which has 16 bits, in decimal, with a space between them
+pub record HasClose (workers : ℕ) (text : List ℕ) (worker index : ℕ) : Type 0 where
+  pub whole : text ≡ decimal worker ++ 32 ∷ decimal index
+  pub is_worker : IsWorker workers worker
+  pub fits : index < 2 ^ 16
+
 -- the text behind a line's word and its space
 abbrev pub HasOperands : ℕ → List ℕ → Line → Type 0
 HasOperands workers text (By worker action) = HasWorker workers text worker action
 HasOperands workers text (Divert index) = HasIndex text index
+HasOperands workers text (Close worker index) = HasClose workers text worker index
 
 -- the text asks for this line's step, where there are so many workers
 pub record IsLine (workers : ℕ) (text : List ℕ) (line : Line) : Type 0 where

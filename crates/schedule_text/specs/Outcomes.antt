@@ -10,6 +10,10 @@ use Rattle.schedule_text.specs.declared.outcome.StepOutcome.TheVariants as outco
 abbrev pub reply_text : Reply → List ℕ
 reply_text reply = encode_lower (reply_code reply ∷ reply_body reply)
 
+-- how many keys are left, in decimal
+abbrev pub left_text : ℕ → List ℕ
+left_text keys = codes "left " ++ decimal keys
+
 -- what a line says of an outcome
 abbrev pub outcome_text : StepOutcome → List ℕ
 outcome_text outcomes.No = codes "no"
@@ -19,6 +23,8 @@ outcome_text outcomes.Reaped = codes "reaped"
 outcome_text outcomes.Kept = codes "kept"
 outcome_text outcomes.Copied = codes "copied"
 outcome_text outcomes.Stuck = codes "stuck"
+outcome_text outcomes.Elsewhere = codes "elsewhere"
+outcome_text (outcomes.Left keys) = left_text keys
 
 -- the line: its number in decimal, a space, the outcome, and a line feed
 abbrev pub outcome_line : ℕ → StepOutcome → List ℕ

@@ -1,7 +1,7 @@
 //! The text of a schedule: one step a line, and one line for each outcome.
 //!
 //! A line is a word, one space and a worker's number in decimal; `ask` and `reap` have one more space and a request,
-//! its message code and its body, in lower-case hexadecimal. Behind `divert` stands a partition's index. [`read_line`] reads one as the step that it asks for
+//! its message code and its body, in lower-case hexadecimal. Behind `divert` stands a partition's index, behind `close` a worker's number and such an index. [`read_line`] reads one as the step that it asks for
 //! (`specs/Lines`), and a line asks for one step ([`a_line_asks_for_one_step`]). [`Lines`] cuts a text into its lines
 //! (`specs/Cuts`), and [`write_outcome`] writes the outcome of a step (`specs/Outcomes`).
 //!
@@ -15,6 +15,8 @@
 //! leave 1                     worker 1 leaves
 //! reap 1 090a016212016b       worker 1 is asked to forget the key, if it is dead
 //! divert 0                    partition 0 is diverted: its calls go to a fallback from then on
+//! copy 1 090a016212016b       worker 1 is asked to copy the key back to the primary
+//! close 1 0                   worker 1 is asked to close the fallback of partition 0
 //! ```
 #![tactic(auto)]
 

@@ -14,6 +14,8 @@ pub enum Line {
     By(u16, Action),
     /// The partition of this index, from 0, is diverted to a fallback.
     Divert(u16),
+    /// The worker of the first number closes the fallback of the partition of the second, its index.
+    Close(u16, u16),
 }
 
 /// What a worker does in a step.

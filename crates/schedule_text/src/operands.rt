@@ -1,4 +1,4 @@
-//! The operands of a line, behind its word: a worker's number, and a message; or a partition's index.
+//! The operands of a line, behind its word: a worker's number, and a message or a partition's index; or such an index alone.
 
 ghost use Rattle.std.specs.Prelude.{◌≡◌, ◌↔◌, ℕ, IsTrue, decimal, codes};
 ghost use Rattle.std.specs.Str.{bytes_eq};
@@ -118,6 +118,23 @@ pub(crate) fn read_gate_step(step: GateStep, text: &[u8], workers: u16) -> Resul
 {
     match read_worker(text, workers) {
         Some(worker) => Ok(Line::By(worker, Action::Gate(step))),
+        None => Err(LineFault::BadStep),
+    }
+}
+
+/// The line of a worker that closes a partition's fallback: the worker's number, one space, and the index, decimal without leading
+/// zeros, up to 65,535.
+pub(crate) fn read_close(text: &[u8], workers: u16) -> Result<Line, LineFault>
+    ensures { ReadsOperands (codes "close") workers text.now result }
+{
+    let Some((number, digits)) = cut_at(text, b' ') else {
+        return Err(LineFault::BadStep);
+    };
+    let Some(worker) = read_worker(number, workers) else {
+        return Err(LineFault::BadStep);
+    };
+    match read_decimal(digits) {
+        Some(index) => Ok(Line::Close(worker, index)),
         None => Err(LineFault::BadStep),
     }
 }

@@ -1,7 +1,7 @@
 //! The line of a step's outcome.
 
 ghost use Rattle.std.specs.Prelude.{◌≡◌, ◌++◌, IfOk, OnOk};
-ghost use Rattle.schedule_text.specs.Outcomes.{outcome_line, outcome_text, reply_text};
+ghost use Rattle.schedule_text.specs.Outcomes.{left_text, outcome_line, outcome_text, reply_text};
 
 use itoa::Buffer;
 use riak_msgs::{Reply, write_reply};
@@ -24,6 +24,10 @@ pub enum StepOutcome<'a> {
     Copied,
     /// The step found that the primary would have too much of a copier's key: `stuck`.
     Stuck,
+    /// The step found the fallback closed: `elsewhere`.
+    Elsewhere,
+    /// The step found that so many keys of the fallback aren't copied as they are now: `left` and their number.
+    Left(u64),
 }
 
 /// Appends a reply's code and body in lower-case hexadecimal.
@@ -35,6 +39,15 @@ fn append_reply(alloc: Global, out: &mut Vec<u8>, reply: &Reply) -> Result<(), A
     };
     let digits = hex::encode(alloc, message.as_slice())?;
     out.extend_from_slice(digits.as_bytes())
+}
+
+/// Appends `left`, a space and how many keys are left, in decimal.
+fn append_left(out: &mut Vec<u8>, keys: u64) -> Result<(), AllocError>
+    ensures { OnOk result (out.new.items ≡ out.old.items ++ left_text keys) }
+{
+    let mut buffer = Buffer::new();
+    out.extend_from_slice(b"left ")?;
+    out.extend_from_slice(buffer.format(keys).as_bytes())
 }
 
 /// Appends an outcome as a line holds it.
@@ -56,6 +69,8 @@ fn append_outcome(
         StepOutcome::Kept => out.extend_from_slice(b"kept"),
         StepOutcome::Copied => out.extend_from_slice(b"copied"),
         StepOutcome::Stuck => out.extend_from_slice(b"stuck"),
+        StepOutcome::Elsewhere => out.extend_from_slice(b"elsewhere"),
+        StepOutcome::Left(keys) => append_left(out, keys),
     }
 }
 

@@ -161,6 +161,43 @@ copy 1 090a016212016a\nenter 1\nlook 1\nleave 1\n",
 21 ok\n22 ok\n23 kept\n24 ok\n\
 plain not compared\n",
     },
+    // "v" is put at the primary and "w" at the fallback (vnode 98304, which is 65536 + 32768). A closer finds b/k left; it is copied
+    // back, and the fallback is closed. Worker 2 was asked before that: it finds the fallback closed, and then both values at the
+    // primary, by rising actors. The second fallback begins its epochs at 2.
+    Schedule {
+        shows: "a whole hand-off, and a second diversion",
+        text: "ask 1 0b0a016212016b22030a0176\ntake 1\nlook 1\npublish 1\nput 1\ndivert 0\n\
+ask 1 0b0a016212016b22030a0177\ntake 1\nlook 1\npublish 1\nput 1\nask 2 090a016212016b\n\
+close 1 0\ntake 1\nenter 1\nlook 1\nleave 1\nput 1\n\
+copy 1 090a016212016b\nenter 1\nlook 1\ntake 1\nlook 1\npublish 1\nput 1\nleave 1\n\
+close 1 0\ntake 1\nenter 2\nenter 1\nlook 1\npublish 1\nleave 1\nput 1\ndivert 0\n\
+enter 2\nlook 2\nleave 2\nenter 2\nlook 2\nleave 2\ncopy 1 090a016212016b\ndivert 0\n\
+ask 1 0b0a016212016b22030a0178\ntake 1\nlook 1\npublish 1\nput 1\nask 1 090a016212016b\nenter 1\nlook 1\nleave 1\n",
+        workers: 2,
+        result: Ok(()),
+        answers: "1 ok\n2 ok\n3 ok\n4 reply 0c\n5 ok\n6 ok\n\
+7 ok\n8 ok\n9 ok\n10 reply 0c\n11 ok\n12 ok\n\
+13 ok\n14 ok\n15 ok\n16 left 1\n17 ok\n18 ok\n\
+19 ok\n20 ok\n21 ok\n22 ok\n23 ok\n24 copied\n25 ok\n26 ok\n\
+27 ok\n28 ok\n29 no\n30 ok\n31 ok\n32 ok\n33 ok\n34 ok\n35 no\n\
+36 ok\n37 elsewhere\n38 ok\n39 ok\n40 reply 0a0a030a01760a030a017712290200000000000100000000000100000000000000010000000000018000000000010000000000000001\n41 ok\n42 no\n43 ok\n\
+44 ok\n45 ok\n46 ok\n47 reply 0c\n48 ok\n49 ok\n50 ok\n51 reply 0a0a030a01781215020000000000018000000000020000000000000001\n52 ok\n\
+plain not compared\n",
+    },
+    Schedule {
+        shows: "what isn't diverted isn't closed, and the run is compared",
+        text: "close 1 0\nclose 1 1\nclose 1 65535\n",
+        workers: 1,
+        result: Ok(()),
+        answers: "1 no\n2 no\n3 no\nplain equal\n",
+    },
+    Schedule {
+        shows: "a close without an index is a bad step",
+        text: "divert 0\nclose 1\n",
+        workers: 1,
+        result: Err(StepsFault::BadStep(2)),
+        answers: "1 ok\n",
+    },
     Schedule {
         shows: "a copy of what is no get is a bad step",
         text: "divert 0\ncopy 1 0d0a016212016b\n",

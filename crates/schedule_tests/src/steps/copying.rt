@@ -1,7 +1,7 @@
 //! Schedules with copiers, and one in which a copy is stuck.
 
 use crate::messages::{GET, PUT_V, STORED};
-use crate::steps::playing::{Act, Wanted, comes_to, world_of};
+use crate::steps::playing::{Act, Wanted, come_to, comes_to, world_of};
 use Act::{Ask, Copy, Divert, Enter, Leave, Look, Mark, Publish, Put, Take};
 use Wanted::{Copied, Done, Kept, No, Reply, Stuck};
 use node_steps::World;
@@ -140,15 +140,6 @@ const SCHEDULES: &[Schedule] = &[
         ],
     },
 ];
-
-fn come_to(world: &mut World, alloc: Global, steps: &[(Act, Wanted)]) -> bool {
-    for (act, wanted) in steps {
-        if !comes_to(world, alloc, act, wanted) {
-            return false;
-        }
-    }
-    true
-}
 
 /// Whether a row holds.
 fn plays(alloc: Global, row: &Schedule) -> bool {

@@ -23,6 +23,8 @@ pub enum Act {
     Divert(u16),
     /// It is to copy b/k back, for the partition of this index.
     Copy(u16, u16),
+    /// It is to close the fallback of the partition of this index.
+    Close(u16, u16),
 }
 
 /// What comes of it.
@@ -41,6 +43,10 @@ pub enum Wanted {
     Copied,
     /// The copy is stuck.
     Stuck,
+    /// The fallback is closed.
+    Elsewhere,
+    /// So many keys aren't copied.
+    Left(u64),
 }
 
 /// A world of run 1, and a second time where memory was refused.
@@ -100,6 +106,7 @@ fn take(world: &mut World, alloc: Global, act: &Act) -> Result<Outcome, StepFaul
         Act::Look(worker) => Step::Look(*worker),
         Act::Publish(worker) => Step::Publish(*worker),
         Act::Divert(index) => Step::Divert(*index),
+        Act::Close(worker, index) => Step::Close(*worker, *index),
     };
     world.step(alloc, step)
 }
@@ -140,10 +147,22 @@ fn is_wanted(alloc: Global, outcome: &Result<Outcome, StepFault>, wanted: &Wante
         | (Ok(Outcome::Reaped), Wanted::Reaped)
         | (Ok(Outcome::Copied), Wanted::Copied)
         | (Ok(Outcome::Stuck), Wanted::Stuck)
+        | (Ok(Outcome::Elsewhere), Wanted::Elsewhere)
         | (Ok(Outcome::Kept), Wanted::Kept) => true,
+        (Ok(Outcome::Left(keys)), Wanted::Left(wanted)) => keys == wanted,
         (Ok(Outcome::Reply(reply)), Wanted::Reply(message)) => is_reply(alloc, reply, message),
         _ => false,
     }
+}
+
+/// Each of the steps comes to what is wanted.
+pub fn come_to(world: &mut World, alloc: Global, steps: &[(Act, Wanted)]) -> bool {
+    for (act, wanted) in steps {
+        if !comes_to(world, alloc, act, wanted) {
+            return false;
+        }
+    }
+    true
 }
 
 /// The step comes to this.

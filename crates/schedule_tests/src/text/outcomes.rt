@@ -20,6 +20,10 @@ enum Written {
     Copied(u64),
     /// The step that found a copy stuck.
     Stuck(u64),
+    /// The step that found the fallback closed.
+    Elsewhere(u64),
+    /// The step that found so many keys left.
+    Left(u64, u64),
     /// The reply to a step.
     Reply(u64, Message),
     /// The verdict of a run.
@@ -63,6 +67,21 @@ const WRITTEN_LINES: &[WrittenLine] = &[
         shows: "a key that is stuck",
         of: Written::Stuck(12),
         line: "12 stuck\n",
+    },
+    WrittenLine {
+        shows: "a fallback that is closed",
+        of: Written::Elsewhere(13),
+        line: "13 elsewhere\n",
+    },
+    WrittenLine {
+        shows: "a key that is left",
+        of: Written::Left(14, 1),
+        line: "14 left 1\n",
+    },
+    WrittenLine {
+        shows: "the most keys that are told",
+        of: Written::Left(15, 18_446_744_073_709_551_615),
+        line: "15 left 18446744073709551615\n",
     },
     WrittenLine {
         shows: "the reply to a get of an absent key",
@@ -162,6 +181,12 @@ fn writes(alloc: Global, row: &WrittenLine) -> bool {
         Written::Kept(number) => writes_outcome(alloc, *number, StepOutcome::Kept, row.line),
         Written::Copied(number) => writes_outcome(alloc, *number, StepOutcome::Copied, row.line),
         Written::Stuck(number) => writes_outcome(alloc, *number, StepOutcome::Stuck, row.line),
+        Written::Elsewhere(number) => {
+            writes_outcome(alloc, *number, StepOutcome::Elsewhere, row.line)
+        }
+        Written::Left(number, keys) => {
+            writes_outcome(alloc, *number, StepOutcome::Left(*keys), row.line)
+        }
         Written::Reply(number, message) => writes_reply(alloc, *number, message, row.line),
         Written::Verdict(verdict) => writes_verdict(alloc, *verdict, row.line),
     }

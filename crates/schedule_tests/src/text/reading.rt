@@ -28,9 +28,11 @@ enum Asks {
     Key(KeyStep),
     /// No worker: a partition is diverted.
     Divert,
+    /// To close the fallback of the partition of this index.
+    Close(u16),
 }
 
-use Asks::{Divert, Gate, Get, Put};
+use Asks::{Close, Divert, Gate, Get, Put};
 
 /// A line that is a step of one of three workers, or of a partition.
 struct StepLine {
@@ -126,6 +128,18 @@ const STEP_LINES: &[StepLine] = &[
         number: 65_535,
         asks: Divert,
     },
+    StepLine {
+        shows: "a worker is asked to close a fallback",
+        line: "close 2 0",
+        number: 2,
+        asks: Close(0),
+    },
+    StepLine {
+        shows: "the worker stands before the index",
+        line: "close 3 65535",
+        number: 3,
+        asks: Close(65_535),
+    },
 ];
 
 /// The key is k in the bucket b.
@@ -150,10 +164,18 @@ fn is_action(action: &Action, asks: &Asks) -> bool {
     }
 }
 
+fn is_close(index: u16, asks: &Asks) -> bool {
+    match asks {
+        Close(wanted) => index == *wanted,
+        _ => false,
+    }
+}
+
 fn is_step(read: &Result<Line, LineFault>, row: &StepLine) -> bool {
     match read {
         Ok(Line::By(worker, action)) => *worker == row.number && is_action(action, &row.asks),
         Ok(Line::Divert(index)) => *index == row.number && matches!(row.asks, Divert),
+        Ok(Line::Close(worker, index)) => *worker == row.number && is_close(*index, &row.asks),
         Err(_) => false,
     }
 }
@@ -257,6 +279,27 @@ const BAD_STEPS: &[BadSteps] = &[
             "divert 0 x",
             "divert 0 090a016212016b",
             "diverts 0",
+        ],
+    },
+    BadSteps {
+        shows: "a close names a worker and an index, and nothing more",
+        lines: &[
+            "close",
+            "close ",
+            "close 1",
+            "close 1 ",
+            "close 0 0",
+            "close 4 0",
+            "close 01 0",
+            "close 1 00",
+            "close 1 -1",
+            "close 1 65536",
+            "close 1  0",
+            "close  1 0",
+            "close 1 0 ",
+            "close 1 0 0",
+            "close 1 090a016212016b",
+            "closes 1 0",
         ],
     },
     BadSteps {

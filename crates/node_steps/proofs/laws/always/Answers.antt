@@ -3,7 +3,8 @@ use Rattle.node_steps.proofs.Scheduled.{orderly}
 use Rattle.node_steps.proofs.Lifting.{histories_are_legal, looks_show_replays, no_dots_twice, lives_are_defined}
 use Rattle.node_steps.proofs.Claiming.{replies_are_registers, nothing_else_happens, replies_have_seen}
 use Rattle.node_steps.proofs.Looked.{looks_see_replays}
-use Rattle.node_steps.proofs.Uncopied.{calls_meet_no_copies}
+use Rattle.node_steps.proofs.Judged.{judged_after}
+use Rattle.node_steps.proofs.Firsts.{calls_meet_no_copies}
 use Rattle.node_steps.proofs.Replaying.{replays_after}
 use Rattle.node_steps.proofs.Leaving.{values_leave_only_covered}
 use Rattle.node_steps.proofs.Showing.{values_leave_only_seen}
@@ -17,13 +18,13 @@ pub returns-clause-looks : goal.returns-clause-looks
 returns-clause-looks c = λ start is schedule. looks_show_replays (world_after start schedule) (orderly start is schedule)
 
 pub returns-clause-looked : goal.returns-clause-looked
-returns-clause-looked c = λ start is schedule step. looks_see_replays (world_after start schedule) (orderly start is schedule) (calls_meet_no_copies start is schedule) step
+returns-clause-looked c = λ start is schedule step. looks_see_replays (world_after start schedule) (orderly start is schedule) step
 
 pub returns-clause-answers : goal.returns-clause-answers
-returns-clause-answers c = λ start is schedule step. replies_are_registers (world_after start schedule) (orderly start is schedule) (calls_meet_no_copies start is schedule) step
+returns-clause-answers c = λ start is schedule step. replies_are_registers (world_after start schedule) (orderly start is schedule) step
 
 pub returns-clause-nothing_else : goal.returns-clause-nothing_else
-returns-clause-nothing_else c = λ start is schedule step. nothing_else_happens (world_after start schedule) (orderly start is schedule) step
+returns-clause-nothing_else c = λ start is schedule step. nothing_else_happens (world_after start schedule) (orderly start is schedule) (judged_after start is schedule) step
 
 pub returns-clause-seen : goal.returns-clause-seen
 returns-clause-seen c = λ start is schedule step. replies_have_seen (world_after start schedule) (orderly start is schedule) step

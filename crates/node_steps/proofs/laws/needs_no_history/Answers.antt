@@ -1,6 +1,6 @@
 use Rattle.node_steps.specs.Schedules.{world_after}
 use Rattle.node_steps.proofs.Scheduled.{orderly}
-use Rattle.node_steps.proofs.Erasing.{outcome_erased, after_erased}
+use Rattle.node_steps.proofs.ErasedSteps.{outcome_erased, after_erased}
 use Rattle.node_steps.proofs.laws.needs_no_history.Goals as goal
 
 pub returns : goal.returns

@@ -46,6 +46,16 @@ returns-then-is_divert c =
           (same_text word (codes "divert") is) (c.read_divert.ensures c.args.workers);
     }
 
+pub returns-then-is_close : goal.returns-then-is_close
+returns-then-is_close c =
+    let word = c.in-Some.word.now in
+    let is : true ≡ bytes_eq word (codes "close") = sym c.if-is_close.true ∙ c.eq-is_close.ensures ∙ ap (bytes_eq word) c.as_slice-5.ensures in
+    record {
+      reads =
+          whole_line c.args.workers c.args.text.now word c.in-Some.operands.now (codes "close") c.read_close.result c.in-Some.ensures
+          (same_text word (codes "close") is) c.read_close.ensures;
+    }
+
 pub returns-in-Some-named : goal.returns-in-Some-named
 returns-in-Some-named c = record {
   reads =
@@ -60,8 +70,11 @@ returns-in-None c =
     let another : bytes_eq word (codes "reap") ≡ false = sym (c.eq-is_reap.ensures ∙ ap (bytes_eq word) c.as_slice-2.ensures) ∙ c.if-is_reap.false in
     let copied : bytes_eq word (codes "copy") ≡ false = sym (c.eq-is_copy.ensures ∙ ap (bytes_eq word) c.as_slice-3.ensures) ∙ c.if-is_copy.false in
     let third : bytes_eq word (codes "divert") ≡ false = sym (c.eq-is_divert.ensures ∙ ap (bytes_eq word) c.as_slice-4.ensures) ∙ c.if-is_divert.false in
+    let fourth : bytes_eq word (codes "close") ≡ false = sym (c.eq-is_close.ensures ∙ ap (bytes_eq word) c.as_slice-5.ensures) ∙ c.if-is_close.false in
     record {
-      reads = no_word c.args.workers c.args.text.now word c.in-Some.operands.now c.in-Some.ensures c.in-None.ensures other (both word another copied) third;
+      reads =
+          no_word c.args.workers c.args.text.now word c.in-Some.operands.now c.in-Some.ensures c.in-None.ensures other (both word another copied) third
+          fourth;
     }
   where
     both : (word : List ℕ) → bytes_eq word (codes "reap") ≡ false → bytes_eq word (codes "copy") ≡ false → (step : KeyStep) → bytes_eq word (key_word step) ≡ false

@@ -1,8 +1,8 @@
 use Rattle.std.proofs.Common.{◌≡◌, ◌∙◌, sym, subst}
 use Rattle.std.specs.Prelude.{Some, IsSome, IfSome}
-use Rattle.vnode_protocol.specs.Plans.{IsPrepared}
+use Rattle.vnode_core.specs.Plans.{IsPrepared}
 use Rattle.node_steps.specs.Hands.{command_of}
-use Rattle.node_steps.proofs.Planning.{finishes, still_named, still_open}
+use Rattle.node_steps.proofs.Planning.{finishes, still_named}
 use Rattle.node_steps.proofs.Preparing.{still_sound}
 use Rattle.node_steps.proofs.hand.Hand.publish.Goals as goal
 
@@ -16,6 +16,5 @@ invariant_of-self c =
     record {
       named = still_named old.state c.finish.result c.finish.new.self.state (command_of change) planned.0 now ∙ c.self.invariant.named;
       sound = still_sound old.state c.finish.result c.finish.new.self.state (command_of change) planned.0 now c.self.invariant.sound;
-      opened = still_open old.state c.finish.result c.finish.new.self.state (command_of change) planned.0 now ∙ c.self.invariant.opened;
       planned = subst (λ o. IfSome o (λ ask. IsSome (command_of ask) × IsPrepared c.finish.new.self ask ask)) (sym c.take.ensures.after) tt;
     }

@@ -1,10 +1,10 @@
 use Rattle.std.proofs.Common.{subst, sym, ◌<◌, length, arith}
-use Rattle.std.specs.Prelude.{slice_set, Some, None}
+use Rattle.std.specs.Prelude.{slice_set}
 use Rattle.node_steps.specs.declared.outcome.Outcome.TheVariants.{Done}
 use Rattle.node_steps.specs.declared.phase.Phase.TheVariants.{Idle, Copying}
 use Rattle.node_steps.specs.declared.stage.Stage.TheVariants.{Asked}
 use Rattle.node_steps.specs.Asked.{copying_step}
-use Rattle.node_steps.specs.Parts.{CopiesWhence, TakesStep, world_in}
+use Rattle.node_steps.specs.Parts.{TakesStep, world_in}
 use Rattle.node_steps.specs.Running.{world_of}
 use Rattle.node_steps.proofs.CopyAsking.{not_sent, is_sent}
 use Rattle.node_steps.proofs.Finding.{something}
@@ -14,12 +14,13 @@ use Rattle.node_steps.proofs.parts.Parts.send_copier.Goals as goal
 
 pub returns-in_default : goal.returns-in_default
 returns-in_default c =
-    not_sent c.args.self.now.sites.items c.args.self.now.routes.items c.args.self.now.workers.items c.args.worker c.args.index c.args.key.value c.in_default.ensures
+    not_sent c.args.self.now.sites.items c.args.self.now.routes.items c.args.self.now.epochs.items c.args.self.now.workers.items c.args.worker c.args.index c.args.key.value
+    c.in_default.ensures
 
 pub returns-in_default-fallback_of : goal.returns-in_default-fallback_of
 returns-in_default-fallback_of c =
-    not_possible c.args.self.now.sites.items c.args.self.now.routes.items c.args.self.now.workers.items (copying_step c.args.worker c.args.index c.args.key.value)
-    ((subst (λ key. CopiesWhence c.args.self.now c.args.index key None) c.deref.ensures c.in_default-fallback_of.ensures) c.args.worker)
+    not_possible c.args.self.now.sites.items c.args.self.now.routes.items c.args.self.now.epochs.items c.args.self.now.workers.items
+    (copying_step c.args.worker c.args.index c.args.key.value) (c.in_default-fallback_of.ensures.copies c.args.worker c.args.key.value)
 
 pub index_mut-requires : goal.index_mut-requires
 index_mut-requires c =
@@ -28,13 +29,13 @@ index_mut-requires c =
 
 pub returns : goal.returns
 returns c =
-    let whence = subst (λ key. CopiesWhence c.args.self.now c.args.index key (Some c.in-Some-fallback_of.site)) c.deref.ensures c.in-Some-fallback_of.ensures in
-    let there = something c.args.self.now.sites.items c.in-Some-fallback_of.site whence.1 in
+    let fallback = c.in-Some-fallback_of.ensures in
+    let there = something c.args.self.now.sites.items c.in-Some-fallback_of.site fallback.there in
     subst (λ phase. TakesStep (world_in c.args.self.now) (copying_step c.args.worker c.args.index c.args.key.value) Done
-    (world_of c.args.self.now.sites.items c.args.self.now.routes.items (slice_set c.args.self.now.workers.items c.in-Some.place phase)))
+    (world_of c.args.self.now.sites.items c.args.self.now.routes.items c.args.self.now.epochs.items (slice_set c.args.self.now.workers.items c.in-Some.place phase)))
     (sym c.set_phase.ensures)
     (subst (λ own. TakesStep (world_in c.args.self.now) (copying_step c.args.worker c.args.index c.args.key.value) Done
-    (world_of c.args.self.now.sites.items c.args.self.now.routes.items
+    (world_of c.args.self.now.sites.items c.args.self.now.routes.items c.args.self.now.epochs.items
     (slice_set c.args.self.now.workers.items c.in-Some.place (Copying own c.in-Some-fallback_of.site c.args.key Asked)))) (sym c.from-own.ensures)
-    (is_sent c.args.self.now.sites.items c.args.self.now.routes.items c.args.self.now.workers.items c.args.worker c.in-Some.place c.in-Some.ensures.0 c.in-Some.ensures.1
-    c.args.index c.in-Some-fallback_of.site c.args.key there.0 whence.0 there.1))
+    (is_sent c.args.self.now.sites.items c.args.self.now.routes.items c.args.self.now.epochs.items c.args.self.now.workers.items c.args.worker c.in-Some.place
+    c.in-Some.ensures.0 c.in-Some.ensures.1 c.args.index c.in-Some-fallback_of.site c.args.key there.0 (fallback.copies c.args.key.value) there.1))

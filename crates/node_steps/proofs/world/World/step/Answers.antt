@@ -3,8 +3,8 @@ use Rattle.node_steps.specs.Asked.{step_of}
 use Rattle.node_steps.specs.Parts.{TakesFitStep, TakesStep, world_in}
 use Rattle.node_steps.specs.Kept.{Follows}
 use Rattle.node_steps.proofs.Fitting.{are_fit}
-use Rattle.node_steps.proofs.Following.{follows}
-use Rattle.node_steps.proofs.Stepping.{ok_then, still_kept}
+use Rattle.node_steps.proofs.Following.{follows, still_kept}
+use Rattle.node_steps.proofs.Stepping.{ok_then}
 use Rattle.node_steps.proofs.world.World.step.Goals as goal
 
 pub invariant_of-self : goal.invariant_of-self

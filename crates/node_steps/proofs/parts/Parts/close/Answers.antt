@@ -1,0 +1,41 @@
+use Rattle.std.proofs.Common.{subst, sym, ◌<◌, length, arith}
+use Rattle.std.specs.Prelude.{slice_set}
+use Rattle.node_steps.specs.declared.outcome.Outcome.TheVariants.{Done}
+use Rattle.node_steps.specs.declared.phase.Phase.TheVariants.{Idle, Closing}
+use Rattle.node_steps.specs.declared.close_stage.CloseStage.TheVariants.{Asked}
+use Rattle.node_steps.specs.Asked.{closing_step}
+use Rattle.node_steps.specs.Parts.{TakesStep, world_in}
+use Rattle.node_steps.specs.Running.{world_of}
+use Rattle.node_steps.proofs.CopyAsking.{not_closing, is_closing}
+use Rattle.node_steps.proofs.Finding.{something}
+use Rattle.node_steps.proofs.Lists.{get-below}
+use Rattle.node_steps.proofs.Stepping.{not_possible}
+use Rattle.node_steps.proofs.parts.Parts.close.Goals as goal
+
+pub returns-in_default : goal.returns-in_default
+returns-in_default c =
+    not_closing c.args.self.now.sites.items c.args.self.now.routes.items c.args.self.now.epochs.items c.args.self.now.workers.items c.args.worker c.args.index
+    c.in_default.ensures
+
+pub returns-in_default-fallback_of : goal.returns-in_default-fallback_of
+returns-in_default-fallback_of c =
+    not_possible c.args.self.now.sites.items c.args.self.now.routes.items c.args.self.now.epochs.items c.args.self.now.workers.items
+    (closing_step c.args.worker c.args.index) (c.in_default-fallback_of.ensures.closes c.args.worker)
+
+pub index_mut-requires : goal.index_mut-requires
+index_mut-requires c =
+    let below : c.in-Some.place < length c.args.self.now.workers.items = get-below c.args.self.now.workers.items c.in-Some.place Idle c.in-Some.ensures.1 in
+    omega (arith, below)
+
+pub returns : goal.returns
+returns c =
+    let fallback = c.in-Some-fallback_of.ensures in
+    let there = something c.args.self.now.sites.items c.in-Some-fallback_of.site fallback.there in
+    subst (λ phase. TakesStep (world_in c.args.self.now) (closing_step c.args.worker c.args.index) Done
+    (world_of c.args.self.now.sites.items c.args.self.now.routes.items c.args.self.now.epochs.items (slice_set c.args.self.now.workers.items c.in-Some.place phase)))
+    (sym c.set_phase.ensures)
+    (subst (λ own. TakesStep (world_in c.args.self.now) (closing_step c.args.worker c.args.index) Done
+    (world_of c.args.self.now.sites.items c.args.self.now.routes.items c.args.self.now.epochs.items
+    (slice_set c.args.self.now.workers.items c.in-Some.place (Closing own c.in-Some-fallback_of.site Asked)))) (sym c.from-own.ensures)
+    (is_closing c.args.self.now.sites.items c.args.self.now.routes.items c.args.self.now.epochs.items c.args.self.now.workers.items c.args.worker c.in-Some.place
+    c.in-Some.ensures.0 c.in-Some.ensures.1 c.args.index c.in-Some-fallback_of.site there.0 fallback.closes there.1))
