@@ -2,6 +2,7 @@
 
 ghost use Rattle.std.specs.Prelude.{Some, [], true};
 
+use crate::log_time::write_time;
 use crate::watch::{STANDARD_ERROR, Watch};
 use log::kv::Source;
 use log::sink::Console;
@@ -11,6 +12,7 @@ use mio::Interest;
 use std::alloc::Global;
 use std::fmt::Display;
 use std::net::Net;
+use std::rt::Clock;
 use std::sync::{Mutex, Wait};
 use std::time::Duration;
 
@@ -39,7 +41,7 @@ impl Drain {
     }
 }
 
-/// A log on standard error that nobody waits for: where it is full, as a pipe is that nobody reads, lines are passed over. How many, the next line
+/// A log on standard error, each line behind its time, that nobody waits for: where it is full, as a pipe is that nobody reads, lines are passed over. How many, the next line
 /// that is written is told by one before it.
 #[derive(Drop)]
 pub(crate) struct DrainedConsole<R: Wait> {
@@ -58,7 +60,7 @@ impl<R: Net + Wait> DrainedConsole<R> {
     }
 }
 
-impl<R: Eprint + Wait> Log for DrainedConsole<R> {
+impl<R: Clock + Eprint + Wait> Log for DrainedConsole<R> {
     ghost enables = { λ _ _ _. Some true };
 
     ghost target_of = { λ _. Some [] };
@@ -76,10 +78,12 @@ impl<R: Eprint + Wait> Log for DrainedConsole<R> {
         let passed_over = drain.passed_over;
         if passed_over > 0 {
             drain.passed_over = 0;
+            write_time(&self.rt);
             let _ = eprintln!(self.rt;
                 "[WARN  riak_node] {passed_over} log lines were passed over: standard error was full"
             );
         }
+        write_time(&self.rt);
         Console(&self.rt).log(record);
     }
 

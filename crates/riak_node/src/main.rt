@@ -18,6 +18,7 @@
 
 mod command_line;
 mod drained_console;
+mod log_time;
 mod options;
 mod watch;
 mod watched_input;
@@ -43,10 +44,14 @@ use std::thread::Threads;
 use watch::STANDARD_ERROR;
 use watched_input::WatchedInput;
 
-/// One line on standard error for a fault of a session, and the status.
+/// One line on standard error for a fault of a session, or for the bytes that its input has behind the last whole frame, and the status.
 fn end(rt: &HostRuntime, outcome: Result<Ended, SessionFault>) -> io::Result<ExitCode> {
-    if let Err(fault) = outcome {
-        write_fault(&mut rt.stderr(), fault)?;
+    match outcome {
+        Ok(Ended { rest: 0, .. }) => {}
+        Ok(Ended { replies, rest }) => {
+            eprintln!(rt; "riak_node: {rest} bytes of a frame are left after {replies} replies")?;
+        }
+        Err(fault) => write_fault(&mut rt.stderr(), fault)?,
     }
     Ok(ExitCode::from(exit_status(outcome)))
 }
