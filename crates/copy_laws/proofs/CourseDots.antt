@@ -20,7 +20,7 @@ use Rattle.copy_laws.specs.Copies.{Copy, Command, Copied, commands_of, count_bro
 use Rattle.copy_laws.specs.Sides.{Partition, Number, is_covered_by, takes_all}
 use Rattle.copy_laws.specs.CopyReplay.{primary_after}
 use Rattle.copy_laws.specs.Joining.{Log, IsHandOff, IsTrueCopy, HasDot, HasCome}
-use Rattle.copy_laws.specs.Diversions.{Happening, AtPrimary, AtFallback, CopyBack, Course, diversions_of, is_diverted, fallback_of, fallback_state, copy_of, primary_of, WasShown, Happens}
+use Rattle.copy_laws.specs.Diversions.{Happening, AtPrimary, AtFallback, CopyBack, Course, diversions_of, is_diverted, fallback_of, fallback_state, copy_of, primary_of, WasShownInCourse, Happens}
 use Rattle.copy_laws.proofs.Tests.{not_zero, test-le}
 use Rattle.copy_laws.proofs.Splits.{tail-same, Compared, compare}
 use Rattle.copy_laws.proofs.Clocks.{knows}
@@ -135,18 +135,18 @@ module _ (partition : Partition) (key : Key) (ids : partition.primary < partitio
     pub is : later ++ moment ≡ course
     pub came : Came moment dot
 
-  pub context-came : (course : Course) (at : Key) (given : Option Context) → key_eq at key ≡ true → AllCame course → ((context : Context) → given ≡ Some context → WasShown partition course at context)
+  pub context-came : (course : Course) (at : Key) (given : Option Context) → key_eq at key ≡ true → AllCame course → ((context : Context) → given ≡ Some context → WasShownInCourse partition course at context)
       → (dot : Dot) → covers (pairs_of given) dot ≡ true → CameBy course dot
   context-came course at None e all shown dot h = cc
-  context-came course at (Some context) e all shown dot h = by (subst (λ k. WasShown partition course k context) (key_eq-same at key e) (shown context refl))
+  context-came course at (Some context) e all shown dot h = by (subst (λ k. WasShownInCourse partition course k context) (key_eq-same at key e) (shown context refl))
     where
       pairs : (known : List Dot) → context ≡ Pairs known → covers known dot ≡ true
       pairs known p = sym (ap (λ c. covers (pairs_of (Some c)) dot) p) ∙ h
 
-      came_at : (w : WasShown partition course key context) → KnownCame w.moment → Came w.moment dot
+      came_at : (w : WasShownInCourse partition course key context) → KnownCame w.moment → Came w.moment dot
       came_at w k = elim w.shown [ inl p ↦ k.primary dot (pairs (clock_of (primary_after partition (primary_log w.moment)) key).known p) | inr p ↦ k.fallback dot (pairs (clock_of (fallback_state partition w.moment) key).known p) ]
 
-      by : WasShown partition course key context → CameBy course dot
+      by : WasShownInCourse partition course key context → CameBy course dot
       by w = record { later = w.later; moment = w.moment; is = w.is; came = came_at w (came-now w.moment (all-before w.later w.moment (subst AllCame (sym w.is) all))) }
 
   -- what a fallback's context covered came before the context was shown
@@ -304,7 +304,7 @@ module _ (partition : Partition) (key : Key) (ids : partition.primary < partitio
             whole : (later' ++ m.later) ++ AtPrimary s.event ∷ m.moment ≡ course
             whole = append_assoc later' m.later (AtPrimary s.event ∷ m.moment) ∙ ap (λ t. later' ++ t) m.is ∙ e
 
-            shown : (context : Context) → s.event.context ≡ Some context → WasShown partition m.moment s.event.key context
+            shown : (context : Context) → s.event.context ≡ Some context → WasShownInCourse partition m.moment s.event.key context
             shown = (happens-before partition (later' ++ m.later) (AtPrimary s.event ∷ m.moment) (subst (Happens partition) (sym whole) happens)).1.2
 
             lifted : CameBy m.moment dot → CameBy moment dot

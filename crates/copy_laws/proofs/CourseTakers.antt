@@ -21,7 +21,7 @@ use Rattle.copy_laws.specs.Copies.{Copy, Copied, commands_of}
 use Rattle.copy_laws.specs.Sides.{Partition, Number}
 use Rattle.copy_laws.specs.CopyReplay.{primary_after}
 use Rattle.copy_laws.specs.Joining.{Log}
-use Rattle.copy_laws.specs.Diversions.{Happening, AtPrimary, Divert, AtFallback, CopyBack, Return, Course, diversions_of, fallback_of, fallback_state, copy_of, primary_of, WasShown, Happens}
+use Rattle.copy_laws.specs.Diversions.{Happening, AtPrimary, Divert, AtFallback, CopyBack, Return, Course, diversions_of, fallback_of, fallback_state, copy_of, primary_of, WasShownInCourse, Happens}
 use Rattle.copy_laws.proofs.Tests.{not_zero, one_of_three, one_of_two, or_second}
 use Rattle.copy_laws.proofs.Clocks.{knows, knows-sync, taken_pairs, given_dot, clock-other, clock-reap, clock-uncopied}
 use Rattle.copy_laws.proofs.Since.{state_at, clock_at, pairs_at, dot_given, IsUpdate, knows-at, sync-at}
@@ -101,15 +101,15 @@ module _ (partition : Partition) (key : Key) (ids : partition.primary < partitio
   taken-before (happening ∷ later) moment h = taken-before later moment h.1
 
   -- and contexts that were shown
-  context-takes : (moment : Course) (at : Key) (given : Option Context) → key_eq at key ≡ true → AllTaken moment → ((context : Context) → given ≡ Some context → WasShown partition moment at context)
+  context-takes : (moment : Course) (at : Key) (given : Option Context) → key_eq at key ≡ true → AllTaken moment → ((context : Context) → given ≡ Some context → WasShownInCourse partition moment at context)
       → covers (pairs_of given) own ≡ true → covers (pairs_of given) dot ≡ true
   context-takes moment at None e all shown h = cc
-  context-takes moment at (Some context) e all shown h = by (subst (λ k. WasShown partition moment k context) (key_eq-same at key e) (shown context refl))
+  context-takes moment at (Some context) e all shown h = by (subst (λ k. WasShownInCourse partition moment k context) (key_eq-same at key e) (shown context refl))
     where
       as_pairs : (known : List Dot) (d : Dot) → context ≡ Pairs known → covers (pairs_of (Some context)) d ≡ covers known d
       as_pairs known d p = ap (λ c. covers (pairs_of (Some c)) d) p
 
-      by : WasShown partition moment key context → covers (pairs_of (Some context)) dot ≡ true
+      by : WasShownInCourse partition moment key context → covers (pairs_of (Some context)) dot ≡ true
       by w =
           let k = taken-now w.moment (taken-before w.later w.moment (subst AllTaken (sym w.is) all)) in
           elim w.shown [

@@ -18,7 +18,7 @@ use Rattle.actor_epoch.specs.Given.{Context}
 use Rattle.dvv_set.specs.Clocks.{sync}
 use Rattle.vnode_machine.specs.Machine.{Stored, State, stored, clock_of, own_of, next_actor, pairs_of, is_bad_context, has_too_many_siblings, has_too_many_actors, is_out_of_epochs, is_out_of_counters, update_check, epoch_after, apply_operation}
 use Rattle.vnode_machine.specs.Lives.{next_of, is_alive, lives_begun, latest_dot}
-use Rattle.vnode_machine.specs.Replay.{replay, HasReplay, Accepts, IsWithinLimits}
+use Rattle.vnode_machine.specs.Replay.{replay, HasReplay, AcceptsEvent, IsWithinLimits}
 use Rattle.vnode_machine.specs.Sound.{ArePairs, IsFormed}
 use Rattle.vnode_machine.proofs.Keys.{key_eq-same}
 use Rattle.vnode_machine.proofs.Tests.{and_both}
@@ -96,14 +96,14 @@ checks-pass state at given pairs h =
     by false false false false true h = cc
     by false false false false false h = (refl, refl, refl, refl)
 
-passed : (state : State Content) (at : Key) (given : Option Context) (operation : Operation Content) → is_update operation ≡ true → Accepts state at given operation → ChecksPass state at given (taken_pairs state at given operation)
+passed : (state : State Content) (at : Key) (given : Option Context) (operation : Operation Content) → is_update operation ≡ true → AcceptsEvent state at given operation → ChecksPass state at given (taken_pairs state at given operation)
 passed state at given (Write content) u a = checks-pass state at given (pairs_of given) a
 passed state at None Tombstone u a = checks-pass state at None (clock_of state at).known a.1
 passed state at (Some context) Tombstone u a = checks-pass state at (Some context) (pairs_of (Some context)) a
 passed state at given Reap u a = cc
 
 -- no epoch is given past the last that there can be
-epoch-most : (state : State Content) (at : Key) (given : Option Context) (operation : Operation Content) → state.last_epoch ≤ max_epoch → Accepts state at given operation
+epoch-most : (state : State Content) (at : Key) (given : Option Context) (operation : Operation Content) → state.last_epoch ≤ max_epoch → AcceptsEvent state at given operation
     → (apply_operation state at given operation).last_epoch ≤ max_epoch
 epoch-most state at given operation le a = by operation a
   where
@@ -114,7 +114,7 @@ epoch-most state at given operation le a = by operation a
         step true n most le h = le
         step false n most le h = grind (arith, nat_tests)
 
-    by : (operation : Operation Content) → Accepts state at given operation → (apply_operation state at given operation).last_epoch ≤ max_epoch
+    by : (operation : Operation Content) → AcceptsEvent state at given operation → (apply_operation state at given operation).last_epoch ≤ max_epoch
     by (Write content) a = updated (passed state at given (Write content) refl a).epochs
     by Tombstone a = updated (passed state at given Tombstone refl a).epochs
     by Reap a = le

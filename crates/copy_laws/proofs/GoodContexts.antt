@@ -22,7 +22,7 @@ use Rattle.copy_laws.specs.Copies.{commands_of, brought}
 use Rattle.copy_laws.specs.Sides.{Partition}
 use Rattle.copy_laws.specs.CopyReplay.{primary_after}
 use Rattle.copy_laws.specs.Joining.{Log, IsJoined}
-use Rattle.copy_laws.specs.Diversions.{Course, diversions_of, fallback_of, fallback_state, primary_of, WasShown, Happens}
+use Rattle.copy_laws.specs.Diversions.{Course, diversions_of, fallback_of, fallback_state, primary_of, WasShownInCourse, Happens}
 use Rattle.copy_laws.specs.JointAnswers.{AreWithinLimits}
 use Rattle.copy_laws.proofs.Tests.{or_none, or_second, test-within, within-test}
 use Rattle.copy_laws.proofs.Since.{clock_at}
@@ -47,7 +47,7 @@ module _ (partition : Partition) (ids : partition.primary < partition.fallback) 
       joined-then partition (primary_of partition course) (fallback_of course) key (courses_are_hand_offs partition course ids happens key).0 [] (primary_of partition course) refl (open_always partition course)
 
   -- what was shown is of the form of a context
-  shown-form : AreWithinLimits partition → (course : Course) → Happens partition course → (context : Context) → WasShown partition course key context → context ≢ Pairs []
+  shown-form : AreWithinLimits partition → (course : Course) → Happens partition course → (context : Context) → WasShownInCourse partition course key context → context ≢ Pairs []
       → (pairs : List Dot) × (context ≡ Pairs pairs) × (is_well_formed pairs ≡ true)
   shown-form limits course happens context w some = by happens' w.shown
     where
@@ -154,7 +154,7 @@ module _ (partition : Partition) (ids : partition.primary < partition.fallback) 
         here w = λ i. (actor_eq-refl pair.actor i && test-within pair.counter (third _ _ (nat_le 1 pair.counter) _ w) i) || covers pairs pair
 
     -- so no context that was shown is bad
-    pub good-context : AreWithinLimits partition → (given : Option Context) → ((context : Context) → given ≡ Some context → WasShown partition course key context)
+    pub good-context : AreWithinLimits partition → (given : Option Context) → ((context : Context) → given ≡ Some context → WasShownInCourse partition course key context)
         → ((context : Context) → given ≡ Some context → context ≢ Pairs []) → is_bad_context state key given ≡ false
     good-context limits None shown some = refl
     good-context limits (Some context) shown some =

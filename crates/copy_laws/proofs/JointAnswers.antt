@@ -3,13 +3,13 @@ use Rattle.std.proofs.Common.{◌≡◌, ◌-◌, ◌<◌, Bool, true, false, no
 use Rattle.std.specs.Prelude.{Option, Some, None, drop}
 use Rattle.riak_msgs.specs.declared.Key.{Key}
 use Rattle.riak_msgs.specs.declared.GetReply.{GetReply}
-use Rattle.riak_msgs.specs.Contents.{Content}
+use Rattle.riak_msgs.specs.Contents.{Content, shown}
 use Rattle.sibling_register.specs.Answers.{GetCommand, Told, Shown}
 use Rattle.actor_epoch.specs.declared.Dot.{Dot}
 use Rattle.actor_epoch.specs.Given.{Context, Malformed, Pairs}
 use Rattle.dvv_set.specs.Clocks.{join}
 use Rattle.vnode_machine.specs.Machine.{State, clock_of, is_held, holds_dead, matches_clock, same_pairs}
-use Rattle.vnode_machine.specs.Replies.{contents_in, context_in, get_reply, position_at, shown}
+use Rattle.vnode_machine.specs.Replies.{contents_in, context_in, get_reply, position_at}
 use Rattle.copy_laws.specs.Copies.{brought}
 use Rattle.copy_laws.specs.Sides.{Partition, Number, dot_at, content_at, siblings_at, is_defined_at, is_dead_at}
 use Rattle.copy_laws.specs.CopyReplay.{primary_after}

@@ -11,9 +11,9 @@ use Rattle.sibling_register.specs.Answers.{PutCommand, DelCommand, AskPut, AskDe
 use Rattle.actor_epoch.specs.declared.Dot.{Dot}
 use Rattle.actor_epoch.specs.Given.{Context}
 use Rattle.vnode_machine.specs.Machine.{Stored, State, stored, is_held, has_value, is_bad_context, matches_clock, has_too_many_siblings, has_too_many_actors, is_out_of_epochs, is_out_of_counters, pairs_of, del_pairs, update_check}
-use Rattle.vnode_machine.specs.Replay.{Accepts}
+use Rattle.vnode_machine.specs.Replay.{AcceptsEvent}
 use Rattle.vnode_machine.specs.Replies.{contents_in, context_in, put_reply}
-use Rattle.vnode_machine.specs.Step.{PutDone, DelDone, StepOutcome, Answered, Accepted, unless_refused, outcome}
+use Rattle.vnode_machine.specs.Step.{PutDone, DelDone, MachineOutcome, Answered, Accepted, unless_refused, outcome}
 use Rattle.vnode_machine.proofs.Invariants.{clock_in}
 use Rattle.vnode_machine.proofs.Puts.{checks_of, rooms_of}
 use Rattle.copy_laws.specs.Copies.{Command, brought}
@@ -118,7 +118,7 @@ module _ (partition : Partition) (course : Course) (ids : partition.primary < pa
     }
     reply goes_on false = refl
 
-    abbrev put_accepts : StepOutcome
+    abbrev put_accepts : MachineOutcome
     put_accepts = Accepted (Write put.value) (PutDone (put_reply (primary_after partition put_after) put)) (primary_after partition put_after)
 
     put-accepted : check ≡ None → update_check state put.key put.context (pairs_of put.context) ≡ None → PutGivesAt partition course put put_accepts
@@ -156,13 +156,13 @@ module _ (partition : Partition) (course : Course) (ids : partition.primary < pa
     abbrev pairs : List Dot
     pairs = del_pairs state del.key del.context
 
-    abbrev del_accepts : StepOutcome
+    abbrev del_accepts : MachineOutcome
     del_accepts = Accepted Tombstone DelDone (primary_after partition del_after)
 
     idle-same : (is_none del.context && not (is_held state del.key)) ≡ does_nothing_at partition log del
     idle-same = ap (λ b. is_none del.context && not b) (held-same partition course ids happens del.key)
 
-    accepts : (given : Option Context) → (is_none given && not (is_held state del.key)) ≡ false → update_check state del.key given (del_pairs state del.key given) ≡ None → Accepts state del.key given Tombstone
+    accepts : (given : Option Context) → (is_none given && not (is_held state del.key)) ≡ false → update_check state del.key given (del_pairs state del.key given) ≡ None → AcceptsEvent state del.key given Tombstone
     accepts None does h = (held (is_held state del.key) does, h)
       where
         held : (b : Bool) → (true && not b) ≡ false → b ≡ true

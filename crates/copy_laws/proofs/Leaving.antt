@@ -20,7 +20,7 @@ use Rattle.actor_epoch.specs.Given.{Context}
 use Rattle.dvv_set.specs.Clocks.{show_cmp, sync}
 use Rattle.vnode_machine.specs.Machine.{State, clock_of, pairs_of, is_held, has_value, holds_dead}
 use Rattle.vnode_machine.specs.Lives.{latest_dot, dot_of}
-use Rattle.vnode_machine.specs.Replay.{HasReplay, replay, Accepts}
+use Rattle.vnode_machine.specs.Replay.{HasReplay, replay, AcceptsEvent}
 use Rattle.vnode_machine.proofs.Keys.{key_eq-same}
 use Rattle.vnode_machine.proofs.Tests.{and_right, nat_eq-same}
 use Rattle.copy_laws.specs.Copies.{Copy, LogEntry, Command, Copied, Closed, commands_of, count_brought as brought_count, brought}
@@ -28,7 +28,7 @@ use Rattle.copy_laws.specs.Sides.{Partition, Number, has_number, dot_at, content
 use Rattle.copy_laws.specs.CopyReplay.{primary_after, HasEntries}
 use Rattle.copy_laws.specs.Joining.{Log, Fallbacks, IsJoined, HasDot, value_at}
 use Rattle.copy_laws.specs.Diversions.{Course, primary_of, fallback_of}
-use Rattle.copy_laws.specs.Leaving.{has_seen, is_seen_between, LeavesOnlySeen, CoursesLeaveOnlySeen, FallbacksLeaveOnlySeen}
+use Rattle.copy_laws.specs.Leaving.{has_seen, is_seen_between, HandOffLeavesOnlySeen, CoursesLeaveOnlySeen, FallbacksLeaveOnlySeen}
 use Rattle.vnode_machine.proofs.Showing.{leaves_only_to_seers}
 use Rattle.copy_laws.proofs.Tests.{le-test, or_true}
 use Rattle.copy_laws.proofs.Clocks.{Clock, knows, synced, value-synced, taken_pairs, clock-other, clock-uncopied}
@@ -75,7 +75,7 @@ live-value (entry ∷ live) dot content h = by (live-value live dot content) (eq
     by rest false value h = ap (λ b. is_some value || b) (rest h) ∙ or_true (is_some value)
 
 -- what a reap needs
-reap-dead : (state : State Content) (at : Key) (given : Option Context) (operation : Operation Content) → is_update operation ≡ false → Accepts state at given operation → holds_dead state at ≡ true
+reap-dead : (state : State Content) (at : Key) (given : Option Context) (operation : Operation Content) → is_update operation ≡ false → AcceptsEvent state at given operation → holds_dead state at ≡ true
 reap-dead state at given (Write content) u a = cc
 reap-dead state at given Tombstone u a = cc
 reap-dead state at None Reap u a = a
@@ -347,7 +347,7 @@ module _ (partition : Partition) (primary : Log) (fallbacks : Fallbacks) (key : 
             | inr k ↦ inr (ap (λ b. b || is_seen_between between position key number dot) k)
           ]
 
-pub leaves_only_seen : (partition : Partition) (primary : Log) (fallbacks : Fallbacks) (key : Key) → LeavesOnlySeen partition primary fallbacks key
+pub leaves_only_seen : (partition : Partition) (primary : Log) (fallbacks : Fallbacks) (key : Key) → HandOffLeavesOnlySeen partition primary fallbacks key
 leaves_only_seen partition primary fallbacks key off later between position is open_then number dot among written_one has =
     let log : Log = between ++ position in
     let joined = joined-then partition primary fallbacks key off later log is open_then in

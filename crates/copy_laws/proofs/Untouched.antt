@@ -15,7 +15,7 @@ use Rattle.dvv_set.specs.Clocks.{show_cmp, sync, value_in}
 use Rattle.dvv_set.proofs.Orders.{show_cmp_total}
 use Rattle.dvv_set.proofs.Live.{show_cmp-same, dot_eq-same, is_sorted-sync}
 use Rattle.vnode_machine.specs.Machine.{clock_of, pairs_of}
-use Rattle.vnode_machine.specs.Replay.{replay, Accepts}
+use Rattle.vnode_machine.specs.Replay.{replay, AcceptsEvent}
 use Rattle.vnode_machine.proofs.Keys.{key_eq-same}
 use Rattle.vnode_machine.proofs.Tests.{and_right}
 use Rattle.copy_laws.specs.Copies.{Copy, LogEntry, Command, Copied, Closed, count_brought as brought_count}
@@ -181,16 +181,16 @@ module _ (partition : Partition) (primary : Log) (fallbacks : Fallbacks) (key : 
               subst (λ t. count_brought key s.before n ≤ count_brought key t n) (append_assoc s.later (Command s.event ∷ []) s.before ∙ s.is) (brought-later key (s.later ++ Command s.event ∷ []) s.before n) in
               by_copy (omega (arith, here, up))
 
-          at : (context : Option Context) → s.event.context ≡ context → (operation : Operation Content) → s.event.operation ≡ operation → Accepts (state_at v l key s.before) s.event.key s.event.context s.event.operation
+          at : (context : Option Context) → s.event.context ≡ context → (operation : Operation Content) → s.event.operation ≡ operation → AcceptsEvent (state_at v l key s.before) s.event.key s.event.context s.event.operation
               → option_map_or (λ (x : Context). covers (pairs_of (Some x)) own) s.event.context (takes_all s.event.operation && nat_le j (brought_count s.before s.event.key n)) ≡ true → ⊥
           at (Some context) p (Write content) q a h =
               holds (ap is_update q) ((λ i. covers (taken_pairs (state_at v l key s.before) s.event.key (p i) (q i)) dot) ∙ taken context p (sym (ap (λ o. option_map_or (λ (x : Context). covers (pairs_of (Some x)) own) o (takes_all s.event.operation && nat_le j (brought_count s.before s.event.key n))) p) ∙ h))
           at (Some context) p Tombstone q a h =
               holds (ap is_update q) ((λ i. covers (taken_pairs (state_at v l key s.before) s.event.key (p i) (q i)) dot) ∙ taken context p (sym (ap (λ o. option_map_or (λ (x : Context). covers (pairs_of (Some x)) own) o (takes_all s.event.operation && nat_le j (brought_count s.before s.event.key n))) p) ∙ h))
-          at (Some context) p Reap q a h = no_reap (subst (λ o. Accepts (state_at v l key s.before) s.event.key o s.event.operation) p a)
+          at (Some context) p Reap q a h = no_reap (subst (λ o. AcceptsEvent (state_at v l key s.before) s.event.key o s.event.operation) p a)
             where
-              no_reap : Accepts (state_at v l key s.before) s.event.key (Some context) s.event.operation → ⊥
-              no_reap a = let P : Operation Content → Type 0 = λ o. Accepts (state_at v l key s.before) s.event.key (Some context) o in absurd (subst P q a)
+              no_reap : AcceptsEvent (state_at v l key s.before) s.event.key (Some context) s.event.operation → ⊥
+              no_reap a = let P : Operation Content → Type 0 = λ o. AcceptsEvent (state_at v l key s.before) s.event.key (Some context) o in absurd (subst P q a)
           at None p operation q a h =
               brought (test-le j (brought_count s.before s.event.key n) (and_right (takes_all s.event.operation) (nat_le j (brought_count s.before s.event.key n))
               (sym (ap (λ o. option_map_or (λ (x : Context). covers (pairs_of (Some x)) own) o (takes_all s.event.operation && nat_le j (brought_count s.before s.event.key n))) p) ∙ h)))

@@ -1,24 +1,24 @@
 -- What the sibling register answers where its sequence numbers have sides: at each position of a primary's log.
-use Rattle.std.specs.Prelude.{◌≡◌, ◌≢◌, ◌<◌, ◌≤◌, Bool, true, false, not, ◌&&◌, ◌||◌, if◌then◌else◌, List, [], ◌∷◌, ℕ, suc, length, filter, map, nat_le, Option, Some, None, is_none, IsTrue, MatchOption}
+use Rattle.std.specs.Prelude.{◌≡◌, ◌≢◌, ◌<◌, ◌≤◌, Bool, true, false, not, ◌&&◌, ◌||◌, if◌then◌else◌, List, [], ◌∷◌, ◌++◌, ℕ, suc, length, filter, map, nat_le, Option, Some, None, is_none, IsTrue, MatchOption}
 use Rattle.std.specs.Option.{option_map_or}
 use Rattle.riak_msgs.specs.declared.Key.{Key}
 use Rattle.riak_msgs.specs.declared.GetReply.{GetReply}
 use Rattle.riak_msgs.specs.declared.PutReply.{PutReply}
-use Rattle.riak_msgs.specs.Contents.{Content}
+use Rattle.riak_msgs.specs.Contents.{Content, shown}
 use Rattle.sibling_register.specs.History.{Event, Operation, Write, Tombstone, count_of}
-use Rattle.sibling_register.specs.Refusals.{match_found, modified, not_found, too_many_siblings, max_siblings, is_free, first_of}
+use Rattle.sibling_register.specs.Refusals.{too_many_siblings, max_siblings, is_free, first_of, option_checks}
 use Rattle.sibling_register.specs.Answers.{GetCommand, PutCommand, DelCommand, AskPut, AskDel, Told, Refused as ToldRefused, Shown, Done, Reaped, Kept}
 use Rattle.actor_epoch.specs.Given.{Context, Pairs}
 use Rattle.vnode_machine.specs.Machine.{State, same_context, holds_dead}
 use Rattle.vnode_machine.specs.Replay.{IsWithinLimits}
-use Rattle.vnode_machine.specs.Replies.{context_in, get_reply, position_at, shown}
-use Rattle.vnode_machine.specs.Step.{PutDone, DelDone, StepOutcome, Refused, Answered, Accepted, outcome}
+use Rattle.vnode_machine.specs.Replies.{context_in, get_reply, position_at}
+use Rattle.vnode_machine.specs.Step.{PutDone, DelDone, MachineOutcome, Refused, Answered, Accepted, outcome}
 use Rattle.copy_laws.specs.Copies.{commands_of, brought}
 use Rattle.copy_laws.specs.Sides.{Partition, Number, dot_at, content_at, siblings_at, is_defined_at, is_present_at, is_dead_at}
 use Rattle.copy_laws.specs.CopyReplay.{primary_after, name_at, seen_at}
 use Rattle.copy_laws.specs.Joining.{Log}
 use Rattle.copy_laws.specs.Leaving.{saw_number}
-use Rattle.copy_laws.specs.Diversions.{Course, AtPrimary, is_diverted, primary_of, GivesShown, Happens}
+use Rattle.copy_laws.specs.Diversions.{Course, AtPrimary, is_diverted, primary_of, GivesShownInCourse, Happens}
 
 -- the ids and the last epochs that a partition's vnodes can have
 pub record AreWithinLimits (partition : Partition) : Type 0 where
@@ -102,13 +102,9 @@ module _ (partition : Partition) where
   -- the first of a put's checks that holds
   abbrev pub put_refusal_at : Log → PutCommand Content Context → Option ℕ
   put_refusal_at log put =
-      let present = is_present_at partition log put.key in
-      let if_not_modified = put.if_not_modified && not put.if_none_match in
       first_of (
-      (put.if_none_match && present, match_found)
-      ∷ (if_not_modified && not present, not_found)
-      ∷ (if_not_modified && not (is_name_at log put.key put.context), modified)
-      ∷ (has_too_many_at log (put_event_at log put), too_many_siblings) ∷ [])
+      option_checks put.if_none_match put.if_not_modified (is_present_at partition log put.key) (is_name_at log put.key put.context)
+      ++ (has_too_many_at log (put_event_at log put), too_many_siblings) ∷ [])
 
   -- the check of a delete
   abbrev pub del_refusal_at : Log → DelCommand Context → Option ℕ
@@ -141,7 +137,7 @@ module _ (partition : Partition) where
         ∷ unseen_at (primary_of partition course) event
 
   -- the outcomes of a put
-  abbrev pub PutGivesAt : Course → PutCommand Content Context → StepOutcome → Type 0
+  abbrev pub PutGivesAt : Course → PutCommand Content Context → MachineOutcome → Type 0
   PutGivesAt course put (Refused number) = MayRefuseBy (put_refusal_at (primary_of partition course) put) number
   PutGivesAt course put (Answered response) = ⊥
   PutGivesAt course put (Accepted operation response next) =
@@ -153,7 +149,7 @@ module _ (partition : Partition) where
       × (response ≡ PutDone (put_shown_at after put.key (put_told_at after put)))
 
   -- and those of a delete
-  abbrev pub DelGivesAt : Course → DelCommand Context → StepOutcome → Type 0
+  abbrev pub DelGivesAt : Course → DelCommand Context → MachineOutcome → Type 0
   DelGivesAt course del (Refused number) =
       (does_nothing_at (primary_of partition course) del ≡ false) × MayRefuseBy (del_refusal_at (primary_of partition course) del) number
   DelGivesAt course del (Answered response) = IsTrue (does_nothing_at (primary_of partition course) del) × (response ≡ DelDone)
@@ -168,7 +164,7 @@ module _ (partition : Partition) where
   -- it was defined, since an absent key shows none
   pub record MayAsk (course : Course) (event : Event Content Context) : Type 0 where
     pub here : is_diverted course ≡ false
-    pub shown : GivesShown partition course event
+    pub shown : GivesShownInCourse partition course event
     pub some : (context : Context) → event.context ≡ Some context → context ≢ Pairs []
 
   -- in each course, at every moment, what comes of a put at the primary is what the register may give

@@ -48,8 +48,8 @@ IsSeenWhereItLeft partition between position key =
     ⊎ IsTrue (is_seen_between between position key number dot)
 
 -- so it is between each two positions of a hand-off, the later one not closed
-abbrev pub LeavesOnlySeen : Partition → Log → Fallbacks → Key → Type 0
-LeavesOnlySeen partition primary fallbacks key =
+abbrev pub HandOffLeavesOnlySeen : Partition → Log → Fallbacks → Key → Type 0
+HandOffLeavesOnlySeen partition primary fallbacks key =
     IsHandOff partition primary fallbacks key
     → (later between position : Log) → later ++ (between ++ position) ≡ primary → (primary_after partition (between ++ position)).closed ≡ None
     → IsSeenWhereItLeft partition between position key

@@ -15,7 +15,7 @@ use Rattle.actor_epoch.proofs.Pairs.{counter_in-union}
 use Rattle.dvv_set.specs.Clocks.{DotState, discard}
 use Rattle.dvv_set.specs.Laws.{IsClock}
 use Rattle.dvv_set.proofs.Orders.{T-both, T-is}
-use Rattle.dvv_set.proofs.Known.{ArePairs, ArePairs-union, as_entries, same_pairs}
+use Rattle.dvv_set.proofs.Known.{IsVersionVector, IsVersionVector-union, as_entries, same_pairs}
 
 below_all-entries : (a : Actor) (pairs : List Dot) → IsTrue (is_below_all a pairs) → T (below_all actor_cmp a (as_entries pairs))
 below_all-entries a [] h = tt
@@ -30,9 +30,9 @@ is_sorted-rising (pair ∷ pairs) h =
     (below_all-entries pair.actor pairs (rising-below pair pairs h)) (is_sorted-rising pairs (rising-tail pair pairs h))
 
 -- pairs with themselves
-union-same : (pairs : List Dot) → ArePairs pairs → union pairs pairs ≡ pairs
+union-same : (pairs : List Dot) → IsVersionVector pairs → union pairs pairs ≡ pairs
 union-same pairs are =
-    same_pairs (union pairs pairs) pairs (ArePairs-union pairs pairs are are) are (λ a. counter_in-union pairs pairs a ∙ twice (counter_in pairs a))
+    same_pairs (union pairs pairs) pairs (IsVersionVector-union pairs pairs are are) are (λ a. counter_in-union pairs pairs a ∙ twice (counter_in pairs a))
   where
     twice : (n : ℕ) → max n n ≡ n
     twice n = omega arith

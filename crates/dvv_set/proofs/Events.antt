@@ -19,7 +19,7 @@ use Rattle.dvv_set.proofs.ClockLaws.{discard-sync}
 use Rattle.dvv_set.proofs.Orders.{show_cmp_total, eq_by_cmp-dot, T-both, T-is}
 use Rattle.dvv_set.proofs.ClockEntries.{value_at, actor_eq-back, find-live_of, is_sorted-live_of, counter_in-known_of}
 use Rattle.dvv_set.proofs.Merges.{AreEntries-merge_all, entry_for-put, list_all-put, entry_for-within}
-use Rattle.dvv_set.proofs.Known.{same_pairs, ArePairs-known_of, ArePairs-insert_max}
+use Rattle.dvv_set.proofs.Known.{same_pairs, IsVersionVector-known_of, IsVersionVector-insert_max}
 use Rattle.dvv_set.proofs.Live.{dot_state_of-merge_all, show_cmp-same}
 use Rattle.std.proofs.lemmas.Bool.{and_from as both}
 
@@ -151,8 +151,8 @@ module _ {V : Type 0} where
       knows : known_of (put actor_cmp a next entries) ≡ insert_max dot (known_of entries)
       knows =
           same_pairs (known_of (put actor_cmp a next entries)) (insert_max dot (known_of entries))
-          (ArePairs-known_of (put actor_cmp a next entries) after)
-          (ArePairs-insert_max dot (known_of entries) (first (counter_in (known_of entries) a)) (ArePairs-known_of entries h)) counter
+          (IsVersionVector-known_of (put actor_cmp a next entries) after)
+          (IsVersionVector-insert_max dot (known_of entries) (first (counter_in (known_of entries) a)) (IsVersionVector-known_of entries h)) counter
 
       value_of : (d : Dot) → find show_cmp d (live_of (put actor_cmp a next entries)) ≡ find show_cmp d (put show_cmp dot value (live_of entries))
       value_of d =

@@ -27,7 +27,7 @@ abbrev pub is_positive : Dot → Bool
 is_positive pair = nat_le 1 pair.counter
 
 -- strictly rising by actor, with counters from 1 on
-pub record ArePairs (pairs : List Dot) : Type 0 where
+pub record IsVersionVector (pairs : List Dot) : Type 0 where
   pub sorted : T (is_sorted actor_cmp (as_entries pairs))
   pub positive : IsTrue (list_all is_positive pairs)
 
@@ -42,7 +42,7 @@ none_is_zero k h = by (nat_le 1 k) refl h
     by true e h = cc
     by false e h = grind (arith, nat_tests)
 
-find-as_entries : (a : Actor) (pairs : List Dot) → ArePairs pairs → find actor_cmp a (as_entries pairs) ≡ cond (nat_le 1 (counter_in pairs a)) (Some (counter_in pairs a)) None
+find-as_entries : (a : Actor) (pairs : List Dot) → IsVersionVector pairs → find actor_cmp a (as_entries pairs) ≡ cond (nat_le 1 (counter_in pairs a)) (Some (counter_in pairs a)) None
 find-as_entries a [] h = let t : nat_le 1 0 ≡ false = grind (arith, nat_tests) in sym (ap (λ b. cond b (Some 0) None) t)
 find-as_entries a (pair ∷ pairs) h =
     ap (λ b. cond b (Some pair.counter) (find actor_cmp a (as_entries pairs))) (eq_by_cmp-actor a pair.actor)
@@ -70,7 +70,7 @@ find-as_entries a (pair ∷ pairs) h =
     by false e rest = rest
 
 -- two such lists with the same counters are one
-pub same_pairs : (ps qs : List Dot) → ArePairs ps → ArePairs qs → ((a : Actor) → counter_in ps a ≡ counter_in qs a) → ps ≡ qs
+pub same_pairs : (ps qs : List Dot) → IsVersionVector ps → IsVersionVector qs → ((a : Actor) → counter_in ps a ≡ counter_in qs a) → ps ≡ qs
 same_pairs ps qs g h same =
     let entries : as_entries ps ≡ as_entries qs =
     same_entries actor_cmp actor_cmp_total actor_cmp-same (as_entries ps) (as_entries qs) g.sorted h.sorted
@@ -116,8 +116,8 @@ positive-insert_max dot (pair ∷ pairs) p h = by (actor_cmp dot.actor pair.acto
     by Equal rest = both _ _ (greater dot.counter pair.counter p) (and_second (is_positive pair) (list_all is_positive pairs) h)
     by Greater rest = both (is_positive pair) _ (and_first (is_positive pair) (list_all is_positive pairs) h) rest
 
-pub ArePairs-insert_max : (dot : Dot) (pairs : List Dot) → IsTrue (is_positive dot) → ArePairs pairs → ArePairs (insert_max dot pairs)
-ArePairs-insert_max dot pairs p h = record { sorted = is_sorted-insert_max dot pairs h.sorted; positive = positive-insert_max dot pairs p h.positive }
+pub IsVersionVector-insert_max : (dot : Dot) (pairs : List Dot) → IsTrue (is_positive dot) → IsVersionVector pairs → IsVersionVector (insert_max dot pairs)
+IsVersionVector-insert_max dot pairs p h = record { sorted = is_sorted-insert_max dot pairs h.sorted; positive = positive-insert_max dot pairs p h.positive }
 
 length-raise_put : (dot : Dot) (n : ℕ) (pairs : List Dot) → length (insert_max dot pairs) ≡ length (put actor_cmp dot.actor n (as_entries pairs))
 length-raise_put dot n [] = refl
@@ -139,7 +139,7 @@ length-as_entries [] = refl
 length-as_entries (pair ∷ pairs) = ap suc (length-as_entries pairs)
 
 -- one pair more, where its actor is in none
-pub length-insert_max : (dot : Dot) (pairs : List Dot) → ArePairs pairs → length (insert_max dot pairs) ≡ cond (nat_le 1 (counter_in pairs dot.actor)) (length pairs) (length pairs + 1)
+pub length-insert_max : (dot : Dot) (pairs : List Dot) → IsVersionVector pairs → length (insert_max dot pairs) ≡ cond (nat_le 1 (counter_in pairs dot.actor)) (length pairs) (length pairs + 1)
 length-insert_max dot pairs h =
     length-raise_put dot 0 pairs
     ∙ length-put actor_cmp actor_cmp_total dot.actor 0 (as_entries pairs) h.sorted
@@ -149,16 +149,16 @@ length-insert_max dot pairs h =
     by true = refl
     by false = refl
 
-pub ArePairs-tail : (pair : Dot) (pairs : List Dot) → ArePairs (pair ∷ pairs) → ArePairs pairs
-ArePairs-tail pair pairs h = record {
+pub IsVersionVector-tail : (pair : Dot) (pairs : List Dot) → IsVersionVector (pair ∷ pairs) → IsVersionVector pairs
+IsVersionVector-tail pair pairs h = record {
   sorted = T-second (below_all actor_cmp pair.actor (as_entries pairs)) _ h.sorted;
   positive = and_second (is_positive pair) (list_all is_positive pairs) h.positive;
 }
 
-pub ArePairs-union : (ps qs : List Dot) → ArePairs ps → ArePairs qs → ArePairs (union ps qs)
-ArePairs-union [] qs g h = h
-ArePairs-union (pair ∷ ps) qs g h =
-    ArePairs-insert_max pair (union ps qs) (and_first (is_positive pair) (list_all is_positive ps) g.positive) (ArePairs-union ps qs (ArePairs-tail pair ps g) h)
+pub IsVersionVector-union : (ps qs : List Dot) → IsVersionVector ps → IsVersionVector qs → IsVersionVector (union ps qs)
+IsVersionVector-union [] qs g h = h
+IsVersionVector-union (pair ∷ ps) qs g h =
+    IsVersionVector-insert_max pair (union ps qs) (and_first (is_positive pair) (list_all is_positive ps) g.positive) (IsVersionVector-union ps qs (IsVersionVector-tail pair ps g) h)
 
 module _ {V : Type 0} where
   below_all-known_of : (x : Actor) (entries : ClockEntries V) → T (below_all actor_cmp x entries) → T (below_all actor_cmp x (as_entries (known_of entries)))
@@ -179,8 +179,8 @@ module _ {V : Type 0} where
       (and_first (nat_le 1 entry.1.0) (nat_le (length entry.1.1) entry.1.0) (and_first (is_entry entry) (list_all is_entry entries) h))
       (positive-known_of entries (and_second (is_entry entry) (list_all is_entry entries) h))
 
-  pub ArePairs-known_of : (entries : ClockEntries V) → AreEntries entries → ArePairs (known_of entries)
-  ArePairs-known_of entries h = record { sorted = is_sorted-known_of entries h.sorted; positive = positive-known_of entries h.each }
+  pub IsVersionVector-known_of : (entries : ClockEntries V) → AreEntries entries → IsVersionVector (known_of entries)
+  IsVersionVector-known_of entries h = record { sorted = is_sorted-known_of entries h.sorted; positive = positive-known_of entries h.each }
 
   merged_counter : (own other : ℕ × List V) → (merged own other).0 ≡ max own.0 other.0
   merged_counter own other = by (nat_le other.0 own.0) refl
@@ -194,8 +194,8 @@ module _ {V : Type 0} where
   pub known_of-merge_all : (others entries : ClockEntries V) → AreEntries others → AreEntries entries → known_of (merge_all others entries) ≡ union (known_of entries) (known_of others)
   known_of-merge_all others entries g h =
       same_pairs (known_of (merge_all others entries)) (union (known_of entries) (known_of others))
-      (ArePairs-known_of (merge_all others entries) after)
-      (ArePairs-union (known_of entries) (known_of others) (ArePairs-known_of entries h) (ArePairs-known_of others g))
+      (IsVersionVector-known_of (merge_all others entries) after)
+      (IsVersionVector-union (known_of entries) (known_of others) (IsVersionVector-known_of entries h) (IsVersionVector-known_of others g))
       (λ a. counter_in-known_of a (merge_all others entries) after.sorted
       ∙ ap (λ r. r.0) (entry_for-merge_all a others entries g h)
       ∙ merged_counter (entry_for a entries) (entry_for a others)

@@ -14,7 +14,7 @@ use Rattle.dvv_set.specs.ClockEntries.{ClockEntries, AreEntries, dot_state_of, k
 use Rattle.dvv_set.proofs.ClockEntries.{counter_in-known_of}
 use Rattle.dvv_set.proofs.Events.{AreEntries-without, AreEntries-event, dot_state_of-without, dot_state_of-event}
 use Rattle.actor_epoch.proofs.Pairs.{counter_in-union}
-use Rattle.dvv_set.proofs.Known.{ArePairs, ArePairs-known_of, length-insert_max}
+use Rattle.dvv_set.proofs.Known.{IsVersionVector, IsVersionVector-known_of, length-insert_max}
 use Rattle.std.proofs.lemmas.List.{length-map}
 use Rattle.dvv_set.proofs.Counts.{length-discard, length-known_of, count_new-within}
 
@@ -90,8 +90,8 @@ module _ {V : Type 0} where
         length-insert_max (record { actor = a; counter = counter_in (known_with pairs (known_of entries)) a + 1 }) (known_with pairs (known_of entries)) pairs_are
         ∙ ap (λ n. cond (nat_le 1 (counter_in (known_with pairs (known_of entries)) a)) n (n + 1)) known-length
       where
-        pairs_are : ArePairs (known_with pairs (known_of entries))
-        pairs_are = rw (← known_is) (ArePairs-known_of (entries_without pairs entries) after)
+        pairs_are : IsVersionVector (known_with pairs (known_of entries))
+        pairs_are = rw (← known_is) (IsVersionVector-known_of (entries_without pairs entries) after)
 
     -- those of the entries, of the context, and one, are the most
     pub after-most : (a : Actor) → length (known_after a (known_with pairs (known_of entries))) ≤ length entries + length (unwrap_or pairs []) + 1

@@ -13,7 +13,7 @@ use Rattle.dvv_set.proofs.Orders.{T-first, T-second, T-true}
 use Rattle.dvv_set.proofs.ClockEntries.{value_at, find-live_of, is_sorted-live_of}
 use Rattle.dvv_set.proofs.Merge.{is_some-slice_get}
 use Rattle.dvv_set.proofs.Merges.{entry_for-within}
-use Rattle.dvv_set.proofs.Known.{ArePairs-known_of}
+use Rattle.dvv_set.proofs.Known.{IsVersionVector-known_of}
 use Rattle.dvv_set.proofs.Live.{is_some-find}
 use Rattle.dvv_set.proofs.Counts.{length-known_of}
 use Rattle.dvv_set.proofs.Ready.{covers-entries}
@@ -38,7 +38,7 @@ module _ {V : Type 0} where
   IsClock-dot_state_of entries h few = record {
     rising = rising-known_of entries h.sorted;
     few = omega (arith, few, length-known_of entries);
-    positive = (ArePairs-known_of entries h).positive;
+    positive = (IsVersionVector-known_of entries h).positive;
     live_known = λ d live.
         covers-entries entries d h
         ∙ value_known (entry_for d.actor entries).0 d.counter (entry_for d.actor entries).1 (entry_for-within d.actor entries h.each)

@@ -9,7 +9,7 @@ use Rattle.riak_msgs.specs.declared.GetAsk.{GetAsk}
 use Rattle.riak_msgs.specs.declared.PutAsk.{PutAsk}
 use Rattle.riak_msgs.specs.declared.DelAsk.{DelAsk}
 use Rattle.riak_msgs.specs.declared.Reply.{Reply}
-use Rattle.sibling_register.specs.Answers.{Ask as Command, AskGet, AskPut, AskDel, Answers as Gives, Accepts, Refused as ToldRefused}
+use Rattle.sibling_register.specs.Answers.{RegisterAsk as Command, AskGet, AskPut, AskDel, Answers as Gives, Accepts, Refused as ToldRefused}
 use Rattle.sibling_register.specs.Refusals.{no_memory}
 use Rattle.sibling_register.specs.History.{Operation}
 use Rattle.sibling_register.specs.Legal.{IsLegal}
@@ -26,8 +26,8 @@ use Rattle.rw_gate.proofs.Prefixes.{prefix_trans}
 use Rattle.vnode_core.specs.declared.ask.Ask.{Ask}
 use Rattle.vnode_core.specs.declared.ask.Ask.TheVariants as asks
 use Rattle.vnode_core.specs.declared.ask.Answer.{Answer}
-use Rattle.vnode_core.specs.declared.event.Event.{Event}
-use Rattle.vnode_core.specs.declared.event.Event.TheVariants as events
+use Rattle.vnode_core.specs.declared.event.VnodeEvent.{VnodeEvent}
+use Rattle.vnode_core.specs.declared.event.VnodeEvent.TheVariants as events
 use Rattle.vnode_core.specs.declared.entry.Entry.{Entry}
 use Rattle.vnode_core.specs.declared.entry.Entry.TheVariants.{Command as Commanded, Copied, Closed}
 use Rattle.vnode_core.specs.declared.refusal.Refusal.{Refusal}
@@ -36,8 +36,8 @@ use Rattle.vnode_core.specs.Events.{EntryAsks, AnsweredBy, AsksEvent, AnswersEve
 use Rattle.vnode_core.specs.Plans.{IsAnsweredUnchanged, IsWrite, Refuses}
 use Rattle.vnode_core.specs.Refusals.{number_of}
 use Rattle.vnode_core.proofs.Entries.{all_commands-commands_of, commands_before, commands_begin, commands_of-all_commands, commands_of-append}
-use Rattle.rw_gate.specs.declared.asking.Outcome.{Outcome}
-use Rattle.rw_gate.specs.declared.asking.Outcome.TheVariants as Outcomes
+use Rattle.rw_gate.specs.declared.asking.AskOutcome.{AskOutcome}
+use Rattle.rw_gate.specs.declared.asking.AskOutcome.TheVariants as Outcomes
 use Rattle.node_session.specs.PlainStep.{answer_reply, reply_of}
 use Rattle.stats_book.specs.declared.quantity.Quantity.{Quantity}
 use Rattle.gate_node.specs.Asked.{Sight, state_of, Gets, ComesOf, IsMadeBy, IsSaidOf, RepliesToGet, outcome_reply}
@@ -45,19 +45,19 @@ use Rattle.gate_node.specs.Registers.{VnodeId, Commands, history_of, AnswersAmon
 use Rattle.gate_node.proofs.Legal.{position-is-legal}
 
 module _ (v e : ℕ) where
-  after_one : (before : History) (commands : List Event) (event : Event)
+  after_one : (before : History) (commands : List VnodeEvent) (event : VnodeEvent)
       → history_after v e before (commands ++ event ∷ []) ≡ register_event v e (history_after v e before commands) event ∷ history_after v e before commands
   after_one before [] event = refl
   after_one before (first ∷ commands) event = after_one (register_event v e before first ∷ before) commands event
 
-  next_behind : (before : History) (commands : List Event) (event : Event) → AreNext v e before commands
+  next_behind : (before : History) (commands : List VnodeEvent) (event : VnodeEvent) → AreNext v e before commands
       → ((next : State Content) × IsNext v e (history_after v e before commands) (event_command event) (event_deed event) (event_response event) next)
       → AreNext v e before (commands ++ event ∷ [])
   next_behind before [] event all one = (one, tt)
   next_behind before (first ∷ commands) event all one = (all.0, next_behind (register_event v e before first ∷ before) commands event all.1 one)
 
   -- a legal history goes on by an event that the machine makes
-  goes_on_by : (commands : List Event) (event : Event) (state next : State Content) → GoesOnTo v e [] commands state
+  goes_on_by : (commands : List VnodeEvent) (event : VnodeEvent) (state next : State Content) → GoesOnTo v e [] commands state
       → IsNext v e (history_after v e [] commands) (event_command event) (event_deed event) (event_response event) next
       → GoesOnTo v e [] (commands ++ event ∷ []) next
   goes_on_by commands event state next goes is = record {
@@ -102,18 +102,18 @@ module _ (v e : ℕ) where
     del_refused history state del refusal after r = turn_refused history state (AskDel (del_command del)) (number_of refusal) after r.1
 
 -- an event that was asked by a put or a delete is of its command
-put_asked : (put : PutAsk) (event : Event) → AsksEvent event (asks.Put put) → event_command event ≡ AskPut (put_command put)
+put_asked : (put : PutAsk) (event : VnodeEvent) → AsksEvent event (asks.Put put) → event_command event ≡ AskPut (put_command put)
 put_asked put (events.Put other reply) h = let same : other ≡ put = cc (h) in ap (λ p. AskPut (put_command p)) same
 put_asked put (events.Del del) h = cc (h)
 put_asked put (events.Reap key) h = absurd h
 
-del_asked : (del : DelAsk) (event : Event) → AsksEvent event (asks.Del del) → event_command event ≡ AskDel (del_command del)
+del_asked : (del : DelAsk) (event : VnodeEvent) → AsksEvent event (asks.Del del) → event_command event ≡ AskDel (del_command del)
 del_asked del (events.Put put reply) h = cc (h)
 del_asked del (events.Del other) h = let same : other ≡ del = cc (h) in ap (λ d. AskDel (del_command d)) same
 del_asked del (events.Reap key) h = absurd h
 
 -- its answer is replied to as its response is
-response_had : (event : Event) (answer : Answer) → AnswersEvent event answer → answer_reply answer ≡ reply_of (Ok (event_response event))
+response_had : (event : VnodeEvent) (answer : Answer) → AnswersEvent event answer → answer_reply answer ≡ reply_of (Ok (event_response event))
 response_had (events.Put put reply) answer h = ap answer_reply h
 response_had (events.Del del) answer h = ap answer_reply h
 response_had (events.Reap key) answer h = ap answer_reply h
@@ -157,7 +157,7 @@ module _ (id : VnodeId) (limits : IsWithinLimits id.vnode id.last_epoch) (old ne
         more = begins_last new.prefix all_seen;
       })
 
-  made_by : (command : Command Content Context) (answer : Answer) (event : Event) (position : List Entry) (state after : State Content) → IsPrefix old.prefix position
+  made_by : (command : Command Content Context) (answer : Answer) (event : VnodeEvent) (position : List Entry) (state after : State Content) → IsPrefix old.prefix position
       → RunFrom state_of Makes old.gate.opening position state → Makes state (Commanded event) after → AnswersEvent event answer → new.prefix ≡ position ++ Commanded event ∷ []
       → event_command event ≡ command → reply ≡ answer_reply answer → Answer_to command
   made_by command answer event position state after first leads makes answered seen asked replied =
@@ -184,7 +184,7 @@ module _ (id : VnodeId) (limits : IsWithinLimits id.vnode id.last_epoch) (old ne
       })
 
   made_answers : (ask : Ask) → IsWrite ask → (command : Command Content Context) (answer : Answer) → IsMadeBy ask old new answer
-      → ((event : Event) → AsksEvent event ask → event_command event ≡ command) → reply ≡ answer_reply answer → Answer_to command
+      → ((event : VnodeEvent) → AsksEvent event ask → event_command event ≡ command) → reply ≡ answer_reply answer → Answer_to command
   made_answers ask write command answer made of_command replied = by made.event made.asked made.answered made.step made.seen where
     by : (entry : Entry) → EntryAsks entry ask → AnsweredBy entry answer → Makes made.state entry made.after → new.prefix ≡ made.position ++ entry ∷ [] → Answer_to command
     by (Commanded event) asked answered step seen =
@@ -210,7 +210,7 @@ module _ (id : VnodeId) (limits : IsWithinLimits id.vnode id.last_epoch) (old ne
     | inr closed ↦ of_gate (AskDel (del_command del)) (inl (replied ∙ ap answer_reply closed.1))
   ]
 
-  pub put_answers : (put : PutAsk) (came : Outcome Answer Refusal) → ComesOf (asks.Put put) old new came → reply ≡ outcome_reply came → Answer_to (AskPut (put_command put))
+  pub put_answers : (put : PutAsk) (came : AskOutcome Answer Refusal) → ComesOf (asks.Put put) old new came → reply ≡ outcome_reply came → Answer_to (AskPut (put_command put))
   put_answers put (Outcomes.Made answer) made replied = made_answers (asks.Put put) tt (AskPut (put_command put)) answer made (put_asked put) replied
   put_answers put (Outcomes.Told answer) said replied = put_told put answer said replied
   put_answers put (Outcomes.Refused refusal) said replied =
@@ -218,7 +218,7 @@ module _ (id : VnodeId) (limits : IsWithinLimits id.vnode id.last_epoch) (old ne
   put_answers put Outcomes.Moved moved replied = of_gate (AskPut (put_command put)) (inl replied)
   put_answers put Outcomes.Full full replied = of_gate (AskPut (put_command put)) (inr replied)
 
-  pub del_answers : (del : DelAsk) (came : Outcome Answer Refusal) → ComesOf (asks.Del del) old new came → reply ≡ outcome_reply came → Answer_to (AskDel (del_command del))
+  pub del_answers : (del : DelAsk) (came : AskOutcome Answer Refusal) → ComesOf (asks.Del del) old new came → reply ≡ outcome_reply came → Answer_to (AskDel (del_command del))
   del_answers del (Outcomes.Made answer) made replied = made_answers (asks.Del del) tt (AskDel (del_command del)) answer made (del_asked del) replied
   del_answers del (Outcomes.Told answer) said replied = del_told del answer said replied
   del_answers del (Outcomes.Refused refusal) said replied =

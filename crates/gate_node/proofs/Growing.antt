@@ -1,7 +1,7 @@
 -- What a session over gates counts.
 use Rattle.std.proofs.Common.{◌≡◌, ◌≤◌, ◌+◌, ◌∙◌, ℕ, List, [], ◌∷◌, refl, sym, ap, subst, arith, inl, inr}
 use Rattle.std.specs.Prelude.{◌⊎◌, Bool, true, false, Option, Some, None, Result, Ok, Err}
-use Rattle.pb_frame.specs.Message.{Message}
+use Rattle.pb_frame.specs.Message.{CodedMessage}
 use Rattle.riak_msgs.specs.declared.GetAsk.{GetAsk}
 use Rattle.riak_msgs.specs.declared.GetReply.{GetReply}
 use Rattle.riak_msgs.specs.declared.PutReply.{PutReply}
@@ -26,7 +26,7 @@ use Rattle.vnode_core.specs.declared.ask.Ask.TheVariants as asks
 use Rattle.vnode_core.specs.declared.ask.Answer.{Answer}
 use Rattle.vnode_core.specs.declared.ask.Answer.TheVariants as answers
 use Rattle.clock_store.specs.declared.store.Reaped.{Reaped}
-use Rattle.vnode_core.specs.declared.event.Event.TheVariants as events
+use Rattle.vnode_core.specs.declared.event.VnodeEvent.TheVariants as events
 use Rattle.vnode_core.specs.declared.entry.Entry.{Entry}
 use Rattle.vnode_core.specs.declared.entry.Entry.TheVariants.{Command as Commanded, Copied, Closed}
 use Rattle.vnode_core.specs.declared.refusal.Refusal.{Refusal}
@@ -35,13 +35,13 @@ use Rattle.vnode_core.specs.Plans.{IsAnsweredUnchanged, IsWrite}
 use Rattle.node_session.specs.Answers.{AnswersRead, AnswersInTurn, message_fault_text}
 use Rattle.node_session.specs.PlainNodes.{partition_of}
 use Rattle.node_session.specs.PlainStep.{answer_reply}
-use Rattle.rw_gate.specs.declared.asking.Outcome.{Outcome}
-use Rattle.rw_gate.specs.declared.asking.Outcome.TheVariants.{Made, Told, Moved, Full}
-use Rattle.rw_gate.specs.declared.asking.Outcome.TheVariants as Outcomes
+use Rattle.rw_gate.specs.declared.asking.AskOutcome.{AskOutcome}
+use Rattle.rw_gate.specs.declared.asking.AskOutcome.TheVariants.{Made, Told, Moved, Full}
+use Rattle.rw_gate.specs.declared.asking.AskOutcome.TheVariants as Outcomes
 use Rattle.gate_node.specs.Asked.{Sight, Changes, ChangesOpen, GetsOpen, ComesOf, IsMadeBy, answer_quantity, get_quantity, outcome_quantity, outcome_reply, told_quantity}
 use Rattle.gate_node.specs.Asked.{Gets as AnswersGet}
 use Rattle.gate_node.specs.Gates.{Gates}
-use Rattle.gate_node.specs.GateStep.{NodeOverGates, GateStep, AnswersMoved, AtIndex, AtIndexFrom, AnswersAtPartition}
+use Rattle.gate_node.specs.GateStep.{NodeOverGates, GateNodeStep, AnswersMoved, AtIndex, AtIndexFrom, AnswersAtPartition}
 use Rattle.stats_book.specs.Counter.{Count, Counts, CountsReply, CountsAnswer}
 use Rattle.gate_node.specs.Sessions.{reply_most, most_of, CountsUpTo}
 use Rattle.stats_book.proofs.Raising.{raised_none}
@@ -193,7 +193,7 @@ told-fits state (asks.ReapFirst from) write answer (inl h) = absurd write
 told-fits state (asks.Copy copy) write answer (inl h) = absurd write
 told-fits state (asks.Close number) write answer (inl h) = absurd write
 
-outcome-fits : (ask : Ask) → IsWrite ask → (old new : Sight) (outcome : Outcome Answer Refusal) → ComesOf ask old new outcome → Fits (outcome_reply outcome) (outcome_quantity outcome)
+outcome-fits : (ask : Ask) → IsWrite ask → (old new : Sight) (outcome : AskOutcome Answer Refusal) → ComesOf ask old new outcome → Fits (outcome_reply outcome) (outcome_quantity outcome)
 outcome-fits ask write old new (Made answer) comes = made-fits ask write old new answer comes
 outcome-fits ask write old new (Told answer) comes = told-fits comes.state ask write answer comes.says
 outcome-fits ask write old new (Outcomes.Refused refusal) comes = refl
@@ -308,7 +308,7 @@ at-counts index old reply new Answers AnswersOpen fits opened (inr (inr at)) =
 same-counts : (most : Quantity → ℕ) (old new : NodeOverGates) → new ≡ old → most Gets ≡ 0 → most Puts ≡ 0 → CountsUpTo most old.count new.count
 same-counts most old new same gets puts = subst (λ (n : NodeOverGates). CountsUpTo most old.count n.count) (sym same) (none-counts most old.count gets puts)
 
-step-counts : (old : NodeOverGates) (request : Request) (reply : Reply) (new : NodeOverGates) → GateStep old request reply new → CountsUpTo (λ q. reply_most old.shared.budget q reply) old.count new.count
+step-counts : (old : NodeOverGates) (request : Request) (reply : Reply) (new : NodeOverGates) → GateNodeStep old request reply new → CountsUpTo (λ q. reply_most old.shared.budget q reply) old.count new.count
 step-counts old requests.Ping reply new step =
     subst (λ (r : Reply). CountsUpTo (λ q. reply_most old.shared.budget q r) old.count new.count) (sym step.0) (same-counts (λ q. reply_most old.shared.budget q replies.Ping) old new step.1 refl refl)
 step-counts old (requests.Get get) reply new step =
@@ -322,7 +322,7 @@ error-counts : (old new : NodeOverGates) (reply : Reply) (text : Text) → reply
 error-counts old new reply text is same =
     subst (λ (r : Reply). CountsUpTo (λ q. reply_most old.shared.budget q r) old.count new.count) (sym is) (same-counts (λ q. reply_most old.shared.budget q (replies.Error text)) old new same refl refl)
 
-read-counts : (old : NodeOverGates) (said : Result Request MsgFault) (reply : Reply) (new : NodeOverGates) → AnswersRead GateStep old said reply new → CountsUpTo (λ q. reply_most old.shared.budget q reply) old.count new.count
+read-counts : (old : NodeOverGates) (said : Result Request MsgFault) (reply : Reply) (new : NodeOverGates) → AnswersRead GateNodeStep old said reply new → CountsUpTo (λ q. reply_most old.shared.budget q reply) old.count new.count
 read-counts old (Ok request) reply new (inl step) = step-counts old request reply new step
 read-counts old (Ok request) reply new (inr stays) = error-counts old new reply texts.NoMemory stays.0 stays.1
 read-counts old (Err fault) reply new stays = error-counts old new reply (message_fault_text fault) stays.0 stays.1
@@ -339,7 +339,7 @@ both-count f g old mid new one two =
       full = λ full. two.full (one.full full);
     }
 
-pub run-counts : (old : NodeOverGates) (messages : List Message) (replies : List Reply) (new : NodeOverGates) → AnswersInTurn GateStep old messages replies new → CountsUpTo (most_of old.shared.budget replies) old.count new.count
+pub run-counts : (old : NodeOverGates) (messages : List CodedMessage) (replies : List Reply) (new : NodeOverGates) → AnswersInTurn GateNodeStep old messages replies new → CountsUpTo (most_of old.shared.budget replies) old.count new.count
 run-counts old [] [] new run = same-counts (most_of old.shared.budget []) old new run refl refl
 run-counts old [] (reply ∷ replies) new run = absurd run
 run-counts old (message ∷ messages) [] new run = absurd run

@@ -10,7 +10,7 @@ use Rattle.stats_book.specs.declared.quantity.Quantity.{Quantity}
 use Rattle.std.specs.List.{AllZip}
 use Rattle.rw_gate.proofs.Prefixes.{prefix_trans}
 use Rattle.gate_node.specs.Asked.{Sight, Gets, GetsOpen, Changes, ChangesOpen, AnswersAndReaps}
-use Rattle.gate_node.specs.GateStep.{NodeOverGates, GateStep, AnswersFrom, AtIndex, AtIndexFrom, AnswersAtPartition}
+use Rattle.gate_node.specs.GateStep.{NodeOverGates, GateNodeStep, AnswersFrom, AtIndex, AtIndexFrom, AnswersAtPartition}
 use Rattle.gate_node.proofs.Seeing.{all_reaps_more}
 use Rattle.gate_node.specs.Tallies.{GateHistory}
 use Rattle.gate_node.specs.OneHistory.{IsSeen, StepIn, IsAnsweredIn, IsAnsweredFrom, IsAnsweredAt, AnswersIn}
@@ -96,7 +96,7 @@ module _ (histories : List GateHistory) where
   partition_seen index old reply new Answers AnswersOpen (inr (inr h)) seen =
       subst AreSeen h.closed.node (from_seen index h.number h.found reply new Answers h.answers seen)
 
-  pub seen_before_step : (old : NodeOverGates) (request : Request) (reply : Reply) (new : NodeOverGates) → GateStep old request reply new → AreSeen new → AreSeen old
+  pub seen_before_step : (old : NodeOverGates) (request : Request) (reply : Reply) (new : NodeOverGates) → GateNodeStep old request reply new → AreSeen new → AreSeen old
   seen_before_step old requests.Ping reply new h seen = subst AreSeen h.1 seen
   seen_before_step old (requests.Get get) reply new h seen = partition_seen _ old reply new (Gets get) (GetsOpen get) h seen
   seen_before_step old (requests.Put put) reply new h seen = partition_seen _ old reply new (Changes (asks.Put put)) (ChangesOpen (asks.Put put)) h seen

@@ -4,14 +4,14 @@ use Rattle.std.proofs.lemmas.List.{append-nil}
 use Rattle.std.specs.Prelude.{◌⊎◌, Option, Some, None, slice_get}
 use Rattle.std.specs.Option.{option_map_or}
 use mathlib.Core.List.{IsPrefix}
-use Rattle.pb_frame.specs.Message.{Message}
+use Rattle.pb_frame.specs.Message.{CodedMessage}
 use Rattle.ring_map.specs.Ring.{id_of}
 use Rattle.rw_gate.specs.Views.{GateId}
 use Rattle.riak_msgs.specs.Contents.{Content}
 use Rattle.riak_msgs.specs.declared.Request.{Request}
 use Rattle.riak_msgs.specs.declared.Request.TheVariants as requests
 use Rattle.riak_msgs.specs.declared.Reply.{Reply}
-use Rattle.sibling_register.specs.Answers.{Ask as Command, AskGet, AskPut, AskDel}
+use Rattle.sibling_register.specs.Answers.{RegisterAsk as Command, AskGet, AskPut, AskDel}
 use Rattle.actor_epoch.specs.Given.{Context}
 use Rattle.vnode_machine.specs.Asks.{get_command, put_command, del_command}
 use Rattle.vnode_machine.specs.Machine.{State}
@@ -30,7 +30,7 @@ use Rattle.node_session.proofs.Simulating.{run_like, end_like, stops_like}
 use Rattle.stats_book.specs.declared.quantity.Quantity.{Quantity}
 use Rattle.gate_node.specs.Asked.{Sight, Gets, GetsOpen, Changes, ChangesOpen}
 use Rattle.gate_node.specs.Gates.{Gates}
-use Rattle.gate_node.specs.GateStep.{NodeOverGates, GateStep, AtIndex, AtFallback, AtClosed, AtIndexFrom, AnswersAtPartition}
+use Rattle.gate_node.specs.GateStep.{NodeOverGates, GateNodeStep, AtIndex, AtFallback, AtClosed, AtIndexFrom, AnswersAtPartition}
 use Rattle.gate_node.specs.Passes.{kept_of}
 use Rattle.gate_node.specs.Registers.{VnodeId, vnode_at, id_at, first_epoch, seen_at, Commands, Seen, seen_by, AnswersAmongOthers, IsGateError, AnswersAskAt, SharedRegister, RunIsRegister, EndIsRegister, StopIsRegister, entries_by, HasSeenCommands}
 use Rattle.gate_node.proofs.Keeping.{step-keeps}
@@ -119,7 +119,7 @@ at_is index command old reply new Answers AnswersOpen answers opened are (inr (i
     (λ id before after last quantity limits made begins more says. answers id before after last quantity limits made begins more (opened before after quantity says)) are at
 at_is index command old reply new Answers AnswersOpen answers opened are (inr (inr at)) = absurd (no_close index at.number old at.found new reply Answers are at.closed at.answers)
 
-step_is : (old : NodeOverGates) (request : Request) (reply : Reply) (new : NodeOverGates) → GateStep old request reply new → HasSeenCommands new → SharedRegister old.shared (seen_by old) request reply (seen_by new)
+step_is : (old : NodeOverGates) (request : Request) (reply : Reply) (new : NodeOverGates) → GateNodeStep old request reply new → HasSeenCommands new → SharedRegister old.shared (seen_by old) request reply (seen_by new)
 step_is old requests.Ping reply new step are = (step.0, ap seen_by step.1)
 step_is old (requests.Get get) reply new step are =
     at_is (partition_of old.shared.index_bits get.key) (AskGet (get_command get)) old reply new (Gets get) (GetsOpen get)
@@ -140,7 +140,7 @@ Like shared node seen = (node.shared ≡ shared) × (seen ≡ seen_by node)
 
 -- a step after which commands alone were seen
 abbrev Step : NodeOverGates → Request → Reply → NodeOverGates → Type 0
-Step = Held GateStep HasSeenCommands step_commands
+Step = Held GateNodeStep HasSeenCommands step_commands
 
 like_step : (shared : Gates) (s s' : NodeOverGates) (t : Seen) (request : Request) (reply : Reply) → Like shared s t → Step s request reply s'
     → (t' : Seen) × Like shared s' t' × SharedRegister shared t request reply t'
@@ -150,20 +150,20 @@ like_step shared s s' t request reply like step = (
   subst (λ (p : Gates × Seen). SharedRegister p.0 p.1 request reply (seen_by s')) (λ i. (like.0 i, sym like.1 i)) (step_is s request reply s' step.0 step.1),
 )
 
-pub run_is_register : (old new : NodeOverGates) (messages : List Message) (replies : List Reply) → RunIsRegister old new messages replies
+pub run_is_register : (old new : NodeOverGates) (messages : List CodedMessage) (replies : List Reply) → RunIsRegister old new messages replies
 run_is_register old new messages replies are run =
-    let held = run_in GateStep HasSeenCommands step_commands old messages replies new run are in
+    let held = run_in GateNodeStep HasSeenCommands step_commands old messages replies new run are in
     let made = run_like Step (SharedRegister old.shared) (Like old.shared) (like_step old.shared) old new (seen_by old) messages replies (refl, refl) held in
     subst (λ t. AnswersInTurn (SharedRegister old.shared) (seen_by old) messages replies t) made.1.1 made.2
 
 pub end_is_register : (old new : NodeOverGates) (input : List ℕ) (held held' : Option (List ℕ)) (count len : ℕ) → EndIsRegister old new input held held' count len
 end_is_register old new input held held' count len are ended =
-    let stays = end_in GateStep HasSeenCommands step_commands old new input held held' count len ended are in
+    let stays = end_in GateNodeStep HasSeenCommands step_commands old new input held held' count len ended are in
     let made = end_like Step (SharedRegister old.shared) (Like old.shared) (like_step old.shared) old new (seen_by old) input held held' count len (refl, refl) stays in
     subst (λ (t : Seen). Output (SharedRegister old.shared) (seen_by old) input held held' count (IsInputEnd t len)) made.1.1 made.2
 
 pub stop_is_register : (old new : NodeOverGates) (input : List ℕ) (held held' : Option (List ℕ)) (fault : SessionFault) → StopIsRegister old new input held held' fault
 stop_is_register old new input held held' fault are stops =
-    let stays = stops_in GateStep HasSeenCommands step_commands old new input held held' fault stops are in
+    let stays = stops_in GateNodeStep HasSeenCommands step_commands old new input held held' fault stops are in
     let made = stops_like Step (SharedRegister old.shared) (Like old.shared) (like_step old.shared) old new (seen_by old) input held held' fault (refl, refl) stays in
     subst (λ (t : Seen). Stops (SharedRegister old.shared) (seen_by old) t input held held' fault) made.1.1 made.2

@@ -18,7 +18,7 @@ use Rattle.stats_book.specs.declared.quantity.Quantity.{Quantity}
 use Rattle.stats_book.specs.Counter.{Count}
 use Rattle.gate_node.specs.Asked.{Sight, Gets, GetsOpen, Changes, ChangesOpen, Reaps, ReapsUpTo}
 use Rattle.gate_node.specs.declared.passes.FallbackPass.{FallbackPass}
-use Rattle.gate_node.specs.GateStep.{NodeOverGates, GateStep, AtIndex, AtIndexFrom, AnswersAtPartition}
+use Rattle.gate_node.specs.GateStep.{NodeOverGates, GateNodeStep, AtIndex, AtIndexFrom, AnswersAtPartition}
 use Rattle.gate_node.specs.Passes.{Resumes, kept_of}
 use Rattle.gate_node.specs.Registers.{seen_at, seen_at_fallback, entries_by, HasSeenCommands}
 
@@ -147,7 +147,7 @@ module _ (index other : ℕ) where
       let first = fallback_adds old at.found c.fallback c.kept c.before c.after c.known (Some at.number) old.count c.diverted c.stood c.resumes c.closed.more c.node in
       then_grows old at.found new first (from_adds at.number at.found reply new Answers at.answers)
 
-step_adds : (old : NodeOverGates) (request : Request) (reply : Reply) (new : NodeOverGates) → GateStep old request reply new → (index : ℕ) → IsPrefix (entries_by old index) (entries_by new index)
+step_adds : (old : NodeOverGates) (request : Request) (reply : Reply) (new : NodeOverGates) → GateNodeStep old request reply new → (index : ℕ) → IsPrefix (entries_by old index) (entries_by new index)
 step_adds old requests.Ping reply new step index = subst (λ (node : NodeOverGates). IsPrefix (entries_by old index) (entries_by node index)) (sym step.1) (whole _)
 step_adds old (requests.Get get) reply new step index = adds (partition_of old.shared.index_bits get.key) index old reply new (Gets get) (GetsOpen get) step
 step_adds old (requests.Put put) reply new step index =
@@ -156,5 +156,5 @@ step_adds old (requests.Del del) reply new step index =
     adds (partition_of old.shared.index_bits del.key) index old reply new (Changes (asks.Del del)) (ChangesOpen (asks.Del del)) step
 
 -- where commands alone were seen after it, so they were before
-pub step_commands : (old : NodeOverGates) (request : Request) (reply : Reply) (new : NodeOverGates) → GateStep old request reply new → HasSeenCommands new → HasSeenCommands old
+pub step_commands : (old : NodeOverGates) (request : Request) (reply : Reply) (new : NodeOverGates) → GateNodeStep old request reply new → HasSeenCommands new → HasSeenCommands old
 step_commands old request reply new step are = λ index. commands_before (entries_by old index) (entries_by new index) (step_adds old request reply new step index) (are index)

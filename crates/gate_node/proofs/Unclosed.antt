@@ -22,8 +22,8 @@ use Rattle.vnode_core.specs.declared.entry.Entry.TheVariants.{Command as Command
 use Rattle.vnode_core.specs.declared.refusal.Refusal.{Refusal}
 use Rattle.vnode_core.specs.Events.{AnsweredBy, AreCommands, EntryAsks, IsMadeNew, Makes, event_deed, event_response, history_after}
 use Rattle.vnode_core.specs.Plans.{View, AnswersOpen, IsAnsweredUnchanged, Refuses}
-use Rattle.rw_gate.specs.declared.asking.Outcome.{Outcome}
-use Rattle.rw_gate.specs.declared.asking.Outcome.TheVariants as Outcomes
+use Rattle.rw_gate.specs.declared.asking.AskOutcome.{AskOutcome}
+use Rattle.rw_gate.specs.declared.asking.AskOutcome.TheVariants as Outcomes
 use Rattle.rw_gate.specs.Asking.{SeesUnder}
 use Rattle.stats_book.specs.declared.quantity.Quantity.{Quantity}
 use Rattle.gate_node.specs.Asked.{Sight, state_of, ComesOf, Gets, GetsOpen, HasSeenClose, IsOfOpenVnode}
@@ -67,7 +67,7 @@ never_closed state (asks.Copy copy) h = cc (h.0)
 never_closed state (asks.Close number) h = h
 
 -- what came of an ask under a right to a vnode that isn't closed
-pub comes_open : (ask : Ask) (old new : Sight) (history : List Entry) (state : State Content) (outcome : Outcome Answer Refusal) → ComesOf ask old new outcome
+pub comes_open : (ask : Ask) (old new : Sight) (history : List Entry) (state : State Content) (outcome : AskOutcome Answer Refusal) → ComesOf ask old new outcome
     → RunFrom state_of Makes old.gate.opening history state → state.closed ≡ None → SeesUnder state_of Makes IsAnsweredUnchanged Refuses EntryAsks AnsweredBy history new outcome → IsOfOpenVnode outcome
 comes_open ask old new history state (Outcomes.Told answers.Closed) comes leads opened under = elim comes.says [
   | inl says ↦ never_closed comes.state ask says.1

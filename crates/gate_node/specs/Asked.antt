@@ -23,13 +23,13 @@ use Rattle.vnode_core.specs.Refusals.{number_of}
 use Rattle.vnode_core.specs.Events.{Makes, EntryAsks, AnsweredBy}
 use Rattle.sibling_register.specs.Refusals.{refusal_text}
 use Rattle.node_session.specs.PlainStep.{answer_reply, StepsBy}
-use Rattle.rw_gate.specs.declared.asking.Outcome.{Outcome}
-use Rattle.rw_gate.specs.declared.asking.Outcome.TheVariants.{Made, Told, Refused, Moved, Full}
+use Rattle.rw_gate.specs.declared.asking.AskOutcome.{AskOutcome}
+use Rattle.rw_gate.specs.declared.asking.AskOutcome.TheVariants.{Made, Told, Refused, Moved, Full}
 use Rattle.rw_gate.specs.Asking.{Comes, IsMade, IsSaid, IsOvertaken}
 pub use Rattle.handoff.specs.Sights.{Sight, state_of}
 
 -- what came of an ask, an ask that was made, and what the machine says at the end of what was seen
-abbrev pub ComesOf : Ask → Sight → Sight → Outcome Answer Refusal → Type 0
+abbrev pub ComesOf : Ask → Sight → Sight → AskOutcome Answer Refusal → Type 0
 ComesOf = Comes state_of Makes IsAnsweredUnchanged Refuses EntryAsks AnsweredBy
 
 abbrev pub IsMadeBy : Ask → Sight → Sight → Answer → Type 0
@@ -39,7 +39,7 @@ abbrev pub IsSaidOf : (State Content → Type 0) → Sight → Sight → Type 0
 IsSaidOf = IsSaid state_of Makes IsAnsweredUnchanged Refuses EntryAsks AnsweredBy
 
 -- the reply for what came of an ask
-abbrev pub outcome_reply : Outcome Answer Refusal → Reply
+abbrev pub outcome_reply : AskOutcome Answer Refusal → Reply
 outcome_reply (Made answer) = answer_reply answer
 outcome_reply (Told answer) = answer_reply answer
 outcome_reply (Refused refusal) = replies.Error (refusal_text (number_of refusal))
@@ -61,19 +61,19 @@ told_quantity answers.Closed = Some quantities.Refusals
 told_quantity other = None
 
 -- what is counted of what came of an ask: a command that was accepted, or an error; nothing where a vnode that isn't closed changes nothing
-abbrev pub outcome_quantity : Outcome Answer Refusal → Option Quantity
+abbrev pub outcome_quantity : AskOutcome Answer Refusal → Option Quantity
 outcome_quantity (Made answer) = Some (answer_quantity answer)
 outcome_quantity (Told answer) = told_quantity answer
 outcome_quantity other = Some quantities.Refusals
 
 -- the answer isn't that of a closed vnode
-abbrev pub IsOfOpenVnode : Outcome Answer Refusal → Type 0
+abbrev pub IsOfOpenVnode : AskOutcome Answer Refusal → Type 0
 IsOfOpenVnode (Told answers.Closed) = ⊥
 IsOfOpenVnode other = Unit {0}
 
 -- an ask gets the reply for what came of it, and that is counted
 pub record Changes (ask : Ask) (old new : Sight) (reply : Reply) (quantity : Option Quantity) : Type 0 where
-  pub outcome : Outcome Answer Refusal
+  pub outcome : AskOutcome Answer Refusal
   pub comes : ComesOf ask old new outcome
   pub replied : reply ≡ outcome_reply outcome
   pub counted : quantity ≡ outcome_quantity outcome
@@ -131,13 +131,13 @@ abbrev pub Reaps : ℕ → Sight → Sight → Type 0
 Reaps zero old new = new ≡ old
 Reaps (suc n) old new = (mid : Sight) × (answer : Answer) × (mid.gate ≡ old.gate) × IsMadeBy first_reap old mid answer × Reaps n mid new
 
-abbrev pub IsNotMade : Outcome Answer Refusal → Type 0
+abbrev pub IsNotMade : AskOutcome Answer Refusal → Type 0
 IsNotMade (Made answer) = ⊥
 IsNotMade other = Unit {0}
 
 -- no further one was forgotten: none is dead, or the vnode is closed, or the history had gone on, or is full
 pub record EndsReaping (old new : Sight) : Type 0 where
-  pub outcome : Outcome Answer Refusal
+  pub outcome : AskOutcome Answer Refusal
   pub ends : IsNotMade outcome
   pub comes : ComesOf first_reap old new outcome
   pub more : IsPrefix old.prefix new.prefix

@@ -145,10 +145,10 @@ AnswersAtPartition index old reply new Answers AnswersOpen =
     ⊎ AtDiverted index old reply new Answers AnswersOpen
 
 -- a ping is answered by a ping and changes and counts nothing; any other request is answered at the partition that its key lies in
-abbrev pub GateStep : NodeOverGates → Request → Reply → NodeOverGates → Type 0
-GateStep old requests.Ping reply new = (reply ≡ replies.Ping) × (new ≡ old)
-GateStep old (requests.Get get) reply new = AnswersAtPartition (partition_of old.shared.index_bits get.key) old reply new (Gets get) (GetsOpen get)
-GateStep old (requests.Put put) reply new =
+abbrev pub GateNodeStep : NodeOverGates → Request → Reply → NodeOverGates → Type 0
+GateNodeStep old requests.Ping reply new = (reply ≡ replies.Ping) × (new ≡ old)
+GateNodeStep old (requests.Get get) reply new = AnswersAtPartition (partition_of old.shared.index_bits get.key) old reply new (Gets get) (GetsOpen get)
+GateNodeStep old (requests.Put put) reply new =
     AnswersAtPartition (partition_of old.shared.index_bits put.key) old reply new (Changes (asks.Put put)) (ChangesOpen (asks.Put put))
-GateStep old (requests.Del del) reply new =
+GateNodeStep old (requests.Del del) reply new =
     AnswersAtPartition (partition_of old.shared.index_bits del.key) old reply new (Changes (asks.Del del)) (ChangesOpen (asks.Del del))

@@ -14,7 +14,7 @@ use Rattle.vnode_core.specs.declared.ask.Ask.TheVariants as asks
 use Rattle.node_session.specs.PlainNodes.{partition_of}
 use Rattle.gate_node.specs.Asked.{Sight, Gets, GetsOpen, Changes, ChangesOpen}
 use Rattle.gate_node.specs.Gates.{Gates}
-use Rattle.gate_node.specs.GateStep.{NodeOverGates, GateStep, AnswersFrom, AnswersAtPartition}
+use Rattle.gate_node.specs.GateStep.{NodeOverGates, GateNodeStep, AnswersFrom, AnswersAtPartition}
 use Rattle.gate_node.specs.Passes.{Sights, ArePassesOf}
 use Rattle.stats_book.specs.declared.quantity.Quantity.{Quantity}
 use Rattle.gate_node.specs.Tallies.{GateHistory, IsTally}
@@ -26,7 +26,7 @@ pub record IsSeen (history : GateHistory) (pass : Sight) : Type 0 where
 
 -- a step of a node over gates, after which each of its passes of a primary has seen a beginning of the history in its place
 abbrev pub StepIn : List GateHistory → NodeOverGates → Request → Reply → NodeOverGates → Type 0
-StepIn histories old request reply new = GateStep old request reply new × AllZip IsSeen histories new.passes.primaries
+StepIn histories old request reply new = GateNodeStep old request reply new × AllZip IsSeen histories new.passes.primaries
 
 -- at this vnode a request was answered from all that a pass had then seen, with the event that the request made: these events are a
 -- beginning of the vnode's history, and so their end is a position of it

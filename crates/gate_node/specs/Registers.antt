@@ -2,7 +2,7 @@
 use Rattle.std.specs.Prelude.{◌≡◌, ◌≢◌, ◌⊎◌, if◌then◌else◌, ℕ, List, [], Option, Some, None, Result, MatchOption, slice_get, unwrap_or}
 use Rattle.std.specs.Option.{option_map_or}
 use mathlib.Core.List.{IsPrefix}
-use Rattle.pb_frame.specs.Message.{Message}
+use Rattle.pb_frame.specs.Message.{CodedMessage}
 use Rattle.ring_map.specs.Ring.{id_of}
 use Rattle.riak_msgs.specs.declared.Key.{Key}
 use Rattle.riak_msgs.specs.Contents.{Content}
@@ -10,14 +10,14 @@ use Rattle.riak_msgs.specs.declared.Request.{Request}
 use Rattle.riak_msgs.specs.declared.Reply.{Reply}
 use Rattle.riak_msgs.specs.declared.Reply.TheVariants as replies
 use Rattle.riak_msgs.specs.declared.Text.TheVariants as texts
-use Rattle.sibling_register.specs.Answers.{Ask}
+use Rattle.sibling_register.specs.Answers.{RegisterAsk}
 use Rattle.actor_epoch.specs.Given.{Context}
 use Rattle.vnode_machine.specs.Machine.{State}
 use Rattle.vnode_machine.specs.Replay.{History}
 use Rattle.vnode_machine.specs.Step.{Response}
 use Rattle.vnode_machine.specs.Registers.{key_of}
 use Rattle.vnode_machine.specs.Runs.{AnswersTurn}
-use Rattle.vnode_core.specs.declared.event.Event.{Event}
+use Rattle.vnode_core.specs.declared.event.VnodeEvent.{VnodeEvent}
 use Rattle.vnode_core.specs.declared.entry.Entry.{Entry}
 use Rattle.vnode_core.specs.Events.{AreCommands, GoesOnTo, commands_of, history_after}
 use Rattle.node_session.specs.declared.fault.SessionFault.{SessionFault}
@@ -34,11 +34,11 @@ use Rattle.gate_node.specs.declared.passes.FallbackPass.{FallbackPass}
 use Rattle.gate_node.specs.Asked.{Sight}
 use Rattle.gate_node.specs.Gates.{Gates}
 use Rattle.gate_node.specs.Passes.{is_of}
-use Rattle.gate_node.specs.GateStep.{NodeOverGates, GateStep}
+use Rattle.gate_node.specs.GateStep.{NodeOverGates, GateNodeStep}
 
 -- the commands that a vnode accepted, oldest first, each with its answer
 abbrev pub Commands : Type 0
-Commands = List Event
+Commands = List VnodeEvent
 
 -- what a caller has seen of them, by the partition's index
 abbrev pub Seen : Type 0
@@ -95,7 +95,7 @@ module _ (id : VnodeId) where
 
   -- the register answers an ask at a position that has all that its caller had seen; what it accepts is the next command; and then
   -- more may have been accepted
-  pub record AnswersAmongOthers (ask : Ask Content Context) (old : Commands) (reply : Reply) (new : Commands) : Type 0 where
+  pub record AnswersAmongOthers (ask : RegisterAsk Content Context) (old : Commands) (reply : Reply) (new : Commands) : Type 0 where
     pub position : Commands
     pub after : Commands
     pub result : Result Response ℕ
@@ -112,7 +112,7 @@ IsGateError reply = (reply ≡ replies.Error texts.Moved) ⊎ (reply ≡ replies
 
 -- an ask is answered at this vnode of the partition of this index: by the register, or by the gate, and then it is no command; what
 -- was seen of other partitions stays
-pub record AnswersAskAt (id : VnodeId) (index : ℕ) (ask : Ask Content Context) (old : Seen) (reply : Reply) (new : Seen) : Type 0 where
+pub record AnswersAskAt (id : VnodeId) (index : ℕ) (ask : RegisterAsk Content Context) (old : Seen) (reply : Reply) (new : Seen) : Type 0 where
   pub answers : AnswersAmongOthers id ask (old index) reply (new index) ⊎ (IsGateError reply × IsPrefix (old index) (new index))
   pub others : (other : ℕ) → other ≢ index → new other ≡ old other
 
@@ -128,19 +128,19 @@ SharedRegister shared = RegisterAmongOthers (vnode_at shared) (partition_of shar
 
 -- what a node over gates answers to messages, one after another, the register among others does, where the node has seen commands
 -- alone in the end
-abbrev pub RunIsRegister : (old new : NodeOverGates) → List Message → List Reply → Type 0
+abbrev pub RunIsRegister : (old new : NodeOverGates) → List CodedMessage → List Reply → Type 0
 RunIsRegister old new messages replies =
-    HasSeenCommands new → AnswersInTurn GateStep old messages replies new
+    HasSeenCommands new → AnswersInTurn GateNodeStep old messages replies new
     → AnswersInTurn (SharedRegister old.shared) (seen_by old) messages replies (seen_by new)
 
 -- a session that comes to the end is one over the register among others
 abbrev pub EndIsRegister : (old new : NodeOverGates) (input : List ℕ) (held held' : Option (List ℕ)) (count len : ℕ) → Type 0
 EndIsRegister old new input held held' count len =
-    HasSeenCommands new → AnsweredInput GateStep old input held held' count (IsInputEnd new len)
+    HasSeenCommands new → AnsweredInput GateNodeStep old input held held' count (IsInputEnd new len)
     → AnsweredInput (SharedRegister old.shared) (seen_by old) input held held' count (IsInputEnd (seen_by new) len)
 
 -- and so is one that stops at a fault
 abbrev pub StopIsRegister : (old new : NodeOverGates) (input : List ℕ) (held held' : Option (List ℕ)) → SessionFault → Type 0
 StopIsRegister old new input held held' fault =
-    HasSeenCommands new → Stops GateStep old new input held held' fault
+    HasSeenCommands new → Stops GateNodeStep old new input held held' fault
     → Stops (SharedRegister old.shared) (seen_by old) (seen_by new) input held held' fault

@@ -12,7 +12,7 @@ use crate::shared::Shared;
 use crate::turnstile::Turnstile;
 use handoff::Fallback;
 use riak_msgs::{GetAsk, Reply, Text};
-use rw_gate::{Gate, Outcome, Pass, WriteRight, ask_shown};
+use rw_gate::{Gate, AskOutcome, Pass, WriteRight, ask_shown};
 use stats_book::Quantity;
 use std::alloc::Global;
 use std::sync::Wait;
@@ -66,7 +66,7 @@ fn ask_open_under(
     alloc: Global,
     pass: &mut Pass<Vnode>,
     change: Ask,
-) -> Result<Outcome<Answer, Refusal>, (u64, Ask)>
+) -> Result<AskOutcome<Answer, Refusal>, (u64, Ask)>
     requires { pass.old.gate ≡ right.old.gate }
     ensures gate { pass.new.gate ≡ pass.old.gate }
     ensures more { IsPrefix pass.old.prefix pass.new.prefix }
@@ -76,7 +76,7 @@ fn ask_open_under(
     ensures same { IfErr result (λ back. back.1 ≡ change) }
 {
     let Ok(vnode) = right.look(pass) else {
-        return Ok(Outcome::Moved);
+        return Ok(AskOutcome::Moved);
     };
     match vnode.closed_at() {
         None => Ok(ask_shown(right, alloc, pass, change)),

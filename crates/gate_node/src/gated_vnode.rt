@@ -7,7 +7,7 @@ use crate::replies::{get_quantity, outcome_quantity, outcome_reply};
 use crate::shared::Shared;
 use crate::turnstile::Turnstile;
 use riak_msgs::{GetAsk, Reply, Text};
-use rw_gate::{Gate, Outcome, Pass, ask, ask_under};
+use rw_gate::{Gate, AskOutcome, Pass, ask, ask_under};
 use stats_book::Quantity;
 use std::alloc::Global;
 use std::sync::Wait;
@@ -101,7 +101,7 @@ fn reap<W: Wait>(
     let mut count = 0;
     while count < budget {
         match ask(rt, alloc, gate, pass, Ask::ReapFirst(None)) {
-            Outcome::Made(_) => count += 1,
+            AskOutcome::Made(_) => count += 1,
             _ => return count,
         }
     }

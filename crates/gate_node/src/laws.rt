@@ -1,15 +1,15 @@
 //! Where a node over gates answers.
 ghost use Rattle.std.specs.Prelude.{◌≡◌, ℕ, List};
-ghost use Rattle.pb_frame.specs.Message.{Message};
+ghost use Rattle.pb_frame.specs.Message.{CodedMessage};
 ghost use Rattle.riak_msgs.specs.Contents.{Content};
 ghost use Rattle.riak_msgs.specs.declared.Request.{Request};
 ghost use Rattle.riak_msgs.specs.declared.Reply.{Reply};
 ghost use Rattle.vnode_machine.specs.Machine.{State};
 ghost use Rattle.rw_gate.specs.Views.{GateId};
-ghost use Rattle.vnode_core.specs.declared.event.Event.{Event};
+ghost use Rattle.vnode_core.specs.declared.event.VnodeEvent.{VnodeEvent};
 ghost use Rattle.vnode_core.specs.Plans.{View};
 ghost use Rattle.node_session.specs.Answers.{AnswersInTurn};
-ghost use Rattle.gate_node.specs.GateStep.{NodeOverGates, GateStep};
+ghost use Rattle.gate_node.specs.GateStep.{NodeOverGates, GateNodeStep};
 ghost use Rattle.gate_node.specs.Gates.{Gates};
 ghost use Rattle.gate_node.specs.Legal.{PositionIsLegal};
 ghost use Rattle.gate_node.specs.Passes.{Sights, OutliveDiversion};
@@ -23,18 +23,18 @@ ghost use Rattle.std.specs.Prelude.{Option};
 /// Each position at which a [`GateNode`](crate::GateNode) answers, and before which commands alone stand, is a legal history of the
 /// sibling register, and the state there is its replay. For the node's step names the position and its run (`leads` of `IsMade` and `IsSaid` in
 /// `specs/Asking` of `rw_gate`), that the gate was made round a new vnode, and that the id of this vnode is one that a vnode can have: for that of
-/// the key's partition `made_new` and `limits` of `AtIndex` in `specs/GateStep`, for the partition's fallback those of `IsFallback`
+/// the key's partition `made_new` and `limits` of `AtIndex` in `specs/GateNodeStep`, for the partition's fallback those of `IsFallback`
 /// (`is_new` of `AtFallback` and of `AtClosed`).
 pub fn positions_are_legal()
-    ensures { (vnode last_epoch : ℕ) (gate : GateId View) (events : List Event) (state : State Content)
+    ensures { (vnode last_epoch : ℕ) (gate : GateId View) (events : List VnodeEvent) (state : State Content)
         → PositionIsLegal vnode last_epoch gate events state }
 {}
 
 /// A session over a [`GateNode`](crate::GateNode) keeps its gates: after the messages that `serve` has answered, by a run of
 /// the node's step, the node is over the gates that it was made over.
 pub fn sessions_keep_their_gates()
-    ensures { (old : NodeOverGates) (messages : List Message) (replies : List Reply) (new : NodeOverGates)
-        → AnswersInTurn GateStep old messages replies new → new.shared ≡ old.shared }
+    ensures { (old : NodeOverGates) (messages : List CodedMessage) (replies : List Reply) (new : NodeOverGates)
+        → AnswersInTurn GateNodeStep old messages replies new → new.shared ≡ old.shared }
 {}
 
 /// A caller's passes outlive diversions: what passes of a run's gates have to be for a node over them, they are after a partition was
@@ -49,8 +49,8 @@ pub fn passes_outlive_diversions()
 /// at most each to a delete as a delete and each error as a refusal, and for each of them at most as many dead keys as the
 /// budget allows. It counts nothing else, and where the book had no room for something, less.
 pub fn sessions_count_their_replies()
-    ensures { (old : NodeOverGates) (messages : List Message) (replies : List Reply) (new : NodeOverGates)
-        → AnswersInTurn GateStep old messages replies new
+    ensures { (old : NodeOverGates) (messages : List CodedMessage) (replies : List Reply) (new : NodeOverGates)
+        → AnswersInTurn GateNodeStep old messages replies new
         → CountsUpTo (most_of old.shared.budget replies) old.count new.count }
 {}
 
@@ -70,7 +70,7 @@ pub fn sessions_count_their_replies()
 ///
 /// What two sessions over the gates of one run have seen of a vnode begins one history (`Pass::is_behind` of `rw_gate`).
 pub fn gate_node_is_register()
-    ensures run { (old new : NodeOverGates) (messages : List Message) (replies : List Reply)
+    ensures run { (old new : NodeOverGates) (messages : List CodedMessage) (replies : List Reply)
         → RunIsRegister old new messages replies }
     ensures ended { (old new : NodeOverGates) (input : List ℕ) (held held' : Option (List ℕ)) (count len : ℕ)
         → EndIsRegister old new input held held' count len }
@@ -80,7 +80,7 @@ pub fn gate_node_is_register()
 
 /// Each reply of a node whose passes have seen beginnings of one list of histories is at a position of the history of its key's vnode. For
 /// where a step in these histories answers a get, a put or a delete, the events of which the reply is (`answered` of `steps` of `AtIndex` in
-/// `specs/GateStep`) are a beginning of that history. These are the histories of the primaries: where a fallback answers, the law says
+/// `specs/GateNodeStep`) are a beginning of that history. These are the histories of the primaries: where a fallback answers, the law says
 /// nothing. Whoever serves several connections over the gates of a run, and takes the tallies of the run behind them
 /// ([`tallies_of`](crate::tallies_of)), can say of each of their steps that it is one in the same histories (`StepIn` of `specs/OneHistory`).
 pub fn replies_are_at_positions()

@@ -16,7 +16,7 @@ use handoff::Fallback;
 use node_session::Node;
 use riak_msgs::{GetAsk, Key, Reply, Request, Text};
 use rw_gate::Pass;
-use stats_book::{Book, Counter, Quantity, Share};
+use stats_book::{Book, ReplyCounter, Quantity, Share};
 use std::alloc::Global;
 use std::marker::Model;
 use std::sync::Wait;
@@ -49,7 +49,7 @@ pub struct GateNode<
     rt: &'a W,
     shared: &'a Shared,
     turnstile: &'a T,
-    counter: Counter<'a, G, P, D, E, R>,
+    counter: ReplyCounter<'a, G, P, D, E, R>,
     primaries: Vec<Pass<Vnode>>,
     fallbacks: Vec<Option<FallbackPass>>,
 }
@@ -100,7 +100,7 @@ impl<'a, W: Wait, T: Turnstile, G: Ledger, P: Ledger, D: Ledger, E: Ledger, R: L
             primaries,
             fallbacks,
         } = passes;
-        let counter = Counter::new(book, share);
+        let counter = ReplyCounter::new(book, share);
         GateNode {
             rt,
             shared,
@@ -357,9 +357,9 @@ impl<'a, W: Wait, T: Turnstile, G: Ledger, P: Ledger, D: Ledger, E: Ledger, R: L
 
 impl<'a, W: Wait, T: Turnstile, G: Ledger, P: Ledger, D: Ledger, E: Ledger, R: Ledger> Node
     for GateNode<'a, W, T, G, P, D, E, R> {
-    ghost use Rattle.gate_node.specs.GateStep.{GateStep};
+    ghost use Rattle.gate_node.specs.GateStep.{GateNodeStep};
 
-    ghost step = { GateStep };
+    ghost step = { GateNodeStep };
 
     fn answer(&mut self, alloc: Global, request: Request) -> Reply {
         match request {

@@ -4,19 +4,19 @@ ghost use Rattle.gate_node.specs.Asked.{answer_quantity, get_quantity, outcome_q
 
 use node_session::answer_reply;
 use riak_msgs::{Reply, Text};
-use rw_gate::Outcome;
+use rw_gate::AskOutcome;
 use stats_book::Quantity;
 use vnode_core::{Answer, Refusal};
 
 /// The reply for what came of an ask: its answer, or an error.
-pub(crate) fn outcome_reply(outcome: Outcome<Answer, Refusal>) -> Reply
+pub(crate) fn outcome_reply(outcome: AskOutcome<Answer, Refusal>) -> Reply
     ensures { result ≡ outcome_reply outcome }
 {
     match outcome {
-        Outcome::Made(answer) | Outcome::Told(answer) => answer_reply(answer),
-        Outcome::Refused(refusal) => Reply::Error(Text::from(refusal)),
-        Outcome::Moved => Reply::Error(Text::Moved),
-        Outcome::Full => Reply::Error(Text::HistoryFull),
+        AskOutcome::Made(answer) | AskOutcome::Told(answer) => answer_reply(answer),
+        AskOutcome::Refused(refusal) => Reply::Error(Text::from(refusal)),
+        AskOutcome::Moved => Reply::Error(Text::Moved),
+        AskOutcome::Full => Reply::Error(Text::HistoryFull),
     }
 }
 
@@ -53,12 +53,12 @@ fn told_quantity(answer: &Answer) -> Option<Quantity>
 }
 
 /// What is counted of what came of an ask. A delete that changes nothing isn't, but the error that its vnode is closed is.
-pub(crate) fn outcome_quantity(outcome: &Outcome<Answer, Refusal>) -> Option<Quantity>
+pub(crate) fn outcome_quantity(outcome: &AskOutcome<Answer, Refusal>) -> Option<Quantity>
     ensures { result ≡ outcome_quantity outcome.now }
 {
     match outcome {
-        Outcome::Made(answer) => Some(answer_quantity(answer)),
-        Outcome::Told(answer) => told_quantity(answer),
-        Outcome::Refused(_) | Outcome::Moved | Outcome::Full => Some(Quantity::Refusals),
+        AskOutcome::Made(answer) => Some(answer_quantity(answer)),
+        AskOutcome::Told(answer) => told_quantity(answer),
+        AskOutcome::Refused(_) | AskOutcome::Moved | AskOutcome::Full => Some(Quantity::Refusals),
     }
 }

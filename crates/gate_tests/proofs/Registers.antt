@@ -2,12 +2,12 @@
 use Rattle.std.proofs.Common.{◌≡◌, ◌≢◌, ℕ, List, ◌∷◌, length, ap}
 use Rattle.sibling_register.specs.declared.command.Command.{Command}
 use Rattle.sibling_register.specs.History.{Event}
-use Rattle.sibling_register.specs.Answers.{Told, Outcome, Answers, Accepts}
+use Rattle.sibling_register.specs.Answers.{Told, RegisterOutcome, Answers, Accepts}
 use Rattle.sibling_register.specs.Plain.{Follows, Gives}
 
 module _ {V : Type 0} where
   -- where the number of events changed, it is one more
-  pub followed_longer : (old new : List (Event V ℕ)) (outcome : Outcome V ℕ) (told : Told ℕ) → Follows old outcome told new → length new ≢ length old → (event : Event V ℕ) × (new ≡ event ∷ old)
+  pub followed_longer : (old new : List (Event V ℕ)) (outcome : RegisterOutcome V ℕ) (told : Told ℕ) → Follows old outcome told new → length new ≢ length old → (event : Event V ℕ) × (new ≡ event ∷ old)
   followed_longer old new (Answers given) told follows apart = absurd (apart (ap length follows.1))
   followed_longer old new (Accepts event given) told follows apart = (event, follows.1)
 

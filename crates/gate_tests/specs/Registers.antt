@@ -17,7 +17,7 @@ module _ {V : Type 0} where
   applied false history = history
 
 -- the command is answered like this at the first history, and makes the one event by which the second is longer
-pub record Makes {V : Type 0} (asked : Option (Command V)) (told : Told ℕ) (old new : List (Event V ℕ)) : Type 0 where
+pub record RegisterMakes {V : Type 0} (asked : Option (Command V)) (told : Told ℕ) (old new : List (Event V ℕ)) : Type 0 where
   pub command : Command V
   pub same : asked ≡ Some command
   pub gives : Gives old command told new

@@ -2,7 +2,7 @@
 ghost use Rattle.std.specs.Prelude.{◌≡◌};
 
 use ghost_state::{GhostList, GhostValue, Listing};
-use rw_gate::counter::{Counter, Raise};
+use rw_gate::counter::{GatedCounter, Raise};
 use rw_gate::{Gate, Pass};
 use std::alloc::Global;
 use std::mem::{size_of, size_of_val};
@@ -19,20 +19,20 @@ struct Carrier {
 /// The events that a pass has seen, for clauses alone.
 struct History;
 
-impl Listing<Pass<Counter>, Raise> for History {
+impl Listing<Pass<GatedCounter>, Raise> for History {
     ghost list = { λ pass. pass.prefix };
 }
 
 /// The events that a pass has seen, as a list that an event of another history may carry.
-fn history_of(pass: &Pass<Counter>) -> GhostList<Raise>
+fn history_of(pass: &Pass<GatedCounter>) -> GhostList<Raise>
     ensures { result ≡ pass.now.prefix }
 {
-    GhostList::listed::<Pass<Counter>, History>(pass)
+    GhostList::listed::<Pass<GatedCounter>, History>(pass)
 }
 
 /// Whether what a pass has seen, which may stand in a struct of another gate, has no bytes.
 fn history_has_no_bytes(alloc: Global) -> bool {
-    match Gate::new(alloc, Counter { value: 0 }) {
+    match Gate::new(alloc, GatedCounter { value: 0 }) {
         Ok(gate) => size_of_val(&history_of(&gate.pass())) == 0,
         Err(_) => false,
     }

@@ -9,7 +9,7 @@ use Rattle.rw_gate.proofs.Prefixes.{prefix_trans}
 use Rattle.vnode_core.specs.declared.ask.Ask.TheVariants as asks
 use Rattle.vnode_core.specs.declared.entry.Entry.{Entry}
 use Rattle.vnode_core.specs.declared.entry.Entry.TheVariants as entries
-use Rattle.vnode_core.specs.declared.event.Event.TheVariants as events
+use Rattle.vnode_core.specs.declared.event.VnodeEvent.TheVariants as events
 use Rattle.vnode_core.specs.Events.{EntryAsks}
 use Rattle.vnode_core.specs.KeyCopies.{KeyCopyView}
 use Rattle.vnode_core.specs.Plans.{View}

@@ -9,7 +9,7 @@ use Rattle.std.proofs.lemmas.Bool.Decides.{nat_tests}
 use Rattle.riak_msgs.specs.declared.Key.{Key}
 use Rattle.riak_msgs.specs.Contents.{Content}
 use Rattle.riak_msgs.specs.KeyOrder.{key_cmp}
-use Rattle.sibling_register.specs.Answers.{Ask, AskGet, AskPut, AskDel, AskReap}
+use Rattle.sibling_register.specs.Answers.{RegisterAsk, AskGet, AskPut, AskDel, AskReap}
 use Rattle.sibling_register.specs.History.{Operation, Write, Tombstone, Reap, count_of}
 use Rattle.actor_epoch.specs.declared.Actor.{Actor}
 use Rattle.actor_epoch.specs.Dots.{counter_in}
@@ -18,7 +18,7 @@ use Rattle.clock_store.specs.Keys.{Keys}
 use Rattle.vnode_machine.specs.Machine.{State, Stored, stored, clock_of, own_of, is_held, holds_dead, put_check, del_check, apply_operation}
 use Rattle.vnode_machine.specs.Registers.{key_of, context_in_ask}
 use Rattle.vnode_machine.specs.Replay.{replay}
-use Rattle.vnode_machine.specs.Step.{Response, DelDone, ReapDone, ReapKept, StepOutcome, Answered, Accepted, outcome, unless_refused}
+use Rattle.vnode_machine.specs.Step.{Response, DelDone, ReapDone, ReapKept, MachineOutcome, Answered, Accepted, outcome, unless_refused}
 use Rattle.vnode_machine.proofs.Keys.{eq_by_key_cmp, key_eq-same}
 use Rattle.copy_laws.specs.Copies.{count_brought}
 use Rattle.copy_laws.specs.CopyReplay.{apply_entry, primary_after}
@@ -40,7 +40,7 @@ use Rattle.handoff.proofs.Meeting.{prefix-replays}
 
 -- what an accepted command changes
 module _ (state : State Content) where
-  command-applies : (command : Ask Content Context) (operation : Operation Content) (response : Response) (next : State Content)
+  command-applies : (command : RegisterAsk Content Context) (operation : Operation Content) (response : Response) (next : State Content)
       → outcome state command ≡ Accepted operation response next → next ≡ apply_operation state (key_of command) (context_in_ask command) operation
   command-applies (AskGet get) operation response next h = cc
   command-applies (AskPut put) operation response next h = by (put_check state put) _ _ refl h
@@ -54,7 +54,7 @@ module _ (state : State Content) where
   command-applies (AskDel del) operation response next h = by (is_none del.context && not (is_held state del.key)) (del_check state del) _ refl h
     where
       by : (idle : Bool) (o : Option ℕ) (made : State Content) → made ≡ apply_operation state del.key del.context Tombstone
-          → (let r : StepOutcome = if idle then Answered DelDone else unless_refused o (Accepted Tombstone DelDone made) in r) ≡ Accepted operation response next
+          → (let r : MachineOutcome = if idle then Answered DelDone else unless_refused o (Accepted Tombstone DelDone made) in r) ≡ Accepted operation response next
           → next ≡ apply_operation state del.key del.context operation
       by true o made is h = cc
       by false None made is h =
@@ -64,7 +64,7 @@ module _ (state : State Content) where
   command-applies (AskReap key) operation response next h = by (holds_dead state key) _ refl h
     where
       by : (dead : Bool) (made : State Content) → made ≡ apply_operation state key None Reap
-          → (let r : StepOutcome = if dead then Accepted Reap ReapDone made else Answered ReapKept in r) ≡ Accepted operation response next
+          → (let r : MachineOutcome = if dead then Accepted Reap ReapDone made else Answered ReapKept in r) ≡ Accepted operation response next
           → next ≡ apply_operation state key None operation
       by true made is h =
           let same : made ≡ next = cc in let deed : Reap ≡ operation = cc in

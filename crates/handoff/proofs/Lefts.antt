@@ -14,7 +14,7 @@ use Rattle.clock_store.specs.Behind.{entries_behind, next_entry}
 use Rattle.clock_store.proofs.NextEntry.{no_head, goes_on}
 use Rattle.clock_store.specs.Keys.{Keys, stored_of}
 use Rattle.vnode_machine.specs.Machine.{State, Stored}
-use Rattle.vnode_machine.specs.Sound.{IsClock, IsSound}
+use Rattle.vnode_machine.specs.Sound.{IsStoredClock, IsSound}
 use Rattle.vnode_machine.proofs.Keys.{key_cmp_total}
 use Rattle.vnode_machine.proofs.Seen.{less}
 use Rattle.vnode_machine.proofs.Tests.{and_left, and_right}
@@ -91,7 +91,7 @@ go-on primary whole keys rest entry on is here =
 
 -- the next key isn't copied, and nothing before it is left
 pub next-left : (primary fallback : State Content) → IsSound fallback → (after at : Option Key) (parts key : Key) (there : Stored Content) → GoesOnInRest primary (keys_behind after fallback) (keys_behind at fallback)
-    → next_entry key_cmp at fallback.keys ≡ Some (parts, there) → key ≡ parts → is_copied primary (key, there) ≡ false → IsClock there.clock → IsNextLeft primary fallback after key there
+    → next_entry key_cmp at fallback.keys ≡ Some (parts, there) → key ≡ parts → is_copied primary (key, there) ≡ false → IsStoredClock there.clock → IsNextLeft primary fallback after key there
 next-left primary fallback sound after at parts key there on next same left clock =
     let first : next_entry key_cmp at fallback.keys ≡ Some (key, there) = next ∙ ap (λ k. Some (k, there)) (sym same) in
     let is = behind-next fallback sound at (key, there) first in

@@ -12,7 +12,7 @@ use Rattle.copy_laws.specs.Joining.{Log, Fallbacks, IsTrueCopy}
 use Rattle.copy_laws.specs.Sides.{Partition}
 use Rattle.rw_gate.specs.Views.{GateId}
 use Rattle.vnode_core.specs.declared.entry.Entry.{Entry}
-use Rattle.vnode_core.specs.declared.event.Event.{Event}
+use Rattle.vnode_core.specs.declared.event.VnodeEvent.{VnodeEvent}
 use Rattle.vnode_core.specs.Events.{IsMadeNew, GoesOnTo, all_commands, commands_of, history_after, register_event}
 use Rattle.vnode_core.specs.Plans.{View}
 use Rattle.vnode_core.proofs.Entries.{all_commands-commands_of, commands_before, commands_of-append}
@@ -23,11 +23,11 @@ use Rattle.handoff.specs.Sights.{Sight, LeadsVnodeTo}
 
 module _ (v l : ℕ) where
   -- a history grows by the events behind it
-  history-append : (before : History) (xs ys : List Event) → history_after v l before (xs ++ ys) ≡ history_after v l (history_after v l before xs) ys
+  history-append : (before : History) (xs ys : List VnodeEvent) → history_after v l before (xs ++ ys) ≡ history_after v l (history_after v l before xs) ys
   history-append before [] ys = refl
   history-append before (x ∷ xs) ys = history-append (register_event v l before x ∷ before) xs ys
 
-  history-grows : (before : History) (events : List Event) → (later : History) × (later ++ before ≡ history_after v l before events)
+  history-grows : (before : History) (events : List VnodeEvent) → (later : History) × (later ++ before ≡ history_after v l before events)
   history-grows before [] = ([], refl)
   history-grows before (event ∷ events) =
       let rest = history-grows (register_event v l before event ∷ before) events in

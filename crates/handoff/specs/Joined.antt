@@ -12,7 +12,7 @@ use Rattle.copy_laws.specs.Joining.{Log, Fallbacks, IsDiversion, IsHandOff, IsJo
 use Rattle.copy_laws.specs.Sides.{Partition}
 use Rattle.vnode_core.specs.declared.entry.Entry.{Entry}
 use Rattle.vnode_core.specs.declared.entry.Entry.TheVariants.{Command, Copied, Closed}
-use Rattle.vnode_core.specs.declared.event.Event.{Event}
+use Rattle.vnode_core.specs.declared.event.VnodeEvent.{VnodeEvent}
 use Rattle.vnode_core.specs.Events.{IsMadeNew, all_commands, event_command, event_deed, history_after}
 use Rattle.handoff.specs.Meeting.{copy_of}
 use Rattle.handoff.specs.Returning.{EndsDiversion}
@@ -48,7 +48,7 @@ pub record IsOfLastFallback (partition : Partition) (fallbacks : Fallbacks) (the
   pub diverted : 1 ≤ partition.diversions
   pub limits : IsWithinLimits partition.fallback (partition.opened partition.diversions)
   pub made_new : IsMadeNew partition.fallback (partition.opened partition.diversions) theirs.gate
-  pub events : List Event
+  pub events : List VnodeEvent
   pub number : ℕ
   pub closes : theirs.prefix ≡ all_commands events ++ Closed number ∷ []
   pub whole : history_after partition.fallback (partition.opened partition.diversions) [] events ≡ fallbacks partition.diversions

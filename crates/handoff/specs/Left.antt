@@ -8,7 +8,7 @@ use Rattle.actor_epoch.specs.Dots.{counter_in}
 use Rattle.clock_store.specs.Behind.{entries_behind}
 use Rattle.clock_store.specs.Keys.{Keys, stored_of}
 use Rattle.vnode_machine.specs.Machine.{State, Stored, stored}
-use Rattle.vnode_machine.specs.Sound.{IsClock}
+use Rattle.vnode_machine.specs.Sound.{IsStoredClock}
 use Rattle.handoff.specs.declared.left.Found.{Found}
 use Rattle.handoff.specs.declared.left.Found.TheVariants.{End, Passed, Next}
 
@@ -54,7 +54,7 @@ keys_behind after state = entries_behind key_cmp after state.keys
 -- a fallback holds a key so, by a clock of the form that a vnode's clocks have
 pub record IsHeld (fallback : State Content) (key : Key) (there : Stored Content) : Type 0 where
   pub held : stored fallback key ≡ Some there
-  pub clock : IsClock there.clock
+  pub clock : IsStoredClock there.clock
 
 -- behind a key the first that isn't copied is this one, and a fallback holds it so
 pub record IsNextLeft (primary fallback : State Content) (after : Option Key) (key : Key) (there : Stored Content) : Type 0 where

@@ -18,10 +18,10 @@ use crate::left::{Found, Left, is_copied, next_left};
 use clock_store::KeyRef;
 use ghost_state::{GhostList, Listing};
 use riak_msgs::Key;
-use rw_gate::{Gate, Outcome, Pass, ReadRight, WriteRight, ask_shown};
+use rw_gate::{Gate, AskOutcome, Pass, ReadRight, WriteRight, ask_shown};
 use std::alloc::Global;
 use std::sync::Wait;
-use vnode_core::{Ask, Event, KeyCopy, Vnode};
+use vnode_core::{Ask, VnodeEvent, KeyCopy, Vnode};
 
 /// How many keys are looked at under the same rights, but for one: so long puts at the fallback wait for a look that finds all copied.
 const STRETCH: u32 = 15;
@@ -51,14 +51,14 @@ pub(crate) struct Diverted<'a> {
 /// The commands of what a pass has seen.
 struct Commands;
 
-impl Listing<Pass<Vnode>, Event> for Commands {
+impl Listing<Pass<Vnode>, VnodeEvent> for Commands {
     ghost use Rattle.vnode_core.specs.Events.{commands_of};
 
     ghost list = { λ pass. commands_of pass.prefix };
 }
 
 /// The commands of what a pass has seen, for clauses alone.
-fn commands_seen(pass: &Pass<Vnode>) -> GhostList<Event>
+fn commands_seen(pass: &Pass<Vnode>) -> GhostList<VnodeEvent>
     ensures { result ≡ commands_of pass.now.prefix }
 {
     GhostList::listed::<Pass<Vnode>, Commands>(pass)
@@ -347,9 +347,9 @@ fn copy_to(
     let parts = KeyRef::of(&left.key);
     let copy = KeyCopy::of(alloc, parts, left.stored, diversion, commands_seen(theirs))?;
     match ask_shown(writer, alloc, mine, Ask::Copy(copy)) {
-        Outcome::Made(_) => Ok(Step::Made(left.key)),
-        Outcome::Told(_) => Ok(Step::Stuck(left.key)),
-        Outcome::Refused(_) => Err(Stop::NoMemory),
-        Outcome::Moved | Outcome::Full => Err(Stop::GateStopped),
+        AskOutcome::Made(_) => Ok(Step::Made(left.key)),
+        AskOutcome::Told(_) => Ok(Step::Stuck(left.key)),
+        AskOutcome::Refused(_) => Err(Stop::NoMemory),
+        AskOutcome::Moved | AskOutcome::Full => Err(Stop::GateStopped),
     }
 }

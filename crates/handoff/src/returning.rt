@@ -10,7 +10,7 @@ ghost use Rattle.handoff.specs.Steps.{IsStopOf};
 use crate::copying::Diverted;
 use crate::fault::{HandoffFault, Returned, Stop};
 use crate::left::first_left;
-use rw_gate::{Gate, Outcome, Pass, ReadRight, WriteRight, ask_shown};
+use rw_gate::{Gate, AskOutcome, Pass, ReadRight, WriteRight, ask_shown};
 use std::alloc::Global;
 use std::sync::Wait;
 use vnode_core::{Ask, Vnode};
@@ -125,9 +125,9 @@ fn close(
     ensures stop { IfErr result (IsStopOf theirs.new.gate) }
 {
     match ask_shown(writer, alloc, theirs, Ask::Close(number)) {
-        Outcome::Made(_) => Ok(()),
-        Outcome::Told(_) => Err(Stop::NotDiverted),
-        Outcome::Refused(_) => Err(Stop::NoMemory),
-        Outcome::Moved | Outcome::Full => Err(Stop::GateStopped),
+        AskOutcome::Made(_) => Ok(()),
+        AskOutcome::Told(_) => Err(Stop::NotDiverted),
+        AskOutcome::Refused(_) => Err(Stop::NoMemory),
+        AskOutcome::Moved | AskOutcome::Full => Err(Stop::GateStopped),
     }
 }

@@ -4,7 +4,7 @@ use Rattle.std.proofs.lemmas.List.Sorted.{IsPermutation-refl, IsPermutation-tran
 use Rattle.std.specs.List.Sorted.{IsPermutation}
 use Rattle.std.specs.Prelude.{Option, Some, None, slice_get, slice_set}
 use Rattle.job_pool.specs.Lists.{Every, Pairwise}
-use Rattle.job_pool.specs.Turns.{Turn, Chain, jobs_of, ends_of}
+use Rattle.job_pool.specs.Turns.{ServedTurn, TurnChain, jobs_of, ends_of}
 use Rattle.job_pool.specs.declared.queue.NumberedJob.{NumberedJob}
 use Rattle.job_pool.specs.declared.worker.NumberedEnd.{NumberedEnd}
 use Rattle.job_pool.specs.Queue.{IsNumbered}
@@ -32,21 +32,21 @@ filled_none W (job ∷ jobs) (None ∷ places) h fit = filled_none W jobs places
 filled_none W (job ∷ jobs) (Some end ∷ places) h fit = absurd (none_some end (sym h.0))
 
 module _ {W J E : Type 0} where
-  taken_more : (taken more : List (NumberedJob J)) (turn : Turn W J E) (done : NumberedEnd E) → IsTurnOfTaken taken turn done → IsTurnOfTaken (taken ++ more) turn done
+  taken_more : (taken more : List (NumberedJob J)) (turn : ServedTurn W J E) (done : NumberedEnd E) → IsTurnOfTaken taken turn done → IsTurnOfTaken (taken ++ more) turn done
   taken_more taken more turn done d = record { place = d.place; next = d.next; at = get_more taken more d.place d.next d.at; number = d.number; job = d.job; end = d.end }
 
   -- what was taken was given
-  given_of_taken : (jobs : List J) (taken : List (NumberedJob J)) → Every (IsNumbered jobs) taken → (turn : Turn W J E) (done : NumberedEnd E) → IsTurnOfTaken taken turn done → IsTurnOfGiven jobs turn done
+  given_of_taken : (jobs : List J) (taken : List (NumberedJob J)) → Every (IsNumbered jobs) taken → (turn : ServedTurn W J E) (done : NumberedEnd E) → IsTurnOfTaken taken turn done → IsTurnOfGiven jobs turn done
   given_of_taken jobs taken all turn done d =
       let at : slice_get jobs d.next.number ≡ Some d.next.job = all_at (IsNumbered jobs) taken d.place d.next all d.at in
       record { at = subst (λ (k : ℕ). slice_get jobs k ≡ Some turn.job) (sym d.number) (at ∙ ap (λ j. Some j) (sym d.job)); end = d.end }
 
-  pub all_given : (jobs : List J) (taken : List (NumberedJob J)) → Every (IsNumbered jobs) taken → (turns : List (Turn W J E)) (dones : List (NumberedEnd E)) → Pairwise (IsTurnOfTaken taken) turns dones → Pairwise (IsTurnOfGiven jobs) turns dones
+  pub all_given : (jobs : List J) (taken : List (NumberedJob J)) → Every (IsNumbered jobs) taken → (turns : List (ServedTurn W J E)) (dones : List (NumberedEnd E)) → Pairwise (IsTurnOfTaken taken) turns dones → Pairwise (IsTurnOfGiven jobs) turns dones
   all_given jobs taken all turns dones each = pairs_more (given_of_taken jobs taken all) turns dones each
 
   module _ (Serves : W → J → W → E → Type 0) where
-    chain_more : (first : W) (turns : List (Turn W J E)) (mid : W) (job : J) (last : W) (end : E) → Chain Serves first turns mid → Serves mid job last end
-        → Chain Serves first (turns ++ record { before = mid; job = job; after = last; end = end } ∷ []) last
+    chain_more : (first : W) (turns : List (ServedTurn W J E)) (mid : W) (job : J) (last : W) (end : E) → TurnChain Serves first turns mid → Serves mid job last end
+        → TurnChain Serves first (turns ++ record { before = mid; job = job; after = last; end = end } ∷ []) last
     chain_more first [] mid job last end is serves = (is, serves, refl)
     chain_more first (turn ∷ turns) mid job last end h serves = (h.0, h.1, chain_more turn.after turns mid job last end h.2 serves)
 
@@ -60,7 +60,7 @@ module _ {W J E : Type 0} where
     pub one_served : (taken : List (NumberedJob J)) (ends : List (NumberedEnd E)) (first mid last : W) (next : NumberedJob J) (done : NumberedEnd E)
         → done.number ≡ next.number → HasServed Serves taken ends first mid → Serves mid next.job last done.end → HasServed Serves (taken ++ next ∷ []) (ends ++ done ∷ []) first last
     one_served taken ends first mid last next done number h serves =
-        let turn : Turn W J E = record { before = mid; job = next.job; after = last; end = done.end } in
+        let turn : ServedTurn W J E = record { before = mid; job = next.job; after = last; end = done.end } in
         let long = length-append taken (next ∷ []) in let longer = length-append h.turns (turn ∷ []) in let count = h.count in
         record {
           turns = h.turns ++ turn ∷ [];
@@ -75,15 +75,15 @@ module _ {W J E : Type 0} where
   collected_none jobs places none fit = record { turns = []; filled = filled_none W jobs places none fit; once = inl (IsPermutation-refl []) }
 
   -- an end is laid into its place, which was empty or not
-  abbrev Laid : List J → List (Turn W J E) → List (Option E) → ℕ → Turn W J E → Type 0
-  Laid jobs turns places n turn = (now : List (Turn W J E)) × AreFilled jobs (slice_set places n (Some turn.end)) now × (IsPermutation (turn ∷ turns) now ⊎ (length now ≤ length turns))
+  abbrev Laid : List J → List (ServedTurn W J E) → List (Option E) → ℕ → ServedTurn W J E → Type 0
+  Laid jobs turns places n turn = (now : List (ServedTurn W J E)) × AreFilled jobs (slice_set places n (Some turn.end)) now × (IsPermutation (turn ∷ turns) now ⊎ (length now ≤ length turns))
 
-  behind : (turn other : Turn W J E) (turns now : List (Turn W J E)) → IsPermutation (turn ∷ turns) now ⊎ (length now ≤ length turns) → IsPermutation (turn ∷ other ∷ turns) (other ∷ now) ⊎ (length (other ∷ now) ≤ length (other ∷ turns))
+  behind : (turn other : ServedTurn W J E) (turns now : List (ServedTurn W J E)) → IsPermutation (turn ∷ turns) now ⊎ (length now ≤ length turns) → IsPermutation (turn ∷ other ∷ turns) (other ∷ now) ⊎ (length (other ∷ now) ≤ length (other ∷ turns))
   behind turn other turns now (inl h) =
       inl (IsPermutation-trans (turn ∷ other ∷ turns) (other ∷ turn ∷ turns) (other ∷ now) (IsPermutation-sym (other ∷ turn ∷ turns) (turn ∷ other ∷ turns) (IsPermutation-middle (other ∷ []) turn turns)) (IsPermutation-cons other (turn ∷ turns) now h))
   behind turn other turns now (inr h) = inr (omega (arith, h))
 
-  laid : (jobs : List J) (places : List (Option E)) (turns : List (Turn W J E)) (n : ℕ) (turn : Turn W J E) → slice_get jobs n ≡ Some turn.job → AreFilled jobs places turns → Laid jobs turns places n turn
+  laid : (jobs : List J) (places : List (Option E)) (turns : List (ServedTurn W J E)) (n : ℕ) (turn : ServedTurn W J E) → slice_get jobs n ≡ Some turn.job → AreFilled jobs places turns → Laid jobs turns places n turn
   laid jobs [] [] zero turn at h = ([], tt, inr (omega arith))
   laid jobs [] [] (suc n) turn at h = ([], tt, inr (omega arith))
   laid jobs [] (other ∷ turns) n turn at h = absurd h
@@ -95,30 +95,30 @@ module _ {W J E : Type 0} where
   laid (job ∷ jobs) (Some end ∷ places) (other ∷ turns) (suc n) turn at h =
       let rest = laid jobs places turns n turn at h.2 in (other ∷ rest.0, (h.0, h.1, rest.1), behind turn other turns rest.0 rest.2)
 
-  counted : (done turns now : List (Turn W J E)) (turn : Turn W J E) → IsPermutation done turns ⊎ (length turns < length done) → IsPermutation (turn ∷ turns) now ⊎ (length now ≤ length turns)
+  counted : (done turns now : List (ServedTurn W J E)) (turn : ServedTurn W J E) → IsPermutation done turns ⊎ (length turns < length done) → IsPermutation (turn ∷ turns) now ⊎ (length now ≤ length turns)
       → IsPermutation (done ++ turn ∷ []) now ⊎ (length now < length (done ++ turn ∷ []))
   counted done turns now turn (inl h) (inl k) = inl (IsPermutation-push_more done turns now turn h k)
   counted done turns now turn (inl h) (inr k) = let same = length_permutation done turns h in let long = length-append done (turn ∷ []) in inr (omega (arith, same, long, k))
   counted done turns now turn (inr h) (inl k) = let same = length_permutation (turn ∷ turns) now k in let long = length-append done (turn ∷ []) in inr (omega (arith, same, long, h))
   counted done turns now turn (inr h) (inr k) = let long = length-append done (turn ∷ []) in inr (omega (arith, long, h, k))
 
-  one_placed : (jobs : List J) (done : List (Turn W J E)) (places : List (Option E)) (turn : Turn W J E) (one : NumberedEnd E) → IsTurnOfGiven jobs turn one → AreCollected jobs done places
+  one_placed : (jobs : List J) (done : List (ServedTurn W J E)) (places : List (Option E)) (turn : ServedTurn W J E) (one : NumberedEnd E) → IsTurnOfGiven jobs turn one → AreCollected jobs done places
       → AreCollected jobs (done ++ turn ∷ []) (slice_set places one.number (Some one.end))
   one_placed jobs done places turn one is h =
       let now = laid jobs places h.turns one.number turn is.at h.filled in
       subst (λ (end : E). AreCollected jobs (done ++ turn ∷ []) (slice_set places one.number (Some end))) is.end
       (record { turns = now.0; filled = now.1; once = counted done h.turns now.0 turn h.once now.2 })
 
-  snoc_more : (done : List (Turn W J E)) (turn : Turn W J E) (turns : List (Turn W J E)) → (done ++ turn ∷ []) ++ turns ≡ done ++ turn ∷ turns
+  snoc_more : (done : List (ServedTurn W J E)) (turn : ServedTurn W J E) (turns : List (ServedTurn W J E)) → (done ++ turn ∷ []) ++ turns ≡ done ++ turn ∷ turns
   snoc_more [] turn turns = refl
   snoc_more (other ∷ done) turn turns = ap (λ l. other ∷ l) (snoc_more done turn turns)
 
-  and_none : (done : List (Turn W J E)) → done ++ [] ≡ done
+  and_none : (done : List (ServedTurn W J E)) → done ++ [] ≡ done
   and_none [] = refl
   and_none (turn ∷ done) = ap (λ l. turn ∷ l) (and_none done)
 
-  pub all_placed : (jobs : List J) (turns : List (Turn W J E)) (ends : List (NumberedEnd E)) (places : List (Option E)) → Pairwise (IsTurnOfGiven jobs) turns ends
-      → (done : List (Turn W J E)) → AreCollected jobs done places → AreCollected jobs (done ++ turns) (placed places ends)
+  pub all_placed : (jobs : List J) (turns : List (ServedTurn W J E)) (ends : List (NumberedEnd E)) (places : List (Option E)) → Pairwise (IsTurnOfGiven jobs) turns ends
+      → (done : List (ServedTurn W J E)) → AreCollected jobs done places → AreCollected jobs (done ++ turns) (placed places ends)
   all_placed jobs [] [] places each done h = subst (λ l. AreCollected jobs l places) (sym (and_none done)) h
   all_placed jobs [] (one ∷ ends) places each done h = absurd each
   all_placed jobs (turn ∷ turns) [] places each done h = absurd each
@@ -127,7 +127,7 @@ module _ {W J E : Type 0} where
       (all_placed jobs turns ends (slice_set places one.number (Some one.end)) each.1 (done ++ turn ∷ []) (one_placed jobs done places turn one each.0 h))
 
   -- where each place has an end, each job was served
-  pub filled_jobs : (jobs : List J) (ends : List E) (turns : List (Turn W J E)) → length ends ≡ length jobs → AreFilled jobs (map (λ end. Some end) ends) turns → jobs_of turns ≡ jobs
+  pub filled_jobs : (jobs : List J) (ends : List E) (turns : List (ServedTurn W J E)) → length ends ≡ length jobs → AreFilled jobs (map (λ end. Some end) ends) turns → jobs_of turns ≡ jobs
   filled_jobs [] [] [] many h = refl
   filled_jobs [] [] (turn ∷ turns) many h = absurd h
   filled_jobs [] (end ∷ ends) turns many h = absurd h
@@ -135,7 +135,7 @@ module _ {W J E : Type 0} where
   filled_jobs (job ∷ jobs) (end ∷ ends) [] many h = absurd h
   filled_jobs (job ∷ jobs) (end ∷ ends) (turn ∷ turns) many h = let rest = filled_jobs jobs ends turns (omega (arith, many)) h.2 in λ i. h.0 i ∷ rest i
 
-  pub filled_ends : (jobs : List J) (ends : List E) (turns : List (Turn W J E)) → AreFilled jobs (map (λ end. Some end) ends) turns → ends_of turns ≡ ends
+  pub filled_ends : (jobs : List J) (ends : List E) (turns : List (ServedTurn W J E)) → AreFilled jobs (map (λ end. Some end) ends) turns → ends_of turns ≡ ends
   filled_ends jobs [] [] h = refl
   filled_ends jobs [] (turn ∷ turns) h = absurd h
   filled_ends [] (end ∷ ends) turns h = absurd h

@@ -3,9 +3,9 @@ use Rattle.std.proofs.Common.{◌≡◌, ◌∙◌, ◌<◌, ◌≤◌, List, []
 use Rattle.std.proofs.lemmas.List.{length-map, append-nil as and_none}
 use Rattle.std.specs.List.Sorted.{IsPermutation}
 use Rattle.std.specs.Prelude.{Option, Some, ◌⊎◌}
-use Rattle.job_pool.specs.Turns.{Turn, Share, IsChain, ServedOnce, firsts_of, lasts_of, turns_of, ends_of}
+use Rattle.job_pool.specs.Turns.{ServedTurn, WorkerTurns, IsChain, ServedOnce, firsts_of, lasts_of, turns_of, ends_of}
 use Rattle.job_pool.specs.declared.queue.NumberedJob.{NumberedJob}
-use Rattle.job_pool.specs.Ends.{AreFilled, AreCollected, IsJoined, AreJoined}
+use Rattle.job_pool.specs.Ends.{AreFilled, AreCollected, IsWorkerJoined, AreJoined}
 use Rattle.job_pool.proofs.Lists.{all_snoc}
 use Rattle.job_pool.proofs.Ends.{filled_jobs, filled_ends}
 
@@ -15,10 +15,10 @@ module _ {A B : Type 0} (f : A → B) where
   map_snoc (y ∷ xs) x rest = ap (λ l. f y ∷ l) (map_snoc xs x rest)
 
 module _ {W J E : Type 0} where
-  turns_snoc : (shares : List (Share W J E)) (share : Share W J E) → turns_of (shares ++ share ∷ []) ≡ turns_of shares ++ share.turns
+  turns_snoc : (shares : List (WorkerTurns W J E)) (share : WorkerTurns W J E) → turns_of (shares ++ share ∷ []) ≡ turns_of shares ++ share.turns
   turns_snoc [] share = and_none share.turns
   turns_snoc (other ∷ shares) share = ap (λ l. other.turns ++ l) (turns_snoc shares share) ∙ sym (apart other.turns (turns_of shares) share.turns) where
-    apart : (xs ys zs : List (Turn W J E)) → (xs ++ ys) ++ zs ≡ xs ++ (ys ++ zs)
+    apart : (xs ys zs : List (ServedTurn W J E)) → (xs ++ ys) ++ zs ≡ xs ++ (ys ++ zs)
     apart [] ys zs = refl
     apart (x ∷ xs) ys zs = ap (λ l. x ∷ l) (apart xs ys zs)
 
@@ -28,9 +28,9 @@ module _ {W J E : Type 0} where
 
     -- one more is joined
     pub one_joined : (taken taken' : List (NumberedJob J)) (firsts rest left lasts now : List W) (first last : W) (old new : List (Option E)) → rest ≡ first ∷ left → now ≡ lasts ++ last ∷ []
-        → IsJoined Serves jobs taken taken' first last old new → AreJoined Serves jobs taken firsts rest lasts old → AreJoined Serves jobs taken' firsts left now new
+        → IsWorkerJoined Serves jobs taken taken' first last old new → AreJoined Serves jobs taken firsts rest lasts old → AreJoined Serves jobs taken' firsts left now new
     one_joined taken taken' firsts rest left lasts now first last old new cut add one h =
-        let share : Share W J E = record { first = first; turns = one.turns; last = last } in
+        let share : WorkerTurns W J E = record { first = first; turns = one.turns; last = last } in
         let shares = h.shares ++ share ∷ [] in
         let more : turns_of shares ≡ turns_of h.shares ++ one.turns = turns_snoc h.shares share in
         let long = length-append (turns_of h.shares) one.turns in
@@ -38,17 +38,17 @@ module _ {W J E : Type 0} where
         let was = h.count in let took = one.count in
         record {
           shares = shares;
-          began = map_snoc (λ (s : Share W J E). s.first) h.shares share left ∙ ap (λ l. firsts_of h.shares ++ l) (sym cut) ∙ h.began;
-          left = sym (and_none (lasts_of shares)) ∙ map_snoc (λ (s : Share W J E). s.last) h.shares share [] ∙ ap (λ l. l ++ last ∷ []) h.left ∙ sym add;
+          began = map_snoc (λ (s : WorkerTurns W J E). s.first) h.shares share left ∙ ap (λ l. firsts_of h.shares ++ l) (sym cut) ∙ h.began;
+          left = sym (and_none (lasts_of shares)) ∙ map_snoc (λ (s : WorkerTurns W J E). s.last) h.shares share [] ∙ ap (λ l. l ++ last ∷ []) h.left ∙ sym add;
           chained = all_snoc (IsChain Serves) h.shares share h.chained one.chained;
           count = omega (arith, all, long, was, took);
           collected = subst (λ l. AreCollected jobs l new) (sym more) (one.places (turns_of h.shares) h.collected);
         }
 
     -- where no two had one place
-    only_once : (done turns : List (Turn W J E)) (ends : List E) → ends_of turns ≡ ends → length done ≤ length ends → IsPermutation done turns ⊎ (length turns < length done) → IsPermutation done turns
+    only_once : (done turns : List (ServedTurn W J E)) (ends : List E) → ends_of turns ≡ ends → length done ≤ length ends → IsPermutation done turns ⊎ (length turns < length done) → IsPermutation done turns
     only_once done turns ends is fits (inl h) = h
-    only_once done turns ends is fits (inr h) = let same : length (ends_of turns) ≡ length ends = ap length is in let as_many = length-map turns (λ (turn : Turn W J E). turn.end) in absurd (omega (arith, same, as_many, fits, h))
+    only_once done turns ends is fits (inr h) = let same : length (ends_of turns) ≡ length ends = ap length is in let as_many = length-map turns (λ (turn : ServedTurn W J E). turn.end) in absurd (omega (arith, same, as_many, fits, h))
 
     -- all were joined, and each place has an end
     pub all_joined : (taken : List (NumberedJob J)) (firsts rest lasts : List W) (places : List (Option E)) (ends : List E) → rest ≡ [] → map (λ end. Some end) ends ≡ places → length places ≡ length jobs → length taken ≤ length jobs

@@ -6,7 +6,7 @@ use Rattle.std.proofs.lemmas.List.Sorted.{All-permutation, sum_by-IsPermutation}
 use Rattle.std.specs.List.{All, sum_by}
 use Rattle.std.specs.List.Sorted.{IsPermutation}
 use Rattle.job_pool.specs.Lists.{Every, Pairwise}
-use Rattle.job_pool.specs.Turns.{Turn, Share, Chain, IsChain, ServedOnce, jobs_of, ends_of, firsts_of, lasts_of, turns_of}
+use Rattle.job_pool.specs.Turns.{ServedTurn, WorkerTurns, TurnChain, IsChain, ServedOnce, jobs_of, ends_of, firsts_of, lasts_of, turns_of}
 use Rattle.job_pool.proofs.Lists.{all_join}
 
 module _ {A : Type 0} (P : A → Type 0) where
@@ -23,14 +23,14 @@ module _ {A : Type 0} (P : A → Type 0) where
   every_permuted xs ys is h = of_each ys (All-permutation P xs ys is (by_index xs h))
 
 module _ {W J E : Type 0} (Serves : W → J → W → E → Type 0) where
-  abbrev pub IsCall : Turn W J E → Type 0
+  abbrev pub IsCall : ServedTurn W J E → Type 0
   IsCall turn = Serves turn.before turn.job turn.after turn.end
 
-  chain_calls : (first : W) (turns : List (Turn W J E)) (last : W) → Chain Serves first turns last → Every IsCall turns
+  chain_calls : (first : W) (turns : List (ServedTurn W J E)) (last : W) → TurnChain Serves first turns last → Every IsCall turns
   chain_calls first [] last h = tt
   chain_calls first (turn ∷ turns) last h = (h.1, chain_calls turn.after turns last h.2)
 
-  share_calls : (shares : List (Share W J E)) → Every (IsChain Serves) shares → Every IsCall (turns_of shares)
+  share_calls : (shares : List (WorkerTurns W J E)) → Every (IsChain Serves) shares → Every IsCall (turns_of shares)
   share_calls [] h = tt
   share_calls (share ∷ shares) h = all_join IsCall share.turns (turns_of shares) (chain_calls share.first share.turns share.last h.0) (share_calls shares h.1)
 
@@ -42,7 +42,7 @@ module _ {W J E : Type 0} (Serves : W → J → W → E → Type 0) where
   abbrev pub MayServe : J → E → Type 0
   MayServe job end = (before : W) × (after : W) × Serves before job after end
 
-  calls_pairs : (turns : List (Turn W J E)) → Every IsCall turns → Pairwise MayServe (jobs_of turns) (ends_of turns)
+  calls_pairs : (turns : List (ServedTurn W J E)) → Every IsCall turns → Pairwise MayServe (jobs_of turns) (ends_of turns)
   calls_pairs [] h = tt
   calls_pairs (turn ∷ turns) h = ((turn.before, turn.after, h.0), calls_pairs turns h.1)
 
@@ -54,41 +54,41 @@ module _ {W J E : Type 0} (Serves : W → J → W → E → Type 0) where
   -- as many workers come back
   pub once_length : (jobs : List J) (firsts : List W) (ends : List E) (lasts : List W) → ServedOnce Serves jobs firsts ends lasts → length lasts ≡ length firsts
   once_length jobs firsts ends lasts h =
-      sym (ap length h.left) ∙ length-map h.shares (λ (share : Share W J E). share.last) ∙ sym (length-map h.shares (λ (share : Share W J E). share.first)) ∙ ap length h.began
+      sym (ap length h.left) ∙ length-map h.shares (λ (share : WorkerTurns W J E). share.last) ∙ sym (length-map h.shares (λ (share : WorkerTurns W J E). share.first)) ∙ ap length h.began
 
   module _ (q : W → ℕ) where
-    abbrev pub sum_before : List (Turn W J E) → ℕ
-    sum_before turns = sum_by (λ (turn : Turn W J E). q turn.before) turns
+    abbrev pub sum_before : List (ServedTurn W J E) → ℕ
+    sum_before turns = sum_by (λ (turn : ServedTurn W J E). q turn.before) turns
 
-    abbrev pub sum_after : List (Turn W J E) → ℕ
-    sum_after turns = sum_by (λ (turn : Turn W J E). q turn.after) turns
+    abbrev pub sum_after : List (ServedTurn W J E) → ℕ
+    sum_after turns = sum_by (λ (turn : ServedTurn W J E). q turn.after) turns
 
-    chain_sums : (first : W) (turns : List (Turn W J E)) (last : W) → Chain Serves first turns last → q last + sum_before turns ≡ q first + sum_after turns
+    chain_sums : (first : W) (turns : List (ServedTurn W J E)) (last : W) → TurnChain Serves first turns last → q last + sum_before turns ≡ q first + sum_after turns
     chain_sums first [] last is = let same : q last ≡ q first = ap q is in omega (arith, same)
     chain_sums first (turn ∷ turns) last h =
         let rest = chain_sums turn.after turns last h.2 in
         let here : q turn.before ≡ q first = ap q h.0 in
-        let before : sum_before (turn ∷ turns) ≡ q turn.before + sum_before turns = sum_by-cons (λ (t : Turn W J E). q t.before) turn turns in
-        let after : sum_after (turn ∷ turns) ≡ q turn.after + sum_after turns = sum_by-cons (λ (t : Turn W J E). q t.after) turn turns in
+        let before : sum_before (turn ∷ turns) ≡ q turn.before + sum_before turns = sum_by-cons (λ (t : ServedTurn W J E). q t.before) turn turns in
+        let after : sum_after (turn ∷ turns) ≡ q turn.after + sum_after turns = sum_by-cons (λ (t : ServedTurn W J E). q t.after) turn turns in
         omega (arith, rest, here, before, after)
 
-    share_sums : (shares : List (Share W J E)) → Every (IsChain Serves) shares → sum_by q (lasts_of shares) + sum_before (turns_of shares) ≡ sum_by q (firsts_of shares) + sum_after (turns_of shares)
+    share_sums : (shares : List (WorkerTurns W J E)) → Every (IsChain Serves) shares → sum_by q (lasts_of shares) + sum_before (turns_of shares) ≡ sum_by q (firsts_of shares) + sum_after (turns_of shares)
     share_sums [] h = refl
     share_sums (share ∷ shares) h =
         let rest = share_sums shares h.1 in
         let one = chain_sums share.first share.turns share.last h.0 in
         let last = sum_by-cons q share.last (lasts_of shares) in
         let first = sum_by-cons q share.first (firsts_of shares) in
-        let before = sum_by-append (λ (t : Turn W J E). q t.before) share.turns (turns_of shares) in
-        let after = sum_by-append (λ (t : Turn W J E). q t.after) share.turns (turns_of shares) in
+        let before = sum_by-append (λ (t : ServedTurn W J E). q t.before) share.turns (turns_of shares) in
+        let after = sum_by-append (λ (t : ServedTurn W J E). q t.after) share.turns (turns_of shares) in
         omega (arith, rest, one, last, first, before, after)
 
     -- what the workers' states gained in all is what the turns gained
     pub once_sums : (jobs : List J) (firsts : List W) (ends : List E) (lasts : List W) (h : ServedOnce Serves jobs firsts ends lasts) → sum_by q lasts + sum_before h.turns ≡ sum_by q firsts + sum_after h.turns
     once_sums jobs firsts ends lasts h =
         let all = share_sums h.shares h.chained in
-        let before = sum_by-IsPermutation (λ (t : Turn W J E). q t.before) (turns_of h.shares) h.turns h.once in
-        let after = sum_by-IsPermutation (λ (t : Turn W J E). q t.after) (turns_of h.shares) h.turns h.once in
+        let before = sum_by-IsPermutation (λ (t : ServedTurn W J E). q t.before) (turns_of h.shares) h.turns h.once in
+        let after = sum_by-IsPermutation (λ (t : ServedTurn W J E). q t.after) (turns_of h.shares) h.turns h.once in
         let left : sum_by q (lasts_of h.shares) ≡ sum_by q lasts = ap (sum_by q) h.left in
         let began : sum_by q (firsts_of h.shares) ≡ sum_by q firsts = ap (sum_by q) h.began in
         omega (arith, all, before, after, left, began)

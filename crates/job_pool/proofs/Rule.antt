@@ -10,7 +10,7 @@ use Rattle.job_pool.specs.declared.queue.NumberedJob.{NumberedJob}
 use Rattle.job_pool.specs.declared.queue.Task.{Task}
 use Rattle.job_pool.specs.declared.queue.Task.TheVariants.{Serve, Stop}
 use Rattle.job_pool.specs.declared.queue.Knowledge.{Knowledge}
-use Rattle.job_pool.specs.Queue.{leader, newcomer, after_push, after_pop, together, IsNumbered, IsAccepted, IsNext, WasGiven, Agrees, AllGiven, AreOfGiven, waiting, taken_by}
+use Rattle.job_pool.specs.Queue.{leader, newcomer, after_push, after_pop, together, IsNumbered, IsAcceptedTask, IsNextTask, WasGiven, Agrees, AllGiven, AreOfGiven, waiting, taken_by}
 use Rattle.job_pool.proofs.Lists.{get_more, get_last, all_more, all_join, all_snoc}
 
 module _ {J : Type 0} where
@@ -62,7 +62,7 @@ module _ {J : Type 0} where
       first zero v e = subst (λ (u : Knowledge J). Agrees 0 [] 0 u) (some-injective leader v e) ((λ _. (refl, refl)), tt)
       first (suc j) v e = absurd (some-ne-none v (sym e))
 
-    pub pushes : (n port : ℕ) (v : Knowledge J) (x : Task J) → v.leads ≡ true → IsNext v.given x → IsAccepted Accepts x → Pushes (AllGiven Accepts) n port v x (λ w. w ≡ after_push v x)
+    pub pushes : (n port : ℕ) (v : Knowledge J) (x : Task J) → v.leads ≡ true → IsNextTask v.given x → IsAcceptedTask Accepts x → Pushes (AllGiven Accepts) n port v x (λ w. w ≡ after_push v x)
     pushes n port v Stop leads come for items views room h at = let mine = h.3 port v at in (
       v,
       (
@@ -92,7 +92,7 @@ module _ {J : Type 0} where
           refl,
         )
 
-    pub pops : (port : ℕ) (v : Knowledge J) → Pops (AllGiven Accepts) port v (λ x w. (w ≡ after_pop v x) × IsAccepted Accepts x)
+    pub pops : (port : ℕ) (v : Knowledge J) → Pops (AllGiven Accepts) port v (λ x w. (w ≡ after_pop v x) × IsAcceptedTask Accepts x)
     pops port v Stop items views h at = let mine = h.3 port v at in (v, (h.0, h.1, h.2.1, each_set (Agrees h.0 h.1) views port v mine (λ j u other e. h.3 j u e), let same = taken_same views port v v at refl in let was = h.4 in omega (arith, same, was)), (refl, tt))
     pops port v (Serve next) items views h at =
         let mine = h.3 port v at in

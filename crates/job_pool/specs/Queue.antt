@@ -37,14 +37,14 @@ module _ {J : Type 0} where
   IsNumbered jobs next = slice_get jobs next.number ≡ Some next.job
 
   -- a service that takes such jobs takes it
-  abbrev pub IsAccepted : (J → Type 0) → Task J → Type 0
-  IsAccepted Accepts (Serve next) = Accepts next.job
-  IsAccepted Accepts Stop = Unit {0}
+  abbrev pub IsAcceptedTask : (J → Type 0) → Task J → Type 0
+  IsAcceptedTask Accepts (Serve next) = Accepts next.job
+  IsAcceptedTask Accepts Stop = Unit {0}
 
   -- after these jobs it may be given
-  abbrev pub IsNext : List J → Task J → Type 0
-  IsNext jobs (Serve next) = next.number ≡ length jobs
-  IsNext jobs Stop = Unit {0}
+  abbrev pub IsNextTask : List J → Task J → Type 0
+  IsNextTask jobs (Serve next) = next.number ≡ length jobs
+  IsNextTask jobs Stop = Unit {0}
 
   -- it was given, as one of these jobs or as a stop mark
   abbrev pub WasGiven : (J → Type 0) → List J → Task J → Type 0

@@ -2,7 +2,7 @@
 ghost use Rattle.std.specs.Prelude.{◌≡◌, ◌≤◌, true, [], length, map, vec_capacity};
 ghost use Rattle.std.specs.Prelude.{Some, None, IfOk, IfErr};
 ghost use Rattle.crossbeam_queue.specs.Passes.{view, IsPassOf};
-ghost use Rattle.job_pool.specs.Ends.{AreCollected, AreJoined, IsJoined, placed};
+ghost use Rattle.job_pool.specs.Ends.{AreCollected, AreJoined, IsWorkerJoined, placed};
 ghost use Rattle.job_pool.specs.Lists.{Every};
 ghost use Rattle.job_pool.specs.Turns.{ServedOnce};
 ghost use Rattle.job_pool.specs.Workers.{IsOn, state_before};
@@ -71,7 +71,7 @@ fn collect<H: Accepts<S::Job>, S: Service, T: Threads>(
     ensures given { (view pass.new).given ≡ (view pass.old).given }
     ensures taken { length (view pass.new).taken ≤ length (view pass.new).given }
     ensures len { length places.new.items ≡ length places.old.items }
-    ensures joined { IsJoined (S.serves child.promise.service.value) (view pass.old).given
+    ensures joined { IsWorkerJoined (S.serves child.promise.service.value) (view pass.old).given
         (view pass.old).taken (view pass.new).taken child.promise.worker.value result
         places.old.items places.new.items }
 {

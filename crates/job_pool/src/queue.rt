@@ -76,9 +76,9 @@ pub struct Pop<H>(PhantomData<H>);
 
 impl<H: Accepts<J>, J> Outcome<Task<J>, Knowledge<J>> for Pop<H> {
     ghost use Rattle.std.specs.Prelude.{◌≡◌};
-    ghost use Rattle.job_pool.specs.Queue.{after_pop, IsAccepted};
+    ghost use Rattle.job_pool.specs.Queue.{after_pop, IsAcceptedTask};
 
-    ghost then = { λ v x w. (w ≡ after_pop v x) × IsAccepted H.accepts x };
+    ghost then = { λ v x w. (w ≡ after_pop v x) × IsAcceptedTask H.accepts x };
 }
 
 impl<H: Accepts<J>, J> Lesson<Task<J>, Knowledge<J>> for Pop<H> {

@@ -2,7 +2,7 @@
 ghost use Rattle.std.specs.Prelude.{◌≡◌, true, length, IfOk, IfErr};
 ghost use Rattle.crossbeam_queue.specs.Passes.{view, IsPassOf};
 ghost use Rattle.job_pool.specs.Giving.{GaveAll, GivesOnly, StoppedAfter};
-ghost use Rattle.job_pool.specs.Queue.{leader, after_push, IsAccepted, IsNext};
+ghost use Rattle.job_pool.specs.Queue.{leader, after_push, IsAcceptedTask, IsNextTask};
 
 use crate::fault::RunFault;
 use crate::jobs::Jobs;
@@ -20,7 +20,7 @@ pub(crate) fn submit<H: Accepts<J>, J, T: Wait>(
 )
     requires queue { IsPassOf queue.now pass.old }
     requires leads { (view pass.old).leads ≡ true }
-    requires next { IsNext (view pass.old).given task × IsAccepted H.accepts task }
+    requires next { IsNextTask (view pass.old).given task × IsAcceptedTask H.accepts task }
     ensures queue { IsPassOf queue.now pass.new }
     ensures pushed { view pass.new ≡ after_push (view pass.old) task }
 {

@@ -5,14 +5,14 @@ use Rattle.std.proofs.lemmas.List.{map-set}
 use Rattle.std.proofs.lemmas.Option.{slice_get-map, slice_get_read}
 use Rattle.riak_msgs.specs.Contents.{Content}
 use Rattle.riak_msgs.specs.declared.Reply.{Reply}
-use Rattle.sibling_register.specs.Answers.{Ask}
+use Rattle.sibling_register.specs.Answers.{RegisterAsk}
 use Rattle.actor_epoch.specs.Given.{Context}
 use Rattle.vnode_machine.specs.Machine.{State}
 use Rattle.vnode_machine.specs.Step.{outcome}
 use Rattle.vnode_core.specs.Plans.{View}
 use Rattle.node_session.specs.PlainNodes.{NodeState, AnswersAndSweeps, AnswersAt, states_of}
 
-module _ (bits budget : ℕ) (vnodes : List View) (ask : Ask Content Context) (reply : Reply) where
+module _ (bits budget : ℕ) (vnodes : List View) (ask : RegisterAsk Content Context) (reply : Reply) where
   -- the node with these vnodes
   abbrev node_of : List View → NodeState
   node_of views = record { index_bits = bits; budget = budget; vnodes = states_of views }

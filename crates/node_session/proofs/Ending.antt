@@ -8,7 +8,7 @@ use Rattle.std.proofs.lemmas.List.Concat.{flat_map-append}
 use Rattle.std.proofs.lemmas.List.Elements.{All-head, All-same, All-take, All-drop}
 use Rattle.pb_frame.specs.declared.fault.FrameFault.{FrameFault}
 use Rattle.pb_frame.specs.Limits.{max_request_len}
-use Rattle.pb_frame.specs.Message.{Message, frame, IsWithin, IsPartial, IsFaulty}
+use Rattle.pb_frame.specs.Message.{CodedMessage, frame, FitsLimit, IsPartial, IsFaulty}
 use Rattle.riak_msgs.specs.declared.fault.MsgFault.{MsgFault}
 use Rattle.riak_msgs.specs.declared.request.Request.{Request}
 use Rattle.riak_msgs.specs.declared.reply.Reply.{Reply}
@@ -35,13 +35,13 @@ use Rattle.node_session.specs.Views.{SessionView, IsRead, message_of, messages_o
 use Rattle.node_session.proofs.Standing.{run_more, came_in, faulty_not, read_count}
 
 module _ {S : Type 0} (Step : S → Request → Reply → S → Type 0) where
-  run_append : (a b c : S) (ms ns : List Message) (rs qs : List Reply) → AnswersInTurn Step a ms rs b → AnswersInTurn Step b ns qs c → AnswersInTurn Step a (ms ++ ns) (rs ++ qs) c
+  run_append : (a b c : S) (ms ns : List CodedMessage) (rs qs : List Reply) → AnswersInTurn Step a ms rs b → AnswersInTurn Step b ns qs c → AnswersInTurn Step a (ms ++ ns) (rs ++ qs) c
   run_append a b c [] ns [] qs p q = subst (λ (x : S). AnswersInTurn Step x ns qs c) p q
   run_append a b c (m ∷ ms) ns (r ∷ rs) qs p q = (p.0, p.1, run_append p.0 b c ms ns rs qs p.2 q)
   run_append a b c [] ns (r ∷ rs) qs p q = absurd p
   run_append a b c (m ∷ ms) ns [] qs p q = absurd p
 
-  run_split : (a c : S) (ms ns : List Message) (rs qs : List Reply) → length ms ≡ length rs → AnswersInTurn Step a (ms ++ ns) (rs ++ qs) c → (b : S) × AnswersInTurn Step a ms rs b × AnswersInTurn Step b ns qs c
+  run_split : (a c : S) (ms ns : List CodedMessage) (rs qs : List Reply) → length ms ≡ length rs → AnswersInTurn Step a (ms ++ ns) (rs ++ qs) c → (b : S) × AnswersInTurn Step a ms rs b × AnswersInTurn Step b ns qs c
   run_split a c [] ns [] qs e p = (a, refl, p)
   run_split a c (m ∷ ms) ns (r ∷ rs) qs e p = let more = run_split p.0 c ms ns rs qs (omega (arith, e)) p.2 in (more.0, (p.0, p.1, more.1), more.2)
   run_split a c [] ns (r ∷ rs) qs e p = absurd (omega (arith, e))
@@ -61,7 +61,7 @@ module _ {S : Type 0} (Step : S → Request → Reply → S → Type 0) where
   others_go_on first now later exchanges p q = record { last = p.last; run = p.run; others = some_more p.last now later p.others q }
 
   -- one message more
-  one_amid : (last now new : S) (m : Message) (reply : Reply) (said : Result Request MsgFault) → Decodes m.code m.body said → AnswersRead Step now said reply new → AnswersSome Step last now
+  one_amid : (last now new : S) (m : CodedMessage) (reply : Reply) (said : Result Request MsgFault) → Decodes m.code m.body said → AnswersRead Step now said reply new → AnswersSome Step last now
       → (last' : S) × Answers (StepAmid Step) last m reply last' × AnswersSome Step last' new
   one_amid last now new m reply (Ok request) says (inl step) others = (new, record { said = Ok request; says = says; answers = inl (record { before = now; others = others; step = step }) }, some_none new)
   one_amid last now new m reply (Ok request) says (inr stays) others = (last, record { said = Ok request; says = says; answers = inr (stays.0, refl) }, subst (AnswersSome Step last) (sym stays.1) others)
@@ -75,7 +75,7 @@ module _ {S : Type 0} (Step : S → Request → Reply → S → Type 0) where
       record {
         last = one.0;
         run = subst (λ (l : List Exchange). AnswersInTurn (StepAmid Step) first (messages_of l) (replies_of l) one.0) (sym is)
-            (subst (λ (l : List Message). AnswersInTurn (StepAmid Step) first l (replies_of (es ++ x ∷ [])) one.0) (sym ms)
+            (subst (λ (l : List CodedMessage). AnswersInTurn (StepAmid Step) first l (replies_of (es ++ x ∷ [])) one.0) (sym ms)
             (subst (λ (l : List Reply). AnswersInTurn (StepAmid Step) first (messages_of es ++ message_of x ∷ []) l one.0) (sym rs)
             (run_more (StepAmid Step) first p.last one.0 (messages_of es) (replies_of es) (message_of x) x.reply p.run one.1)));
         others = one.2;
@@ -158,14 +158,14 @@ module _ {S R W : Type 0} (Step : S → Request → Reply → S → Type 0) (rem
 
   -- the replies to the first messages were written, and then this; the other messages were answered
   made : (front back : List Exchange) → s.exchanges ≡ front ++ back → (count : ℕ) → length front ≡ count → (behind : List ℕ) → Appends held held' (flat_map reply_frame (replies_of front) ++ behind) → (Ends : S → List ℕ → List ℕ → Type 0)
-      → ((mid : S) → AnswersInTurn Step mid (messages_of back) (replies_of back) last → All (IsWithin max_request_len) (messages_of back) → Ends mid (rest_behind back) behind) → AnsweredInput Step first (s.input ++ c.unfed) held held' count Ends
+      → ((mid : S) → AnswersInTurn Step mid (messages_of back) (replies_of back) last → All (FitsLimit max_request_len) (messages_of back) → Ends mid (rest_behind back) behind) → AnsweredInput Step first (s.input ++ c.unfed) held held' count Ends
   made front back is count counted behind wrote Ends ends =
       let ms : messages_of s.exchanges ≡ messages_of front ++ messages_of back = ap messages_of is ∙ map-append message_of front back in
       let rs : replies_of s.exchanges ≡ replies_of front ++ replies_of back = ap replies_of is ∙ map-append (λ (y : Exchange). y.reply) front back in
       let len : length (messages_of front) ≡ length (replies_of front) = length-map front message_of ∙ sym (length-map front (λ (y : Exchange). y.reply)) in
-      let all = subst (λ (l : List Reply). AnswersInTurn Step first (messages_of front ++ messages_of back) l last) rs (subst (λ (l : List Message). AnswersInTurn Step first l (replies_of s.exchanges) last) ms run) in
+      let all = subst (λ (l : List Reply). AnswersInTurn Step first (messages_of front ++ messages_of back) l last) rs (subst (λ (l : List CodedMessage). AnswersInTurn Step first l (replies_of s.exchanges) last) ms run) in
       let parts = run_split Step first last (messages_of front) (messages_of back) (replies_of front) (replies_of back) len all in
-      let each = All-same (IsWithin max_request_len) (messages_of front ++ messages_of back) (messages_of s.exchanges) (sym ms) read.each in
+      let each = All-same (FitsLimit max_request_len) (messages_of front ++ messages_of back) (messages_of s.exchanges) (sym ms) read.each in
       let fs = flat_map frame (messages_of front) in
       let bs = flat_map frame (messages_of back) in
       record {
@@ -174,16 +174,16 @@ module _ {S R W : Type 0} (Step : S → Request → Reply → S → Type 0) (rem
         mid = parts.0;
         rest = rest_behind back;
         last = behind;
-        stream = ap (λ (l : List ℕ). l ++ c.unfed) (read.stream ∙ ap (λ (l : List Message). flat_map frame l ++ s.rest) ms ∙ ap (λ (l : List ℕ). l ++ s.rest) (flat_map-append frame (messages_of front) (messages_of back)))
+        stream = ap (λ (l : List ℕ). l ++ c.unfed) (read.stream ∙ ap (λ (l : List CodedMessage). flat_map frame l ++ s.rest) ms ∙ ap (λ (l : List ℕ). l ++ s.rest) (flat_map-append frame (messages_of front) (messages_of back)))
             ∙ append_assoc (fs ++ bs) s.rest c.unfed ∙ append_assoc fs bs (s.rest ++ c.unfed);
-        each = All-same (IsWithin max_request_len) (messages_of front) (take (length (messages_of front)) (messages_of front ++ messages_of back)) (sym (take_at (messages_of front) (messages_of back) (length (messages_of front)) refl))
-            (All-take (IsWithin max_request_len) (length (messages_of front)) (messages_of front ++ messages_of back) each);
+        each = All-same (FitsLimit max_request_len) (messages_of front) (take (length (messages_of front)) (messages_of front ++ messages_of back)) (sym (take_at (messages_of front) (messages_of back) (length (messages_of front)) refl))
+            (All-take (FitsLimit max_request_len) (length (messages_of front)) (messages_of front ++ messages_of back) each);
         run = parts.1;
         counted = length-map front message_of ∙ counted;
         written = wrote;
         ends = ends parts.0 parts.2
-            (All-same (IsWithin max_request_len) (messages_of back) (drop (length (messages_of front)) (messages_of front ++ messages_of back)) (sym (drop_at (messages_of front) (messages_of back) (length (messages_of front)) refl))
-            (All-drop (IsWithin max_request_len) (length (messages_of front)) (messages_of front ++ messages_of back) each));
+            (All-same (FitsLimit max_request_len) (messages_of back) (drop (length (messages_of front)) (messages_of front ++ messages_of back)) (sym (drop_at (messages_of front) (messages_of back) (length (messages_of front)) refl))
+            (All-drop (FitsLimit max_request_len) (length (messages_of front)) (messages_of front ++ messages_of back) each));
       }
 
   -- no more messages than bytes were read
@@ -199,7 +199,7 @@ module _ {S R W : Type 0} (Step : S → Request → Reply → S → Type 0) (rem
 
     -- all that was due was written
     through : (lost : List Exchange) → s.exchanges ≡ put ++ lost → (Ends : S → List ℕ → List ℕ → Type 0)
-        → ((mid : S) → AnswersInTurn Step mid (messages_of lost) (replies_of lost) last → All (IsWithin max_request_len) (messages_of lost) → Ends mid (rest_behind lost) (flat_map reply_frame error))
+        → ((mid : S) → AnswersInTurn Step mid (messages_of lost) (replies_of lost) last → All (FitsLimit max_request_len) (messages_of lost) → Ends mid (rest_behind lost) (flat_map reply_frame error))
         → AnsweredInput Step first (s.input ++ c.unfed) held held' count Ends
     through lost is Ends ends =
         let wrote : t.carried.done ≡ flat_map reply_frame (replies_of put) ++ flat_map reply_frame error =
@@ -253,7 +253,7 @@ module _ {S R W : Type 0} (Step : S → Request → Reply → S → Type 0) (rem
               reply = x.reply;
               more = more;
               front = whole;
-              within = All-head (IsWithin max_request_len) (message_of x) [] each;
+              within = All-head (FitsLimit max_request_len) (message_of x) [] each;
               answers = subst (Answers Step mid (message_of x) x.reply) (sym one.2) one.1;
               is = refl;
             };

@@ -7,12 +7,12 @@ use Rattle.std.proofs.lemmas.List.Elements.{All-nil, All-cons, All-append}
 use Rattle.std.proofs.lemmas.List.Concat.{flat_map-append}
 use Rattle.std.proofs.Math.Seq.{take-append_seam}
 use Rattle.pb_frame.specs.Limits.{max_request_len}
-use Rattle.pb_frame.specs.Message.{Message, frame, IsWithin, IsPartial}
+use Rattle.pb_frame.specs.Message.{CodedMessage, frame, FitsLimit, IsPartial}
 use Rattle.node_session.specs.declared.exchange.Exchange.{Exchange}
 use Rattle.node_session.specs.Views.{EndsInPiece, IsRead, message_of, messages_of}
 
 -- a frame has a byte
-pub some_frame : (m : Message) → 0 < length (frame m)
+pub some_frame : (m : CodedMessage) → 0 < length (frame m)
 unfolding frame
 some_frame m = omega arith
 
@@ -24,7 +24,7 @@ none_partial = record {
 }
 
 -- a frame at the front ends behind what has none
-behind : (y piece more : List ℕ) (m : Message) → IsPartial max_request_len y → IsWithin max_request_len m → y ++ piece ≡ frame m ++ more → length y < length (frame m)
+behind : (y piece more : List ℕ) (m : CodedMessage) → IsPartial max_request_len y → FitsLimit max_request_len m → y ++ piece ≡ frame m ++ more → length y < length (frame m)
 behind y piece more m partial within e =
     let n = length (frame m) in
     elim (cases_lt (length y) n) [
@@ -35,7 +35,7 @@ behind y piece more m partial within e =
     ]
 
 -- what is left behind a frame came with the last piece
-pub goes_on : (rest more : List ℕ) (m : Message) → EndsInPiece rest → IsWithin max_request_len m → rest ≡ frame m ++ more → EndsInPiece more
+pub goes_on : (rest more : List ℕ) (m : CodedMessage) → EndsInPiece rest → FitsLimit max_request_len m → rest ≡ frame m ++ more → EndsInPiece more
 goes_on rest more m last within e =
     let y = last.before in
     let piece = last.piece in
@@ -46,7 +46,7 @@ goes_on rest more m last within e =
     record { before = []; piece = more; splits = refl; bound = omega (arith, ends, len, few); partial = none_partial }
 
 -- one message more
-pub read_more : (input rest more : List ℕ) (es : List Exchange) (x : Exchange) → IsRead input es rest → IsWithin max_request_len (message_of x) → rest ≡ frame (message_of x) ++ more
+pub read_more : (input rest more : List ℕ) (es : List Exchange) (x : Exchange) → IsRead input es rest → FitsLimit max_request_len (message_of x) → rest ≡ frame (message_of x) ++ more
     → IsRead input (es ++ x ∷ []) more
 read_more input rest more es x p within e =
     let one = frame (message_of x) in
@@ -56,6 +56,6 @@ read_more input rest more es x p within e =
     ap (flat_map frame) listed ∙ flat_map-append frame (messages_of es) (message_of x ∷ []) ∙ ap (λ (t : List ℕ). flat_map frame (messages_of es) ++ t) (append-nil one) in
     record {
       stream = p.stream ∙ ap (λ (t : List ℕ). flat_map frame (messages_of es) ++ t) e ∙ sym (append_assoc (flat_map frame (messages_of es)) one more) ∙ ap (λ (t : List ℕ). t ++ more) (sym frames);
-      each = subst (λ (ms : List Message). All (IsWithin max_request_len) ms) (sym listed) (All-append (IsWithin max_request_len) (messages_of es) (message_of x ∷ []) p.each (All-cons (IsWithin max_request_len) (message_of x) [] within (All-nil (IsWithin max_request_len))));
+      each = subst (λ (ms : List CodedMessage). All (FitsLimit max_request_len) ms) (sym listed) (All-append (FitsLimit max_request_len) (messages_of es) (message_of x ∷ []) p.each (All-cons (FitsLimit max_request_len) (message_of x) [] within (All-nil (FitsLimit max_request_len))));
       last = goes_on rest more (message_of x) p.last within e;
     }

@@ -1,7 +1,7 @@
 -- What holds of the last node of a session, and what each step hands back, holds after each of its steps.
 use Rattle.std.proofs.Common.{◌≡◌, ℕ, List, [], ◌∷◌, Option, Result, Ok, Err, subst, inl, inr}
 use Rattle.std.specs.Prelude.{◌⊎◌}
-use Rattle.pb_frame.specs.Message.{Message}
+use Rattle.pb_frame.specs.Message.{CodedMessage}
 use Rattle.riak_msgs.specs.declared.fault.MsgFault.{MsgFault}
 use Rattle.riak_msgs.specs.declared.Request.{Request}
 use Rattle.riak_msgs.specs.declared.Reply.{Reply}
@@ -30,13 +30,13 @@ module _ {S : Type 0} (Step : S → Request → Reply → S → Type 0) (Holds :
   read_in old (Ok request) reply new (inr stays) held = inr stays
   read_in old (Err fault) reply new stays held = stays
 
-  run_held : (old : S) (messages : List Message) (replies : List Reply) (new : S) → AnswersInTurn Step old messages replies new → Holds new → Holds old
+  run_held : (old : S) (messages : List CodedMessage) (replies : List Reply) (new : S) → AnswersInTurn Step old messages replies new → Holds new → Holds old
   run_held old [] [] new run held = same_held old new run held
   run_held old [] (reply ∷ replies) new run held = absurd run
   run_held old (message ∷ messages) [] new run held = absurd run
   run_held old (message ∷ messages) (reply ∷ replies) new run held = read_held old run.1.said reply run.0 run.1.answers (run_held run.0 messages replies new run.2 held)
 
-  pub run_in : (old : S) (messages : List Message) (replies : List Reply) (new : S) → AnswersInTurn Step old messages replies new → Holds new → AnswersInTurn Held old messages replies new
+  pub run_in : (old : S) (messages : List CodedMessage) (replies : List Reply) (new : S) → AnswersInTurn Step old messages replies new → Holds new → AnswersInTurn Held old messages replies new
   run_in old [] [] new run held = run
   run_in old [] (reply ∷ replies) new run held = absurd run
   run_in old (message ∷ messages) [] new run held = absurd run

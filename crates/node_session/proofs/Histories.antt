@@ -5,7 +5,7 @@ use Rattle.ring_map.specs.Ring.{id_of}
 use Rattle.riak_msgs.specs.declared.Key.{Key}
 use Rattle.riak_msgs.specs.Contents.{Content}
 use Rattle.riak_msgs.specs.declared.Reply.{Reply}
-use Rattle.sibling_register.specs.Answers.{Ask}
+use Rattle.sibling_register.specs.Answers.{RegisterAsk}
 use Rattle.actor_epoch.specs.Given.{Context}
 use Rattle.vnode_machine.specs.Machine.{State}
 use Rattle.vnode_machine.specs.Replay.{History, IsAfter, IsWithinLimits}
@@ -52,7 +52,7 @@ module _ (run : ℕ) (is : IsRunNumber run) where
           (subst (λ (state : State Content). IsAfter (id_of run other) 0 (histories other) state) (sym (others other ne)) (each other))
     ]
 
-    pub ask_followed : (old new : (index : ℕ) → State Content) (histories : Histories) (ask : Ask Content Context) (reply : Reply) → index_of (key_of ask) < 65536 → EachAfter run old histories
+    pub ask_followed : (old new : (index : ℕ) → State Content) (histories : Histories) (ask : RegisterAsk Content Context) (reply : Reply) → index_of (key_of ask) < 65536 → EachAfter run old histories
         → AnswersAsk (λ index. TakesTurn) index_of budget old ask reply new
         → (after : Histories) × EachAfter run new after × AnswersAsk (λ index. AnswersTurn (id_of run index) 0) index_of budget histories ask reply after
     ask_followed old new histories ask reply inside each step =

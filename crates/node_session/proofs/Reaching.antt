@@ -6,7 +6,7 @@ use Rattle.std.specs.List.{flat_map, All}
 use Rattle.std.proofs.lemmas.List.{take_at, drop_at, take-append-le, drop-append-le, take-append-drop, length-take-le, length-drop, get_or-drop, flat_map_more}
 use Rattle.std.proofs.Math.Seq.{drop-append-add}
 use Rattle.std.proofs.lemmas.List.Elements.{All-nil, All-cons, All-append, All-head, All-tail}
-use Rattle.pb_frame.specs.Message.{Message, given_length}
+use Rattle.pb_frame.specs.Message.{CodedMessage, given_length}
 use Rattle.pb_frame.proofs.Headers.{given_length-frame, length-frame}
 use Rattle.riak_msgs.specs.declared.reply.Reply.{Reply}
 use Rattle.riak_msgs.specs.Replies.{reply_code, reply_body}
@@ -37,7 +37,7 @@ pub drop_past : (xs ys : List ℕ) (n : ℕ) → length xs ≤ n → drop n (xs 
 drop_past xs ys n le = ap (λ (k : ℕ). drop k (xs ++ ys)) (omega (arith, le)) ∙ drop-append-add xs ys (n - length xs)
 
 -- a reply's message
-abbrev message : Reply → Message
+abbrev message : Reply → CodedMessage
 message r = record { code = reply_code r; body = reply_body r }
 
 -- a frame has a byte

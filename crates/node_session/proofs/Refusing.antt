@@ -8,7 +8,7 @@ use Rattle.sibling_register.specs.Answers.{AskPut, AskDel}
 use Rattle.sibling_register.specs.History.{Operation}
 use Rattle.vnode_machine.specs.Asks.{put_command, del_command}
 use Rattle.vnode_machine.specs.Machine.{State}
-use Rattle.vnode_machine.specs.Step.{Response, StepOutcome, Refused, Answered, Accepted, DelDone, outcome, unless_refused}
+use Rattle.vnode_machine.specs.Step.{Response, MachineOutcome, Refused, Answered, Accepted, DelDone, outcome, unless_refused}
 use Rattle.vnode_core.specs.declared.ask.Ask.{Ask}
 use Rattle.vnode_core.specs.declared.ask.Ask.TheVariants.{Put, Del, Reap, ReapFirst, Copy, Close}
 use Rattle.vnode_core.specs.declared.ask.Answer.{Answer}
@@ -20,7 +20,7 @@ use Rattle.sibling_register.specs.Refusals.{refusal_text}
 use Rattle.node_session.specs.PlainStep.{StepsBy, StepsByWrite, answer_reply}
 
 -- what the machine accepts may be refused memory
-gives_up : (state new : State Content) (o : StepOutcome) → IsAcceptedStep o → new ≡ state → StepsBy state o (Error (refusal_text (number_of NoMemory))) new
+gives_up : (state new : State Content) (o : MachineOutcome) → IsAcceptedStep o → new ≡ state → StepsBy state o (Error (refusal_text (number_of NoMemory))) new
 gives_up state new (Accepted operation response next) is same = inr (refl, same)
 gives_up state new (Refused number) is same = elim is [ ]
 gives_up state new (Answered response) is same = elim is [ ]
@@ -31,7 +31,7 @@ no_some (Some n) some is = cc
 
 module _ (state new : State Content) where
   -- a refusal by its number
-  by_number : (o : StepOutcome) (refusal : Refusal) → new ≡ state → o ≡ Refused (number_of refusal) → StepsBy state o (Error (refusal_text (number_of refusal))) new
+  by_number : (o : MachineOutcome) (refusal : Refusal) → new ≡ state → o ≡ Refused (number_of refusal) → StepsBy state o (Error (refusal_text (number_of refusal))) new
   by_number o refusal same is =
       subst (λ result. StepsBy state result (Error (refusal_text (number_of refusal))) new) (sym is) (refl, same)
 

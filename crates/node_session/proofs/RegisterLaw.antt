@@ -8,13 +8,13 @@ use Rattle.riak_msgs.specs.Contents.{Content}
 use Rattle.riak_msgs.specs.declared.Request.{Request}
 use Rattle.riak_msgs.specs.declared.Request.TheVariants as requests
 use Rattle.riak_msgs.specs.declared.Reply.{Reply}
-use Rattle.sibling_register.specs.Answers.{Ask, AskGet, AskPut, AskDel}
+use Rattle.sibling_register.specs.Answers.{RegisterAsk, AskGet, AskPut, AskDel}
 use Rattle.sibling_register.specs.Refusals.{no_memory}
 use Rattle.actor_epoch.specs.Given.{Context}
 use Rattle.vnode_machine.specs.Machine.{State, opening}
 use Rattle.vnode_machine.specs.Replay.{History, IsAfter}
 use Rattle.vnode_machine.specs.Asks.{get_command, put_command, del_command}
-use Rattle.vnode_machine.specs.Step.{Response, StepOutcome, Refused, Answered, Accepted, outcome}
+use Rattle.vnode_machine.specs.Step.{Response, MachineOutcome, Refused, Answered, Accepted, outcome}
 use Rattle.vnode_machine.specs.Registers.{key_of}
 use Rattle.vnode_machine.specs.Dead.{swept}
 use Rattle.vnode_machine.proofs.RunLaw.{run_is_played}
@@ -32,23 +32,23 @@ use Rattle.node_session.proofs.Sweeping.{sweep_taken}
 use Rattle.node_session.proofs.Simulating.{run_like, end_like, stops_like}
 
 -- a step by what comes of an ask is a turn that the vnode takes
-record IsTurn (old : State Content) (ask : Ask Content Context) (reply : Reply) (new : State Content) : Type 0 where
+record IsTurn (old : State Content) (ask : RegisterAsk Content Context) (reply : Reply) (new : State Content) : Type 0 where
   result : Result Response ℕ
   replied : reply ≡ reply_of result
   takes : TakesTurn old (record { ask = ask; reply = result }) new
 
-turn_by : (old new : State Content) (ask : Ask Content Context) (reply : Reply) (came : StepOutcome) → outcome old ask ≡ came → StepsBy old came reply new → IsTurn old ask reply new
+turn_by : (old new : State Content) (ask : RegisterAsk Content Context) (reply : Reply) (came : MachineOutcome) → outcome old ask ≡ came → StepsBy old came reply new → IsTurn old ask reply new
 turn_by old new ask reply (Refused number) e p =
-    record { result = Err number; replied = p.0; takes = inl (ap result_of (sym e), subst (λ (o : StepOutcome). new ≡ state_after_step old o) (sym e) p.1) }
+    record { result = Err number; replied = p.0; takes = inl (ap result_of (sym e), subst (λ (o : MachineOutcome). new ≡ state_after_step old o) (sym e) p.1) }
 turn_by old new ask reply (Answered response) e (inl p) =
-    record { result = Ok response; replied = p.0; takes = inl (ap result_of (sym e), subst (λ (o : StepOutcome). new ≡ state_after_step old o) (sym e) p.1) }
+    record { result = Ok response; replied = p.0; takes = inl (ap result_of (sym e), subst (λ (o : MachineOutcome). new ≡ state_after_step old o) (sym e) p.1) }
 turn_by old new ask reply (Answered response) e (inr p) = record { result = Err no_memory; replied = p.0; takes = inr (refl, p.1) }
 turn_by old new ask reply (Accepted operation response next) e (inl p) =
-    record { result = Ok response; replied = p.0; takes = inl (ap result_of (sym e), subst (λ (o : StepOutcome). new ≡ state_after_step old o) (sym e) p.1) }
+    record { result = Ok response; replied = p.0; takes = inl (ap result_of (sym e), subst (λ (o : MachineOutcome). new ≡ state_after_step old o) (sym e) p.1) }
 turn_by old new ask reply (Accepted operation response next) e (inr p) = record { result = Err no_memory; replied = p.0; takes = inr (refl, p.1) }
 
 -- an ask and the reaps after it, as turns that a vnode takes
-record AreTurns (budget : ℕ) (old : State Content) (ask : Ask Content Context) (reply : Reply) (new : State Content) : Type 0 where
+record AreTurns (budget : ℕ) (old : State Content) (ask : RegisterAsk Content Context) (reply : Reply) (new : State Content) : Type 0 where
   result : Result Response ℕ
   replied : reply ≡ reply_of result
   reaps : List Turn
@@ -57,7 +57,7 @@ record AreTurns (budget : ℕ) (old : State Content) (ask : Ask Content Context)
   takes : TakesEach TakesTurn old (record { ask = ask; reply = result } ∷ reaps) new
 
 -- what an answer at an index leaves at each of them
-module _ (run index : ℕ) (old new : NodeState) (ask : Ask Content Context) (reply : Reply) (step : AnswersAt index old ask reply new) where
+module _ (run index : ℕ) (old new : NodeState) (ask : RegisterAsk Content Context) (reply : Reply) (step : AnswersAt index old ask reply new) where
   answered_inside : index < length old.vnodes
   answered_inside = slice_get_within old.vnodes index step.before step.stands
 
@@ -104,7 +104,7 @@ module _ (run index_bits budget : ℕ) (is : IsRunNumber run) (bound : 2 ^ index
     sweeps : node.budget ≡ budget
 
   -- an answer by a vnode, and its sweep, are turns that the vnode takes
-  turns_at : (index : ℕ) (old new : NodeState) (ask : Ask Content Context) (reply : Reply) (history : History) → index < 65536
+  turns_at : (index : ℕ) (old new : NodeState) (ask : RegisterAsk Content Context) (reply : Reply) (history : History) → index < 65536
       → IsAfter (id_of run index) 0 history (vnode_at run old index) → AnswersAt index old ask reply new
       → AreTurns old.budget (vnode_at run old index) ask reply (vnode_at run new index)
   turns_at index old new ask reply history small after step =
@@ -130,7 +130,7 @@ module _ (run index_bits budget : ℕ) (is : IsRunNumber run) (bound : 2 ^ index
       }
 
   -- an answer by the vnode of the key is one by index
-  ask_taken : (old new : NodeState) (ask : Ask Content Context) (reply : Reply) → IsOf old → AnswersByKey old ask reply new
+  ask_taken : (old new : NodeState) (ask : RegisterAsk Content Context) (reply : Reply) → IsOf old → AnswersByKey old ask reply new
       → AreTurns old.budget (vnode_at run old (partition_of old.index_bits (key_of ask))) ask reply (vnode_at run new (partition_of old.index_bits (key_of ask)))
       → AnswersAsk (λ index. TakesTurn) (partition_of index_bits) budget (vnode_at run old) ask reply (vnode_at run new)
   ask_taken old new ask reply of step turns =
@@ -146,7 +146,7 @@ module _ (run index_bits budget : ℕ) (is : IsRunNumber run) (bound : 2 ^ index
         takes = record { each = turns.takes; others = answered_others run index old new ask reply step };
       }))
 
-  ask_like : (old new : NodeState) (histories : Histories) (ask : Ask Content Context) (reply : Reply) → IsLike old histories → AnswersByKey old ask reply new
+  ask_like : (old new : NodeState) (histories : Histories) (ask : RegisterAsk Content Context) (reply : Reply) → IsLike old histories → AnswersByKey old ask reply new
       → (after : Histories) × IsLike new after × AnswersAsk (λ index. AnswersTurn (id_of run index) 0) (partition_of index_bits) budget histories ask reply after
   ask_like old new histories ask reply like step =
       let index = partition_of old.index_bits (key_of ask) in

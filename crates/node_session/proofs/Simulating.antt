@@ -1,7 +1,7 @@
 -- One node answers as another: where each step of the one is a step of the other, each session of the one is one of the
 -- other.
 use Rattle.std.proofs.Common.{◌≡◌, ℕ, List, [], ◌∷◌, Option, Ok, Err, refl, subst, sym, inl, inr}
-use Rattle.pb_frame.specs.Message.{Message}
+use Rattle.pb_frame.specs.Message.{CodedMessage}
 use Rattle.riak_msgs.specs.declared.Request.{Request}
 use Rattle.riak_msgs.specs.declared.Reply.{Reply}
 use Rattle.node_session.specs.declared.fault.SessionFault.{SessionFault}
@@ -20,12 +20,12 @@ module _ {S T : Type 0} (Step : S → Request → Reply → S → Type 0) (Step'
   read_like s s' t (Err fault) reply like answered =
       (t, subst (λ (x : S). Like x t) (sym answered.1) like, (answered.0, refl))
 
-  answers_like : (s s' : S) (t : T) (m : Message) (reply : Reply) → Like s t → Answers Step s m reply s' → (t' : T) × Like s' t' × Answers Step' t m reply t'
+  answers_like : (s s' : S) (t : T) (m : CodedMessage) (reply : Reply) → Like s t → Answers Step s m reply s' → (t' : T) × Like s' t' × Answers Step' t m reply t'
   answers_like s s' t m reply like a =
       let next = read_like s s' t a.said reply like a.answers in
       (next.0, next.1, record { said = a.said; says = a.says; answers = next.2 })
 
-  pub run_like : (s s' : S) (t : T) (ms : List Message) (rs : List Reply) → Like s t → AnswersInTurn Step s ms rs s' → (t' : T) × Like s' t' × AnswersInTurn Step' t ms rs t'
+  pub run_like : (s s' : S) (t : T) (ms : List CodedMessage) (rs : List Reply) → Like s t → AnswersInTurn Step s ms rs s' → (t' : T) × Like s' t' × AnswersInTurn Step' t ms rs t'
   run_like s s' t [] [] like e = (t, subst (λ (x : S). Like x t) (sym e) like, refl)
   run_like s s' t (m ∷ ms) (r ∷ rs) like (mid, first, rest) =
       let one = answers_like s mid t m r like first in

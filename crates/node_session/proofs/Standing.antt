@@ -8,7 +8,7 @@ use Rattle.std.proofs.lemmas.List.Concat.{flat_map-append}
 use Rattle.pb_frame.specs.declared.fault.FrameFault.{FrameFault}
 use Rattle.pb_frame.specs.declared.fault.FrameFault.TheVariants as frames
 use Rattle.pb_frame.specs.Limits.{max_request_len}
-use Rattle.pb_frame.specs.Message.{Message, frame, IsPartial, IsFaulty}
+use Rattle.pb_frame.specs.Message.{CodedMessage, frame, IsPartial, IsFaulty}
 use Rattle.riak_msgs.specs.declared.request.Request.{Request}
 use Rattle.riak_msgs.specs.declared.reply.Reply.{Reply}
 use Rattle.riak_msgs.specs.declared.reply.Reply.TheVariants.{Error}
@@ -52,7 +52,7 @@ faulty_not rest frames.TooLarge is p = let s = p.short is.length.0 in omega (ari
 faulty_not rest frames.NoMemory is p = absurd is.length
 
 -- so many frames are at least so many bytes
-frames_long : (ms : List Message) → length ms ≤ length (flat_map frame ms)
+frames_long : (ms : List CodedMessage) → length ms ≤ length (flat_map frame ms)
 frames_long [] = omega arith
 frames_long (m ∷ ms) =
     let ih = frames_long ms in
@@ -83,7 +83,7 @@ module _ {S : Type 0} (Step : S → Request → Reply → S → Type 0) where
   halt_at b c s t r n n' e d p = subst (λ (x : Halt). AnswersNext Step b c s t (Err x)) d (subst (λ (x : Result Next Halt). AnswersNext Step b c s t x) e p)
 
   -- one message more
-  pub run_more : (a b c : S) (ms : List Message) (rs : List Reply) (m : Message) (r : Reply) → AnswersInTurn Step a ms rs b → Answers Step b m r c → AnswersInTurn Step a (ms ++ m ∷ []) (rs ++ r ∷ []) c
+  pub run_more : (a b c : S) (ms : List CodedMessage) (rs : List Reply) (m : CodedMessage) (r : Reply) → AnswersInTurn Step a ms rs b → Answers Step b m r c → AnswersInTurn Step a (ms ++ m ∷ []) (rs ++ r ∷ []) c
   run_more a b c [] [] m r p q = (c, subst (λ (x : S). Answers Step x m r c) p q, refl)
   run_more a b c (n ∷ ms) (t ∷ rs) m r p q = (p.0, p.1, run_more p.0 b c ms rs m r p.2 q)
   run_more a b c [] (t ∷ rs) m r p q = absurd p
@@ -117,7 +117,7 @@ module _ {S : Type 0} (Step : S → Request → Reply → S → Type 0) where
       ap (flat_map reply_frame) rs ∙ flat_map-append reply_frame (replies_of es) (r ∷ []) ∙ ap (λ (l : List ℕ). flat_map reply_frame (replies_of es) ++ l) (append-nil (reply_frame r)) in
       record {
         run = subst (λ (l : List Exchange). AnswersInTurn Step a (messages_of l) (replies_of l) c) (sym all)
-            (subst (λ (l : List Message). AnswersInTurn Step a l (replies_of (es ++ x ∷ [])) c) (sym ms)
+            (subst (λ (l : List CodedMessage). AnswersInTurn Step a l (replies_of (es ++ x ∷ [])) c) (sym ms)
             (subst (λ (l : List Reply). AnswersInTurn Step a (messages_of es ++ message_of x ∷ []) l c) (sym rs)
             (run_more a b c (messages_of es) (replies_of es) (message_of x) r p.run one.answers)));
         written = subst (λ (l : List Exchange). Appends h h'' (flat_map reply_frame (replies_of l))) (sym all)

@@ -3,7 +3,7 @@ use Rattle.std.proofs.Common.{◌≡◌, ℕ, List, Option, Some, Result, Ok, Er
 use Rattle.pb_frame.specs.declared.fault.FrameFault.{FrameFault}
 use Rattle.pb_frame.specs.declared.frame.Frame.{Frame}
 use Rattle.pb_frame.specs.Limits.{max_request_len}
-use Rattle.pb_frame.specs.Message.{IsWithin}
+use Rattle.pb_frame.specs.Message.{FitsLimit}
 use Rattle.pb_frame.specs.Stream.{Stream}
 use Rattle.pb_frame.specs.Taking.{message_of as frame_message, IsTaken, Takes}
 use Rattle.riak_msgs.specs.declared.fault.MsgFault.{MsgFault}
@@ -41,8 +41,8 @@ module _ {S : Type 0} (Step : S → Request → Reply → S → Type 0) where
       subst (λ (x : Option Reply). TakesNext Step node node' framer framer' es es' (Ok x)) d (subst (λ (x : Result (Option Reply) FrameFault). TakesNext Step node node' framer framer' es es' x) e t)
 
   module _ (node node' : S) (framer framer' : Stream) (es es' : List Exchange) (reply : Reply) (input : List ℕ) (limit : framer.limit ≡ max_request_len) (told : IsToldNext Step node node' framer framer' es es' reply) where
-    abbrev within : IsWithin max_request_len (message_of told.exchange)
-    within = subst (λ (n : ℕ). IsWithin n (message_of told.exchange)) limit told.taken.within
+    abbrev within : FitsLimit max_request_len (message_of told.exchange)
+    within = subst (λ (n : ℕ). FitsLimit n (message_of told.exchange)) limit told.taken.within
 
     pub still_limit : framer'.limit ≡ max_request_len
     still_limit = ap (λ (s : Stream). s.limit) told.taken.stream ∙ limit

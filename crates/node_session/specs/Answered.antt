@@ -4,7 +4,7 @@ use Rattle.std.specs.List.{flat_map, All}
 use Rattle.std.specs.Io.KnownBytes.{Appends}
 use Rattle.pb_frame.specs.declared.fault.FrameFault.{FrameFault}
 use Rattle.pb_frame.specs.Limits.{max_request_len}
-use Rattle.pb_frame.specs.Message.{Message, frame, IsWithin, IsPartial, IsFaulty}
+use Rattle.pb_frame.specs.Message.{CodedMessage, frame, FitsLimit, IsPartial, IsFaulty}
 use Rattle.riak_msgs.specs.declared.request.Request.{Request}
 use Rattle.riak_msgs.specs.declared.reply.Reply.{Reply}
 use Rattle.riak_msgs.specs.declared.reply.Reply.TheVariants.{Error}
@@ -14,13 +14,13 @@ use Rattle.node_session.specs.Answers.{Answers, AnswersInTurn, reply_frame, fram
 -- The input begins with the frames of messages, each of them was answered in its turn, and so many whole replies were
 -- written, and after them `last`. Ends says how it ended, with the node as it is after them and with what the input has after them.
 pub record AnsweredInput {S : Type 0} (Step : S → Request → Reply → S → Type 0) (node : S) (input : List ℕ) (held held' : Option (List ℕ)) (count : ℕ) (Ends : S → List ℕ → List ℕ → Type 0) : Type 0 where
-  pub messages : List Message
+  pub messages : List CodedMessage
   pub replies : List Reply
   pub mid : S
   pub rest : List ℕ
   pub last : List ℕ
   pub stream : input ≡ flat_map frame messages ++ rest
-  pub each : All (IsWithin max_request_len) messages
+  pub each : All (FitsLimit max_request_len) messages
   pub run : AnswersInTurn Step node messages replies mid
   pub counted : length messages ≡ count
   pub written : Appends held held' (flat_map reply_frame replies ++ last)
@@ -40,11 +40,11 @@ pub record AllAnswered {S : Type 0} (node' : S) (mid : S) (rest last : List ℕ)
 
 -- the next message, its answer, and the node after it
 pub record NextReply {S : Type 0} (Step : S → Request → Reply → S → Type 0) (mid : S) (rest : List ℕ) (next : List ℕ) (node' : S) : Type 0 where
-  pub message : Message
+  pub message : CodedMessage
   pub reply : Reply
   pub more : List ℕ
   pub front : rest ≡ frame message ++ more
-  pub within : IsWithin max_request_len message
+  pub within : FitsLimit max_request_len message
   pub answers : Answers Step mid message reply node'
   pub is : next ≡ reply_frame reply
 

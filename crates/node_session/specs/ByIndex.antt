@@ -6,7 +6,7 @@ use Rattle.riak_msgs.specs.Contents.{Content}
 use Rattle.riak_msgs.specs.declared.Request.{Request}
 use Rattle.riak_msgs.specs.declared.Reply.{Reply}
 use Rattle.riak_msgs.specs.declared.Reply.TheVariants as replies
-use Rattle.sibling_register.specs.Answers.{Ask, AskReap}
+use Rattle.sibling_register.specs.Answers.{RegisterAsk, AskReap}
 use Rattle.actor_epoch.specs.Given.{Context}
 use Rattle.vnode_machine.specs.Step.{Response}
 use Rattle.vnode_machine.specs.Registers.{key_of}
@@ -25,7 +25,7 @@ module _ {S : Type 0} (Takes : (index : ℕ) → S → Turn → S → Type 0) wh
 
   module _ (index_of : Key → ℕ) (budget : ℕ) where
     -- the ask is taken at the index of its key, and after it so many reaps at most
-    pub record AnswersAsk (old : ℕ → S) (ask : Ask Content Context) (reply : Reply) (new : ℕ → S) : Type 0 where
+    pub record AnswersAsk (old : ℕ → S) (ask : RegisterAsk Content Context) (reply : Reply) (new : ℕ → S) : Type 0 where
       pub result : Result Response ℕ
       pub replied : reply ≡ reply_of result
       pub reaps : List Turn

@@ -2,7 +2,7 @@
 use Rattle.std.specs.Prelude.{◌≡◌, ◌<◌, [], ◌∷◌, ◌++◌, None, Result, Ok, Err, length}
 use Rattle.pb_frame.specs.declared.fault.FrameFault.{FrameFault}
 use Rattle.pb_frame.specs.Limits.{max_request_len}
-use Rattle.pb_frame.specs.Message.{frame, IsWithin, IsPartial, IsFaulty}
+use Rattle.pb_frame.specs.Message.{frame, FitsLimit, IsPartial, IsFaulty}
 use Rattle.riak_msgs.specs.declared.request.Request.{Request}
 use Rattle.riak_msgs.specs.declared.reply.Reply.{Reply}
 use Rattle.riak_msgs.specs.declared.reply.Reply.TheVariants.{Error}
@@ -29,7 +29,7 @@ module _ {S : Type 0} (Step : S → Request → Reply → S → Type 0) where
   pub record IsNextAnswered (node node' : S) (old new : SessionView) : Type 0 where
     pub exchange : Exchange
     pub front : old.rest ≡ frame (message_of exchange) ++ new.rest
-    pub within : IsWithin max_request_len (message_of exchange)
+    pub within : FitsLimit max_request_len (message_of exchange)
     pub answers : Answers Step node (message_of exchange) exchange.reply node'
     pub input : new.input ≡ old.input
     pub exchanges : new.exchanges ≡ old.exchanges ++ exchange ∷ []
@@ -41,7 +41,7 @@ module _ {S : Type 0} (Step : S → Request → Reply → S → Type 0) where
   pub record IsLost (node node' : S) (old new : SessionView) : Type 0 where
     pub exchange : Exchange
     pub front : old.rest ≡ frame (message_of exchange) ++ new.rest
-    pub within : IsWithin max_request_len (message_of exchange)
+    pub within : FitsLimit max_request_len (message_of exchange)
     pub answers : Answers Step node (message_of exchange) exchange.reply node'
     pub no_error : IsNoError exchange.reply
     pub input : new.input ≡ old.input

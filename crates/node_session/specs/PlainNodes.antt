@@ -6,10 +6,10 @@ use Rattle.riak_msgs.specs.Contents.{Content}
 use Rattle.riak_msgs.specs.declared.Request.{Request}
 use Rattle.riak_msgs.specs.declared.Reply.{Reply}
 use Rattle.riak_msgs.specs.declared.Reply.TheVariants as replies
-use Rattle.sibling_register.specs.Answers.{Ask}
+use Rattle.sibling_register.specs.Answers.{RegisterAsk}
 use Rattle.actor_epoch.specs.Given.{Context}
 use Rattle.vnode_machine.specs.Machine.{State, opening}
-use Rattle.vnode_machine.specs.Step.{StepOutcome, outcome}
+use Rattle.vnode_machine.specs.Step.{MachineOutcome, outcome}
 use Rattle.vnode_machine.specs.Dead.{swept}
 use Rattle.vnode_machine.specs.Registers.{key_of}
 use Rattle.vnode_core.specs.Plans.{View}
@@ -53,7 +53,7 @@ pub record IsNewNode (run index_bits budget : ℕ) (node : NodeState) : Type 0 w
   pub bound : 2 ^ index_bits ≤ 1024
 
 -- what comes of an ask in a state is replied, and of the state after it the first dead keys are forgotten
-pub record AnswersAndSweeps (budget : ℕ) (before : State Content) (came : StepOutcome) (reply : Reply) (after : State Content) : Type 0 where
+pub record AnswersAndSweeps (budget : ℕ) (before : State Content) (came : MachineOutcome) (reply : Reply) (after : State Content) : Type 0 where
   pub answered : State Content
   pub steps : StepsBy before came reply answered
   pub sweeps : after ≡ swept answered None budget
@@ -65,7 +65,7 @@ pub record WritesAndSweeps (budget : ℕ) (before : State Content) (ask : AskOfV
   pub sweeps : after ≡ swept answered None budget
 
 -- an ask is answered by the vnode at this index, which is swept then, and the others stay
-pub record AnswersAt (index : ℕ) (node : NodeState) (ask : Ask Content Context) (reply : Reply) (node' : NodeState) : Type 0 where
+pub record AnswersAt (index : ℕ) (node : NodeState) (ask : RegisterAsk Content Context) (reply : Reply) (node' : NodeState) : Type 0 where
   pub before : State Content
   pub after : State Content
   pub stands : slice_get node.vnodes index ≡ Some before
@@ -73,7 +73,7 @@ pub record AnswersAt (index : ℕ) (node : NodeState) (ask : Ask Content Context
   pub new : node' ≡ record node { vnodes = set node.vnodes index after }
 
 -- an ask is answered by the vnode that its key lies in
-abbrev pub AnswersByKey : NodeState → Ask Content Context → Reply → NodeState → Type 0
+abbrev pub AnswersByKey : NodeState → RegisterAsk Content Context → Reply → NodeState → Type 0
 AnswersByKey node ask reply node' = AnswersAt (partition_of node.index_bits (key_of ask)) node ask reply node'
 
 -- the step of a plain node: a ping is answered by a ping and changes nothing, any other request by the vnode that its

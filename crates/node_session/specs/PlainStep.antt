@@ -7,18 +7,18 @@ use Rattle.riak_msgs.specs.declared.Request.TheVariants as requests
 use Rattle.riak_msgs.specs.declared.Reply.{Reply}
 use Rattle.riak_msgs.specs.declared.Reply.TheVariants as replies
 use Rattle.sibling_register.specs.Refusals.{refusal_text}
-use Rattle.sibling_register.specs.Answers.{Ask, AskGet, AskPut, AskDel}
+use Rattle.sibling_register.specs.Answers.{RegisterAsk, AskGet, AskPut, AskDel}
 use Rattle.actor_epoch.specs.Given.{Context}
 use Rattle.vnode_machine.specs.Machine.{State}
 use Rattle.vnode_machine.specs.Asks.{get_command, put_command, del_command}
-use Rattle.vnode_machine.specs.Step.{Response, GetDone, PutDone, DelDone, ReapDone, ReapKept, StepOutcome, Refused, Answered, Accepted, outcome}
+use Rattle.vnode_machine.specs.Step.{Response, GetDone, PutDone, DelDone, ReapDone, ReapKept, MachineOutcome, Refused, Answered, Accepted, outcome}
 use Rattle.vnode_core.specs.declared.ask.Ask.{Ask as AskOfVnode}
 use Rattle.vnode_core.specs.declared.ask.Ask.TheVariants as asks
 use Rattle.vnode_core.specs.declared.ask.Answer.{Answer}
 use Rattle.vnode_core.specs.declared.ask.Answer.TheVariants as answers
 
 -- the ask that a request makes of a vnode; a ping makes none
-abbrev pub ask_of : Request → Option (Ask Content Context)
+abbrev pub ask_of : Request → Option (RegisterAsk Content Context)
 ask_of requests.Ping = None
 ask_of (requests.Get get) = Some (AskGet (get_command get))
 ask_of (requests.Put put) = Some (AskPut (put_command put))
@@ -52,7 +52,7 @@ abbrev pub GivesUp : {S : Type 0} → S → Reply → S → Type 0
 GivesUp old reply new = (reply ≡ replies.Error texts.NoMemory) × (new ≡ old)
 
 -- what comes of an ask is replied, and the state is the next one; or memory is refused, where the ask isn't
-abbrev pub StepsBy : State Content → StepOutcome → Reply → State Content → Type 0
+abbrev pub StepsBy : State Content → MachineOutcome → Reply → State Content → Type 0
 StepsBy old (Refused number) reply new = (reply ≡ reply_of (Err number)) × (new ≡ old)
 StepsBy old (Answered response) reply new = ((reply ≡ reply_of (Ok response)) × (new ≡ old)) ⊎ GivesUp old reply new
 StepsBy old (Accepted operation response next) reply new = ((reply ≡ reply_of (Ok response)) × (new ≡ next)) ⊎ GivesUp old reply new

@@ -1,6 +1,6 @@
 -- The law of sessions: what is answered by a plain node is what the sibling register answers.
 use Rattle.std.specs.Prelude.{◌<◌, ◌≤◌, ◌^◌, List, ℕ, Option}
-use Rattle.pb_frame.specs.Message.{Message}
+use Rattle.pb_frame.specs.Message.{CodedMessage}
 use Rattle.riak_msgs.specs.declared.Request.{Request}
 use Rattle.riak_msgs.specs.declared.Reply.{Reply}
 use Rattle.node_session.specs.declared.fault.SessionFault.{SessionFault}
@@ -39,7 +39,7 @@ module _ (run index_bits budget : ℕ) where
   -- what a new node answers to messages, one after another, is what the register answers to them
   abbrev pub RunsAreRegisters : Type 0
   RunsAreRegisters =
-      (first node : NodeState) → IsNewNode run index_bits budget first → (messages : List Message) (replies : List Reply)
+      (first node : NodeState) → IsNewNode run index_bits budget first → (messages : List CodedMessage) (replies : List Reply)
       → AnswersInTurn PlainStep first messages replies node
       → OfHistories node (λ histories. AnswersInTurn RingRegister no_events messages replies histories)
 

@@ -4,7 +4,7 @@ use Rattle.std.specs.List.{flat_map, All}
 use Rattle.std.specs.Io.KnownBytes.{Consumes}
 use Rattle.pb_frame.specs.declared.fault.FrameFault.{FrameFault}
 use Rattle.pb_frame.specs.Limits.{max_request_len}
-use Rattle.pb_frame.specs.Message.{Message, frame, IsWithin, IsFaulty}
+use Rattle.pb_frame.specs.Message.{CodedMessage, frame, FitsLimit, IsFaulty}
 use Rattle.riak_msgs.specs.declared.request.Request.{Request}
 use Rattle.riak_msgs.specs.declared.reply.Reply.{Reply}
 use Rattle.riak_msgs.specs.declared.reply.Reply.TheVariants.{Error}
@@ -21,7 +21,7 @@ use Rattle.node_session.specs.Views.{messages_of, replies_of}
 module _ {S : Type 0} (Step : S → Request → Reply → S → Type 0) where
   -- some messages, of whichever sessions, were answered one after another
   pub record AnswersSome (old new : S) : Type 0 where
-    pub messages : List Message
+    pub messages : List CodedMessage
     pub replies : List Reply
     pub run : AnswersInTurn Step old messages replies new
 
@@ -44,11 +44,11 @@ module _ {S : Type 0} (Step : S → Request → Reply → S → Type 0) where
 
   -- The first messages of what is left were answered too, and none of these replies was sent whole: a beginning of what was due next was, and not all of it.
   pub record SentInPart (node' : S) (mid : S) (rest last : List ℕ) : Type 0 where
-    pub messages : List Message
+    pub messages : List CodedMessage
     pub replies : List Reply
     pub more : List ℕ
     pub front : rest ≡ flat_map frame messages ++ more
-    pub each : All (IsWithin max_request_len) messages
+    pub each : All (FitsLimit max_request_len) messages
     pub run : AnswersInTurn Step mid messages replies node'
     pub next : Reply
     pub due : IsDueNext replies more next

@@ -4,14 +4,14 @@ use Rattle.std.specs.List.{flat_map, All}
 use Rattle.pb_frame.specs.declared.fault.FrameFault.{FrameFault}
 use Rattle.pb_frame.specs.Limits.{max_request_len}
 use Rattle.node_session.specs.Limits.{max_read_len}
-use Rattle.pb_frame.specs.Message.{Message, frame, IsWithin, IsPartial}
+use Rattle.pb_frame.specs.Message.{CodedMessage, frame, FitsLimit, IsPartial}
 use Rattle.riak_msgs.specs.declared.reply.Reply.{Reply}
 use Rattle.node_session.specs.declared.exchange.Exchange.{Exchange}
 
-abbrev pub message_of : Exchange → Message
+abbrev pub message_of : Exchange → CodedMessage
 message_of e = record { code = e.code; body = e.body }
 
-abbrev pub messages_of : List Exchange → List Message
+abbrev pub messages_of : List Exchange → List CodedMessage
 messages_of es = map message_of es
 
 abbrev pub replies_of : List Exchange → List Reply
@@ -41,5 +41,5 @@ pub record EndsInPiece (rest : List ℕ) : Type 0 where
 -- the input is the frames of the messages that were answered, and then what is left
 pub record IsRead (input : List ℕ) (exchanges : List Exchange) (rest : List ℕ) : Type 0 where
   pub stream : input ≡ flat_map frame (messages_of exchanges) ++ rest
-  pub each : All (IsWithin max_request_len) (messages_of exchanges)
+  pub each : All (FitsLimit max_request_len) (messages_of exchanges)
   pub last : EndsInPiece rest

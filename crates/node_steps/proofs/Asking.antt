@@ -5,7 +5,7 @@ use Rattle.std.specs.Option.{option_map_or}
 use Rattle.std.proofs.lemmas.Option.{slice_get-map, slice_get_past}
 use Rattle.riak_msgs.specs.Contents.{Content}
 use Rattle.riak_msgs.specs.declared.Request.{Request}
-use Rattle.sibling_register.specs.Answers.{Ask}
+use Rattle.sibling_register.specs.Answers.{RegisterAsk}
 use Rattle.actor_epoch.specs.Given.{Context}
 use Rattle.vnode_machine.specs.Replay.{History}
 use Rattle.node_steps.specs.declared.call.Call.{Call}
@@ -14,11 +14,11 @@ use Rattle.node_steps.specs.declared.phase.Phase.{Phase as RunPhase}
 use Rattle.node_steps.specs.declared.phase.Phase.TheVariants as phases
 use Rattle.node_steps.specs.declared.site.Site.{Site}
 use Rattle.node_steps.specs.declared.parts.Parts.{Parts}
-use Rattle.node_steps.specs.World.{Phase, Idle, Asked, Reading, Holding, Done, Turned, Copying, Closing, Brought, Vnode, Worker, World, route, seen_at, brought_by}
+use Rattle.node_steps.specs.World.{Phase, Idle, Asked, Reading, Holding, Done, Turned, Copying, Closing, Brought, SiteVnode, Worker, World, route, seen_at, brought_by}
 use Rattle.node_steps.specs.Steps.{Asks, AsksNowhere, is_reap, sent, routed, By, site_of, acts, happens, turn_of}
 use Rattle.node_steps.specs.Running.{ask_of, vnode_of, worker_of, world_of}
 use Rattle.node_steps.specs.Asked.{CallsFor, asking_step, asks_by, request_ask}
-use Rattle.node_steps.specs.Parts.{FindsIdle, SendsTo, TakesStep, world_in}
+use Rattle.node_steps.specs.Parts.{FindsIdle, SendsTo, TakesRunStep, world_in}
 use Rattle.node_steps.proofs.Looking.{vnode_itself}
 use Rattle.node_steps.proofs.Mapped.{set-same}
 use Rattle.node_steps.proofs.Stepping.{not_possible, result_at, Steps, step_taken, no_worker, at_one, no_turn, NoTurn, asking_sent, is_busy}
@@ -27,7 +27,7 @@ use Rattle.node_steps.proofs.Stepping.{not_possible, result_at, Steps, step_take
 ping_turn : (world : World) (worker : Worker) (phase : Phase) → worker.phase ≡ phase → NoTurn world AsksNowhere worker
 ping_turn world worker phase e = λ index vnode. ap (λ p. turn_of (seen_at worker.seen index) (brought_by world worker) vnode AsksNowhere p) e ∙ none phase index vnode
   where
-    none : (phase : Phase) (index : ℕ) (vnode : Vnode) → turn_of (seen_at worker.seen index) (brought_by world worker) vnode AsksNowhere phase ≡ None
+    none : (phase : Phase) (index : ℕ) (vnode : SiteVnode) → turn_of (seen_at worker.seen index) (brought_by world worker) vnode AsksNowhere phase ≡ None
     none Idle index vnode = refl
     none (Asked other ask) index vnode = refl
     none (Reading other get) index vnode = refl
@@ -46,10 +46,10 @@ asks_nowhere world (suc place) = by (slice_get world.workers place) refl
     by (Some worker) e = at_one world place AsksNowhere worker e refl ∙ no_turn world place AsksNowhere worker (ping_turn world worker worker.phase refl)
 
 -- nobody is asked something at a site that there isn't
-past_turn : (world : World) (site : ℕ) (ask : Ask Content Context) → slice_get world.vnodes site ≡ None → (place : ℕ) (worker : Worker) → Steps world (Asks site ask) place worker ≡ None
+past_turn : (world : World) (site : ℕ) (ask : RegisterAsk Content Context) → slice_get world.vnodes site ≡ None → (place : ℕ) (worker : Worker) → Steps world (Asks site ask) place worker ≡ None
 past_turn world site ask none place worker = by worker.phase refl
   where
-    busy : (phase : Phase) → worker.phase ≡ phase → ((vnode : Vnode) (seen : History) (brought : Brought) → turn_of seen brought vnode (Asks site ask) phase ≡ None)
+    busy : (phase : Phase) → worker.phase ≡ phase → ((vnode : SiteVnode) (seen : History) (brought : Brought) → turn_of seen brought vnode (Asks site ask) phase ≡ None)
         → NoTurn world (Asks site ask) worker
     busy phase e h = λ index vnode.
         ap (λ p. turn_of (seen_at worker.seen index) (brought_by world worker) vnode (Asks site ask) p) e ∙ h vnode (seen_at worker.seen index) (brought_by world worker)
@@ -68,7 +68,7 @@ past_turn world site ask none place worker = by worker.phase refl
     by (Copying own from key stage) e = no_turn world place (Asks site ask) worker (busy (Copying own from key stage) e (λ v s b. refl))
     by (Closing own from stage) e = no_turn world place (Asks site ask) worker (busy (Closing own from stage) e (λ v s b. refl))
 
-asks_past : (world : World) (site : ℕ) (ask : Ask Content Context) → slice_get world.vnodes site ≡ None → (worker : ℕ) → acts world worker (Asks site ask) ≡ None
+asks_past : (world : World) (site : ℕ) (ask : RegisterAsk Content Context) → slice_get world.vnodes site ≡ None → (worker : ℕ) → acts world worker (Asks site ask) ≡ None
 asks_past world site ask none zero = refl
 asks_past world site ask none (suc place) = by (slice_get world.workers place) refl
   where
@@ -81,7 +81,7 @@ module _ (sites : List Site) (routes epochs : List ℕ) (workers : List RunPhase
   w = world_of sites routes epochs workers
 
   -- without an idle worker of this number
-  busy_or_none : (worker index : ℕ) (ask : Ask Content Context) → FindsIdle workers worker None → happens w (asking_step worker index ask) ≡ None
+  busy_or_none : (worker index : ℕ) (ask : RegisterAsk Content Context) → FindsIdle workers worker None → happens w (asking_step worker index ask) ≡ None
   busy_or_none zero index ask h = refl
   busy_or_none (suc place) index ask h = by (slice_get workers place) refl
     where
@@ -89,29 +89,29 @@ module _ (sites : List Site) (routes epochs : List ℕ) (workers : List RunPhase
       by None e = no_worker w place (routed (route w) (Asks index ask)) (slice_get-map worker_of workers place ∙ ap (λ o. option_map worker_of o) e)
       by (Some phase) e = is_busy sites routes epochs workers place (Asks index ask) phase e (h place phase refl e) (asking_sent index ask (route w index))
 
-  pub not_asked : (worker index : ℕ) (ask : Ask Content Context) → FindsIdle workers worker None → TakesStep w (asking_step worker index ask) outcomes.No w
+  pub not_asked : (worker index : ℕ) (ask : RegisterAsk Content Context) → FindsIdle workers worker None → TakesRunStep w (asking_step worker index ask) outcomes.No w
   not_asked worker index ask h = not_possible sites routes epochs workers (asking_step worker index ask) (busy_or_none worker index ask h)
 
   -- a worker without a call gets one, where the call is sent to this site
   pub asked : (worker place : ℕ) → worker ≡ suc place → slice_get workers place ≡ Some phases.Idle → (index at : ℕ) (call : Call) (site : Site)
       → routed (route w) (Asks index (ask_of call)) ≡ Asks at (ask_of call) → slice_get sites at ≡ Some site
-      → TakesStep w (asking_step worker index (ask_of call)) outcomes.Done (world_of sites routes epochs (slice_set workers place (phases.Asked at call)))
+      → TakesRunStep w (asking_step worker index (ask_of call)) outcomes.Done (world_of sites routes epochs (slice_set workers place (phases.Asked at call)))
   asked worker place number here index at call site goes there =
       let next = phases.Asked at call in
-      subst (λ n. TakesStep w (asking_step n index (ask_of call)) outcomes.Done (world_of sites routes epochs (slice_set workers place next))) (sym number)
-      (subst (λ xs. TakesStep w (asking_step (suc place) index (ask_of call)) outcomes.Done (world_of xs routes epochs (slice_set workers place next)))
+      subst (λ n. TakesRunStep w (asking_step n index (ask_of call)) outcomes.Done (world_of sites routes epochs (slice_set workers place next))) (sym number)
+      (subst (λ xs. TakesRunStep w (asking_step (suc place) index (ask_of call)) outcomes.Done (world_of xs routes epochs (slice_set workers place next)))
       (set-same sites at site there)
       (step_taken sites routes epochs workers place at phases.Idle next site site (Asks index (ask_of call)) (Asks at (ask_of call)) outcomes.Done goes here refl there refl
       (vnode_itself site, refl, refl)))
 
 pub pinged : (sites : List Site) (routes epochs : List ℕ) (workers : List RunPhase) (worker index : ℕ) (request : Request) → CallsFor request None
-    → TakesStep (world_of sites routes epochs workers) (By worker (asks_by index (request_ask request))) outcomes.No (world_of sites routes epochs workers)
+    → TakesRunStep (world_of sites routes epochs workers) (By worker (asks_by index (request_ask request))) outcomes.No (world_of sites routes epochs workers)
 pinged sites routes epochs workers worker index request h =
-    subst (λ o. TakesStep (world_of sites routes epochs workers) (By worker (asks_by index o)) outcomes.No (world_of sites routes epochs workers)) h
+    subst (λ o. TakesRunStep (world_of sites routes epochs workers) (By worker (asks_by index o)) outcomes.No (world_of sites routes epochs workers)) h
     (not_possible sites routes epochs workers (By worker AsksNowhere) (asks_nowhere (world_of sites routes epochs workers) worker))
 
 -- where a call goes, by where those of its partition go
-module _ (parts : Parts) (index : ℕ) (ask : Ask Content Context) where
+module _ (parts : Parts) (index : ℕ) (ask : RegisterAsk Content Context) where
   -- it is sent there
   goes : (o : Option ℕ) → route (world_in parts) index ≡ o
       → (worker : ℕ) → happens (world_in parts) (asking_step worker index ask) ≡ acts (world_in parts) worker (option_map_or (λ site. sent index site ask) o AsksNowhere)

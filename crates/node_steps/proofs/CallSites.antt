@@ -3,7 +3,7 @@ use Rattle.std.proofs.Common.{◌≡◌, ℕ, Bool, true, false, not, ◌&&◌, 
 use Rattle.std.specs.Prelude.{◌==◌, Option, Some, None, slice_get}
 use Rattle.std.specs.Option.{option_map_or}
 use Rattle.riak_msgs.specs.Contents.{Content}
-use Rattle.sibling_register.specs.Answers.{Ask}
+use Rattle.sibling_register.specs.Answers.{RegisterAsk}
 use Rattle.actor_epoch.specs.Given.{Context}
 use Rattle.node_steps.specs.World.{Phase, Idle, Asked, Reading, Holding, Done, Turned, Copying, Closing, World, Call, route, call_of}
 use Rattle.node_steps.specs.Steps.{Action, Asks, AsksNowhere, Copies, CopiesFrom, Closes, ClosesFrom, Enters, Leaves, Marks, Unmarks, Takes, Puts, Looks, Publishes, is_reap, sent, sent_copy, sent_close, routed, site_of}
@@ -21,7 +21,7 @@ call_site (Copying own site key stage) call h = cc
 call_site (Closing own site stage) call h = cc
 
 -- where an ask is sent
-pub sent-by : (w : World) (action : Action) (site : ℕ) (ask : Ask Content Context) → routed (route w) action ≡ Asks site ask
+pub sent-by : (w : World) (action : Action) (site : ℕ) (ask : RegisterAsk Content Context) → routed (route w) action ≡ Asks site ask
     → (other : ℕ) × (slice_get w.routes other ≡ Some site) × ((not (site == other) && is_reap ask) ≡ false)
 sent-by w (Asks other given) site ask h = by (slice_get w.routes other) refl h
   where

@@ -6,7 +6,7 @@ use Rattle.riak_msgs.specs.Contents.{Content}
 use Rattle.vnode_machine.specs.Machine.{State}
 use Rattle.vnode_machine.specs.Step.{Response}
 use Rattle.vnode_machine.specs.Runs.{IsAnswer}
-use Rattle.node_steps.specs.World.{Vnode, World, CommandsAlone, Call, route, id_at, last_epoch_at, log_at, history_at, front_at, call_at}
+use Rattle.node_steps.specs.World.{SiteVnode, World, CommandsAlone, Call, route, id_at, last_epoch_at, log_at, history_at, front_at, call_at}
 use Rattle.node_steps.specs.Steps.{accepted_in, Action, Step, By, Diverts, Outcome, NotPossible, Happened, Replied, accepted_in, left_in, judged, routed, acts, diverted}
 use Rattle.node_steps.specs.Schedules.{Begins}
 use Rattle.node_steps.specs.Claims.{state_at, RepliesAreRegisters, CopiesIn, ClosesIn, NothingElseHappens, RepliesHaveSeen}
@@ -23,8 +23,8 @@ abbrev then : World → Option (World × Outcome) → World × Outcome
 then w o = (option_map_or (λ r. r.0) o w, option_map_or (λ r. r.1) o NotPossible)
 
 -- the state after a vnode's log
-abbrev state_in : Option Vnode → State Content
-state_in o = state_of (option_map_or (λ (v : Vnode). v.id) o 0) (option_map_or (λ (v : Vnode). v.last_epoch) o 0) (option_map_or (λ (v : Vnode). v.log) o [])
+abbrev state_in : Option SiteVnode → State Content
+state_in o = state_of (option_map_or (λ (v : SiteVnode). v.id) o 0) (option_map_or (λ (v : SiteVnode). v.last_epoch) o 0) (option_map_or (λ (v : SiteVnode). v.log) o [])
 
 -- a closer's look answers no call, nor does its publish
 judged_silent : (own site : ℕ) (hand primary : State Content) (closed : Bool) (left : ℕ) (reply : Result Response ℕ) → (judged own site hand primary closed left).1 ≡ Replied reply → ⊥
@@ -92,7 +92,7 @@ module _ (w : World) (number : ℕ) where
       closed_else : NothingElseBy r
       closed_else = subst NothingElseBy c.gives (λ index. elim (same_or_other c.site index) [
         | inl e ↦ inr (inr (inr (subst (λ k. ClosesIn w (close_world w orderly number action r c, Happened) k) e closes_in)))
-        | inr n ↦ inl (ap (λ o. option_map_or (λ (v : Vnode). v.log) o []) (set-there w.vnodes c.site index (close_vnode w orderly number action r c) n))
+        | inr n ↦ inl (ap (λ o. option_map_or (λ (v : SiteVnode). v.log) o []) (set-there w.vnodes c.site index (close_vnode w orderly number action r c) n))
       ])
 
     nothing_else_by : AreJudged w → (o : Option (World × Outcome)) → acts w number action ≡ o → NothingElseBy (then w o)

@@ -3,7 +3,7 @@
 use Rattle.std.proofs.Common.{ℕ, zero, suc, true, false, refl}
 use Rattle.std.specs.Prelude.{Option, Some, None}
 use Rattle.riak_msgs.specs.Contents.{Content}
-use Rattle.sibling_register.specs.Answers.{Ask}
+use Rattle.sibling_register.specs.Answers.{RegisterAsk}
 use Rattle.actor_epoch.specs.Given.{Context}
 use Rattle.vnode_machine.specs.Machine.{State}
 use Rattle.vnode_machine.specs.Replay.{History}
@@ -16,12 +16,12 @@ module _ (id home epoch : ℕ) (seen : History) (brought : Brought) (log : Log) 
   abbrev Same : Word → Action → Phase → Type 0
   Same word action phase = IsErased id home epoch seen brought log place word action phase
 
-  pub turned_leaves : (word : Word) (own site : ℕ) (ask : Ask Content Context) (hand : Option (State Content)) → Same word Leaves (Turned own site ask hand)
+  pub turned_leaves : (word : Word) (own site : ℕ) (ask : RegisterAsk Content Context) (hand : Option (State Content)) → Same word Leaves (Turned own site ask hand)
   turned_leaves (Open n mark) own site ask None = refl
   turned_leaves Taken own site ask None = refl
   turned_leaves word own site ask (Some hand) = refl
 
-  pub turned_puts : (word : Word) (own site : ℕ) (ask : Ask Content Context) (hand : Option (State Content)) → Same word Puts (Turned own site ask hand)
+  pub turned_puts : (word : Word) (own site : ℕ) (ask : RegisterAsk Content Context) (hand : Option (State Content)) → Same word Puts (Turned own site ask hand)
   turned_puts word own site ask None = refl
   turned_puts word own site ask (Some hand) = refl
 

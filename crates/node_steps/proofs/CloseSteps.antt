@@ -5,7 +5,7 @@ use Rattle.std.specs.Option.{option_map_or}
 use Rattle.riak_msgs.specs.Contents.{Content}
 use Rattle.vnode_machine.specs.Machine.{State}
 use Rattle.vnode_machine.specs.Replay.{History}
-use Rattle.node_steps.specs.World.{CloseInside, CloseLooked, CloseDone, Phase, Closing, Vnode, Worker, World, worker_at, seen_at, history_of}
+use Rattle.node_steps.specs.World.{CloseInside, CloseLooked, CloseDone, Phase, Closing, SiteVnode, Worker, World, worker_at, seen_at, history_of}
 use Rattle.node_steps.specs.Steps.{Action, Looks, Publishes, Outcome, Happened, left_in, judged, judged_by, closed_by, closes, seeing, is_about, does, acts}
 use Rattle.node_steps.specs.Schedules.{Begins}
 use Rattle.node_steps.proofs.Lists.{one, how_many, set-here, set-there, same_or_other, how_many-set, get-below}
@@ -22,8 +22,8 @@ pub record IsJudgement (w : World) (number : ℕ) (action : Action) (r : World �
   pub own : ℕ
   pub site : ℕ
   pub hand : State Content
-  pub fallback : Vnode
-  pub primary : Vnode
+  pub fallback : SiteVnode
+  pub primary : SiteVnode
   pub action_is : action ≡ Looks
   pub worker_is : worker_at w number ≡ Some worker
   pub phase_is : worker.phase ≡ Closing own site (CloseInside hand)
@@ -39,7 +39,7 @@ pub record IsClose (w : World) (number : ℕ) (action : Action) (r : World × Ou
   pub site : ℕ
   pub hand : State Content
   pub count : ℕ
-  pub fallback : Vnode
+  pub fallback : SiteVnode
   pub action_is : action ≡ Publishes
   pub worker_is : worker_at w number ≡ Some worker
   pub phase_is : worker.phase ≡ Closing own site (CloseLooked hand count)
@@ -129,7 +129,7 @@ set_cases w place worker next here at x h = elim (same_or_other place at) [
 module _ (w : World) (orderly : IsOrderly w) (place : ℕ) (worker next : Worker) (here : slice_get w.workers place ≡ Some worker) (own site : ℕ)
     (reads_same : (index : ℕ) → is_reader index worker.phase ≡ is_reader index next.phase) (holds_same : (index : ℕ) → is_holder index worker.phase ≡ is_holder index next.phase)
     (between_same : between_in next.phase ≡ between_in worker.phase) (about_same : (index : ℕ) → is_about index next.phase ≡ is_about index worker.phase)
-    (aware : (index : ℕ) (vnode : Vnode) → slice_get w.vnodes index ≡ Some vnode → IsAware vnode.id vnode.last_epoch index vnode.log next)
+    (aware : (index : ℕ) (vnode : SiteVnode) → slice_get w.vnodes index ≡ Some vnode → IsAware vnode.id vnode.last_epoch index vnode.log next)
     (unseen : (site : ℕ) → length w.vnodes ≤ site → seen_at next.seen site ≡ []) where
   abbrev went_over : World
   went_over = record w { workers = slice_set w.workers place next }
@@ -185,14 +185,14 @@ module _ (w : World) (orderly : IsOrderly w) (number : ℕ) (action : Action) (r
   abbrev seen : List History
   seen = seeing (seeing j.worker.seen j.site (history_of j.fallback)) j.own (history_of j.primary)
 
-  seen_begins : (index : ℕ) (vnode : Vnode) → slice_get w.vnodes index ≡ Some vnode → Begins (seen_at seen index) (history_of vnode)
+  seen_begins : (index : ℕ) (vnode : SiteVnode) → slice_get w.vnodes index ≡ Some vnode → Begins (seen_at seen index) (history_of vnode)
   seen_begins index vnode there = elim (same_or_other j.own index) [
-    | inl e ↦ subst (λ (v : Vnode). Begins (seen_at seen index) (history_of v)) (some_back j.primary vnode (sym j.primary_is ∙ ap (λ k. slice_get w.vnodes k) e ∙ there))
+    | inl e ↦ subst (λ (v : SiteVnode). Begins (seen_at seen index) (history_of v)) (some_back j.primary vnode (sym j.primary_is ∙ ap (λ k. slice_get w.vnodes k) e ∙ there))
         (subst (λ front. Begins front (history_of j.primary))
         (sym (ap (λ k. seen_at seen k) (sym e) ∙ seeing-here (seeing j.worker.seen j.site (history_of j.fallback)) j.own (history_of j.primary))) (begins-itself (history_of j.primary)))
     | inr n ↦ subst (λ front. Begins front (history_of vnode)) (sym (seeing-there (seeing j.worker.seen j.site (history_of j.fallback)) j.own index (history_of j.primary) n))
         (elim (same_or_other j.site index) [
-          | inl e ↦ subst (λ (v : Vnode). Begins (seen_at (seeing j.worker.seen j.site (history_of j.fallback)) index) (history_of v))
+          | inl e ↦ subst (λ (v : SiteVnode). Begins (seen_at (seeing j.worker.seen j.site (history_of j.fallback)) index) (history_of v))
               (some_back j.fallback vnode (sym j.fallback_is ∙ ap (λ k. slice_get w.vnodes k) e ∙ there))
               (subst (λ front. Begins front (history_of j.fallback))
               (sym (ap (λ k. seen_at (seeing j.worker.seen j.site (history_of j.fallback)) k) (sym e) ∙ seeing-here j.worker.seen j.site (history_of j.fallback))) (begins-itself (history_of j.fallback)))
@@ -210,7 +210,7 @@ module _ (w : World) (orderly : IsOrderly w) (number : ℕ) (action : Action) (r
   abbrev over : Phase → World
   over phase = judged_by w place j.own j.site j.worker j.primary j.fallback phase
 
-  hand_there : (index : ℕ) (vnode : Vnode) → slice_get w.vnodes index ≡ Some vnode → j.site ≡ index → j.hand ≡ state_of vnode.id vnode.last_epoch vnode.log
+  hand_there : (index : ℕ) (vnode : SiteVnode) → slice_get w.vnodes index ≡ Some vnode → j.site ≡ index → j.hand ≡ state_of vnode.id vnode.last_epoch vnode.log
   hand_there index vnode there e =
       subst (λ phase. IsInHand vnode.id vnode.last_epoch index vnode.log phase) j.phase_is (orderly.workers place j.worker here index vnode there).hand e
 

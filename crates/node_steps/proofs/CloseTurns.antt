@@ -2,14 +2,14 @@
 use Rattle.std.proofs.Common.{◌≡◌, ◌≢◌, inl, inr, ℕ, zero, suc, ◌+◌, true, false, ◌||◌, refl, sym, ◌∙◌, ap, arith, subst}
 use Rattle.std.specs.Prelude.{◌==◌, Option, Some, None}
 use Rattle.riak_msgs.specs.Contents.{Content}
-use Rattle.sibling_register.specs.Answers.{Ask}
+use Rattle.sibling_register.specs.Answers.{RegisterAsk}
 use Rattle.actor_epoch.specs.Given.{Context}
 use Rattle.vnode_machine.specs.Machine.{State}
 use Rattle.vnode_machine.specs.Replay.{History, IsWithinLimits}
 use Rattle.copy_laws.specs.Copies.{commands_of}
 use Rattle.copy_laws.specs.Joining.{Log}
 use Rattle.node_steps.specs.World.{Word, Open, Taken, CloseStage, CloseAsked, CloseTaken, CloseInside, CloseDone, Phase, Idle, Asked, Turned, Closing, Brought}
-use Rattle.node_steps.specs.Steps.{Action, ClosesFrom, Enters, Leaves, Takes, Puts, Turn, left}
+use Rattle.node_steps.specs.Steps.{Action, ClosesFrom, Enters, Leaves, Takes, Puts, WorkerTurn, left}
 use Rattle.node_steps.specs.Schedules.{Begins}
 use Rattle.node_steps.proofs.Coming.{is_looked, BetweenIs}
 use Rattle.node_steps.proofs.Lists.{one, no_more, cancel}
@@ -32,17 +32,17 @@ module _ (id epoch home index readers holders : ℕ) where
 
   module _ (limits : IsWithinLimits id epoch) (log : Log) (seen : History) (brought : Brought) (place : State Content) (has : Begins seen (commands_of log))
       (own site : ℕ) where
-    abbrev TurnsTo : Word → Action → Phase → Turn → Type 0
+    abbrev TurnsTo : Word → Action → Phase → WorkerTurn → Type 0
     TurnsTo word action phase t = turns id epoch home index readers holders limits log seen brought place has word action phase ≡ Some t
 
-    abbrev Is : Action → Phase → Turn → Type 0
+    abbrev Is : Action → Phase → WorkerTurn → Type 0
     Is action phase t = IsTurn id epoch home index readers holders action phase brought log t
 
     abbrev closed_here : Option ℕ
     closed_here = (state_of id epoch log).closed
 
     -- who was turned away leaves, or puts the state back, and is asked at its partition's own site
-    pub leave_turned : (word : Word) → FitsWord word readers holders → IsInPlace id epoch word log place → (ask : Ask Content Context) → site ≡ index → (t : Turn)
+    pub leave_turned : (word : Word) → FitsWord word readers holders → IsInPlace id epoch word log place → (ask : RegisterAsk Content Context) → site ≡ index → (t : WorkerTurn)
         → TurnsTo word Leaves (Turned own site ask None) t → Is Leaves (Turned own site ask None) t
     leave_turned word f p ask e t h =
         subst (λ u. Is Leaves (Turned own site ask None) u) (cc)
@@ -62,8 +62,8 @@ module _ (id epoch home index readers holders : ℕ) where
         (not_between id epoch home index readers holders Leaves closed_here (Turned own site ask None) (Asked own ask) tt)
         (inr (inr (record { site = own; ask = ask }, refl, refl))) word)
 
-    pub put_turned : (word : Word) → FitsWord word readers holders → (ask : Ask Content Context) (hand : State Content) → IsInHand id epoch index log (Turned own site ask (Some hand))
-        → site ≡ index → (t : Turn) → TurnsTo word Puts (Turned own site ask (Some hand)) t → Is Puts (Turned own site ask (Some hand)) t
+    pub put_turned : (word : Word) → FitsWord word readers holders → (ask : RegisterAsk Content Context) (hand : State Content) → IsInHand id epoch index log (Turned own site ask (Some hand))
+        → site ≡ index → (t : WorkerTurn) → TurnsTo word Puts (Turned own site ask (Some hand)) t → Is Puts (Turned own site ask (Some hand)) t
     put_turned word f ask hand mine e t h =
         subst (λ u. Is Puts (Turned own site ask (Some hand)) u) (cc)
         (laid id epoch home index readers holders limits log seen brought place has (Turned own site ask (Some hand)) (Asked own ask) word hand
@@ -82,7 +82,7 @@ module _ (id epoch home index readers holders : ℕ) where
         (inr (inr (record { site = own; ask = ask }, refl, refl))))
 
     -- a closer is sent
-    pub ask_turn : (word : Word) → FitsWord word readers holders → IsInPlace id epoch word log place → site ≡ index → (t : Turn)
+    pub ask_turn : (word : Word) → FitsWord word readers holders → IsInPlace id epoch word log place → site ≡ index → (t : WorkerTurn)
         → TurnsTo word (ClosesFrom own site) Idle t → Is (ClosesFrom own site) Idle t
     ask_turn word f p e t h =
         subst (λ u. Is (ClosesFrom own site) Idle u) (cc)
@@ -97,7 +97,7 @@ module _ (id epoch home index readers holders : ℕ) where
         }) (λ own2 site2 k. (refl, inr (inl (k, refl)))) (inl refl) word)
 
     -- it takes the fallback's state
-    pub take_turn : (word : Word) → FitsWord word readers holders → IsInPlace id epoch word log place → site ≡ index → (t : Turn)
+    pub take_turn : (word : Word) → FitsWord word readers holders → IsInPlace id epoch word log place → site ≡ index → (t : WorkerTurn)
         → TurnsTo word Takes (Closing own site CloseAsked) t → Is Takes (Closing own site CloseAsked) t
     take_turn (Open zero mark) f p e t h =
         subst (λ u. Is Takes (Closing own site CloseAsked) u) (cc)
@@ -114,7 +114,7 @@ module _ (id epoch home index readers holders : ℕ) where
 
     -- it enters the primary
     pub enter_turn : (word : Word) → FitsWord word readers holders → IsInPlace id epoch word log place → (hand : State Content) → IsInHand id epoch index log (Closing own site (CloseTaken hand))
-        → own ≡ index → (t : Turn) → TurnsTo word Enters (Closing own site (CloseTaken hand)) t → Is Enters (Closing own site (CloseTaken hand)) t
+        → own ≡ index → (t : WorkerTurn) → TurnsTo word Enters (Closing own site (CloseTaken hand)) t → Is Enters (Closing own site (CloseTaken hand)) t
     enter_turn (Open n false) f p hand mine e t h =
         subst (λ u. Is Enters (Closing own site (CloseTaken hand)) u) (cc)
         (moved id epoch home index readers holders limits log seen brought place has Enters (Closing own site (CloseTaken hand)) (Closing own site (CloseInside hand)) (Open (n + 1) false)
@@ -130,7 +130,7 @@ module _ (id epoch home index readers holders : ℕ) where
 
     -- it leaves the primary
     pub leave_turn : (word : Word) → FitsWord word readers holders → IsInPlace id epoch word log place → (hand : State Content) → IsInHand id epoch index log (Closing own site (CloseDone hand true))
-        → own ≡ index → (t : Turn) → TurnsTo word Leaves (Closing own site (CloseDone hand true)) t → Is Leaves (Closing own site (CloseDone hand true)) t
+        → own ≡ index → (t : WorkerTurn) → TurnsTo word Leaves (Closing own site (CloseDone hand true)) t → Is Leaves (Closing own site (CloseDone hand true)) t
     leave_turn word f p hand mine e t h =
         subst (λ u. Is Leaves (Closing own site (CloseDone hand true)) u) (cc)
         (moved id epoch home index readers holders limits log seen brought place has Leaves (Closing own site (CloseDone hand true)) (Closing own site (CloseDone hand false)) (left word)
@@ -149,7 +149,7 @@ module _ (id epoch home index readers holders : ℕ) where
 
     -- and puts the fallback's state back
     pub put_turn : (word : Word) → FitsWord word readers holders → (hand : State Content) → IsInHand id epoch index log (Closing own site (CloseDone hand false))
-        → site ≡ index → (t : Turn) → TurnsTo word Puts (Closing own site (CloseDone hand false)) t → Is Puts (Closing own site (CloseDone hand false)) t
+        → site ≡ index → (t : WorkerTurn) → TurnsTo word Puts (Closing own site (CloseDone hand false)) t → Is Puts (Closing own site (CloseDone hand false)) t
     put_turn word f hand mine e t h =
         subst (λ u. Is Puts (Closing own site (CloseDone hand false)) u) (cc)
         (laid id epoch home index readers holders limits log seen brought place has (Closing own site (CloseDone hand false)) Idle word hand

@@ -9,7 +9,7 @@ use Rattle.vnode_machine.specs.Copying.{apply_close}
 use Rattle.vnode_machine.specs.Sound.{IsSound as IsSoundState}
 use Rattle.vnode_machine.proofs.Copying.{sound-close}
 use Rattle.copy_laws.specs.Copies.{Closed}
-use Rattle.node_steps.specs.World.{Word, Open, Taken, CloseDone, Closing, Vnode, Worker, World, CommandsAlone, seen_at}
+use Rattle.node_steps.specs.World.{Word, Open, Taken, CloseDone, Closing, SiteVnode, Worker, World, CommandsAlone, seen_at}
 use Rattle.node_steps.specs.Steps.{Action, Outcome, closed_by, is_about}
 use Rattle.node_steps.proofs.Lists.{how_many, set-here, set-there, same_or_other, length-set, counted_one}
 use Rattle.node_steps.proofs.Inside.{is_reader, is_holder, reads, holds, IsInHand, same_test, no_hand, state_of, IsOpenAt, IsSound, IsPlain, IsAware, IsInPlace, FitsWord, closed-mixed}
@@ -29,7 +29,7 @@ module _ (w : World) (orderly : IsOrderly w) (number : ℕ) (action : Action) (r
   close_fallback = orderly.between place c.worker close_here c.own c.site (ap between_in c.phase_is)
 
   pub close_own : c.fallback.own ≡ c.own
-  close_own = ap (λ (v : Vnode). v.own) (some_back c.fallback close_fallback.vnode (sym c.fallback_is ∙ close_fallback.there)) ∙ close_fallback.own_is
+  close_own = ap (λ (v : SiteVnode). v.own) (some_back c.fallback close_fallback.vnode (sym c.fallback_is ∙ close_fallback.there)) ∙ close_fallback.own_is
 
   pub close_hand : (c.hand ≡ state_of c.fallback.id c.fallback.last_epoch c.fallback.log) × (c.hand.closed ≡ None)
   close_hand = subst (λ phase. IsInHand c.fallback.id c.fallback.last_epoch c.site c.fallback.log phase) c.phase_is
@@ -42,7 +42,7 @@ module _ (w : World) (orderly : IsOrderly w) (number : ℕ) (action : Action) (r
   pub close_route : slice_get w.routes c.own ≡ Some c.site
   close_route = ap (λ k. slice_get w.routes k) (sym close_own) ∙ orderly.opens c.site c.fallback c.fallback_is (λ e. close_fallback.apart (sym close_own ∙ e)) close_open
 
-  abbrev pub close_vnode : Vnode
+  abbrev pub close_vnode : SiteVnode
   close_vnode = record c.fallback { log = Closed c.count ∷ c.fallback.log }
 
   abbrev pub close_worker : Worker
@@ -58,7 +58,7 @@ module _ (w : World) (orderly : IsOrderly w) (number : ℕ) (action : Action) (r
   ]
 
   -- the vnode at an index afterwards
-  pub close_after : (other : ℕ) (v : Vnode) → slice_get close_world.vnodes other ≡ Some v → ((c.site ≡ other) × (close_vnode ≡ v)) ⊎ ((c.site ≢ other) × (slice_get w.vnodes other ≡ Some v))
+  pub close_after : (other : ℕ) (v : SiteVnode) → slice_get close_world.vnodes other ≡ Some v → ((c.site ≡ other) × (close_vnode ≡ v)) ⊎ ((c.site ≢ other) × (slice_get w.vnodes other ≡ Some v))
   close_after other v h = elim (same_or_other c.site other) [
     | inl e ↦ inl (e, some_back close_vnode v (sym (set-here w.vnodes c.site c.fallback close_vnode c.fallback_is) ∙ ap (λ k. slice_get close_world.vnodes k) e ∙ h))
     | inr n ↦ inr (n, sym (set-there w.vnodes c.site other close_vnode n) ∙ h)
@@ -73,7 +73,7 @@ module _ (w : World) (orderly : IsOrderly w) (number : ℕ) (action : Action) (r
       apart = f.apart;
       vnode = close_vnode;
       there = ap (λ k. slice_get close_world.vnodes k) (sym e) ∙ set-here w.vnodes c.site c.fallback close_vnode c.fallback_is;
-      own_is = ap (λ (v : Vnode). v.own) (some_back c.fallback f.vnode (sym c.fallback_is ∙ ap (λ k. slice_get w.vnodes k) e ∙ f.there)) ∙ f.own_is;
+      own_is = ap (λ (v : SiteVnode). v.own) (some_back c.fallback f.vnode (sym c.fallback_is ∙ ap (λ k. slice_get w.vnodes k) e ∙ f.there)) ∙ f.own_is;
     }
     | inr n ↦ record { apart = f.apart; vnode = f.vnode; there = set-there w.vnodes c.site site close_vnode n ∙ f.there; own_is = f.own_is }
   ]
@@ -102,7 +102,7 @@ module _ (w : World) (orderly : IsOrderly w) (number : ℕ) (action : Action) (r
         place = held_in;
       }))
 
-  sound_other : (index : ℕ) (v : Vnode) → slice_get w.vnodes index ≡ Some v → IsSound (how_many (reads index) close_world.workers) (how_many (holds index) close_world.workers) v
+  sound_other : (index : ℕ) (v : SiteVnode) → slice_get w.vnodes index ≡ Some v → IsSound (how_many (reads index) close_world.workers) (how_many (holds index) close_world.workers) v
   sound_other index v h =
       subst (λ n. IsSound n (how_many (holds index) close_world.workers) v) (sym (count_same (reads index) w place c.worker close_worker close_here (reads_same index)))
       (subst (λ n. IsSound (how_many (reads index) w.workers) n v) (sym (count_same (holds index) w place c.worker close_worker close_here (holds_same index))) (orderly.vnodes index v h))
@@ -115,7 +115,7 @@ module _ (w : World) (orderly : IsOrderly w) (number : ℕ) (action : Action) (r
     whole = tt;
   }
 
-  next_other : (index : ℕ) (v : Vnode) → c.site ≢ index → slice_get w.vnodes index ≡ Some v → IsAware v.id v.last_epoch index v.log close_worker
+  next_other : (index : ℕ) (v : SiteVnode) → c.site ≢ index → slice_get w.vnodes index ≡ Some v → IsAware v.id v.last_epoch index v.log close_worker
   next_other index v n h = record {
     hand = λ e. absurd (n e);
     seen = (orderly.workers place c.worker close_here index v h).seen;
@@ -137,7 +137,7 @@ module _ (w : World) (orderly : IsOrderly w) (number : ℕ) (action : Action) (r
       | inr e ↦ sound_other other v e.1
     ];
     workers = λ at x k other v h. elim (close_after other v h) [
-      | inl e ↦ subst (λ o. IsAware v.id v.last_epoch o v.log x) e.0 (subst (λ (u : Vnode). IsAware u.id u.last_epoch c.site u.log x) e.1
+      | inl e ↦ subst (λ o. IsAware v.id v.last_epoch o v.log x) e.0 (subst (λ (u : SiteVnode). IsAware u.id u.last_epoch c.site u.log x) e.1
           (elim (set_cases w place c.worker close_worker close_here at x k) [
             | inl d ↦ subst (λ y. IsAware c.fallback.id c.fallback.last_epoch c.site close_vnode.log y) d.1 next_site
             | inr d ↦ other_site at x d.0 d.1
@@ -148,11 +148,11 @@ module _ (w : World) (orderly : IsOrderly w) (number : ℕ) (action : Action) (r
       ]
     ];
     plain = λ other v h. elim (close_after other v h) [
-      | inl e ↦ subst (λ (u : Vnode). CommandsAlone u.log → IsPlain u.id u.last_epoch u.log) e.1 (λ only. absurd (closed-mixed c.count c.fallback.log only))
+      | inl e ↦ subst (λ (u : SiteVnode). CommandsAlone u.log → IsPlain u.id u.last_epoch u.log) e.1 (λ only. absurd (closed-mixed c.count c.fallback.log only))
       | inr e ↦ orderly.plain other v e.1
     ];
     sound = λ other v h. elim (close_after other v h) [
-      | inl e ↦ subst (λ (u : Vnode). IsSoundState (state_of u.id u.last_epoch u.log)) e.1
+      | inl e ↦ subst (λ (u : SiteVnode). IsSoundState (state_of u.id u.last_epoch u.log)) e.1
           (sound-close (state_of c.fallback.id c.fallback.last_epoch c.fallback.log) (orderly.sound c.site c.fallback c.fallback_is) c.count)
       | inr e ↦ orderly.sound other v e.1
     ];
@@ -161,7 +161,7 @@ module _ (w : World) (orderly : IsOrderly w) (number : ℕ) (action : Action) (r
       | inr d ↦ close_stays own site (orderly.between at x d.1 own site h)
     ];
     owned = λ other v h. subst (λ n. v.own < n) (sym (length-set w.routes c.own c.own)) (elim (close_after other v h) [
-      | inl e ↦ subst (λ (u : Vnode). u.own < length w.routes) e.1 (orderly.owned c.site c.fallback c.fallback_is)
+      | inl e ↦ subst (λ (u : SiteVnode). u.own < length w.routes) e.1 (orderly.owned c.site c.fallback c.fallback_is)
       | inr e ↦ orderly.owned other v e.1
     ]);
     homes = λ other v under h.
@@ -178,7 +178,7 @@ module _ (w : World) (orderly : IsOrderly w) (number : ℕ) (action : Action) (r
       ]
     ];
     opens = λ site v h n clear. elim (close_after site v h) [
-      | inl e ↦ absurd (not_closed (subst (λ (u : Vnode). IsOpenAt u.id u.last_epoch u.log) (sym e.1) clear))
+      | inl e ↦ absurd (not_closed (subst (λ (u : SiteVnode). IsOpenAt u.id u.last_epoch u.log) (sym e.1) clear))
       | inr e ↦ elim (same_or_other c.own v.own) [
         | inl same ↦ absurd (e.0 (some_back c.site site (sym close_route ∙ ap (λ k. slice_get w.routes k) same ∙ orderly.opens site v e.1 n clear)))
         | inr m ↦ set-there w.routes c.own v.own c.own m ∙ orderly.opens site v e.1 n clear

@@ -4,12 +4,12 @@ use Rattle.std.specs.Prelude.{Option, Some, None, Result, Ok, Err}
 use Rattle.riak_msgs.specs.declared.Key.{Key}
 use Rattle.riak_msgs.specs.Contents.{Content}
 use Rattle.sibling_register.specs.History.{Event, is_update}
-use Rattle.sibling_register.specs.Answers.{Ask}
+use Rattle.sibling_register.specs.Answers.{RegisterAsk}
 use Rattle.actor_epoch.specs.Given.{Context}
 use Rattle.vnode_machine.specs.Machine.{State}
 use Rattle.dvv_set.specs.Clocks.{DotState}
 use Rattle.vnode_machine.specs.Copying.{is_stuck}
-use Rattle.vnode_machine.specs.Replay.{replay, Accepts}
+use Rattle.vnode_machine.specs.Replay.{replay, AcceptsEvent}
 use Rattle.vnode_machine.specs.Step.{Response}
 use Rattle.vnode_machine.specs.Registers.{key_of, context_in_ask}
 use Rattle.vnode_machine.specs.Runs.{IsAnswer}
@@ -17,7 +17,7 @@ use Rattle.copy_laws.specs.Copies.{Command, Copied, commands_of}
 use Rattle.copy_laws.specs.Joining.{Log}
 use Rattle.node_steps.specs.HeldNames.{saw_held}
 use Rattle.node_steps.specs.World.{CopyTaken, CloseLooked, Phase, Turned, Copying, Closing, Brought, Call, call_of, history_of}
-use Rattle.node_steps.specs.Steps.{Action, CopiesFrom, ClosesFrom, is_reap, is_about, Outcome, NotPossible, Happened, Replied, NotHeld, StuckThere, CopiedBack, Elsewhere, LeftThere, Turn}
+use Rattle.node_steps.specs.Steps.{Action, CopiesFrom, ClosesFrom, is_reap, is_about, Outcome, NotPossible, Happened, Replied, NotHeld, StuckThere, CopiedBack, Elsewhere, LeftThere, WorkerTurn}
 use Rattle.node_steps.specs.Contexts.{context_bytes, call_by}
 use Rattle.node_steps.proofs.Shown.{AreHeld}
 use Rattle.node_steps.proofs.Inside.{state_of, IsOpenAt, IsPlain}
@@ -65,21 +65,21 @@ CallIs action before later =
     (call_of later ≡ call_of before) ⊎ ((call_of later ≡ None) ⊎ ((call : Call) × (call_of later ≡ Some call) × (call_by action before ≡ Some call)))
 
 -- the log is as it was, or has an event of the ask more, which the state after it accepts, and which saw what it had to see
-abbrev pub EventIs : (id epoch : ℕ) → Ask Content Context → (before later : Log) → Type 0
+abbrev pub EventIs : (id epoch : ℕ) → RegisterAsk Content Context → (before later : Log) → Type 0
 EventIs id epoch ask before later =
     (later ≡ before)
     ⊎ ((event : Event Content Context) × (later ≡ Command event ∷ before) × (event.key ≡ key_of ask) × (event.context ≡ context_in_ask ask)
     × (is_reap ask ≡ false → is_update event.operation ≡ true)
-    × Accepts (state_of id epoch before) event.key event.context event.operation
+    × AcceptsEvent (state_of id epoch before) event.key event.context event.operation
     × (event.saw ≡ saw_held id epoch before event.key event.context event.operation))
 
 -- what a reply shows in this state
-abbrev pub ReplyShows : State Content → Ask Content Context → Result Response ℕ → Type 0
+abbrev pub ReplyShows : State Content → RegisterAsk Content Context → Result Response ℕ → Type 0
 ReplyShows state ask (Ok response) = AreHeld state (key_of ask) (context_bytes response)
 ReplyShows state ask (Err number) = Unit {0}
 
 -- the turn answers a call as the register may; its worker has then seen the history
-pub record IsReplyTo (id epoch index : ℕ) (log : Log) (t : Turn) (reply : Result Response ℕ) (call : Call) : Type 0 where
+pub record IsReplyTo (id epoch index : ℕ) (log : Log) (t : WorkerTurn) (reply : Result Response ℕ) (call : Call) : Type 0 where
   pub at : call.site ≡ index
   pub opened : IsOpenAt id epoch log
   pub seen : t.seen ≡ history_of t.vnode
@@ -102,7 +102,7 @@ pub record CopyIs (id epoch index : ℕ) (phase : Phase) (brought : Brought) (be
   pub later_is : later ≡ Copied (record { key = key; clock = clock; diversion = brought.diversion; prefix = brought.prefix }) ∷ before
 
 -- a turn answers nothing, and the log stays; or it answers the call; or it copies
-abbrev pub Comes : (id epoch index : ℕ) → Phase → (brought : Brought) → Log → Turn → Outcome → Type 0
+abbrev pub Comes : (id epoch index : ℕ) → Phase → (brought : Brought) → Log → WorkerTurn → Outcome → Type 0
 Comes id epoch index phase brought log t NotPossible = ⊥
 Comes id epoch index phase brought log t Happened = t.vnode.log ≡ log
 Comes id epoch index phase brought log t (Replied reply) = (c : Call) × (call_of phase ≡ Some c) × IsReplyTo id epoch index log t reply c

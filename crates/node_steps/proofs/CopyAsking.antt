@@ -13,11 +13,11 @@ use Rattle.node_steps.specs.declared.stage.Stage.TheVariants as stages
 use Rattle.node_steps.specs.declared.close_stage.CloseStage.TheVariants as close_stages
 use Rattle.node_steps.specs.declared.site.Site.{Site}
 use Rattle.node_steps.specs.declared.parts.Parts.{Parts}
-use Rattle.node_steps.specs.World.{Phase, Idle, Asked, Reading, Holding, Done, Turned, Copying, Closing, Brought, Vnode, Worker, World, route, seen_at, brought_by}
+use Rattle.node_steps.specs.World.{Phase, Idle, Asked, Reading, Holding, Done, Turned, Copying, Closing, Brought, SiteVnode, Worker, World, route, seen_at, brought_by}
 use Rattle.node_steps.specs.Steps.{Action, Copies, CopiesFrom, Closes, ClosesFrom, AsksNowhere, sent_copy, sent_close, turn_of, site_of, routed, acts, happens, By}
 use Rattle.node_steps.specs.Running.{vnode_of, worker_of, world_of}
 use Rattle.node_steps.specs.Asked.{closing_step, copying_step}
-use Rattle.node_steps.specs.Parts.{FindsIdle, HasFallback, HasNone, TakesStep, world_in}
+use Rattle.node_steps.specs.Parts.{FindsIdle, HasFallbackSite, HasNone, TakesRunStep, world_in}
 use Rattle.node_steps.proofs.Looking.{vnode_itself}
 use Rattle.node_steps.proofs.Mapped.{same_test, set-same}
 use Rattle.node_steps.proofs.Stepping.{not_possible, result_at, Steps, step_taken, no_worker, at_one, no_turn, NoTurn, IsAsking, copying_sent, closing_sent, is_busy}
@@ -27,7 +27,7 @@ use Rattle.node_steps.proofs.Asking.{asks_nowhere}
 copies_turn : (world : World) (own site : ℕ) (key : Key) → slice_get world.vnodes site ≡ None → (place : ℕ) (worker : Worker) → Steps world (CopiesFrom own site key) place worker ≡ None
 copies_turn world own site key none place worker = by worker.phase refl
   where
-    busy : (phase : Phase) → worker.phase ≡ phase → ((vnode : Vnode) (seen : History) (brought : Brought) → turn_of seen brought vnode (CopiesFrom own site key) phase ≡ None)
+    busy : (phase : Phase) → worker.phase ≡ phase → ((vnode : SiteVnode) (seen : History) (brought : Brought) → turn_of seen brought vnode (CopiesFrom own site key) phase ≡ None)
         → NoTurn world (CopiesFrom own site key) worker
     busy phase e h = λ index vnode.
         ap (λ p. turn_of (seen_at worker.seen index) (brought_by world worker) vnode (CopiesFrom own site key) p) e ∙ h vnode (seen_at worker.seen index) (brought_by world worker)
@@ -58,7 +58,7 @@ copies_past world own site key none (suc place) = by (slice_get world.workers pl
 closes_turn : (world : World) (own site : ℕ) → slice_get world.vnodes site ≡ None → (place : ℕ) (worker : Worker) → Steps world (ClosesFrom own site) place worker ≡ None
 closes_turn world own site none place worker = by worker.phase refl
   where
-    busy : (phase : Phase) → worker.phase ≡ phase → ((vnode : Vnode) (seen : History) (brought : Brought) → turn_of seen brought vnode (ClosesFrom own site) phase ≡ None)
+    busy : (phase : Phase) → worker.phase ≡ phase → ((vnode : SiteVnode) (seen : History) (brought : Brought) → turn_of seen brought vnode (ClosesFrom own site) phase ≡ None)
         → NoTurn world (ClosesFrom own site) worker
     busy phase e h = λ index vnode.
         ap (λ p. turn_of (seen_at worker.seen index) (brought_by world worker) vnode (ClosesFrom own site) p) e ∙ h vnode (seen_at worker.seen index) (brought_by world worker)
@@ -98,22 +98,22 @@ module _ (sites : List Site) (routes epochs : List ℕ) (workers : List RunPhase
       by None e = no_worker w place (routed (route w) action) (slice_get-map worker_of workers place ∙ ap (λ o. option_map worker_of o) e)
       by (Some phase) e = is_busy sites routes epochs workers place action phase e (h place phase refl e) asking
 
-  pub not_sent : (worker index : ℕ) (key : Key) → FindsIdle workers worker None → TakesStep w (copying_step worker index key) outcomes.No w
+  pub not_sent : (worker index : ℕ) (key : Key) → FindsIdle workers worker None → TakesRunStep w (copying_step worker index key) outcomes.No w
   not_sent worker index key h =
       not_possible sites routes epochs workers (copying_step worker index key) (busy_or_none worker (Copies index key) (copying_sent index key (route w index)) h)
 
-  pub not_closing : (worker index : ℕ) → FindsIdle workers worker None → TakesStep w (closing_step worker index) outcomes.No w
+  pub not_closing : (worker index : ℕ) → FindsIdle workers worker None → TakesRunStep w (closing_step worker index) outcomes.No w
   not_closing worker index h =
       not_possible sites routes epochs workers (closing_step worker index) (busy_or_none worker (Closes index) (closing_sent index (route w index)) h)
 
   -- a worker without a call becomes a copier
   pub is_sent : (worker place : ℕ) → worker ≡ suc place → slice_get workers place ≡ Some phases.Idle → (index from : ℕ) (key : Box Key) (site : Site)
       → routed (route w) (Copies index key.value) ≡ CopiesFrom index from key.value → slice_get sites from ≡ Some site
-      → TakesStep w (copying_step worker index key.value) outcomes.Done (world_of sites routes epochs (slice_set workers place (phases.Copying index from key stages.Asked)))
+      → TakesRunStep w (copying_step worker index key.value) outcomes.Done (world_of sites routes epochs (slice_set workers place (phases.Copying index from key stages.Asked)))
   is_sent worker place number here index from key site goes there =
       let next = phases.Copying index from key stages.Asked in
-      subst (λ n. TakesStep w (copying_step n index key.value) outcomes.Done (world_of sites routes epochs (slice_set workers place next))) (sym number)
-      (subst (λ xs. TakesStep w (copying_step (suc place) index key.value) outcomes.Done (world_of xs routes epochs (slice_set workers place next)))
+      subst (λ n. TakesRunStep w (copying_step n index key.value) outcomes.Done (world_of sites routes epochs (slice_set workers place next))) (sym number)
+      (subst (λ xs. TakesRunStep w (copying_step (suc place) index key.value) outcomes.Done (world_of xs routes epochs (slice_set workers place next)))
       (set-same sites from site there)
       (step_taken sites routes epochs workers place from phases.Idle next site site (Copies index key.value) (CopiesFrom index from key.value) outcomes.Done goes here refl there refl
       (vnode_itself site, refl, refl)))
@@ -121,11 +121,11 @@ module _ (sites : List Site) (routes epochs : List ℕ) (workers : List RunPhase
   -- or a closer
   pub is_closing : (worker place : ℕ) → worker ≡ suc place → slice_get workers place ≡ Some phases.Idle → (index from : ℕ) (site : Site)
       → routed (route w) (Closes index) ≡ ClosesFrom index from → slice_get sites from ≡ Some site
-      → TakesStep w (closing_step worker index) outcomes.Done (world_of sites routes epochs (slice_set workers place (phases.Closing index from close_stages.Asked)))
+      → TakesRunStep w (closing_step worker index) outcomes.Done (world_of sites routes epochs (slice_set workers place (phases.Closing index from close_stages.Asked)))
   is_closing worker place number here index from site goes there =
       let next = phases.Closing index from close_stages.Asked in
-      subst (λ n. TakesStep w (closing_step n index) outcomes.Done (world_of sites routes epochs (slice_set workers place next))) (sym number)
-      (subst (λ xs. TakesStep w (closing_step (suc place) index) outcomes.Done (world_of xs routes epochs (slice_set workers place next)))
+      subst (λ n. TakesRunStep w (closing_step n index) outcomes.Done (world_of sites routes epochs (slice_set workers place next))) (sym number)
+      (subst (λ xs. TakesRunStep w (closing_step (suc place) index) outcomes.Done (world_of xs routes epochs (slice_set workers place next)))
       (set-same sites from site there)
       (step_taken sites routes epochs workers place from phases.Idle next site site (Closes index) (ClosesFrom index from) outcomes.Done goes here refl there refl
       (vnode_itself site, refl, refl)))
@@ -178,7 +178,7 @@ module _ (parts : Parts) (index : ℕ) where
 
   -- it is the one that the calls go to
   pub from_there : (site : ℕ) → route (world_in parts) index ≡ Some site → (site == index) ≡ false → site < length parts.sites.items
-      → HasFallback parts index (Some site)
+      → HasFallbackSite parts index (Some site)
   from_there site e other below = record {
     copies = λ key. ap (λ r. option_map_or (λ site. sent_copy index site key) r AsksNowhere) e ∙ ap (λ b. cond b AsksNowhere (CopiesFrom index site key)) other;
     closes = ap (λ r. option_map_or (λ site. sent_close index site) r AsksNowhere) e ∙ ap (λ b. cond b AsksNowhere (ClosesFrom index site)) other;

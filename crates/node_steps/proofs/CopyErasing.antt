@@ -8,15 +8,15 @@ use Rattle.vnode_machine.specs.Copying.{is_stuck}
 use Rattle.vnode_machine.specs.Machine.{State, is_held}
 use Rattle.vnode_machine.specs.Replay.{History}
 use Rattle.copy_laws.specs.Joining.{Log}
-use Rattle.node_steps.specs.World.{Word, Open, Taken, CopyStage, CopyAsked, CopyInside, CopyLooked, CopyTaken, CopyDone, Phase, Idle, Copying, Brought, nothing_brought, Vnode}
-use Rattle.node_steps.specs.Steps.{Action, CopiesFrom, Enters, Leaves, Takes, Puts, Looks, Publishes, Turn, finds_by, finds_open, syncs_by, turn_of}
+use Rattle.node_steps.specs.World.{Word, Open, Taken, CopyStage, CopyAsked, CopyInside, CopyLooked, CopyTaken, CopyDone, Phase, Idle, Copying, Brought, nothing_brought, SiteVnode}
+use Rattle.node_steps.specs.Steps.{Action, CopiesFrom, Enters, Leaves, Takes, Puts, Looks, Publishes, WorkerTurn, finds_by, finds_open, syncs_by, turn_of}
 use Rattle.node_steps.specs.Erased.{IsShown, erase_vnode}
 
-abbrev pub erase_turn : Turn → Turn
+abbrev pub erase_turn : WorkerTurn → WorkerTurn
 erase_turn turn = record { phase = turn.phase; seen = []; vnode = erase_vnode turn.vnode; outcome = turn.outcome }
 
 module _ (id home epoch : ℕ) (seen : History) (brought : Brought) (log : Log) (place : State Content) where
-  abbrev vnode_in : Word → Vnode
+  abbrev vnode_in : Word → SiteVnode
   vnode_in word = record { id = id; own = home; last_epoch = epoch; word = word; log = log; place = place }
 
   -- the turn in the erased world is the erased turn

@@ -10,7 +10,7 @@ use Rattle.vnode_machine.specs.Replay.{History, IsWithinLimits}
 use Rattle.copy_laws.specs.Copies.{Copy, Copied, commands_of}
 use Rattle.copy_laws.specs.Joining.{Log}
 use Rattle.node_steps.specs.World.{Word, Open, Taken, CopyStage, CopyAsked, CopyInside, CopyLooked, CopyTaken, CopyDone, Phase, Idle, Copying, Brought}
-use Rattle.node_steps.specs.Steps.{Action, CopiesFrom, Enters, Leaves, Takes, Puts, Looks, Publishes, Outcome, Happened, NotHeld, StuckThere, Elsewhere, Turn, left, sees, finds_by, finds_open, syncs_by, copies_by}
+use Rattle.node_steps.specs.Steps.{Action, CopiesFrom, Enters, Leaves, Takes, Puts, Looks, Publishes, Outcome, Happened, NotHeld, StuckThere, Elsewhere, WorkerTurn, left, sees, finds_by, finds_open, syncs_by, copies_by}
 use Rattle.node_steps.specs.Schedules.{Begins}
 use Rattle.node_steps.proofs.Coming.{BetweenIs, Comes}
 use Rattle.node_steps.proofs.Lists.{one, no_more, cancel}
@@ -40,16 +40,16 @@ module _ (id epoch home index readers holders : ℕ) where
     abbrev copying : CopyStage → Phase
     copying stage = Copying own site key stage
 
-    abbrev TurnsTo : Word → Action → Phase → Turn → Type 0
+    abbrev TurnsTo : Word → Action → Phase → WorkerTurn → Type 0
     TurnsTo word action phase t = turns id epoch home index readers holders limits log seen brought place has word action phase ≡ Some t
 
-    abbrev Is : Action → Phase → Turn → Type 0
+    abbrev Is : Action → Phase → WorkerTurn → Type 0
     Is action phase t = IsTurn id epoch home index readers holders action phase brought log t
 
     abbrev stay : (other : ℕ) (was next : CopyStage) → Type 0
     stay other was next = StaysAt other (copying was) (copying next)
 
-    pub ask_turn : (word : Word) → FitsWord word readers holders → IsInPlace id epoch word log place → site ≡ index → (t : Turn)
+    pub ask_turn : (word : Word) → FitsWord word readers holders → IsInPlace id epoch word log place → site ≡ index → (t : WorkerTurn)
         → TurnsTo word (CopiesFrom own site key) Idle t → Is (CopiesFrom own site key) Idle t
     ask_turn word f p e t h =
         subst (λ u. Is (CopiesFrom own site key) Idle u) (cc)
@@ -63,7 +63,7 @@ module _ (id epoch home index readers holders : ℕ) where
           ];
         }) (λ own2 site2 k. (refl, inr (inl (k, refl)))) (inl refl) word)
 
-    pub enter_turn : (word : Word) → FitsWord word readers holders → IsInPlace id epoch word log place → site ≡ index → (t : Turn)
+    pub enter_turn : (word : Word) → FitsWord word readers holders → IsInPlace id epoch word log place → site ≡ index → (t : WorkerTurn)
         → TurnsTo word Enters (copying CopyAsked) t → Is Enters (copying CopyAsked) t
     enter_turn (Open n false) f p e t h =
         subst (λ u. Is Enters (copying CopyAsked) u) (cc)
@@ -107,7 +107,7 @@ module _ (id epoch home index readers holders : ℕ) where
       comes = comes;
     }
 
-    abbrev found : Word → Bool → Turn
+    abbrev found : Word → Bool → WorkerTurn
     found word held = finds_by seen brought (vnode_in id epoch home index readers holders limits log seen brought place has word) own site key held
 
     find_by : (word : Word) → FitsWord word readers holders → IsInPlace id epoch word log place → site ≡ index → place ≡ state_of id epoch log
@@ -134,7 +134,7 @@ module _ (id epoch home index readers holders : ℕ) where
         (λ other n. record { reader = refl; holder = refl; hand = λ i k l had. tt; whole = λ front history had. tt }) refl
     open_by word f p e is false closed = find_by word f p e is (none_of place.closed closed) (is_held place key) refl
 
-    pub find_turn : (word : Word) → FitsWord word readers holders → IsInPlace id epoch word log place → one (is_reader index (copying CopyInside)) ≤ readers → site ≡ index → (t : Turn)
+    pub find_turn : (word : Word) → FitsWord word readers holders → IsInPlace id epoch word log place → one (is_reader index (copying CopyInside)) ≤ readers → site ≡ index → (t : WorkerTurn)
         → TurnsTo word Looks (copying CopyInside) t → Is Looks (copying CopyInside) t
     find_turn word f p n e t h =
         let is : place ≡ state_of id epoch log =
@@ -145,7 +145,7 @@ module _ (id epoch home index readers holders : ℕ) where
     not_both n h z e = omega (arith, h, z, one_same id epoch home index readers holders site e)
 
     pub take_turn : (word : Word) → FitsWord word readers holders → IsInPlace id epoch word log place → (clock : DotState (Option Content))
-        → one (is_reader index (copying (CopyLooked clock))) ≤ readers → IsInHand id epoch index log (copying (CopyLooked clock)) → own ≡ index → (t : Turn)
+        → one (is_reader index (copying (CopyLooked clock))) ≤ readers → IsInHand id epoch index log (copying (CopyLooked clock)) → own ≡ index → (t : WorkerTurn)
         → TurnsTo word Takes (copying (CopyLooked clock)) t → Is Takes (copying (CopyLooked clock)) t
     take_turn (Open zero mark) f p clock n mine e t h =
         subst (λ u. Is Takes (copying (CopyLooked clock)) u) (cc)
@@ -161,7 +161,7 @@ module _ (id epoch home index readers holders : ℕ) where
     take_turn (Open (suc n) mark) f p clock m mine e t h = cc
     take_turn Taken f p clock m mine e t h = cc
 
-    abbrev synced : Word → DotState (Option Content) → State Content → Bool → Turn
+    abbrev synced : Word → DotState (Option Content) → State Content → Bool → WorkerTurn
     synced word clock hand stuck = syncs_by seen brought (vnode_in id epoch home index readers holders limits log seen brought place has word) own site key clock hand stuck
 
     sync_by : (word : Word) → FitsWord word readers holders → IsInPlace id epoch word log place → (clock : DotState (Option Content)) (hand : State Content)
@@ -181,20 +181,20 @@ module _ (id epoch home index readers holders : ℕ) where
         }) refl
 
     pub sync_turn : (word : Word) → FitsWord word readers holders → IsInPlace id epoch word log place → (clock : DotState (Option Content)) (hand : State Content)
-        → IsInHand id epoch index log (copying (CopyTaken clock hand None)) → own ≡ index → (t : Turn)
+        → IsInHand id epoch index log (copying (CopyTaken clock hand None)) → own ≡ index → (t : WorkerTurn)
         → TurnsTo word Looks (copying (CopyTaken clock hand None)) t → Is Looks (copying (CopyTaken clock hand None)) t
     sync_turn word f p clock hand mine e t h =
-        let turn : Turn = synced word clock hand (is_stuck hand key clock) in
+        let turn : WorkerTurn = synced word clock hand (is_stuck hand key clock) in
         let same : turn ≡ t = cc in
         subst (λ u. Is Looks (copying (CopyTaken clock hand None)) u) same (sync_by word f p clock hand mine e (is_stuck hand key clock) refl)
 
     pub publish_turn : (word : Word) → FitsWord word readers holders → (clock : DotState (Option Content)) (hand next : State Content)
         → one (is_holder index (copying (CopyTaken clock hand (Some next)))) ≤ holders
-        → IsInHand id epoch index log (copying (CopyTaken clock hand (Some next))) → own ≡ index → (t : Turn)
+        → IsInHand id epoch index log (copying (CopyTaken clock hand (Some next))) → own ≡ index → (t : WorkerTurn)
         → TurnsTo word Publishes (copying (CopyTaken clock hand (Some next))) t → Is Publishes (copying (CopyTaken clock hand (Some next))) t
     publish_turn word f clock hand next held mine e t h =
         let copy : Copy Content = record { key = key; clock = clock; diversion = brought.diversion; prefix = brought.prefix } in
-        let turn : Turn = copies_by seen brought (vnode_in id epoch home index readers holders limits log seen brought place has word) own site key clock next in
+        let turn : WorkerTurn = copies_by seen brought (vnode_in id epoch home index readers holders limits log seen brought place has word) own site key clock next in
         let same : turn ≡ t = cc in
         let was : (hand ≡ state_of id epoch log) × ((next ≡ apply_copy hand key clock) × (is_stuck hand key clock ≡ false)) = mine.1 e in
         subst (λ u. Is Publishes (copying (CopyTaken clock hand (Some next))) u) same (record {
@@ -234,7 +234,7 @@ module _ (id epoch home index readers holders : ℕ) where
           };
         })
 
-    pub put_turn : (word : Word) → FitsWord word readers holders → (hand : State Content) → IsInHand id epoch index log (copying (CopyDone (Some hand))) → own ≡ index → (t : Turn)
+    pub put_turn : (word : Word) → FitsWord word readers holders → (hand : State Content) → IsInHand id epoch index log (copying (CopyDone (Some hand))) → own ≡ index → (t : WorkerTurn)
         → TurnsTo word Puts (copying (CopyDone (Some hand))) t → Is Puts (copying (CopyDone (Some hand))) t
     put_turn word f hand mine e t h =
         subst (λ u. Is Puts (copying (CopyDone (Some hand))) u) (cc)
@@ -253,7 +253,7 @@ module _ (id epoch home index readers holders : ℕ) where
         put_fits Taken f r h x y =
             (omega (arith, cancel r readers (site == index) x, f.0), omega (arith, y, one_same id epoch home index readers holders own e, f.1))
 
-    pub leave_turn : (word : Word) → FitsWord word readers holders → IsInPlace id epoch word log place → site ≡ index → (t : Turn)
+    pub leave_turn : (word : Word) → FitsWord word readers holders → IsInPlace id epoch word log place → site ≡ index → (t : WorkerTurn)
         → TurnsTo word Leaves (copying (CopyDone None)) t → Is Leaves (copying (CopyDone None)) t
     leave_turn word f p e t h =
         subst (λ u. Is Leaves (copying (CopyDone None)) u) (cc)

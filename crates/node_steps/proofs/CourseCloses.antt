@@ -19,10 +19,10 @@ use Rattle.copy_laws.specs.Copies.{all_commands, commands_of}
 use Rattle.copy_laws.specs.Joining.{Log}
 use Rattle.copy_laws.specs.Sides.{Partition}
 use Rattle.copy_laws.specs.CopyReplay.{primary_after}
-use Rattle.copy_laws.specs.Diversions.{Course, Return, diversions_of, fallback_of, fallback_state, primary_of, WasShown, is_copied, MayHappen}
+use Rattle.copy_laws.specs.Diversions.{Course, Return, diversions_of, fallback_of, fallback_state, primary_of, WasShownInCourse, is_copied, MayHappen}
 use Rattle.copy_laws.proofs.CourseCopied.{copied_is_brought}
 use Rattle.copy_laws.proofs.Fallback.{log-replay}
-use Rattle.node_steps.specs.World.{Vnode, Worker, World, CommandsAlone, Call, call_of}
+use Rattle.node_steps.specs.World.{SiteVnode, Worker, World, CommandsAlone, Call, call_of}
 use Rattle.node_steps.specs.Steps.{Action, Outcome, left_in}
 use Rattle.node_steps.proofs.Lists.{set-here, set-there, same_or_other, length-set, found_below}
 use Rattle.node_steps.proofs.Inside.{state_of}
@@ -123,7 +123,7 @@ module _ (run index : ℕ) (w : World) (orderly : IsOrderly w) (number : ℕ) (a
   abbrev next : World
   next = close_world w orderly number action r c
 
-  abbrev closed : Vnode
+  abbrev closed : SiteVnode
   closed = close_vnode w orderly number action r c
 
   abbrev count : ℕ
@@ -140,9 +140,9 @@ module _ (run index : ℕ) (w : World) (orderly : IsOrderly w) (number : ℕ) (a
   }
 
   -- a vnode afterwards is one of before, of the same partition
-  vnode_was : (site : ℕ) (v : Vnode) → slice_get next.vnodes site ≡ Some v → (old : Vnode) × (slice_get w.vnodes site ≡ Some old) × (old.own ≡ v.own)
+  vnode_was : (site : ℕ) (v : SiteVnode) → slice_get next.vnodes site ≡ Some v → (old : SiteVnode) × (slice_get w.vnodes site ≡ Some old) × (old.own ≡ v.own)
   vnode_was site v h = elim (close_after w orderly number action r c site v h) [
-    | inl e ↦ (c.fallback, ap (λ k. slice_get w.vnodes k) (sym e.0) ∙ c.fallback_is, ap (λ (u : Vnode). u.own) e.1)
+    | inl e ↦ (c.fallback, ap (λ k. slice_get w.vnodes k) (sym e.0) ∙ c.fallback_is, ap (λ (u : SiteVnode). u.own) e.1)
     | inr e ↦ (v, e.1, refl)
   ]
 
@@ -152,7 +152,7 @@ module _ (run index : ℕ) (w : World) (orderly : IsOrderly w) (number : ℕ) (a
     site = f.site;
     vnode = f.vnode;
     there = set-there w.vnodes c.site f.site closed (λ e. f.closed
-        (ap (λ (v : Vnode). (state_of v.id v.last_epoch v.log).closed) (sym (some_back c.fallback f.vnode (sym c.fallback_is ∙ ap (λ k. slice_get w.vnodes k) e ∙ f.there)))
+        (ap (λ (v : SiteVnode). (state_of v.id v.last_epoch v.log).closed) (sym (some_back c.fallback f.vnode (sym c.fallback_is ∙ ap (λ k. slice_get w.vnodes k) e ∙ f.there)))
         ∙ close_open w orderly number action r c)) ∙ f.there;
     own_is = f.own_is;
     id_is = f.id_is;
@@ -167,9 +167,9 @@ module _ (run index : ℕ) (w : World) (orderly : IsOrderly w) (number : ℕ) (a
       let home = orderly.homes c.site c.fallback (subst (λ k. k < length w.routes) (sym e) run_is.known) c.fallback_is in
       (close_fallback w orderly number action r c).apart (sym (close_own w orderly number action r c) ∙ home.0)
 
-  calls-stay : (partition : Partition) (later : Course) → ((key : Key) (context : Context) → WasShown partition course key context → WasShown partition later key context)
+  calls-stay : (partition : Partition) (later : Course) → ((key : Key) (context : Context) → WasShownInCourse partition course key context → WasShownInCourse partition later key context)
       → IsLawful run index partition w course Shown → IsQuiet w next → (place : ℕ) (worker : Worker) → slice_get next.workers place ≡ Some worker → (call : Call) → call_of worker.phase ≡ Some call
-      → (v : Vnode) → slice_get next.vnodes call.site ≡ Some v → v.own ≡ index → (context : Context) → context_in_ask call.ask ≡ Some context → WasGiven run index partition later (key_of call.ask) context
+      → (v : SiteVnode) → slice_get next.vnodes call.site ≡ Some v → v.own ≡ index → (context : Context) → context_in_ask call.ask ≡ Some context → WasGiven run index partition later (key_of call.ask) context
   calls-stay partition later still law calm place worker h call asked v there own context e =
       let old = calm.calls place worker h call asked in
       let vnode = vnode_was call.site v there in
@@ -194,7 +194,7 @@ module _ (run index : ℕ) (w : World) (orderly : IsOrderly w) (number : ℕ) (a
         other = away.other;
         diverted = away.diverted;
         vnode = vnode-stays away.site (away_id run index) (opened count) (all_commands (fallback_of course count)) (λ e. n (sym (close_own w orderly number action r c)
-            ∙ ap (λ (v : Vnode). v.own) (some_back c.fallback away.vnode.vnode (sym c.fallback_is ∙ ap (λ k. slice_get w.vnodes k) e ∙ away.vnode.there))
+            ∙ ap (λ (v : SiteVnode). v.own) (some_back c.fallback away.vnode.vnode (sym c.fallback_is ∙ ap (λ k. slice_get w.vnodes k) e ∙ away.vnode.there))
             ∙ route_own w orderly index away.site away.route_is away.vnode.vnode away.vnode.there)) away.vnode;
         updates = λ place worker h call asked at. let old = calm.calls place worker h call asked in away.updates place old.0 old.1 call (ap call_of old.2 ∙ asked) at;
       })
@@ -220,7 +220,7 @@ module _ (run index : ℕ) (w : World) (orderly : IsOrderly w) (number : ℕ) (a
     fallback_is = some_back away.vnode.vnode c.fallback (sym away.vnode.there ∙ ap (λ k. slice_get w.vnodes k) at ∙ c.fallback_is)
 
     log_is : c.fallback.log ≡ all_commands (fallback_of course count)
-    log_is = ap (λ (v : Vnode). v.log) (sym fallback_is) ∙ away.vnode.log_is
+    log_is = ap (λ (v : SiteVnode). v.log) (sym fallback_is) ∙ away.vnode.log_is
 
     only : CommandsAlone c.fallback.log
     only = subst CommandsAlone (sym log_is) (ap (λ h. all_commands h) (sym (commands-all (fallback_of course count))))
@@ -228,15 +228,15 @@ module _ (run index : ℕ) (w : World) (orderly : IsOrderly w) (number : ℕ) (a
     -- the state in hand is the one after the fallback's history, which has given so many epochs
     hand_is : c.hand ≡ replay (away_id run index) (opened count) (fallback_of course count)
     hand_is =
-        (close_hand w orderly number action r c).0 ∙ ap (λ (v : Vnode). state_of v.id v.last_epoch v.log) (sym fallback_is)
+        (close_hand w orderly number action r c).0 ∙ ap (λ (v : SiteVnode). state_of v.id v.last_epoch v.log) (sym fallback_is)
         ∙ vnode-state w away.site (away_id run index) (opened count) (all_commands (fallback_of course count)) away.vnode ∙ log-replay (away_id run index) (opened count) (fallback_of course count)
 
     epochs : c.hand.last_epoch ≡ opened count + lives_begun (fallback_of course count)
     epochs =
         let plain = orderly.plain c.site c.fallback c.fallback_is only in
         let replays = subst (λ h. HasReplay (away_id run index) (opened count) h) (ap (λ (l : Log). commands_of l) log_is ∙ commands-all (fallback_of course count))
-        (subst (λ i. HasReplay i (opened count) (commands_of c.fallback.log)) (ap (λ (v : Vnode). v.id) (sym fallback_is) ∙ away.vnode.id_is)
-        (subst (λ n. HasReplay c.fallback.id n (commands_of c.fallback.log)) (ap (λ (v : Vnode). v.last_epoch) (sym fallback_is) ∙ away.vnode.epoch_is) plain.replays)) in
+        (subst (λ i. HasReplay i (opened count) (commands_of c.fallback.log)) (ap (λ (v : SiteVnode). v.id) (sym fallback_is) ∙ away.vnode.id_is)
+        (subst (λ n. HasReplay c.fallback.id n (commands_of c.fallback.log)) (ap (λ (v : SiteVnode). v.last_epoch) (sym fallback_is) ∙ away.vnode.epoch_is) plain.replays)) in
         ap (λ (s : State Content). s.last_epoch) hand_is ∙ (known (away_id run index) (opened count) (fallback_of course count) replays).epochs
 
     -- all was brought back
@@ -246,7 +246,7 @@ module _ (run index : ℕ) (w : World) (orderly : IsOrderly w) (number : ℕ) (a
 
       hand-state : c.hand ≡ fallback_state partition course
       hand-state =
-          (close_hand w orderly number action r c).0 ∙ ap (λ (v : Vnode). state_of v.id v.last_epoch v.log) (sym fallback_is)
+          (close_hand w orderly number action r c).0 ∙ ap (λ (v : SiteVnode). state_of v.id v.last_epoch v.log) (sym fallback_is)
           ∙ away-state run index opened course partition agrees w away
 
       all-copied : (key : Key) → is_copied partition course key ≡ true
@@ -254,7 +254,7 @@ module _ (run index : ℕ) (w : World) (orderly : IsOrderly w) (number : ℕ) (a
           let f = judged_all (pred number) c.worker (close_here w orderly number action r c) c.own c.site c.hand c.count c.phase_is in
           let same = some_back f.primary law.vnode.vnode (sym f.there ∙ ap (λ k. slice_get w.vnodes k) e ∙ law.vnode.there) in
           let primary : state_of f.primary.id f.primary.last_epoch f.primary.log ≡ primary_after partition (primary_of partition course) =
-          ap (λ (v : Vnode). state_of v.id v.last_epoch v.log) same ∙ vnode-state w index (home_id run index) 0 (primary_of partition course) law.vnode
+          ap (λ (v : SiteVnode). state_of v.id v.last_epoch v.log) same ∙ vnode-state w index (home_id run index) 0 (primary_of partition course) law.vnode
           ∙ primary-state run index opened count partition agrees (primary_of partition course) in
           none-left (primary_after partition (primary_of partition course)) (fallback_state partition course).keys ((λ i. left_in (sym primary i) (sym hand-state i)) ∙ f.none_left) key
 
@@ -270,8 +270,8 @@ module _ (run index : ℕ) (w : World) (orderly : IsOrderly w) (number : ℕ) (a
       vnode = closed;
       there = set-here w.vnodes c.site c.fallback closed c.fallback_is;
       own_is = close_own w orderly number action r c ∙ e;
-      id_is = ap (λ (v : Vnode). v.id) (sym fallback_is) ∙ away.vnode.id_is;
-      epoch_is = ap (λ (v : Vnode). v.last_epoch) (sym fallback_is) ∙ away.vnode.epoch_is;
+      id_is = ap (λ (v : SiteVnode). v.id) (sym fallback_is) ∙ away.vnode.id_is;
+      epoch_is = ap (λ (v : SiteVnode). v.last_epoch) (sym fallback_is) ∙ away.vnode.epoch_is;
       history_is = ap (λ (l : Log). commands_of l) log_is ∙ commands-all (fallback_of course count);
       closed = λ none. is_closed none;
     }

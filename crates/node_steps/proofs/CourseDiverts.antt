@@ -10,8 +10,8 @@ use Rattle.vnode_machine.specs.Registers.{key_of, context_in_ask}
 use Rattle.copy_laws.specs.Copies.{all_commands}
 use Rattle.copy_laws.specs.Joining.{Log}
 use Rattle.copy_laws.specs.Sides.{Partition}
-use Rattle.copy_laws.specs.Diversions.{Course, AtPrimary, Divert, AtFallback, CopyBack, Return, diversions_of, is_diverted, fallback_of, primary_of, WasShown, MayHappen}
-use Rattle.node_steps.specs.World.{Vnode, Worker, World, Call, fresh_vnode, diversions_at, call_of}
+use Rattle.copy_laws.specs.Diversions.{Course, AtPrimary, Divert, AtFallback, CopyBack, Return, diversions_of, is_diverted, fallback_of, primary_of, WasShownInCourse, MayHappen}
+use Rattle.node_steps.specs.World.{SiteVnode, Worker, World, Call, fresh_vnode, diversions_at, call_of}
 use Rattle.node_steps.specs.Steps.{fallback_ids, diverted_by}
 use Rattle.node_steps.proofs.Lists.{set-here, set-there, same_or_other, get-first, get-last, get-more, length-set}
 use Rattle.node_steps.proofs.Inside.{about_there, other_test, same_test}
@@ -60,7 +60,7 @@ module _ (run index : ℕ) (w : World) (orderly : IsOrderly w) (other : ℕ) (af
   abbrev new_site : ℕ
   new_site = length w.vnodes
 
-  abbrev fresh : Vnode
+  abbrev fresh : SiteVnode
   fresh = fresh_vnode (d.primary.place.vnode + fallback_ids) other d.epoch
 
   abbrev later : World
@@ -74,7 +74,7 @@ module _ (run index : ℕ) (w : World) (orderly : IsOrderly w) (other : ℕ) (af
       record { vnode = v.vnode; there = get-first w.vnodes fresh site v.vnode v.there; id_is = v.id_is; epoch_is = v.epoch_is; log_is = v.log_is }
 
   -- a worker's call is at a site that was there
-  old_vnode : (place : ℕ) (worker : Worker) → slice_get w.workers place ≡ Some worker → (call : Call) → call_of worker.phase ≡ Some call → (v : Vnode) → slice_get later.vnodes call.site ≡ Some v
+  old_vnode : (place : ℕ) (worker : Worker) → slice_get w.workers place ≡ Some worker → (call : Call) → call_of worker.phase ≡ Some call → (v : SiteVnode) → slice_get later.vnodes call.site ≡ Some v
       → slice_get w.vnodes call.site ≡ Some v
   old_vnode place worker h call asked v there = elim (get-more w.vnodes fresh call.site v there) [
     | inl e ↦ e
@@ -86,9 +86,9 @@ module _ (run index : ℕ) (w : World) (orderly : IsOrderly w) (other : ℕ) (af
           below_past call.site new_site (orderly.about place worker h call.site (about_there call.site worker.phase (call_site worker.phase call asked)))
           (subst (λ n. new_site ≤ n) (sym at) (omega arith))
 
-  calls-stay : (partition : Partition) (next : Course) → ((key : Key) (context : Context) → WasShown partition course key context → WasShown partition next key context)
+  calls-stay : (partition : Partition) (next : Course) → ((key : Key) (context : Context) → WasShownInCourse partition course key context → WasShownInCourse partition next key context)
       → IsLawful run index partition w course Shown → (place : ℕ) (worker : Worker) → slice_get w.workers place ≡ Some worker → (call : Call) → call_of worker.phase ≡ Some call
-      → (v : Vnode) → slice_get later.vnodes call.site ≡ Some v → v.own ≡ index → (context : Context) → context_in_ask call.ask ≡ Some context → WasGiven run index partition next (key_of call.ask) context
+      → (v : SiteVnode) → slice_get later.vnodes call.site ≡ Some v → v.own ≡ index → (context : Context) → context_in_ask call.ask ≡ Some context → WasGiven run index partition next (key_of call.ask) context
   calls-stay partition next still law place worker h call asked v there own context e =
       given-later run index partition course next still (key_of call.ask) context (law.calls place worker h call asked v (old_vnode place worker h call asked v there) own context e)
 
@@ -172,7 +172,7 @@ module _ (run index : ℕ) (w : World) (orderly : IsOrderly w) (other : ℕ) (af
     home_is : d.primary.id ≡ home_id run index
     home_is =
         let law = run_is.lawful (some_partition run index opened count) (some_agrees run index opened count) in
-        ap (λ (v : Vnode). v.id) (some_back d.primary law.vnode.vnode (sym d.vnode_is ∙ ap (λ k. slice_get w.vnodes k) e ∙ law.vnode.there)) ∙ law.vnode.id_is
+        ap (λ (v : SiteVnode). v.id) (some_back d.primary law.vnode.vnode (sym d.vnode_is ∙ ap (λ k. slice_get w.vnodes k) e ∙ law.vnode.there)) ∙ law.vnode.id_is
 
     fresh-there : IsVnode later new_site (away_id run index) (more (count + 1)) (all_commands (fallback_of next (count + 1)))
     fresh-there = record {

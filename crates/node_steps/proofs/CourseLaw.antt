@@ -9,9 +9,9 @@ use Rattle.vnode_machine.specs.Step.{Response}
 use Rattle.copy_laws.specs.Copies.{Command, all_commands, commands_of}
 use Rattle.copy_laws.specs.Joining.{Log}
 use Rattle.copy_laws.specs.Sides.{Partition}
-use Rattle.copy_laws.specs.Diversions.{Course, AtPrimary, Divert, AtFallback, CopyBack, Return, diversions_of, is_diverted, fallback_of, primary_of, Happens, WasShown}
+use Rattle.copy_laws.specs.Diversions.{Course, AtPrimary, Divert, AtFallback, CopyBack, Return, diversions_of, is_diverted, fallback_of, primary_of, Happens, WasShownInCourse}
 use Rattle.copy_laws.proofs.Courses.{diverted-some}
-use Rattle.node_steps.specs.World.{Vnode, Worker, World, CommandsAlone, fresh_vnode, fresh_worker, id_of, opening_world, route, log_at, call_of, history_of}
+use Rattle.node_steps.specs.World.{SiteVnode, Worker, World, CommandsAlone, fresh_vnode, fresh_worker, id_of, opening_world, route, log_at, call_of, history_of}
 use Rattle.node_steps.specs.Steps.{Action, Step, By, Diverts, routed, Outcome, NotPossible, Happened, Replied, acts, diverted}
 use Rattle.node_steps.specs.Schedules.{Start, IsStart, world_after}
 use Rattle.node_steps.specs.Contexts.{call_by, given_in}
@@ -211,23 +211,23 @@ module _ (run index : ℕ) (w : World) (orderly : IsOrderly w) (course : Course)
   partition = some_partition run index opened (diversions_of course)
 
   log_is : (site id epoch : ℕ) (log : Log) → IsVnode w site id epoch log → log_at w site ≡ log
-  log_is site id epoch log v = ap (λ o. option_map_or (λ (x : Vnode). x.log) o []) v.there ∙ v.log_is
+  log_is site id epoch log v = ap (λ o. option_map_or (λ (x : SiteVnode). x.log) o []) v.there ∙ v.log_is
 
   -- a closed fallback, and the last one
   of_closed : (n : ℕ) (f : WasFallback run index w course opened n) → IsFallbackOf partition w index course n f.site
   of_closed n f = record {
-    own = ap (λ o. option_map_or (λ (x : Vnode). x.own) o 0) f.there ∙ f.own_is;
-    id = ap (λ o. option_map_or (λ (x : Vnode). x.id) o 0) f.there ∙ f.id_is;
-    epoch = ap (λ o. option_map_or (λ (x : Vnode). x.last_epoch) o 0) f.there ∙ f.epoch_is;
-    history = ap (λ o. option_map_or (λ (x : Vnode). history_of x) o []) f.there ∙ f.history_is;
+    own = ap (λ o. option_map_or (λ (x : SiteVnode). x.own) o 0) f.there ∙ f.own_is;
+    id = ap (λ o. option_map_or (λ (x : SiteVnode). x.id) o 0) f.there ∙ f.id_is;
+    epoch = ap (λ o. option_map_or (λ (x : SiteVnode). x.last_epoch) o 0) f.there ∙ f.epoch_is;
+    history = ap (λ o. option_map_or (λ (x : SiteVnode). history_of x) o []) f.there ∙ f.history_is;
   }
 
   of_away : (away : IsAway run index w course opened) → IsFallbackOf partition w index course (diversions_of course) away.site
   of_away away = record {
-    own = ap (λ o. option_map_or (λ (x : Vnode). x.own) o 0) away.vnode.there ∙ route_own w orderly index away.site away.route_is away.vnode.vnode away.vnode.there;
-    id = ap (λ o. option_map_or (λ (x : Vnode). x.id) o 0) away.vnode.there ∙ away.vnode.id_is;
-    epoch = ap (λ o. option_map_or (λ (x : Vnode). x.last_epoch) o 0) away.vnode.there ∙ away.vnode.epoch_is;
-    history = ap (λ o. option_map_or (λ (x : Vnode). history_of x) o []) away.vnode.there
+    own = ap (λ o. option_map_or (λ (x : SiteVnode). x.own) o 0) away.vnode.there ∙ route_own w orderly index away.site away.route_is away.vnode.vnode away.vnode.there;
+    id = ap (λ o. option_map_or (λ (x : SiteVnode). x.id) o 0) away.vnode.there ∙ away.vnode.id_is;
+    epoch = ap (λ o. option_map_or (λ (x : SiteVnode). x.last_epoch) o 0) away.vnode.there ∙ away.vnode.epoch_is;
+    history = ap (λ o. option_map_or (λ (x : SiteVnode). history_of x) o []) away.vnode.there
         ∙ ap (λ (l : Log). commands_of l) away.vnode.log_is ∙ commands-all (fallback_of course (diversions_of course));
   }
 
@@ -302,7 +302,7 @@ calls_may_be_asked run index w orderly apart course opened Shown run_is number c
         | inl own_side ↦ own_side.not_diverted
         | inr away ↦ absurd (away.other (sym at ∙ apart.away index away.site away.route_is (λ e. away.other (sym e)) x.0 x.1 x.2 call x.3 v.vnode there own))
       ];
-      shown = λ context e. subst (λ k. WasShown (some_partition run index opened (diversions_of course)) course k context) (sym key_is) (given context e).0;
+      shown = λ context e. subst (λ k. WasShownInCourse (some_partition run index opened (diversions_of course)) course k context) (sym key_is) (given context e).0;
       some = λ context e. (given context e).1;
     }
 

@@ -4,7 +4,7 @@ use Rattle.std.specs.Prelude.{◌==◌, pred, Some, None, Ok, slice_get}
 use Rattle.riak_msgs.specs.declared.Key.{Key}
 use Rattle.riak_msgs.specs.Contents.{Content}
 use Rattle.riak_msgs.specs.KeyOrder.{key_eq}
-use Rattle.sibling_register.specs.Answers.{Ask}
+use Rattle.sibling_register.specs.Answers.{RegisterAsk}
 use Rattle.actor_epoch.specs.Given.{Context, Pairs, context_of}
 use Rattle.vnode_machine.specs.Machine.{State, clock_of}
 use Rattle.vnode_machine.specs.Step.{Response}
@@ -15,7 +15,7 @@ use Rattle.copy_laws.specs.Joining.{Log}
 use Rattle.copy_laws.specs.Sides.{Partition}
 use Rattle.copy_laws.specs.CopyReplay.{name_at}
 use Rattle.copy_laws.specs.Diversions.{Course, diversions_of, fallback_of, fallback_state, primary_of}
-use Rattle.node_steps.specs.World.{Vnode, Worker, World, Call, call_of, call_at}
+use Rattle.node_steps.specs.World.{SiteVnode, Worker, World, Call, call_of, call_at}
 use Rattle.node_steps.specs.Steps.{Action, Asks, is_reap, Outcome, Replied, seeing}
 use Rattle.node_steps.specs.Contexts.{context_bytes, call_by, given_in}
 use Rattle.node_steps.specs.Courses.{IsSiteOf}
@@ -30,7 +30,7 @@ use Rattle.node_steps.proofs.Growing.{next_of, is_now, shown-context, comes-to}
 use Rattle.node_steps.proofs.CourseSteps.{IsNext}
 
 module _ (run index : ℕ) (w : World) (orderly : IsOrderly w) (apart : IsApart w) (number : ℕ) (action : Action) (r : World × Outcome) (p : IsPossible w number action r)
-    (sends : (site : ℕ) (ask : Ask Content Context) → action ≡ Asks site ask
+    (sends : (site : ℕ) (ask : RegisterAsk Content Context) → action ≡ Asks site ask
     → (other : ℕ) × (slice_get w.routes other ≡ Some site) × ((not (site == other) && is_reap ask) ≡ false))
     (course : Course) (opened : ℕ → ℕ) (Shown : Key → Context → Type 0) (run_is : IsRun run index w course opened Shown)
     (wells : SendsWell w action)
@@ -66,7 +66,7 @@ module _ (run index : ℕ) (w : World) (orderly : IsOrderly w) (apart : IsApart 
     state_now site id epoch log e v =
         let t = turn w orderly number action r p in
         let same = some_back p.turn.vnode v.vnode (sym (is_now w orderly number action r p site e) ∙ v.there) in
-        sym (λ i. state_of (t.same_id i) (t.same_epoch i) p.turn.vnode.log) ∙ ap (λ (x : Vnode). state_of x.id x.last_epoch x.log) same ∙ vnode-state next site id epoch log v
+        sym (λ i. state_of (t.same_id i) (t.same_epoch i) p.turn.vnode.log) ∙ ap (λ (x : SiteVnode). state_of x.id x.last_epoch x.log) same ∙ vnode-state next site id epoch log v
 
     shown-now : (key : Key) (context : Context) → IsShownNow key context → WasGiven run index partition later key context
     shown-now key context s =
@@ -106,7 +106,7 @@ module _ (run index : ℕ) (w : World) (orderly : IsOrderly w) (apart : IsApart 
         ∙ ap (λ b. cond b (context_in_ask call.ask) None) (key_eq-refl (key_of call.ask))
 
     calls-next : (place : ℕ) (worker : Worker) → slice_get next.workers place ≡ Some worker → (call : Call) → call_of worker.phase ≡ Some call
-        → (v : Vnode) → slice_get next.vnodes call.site ≡ Some v → v.own ≡ index
+        → (v : SiteVnode) → slice_get next.vnodes call.site ≡ Some v → v.own ≡ index
         → (context : Context) → context_in_ask call.ask ≡ Some context → WasGiven run index partition later (key_of call.ask) context
     calls-next place worker h call asked v there own context e =
         let old = vnode_was w orderly number action r p apart sends call.site v there in
@@ -116,7 +116,7 @@ module _ (run index : ℕ) (w : World) (orderly : IsOrderly w) (apart : IsApart 
           | inr d ↦ law.calls place worker d.1 call asked old.0 old.1 (sym old.2 ∙ own) context e
         ])
       where
-        by : (old : Vnode) → slice_get w.vnodes call.site ≡ Some old → old.own ≡ index → CallIs action p.worker.phase p.turn.phase → call_of p.turn.phase ≡ Some call
+        by : (old : SiteVnode) → slice_get w.vnodes call.site ≡ Some old → old.own ≡ index → CallIs action p.worker.phase p.turn.phase → call_of p.turn.phase ≡ Some call
             → WasGiven run index partition course (key_of call.ask) context
         by old there own (inl same) k = (run_is.lawful partition agrees_before).calls (pred number) p.worker mine call (sym same ∙ k) old there own context e
         by old there own (inr (inl none)) k = absurd (no_call call (sym none ∙ k))

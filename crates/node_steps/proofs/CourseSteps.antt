@@ -4,21 +4,21 @@ use Rattle.std.specs.Prelude.{◌==◌, pred, Some, None, slice_get}
 use Rattle.std.specs.Option.{option_map_or}
 use Rattle.riak_msgs.specs.declared.Key.{Key}
 use Rattle.riak_msgs.specs.Contents.{Content}
-use Rattle.sibling_register.specs.Answers.{Ask}
+use Rattle.sibling_register.specs.Answers.{RegisterAsk}
 use Rattle.actor_epoch.specs.Given.{Context}
 use Rattle.vnode_machine.specs.Copying.{is_stuck}
 use Rattle.vnode_machine.specs.Machine.{clock_of, is_held}
 use Rattle.vnode_machine.specs.Lives.{lives_begun}
-use Rattle.vnode_machine.specs.Replay.{History, Accepts}
+use Rattle.vnode_machine.specs.Replay.{History, AcceptsEvent}
 use Rattle.copy_laws.specs.Copies.{Command, Copied, all_commands, commands_of}
 use Rattle.copy_laws.specs.Joining.{Log}
 use Rattle.copy_laws.specs.Sides.{Partition}
 use Rattle.copy_laws.specs.CopyReplay.{primary_after}
-use Rattle.copy_laws.specs.Diversions.{Course, AtPrimary, AtFallback, CopyBack, copy_of, diversions_of, is_diverted, fallback_of, primary_of, WasShown, MayHappen, Happens}
+use Rattle.copy_laws.specs.Diversions.{Course, AtPrimary, AtFallback, CopyBack, copy_of, diversions_of, is_diverted, fallback_of, primary_of, WasShownInCourse, MayHappen, Happens}
 use Rattle.copy_laws.proofs.Courses.{legal-fallback}
 use Rattle.copy_laws.proofs.Fallback.{log-replay}
 use Rattle.node_steps.specs.HeldNames.{saw_held}
-use Rattle.node_steps.specs.World.{Vnode, Worker, World, Call, diversions_at, brought_by, call_of, copied_to, history_of}
+use Rattle.node_steps.specs.World.{SiteVnode, Worker, World, Call, diversions_at, brought_by, call_of, copied_to, history_of}
 use Rattle.node_steps.specs.Steps.{Action, Asks, is_reap, Outcome, seeing}
 use Rattle.node_steps.proofs.Lists.{set-there, same_or_other}
 use Rattle.node_steps.proofs.Inside.{state_of, same_test, other_test, IsClockAt}
@@ -32,7 +32,7 @@ use Rattle.node_steps.proofs.Coursing.{IsVnode, home_id, away_id, Agrees, IsOwn,
 use Rattle.node_steps.proofs.Growing.{next_of, Grows, Copies, grown, copied-home, closed-same, vnode-there, is_there, is_now, vnode-here, vnode-kept, as-known, comes-to}
 
 module _ (run index : ℕ) (w : World) (orderly : IsOrderly w) (apart : IsApart w) (number : ℕ) (action : Action) (r : World × Outcome) (p : IsPossible w number action r)
-    (sends : (site : ℕ) (ask : Ask Content Context) → action ≡ Asks site ask
+    (sends : (site : ℕ) (ask : RegisterAsk Content Context) → action ≡ Asks site ask
     → (other : ℕ) × (slice_get w.routes other ≡ Some site) × ((not (site == other) && is_reap ask) ≡ false))
     (course : Course) (opened : ℕ → ℕ) (Shown : Key → Context → Type 0) (run_is : IsRun run index w course opened Shown) where
   abbrev next : World
@@ -54,7 +54,7 @@ module _ (run index : ℕ) (w : World) (orderly : IsOrderly w) (apart : IsApart 
   pub record IsStep (partition : Partition) (later : Course) : Type 0 where
     pub may_happen : Happens partition later
     pub vnode : IsVnode next index (home_id run index) 0 (primary_of partition later)
-    pub still : (key : Key) (context : Context) → WasShown partition course key context → WasShown partition later key context
+    pub still : (key : Key) (context : Context) → WasShownInCourse partition course key context → WasShownInCourse partition later key context
 
   pub record IsNext (later : Course) : Type 0 where
     pub number_is : diversions_of later ≡ diversions_of course
@@ -69,14 +69,14 @@ module _ (run index : ℕ) (w : World) (orderly : IsOrderly w) (apart : IsApart 
         let t = turn w orderly number action r p in
         let is = is_there w orderly number action r p f.site f.vnode e f.there in
         let log : p.turn.vnode.log ≡ f.vnode.log =
-        closed-same w orderly number action r p (subst (λ (v : Vnode). (state_of v.id v.last_epoch v.log).closed ≢ None) (sym is) f.closed) ∙ ap (λ (v : Vnode). v.log) is in
-        let id = t.same_id ∙ ap (λ (v : Vnode). v.id) is in
-        let epoch = t.same_epoch ∙ ap (λ (v : Vnode). v.last_epoch) is in
+        closed-same w orderly number action r p (subst (λ (v : SiteVnode). (state_of v.id v.last_epoch v.log).closed ≢ None) (sym is) f.closed) ∙ ap (λ (v : SiteVnode). v.log) is in
+        let id = t.same_id ∙ ap (λ (v : SiteVnode). v.id) is in
+        let epoch = t.same_epoch ∙ ap (λ (v : SiteVnode). v.last_epoch) is in
         record {
           site = f.site;
           vnode = p.turn.vnode;
           there = is_now w orderly number action r p f.site e;
-          own_is = t.same_own ∙ ap (λ (v : Vnode). v.own) is ∙ f.own_is;
+          own_is = t.same_own ∙ ap (λ (v : SiteVnode). v.own) is ∙ f.own_is;
           id_is = id ∙ f.id_is;
           epoch_is = epoch ∙ f.epoch_is;
           history_is = ap (λ (l : Log). commands_of l) log ∙ f.history_is ∙ sym same;
@@ -164,9 +164,9 @@ module _ (run index : ℕ) (w : World) (orderly : IsOrderly w) (apart : IsApart 
     primary_log = primary_of partition course
 
     -- the context of an event had been shown
-    gives-event : (g : Grows w orderly number action r p) → p.vnode.own ≡ index → (context : Context) → g.event.context ≡ Some context → WasShown partition course g.event.key context
+    gives-event : (g : Grows w orderly number action r p) → p.vnode.own ≡ index → (context : Context) → g.event.context ≡ Some context → WasShownInCourse partition course g.event.key context
     gives-event g own context e =
-        subst (λ k. WasShown partition course k context) (sym g.key_is)
+        subst (λ k. WasShownInCourse partition course k context) (sym g.key_is)
         (law.calls (pred number) p.worker mine g.call g.asked p.vnode (ap (λ k. slice_get w.vnodes k) g.at ∙ p.vnode_is) own context (sym g.context_is ∙ e)).0
 
     -- an event at the primary may happen
@@ -176,8 +176,8 @@ module _ (run index : ℕ) (w : World) (orderly : IsOrderly w) (apart : IsApart 
         let known = as-known w orderly number action r p index (home_id run index) 0 primary_log at law.vnode in (
           own.not_diverted,
           (
-            by-primary run index opened count partition agrees (λ id epoch. Accepts (state_of id epoch primary_log) event.key event.context event.operation)
-                (known (λ id epoch l. Accepts (state_of id epoch l) event.key event.context event.operation) g.accepts),
+            by-primary run index opened count partition agrees (λ id epoch. AcceptsEvent (state_of id epoch primary_log) event.key event.context event.operation)
+                (known (λ id epoch l. AcceptsEvent (state_of id epoch l) event.key event.context event.operation) g.accepts),
             by-primary run index opened count partition agrees (λ id epoch. event.saw ≡ saw_held id epoch primary_log event.key event.context event.operation)
                 (known (λ id epoch l. event.saw ≡ saw_held id epoch l event.key event.context event.operation) g.saw)
                 ∙ saw-course partition (ids run index opened count partition agrees) course law.may_happen event.key event.context event.operation,
@@ -193,9 +193,9 @@ module _ (run index : ℕ) (w : World) (orderly : IsOrderly w) (apart : IsApart 
         let replays = legal-fallback partition course law.may_happen count in (
           away.diverted,
           g.update (away.updates (pred number) p.worker mine g.call g.asked (g.at ∙ at)),
-          subst (λ s. Accepts s event.key event.context event.operation) (log-replay partition.fallback (partition.opened count) history)
-              (by-fallback run index opened count partition agrees (λ id epoch. Accepts (state_of id epoch (all_commands history)) event.key event.context event.operation)
-              (known (λ id epoch l. Accepts (state_of id epoch l) event.key event.context event.operation) g.accepts)),
+          subst (λ s. AcceptsEvent s event.key event.context event.operation) (log-replay partition.fallback (partition.opened count) history)
+              (by-fallback run index opened count partition agrees (λ id epoch. AcceptsEvent (state_of id epoch (all_commands history)) event.key event.context event.operation)
+              (known (λ id epoch l. AcceptsEvent (state_of id epoch l) event.key event.context event.operation) g.accepts)),
           by-fallback run index opened count partition agrees (λ id epoch. event.saw ≡ saw_held id epoch (all_commands history) event.key event.context event.operation)
               (known (λ id epoch l. event.saw ≡ saw_held id epoch l event.key event.context event.operation) g.saw)
               ∙ saw-plain partition.fallback (partition.opened count) history event.key event.context event.operation replays,
@@ -241,7 +241,7 @@ module _ (run index : ℕ) (w : World) (orderly : IsOrderly w) (apart : IsApart 
 
   own-away : (away : IsAway run index w course opened) → p.index ≡ away.site → p.vnode.own ≡ index
   own-away away at =
-      ap (λ (v : Vnode). v.own) (is_there w orderly number action r p away.site away.vnode.vnode at away.vnode.there)
+      ap (λ (v : SiteVnode). v.own) (is_there w orderly number action r p away.site away.vnode.vnode at away.vnode.there)
       ∙ route_own w orderly index away.site away.route_is away.vnode.vnode away.vnode.there
 
   primary-next : (g : Grows w orderly number action r p) → p.index ≡ index → IsOwn run index w course opened → IsNext (AtPrimary g.event ∷ course)

@@ -10,16 +10,16 @@ use Rattle.copy_laws.specs.Copies.{all_commands}
 use Rattle.copy_laws.specs.Joining.{Log}
 use Rattle.copy_laws.specs.Sides.{Partition}
 use Rattle.copy_laws.specs.CopyReplay.{primary_after}
-use Rattle.copy_laws.specs.Diversions.{Course, Happening, diversions_of, is_diverted, fallback_of, fallback_state, primary_of, WasShown, Happens}
+use Rattle.copy_laws.specs.Diversions.{Course, Happening, diversions_of, is_diverted, fallback_of, fallback_state, primary_of, WasShownInCourse, Happens}
 use Rattle.copy_laws.proofs.Fallback.{log-replay}
 use Rattle.node_steps.specs.Partitions.{fallback_ids}
-use Rattle.node_steps.specs.World.{Vnode, Worker, World, Call, id_of, call_of, history_of}
+use Rattle.node_steps.specs.World.{SiteVnode, Worker, World, Call, id_of, call_of, history_of}
 use Rattle.node_steps.specs.Steps.{is_reap}
 use Rattle.node_steps.proofs.Inside.{state_of}
 
 -- the vnode at a site has this id, was opened behind this epoch, and has this log
 pub record IsVnode (w : World) (site id epoch : ℕ) (log : Log) : Type 0 where
-  pub vnode : Vnode
+  pub vnode : SiteVnode
   pub there : slice_get w.vnodes site ≡ Some vnode
   pub id_is : vnode.id ≡ id
   pub epoch_is : vnode.last_epoch ≡ epoch
@@ -63,7 +63,7 @@ module _ (run index : ℕ) where
   -- a fallback that was closed
   pub record WasFallback (w : World) (course : Course) (opened : ℕ → ℕ) (n : ℕ) : Type 0 where
     pub site : ℕ
-    pub vnode : Vnode
+    pub vnode : SiteVnode
     pub there : slice_get w.vnodes site ≡ Some vnode
     pub own_is : vnode.own ≡ index
     pub id_is : vnode.id ≡ away_id
@@ -73,7 +73,7 @@ module _ (run index : ℕ) where
 
   -- a context was shown, and isn't empty
   abbrev pub WasGiven : Partition → Course → Key → Context → Type 0
-  WasGiven partition course key context = WasShown partition course key context × (context ≢ Pairs [])
+  WasGiven partition course key context = WasShownInCourse partition course key context × (context ≢ Pairs [])
 
   -- what the law has of the course, those contexts having been shown that are given by Shown
   pub record IsLawful (partition : Partition) (w : World) (course : Course) (Shown : Key → Context → Type 0) : Type 0 where
@@ -81,7 +81,7 @@ module _ (run index : ℕ) where
     pub vnode : IsVnode w index home_id 0 (primary_of partition course)
     pub shown : (key : Key) (context : Context) → Shown key context → WasGiven partition course key context
     pub calls : (place : ℕ) (worker : Worker) → slice_get w.workers place ≡ Some worker → (call : Call) → call_of worker.phase ≡ Some call
-        → (v : Vnode) → slice_get w.vnodes call.site ≡ Some v → v.own ≡ index
+        → (v : SiteVnode) → slice_get w.vnodes call.site ≡ Some v → v.own ≡ index
         → (context : Context) → context_in_ask call.ask ≡ Some context → WasGiven partition course (key_of call.ask) context
 
   -- what is true of a world and the course so far
@@ -96,12 +96,12 @@ module _ (run index : ℕ) where
 
   -- what was shown still was
   pub shown-later : (partition : Partition) (happening : Happening) (course : Course) (key : Key) (context : Context)
-      → WasShown partition course key context → WasShown partition (happening ∷ course) key context
+      → WasShownInCourse partition course key context → WasShownInCourse partition (happening ∷ course) key context
   shown-later partition happening course key context s =
       record { later = happening ∷ s.later; moment = s.moment; is = ap (λ (c : Course). happening ∷ c) s.is; shown = s.shown }
 
   -- so it still is where what was shown is
-  pub given-later : (partition : Partition) (course later : Course) → ((key : Key) (context : Context) → WasShown partition course key context → WasShown partition later key context)
+  pub given-later : (partition : Partition) (course later : Course) → ((key : Key) (context : Context) → WasShownInCourse partition course key context → WasShownInCourse partition later key context)
       → (key : Key) (context : Context) → WasGiven partition course key context → WasGiven partition later key context
   given-later partition course later still key context given = (still key context given.0, given.1)
 

@@ -8,7 +8,7 @@ use Rattle.vnode_machine.specs.Machine.{State}
 use Rattle.vnode_machine.specs.Sound.{IsSound as IsSoundState}
 use Rattle.vnode_machine.proofs.Formed.{sound-opening}
 use Rattle.copy_laws.specs.Joining.{Log}
-use Rattle.node_steps.specs.World.{Word, Open, Taken, CopyStage, CopyAsked, CopyInside, CopyLooked, CopyTaken, CopyDone, CloseStage, CloseAsked, CloseTaken, CloseInside, CloseLooked, CloseDone, Phase, Idle, Asked, Reading, Holding, Done, Turned, Copying, Closing, Vnode, Worker, World, CommandsAlone, fresh_vnode, seen_at}
+use Rattle.node_steps.specs.World.{Word, Open, Taken, CopyStage, CopyAsked, CopyInside, CopyLooked, CopyTaken, CopyDone, CloseStage, CloseAsked, CloseTaken, CloseInside, CloseLooked, CloseDone, Phase, Idle, Asked, Reading, Holding, Done, Turned, Copying, Closing, SiteVnode, Worker, World, CommandsAlone, fresh_vnode, seen_at}
 use Rattle.node_steps.specs.Steps.{is_about, is_for, fallback_ids, diverted_by, diverted}
 use Rattle.node_steps.specs.Erased.{erase_place}
 use Rattle.node_steps.proofs.Lists.{set-here, set-there, same_or_other, how_many, get-below, get-first, get-last, get-more, length-set, length-more, none_counted, each_passes}
@@ -26,7 +26,7 @@ is_alone w index = list_all (λ worker. not (is_for w.vnodes index 0 worker.phas
 
 -- a partition that is diverted, by its primary
 pub record IsDiversion (w : World) (index : ℕ) (next : World) : Type 0 where
-  pub primary : Vnode
+  pub primary : SiteVnode
   pub vnode_is : slice_get w.vnodes index ≡ Some primary
   pub own : slice_get w.routes index ≡ Some index
   pub epoch : ℕ
@@ -60,13 +60,13 @@ neither true b h = cc
 neither false b h = (refl, h)
 
 -- who has nothing to do with a partition is about no site of it
-for_about : (vnodes : List Vnode) (index from : ℕ) (phase : Phase) → is_for vnodes index from phase ≡ false → (site : ℕ) (v : Vnode) → slice_get vnodes site ≡ Some v → v.own ≡ index
+for_about : (vnodes : List SiteVnode) (index from : ℕ) (phase : Phase) → is_for vnodes index from phase ≡ false → (site : ℕ) (v : SiteVnode) → slice_get vnodes site ≡ Some v → v.own ≡ index
     → is_about (from + site) phase ≡ false
 for_about [] index from phase h site v there own = cc
 for_about (vnode ∷ vnodes) index from phase h zero v there own =
     let same : vnode ≡ v = cc in
     let both = neither ((vnode.own == index) && is_about from phase) (is_for vnodes index (suc from) phase) h in
-    ap (λ n. is_about n phase) (plain from) ∙ second (vnode.own == index) (is_about from phase) (same_test vnode.own index (ap (λ (u : Vnode). u.own) same ∙ own)) both.0
+    ap (λ n. is_about n phase) (plain from) ∙ second (vnode.own == index) (is_about from phase) (same_test vnode.own index (ap (λ (u : SiteVnode). u.own) same ∙ own)) both.0
   where
     plain : (n : ℕ) → n + 0 ≡ n
     plain n = omega arith
@@ -82,7 +82,7 @@ for_about (vnode ∷ vnodes) index from phase h (suc site) v there own =
     shift a b = omega arith
 
 pub alone_about : (w : World) (index : ℕ) → is_alone w index ≡ true → (place : ℕ) (worker : Worker) → slice_get w.workers place ≡ Some worker
-    → (site : ℕ) (v : Vnode) → slice_get w.vnodes site ≡ Some v → v.own ≡ index → is_about site worker.phase ≡ false
+    → (site : ℕ) (v : SiteVnode) → slice_get w.vnodes site ≡ Some v → v.own ≡ index → is_about site worker.phase ≡ false
 alone_about w index alone place worker h site v there own =
     ap (λ n. is_about n worker.phase) (from_zero site)
     ∙ for_about w.vnodes index 0 worker.phase
@@ -150,11 +150,11 @@ closer site n h = omega (arith, h)
 not_last : (index n m : ℕ) → index < n → n ≤ m → index ≡ m → ⊥
 not_last index n m h k e = omega (arith, h, k, e)
 
-module _ (w : World) (orderly : IsOrderly w) (index epoch : ℕ) (primary : Vnode) (there : slice_get w.vnodes index ≡ Some primary) (own : slice_get w.routes index ≡ Some index) (alone : is_alone w index ≡ true) where
+module _ (w : World) (orderly : IsOrderly w) (index epoch : ℕ) (primary : SiteVnode) (there : slice_get w.vnodes index ≡ Some primary) (own : slice_get w.routes index ≡ Some index) (alone : is_alone w index ≡ true) where
   abbrev new_site : ℕ
   new_site = length w.vnodes
 
-  abbrev fallback : Vnode
+  abbrev fallback : SiteVnode
   fallback = fresh_vnode (primary.place.vnode + fallback_ids) index epoch
 
   abbrev next : World
@@ -220,20 +220,20 @@ module _ (w : World) (orderly : IsOrderly w) (index epoch : ℕ) (primary : Vnod
     workers = λ place worker k other v h. elim (get-more w.vnodes fallback other v h) [
       | inl e ↦ orderly.workers place worker k other v e
       | inr e ↦ subst (λ n. IsAware v.id v.last_epoch n v.log worker) (sym e.0)
-          (subst (λ (u : Vnode). IsAware u.id u.last_epoch new_site u.log worker) e.1 (aware_new place worker k))
+          (subst (λ (u : SiteVnode). IsAware u.id u.last_epoch new_site u.log worker) e.1 (aware_new place worker k))
     ];
     plain = λ other v h. elim (get-more w.vnodes fallback other v h) [
       | inl e ↦ orderly.plain other v e
-      | inr e ↦ subst (λ (u : Vnode). CommandsAlone u.log → IsPlain u.id u.last_epoch u.log) e.1 (λ only. plain-fresh fallback.id epoch)
+      | inr e ↦ subst (λ (u : SiteVnode). CommandsAlone u.log → IsPlain u.id u.last_epoch u.log) e.1 (λ only. plain-fresh fallback.id epoch)
     ];
     sound = λ other v h. elim (get-more w.vnodes fallback other v h) [
       | inl e ↦ orderly.sound other v e
-      | inr e ↦ subst (λ (u : Vnode). IsSoundState (state_of u.id u.last_epoch u.log)) e.1 (sound-opening fallback.id epoch (sound_new known).limits)
+      | inr e ↦ subst (λ (u : SiteVnode). IsSoundState (state_of u.id u.last_epoch u.log)) e.1 (sound-opening fallback.id epoch (sound_new known).limits)
     ];
     between = λ place worker k o s h. fallback-more o s (orderly.between place worker k o s h);
     owned = λ other v h. subst (λ n. v.own < n) (sym (length-set w.routes index new_site)) (elim (get-more w.vnodes fallback other v h) [
       | inl e ↦ orderly.owned other v e
-      | inr e ↦ subst (λ (u : Vnode). u.own < length w.routes) e.1 (get-below w.routes index index own)
+      | inr e ↦ subst (λ (u : SiteVnode). u.own < length w.routes) e.1 (get-below w.routes index index own)
     ]);
     homes = λ other v under h.
         let old_below : other < length w.routes = subst (λ n. other < n) (length-set w.routes index new_site) under in
@@ -257,7 +257,7 @@ module _ (w : World) (orderly : IsOrderly w) (index epoch : ℕ) (primary : Vnod
             | inl same ↦ absurd (n (sym same ∙ some_same index s (sym own ∙ ap (λ k. slice_get w.routes k) same ∙ route)))
             | inr m ↦ set-there w.routes index v.own new_site m ∙ route
           ]
-      | inr e ↦ ap (λ (u : Vnode). slice_get next.routes u.own) (sym e.1) ∙ set-here w.routes index index new_site own ∙ ap (λ k. Some k) (sym e.0)
+      | inr e ↦ ap (λ (u : SiteVnode). slice_get next.routes u.own) (sym e.1) ∙ set-here w.routes index index new_site own ∙ ap (λ k. Some k) (sym e.0)
     ];
     limited = orderly.limited;
     bounds = λ other v below h.

@@ -3,8 +3,8 @@ use Rattle.std.proofs.Common.{◌≡◌, ℕ, ◌≤◌, true, false, subst}
 use Rattle.std.specs.Prelude.{Some, None}
 use Rattle.sibling_register.specs.Answers.{AskGet}
 use Rattle.vnode_machine.specs.Replay.{History}
-use Rattle.node_steps.specs.World.{CopyAsked, CopyInside, CopyLooked, CopyTaken, CopyDone, CloseAsked, CloseTaken, CloseDone, Phase, Idle, Asked, Reading, Holding, Done, Turned, Copying, Closing, Brought, Vnode, history_of}
-use Rattle.node_steps.specs.Steps.{Action, Asks, CopiesFrom, ClosesFrom, Enters, Leaves, Marks, Unmarks, Takes, Puts, Looks, Publishes, Turn, turn_of, site_of}
+use Rattle.node_steps.specs.World.{CopyAsked, CopyInside, CopyLooked, CopyTaken, CopyDone, CloseAsked, CloseTaken, CloseDone, Phase, Idle, Asked, Reading, Holding, Done, Turned, Copying, Closing, Brought, SiteVnode, history_of}
+use Rattle.node_steps.specs.Steps.{Action, Asks, CopiesFrom, ClosesFrom, Enters, Leaves, Marks, Unmarks, Takes, Puts, Looks, Publishes, WorkerTurn, turn_of, site_of}
 use Rattle.node_steps.specs.Schedules.{Begins}
 use Rattle.node_steps.proofs.Lists.{one}
 use Rattle.node_steps.proofs.Inside.{is_reader, is_holder, IsInHand, IsAbout, IsSoundAs}
@@ -24,9 +24,9 @@ module _ (id epoch home index readers holders : ℕ) where
   about_is action (Copying own site key stage) h = cc
   about_is action (Closing own site stage) h = cc
 
-  pub turn_is : (seen : History) (brought : Brought) (vnode : Vnode) (same_id : vnode.id ≡ id) (same_own : vnode.own ≡ home) (same_epoch : vnode.last_epoch ≡ epoch) → IsSoundAs id epoch readers holders vnode → Begins seen (history_of vnode)
+  pub turn_is : (seen : History) (brought : Brought) (vnode : SiteVnode) (same_id : vnode.id ≡ id) (same_own : vnode.own ≡ home) (same_epoch : vnode.last_epoch ≡ epoch) → IsSoundAs id epoch readers holders vnode → Begins seen (history_of vnode)
       → (action : Action) (phase : Phase) → one (is_reader index phase) ≤ readers → one (is_holder index phase) ≤ holders
-      → IsInHand id epoch index vnode.log phase → site_of action phase ≡ Some index → (t : Turn) → turn_of seen brought vnode action phase ≡ Some t
+      → IsInHand id epoch index vnode.log phase → site_of action phase ≡ Some index → (t : WorkerTurn) → turn_of seen brought vnode action phase ≡ Some t
       → IsTurn id epoch home index readers holders action phase brought vnode.log t
   turn_is seen brought vnode same_id same_own same_epoch sound has action phase reading held mine a t h =
       by action phase reading held mine a t
@@ -35,7 +35,7 @@ module _ (id epoch home index readers holders : ℕ) where
       (subst (λ i. turn_of seen brought (record vnode { id = i }) action phase ≡ Some t) same_id h)))
     where
       by : (action : Action) (phase : Phase) → one (is_reader index phase) ≤ readers → one (is_holder index phase) ≤ holders
-          → IsInHand id epoch index vnode.log phase → site_of action phase ≡ Some index → (t : Turn)
+          → IsInHand id epoch index vnode.log phase → site_of action phase ≡ Some index → (t : WorkerTurn)
           → turn_of seen brought (record vnode { id = id; own = home; last_epoch = epoch }) action phase ≡ Some t
           → IsTurn id epoch home index readers holders action phase brought vnode.log t
       by (Asks other ask) Idle reading held mine a t h =

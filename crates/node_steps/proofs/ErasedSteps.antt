@@ -10,7 +10,7 @@ use Rattle.vnode_machine.specs.Machine.{State}
 use Rattle.vnode_machine.specs.Replay.{History}
 use Rattle.copy_laws.specs.Copies.{Closed}
 use Rattle.vnode_machine.specs.Copying.{apply_close}
-use Rattle.node_steps.specs.World.{Word, Open, Taken, CloseInside, CloseLooked, CloseDone, Phase, Closing, Vnode, Worker, World, fresh_vnode, worker_at, route, history_of}
+use Rattle.node_steps.specs.World.{Word, Open, Taken, CloseInside, CloseLooked, CloseDone, Phase, Closing, SiteVnode, Worker, World, fresh_vnode, worker_at, route, history_of}
 use Rattle.node_steps.specs.Steps.{Action, Looks, Publishes, Step, By, Diverts, Outcome, NotPossible, Happened, routed, site_of, seeing, does, left_in, judged, judged_by, closed_by, closes, acts, is_about, is_for, fallback_ids, diverted_by, diverted, happens, after, outcome}
 use Rattle.node_steps.proofs.Mapped.{map-more}
 use Rattle.node_steps.proofs.Kept.{IsOrderly}
@@ -26,7 +26,7 @@ worker_set w place phase seen other =
     ∙ ap (λ ws. slice_set ws place (record { phase = phase; seen = [] })) (sym (workers_twice w.workers))
     ∙ sym (map-set erase_worker (map erase_worker w.workers) place (record { phase = phase; seen = other }))
 
-vnode_set : (w : World) (site : ℕ) (vnode other : Vnode) → erase_vnode vnode ≡ erase_vnode other
+vnode_set : (w : World) (site : ℕ) (vnode other : SiteVnode) → erase_vnode vnode ≡ erase_vnode other
     → map erase_vnode (slice_set w.vnodes site vnode) ≡ map erase_vnode (slice_set (map erase_vnode w.vnodes) site other)
 vnode_set w site vnode other e =
     map-set erase_vnode w.vnodes site vnode ∙ (λ i. slice_set (sym (vnodes_twice w.vnodes) i) site (e i)) ∙ sym (map-set erase_vnode (map erase_vnode w.vnodes) site other)
@@ -36,7 +36,7 @@ module _ (w : World) (orderly : IsOrderly w) (number : ℕ) where
   Same a b = option_map erase_result a ≡ option_map erase_result b
 
   -- of a look at both
-  same_judged : (own site : ℕ) (worker : Worker) (primary fallback : Vnode) (phase : Phase)
+  same_judged : (own site : ℕ) (worker : Worker) (primary fallback : SiteVnode) (phase : Phase)
       → erase (judged_by w (pred number) own site worker primary fallback phase)
       ≡ erase (judged_by (erase w) (pred number) own site (erase_worker worker) (erase_vnode primary) (erase_vnode fallback) phase)
   same_judged own site worker primary fallback phase =
@@ -51,10 +51,10 @@ module _ (w : World) (orderly : IsOrderly w) (number : ℕ) where
   abbrev judged_at : (own site : ℕ) (hand place : State Content) → Phase × Outcome
   judged_at own site hand place = judged own site hand place (is_some hand.closed) (left_in place hand)
 
-  by_judged : (own site : ℕ) (hand : State Content) (worker : Worker) (fallback : Vnode) → worker_at w number ≡ Some worker → worker.phase ≡ Closing own site (CloseInside hand)
-      → (o : Option Vnode) → slice_get w.vnodes own ≡ o
-      → Same (option_map (λ (primary : Vnode). (judged_by w (pred number) own site worker primary fallback (judged_at own site hand primary.place).0, (judged_at own site hand primary.place).1)) o)
-      (option_map (λ (primary : Vnode). (judged_by (erase w) (pred number) own site (erase_worker worker) primary (erase_vnode fallback) (judged_at own site hand primary.place).0, (judged_at own site hand primary.place).1))
+  by_judged : (own site : ℕ) (hand : State Content) (worker : Worker) (fallback : SiteVnode) → worker_at w number ≡ Some worker → worker.phase ≡ Closing own site (CloseInside hand)
+      → (o : Option SiteVnode) → slice_get w.vnodes own ≡ o
+      → Same (option_map (λ (primary : SiteVnode). (judged_by w (pred number) own site worker primary fallback (judged_at own site hand primary.place).0, (judged_at own site hand primary.place).1)) o)
+      (option_map (λ (primary : SiteVnode). (judged_by (erase w) (pred number) own site (erase_worker worker) primary (erase_vnode fallback) (judged_at own site hand primary.place).0, (judged_at own site hand primary.place).1))
       (option_map erase_vnode o))
   by_judged own site hand worker fallback here is None there = refl
   by_judged own site hand worker fallback here is (Some primary) there =
@@ -64,29 +64,29 @@ module _ (w : World) (orderly : IsOrderly w) (number : ℕ) where
       ∙ (λ i. Some (erase (judged_by (erase w) (pred number) own site (erase_worker worker) (erase_vnode primary) (erase_vnode fallback) (judged_at own site hand (sym place i)).0), (judged_at own site hand (sym place i)).1))
 
   -- and of a publish
-  same_closed : (own site : ℕ) (worker : Worker) (fallback : Vnode) (hand : State Content) (count : ℕ)
+  same_closed : (own site : ℕ) (worker : Worker) (fallback : SiteVnode) (hand : State Content) (count : ℕ)
       → erase (closed_by w (pred number) own site worker fallback hand count) ≡ erase (closed_by (erase w) (pred number) own site (erase_worker worker) (erase_vnode fallback) hand count)
   same_closed own site worker fallback hand count =
       let vnodes = vnode_set w site (record fallback { log = Closed count ∷ fallback.log }) (record (erase_vnode fallback) { log = Closed count ∷ [] }) (sym (vnode_twice fallback)) in
       let workers = worker_set w (pred number) (Closing own site (CloseDone (apply_close hand count) true)) worker.seen [] in
       λ i. record { vnodes = vnodes i; routes = slice_set w.routes own own; epochs = slice_set w.epochs own hand.last_epoch; diversions = []; workers = workers i }
 
-  by_closed : (own site : ℕ) (hand : State Content) (count : ℕ) (worker : Worker) (o : Option Vnode)
-      → Same (option_map (λ (fallback : Vnode). (closed_by w (pred number) own site worker fallback hand count, Happened)) o)
-      (option_map (λ (fallback : Vnode). (closed_by (erase w) (pred number) own site (erase_worker worker) fallback hand count, Happened)) (option_map erase_vnode o))
+  by_closed : (own site : ℕ) (hand : State Content) (count : ℕ) (worker : Worker) (o : Option SiteVnode)
+      → Same (option_map (λ (fallback : SiteVnode). (closed_by w (pred number) own site worker fallback hand count, Happened)) o)
+      (option_map (λ (fallback : SiteVnode). (closed_by (erase w) (pred number) own site (erase_worker worker) fallback hand count, Happened)) (option_map erase_vnode o))
   by_closed own site hand count worker None = refl
   by_closed own site hand count worker (Some fallback) = λ i. Some (same_closed own site worker fallback hand count i, Happened)
 
-  by_fallback : (own site : ℕ) (hand : State Content) (worker : Worker) → worker_at w number ≡ Some worker → worker.phase ≡ Closing own site (CloseInside hand) → (o : Option Vnode)
-      → Same (option_and_then (λ (fallback : Vnode). option_map (λ (primary : Vnode).
+  by_fallback : (own site : ℕ) (hand : State Content) (worker : Worker) → worker_at w number ≡ Some worker → worker.phase ≡ Closing own site (CloseInside hand) → (o : Option SiteVnode)
+      → Same (option_and_then (λ (fallback : SiteVnode). option_map (λ (primary : SiteVnode).
       (judged_by w (pred number) own site worker primary fallback (judged_at own site hand primary.place).0, (judged_at own site hand primary.place).1)) (slice_get w.vnodes own)) o)
-      (option_and_then (λ (fallback : Vnode). option_map (λ (primary : Vnode).
+      (option_and_then (λ (fallback : SiteVnode). option_map (λ (primary : SiteVnode).
       (judged_by (erase w) (pred number) own site (erase_worker worker) primary fallback (judged_at own site hand primary.place).0, (judged_at own site hand primary.place).1)) (slice_get (map erase_vnode w.vnodes) own))
       (option_map erase_vnode o))
   by_fallback own site hand worker here is None = refl
   by_fallback own site hand worker here is (Some fallback) =
       by_judged own site hand worker fallback here is (slice_get w.vnodes own) refl
-      ∙ ap (λ o. option_map erase_result (option_map (λ (primary : Vnode).
+      ∙ ap (λ o. option_map erase_result (option_map (λ (primary : SiteVnode).
       (judged_by (erase w) (pred number) own site (erase_worker worker) primary (erase_vnode fallback) (judged_at own site hand primary.place).0, (judged_at own site hand primary.place).1)) o))
       (sym (slice_get-map erase_vnode w.vnodes own))
 
@@ -94,12 +94,12 @@ module _ (w : World) (orderly : IsOrderly w) (number : ℕ) where
       → Same (closes w number worker action phase) (closes (erase w) number (erase_worker worker) action phase)
   closes_erased worker here Looks (Closing own site (CloseInside hand)) is =
       by_fallback own site hand worker here is (slice_get w.vnodes site)
-      ∙ ap (λ o. option_map erase_result (option_and_then (λ (fallback : Vnode). option_map (λ (primary : Vnode).
+      ∙ ap (λ o. option_map erase_result (option_and_then (λ (fallback : SiteVnode). option_map (λ (primary : SiteVnode).
       (judged_by (erase w) (pred number) own site (erase_worker worker) primary fallback (judged_at own site hand primary.place).0, (judged_at own site hand primary.place).1)) (slice_get (map erase_vnode w.vnodes) own)) o))
       (sym (slice_get-map erase_vnode w.vnodes site))
   closes_erased worker here Publishes (Closing own site (CloseLooked hand count)) is =
       by_closed own site hand count worker (slice_get w.vnodes site)
-      ∙ ap (λ o. option_map erase_result (option_map (λ (fallback : Vnode). (closed_by (erase w) (pred number) own site (erase_worker worker) fallback hand count, Happened)) o))
+      ∙ ap (λ o. option_map erase_result (option_map (λ (fallback : SiteVnode). (closed_by (erase w) (pred number) own site (erase_worker worker) fallback hand count, Happened)) o))
       (sym (slice_get-map erase_vnode w.vnodes site))
   closes_erased worker here action phase is = refl
 
@@ -125,11 +125,11 @@ module _ (w : World) (orderly : IsOrderly w) (number : ℕ) where
           (closes_erased worker here action worker.phase refl) (does_erased w orderly number action)
 
 -- so it is of a partition's step
-for_erased : (vnodes : List Vnode) (index from : ℕ) (phase : Phase) → is_for (map erase_vnode vnodes) index from phase ≡ is_for vnodes index from phase
+for_erased : (vnodes : List SiteVnode) (index from : ℕ) (phase : Phase) → is_for (map erase_vnode vnodes) index from phase ≡ is_for vnodes index from phase
 for_erased [] index from phase = refl
 for_erased (vnode ∷ vnodes) index from phase = ap (λ rest. ((vnode.own == index) && is_about from phase) || rest) (for_erased vnodes index (suc from) phase)
 
-pub alone_erased : (vnodes : List Vnode) (index : ℕ) (workers : List Worker)
+pub alone_erased : (vnodes : List SiteVnode) (index : ℕ) (workers : List Worker)
     → list_all (λ worker. not (is_for (map erase_vnode vnodes) index 0 worker.phase)) (map erase_worker workers) ≡ list_all (λ worker. not (is_for vnodes index 0 worker.phase)) workers
 alone_erased vnodes index [] = refl
 alone_erased vnodes index (worker ∷ workers) =
@@ -139,10 +139,10 @@ module _ (w : World) (orderly : IsOrderly w) (index : ℕ) where
   abbrev Erases : Option World → Option World → Type 0
   Erases a b = option_map erase a ≡ option_map erase b
 
-  same_diverted : (epoch : ℕ) (vnode : Vnode) → erase_place vnode.word vnode.place ≡ vnode.place
+  same_diverted : (epoch : ℕ) (vnode : SiteVnode) → erase_place vnode.word vnode.place ≡ vnode.place
       → erase (diverted_by w index epoch vnode) ≡ erase (diverted_by (erase w) index epoch (erase_vnode vnode))
   same_diverted epoch vnode e =
-      let fresh : Vnode = fresh_vnode (vnode.place.vnode + fallback_ids) index epoch in
+      let fresh : SiteVnode = fresh_vnode (vnode.place.vnode + fallback_ids) index epoch in
       let vnodes = map-more erase_vnode w.vnodes fresh
       ∙ (λ i. sym (vnodes_twice w.vnodes) i ++ erase_vnode (fresh_vnode ((sym e i).vnode + fallback_ids) index epoch) ∷ [])
       ∙ sym (map-more erase_vnode (map erase_vnode w.vnodes) (fresh_vnode ((erase_place vnode.word vnode.place).vnode + fallback_ids) index epoch)) in
@@ -153,20 +153,20 @@ module _ (w : World) (orderly : IsOrderly w) (index : ℕ) where
   abbrev is_free : Bool
   is_free = list_all (λ worker. not (is_for w.vnodes index 0 worker.phase)) w.workers
 
-  abbrev tested : World → (site epoch : ℕ) → Bool → Vnode → Option World
+  abbrev tested : World → (site epoch : ℕ) → Bool → SiteVnode → Option World
   tested world site epoch alone vnode = cond ((site == index) && alone) (Some (diverted_by world index epoch vnode)) None
 
-  by_tests : (epoch : ℕ) (vnode : Vnode) → slice_get w.vnodes index ≡ Some vnode → slice_get w.routes index ≡ Some index → (alone : Bool) → is_free ≡ alone
+  by_tests : (epoch : ℕ) (vnode : SiteVnode) → slice_get w.vnodes index ≡ Some vnode → slice_get w.routes index ≡ Some index → (alone : Bool) → is_free ≡ alone
       → Erases (cond alone (Some (diverted_by w index epoch vnode)) None) (cond alone (Some (diverted_by (erase w) index epoch (erase_vnode vnode))) None)
   by_tests epoch vnode there own true h = ap (λ x. Some x) (same_diverted epoch vnode (in_place_still w orderly index epoch vnode there own h))
   by_tests epoch vnode there own false h = refl
 
-  by_site : (site epoch : ℕ) → slice_get w.routes index ≡ Some site → (vnode : Vnode) → slice_get w.vnodes index ≡ Some vnode → (same : Bool) → (site == index) ≡ same
+  by_site : (site epoch : ℕ) → slice_get w.routes index ≡ Some site → (vnode : SiteVnode) → slice_get w.vnodes index ≡ Some vnode → (same : Bool) → (site == index) ≡ same
       → Erases (cond (same && is_free) (Some (diverted_by w index epoch vnode)) None) (cond (same && is_free) (Some (diverted_by (erase w) index epoch (erase_vnode vnode))) None)
   by_site site epoch route vnode there true same = by_tests epoch vnode there (route ∙ ap (λ k. Some k) (same_number site index same)) is_free refl
   by_site site epoch route vnode there false same = refl
 
-  by_primary : (site epoch : ℕ) → slice_get w.routes index ≡ Some site → (o : Option Vnode) → slice_get w.vnodes index ≡ o
+  by_primary : (site epoch : ℕ) → slice_get w.routes index ≡ Some site → (o : Option SiteVnode) → slice_get w.vnodes index ≡ o
       → Erases (option_and_then (tested w site epoch is_free) o) (option_and_then (tested (erase w) site epoch is_free) (option_map erase_vnode o))
   by_primary site epoch route None h = refl
   by_primary site epoch route (Some vnode) h = by_site site epoch route vnode h (site == index) refl

@@ -3,15 +3,15 @@ use Rattle.std.proofs.Common.{◌≡◌, ℕ, zero, suc, ◌≤◌, Bool, true, 
 use Rattle.std.specs.Prelude.{pred, Option, Some, None, is_some, option_map, option_and_then, slice_get, slice_set}
 use Rattle.std.proofs.lemmas.Option.{slice_get-map}
 use Rattle.riak_msgs.specs.Contents.{Content}
-use Rattle.sibling_register.specs.Answers.{Ask, AskGet, AskPut, AskDel, AskReap, GetCommand}
+use Rattle.sibling_register.specs.Answers.{RegisterAsk, AskGet, AskPut, AskDel, AskReap, GetCommand}
 use Rattle.actor_epoch.specs.Given.{Context}
 use Rattle.vnode_machine.specs.Machine.{State}
 use Rattle.vnode_machine.specs.Replay.{History}
 use Rattle.copy_laws.specs.Joining.{Log}
-use Rattle.vnode_machine.specs.Step.{StepOutcome, Refused, Answered, Accepted, outcome as outcome_of_ask}
+use Rattle.vnode_machine.specs.Step.{MachineOutcome, Refused, Answered, Accepted, outcome as outcome_of_ask}
 pub use Rattle.node_steps.proofs.Mapped.{map-set}
-use Rattle.node_steps.specs.World.{Word, Open, Taken, CopyAsked, CopyInside, CopyLooked, CopyTaken, CopyDone, CloseAsked, CloseTaken, CloseInside, CloseLooked, CloseDone, Phase, Idle, Asked, Reading, Holding, Done, Turned, Copying, Closing, Brought, nothing_brought, Vnode, Worker, World, worker_at, seen_at, brought_by}
-use Rattle.node_steps.specs.Steps.{Action, Asks, AsksNowhere, Copies, CopiesFrom, Closes, ClosesFrom, Enters, Leaves, Marks, Unmarks, Takes, Puts, Looks, Publishes, Outcome, Turn, reads_by, holds_by, looks_by, turn_of, site_of, seeing, turned, does}
+use Rattle.node_steps.specs.World.{Word, Open, Taken, CopyAsked, CopyInside, CopyLooked, CopyTaken, CopyDone, CloseAsked, CloseTaken, CloseInside, CloseLooked, CloseDone, Phase, Idle, Asked, Reading, Holding, Done, Turned, Copying, Closing, Brought, nothing_brought, SiteVnode, Worker, World, worker_at, seen_at, brought_by}
+use Rattle.node_steps.specs.Steps.{Action, Asks, AsksNowhere, Copies, CopiesFrom, Closes, ClosesFrom, Enters, Leaves, Marks, Unmarks, Takes, Puts, Looks, Publishes, Outcome, WorkerTurn, reads_by, holds_by, looks_by, turn_of, site_of, seeing, turned, does}
 use Rattle.node_steps.proofs.Lists.{one, how_many}
 use Rattle.node_steps.proofs.Inside.{is_reader, reads, holds, FitsWord, IsAbout, same_test}
 use Rattle.node_steps.proofs.EachTurn.{about_is}
@@ -25,17 +25,17 @@ pub place_twice : (word : Word) (place : State Content) → erase_place word (er
 place_twice (Open n mark) place = refl
 place_twice Taken place = refl
 
-pub vnode_twice : (vnode : Vnode) → erase_vnode (erase_vnode vnode) ≡ erase_vnode vnode
+pub vnode_twice : (vnode : SiteVnode) → erase_vnode (erase_vnode vnode) ≡ erase_vnode vnode
 vnode_twice vnode = ap (λ p. record { id = 0; own = vnode.own; last_epoch = 0; word = vnode.word; log = []; place = p }) (place_twice vnode.word vnode.place)
 
 module _ (id home epoch : ℕ) (seen : History) (brought : Brought) (log : Log) (place : State Content) where
-  abbrev vnode_in : Word → Vnode
+  abbrev vnode_in : Word → SiteVnode
   vnode_in word = record { id = id; own = home; last_epoch = epoch; word = word; log = log; place = place }
 
   abbrev Same : Word → Action → Phase → Type 0
   Same word action phase = IsErased id home epoch seen brought log place word action phase
 
-  enters : (word : Word) (index : ℕ) (ask : Ask Content Context) → Same word Enters (Asked index ask)
+  enters : (word : Word) (index : ℕ) (ask : RegisterAsk Content Context) → Same word Enters (Asked index ask)
   enters (Open n false) index (AskGet get) = refl
   enters (Open n true) index (AskGet get) = refl
   enters Taken index (AskGet get) = refl
@@ -57,17 +57,17 @@ module _ (id home epoch : ℕ) (seen : History) (brought : Brought) (log : Log) 
   leaves word (Closing own site stage) = close_leaves id home epoch seen brought log place word own site stage
   leaves word (Copying own site key stage) = copy_leaves id home epoch seen brought log place word own site key stage
 
-  marks : (word : Word) (index : ℕ) (ask : Ask Content Context) → Same word Marks (Asked index ask)
+  marks : (word : Word) (index : ℕ) (ask : RegisterAsk Content Context) → Same word Marks (Asked index ask)
   marks (Open n false) index ask = refl
   marks (Open n true) index ask = refl
   marks Taken index ask = refl
 
-  unmarks : (word : Word) (index : ℕ) (ask : Ask Content Context) → Same word Unmarks (Asked index ask)
+  unmarks : (word : Word) (index : ℕ) (ask : RegisterAsk Content Context) → Same word Unmarks (Asked index ask)
   unmarks (Open n false) index ask = refl
   unmarks (Open n true) index ask = refl
   unmarks Taken index ask = refl
 
-  takes : (word : Word) (index : ℕ) (ask : Ask Content Context) → Same word Takes (Asked index ask)
+  takes : (word : Word) (index : ℕ) (ask : RegisterAsk Content Context) → Same word Takes (Asked index ask)
   takes (Open zero mark) index ask = refl
   takes (Open (suc n) mark) index ask = refl
   takes Taken index ask = refl
@@ -84,7 +84,7 @@ module _ (id home epoch : ℕ) (seen : History) (brought : Brought) (log : Log) 
   puts word (Closing own site stage) = close_puts id home epoch seen brought log place word own site stage
   puts word (Copying own site key stage) = copy_puts id home epoch seen brought log place word own site key stage
 
-  held_look : (word : Word) (index : ℕ) (ask : Ask Content Context) (hand : State Content) (o : StepOutcome)
+  held_look : (word : Word) (index : ℕ) (ask : RegisterAsk Content Context) (hand : State Content) (o : MachineOutcome)
       → erase_turn (looks_by seen brought (vnode_in word) index ask hand o) ≡ erase_turn (looks_by [] nothing_brought (erase_vnode (vnode_in word)) index ask hand o)
   held_look (Open n mark) index ask hand (Refused number) = refl
   held_look (Open n mark) index ask hand (Answered response) = refl
@@ -93,7 +93,7 @@ module _ (id home epoch : ℕ) (seen : History) (brought : Brought) (log : Log) 
   held_look Taken index ask hand (Answered response) = refl
   held_look Taken index ask hand (Accepted operation response next) = refl
 
-  held_by : (word : Word) (index : ℕ) (ask : Ask Content Context) (hand : State Content) (closed : Bool)
+  held_by : (word : Word) (index : ℕ) (ask : RegisterAsk Content Context) (hand : State Content) (closed : Bool)
       → erase_turn (holds_by seen brought (vnode_in word) index ask hand closed) ≡ erase_turn (holds_by [] nothing_brought (erase_vnode (vnode_in word)) index ask hand closed)
   held_by (Open n mark) index ask hand true = refl
   held_by Taken index ask hand true = refl
@@ -128,7 +128,7 @@ module _ (id home epoch : ℕ) (seen : History) (brought : Brought) (log : Log) 
   publishes word (Closing own site stage) = refl
   publishes word (Copying own site key stage) = copy_publishes id home epoch seen brought log place word own site key stage
 
-  asks : (word : Word) (index : ℕ) (ask : Ask Content Context) → Same word (Asks index ask) Idle
+  asks : (word : Word) (index : ℕ) (ask : RegisterAsk Content Context) → Same word (Asks index ask) Idle
   asks (Open n mark) index ask = refl
   asks Taken index ask = refl
 
@@ -218,7 +218,7 @@ module _ (id home epoch : ℕ) (seen : History) (brought : Brought) (log : Log) 
   turn_erased word Looks phase p = looks word phase p
   turn_erased word Publishes phase p = publishes word phase
 
-pub vnodes_twice : (vnodes : List Vnode) → map erase_vnode (map erase_vnode vnodes) ≡ map erase_vnode vnodes
+pub vnodes_twice : (vnodes : List SiteVnode) → map erase_vnode (map erase_vnode vnodes) ≡ map erase_vnode vnodes
 vnodes_twice [] = refl
 vnodes_twice (v ∷ vnodes) = let one = vnode_twice v in let rest = vnodes_twice vnodes in λ i. one i ∷ rest i
 
@@ -236,7 +236,7 @@ abbrev pub erase_result : Result → Result
 erase_result r = (erase r.0, r.1)
 
 -- the erased world after an erased turn
-abbrev pub turned_erased : World → (place index : ℕ) → Turn → Result
+abbrev pub turned_erased : World → (place index : ℕ) → WorkerTurn → Result
 turned_erased w place index turn = (
   record {
     routes = w.routes;
@@ -248,13 +248,13 @@ turned_erased w place index turn = (
   turn.outcome,
 )
 
-pub turned_is : (w : World) (place index : ℕ) (worker : Worker) (turn : Turn) → erase_result (turned w place index worker turn, turn.outcome) ≡ turned_erased w place index (erase_turn turn)
+pub turned_is : (w : World) (place index : ℕ) (worker : Worker) (turn : WorkerTurn) → erase_result (turned w place index worker turn, turn.outcome) ≡ turned_erased w place index (erase_turn turn)
 turned_is w place index worker turn =
     let vnodes = map-set erase_vnode w.vnodes index turn.vnode in
     let workers = map-set erase_worker w.workers place (record { phase = turn.phase; seen = seeing worker.seen index turn.seen }) in
     λ i. (record { vnodes = vnodes i; routes = w.routes; epochs = w.epochs; diversions = []; workers = workers i }, turn.outcome)
 
-erased_turned_is : (w : World) (place index : ℕ) (worker : Worker) (turn : Turn)
+erased_turned_is : (w : World) (place index : ℕ) (worker : Worker) (turn : WorkerTurn)
     → erase_result (turned (erase w) place index worker turn, turn.outcome) ≡ turned_erased w place index (erase_turn turn)
 erased_turned_is w place index worker turn =
     let vnodes = vnodes_twice w.vnodes in
@@ -271,7 +271,7 @@ erased_turned_is w place index worker turn =
       turn.outcome,
     ))
 
-by_turn : (f : Turn → Result) (g : Turn → Result) → ((t : Turn) → erase_result (f t) ≡ g (erase_turn t)) → (o : Option Turn)
+by_turn : (f : WorkerTurn → Result) (g : WorkerTurn → Result) → ((t : WorkerTurn) → erase_result (f t) ≡ g (erase_turn t)) → (o : Option WorkerTurn)
     → option_map erase_result (option_map f o) ≡ option_map g (option_map erase_turn o)
 by_turn f g h None = refl
 by_turn f g h (Some t) = ap (λ r. Some r) (h t)
@@ -301,7 +301,7 @@ is_placed Taken readers holders index (Copying own site key (CopyTaken clock han
 is_placed Taken readers holders index (Copying own site key (CopyDone hand)) f at n = tt
 
 -- the state that a reader is shown is in place
-pub shown_at : (w : World) (orderly : IsOrderly w) (action : Action) (number index : ℕ) (worker : Worker) (vnode : Vnode) → worker_at w number ≡ Some worker
+pub shown_at : (w : World) (orderly : IsOrderly w) (action : Action) (number index : ℕ) (worker : Worker) (vnode : SiteVnode) → worker_at w number ≡ Some worker
     → site_of action worker.phase ≡ Some index → slice_get w.vnodes index ≡ Some vnode → IsShown vnode.word worker.phase
 shown_at w orderly action number index worker vnode here at there =
     let sound = orderly.vnodes index vnode there in
@@ -313,11 +313,11 @@ module _ (w : World) (orderly : IsOrderly w) (number : ℕ) (action : Action) wh
   abbrev Both : Option Result → Option Result → Type 0
   Both a b = option_map erase_result a ≡ option_map erase_result b
 
-  abbrev result : World → Worker → ℕ → Turn → Result
+  abbrev result : World → Worker → ℕ → WorkerTurn → Result
   result world worker index turn = (turned world (pred number) index worker turn, turn.outcome)
 
   -- a turn of a worker at a vnode
-  at_vnode : (worker : Worker) (index : ℕ) (vnode : Vnode) → worker_at w number ≡ Some worker → site_of action worker.phase ≡ Some index → slice_get w.vnodes index ≡ Some vnode
+  at_vnode : (worker : Worker) (index : ℕ) (vnode : SiteVnode) → worker_at w number ≡ Some worker → site_of action worker.phase ≡ Some index → slice_get w.vnodes index ≡ Some vnode
       → Both (option_map (result w worker index) (turn_of (seen_at worker.seen index) (brought_by w worker) vnode action worker.phase))
       (option_map (result (erase w) (erase_worker worker) index) (turn_of [] nothing_brought (erase_vnode vnode) action worker.phase))
   at_vnode worker index vnode here at there =
@@ -328,12 +328,12 @@ module _ (w : World) (orderly : IsOrderly w) (number : ℕ) (action : Action) wh
       ∙ sym (by_turn (result (erase w) (erase_worker worker) index) (turned_erased w (pred number) index)
       (erased_turned_is w (pred number) index (erase_worker worker)) (turn_of [] nothing_brought (erase_vnode vnode) action worker.phase))
 
-  abbrev at_index : World → Worker → ℕ → Option Vnode → Option Result
+  abbrev at_index : World → Worker → ℕ → Option SiteVnode → Option Result
   at_index world worker index o =
       option_and_then (λ vnode. option_map (λ turn. (turned world (pred number) index worker turn, turn.outcome))
       (turn_of (seen_at worker.seen index) (brought_by world worker) vnode action worker.phase)) o
 
-  by_vnode : (worker : Worker) (index : ℕ) → worker_at w number ≡ Some worker → site_of action worker.phase ≡ Some index → (o : Option Vnode) → slice_get w.vnodes index ≡ o
+  by_vnode : (worker : Worker) (index : ℕ) → worker_at w number ≡ Some worker → site_of action worker.phase ≡ Some index → (o : Option SiteVnode) → slice_get w.vnodes index ≡ o
       → Both (at_index w worker index o) (at_index (erase w) (erase_worker worker) index (option_map erase_vnode o))
   by_vnode worker index here at None there = refl
   by_vnode worker index here at (Some vnode) there = at_vnode worker index vnode here at there

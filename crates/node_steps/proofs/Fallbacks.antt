@@ -11,7 +11,7 @@ use Rattle.node_steps.specs.declared.outcome.Outcome.TheVariants as outcomes
 use Rattle.node_steps.specs.declared.parts.Parts.{Parts}
 use Rattle.node_steps.specs.declared.phase.Phase.{Phase as RunPhase}
 use Rattle.node_steps.specs.declared.site.Site.{Site}
-use Rattle.node_steps.specs.World.{Phase, Vnode, World, fresh_vnode}
+use Rattle.node_steps.specs.World.{Phase, SiteVnode, World, fresh_vnode}
 use Rattle.node_steps.specs.Steps.{Diverts, Outcome, NotPossible, Happened, is_for, fallback_ids, diverted_by, diverted}
 use Rattle.node_steps.specs.Erased.{erase, erase_vnode}
 use Rattle.node_steps.specs.Returned.{returned}
@@ -21,11 +21,11 @@ use Rattle.node_steps.proofs.Mapped.{at_some, map-more, tested_same}
 use Rattle.node_steps.proofs.Stepping.{vnodes_itself, workers_itself, not_possible}
 
 -- no worker of these has to do with a partition whose sites are these
-abbrev pub are_free : List Vnode → (index : ℕ) → List RunPhase → Bool
+abbrev pub are_free : List SiteVnode → (index : ℕ) → List RunPhase → Bool
 are_free vnodes index phases = list_all (λ worker. not (is_for vnodes index 0 worker.phase)) (map worker_of phases)
 
 -- by the first of them, and the rest
-pub free_on : (vnodes : List Vnode) (index : ℕ) (phases rest : List RunPhase) (phase : RunPhase) (about : Bool) → phases ≡ phase ∷ rest → about ≡ is_for vnodes index 0 (phase_of phase)
+pub free_on : (vnodes : List SiteVnode) (index : ℕ) (phases rest : List RunPhase) (phase : RunPhase) (about : Bool) → phases ≡ phase ∷ rest → about ≡ is_for vnodes index 0 (phase_of phase)
     → are_free vnodes index phases ≡ not about && are_free vnodes index rest
 free_on vnodes index phases rest phase about split e = ap (are_free vnodes index) split ∙ ap (λ b. not b && are_free vnodes index rest) (sym e)
 
@@ -40,7 +40,7 @@ module _ (parts : Parts) (index : ℕ) where
   abbrev free : Bool
   free = are_free w.vnodes index parts.workers.items
 
-  abbrev tested : ℕ → ℕ → Vnode → Option World
+  abbrev tested : ℕ → ℕ → SiteVnode → Option World
   tested site epoch vnode = cond ((site == index) && free) (Some (diverted_by w index epoch vnode)) None
 
   abbrev by_epoch : ℕ → Option ℕ → Option World
@@ -64,7 +64,7 @@ module _ (parts : Parts) (index : ℕ) where
   pub not_free : (site : ℕ) → slice_get parts.routes.items index ≡ Some site → (site == index) && free ≡ false → diverted w index ≡ None
   not_free site e test = ap by_route e ∙ by (slice_get w.epochs index)
     where
-      by_vnode : (epoch : ℕ) (o : Option Vnode) → option_and_then (tested site epoch) o ≡ None
+      by_vnode : (epoch : ℕ) (o : Option SiteVnode) → option_and_then (tested site epoch) o ≡ None
       by_vnode epoch None = refl
       by_vnode epoch (Some vnode) = ap (λ b. cond b (Some (diverted_by w index epoch vnode)) None) test
 

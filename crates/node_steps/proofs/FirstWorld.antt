@@ -5,7 +5,7 @@ use Rattle.actor_epoch.specs.Limits.{max_epoch}
 use Rattle.vnode_machine.specs.Sound.{IsSound as IsSoundState}
 use Rattle.vnode_machine.proofs.Formed.{sound-opening}
 use Rattle.vnode_machine.specs.Replay.{IsWithinLimits}
-use Rattle.node_steps.specs.World.{Idle, Vnode, Worker, CommandsAlone, fresh_vnode, fresh_worker, id_of, opening_vnodes, own_sites, opening_world, seen_at}
+use Rattle.node_steps.specs.World.{Idle, SiteVnode, Worker, CommandsAlone, fresh_vnode, fresh_worker, id_of, opening_vnodes, own_sites, opening_world, seen_at}
 use Rattle.node_steps.specs.Steps.{is_about, fallback_ids}
 use Rattle.node_steps.specs.Schedules.{Start, IsStart}
 use Rattle.node_steps.proofs.Lists.{how_many, counted_none, get-replicate}
@@ -16,12 +16,12 @@ use Rattle.node_steps.proofs.Coming.{between_in}
 use Rattle.node_steps.proofs.Kept.{IsOrderly}
 
 -- a vnode of the opening world is a fresh one
-pub opened : (run from count index : ℕ) (vnode : Vnode) → slice_get (opening_vnodes run from count) index ≡ Some vnode
+pub opened : (run from count index : ℕ) (vnode : SiteVnode) → slice_get (opening_vnodes run from count) index ≡ Some vnode
     → (index < count) × (vnode ≡ fresh_vnode (id_of run (from + index)) (from + index) 0)
 opened run from zero index vnode h = cc
 opened run from (suc count) zero vnode h = (omega arith, sym (same h) ∙ ap (λ n. fresh_vnode (id_of run n) n 0) (plain from))
   where
-    same : {a b : Vnode} → Some a ≡ Some b → a ≡ b
+    same : {a b : SiteVnode} → Some a ≡ Some b → a ≡ b
     same e = cc
 
     plain : (n : ℕ) → n ≡ n + 0
@@ -72,26 +72,26 @@ orderly-opening start is =
           subst (λ v. IsAware v.id v.last_epoch index v.log worker) (sym o.1)
           (subst (λ x. IsAware (id_of start.run (0 + index)) 0 index [] x) (sym e) (record { hand = tt; seen = begins-itself []; whole = tt }));
       plain = λ index vnode h.
-          subst (λ (v : Vnode). CommandsAlone v.log → IsPlain v.id v.last_epoch v.log) (sym (opened start.run 0 start.vnodes index vnode h).1)
+          subst (λ (v : SiteVnode). CommandsAlone v.log → IsPlain v.id v.last_epoch v.log) (sym (opened start.run 0 start.vnodes index vnode h).1)
           (λ only. plain-fresh (id_of start.run (0 + index)) 0);
       sound = λ index vnode h.
           let o = opened start.run 0 start.vnodes index vnode h in
-          subst (λ (v : Vnode). IsSoundState (state_of v.id v.last_epoch v.log)) (sym o.1) (sound-opening (id_of start.run (0 + index)) 0 (within start.run index start.vnodes is.run is.vnodes o.0));
+          subst (λ (v : SiteVnode). IsSoundState (state_of v.id v.last_epoch v.log)) (sym o.1) (sound-opening (id_of start.run (0 + index)) 0 (within start.run index start.vnodes is.run is.vnodes o.0));
       between = λ place worker k own site h.
           absurd (not_between own site (ap (λ (x : Worker). between_in x.phase) (sym (get-replicate start.workers place fresh_worker worker k)) ∙ h));
       owned = λ index vnode h.
           let o = opened start.run 0 start.vnodes index vnode h in
-          subst (λ n. vnode.own < n) (sym (length-own 0 start.vnodes)) (subst (λ (v : Vnode). v.own < start.vnodes) (sym o.1) (plainly index start.vnodes o.0));
+          subst (λ n. vnode.own < n) (sym (length-own 0 start.vnodes)) (subst (λ (v : SiteVnode). v.own < start.vnodes) (sym o.1) (plainly index start.vnodes o.0));
       homes = λ index vnode below h.
           let o = opened start.run 0 start.vnodes index vnode h in
-          subst (λ (v : Vnode). (v.own ≡ index) × IsOpenAt v.id v.last_epoch v.log) (sym o.1) (from_zero index, refl);
+          subst (λ (v : SiteVnode). (v.own ≡ index) × IsOpenAt v.id v.last_epoch v.log) (sym o.1) (from_zero index, refl);
       routed_to = λ own site h. inl (own_is 0 start.vnodes own site h ∙ from_zero own);
       opens = λ site vnode h n clear.
-          let o = opened start.run 0 start.vnodes site vnode h in absurd (n (ap (λ (v : Vnode). v.own) o.1 ∙ from_zero site));
+          let o = opened start.run 0 start.vnodes site vnode h in absurd (n (ap (λ (v : SiteVnode). v.own) o.1 ∙ from_zero site));
       limited = λ index epoch h. subst (λ n. n ≤ max_epoch) (sym (get-replicate start.vnodes index 0 epoch h)) (omega arith);
       bounds = λ index vnode below h.
           let o = opened start.run 0 start.vnodes index vnode h in
-          subst (λ (v : Vnode). v.id + fallback_ids < 2 ^ 64) (sym o.1) (bounded start.run index start.vnodes is.run is.vnodes o.0);
+          subst (λ (v : SiteVnode). v.id + fallback_ids < 2 ^ 64) (sym o.1) (bounded start.run index start.vnodes is.run is.vnodes o.0);
       sites = same_length (length (own_sites 0 start.vnodes)) (length (opening_vnodes start.run 0 start.vnodes)) start.vnodes
           (length-own 0 start.vnodes) (length-opening start.run 0 start.vnodes);
       about = λ place worker k site h.

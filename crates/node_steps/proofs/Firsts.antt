@@ -3,7 +3,7 @@ use Rattle.std.proofs.Common.{◌≡◌, ◌≢◌, ◌⊎◌, inl, inr, ℕ, �
 use Rattle.std.specs.Prelude.{pred, Option, Some, None, option_map, slice_get}
 use Rattle.std.specs.Option.{option_map_or}
 use Rattle.copy_laws.specs.Copies.{Closed}
-use Rattle.node_steps.specs.World.{Vnode, World, CommandsAlone, fresh_vnode, opening_world, opening_vnodes, route, log_at, brought_by}
+use Rattle.node_steps.specs.World.{SiteVnode, World, CommandsAlone, fresh_vnode, opening_world, opening_vnodes, route, log_at, brought_by}
 use Rattle.node_steps.specs.Steps.{Action, Step, By, Diverts, Outcome, NotPossible, Happened, Replied, NotHeld, StuckThere, CopiedBack, Elsewhere, LeftThere, fallback_ids, routed, turned, acts, diverted_by, diverted}
 use Rattle.node_steps.specs.Schedules.{Start, IsStart, world_after}
 use Rattle.node_steps.specs.Claims.{CommandsFirst, state_at, HadClose, CallsMeetNoCopies}
@@ -27,9 +27,9 @@ First w site = CommandsFirst (log_at w site) ⊎ HadClose w site
 first-opening : (start : Start) (site : ℕ) → First (opening_world start.run start.workers start.vnodes) site
 first-opening start site = inl (by (slice_get (opening_vnodes start.run 0 start.vnodes) site) refl)
   where
-    by : (o : Option Vnode) → slice_get (opening_vnodes start.run 0 start.vnodes) site ≡ o → CommandsFirst (option_map_or (λ (v : Vnode). v.log) o [])
+    by : (o : Option SiteVnode) → slice_get (opening_vnodes start.run 0 start.vnodes) site ≡ o → CommandsFirst (option_map_or (λ (v : SiteVnode). v.log) o [])
     by None h = tt
-    by (Some v) h = subst CommandsFirst (sym (ap (λ (u : Vnode). u.log) (opened start.run 0 start.vnodes site v h).1)) tt
+    by (Some v) h = subst CommandsFirst (sym (ap (λ (u : SiteVnode). u.log) (opened start.run 0 start.vnodes site v h).1)) tt
 
 -- what was closed still is, by a closer's look or publish
 had-quiet : (w next : World) → IsQuiet w next → (site : ℕ) → HadClose w site → HadClose next site
@@ -54,23 +54,23 @@ first-quiet w next calm was site = elim (was site) [
 first-diverted : (w : World) (other : ℕ) (after : World) (d : IsDiversion w other after) → ((site : ℕ) → First w site) → (site : ℕ) → First after site
 first-diverted w other after d was site = subst (λ (x : World). First x site) d.gives (by (slice_get w.vnodes site) refl)
   where
-    fresh : Vnode
+    fresh : SiteVnode
     fresh = fresh_vnode (d.primary.place.vnode + fallback_ids) other d.epoch
 
     later : World
     later = diverted_by w other d.epoch d.primary
 
-    had-more : HadClose w site → (v : Vnode) → slice_get w.vnodes site ≡ Some v → HadClose later site
+    had-more : HadClose w site → (v : SiteVnode) → slice_get w.vnodes site ≡ Some v → HadClose later site
     had-more (at, own, closed) v there =
         let u = closed_vnode w at closed in
         let more = get-first w.vnodes fresh at u.0 u.1 in (
           at,
-          ap (λ o. option_map_or (λ (x : Vnode). x.own) o 0) (more ∙ sym u.1) ∙ own ∙ ap (λ o. option_map_or (λ (x : Vnode). x.own) o 0) (there ∙ sym (get-first w.vnodes fresh site v there)),
+          ap (λ o. option_map_or (λ (x : SiteVnode). x.own) o 0) (more ∙ sym u.1) ∙ own ∙ ap (λ o. option_map_or (λ (x : SiteVnode). x.own) o 0) (there ∙ sym (get-first w.vnodes fresh site v there)),
           λ none. closed (ap closed_in (u.1 ∙ sym more) ∙ none),
         )
 
-    by : (o : Option Vnode) → slice_get w.vnodes site ≡ o → First later site
-    by None h = inl (subst CommandsFirst (sym (log-more w.vnodes fresh refl site ∙ ap (λ o. option_map_or (λ (x : Vnode). x.log) o []) h)) tt)
+    by : (o : Option SiteVnode) → slice_get w.vnodes site ≡ o → First later site
+    by None h = inl (subst CommandsFirst (sym (log-more w.vnodes fresh refl site ∙ ap (λ o. option_map_or (λ (x : SiteVnode). x.log) o []) h)) tt)
     by (Some v) h = elim (was site) [
       | inl first ↦ inl (subst CommandsFirst (sym (log-more w.vnodes fresh refl site)) first)
       | inr had ↦ inr (had-more had v h)

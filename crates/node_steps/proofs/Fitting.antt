@@ -9,11 +9,11 @@ use Rattle.vnode_machine.specs.Machine.{State}
 use Rattle.node_steps.specs.declared.parts.Parts.{Parts}
 use Rattle.node_steps.specs.declared.phase.Phase.{Phase as RunPhase}
 use Rattle.node_steps.specs.declared.site.Site.{Site}
-use Rattle.node_steps.specs.World.{Word, Open, Taken, CopyTaken, Phase, Copying, Vnode, Worker, World, route}
+use Rattle.node_steps.specs.World.{Word, Open, Taken, CopyTaken, Phase, Copying, SiteVnode, Worker, World, route}
 use Rattle.node_steps.specs.Steps.{Step, By, Diverts, Enters, Outcome, Happened, routed, site_of, is_for, fallback_ids, does, acts, diverted, after}
 use Rattle.node_steps.specs.Schedules.{Start, world_after}
 use Rattle.node_steps.specs.Erased.{IsShown, erase_vnode, erase_worker}
-use Rattle.node_steps.specs.Running.{HasRoom, phase_of, vnode_of, worker_of}
+use Rattle.node_steps.specs.Running.{CanCountReader, phase_of, vnode_of, worker_of}
 use Rattle.node_steps.specs.Parts.{AreFit, IsFit, IsLeft, IsOpen, IsOpenInHand, world_in}
 use Rattle.node_steps.specs.Kept.{IsKept}
 use Rattle.node_steps.proofs.Lists.{one, how_many, get-below, length-set}
@@ -65,7 +65,7 @@ at_most_all : {X : Type 0} (p : X → Bool) (xs : List X) → how_many p xs ≤ 
 at_most_all p [] = omega arith
 at_most_all p (x ∷ xs) = one_more (p x) (how_many p xs) (length xs) (at_most_all p xs)
 
-has_room : (word : Word) (readers holders : ℕ) → FitsWord word readers holders → readers < 2 ^ 16 → HasRoom word
+has_room : (word : Word) (readers holders : ℕ) → FitsWord word readers holders → readers < 2 ^ 16 → CanCountReader word
 has_room (Open n mark) readers holders f h = omega (arith, f.0, h)
 has_room Taken readers holders f h = tt
 
@@ -73,7 +73,7 @@ below : (a b c : ℕ) → a ≤ b → b ≡ c → c < 2 ^ 16 → a < 2 ^ 16
 below a b c h e k = omega (arith, h, e, k)
 
 -- a copier has a primary's state in its hand, which isn't closed
-opened : (w : World) → IsOrderly w → (place index : ℕ) (worker : Worker) (vnode : Vnode) → slice_get w.workers place ≡ Some worker → slice_get w.vnodes index ≡ Some vnode
+opened : (w : World) → IsOrderly w → (place index : ℕ) (worker : Worker) (vnode : SiteVnode) → slice_get w.workers place ≡ Some worker → slice_get w.vnodes index ≡ Some vnode
     → (phase : Phase) → worker.phase ≡ phase → site_of Enters phase ≡ Some index → IsOpenInHand phase
 opened w orderly place index worker vnode here there (Copying own site key (CopyTaken clock hand None)) is about =
     let at : own ≡ index = some_same own index about in
@@ -94,13 +94,13 @@ turns_fit parts kept place index phase site here about there =
     let a = from_some erase_worker w.workers place (worker_of phase) (ap (λ (x : World). slice_get x.workers place) same ∙ at_some worker_of parts.workers.items place phase here) in
     let b = from_some erase_vnode w.vnodes index (vnode_of site) (ap (λ (x : World). slice_get x.vnodes index) same ∙ at_some vnode_of parts.sites.items index site there) in
     let phases = ap (λ (x : Worker). x.phase) a.2 in
-    let words = ap (λ (v : Vnode). v.word) b.2 in
+    let words = ap (λ (v : SiteVnode). v.word) b.2 in
     let shown = shown_at w sound Enters (suc place) index a.0 b.0 a.1 (ap (site_of Enters) phases ∙ about) b.1 in
     let few = below (how_many (reads index) w.workers) (length w.workers) kept.start.workers (at_most_all (reads index) w.workers)
     (workers_are kept.start kept.schedule) kept.after.workers in
     let room = has_room b.0.word (how_many (reads index) w.workers) (how_many (holds index) w.workers) (sound.vnodes index b.0 b.1).word few in
     record {
-      room = subst HasRoom words room;
+      room = subst CanCountReader words room;
       shown = subst (λ p. IsShown (vnode_of site).word p) phases (subst (λ x. IsShown x a.0.phase) words shown);
       opened = opened w sound place index a.0 b.0 a.1 b.1 (phase_of phase) phases about;
     }
@@ -123,9 +123,9 @@ left_fit parts kept index site route_is there free =
     let own : slice_get w.routes index ≡ Some index = ap (λ (x : World). slice_get x.routes index) same ∙ route_is in
     let none = holders_none w sound index 0 b.0 b.1 own alone in
     let is = is_open b.0.word (how_many (reads index) w.workers) (how_many (holds index) w.workers) (sound.vnodes index b.0 b.1).word none in
-    let place = ap (λ (v : Vnode). v.place.vnode) (sym b.2) ∙ ap (λ (s : State Content). s.vnode) (in_place_still w sound index 0 b.0 b.1 own alone) ∙ id_is w sound index 0 b.0 b.1 own alone in
+    let place = ap (λ (v : SiteVnode). v.place.vnode) (sym b.2) ∙ ap (λ (s : State Content). s.vnode) (in_place_still w sound index 0 b.0 b.1 own alone) ∙ id_is w sound index 0 b.0 b.1 own alone in
     record {
-      opened = subst IsOpen (ap (λ (v : Vnode). v.word) b.2) is;
+      opened = subst IsOpen (ap (λ (v : SiteVnode). v.word) b.2) is;
       id_fits = small (vnode_of site).place.vnode b.0.id place (sound.bounds index b.0 (get-below w.routes index index own) b.1);
     }
 

@@ -8,13 +8,13 @@ use Rattle.node_steps.specs.Steps.{Step, after, outcome}
 use Rattle.node_steps.specs.Schedules.{world_after}
 use Rattle.node_steps.specs.Erased.{erase}
 use Rattle.node_steps.specs.Returned.{returned}
-use Rattle.node_steps.specs.Parts.{TakesStep, TakesFitStep, world_in}
-use Rattle.node_steps.specs.Kept.{IsKept, Follows}
+use Rattle.node_steps.specs.Parts.{TakesRunStep, TakesFitStep, world_in}
+use Rattle.node_steps.specs.Kept.{IsKept, FollowsInRun}
 use Rattle.node_steps.proofs.Scheduled.{orderly}
 use Rattle.node_steps.proofs.ErasedSteps.{outcome_erased, after_erased}
 use Rattle.node_steps.proofs.Fitting.{are_fit}
 
-pub follows : (old : World) (step : Step) (returns : Returned) (new : World) → TakesStep old step returns new → Follows old step returns new
+pub follows : (old : World) (step : Step) (returns : Returned) (new : World) → TakesRunStep old step returns new → FollowsInRun old step returns new
 follows old step returns new t = λ start schedule kept.
     let w = world_after start schedule in
     let sound = orderly start kept.start_is schedule in (
@@ -26,7 +26,7 @@ follows old step returns new t = λ start schedule kept.
       },
     )
 
-pub kept_on : (old : World) (step : Step) (returns : Returned) (new : World) → TakesStep old step returns new → IsKept old → IsKept new
+pub kept_on : (old : World) (step : Step) (returns : Returned) (new : World) → TakesRunStep old step returns new → IsKept old → IsKept new
 kept_on old step returns new t kept = record {
   start = kept.start;
   schedule = step ∷ kept.schedule;

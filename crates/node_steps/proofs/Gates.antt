@@ -3,19 +3,19 @@ use Rattle.std.proofs.Common.{◌≡◌, ℕ, zero, suc, ◌≤◌, List, [], �
 use Rattle.std.specs.Prelude.{false, is_some, Some, None, option_map, option_and_then, slice_get, replicate}
 use Rattle.std.specs.Option.{option_map_or}
 use Rattle.riak_msgs.specs.Contents.{Content}
-use Rattle.sibling_register.specs.Answers.{Ask}
+use Rattle.sibling_register.specs.Answers.{RegisterAsk}
 use Rattle.actor_epoch.specs.Given.{Context}
 use Rattle.vnode_machine.specs.Machine.{State, opening, apply_operation}
-use Rattle.vnode_machine.specs.Replay.{History, Accepts, IsAfter}
+use Rattle.vnode_machine.specs.Replay.{History, AcceptsEvent, IsAfter}
 use Rattle.vnode_machine.specs.Registers.{key_of, context_in_ask}
 use Rattle.rw_gate.specs.Machines.{MachineRun}
-use Rattle.vnode_core.specs.declared.event.Event.{Event}
+use Rattle.vnode_core.specs.declared.event.VnodeEvent.{VnodeEvent}
 use Rattle.vnode_core.specs.declared.entry.Entry.TheVariants.{Command as Commanded}
 use Rattle.vnode_core.specs.Events.{all_commands, Makes, event_command, event_deed, event_response, register_event, history_after}
 use Rattle.copy_laws.specs.Copies.{Command, commands_of}
 use Rattle.copy_laws.specs.Joining.{Log}
-use Rattle.node_steps.specs.World.{Word, Open, Taken, Plan, Phase, Idle, Asked, Holding, Done, Brought, Vnode, Worker, World, fresh_vnode, fresh_worker, CommandsAlone, id_of, route, history_at, seen_at, brought_by, history_of}
-use Rattle.node_steps.specs.Steps.{Action, Asks, Takes, Looks, Publishes, Puts, Step, By, Outcome, Turn, holds_by, looks_by, turn_of, routed, site_of, seeing, turned, closes, acts, happens, after}
+use Rattle.node_steps.specs.World.{Word, Open, Taken, PlannedCommand, Phase, Idle, Asked, Holding, Done, Brought, SiteVnode, Worker, World, fresh_vnode, fresh_worker, CommandsAlone, id_of, route, history_at, seen_at, brought_by, history_of}
+use Rattle.node_steps.specs.Steps.{Action, Asks, Takes, Looks, Publishes, Puts, Step, By, Outcome, WorkerTurn, holds_by, looks_by, turn_of, routed, site_of, seeing, turned, closes, acts, happens, after}
 use Rattle.node_steps.specs.Schedules.{Start, world_after}
 use Rattle.node_steps.specs.Gates.{RunsAreScheduled}
 use Rattle.sibling_register.specs.History.{Event as RegisterEvent}
@@ -27,7 +27,7 @@ use Rattle.node_steps.proofs.Stepping.{result_at, at_one}
 use Rattle.node_steps.proofs.Accepting.{accepted_is, was_accepted}
 
 -- the first worker, and the vnode at an index, to which the calls go
-abbrev IsThere : World → ℕ → Phase → Vnode → Type 0
+abbrev IsThere : World → ℕ → Phase → SiteVnode → Type 0
 IsThere w index phase vnode =
     (worker : Worker) × (slice_get w.workers 0 ≡ Some worker) × (worker.phase ≡ phase) × (slice_get w.vnodes index ≡ Some vnode) × (slice_get w.routes index ≡ Some index)
 
@@ -35,13 +35,13 @@ abbrev step_of_first : Action → Step
 step_of_first action = By 1 action
 
 -- a turn of the first worker
-moved : (w : World) (asked action : Action) (index : ℕ) (phase : Phase) (vnode : Vnode) (next : Phase) (new : Vnode) → routed (route w) asked ≡ action → site_of action phase ≡ Some index
+moved : (w : World) (asked action : Action) (index : ℕ) (phase : Phase) (vnode : SiteVnode) (next : Phase) (new : SiteVnode) → routed (route w) asked ≡ action → site_of action phase ≡ Some index
     → ((worker : Worker) → worker.phase ≡ phase → closes w 1 worker action worker.phase ≡ None)
-    → ((seen : History) (brought : Brought) → (turn : Turn) × (turn_of seen brought vnode action phase ≡ Some turn) × (turn.phase ≡ next) × (turn.vnode ≡ new))
+    → ((seen : History) (brought : Brought) → (turn : WorkerTurn) × (turn_of seen brought vnode action phase ≡ Some turn) × (turn.phase ≡ next) × (turn.vnode ≡ new))
     → IsThere w index phase vnode → IsThere (after w (step_of_first asked)) index next new
 moved w asked action index phase vnode next new sent site one turns (worker, here, is, there, own) =
     let t = turns (seen_at worker.seen index) (brought_by w worker) in
-    let turn : Turn = t.0 in
+    let turn : WorkerTurn = t.0 in
     let about : site_of action worker.phase ≡ Some index = ap (site_of action) is ∙ site in
     let made : turn_of (seen_at worker.seen index) (brought_by w worker) vnode action worker.phase ≡ Some turn = ap (turn_of (seen_at worker.seen index) (brought_by w worker) vnode action) is ∙ t.1 in
     let next_worker : Worker = record { phase = turn.phase; seen = seeing worker.seen index turn.seen } in
@@ -61,27 +61,27 @@ moved w asked action index phase vnode next new sent site one turns (worker, her
     )
 
 module _ (start : Start) (index id : ℕ) where
-  abbrev vnode_with : Word → Log → State Content → Vnode
+  abbrev vnode_with : Word → Log → State Content → SiteVnode
   vnode_with word log place = record { id = id; own = index; last_epoch = 0; word = word; log = log; place = place }
 
   -- after a schedule the first worker is idle, and the vnode is this
   abbrev IsReachable : Log → State Content → Type 0
   IsReachable log state = CommandsAlone log × IsAfter id 0 (commands_of log) state × (schedule : List Step) × IsThere (world_after start schedule) index Idle (vnode_with (Open 0 false) log state)
 
-  abbrev plan_of_event : Event → State Content → Plan
+  abbrev plan_of_event : VnodeEvent → State Content → PlannedCommand
   plan_of_event event next = record { operation = event_deed event; response = event_response event; next = next }
 
   -- one event more
-  one_event : (log : Log) (state next : State Content) (event : Event) → Makes state (Commanded event) next → IsReachable log state
+  one_event : (log : Log) (state next : State Content) (event : VnodeEvent) → Makes state (Commanded event) next → IsReachable log state
       → IsReachable (Command (register_event id 0 (commands_of log) event) ∷ log) next
   one_event log state next event makes (only, so_far, schedule, there) =
-      let ask : Ask Content Context = event_command event in
-      let plan : Plan = plan_of_event event next in
+      let ask : RegisterAsk Content Context = event_command event in
+      let plan : PlannedCommand = plan_of_event event next in
       let longer : Log = Command (register_event id 0 (commands_of log) event) ∷ log in
       let goes_on : IsAfter id 0 (commands_of longer) next = record {
         replays = (
           so_far.replays,
-          subst (λ s. Accepts s (key_of ask) (context_in_ask ask) (event_deed event)) so_far.is (was_accepted state ask (event_deed event) (event_response event) next makes.1),
+          subst (λ s. AcceptsEvent s (key_of ask) (context_in_ask ask) (event_deed event)) so_far.is (was_accepted state ask (event_deed event) (event_response event) next makes.1),
           refl,
         );
         is = accepted_is state ask (event_deed event) (event_response event) next makes.1
@@ -111,9 +111,9 @@ module _ (start : Start) (index id : ℕ) where
       (λ seen brought. (_, refl, refl, refl)) published in
       (ap (λ (l : Log). Command (register_event id 0 (commands_of log) event) ∷ l) only, goes_on, step_of_first Puts ∷ step_of_first Publishes ∷ step_of_first Looks ∷ step_of_first Takes ∷ step_of_first (Asks index ask) ∷ schedule, laid)
 
-  all_events : (events : List Event) (log : Log) (state last : State Content) → MachineRun Makes state (all_commands events) last → IsReachable log state
+  all_events : (events : List VnodeEvent) (log : Log) (state last : State Content) → MachineRun Makes state (all_commands events) last → IsReachable log state
       → (schedule : List Step) × (history_at (world_after start schedule) index ≡ history_after id 0 (commands_of log) events)
-  all_events [] log state last run (only, so_far, schedule, there) = (schedule, ap (λ o. option_map_or (λ (v : Vnode). history_of v) o []) there.3)
+  all_events [] log state last run (only, so_far, schedule, there) = (schedule, ap (λ o. option_map_or (λ (v : SiteVnode). history_of v) o []) there.3)
   all_events (event ∷ events) log state last (next, makes, run) stands =
       all_events events (Command (register_event id 0 (commands_of log) event) ∷ log) next last run (one_event log state next event makes stands)
 

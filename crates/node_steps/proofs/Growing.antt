@@ -6,20 +6,20 @@ use Rattle.actor_epoch.specs.Contexts.{is_well_formed}
 use Rattle.riak_msgs.specs.declared.Key.{Key}
 use Rattle.riak_msgs.specs.Contents.{Content}
 use Rattle.sibling_register.specs.History.{Event, is_update}
-use Rattle.sibling_register.specs.Answers.{Ask}
+use Rattle.sibling_register.specs.Answers.{RegisterAsk}
 use Rattle.actor_epoch.specs.declared.Dot.{Dot}
 use Rattle.actor_epoch.specs.Given.{Context, Pairs, context_of}
 use Rattle.actor_epoch.proofs.Given.{context_of-encoding}
 use Rattle.vnode_machine.specs.Machine.{Stored, State, stored, clock_of}
 use Rattle.vnode_machine.specs.Sound.{IsFormed, IsSound as IsSoundState}
-use Rattle.vnode_machine.specs.Replay.{Accepts}
+use Rattle.vnode_machine.specs.Replay.{AcceptsEvent}
 use Rattle.vnode_machine.specs.Step.{Response}
 use Rattle.vnode_machine.specs.Registers.{key_of, context_in_ask}
 use Rattle.vnode_machine.proofs.Forms.{form-whole}
 use Rattle.copy_laws.specs.Copies.{Command}
 use Rattle.copy_laws.specs.Joining.{Log}
 use Rattle.node_steps.specs.HeldNames.{saw_held}
-use Rattle.node_steps.specs.World.{Phase, Turned, Vnode, World, Call, brought_by, call_of, call_at}
+use Rattle.node_steps.specs.World.{Phase, Turned, SiteVnode, World, Call, brought_by, call_of, call_at}
 use Rattle.node_steps.specs.Steps.{Action, Asks, Leaves, Puts, is_reap, Outcome, NotPossible, Happened, Replied, NotHeld, StuckThere, CopiedBack, Elsewhere, LeftThere, turned}
 use Rattle.node_steps.specs.Contexts.{context_bytes, call_by}
 use Rattle.node_steps.proofs.Lists.{set-here, set-there, same_or_other}
@@ -73,7 +73,7 @@ module _ (w : World) (orderly : IsOrderly w) (number : ℕ) (action : Action) (r
     pub key_is : event.key ≡ key_of call.ask
     pub context_is : event.context ≡ context_in_ask call.ask
     pub update : is_reap call.ask ≡ false → is_update event.operation ≡ true
-    pub accepts : Accepts (state_of p.vnode.id p.vnode.last_epoch p.vnode.log) event.key event.context event.operation
+    pub accepts : AcceptsEvent (state_of p.vnode.id p.vnode.last_epoch p.vnode.log) event.key event.context event.operation
     pub saw : event.saw ≡ saw_held p.vnode.id p.vnode.last_epoch p.vnode.log event.key event.context event.operation
 
   -- or a copy
@@ -135,7 +135,7 @@ module _ (w : World) (orderly : IsOrderly w) (number : ℕ) (action : Action) (r
     log_is = v.log_is;
   }
 
-  pub is_there : (site : ℕ) (v : Vnode) → p.index ≡ site → slice_get w.vnodes site ≡ Some v → p.vnode ≡ v
+  pub is_there : (site : ℕ) (v : SiteVnode) → p.index ≡ site → slice_get w.vnodes site ≡ Some v → p.vnode ≡ v
   is_there site v e there = some_back p.vnode v (sym p.vnode_is ∙ ap (λ k. slice_get w.vnodes k) e ∙ there)
 
   pub is_now : (site : ℕ) → p.index ≡ site → slice_get next_of.vnodes site ≡ Some p.turn.vnode
@@ -147,9 +147,9 @@ module _ (w : World) (orderly : IsOrderly w) (number : ℕ) (action : Action) (r
       record {
         vnode = p.turn.vnode;
         there = is_now site e;
-        id_is = (turn w orderly number action r p).same_id ∙ ap (λ (x : Vnode). x.id) same ∙ v.id_is;
-        epoch_is = (turn w orderly number action r p).same_epoch ∙ ap (λ (x : Vnode). x.last_epoch) same ∙ v.epoch_is;
-        log_is = becomes (ap (λ (x : Vnode). x.log) same ∙ v.log_is);
+        id_is = (turn w orderly number action r p).same_id ∙ ap (λ (x : SiteVnode). x.id) same ∙ v.id_is;
+        epoch_is = (turn w orderly number action r p).same_epoch ∙ ap (λ (x : SiteVnode). x.last_epoch) same ∙ v.epoch_is;
+        log_is = becomes (ap (λ (x : SiteVnode). x.log) same ∙ v.log_is);
       }
 
   -- where the log stays it is as it was
@@ -164,9 +164,9 @@ module _ (w : World) (orderly : IsOrderly w) (number : ℕ) (action : Action) (r
       → Holds p.vnode.id p.vnode.last_epoch p.vnode.log → Holds id epoch log
   as-known site id epoch log e v Holds h =
       let same = is_there site v.vnode e v.there in
-      subst (λ l. Holds id epoch l) (ap (λ (x : Vnode). x.log) same ∙ v.log_is)
-      (subst (λ n. Holds id n p.vnode.log) (ap (λ (x : Vnode). x.last_epoch) same ∙ v.epoch_is)
-      (subst (λ i. Holds i p.vnode.last_epoch p.vnode.log) (ap (λ (x : Vnode). x.id) same ∙ v.id_is) h))
+      subst (λ l. Holds id epoch l) (ap (λ (x : SiteVnode). x.log) same ∙ v.log_is)
+      (subst (λ n. Holds id n p.vnode.log) (ap (λ (x : SiteVnode). x.last_epoch) same ∙ v.epoch_is)
+      (subst (λ i. Holds i p.vnode.last_epoch p.vnode.log) (ap (λ (x : SiteVnode). x.id) same ∙ v.id_is) h))
 
   -- a reply's context is that of the key in the state after the step
   pub shown-context : SendsWell w action → (response : Response) → p.turn.outcome ≡ Replied (Ok response) → (call : Call) → call_at w number ≡ Some call → (context : Context)
@@ -183,15 +183,15 @@ module _ (w : World) (orderly : IsOrderly w) (number : ℕ) (action : Action) (r
         held.1,
       )
 
-  module _ (sends : (site : ℕ) (ask : Ask Content Context) → action ≡ Asks site ask
+  module _ (sends : (site : ℕ) (ask : RegisterAsk Content Context) → action ≡ Asks site ask
       → (other : ℕ) × (slice_get w.routes other ≡ Some site) × ((not (site == other) && is_reap ask) ≡ false)) where
     -- a call that comes to a site of a partition comes to where its calls go, and is no reap but at its own; or was turned away to its own
-    pub comes-to : (call : Call) → call_by action p.worker.phase ≡ Some call → (index : ℕ) (v : Vnode) → slice_get w.vnodes call.site ≡ Some v → v.own ≡ index
+    pub comes-to : (call : Call) → call_by action p.worker.phase ≡ Some call → (index : ℕ) (v : SiteVnode) → slice_get w.vnodes call.site ≡ Some v → v.own ≡ index
         → ((slice_get w.routes index ≡ Some call.site) × ((not (call.site == index) && is_reap call.ask) ≡ false))
-        ⊎ ((call.site ≡ index) × ((old : Call) × (call_of p.worker.phase ≡ Some old) × (old.ask ≡ call.ask) × ((u : Vnode) × (slice_get w.vnodes old.site ≡ Some u) × (u.own ≡ index))))
+        ⊎ ((call.site ≡ index) × ((old : Call) × (call_of p.worker.phase ≡ Some old) × (old.ask ≡ call.ask) × ((u : SiteVnode) × (slice_get w.vnodes old.site ≡ Some u) × (u.own ≡ index))))
     comes-to call made index v there own = by action p.worker.phase refl refl made
       where
-        asked : (site : ℕ) (ask : Ask Content Context) → action ≡ Asks site ask → site ≡ call.site → ask ≡ call.ask
+        asked : (site : ℕ) (ask : RegisterAsk Content Context) → action ≡ Asks site ask → site ≡ call.site → ask ≡ call.ask
             → (slice_get w.routes index ≡ Some call.site) × ((not (call.site == index) && is_reap call.ask) ≡ false)
         asked site ask e at same =
             let s = sends site ask e in
@@ -200,8 +200,8 @@ module _ (w : World) (orderly : IsOrderly w) (number : ℕ) (action : Action) (r
               (λ i. not (sym at i == sym mine i) && is_reap (sym same i)) ∙ s.2,
             )
 
-        turned_away : (home site : ℕ) (ask : Ask Content Context) (hand : Option (State Content)) → p.worker.phase ≡ Turned home site ask hand → home ≡ call.site → ask ≡ call.ask
-            → (call.site ≡ index) × ((old : Call) × (call_of p.worker.phase ≡ Some old) × (old.ask ≡ call.ask) × ((u : Vnode) × (slice_get w.vnodes old.site ≡ Some u) × (u.own ≡ index)))
+        turned_away : (home site : ℕ) (ask : RegisterAsk Content Context) (hand : Option (State Content)) → p.worker.phase ≡ Turned home site ask hand → home ≡ call.site → ask ≡ call.ask
+            → (call.site ≡ index) × ((old : Call) × (call_of p.worker.phase ≡ Some old) × (old.ask ≡ call.ask) × ((u : SiteVnode) × (slice_get w.vnodes old.site ≡ Some u) × (u.own ≡ index)))
         turned_away home site ask hand e at same =
             let f = orderly.between (pred number) p.worker (here w orderly number action r p) home site (ap between_in e) in
             let below : home < length w.routes = subst (λ k. k < length w.routes) f.own_is (orderly.owned site f.vnode f.there) in
@@ -210,7 +210,7 @@ module _ (w : World) (orderly : IsOrderly w) (number : ℕ) (action : Action) (r
 
         by : (a : Action) (phase : Phase) → action ≡ a → p.worker.phase ≡ phase → call_by a phase ≡ Some call
             → ((slice_get w.routes index ≡ Some call.site) × ((not (call.site == index) && is_reap call.ask) ≡ false))
-            ⊎ ((call.site ≡ index) × ((old : Call) × (call_of p.worker.phase ≡ Some old) × (old.ask ≡ call.ask) × ((u : Vnode) × (slice_get w.vnodes old.site ≡ Some u) × (u.own ≡ index))))
+            ⊎ ((call.site ≡ index) × ((old : Call) × (call_of p.worker.phase ≡ Some old) × (old.ask ≡ call.ask) × ((u : SiteVnode) × (slice_get w.vnodes old.site ≡ Some u) × (u.own ≡ index))))
         by (Asks site ask) phase e f h = inl (asked site ask e (ap (λ (c : Call). c.site) (some_back _ call h)) (ap (λ (c : Call). c.ask) (some_back _ call h)))
         by Leaves (Turned home site ask None) e f h = inr (turned_away home site ask None f (ap (λ (c : Call). c.site) (some_back _ call h)) (ap (λ (c : Call). c.ask) (some_back _ call h)))
         by Puts (Turned home site ask (Some hand)) e f h = inr (turned_away home site ask (Some hand) f (ap (λ (c : Call). c.site) (some_back _ call h)) (ap (λ (c : Call). c.ask) (some_back _ call h)))

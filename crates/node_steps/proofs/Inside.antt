@@ -4,7 +4,7 @@ use Rattle.std.specs.Prelude.{◌==◌, Option, Some, None}
 use Rattle.riak_msgs.specs.declared.Key.{Key}
 use Rattle.riak_msgs.specs.Contents.{Content}
 use Rattle.sibling_register.specs.History.{Event, Operation, Write, Tombstone, Reap}
-use Rattle.sibling_register.specs.Answers.{Ask}
+use Rattle.sibling_register.specs.Answers.{RegisterAsk}
 use Rattle.actor_epoch.specs.Given.{Context}
 use Rattle.vnode_machine.specs.Machine.{State, opening, clock_of, is_held, apply_operation}
 use Rattle.vnode_machine.specs.Replay.{History, replay, HasReplay, IsWithinLimits}
@@ -16,7 +16,7 @@ use Rattle.copy_laws.proofs.Fallback.{log-replay}
 use Rattle.dvv_set.specs.Clocks.{DotState}
 use Rattle.vnode_machine.specs.Copying.{is_stuck, apply_copy}
 pub use Rattle.node_steps.proofs.Mapped.{same_test, other_test}
-use Rattle.node_steps.specs.World.{Word, Open, Taken, Plan, CopyStage, CopyAsked, CopyInside, CopyLooked, CopyTaken, CopyDone, CloseStage, CloseAsked, CloseTaken, CloseInside, CloseLooked, CloseDone, Phase, Idle, Asked, Reading, Holding, Done, Turned, Copying, Closing, Vnode, Worker, CommandsAlone, fresh_vnode, seen_at}
+use Rattle.node_steps.specs.World.{Word, Open, Taken, PlannedCommand, CopyStage, CopyAsked, CopyInside, CopyLooked, CopyTaken, CopyDone, CloseStage, CloseAsked, CloseTaken, CloseInside, CloseLooked, CloseDone, Phase, Idle, Asked, Reading, Holding, Done, Turned, Copying, Closing, SiteVnode, Worker, CommandsAlone, fresh_vnode, seen_at}
 use Rattle.node_steps.specs.Steps.{Enters, copy_site, close_site, site_of, is_about}
 use Rattle.node_steps.specs.Schedules.{Begins}
 use Rattle.std.proofs.lemmas.Option.{same_Some as some_site}
@@ -107,7 +107,7 @@ abbrev pub IsOpenAt : (id epoch : ℕ) → Log → Type 0
 IsOpenAt id epoch log = (state_of id epoch log).closed ≡ None
 
 -- a plan is what came of the call in the state in hand, which isn't closed
-abbrev pub IsPlanOf : Ask Content Context → State Content → Option Plan → Type 0
+abbrev pub IsPlanOf : RegisterAsk Content Context → State Content → Option PlannedCommand → Type 0
 IsPlanOf ask hand None = Unit {0}
 IsPlanOf ask hand (Some plan) = (outcome hand ask ≡ Accepted plan.operation plan.response plan.next) × (hand.closed ≡ None)
 
@@ -290,13 +290,13 @@ about_there site (Closing own other stage) h = by stage (some_site (close_site o
     by (CloseDone hand false) e = about_other site own other e
 
 -- what is true of a vnode of this id, opened behind this epoch, by how many readers and holders there are
-pub record IsSoundAs (id epoch readers holders : ℕ) (vnode : Vnode) : Type 0 where
+pub record IsSoundAs (id epoch readers holders : ℕ) (vnode : SiteVnode) : Type 0 where
   pub limits : IsWithinLimits id epoch
   pub word : FitsWord vnode.word readers holders
   pub place : IsInPlace id epoch vnode.word vnode.log vnode.place
 
 -- what is always true of a vnode
-abbrev pub IsSound : (readers holders : ℕ) → Vnode → Type 0
+abbrev pub IsSound : (readers holders : ℕ) → SiteVnode → Type 0
 IsSound readers holders vnode = IsSoundAs vnode.id vnode.last_epoch readers holders vnode
 
 -- it is true of a fresh vnode, where nobody is inside

@@ -4,7 +4,7 @@ use Rattle.std.specs.Prelude.{pred, Option, Some, None, is_some, option_map, sli
 use Rattle.std.specs.Option.{option_map_or}
 use Rattle.riak_msgs.specs.Contents.{Content}
 use Rattle.vnode_machine.specs.Machine.{State}
-use Rattle.node_steps.specs.World.{CloseLooked, Phase, Idle, Closing, Vnode, Worker, World, fresh_vnode, fresh_worker, opening_world, route}
+use Rattle.node_steps.specs.World.{CloseLooked, Phase, Idle, Closing, SiteVnode, Worker, World, fresh_vnode, fresh_worker, opening_world, route}
 use Rattle.node_steps.specs.Steps.{accepted_in, Action, Step, By, Diverts, Outcome, Happened, fallback_ids, left_in, judged, judged_by, routed, turned, acts, diverted}
 use Rattle.node_steps.specs.Schedules.{Start, IsStart, world_after}
 use Rattle.node_steps.proofs.Lists.{how_many, set-here, set-there, same_or_other, get-first, get-replicate, counted_one}
@@ -20,7 +20,7 @@ use Rattle.node_steps.proofs.Lifting.{here, turn}
 
 -- the state at a site is one to which all was copied, and it accepted so many commands
 pub record IsCopiedTo (w : World) (own : ℕ) (hand : State Content) (number : ℕ) : Type 0 where
-  pub primary : Vnode
+  pub primary : SiteVnode
   pub there : slice_get w.vnodes own ≡ Some primary
   pub none_left : left_in (state_of primary.id primary.last_epoch primary.log) hand ≡ 0
   pub number_is : number ≡ accepted_in (state_of primary.id primary.last_epoch primary.log)
@@ -60,7 +60,7 @@ module _ (w : World) (orderly : IsOrderly w) (number : ℕ) (action : Action) (r
               (ap (λ k. is_reader k worker.phase) at ∙ inside_own own site hand count worker.phase e))
         ] in
         let state : state_of p.turn.vnode.id p.turn.vnode.last_epoch p.turn.vnode.log ≡ state_of f.primary.id f.primary.last_epoch f.primary.log =
-        (λ i. state_of (t.same_id i) (t.same_epoch i) (log i)) ∙ ap (λ (v : Vnode). state_of v.id v.last_epoch v.log) same in
+        (λ i. state_of (t.same_id i) (t.same_epoch i) (log i)) ∙ ap (λ (v : SiteVnode). state_of v.id v.last_epoch v.log) same in
         record {
           primary = p.turn.vnode;
           there = ap (λ k. slice_get next.vnodes k) (sym at) ∙ set-here w.vnodes p.index p.vnode p.turn.vnode p.vnode_is;

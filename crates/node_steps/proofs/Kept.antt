@@ -3,13 +3,13 @@ use Rattle.std.proofs.Common.{◌≡◌, ◌≢◌, ◌⊎◌, inl, inr, ℕ, ze
 use Rattle.std.specs.Prelude.{pred, Option, Some, None, option_map, option_and_then, slice_get}
 use Rattle.std.specs.Option.{option_map_or}
 use Rattle.riak_msgs.specs.Contents.{Content}
-use Rattle.sibling_register.specs.Answers.{Ask}
+use Rattle.sibling_register.specs.Answers.{RegisterAsk}
 use Rattle.actor_epoch.specs.Given.{Context}
 use Rattle.actor_epoch.specs.Limits.{max_epoch}
 use Rattle.vnode_machine.specs.Replay.{History}
 use Rattle.vnode_machine.specs.Sound.{IsSound as IsSoundState}
-use Rattle.node_steps.specs.World.{Word, Open, Taken, Vnode, Worker, World, CommandsAlone, worker_at, seen_at, brought_by}
-use Rattle.node_steps.specs.Steps.{Action, Asks, AsksNowhere, is_reap, sent, routed, Outcome, Turn, turn_of, site_of, is_about, seeing, turned, fallback_ids, does}
+use Rattle.node_steps.specs.World.{Word, Open, Taken, SiteVnode, Worker, World, CommandsAlone, worker_at, seen_at, brought_by}
+use Rattle.node_steps.specs.Steps.{Action, Asks, AsksNowhere, is_reap, sent, routed, Outcome, WorkerTurn, turn_of, site_of, is_about, seeing, turned, fallback_ids, does}
 use Rattle.node_steps.proofs.Lists.{how_many, counted_one, counted_two}
 use Rattle.node_steps.proofs.Inside.{is_reader, is_holder, reads, holds, FitsWord, same_test, IsSound, IsPlain, IsAware, state_of, IsOpenAt}
 use Rattle.node_steps.proofs.Coming.{between_in, sent_between}
@@ -25,32 +25,32 @@ SendsWell w action = (own site : ℕ) → sent_between action ≡ Some (own, sit
 -- a site is of a partition's fallback
 pub record IsFallback (w : World) (own site : ℕ) : Type 0 where
   pub apart : own ≢ site
-  pub vnode : Vnode
+  pub vnode : SiteVnode
   pub there : slice_get w.vnodes site ≡ Some vnode
   pub own_is : vnode.own ≡ own
 
 -- what is always true of a world: of each vnode, and of each worker and vnode
 pub record IsOrderly (w : World) : Type 0 where
-  pub vnodes : (index : ℕ) (vnode : Vnode) → slice_get w.vnodes index ≡ Some vnode → IsSound (how_many (reads index) w.workers) (how_many (holds index) w.workers) vnode
-  pub workers : (place : ℕ) (worker : Worker) → slice_get w.workers place ≡ Some worker → (index : ℕ) (vnode : Vnode) → slice_get w.vnodes index ≡ Some vnode
+  pub vnodes : (index : ℕ) (vnode : SiteVnode) → slice_get w.vnodes index ≡ Some vnode → IsSound (how_many (reads index) w.workers) (how_many (holds index) w.workers) vnode
+  pub workers : (place : ℕ) (worker : Worker) → slice_get w.workers place ≡ Some worker → (index : ℕ) (vnode : SiteVnode) → slice_get w.vnodes index ≡ Some vnode
       → IsAware vnode.id vnode.last_epoch index vnode.log worker
   -- a log of commands alone has a replay
-  pub plain : (index : ℕ) (vnode : Vnode) → slice_get w.vnodes index ≡ Some vnode → CommandsAlone vnode.log → IsPlain vnode.id vnode.last_epoch vnode.log
+  pub plain : (index : ℕ) (vnode : SiteVnode) → slice_get w.vnodes index ≡ Some vnode → CommandsAlone vnode.log → IsPlain vnode.id vnode.last_epoch vnode.log
   -- the state after a log is one that the machine comes to
-  pub sound : (index : ℕ) (vnode : Vnode) → slice_get w.vnodes index ≡ Some vnode → IsSoundState (state_of vnode.id vnode.last_epoch vnode.log)
+  pub sound : (index : ℕ) (vnode : SiteVnode) → slice_get w.vnodes index ≡ Some vnode → IsSoundState (state_of vnode.id vnode.last_epoch vnode.log)
   -- who was turned away, or copies or closes, is between a partition's own site and a fallback's
   pub between : (place : ℕ) (worker : Worker) → slice_get w.workers place ≡ Some worker → (own site : ℕ) → between_in worker.phase ≡ Some (own, site) → IsFallback w own site
   -- each site is of a partition; a partition's own vnode is never closed
-  pub owned : (index : ℕ) (vnode : Vnode) → slice_get w.vnodes index ≡ Some vnode → vnode.own < length w.routes
-  pub homes : (index : ℕ) (vnode : Vnode) → index < length w.routes → slice_get w.vnodes index ≡ Some vnode → (vnode.own ≡ index) × IsOpenAt vnode.id vnode.last_epoch vnode.log
+  pub owned : (index : ℕ) (vnode : SiteVnode) → slice_get w.vnodes index ≡ Some vnode → vnode.own < length w.routes
+  pub homes : (index : ℕ) (vnode : SiteVnode) → index < length w.routes → slice_get w.vnodes index ≡ Some vnode → (vnode.own ≡ index) × IsOpenAt vnode.id vnode.last_epoch vnode.log
   -- calls go to a partition's own site or to a fallback of it, and to one that isn't closed
   pub routed_to : (own site : ℕ) → slice_get w.routes own ≡ Some site → (site ≡ own) ⊎ IsFallback w own site
-  pub opens : (site : ℕ) (vnode : Vnode) → slice_get w.vnodes site ≡ Some vnode → vnode.own ≢ site → IsOpenAt vnode.id vnode.last_epoch vnode.log
+  pub opens : (site : ℕ) (vnode : SiteVnode) → slice_get w.vnodes site ≡ Some vnode → vnode.own ≢ site → IsOpenAt vnode.id vnode.last_epoch vnode.log
       → slice_get w.routes vnode.own ≡ Some site
   -- the epochs that fallbacks gave can be given
   pub limited : (index epoch : ℕ) → slice_get w.epochs index ≡ Some epoch → epoch ≤ max_epoch
   -- a fallback of each partition can have an id
-  pub bounds : (index : ℕ) (vnode : Vnode) → index < length w.routes → slice_get w.vnodes index ≡ Some vnode → vnode.id + fallback_ids < 2 ^ 64
+  pub bounds : (index : ℕ) (vnode : SiteVnode) → index < length w.routes → slice_get w.vnodes index ≡ Some vnode → vnode.id + fallback_ids < 2 ^ 64
   -- a partition has a site, a worker has a call at one, and has seen nothing of what isn't one
   pub sites : length w.routes ≤ length w.vnodes
   pub about : (place : ℕ) (worker : Worker) → slice_get w.workers place ≡ Some worker → (site : ℕ) → is_about site worker.phase ≡ true → site < length w.vnodes
@@ -60,8 +60,8 @@ pub record IsOrderly (w : World) : Type 0 where
 pub record IsPossible (w : World) (number : ℕ) (action : Action) (r : World × Outcome) : Type 0 where
   pub worker : Worker
   pub index : ℕ
-  pub vnode : Vnode
-  pub turn : Turn
+  pub vnode : SiteVnode
+  pub turn : WorkerTurn
   pub worker_is : worker_at w number ≡ Some worker
   pub site_is : site_of action worker.phase ≡ Some index
   pub vnode_is : slice_get w.vnodes index ≡ Some vnode
@@ -89,10 +89,10 @@ at_place w zero worker h = cc
 at_place w (suc place) worker h = h
 
 -- an ask for a partition whose calls go to its own site
-pub sent_own : (index : ℕ) (ask : Ask Content Context) → sent index index ask ≡ Asks index ask
+pub sent_own : (index : ℕ) (ask : RegisterAsk Content Context) → sent index index ask ≡ Asks index ask
 sent_own index ask = ap (λ b. cond (not b && is_reap ask) AsksNowhere (Asks index ask)) (same_test index index refl)
 
-pub routed_own : (route : ℕ → Option ℕ) (index : ℕ) (ask : Ask Content Context) → route index ≡ Some index → routed route (Asks index ask) ≡ Asks index ask
+pub routed_own : (route : ℕ → Option ℕ) (index : ℕ) (ask : RegisterAsk Content Context) → route index ≡ Some index → routed route (Asks index ask) ≡ Asks index ask
 routed_own route index ask h = ap (λ o. option_map_or (λ site. sent index site ask) o AsksNowhere) h ∙ sent_own index ask
 
 -- what a worker has seen where it looked, and elsewhere
@@ -113,7 +113,7 @@ seeing-there (x ∷ seen) (suc site) zero front n = refl
 seeing-there (x ∷ seen) (suc site) (suc other) front n = seeing-there seen site other front (λ e. n (ap suc e))
 
 -- who has the state of a vnode in its hand is alone inside
-module _ (w : World) (orderly : IsOrderly w) (place index : ℕ) (worker : Worker) (vnode : Vnode) (here : slice_get w.workers place ≡ Some worker) (there : slice_get w.vnodes index ≡ Some vnode) where
+module _ (w : World) (orderly : IsOrderly w) (place index : ℕ) (worker : Worker) (vnode : SiteVnode) (here : slice_get w.workers place ≡ Some worker) (there : slice_get w.vnodes index ≡ Some vnode) where
   abbrev readers_in : ℕ
   readers_in = how_many (reads index) w.workers
 

@@ -6,13 +6,13 @@ use Rattle.std.proofs.lemmas.Bool.{cases_lt}
 use Rattle.riak_msgs.specs.declared.Key.{Key}
 use Rattle.riak_msgs.specs.Contents.{Content}
 use Rattle.vnode_machine.specs.Machine.{Stored, State, stored}
-use Rattle.vnode_machine.specs.Sound.{IsClock, IsFormed, IsSound as IsSoundState}
+use Rattle.vnode_machine.specs.Sound.{IsStoredClock, IsFormed, IsSound as IsSoundState}
 use Rattle.vnode_machine.proofs.Formed.{sound-step}
 use Rattle.vnode_machine.proofs.Copying.{sound-copy}
 use Rattle.copy_laws.specs.Copies.{commands_of}
 use Rattle.copy_laws.specs.Joining.{Log}
-use Rattle.node_steps.specs.World.{Vnode, Worker, World, CommandsAlone, seen_at, brought_by, history_of}
-use Rattle.node_steps.specs.Steps.{Action, sent, Outcome, NotPossible, Happened, Replied, NotHeld, StuckThere, CopiedBack, Elsewhere, LeftThere, Turn, is_about, seeing, turned, fallback_ids, does}
+use Rattle.node_steps.specs.World.{SiteVnode, Worker, World, CommandsAlone, seen_at, brought_by, history_of}
+use Rattle.node_steps.specs.Steps.{Action, sent, Outcome, NotPossible, Happened, Replied, NotHeld, StuckThere, CopiedBack, Elsewhere, LeftThere, WorkerTurn, is_about, seeing, turned, fallback_ids, does}
 use Rattle.node_steps.specs.Schedules.{Begins}
 use Rattle.node_steps.proofs.Lists.{one, how_many, set-here, set-there, same_or_other, how_many-set, counted_one, get-below, length-set}
 use Rattle.node_steps.proofs.Beginnings.{begins-trans}
@@ -25,7 +25,7 @@ use Rattle.node_steps.proofs.Kept.{CopiesWell, SendsWell, IsFallback, IsOrderly,
 not_past : (index n site : ℕ) → index < n → n ≤ site → index ≢ site
 not_past index n site h k = λ e. absurd (omega (arith, e, h, k))
 
-module _ (w : World) (orderly : IsOrderly w) (action : Action) (sends : SendsWell w action) (place index : ℕ) (worker : Worker) (vnode : Vnode) (turn : Turn) where
+module _ (w : World) (orderly : IsOrderly w) (action : Action) (sends : SendsWell w action) (place index : ℕ) (worker : Worker) (vnode : SiteVnode) (turn : WorkerTurn) where
   abbrev readers : ℕ → ℕ
   readers other = how_many (reads other) w.workers
 
@@ -69,14 +69,14 @@ module _ (w : World) (orderly : IsOrderly w) (action : Action) (sends : SendsWel
     })
 
     -- the vnode at an index afterwards
-    vnode_after : (other : ℕ) (v : Vnode) → slice_get world.vnodes other ≡ Some v
+    vnode_after : (other : ℕ) (v : SiteVnode) → slice_get world.vnodes other ≡ Some v
         → ((index ≡ other) × (turn.vnode ≡ v)) ⊎ ((index ≢ other) × (slice_get w.vnodes other ≡ Some v))
     vnode_after other v h = elim (same_or_other index other) [
       | inl e ↦ inl (e, unwrapped turn.vnode v (sym (set-here w.vnodes index vnode turn.vnode there) ∙ ap (λ k. slice_get world.vnodes k) e ∙ h))
       | inr n ↦ inr (n, sym (set-there w.vnodes index other turn.vnode n) ∙ h)
     ]
       where
-        unwrapped : (a b : Vnode) → Some a ≡ Some b → a ≡ b
+        unwrapped : (a b : SiteVnode) → Some a ≡ Some b → a ≡ b
         unwrapped a b h = cc
 
     -- the worker at a place afterwards
@@ -98,7 +98,7 @@ module _ (w : World) (orderly : IsOrderly w) (action : Action) (sends : SendsWel
       whole = subst (λ f. HasSeen index turn.phase f (history_of turn.vnode)) (sym (seeing-here worker.seen index turn.seen)) is.whole;
     }
 
-    next_there : (other : ℕ) (v : Vnode) → index ≢ other → slice_get w.vnodes other ≡ Some v → IsAware v.id v.last_epoch other v.log next
+    next_there : (other : ℕ) (v : SiteVnode) → index ≢ other → slice_get w.vnodes other ≡ Some v → IsAware v.id v.last_epoch other v.log next
     next_there other v n h =
         record {
           hand = (keeps other n).hand v.id v.last_epoch v.log (orderly.workers place worker here other v h).hand;
@@ -146,12 +146,12 @@ module _ (w : World) (orderly : IsOrderly w) (action : Action) (sends : SendsWel
         apart = f.apart;
         vnode = turn.vnode;
         there = ap (λ k. slice_get world.vnodes k) (sym e) ∙ set-here w.vnodes index vnode turn.vnode there;
-        own_is = is.same_own ∙ ap (λ (v : Vnode). v.own) (unwrapped vnode f.vnode (sym there ∙ ap (λ k. slice_get w.vnodes k) e ∙ f.there)) ∙ f.own_is;
+        own_is = is.same_own ∙ ap (λ (v : SiteVnode). v.own) (unwrapped vnode f.vnode (sym there ∙ ap (λ k. slice_get w.vnodes k) e ∙ f.there)) ∙ f.own_is;
       }
       | inr n ↦ record { apart = f.apart; vnode = f.vnode; there = set-there w.vnodes index site turn.vnode n ∙ f.there; own_is = f.own_is }
     ]
       where
-        unwrapped : (a b : Vnode) → Some a ≡ Some b → a ≡ b
+        unwrapped : (a b : SiteVnode) → Some a ≡ Some b → a ≡ b
         unwrapped a b h = cc
 
     -- a site that calls are sent to or that is closed is a fallback's
@@ -198,7 +198,7 @@ module _ (w : World) (orderly : IsOrderly w) (action : Action) (sends : SendsWel
     abbrev before_log : State Content
     before_log = state_of vnode.id vnode.last_epoch vnode.log
 
-    clock_form : (key : Key) (o : Option (Stored Content)) → IsFormed o → is_some o ≡ true → IsClock (option_map_or (λ (s : Stored Content). s.clock) o (record { known = []; live = [] }))
+    clock_form : (key : Key) (o : Option (Stored Content)) → IsFormed o → is_some o ≡ true → IsStoredClock (option_map_or (λ (s : Stored Content). s.clock) o (record { known = []; live = [] }))
     clock_form key None form h = cc
     clock_form key (Some s) form h = form.clock
 
@@ -208,7 +208,7 @@ module _ (w : World) (orderly : IsOrderly w) (action : Action) (sends : SendsWel
         let hand = subst (λ phase. IsInHand f.vnode.id f.vnode.last_epoch c.site f.vnode.log phase) c.phase_is (orderly.workers place worker here c.site f.vnode f.there).hand in
         let clock = hand.0 refl in
         let there_is : State Content = state_of f.vnode.id f.vnode.last_epoch f.vnode.log in
-        let form : IsClock c.clock = subst IsClock (sym clock.0) (clock_form c.key (stored there_is c.key) ((orderly.sound c.site f.vnode f.there).keys c.key) clock.1) in
+        let form : IsStoredClock c.clock = subst IsStoredClock (sym clock.0) (clock_form c.key (stored there_is c.key) ((orderly.sound c.site f.vnode f.there).keys c.key) clock.1) in
         subst (λ (l : Log). IsSoundState (state_of vnode.id vnode.last_epoch l)) (sym c.later_is)
         (sound-copy before_log (orderly.sound index vnode there) c.key c.clock form c.open_there)
 
@@ -251,12 +251,12 @@ module _ (w : World) (orderly : IsOrderly w) (action : Action) (sends : SendsWel
         ]
       ];
       plain = λ other v h. elim (vnode_after other v h) [
-        | inl e ↦ subst (λ (u : Vnode). CommandsAlone u.log → IsPlain u.id u.last_epoch u.log) e.1
+        | inl e ↦ subst (λ (u : SiteVnode). CommandsAlone u.log → IsPlain u.id u.last_epoch u.log) e.1
             (λ only. as_vnode (λ i e. IsPlain i e turn.vnode.log) (is.plain only (orderly.plain index vnode there (is.alone only))))
         | inr e ↦ orderly.plain other v e.1
       ];
       sound = λ other v h. elim (vnode_after other v h) [
-        | inl e ↦ subst (λ (u : Vnode). IsSoundState (state_of u.id u.last_epoch u.log)) e.1 (as_vnode (λ i e. IsSoundState (state_of i e turn.vnode.log)) sound_next)
+        | inl e ↦ subst (λ (u : SiteVnode). IsSoundState (state_of u.id u.last_epoch u.log)) e.1 (as_vnode (λ i e. IsSoundState (state_of i e turn.vnode.log)) sound_next)
         | inr e ↦ orderly.sound other v e.1
       ];
       between = λ at x k own site h. elim (worker_after at x k) [
@@ -264,11 +264,11 @@ module _ (w : World) (orderly : IsOrderly w) (action : Action) (sends : SendsWel
         | inr d ↦ fallback-stays own site (orderly.between at x d.1 own site h)
       ];
       owned = λ other v h. elim (vnode_after other v h) [
-        | inl e ↦ subst (λ (u : Vnode). u.own < length w.routes) e.1 (subst (λ o. o < length w.routes) (sym is.same_own) (orderly.owned index vnode there))
+        | inl e ↦ subst (λ (u : SiteVnode). u.own < length w.routes) e.1 (subst (λ o. o < length w.routes) (sym is.same_own) (orderly.owned index vnode there))
         | inr e ↦ orderly.owned other v e.1
       ];
       homes = λ other v under h. elim (vnode_after other v h) [
-        | inl e ↦ subst (λ (u : Vnode). (u.own ≡ other) × IsOpenAt u.id u.last_epoch u.log) e.1
+        | inl e ↦ subst (λ (u : SiteVnode). (u.own ≡ other) × IsOpenAt u.id u.last_epoch u.log) e.1
             (let home = orderly.homes index vnode (subst (λ k. k < length w.routes) (sym e.0) under) there in
             (is.same_own ∙ home.0 ∙ e.0, as_vnode (λ i e. IsOpenAt i e turn.vnode.log) (is.same_closed ∙ home.1)))
         | inr e ↦ orderly.homes other v under e.1
@@ -280,14 +280,14 @@ module _ (w : World) (orderly : IsOrderly w) (action : Action) (sends : SendsWel
       limited = orderly.limited;
       opens = λ site v h n clear. elim (vnode_after site v h) [
         | inl e ↦
-            let same = sym is.same_own ∙ ap (λ (u : Vnode). u.own) e.1 in
+            let same = sym is.same_own ∙ ap (λ (u : SiteVnode). u.own) e.1 in
             ap (λ k. slice_get w.routes k) (sym same)
-            ∙ orderly.opens index vnode there (λ f. n (sym same ∙ f ∙ e.0)) (open_before (subst (λ (u : Vnode). IsOpenAt u.id u.last_epoch u.log) (sym e.1) clear))
+            ∙ orderly.opens index vnode there (λ f. n (sym same ∙ f ∙ e.0)) (open_before (subst (λ (u : SiteVnode). IsOpenAt u.id u.last_epoch u.log) (sym e.1) clear))
             ∙ ap (λ k. Some k) e.0
         | inr e ↦ orderly.opens site v e.1 n clear
       ];
       bounds = λ other v below h. elim (vnode_after other v h) [
-        | inl e ↦ subst (λ (u : Vnode). u.id + fallback_ids < 2 ^ 64) e.1
+        | inl e ↦ subst (λ (u : SiteVnode). u.id + fallback_ids < 2 ^ 64) e.1
             (subst (λ i. i + fallback_ids < 2 ^ 64) (sym is.same_id) (orderly.bounds index vnode (subst (λ k. k < length w.routes) (sym e.0) below) there))
         | inr e ↦ orderly.bounds other v below e.1
       ];

@@ -15,8 +15,8 @@ use Rattle.vnode_machine.proofs.Steps.{known, alive, held_by}
 use Rattle.copy_laws.specs.Copies.{Command, Copied, Closed}
 use Rattle.copy_laws.specs.CopyReplay.{state_with}
 use Rattle.copy_laws.specs.Joining.{Log}
-use Rattle.node_steps.specs.World.{CopyAsked, CopyInside, CopyLooked, CopyTaken, CopyDone, CloseAsked, CloseTaken, CloseInside, CloseLooked, CloseDone, Phase, Idle, Asked, Reading, Holding, Done, Turned, Copying, Closing, Vnode, Worker, World, CommandsAlone, Call, fresh_vnode, worker_at, id_at, last_epoch_at, log_at, history_at, front_at, call_of, call_at, seen_at, copied_from, brought_by, history_of}
-use Rattle.node_steps.specs.Steps.{Action, Diverts, Outcome, NotPossible, Happened, Replied, NotHeld, StuckThere, CopiedBack, Elsewhere, LeftThere, Turn, seeing, turned, fallback_ids, diverted, after}
+use Rattle.node_steps.specs.World.{CopyAsked, CopyInside, CopyLooked, CopyTaken, CopyDone, CloseAsked, CloseTaken, CloseInside, CloseLooked, CloseDone, Phase, Idle, Asked, Reading, Holding, Done, Turned, Copying, Closing, SiteVnode, Worker, World, CommandsAlone, Call, fresh_vnode, worker_at, id_at, last_epoch_at, log_at, history_at, front_at, call_of, call_at, seen_at, copied_from, brought_by, history_of}
+use Rattle.node_steps.specs.Steps.{Action, Diverts, Outcome, NotPossible, Happened, Replied, NotHeld, StuckThere, CopiedBack, Elsewhere, LeftThere, WorkerTurn, seeing, turned, fallback_ids, diverted, after}
 use Rattle.node_steps.specs.Schedules.{Begins}
 use Rattle.node_steps.specs.Claims.{CommandsFirst, HistoriesAreLegal, IsReplayOf, LooksShowReplays, state_at, state_shown, hand_shown, CopiesIn, NoDotIsIssuedTwice, LivesAreOfDefinedKeys}
 use Rattle.node_steps.proofs.Lists.{how_many, set-here, set-there, same_or_other, counted_one}
@@ -49,7 +49,7 @@ lives_are_defined w replays = λ index key first.
     alive id epoch history k key o (k.keys key) ∙ sym (held_by id epoch history k key o (k.keys key))
 
 -- the state after a log of commands alone is the replay of its history
-replay_of : (w : World) → IsOrderly w → (index : ℕ) (vnode : Vnode) → slice_get w.vnodes index ≡ Some vnode → (state : State Content)
+replay_of : (w : World) → IsOrderly w → (index : ℕ) (vnode : SiteVnode) → slice_get w.vnodes index ≡ Some vnode → (state : State Content)
     → state ≡ state_of vnode.id vnode.last_epoch vnode.log → IsReplayOf vnode.id vnode.last_epoch vnode.log state
 replay_of w orderly index vnode there state is = (
   is,
@@ -58,7 +58,7 @@ replay_of w orderly index vnode there state is = (
       record { replays = plain.replays; is = is ∙ replayed vnode.id vnode.last_epoch vnode.log plain.commands },
 )
 
-module _ (w : World) (orderly : IsOrderly w) (number index : ℕ) (worker : Worker) (vnode : Vnode) (state : State Content)
+module _ (w : World) (orderly : IsOrderly w) (number index : ℕ) (worker : Worker) (vnode : SiteVnode) (state : State Content)
     (there : slice_get w.vnodes index ≡ Some vnode) (here : slice_get w.workers (pred number) ≡ Some worker) where
   -- a reader is shown what is in place
   placed : (other : ℕ) → is_reader other worker.phase ≡ true → ◌≡◌ {A = Option (ℕ × State Content)} (Some (other, vnode.place)) (Some (index, state)) → state ≡ state_of vnode.id vnode.last_epoch vnode.log
@@ -120,7 +120,7 @@ looks_show_replays w orderly = λ number index worker vnode state worker_is vnod
     ])
 
 -- the worker after its turn
-worker_next : (w : World) (number index : ℕ) (worker : Worker) (turn : Turn) → worker_at w number ≡ Some worker
+worker_next : (w : World) (number index : ℕ) (worker : Worker) (turn : WorkerTurn) → worker_at w number ≡ Some worker
     → worker_at (turned w (pred number) index worker turn) number ≡ Some (record { phase = turn.phase; seen = seeing worker.seen index turn.seen })
 worker_next w zero index worker turn h = cc
 worker_next w (suc place) index worker turn h = set-here w.workers place worker (record { phase = turn.phase; seen = seeing worker.seen index turn.seen }) h
@@ -161,31 +161,31 @@ module _ (w : World) (orderly : IsOrderly w) (number : ℕ) (action : Action) (r
   call_is = ap (λ o. option_map_or (λ (worker : Worker). call_of worker.phase) o None) p.worker_is
 
   pub id_before : id_at w p.index ≡ p.vnode.id
-  id_before = ap (λ o. option_map_or (λ (v : Vnode). v.id) o 0) p.vnode_is
+  id_before = ap (λ o. option_map_or (λ (v : SiteVnode). v.id) o 0) p.vnode_is
 
   pub epoch_before : last_epoch_at w p.index ≡ p.vnode.last_epoch
-  epoch_before = ap (λ o. option_map_or (λ (v : Vnode). v.last_epoch) o 0) p.vnode_is
+  epoch_before = ap (λ o. option_map_or (λ (v : SiteVnode). v.last_epoch) o 0) p.vnode_is
 
   pub before_is : history_at w p.index ≡ (history_of p.vnode)
-  before_is = ap (λ o. option_map_or (λ (v : Vnode). history_of v) o []) p.vnode_is
+  before_is = ap (λ o. option_map_or (λ (v : SiteVnode). history_of v) o []) p.vnode_is
 
   vnode_next : slice_get next.vnodes p.index ≡ Some p.turn.vnode
   vnode_next = set-here w.vnodes p.index p.vnode p.turn.vnode p.vnode_is
 
   pub after_is : history_at next p.index ≡ (history_of p.turn.vnode)
-  after_is = ap (λ o. option_map_or (λ (v : Vnode). history_of v) o []) vnode_next
+  after_is = ap (λ o. option_map_or (λ (v : SiteVnode). history_of v) o []) vnode_next
 
   pub elsewhere_is : (other : ℕ) → p.index ≢ other → history_at next other ≡ history_at w other
-  elsewhere_is other n = ap (λ o. option_map_or (λ (v : Vnode). history_of v) o []) (set-there w.vnodes p.index other p.turn.vnode n)
+  elsewhere_is other n = ap (λ o. option_map_or (λ (v : SiteVnode). history_of v) o []) (set-there w.vnodes p.index other p.turn.vnode n)
 
   pub log_before : log_at w p.index ≡ p.vnode.log
-  log_before = ap (λ o. option_map_or (λ (v : Vnode). v.log) o []) p.vnode_is
+  log_before = ap (λ o. option_map_or (λ (v : SiteVnode). v.log) o []) p.vnode_is
 
   pub log_after : log_at next p.index ≡ p.turn.vnode.log
-  log_after = ap (λ o. option_map_or (λ (v : Vnode). v.log) o []) vnode_next
+  log_after = ap (λ o. option_map_or (λ (v : SiteVnode). v.log) o []) vnode_next
 
   pub log_elsewhere : (other : ℕ) → p.index ≢ other → log_at next other ≡ log_at w other
-  log_elsewhere other n = ap (λ o. option_map_or (λ (v : Vnode). v.log) o []) (set-there w.vnodes p.index other p.turn.vnode n)
+  log_elsewhere other n = ap (λ o. option_map_or (λ (v : SiteVnode). v.log) o []) (set-there w.vnodes p.index other p.turn.vnode n)
 
   -- a log of commands alone was one
   pub alone_was : (other : ℕ) → CommandsAlone (log_at next other) → CommandsAlone (log_at w other)
@@ -198,14 +198,14 @@ module _ (w : World) (orderly : IsOrderly w) (number : ℕ) (action : Action) (r
   -- a vnode keeps its id, and the epoch that it was opened behind
   pub id_next : (other : ℕ) → id_at next other ≡ id_at w other
   id_next other = elim (same_or_other p.index other) [
-    | inl e ↦ subst (λ k. id_at next k ≡ id_at w k) e (ap (λ o. option_map_or (λ (v : Vnode). v.id) o 0) vnode_next ∙ turn.same_id ∙ sym id_before)
-    | inr n ↦ ap (λ o. option_map_or (λ (v : Vnode). v.id) o 0) (set-there w.vnodes p.index other p.turn.vnode n)
+    | inl e ↦ subst (λ k. id_at next k ≡ id_at w k) e (ap (λ o. option_map_or (λ (v : SiteVnode). v.id) o 0) vnode_next ∙ turn.same_id ∙ sym id_before)
+    | inr n ↦ ap (λ o. option_map_or (λ (v : SiteVnode). v.id) o 0) (set-there w.vnodes p.index other p.turn.vnode n)
   ]
 
   pub epoch_next : (other : ℕ) → last_epoch_at next other ≡ last_epoch_at w other
   epoch_next other = elim (same_or_other p.index other) [
-    | inl e ↦ subst (λ k. last_epoch_at next k ≡ last_epoch_at w k) e (ap (λ o. option_map_or (λ (v : Vnode). v.last_epoch) o 0) vnode_next ∙ turn.same_epoch ∙ sym epoch_before)
-    | inr n ↦ ap (λ o. option_map_or (λ (v : Vnode). v.last_epoch) o 0) (set-there w.vnodes p.index other p.turn.vnode n)
+    | inl e ↦ subst (λ k. last_epoch_at next k ≡ last_epoch_at w k) e (ap (λ o. option_map_or (λ (v : SiteVnode). v.last_epoch) o 0) vnode_next ∙ turn.same_epoch ∙ sym epoch_before)
+    | inr n ↦ ap (λ o. option_map_or (λ (v : SiteVnode). v.last_epoch) o 0) (set-there w.vnodes p.index other p.turn.vnode n)
   ]
 
   seen_next : front_at next number p.index ≡ p.turn.seen
@@ -262,7 +262,7 @@ module _ (w : World) (orderly : IsOrderly w) (number : ℕ) (action : Action) (r
   CopiesBy site = CopiesIn w (next, p.turn.outcome) site
 
   -- a copy's clock and prefix are those of the fallback, which its copier is inside
-  pub from_there : (c : CopyIs p.vnode.id p.vnode.last_epoch p.index p.worker.phase (brought_by w p.worker) p.vnode.log p.turn.vnode.log) (vnode : Vnode) → slice_get w.vnodes c.site ≡ Some vnode
+  pub from_there : (c : CopyIs p.vnode.id p.vnode.last_epoch p.index p.worker.phase (brought_by w p.worker) p.vnode.log p.turn.vnode.log) (vnode : SiteVnode) → slice_get w.vnodes c.site ≡ Some vnode
       → (IsClockAt vnode.id vnode.last_epoch vnode.log c.key c.clock) × ((brought_by w p.worker).prefix ≡ history_of vnode)
   from_there c vnode there =
       let has = orderly.workers (pred number) p.worker here c.site vnode there in
@@ -290,9 +290,9 @@ module _ (w : World) (orderly : IsOrderly w) (number : ℕ) (action : Action) (r
         log_is = log_after ∙ c.later_is ∙ ap (λ (l : Log). Copied (record { key = c.key; clock = c.clock; diversion = brought.diversion; prefix = brought.prefix }) ∷ l) (sym log_before);
         from = c.site;
         from_is = ap (λ k. slice_get w.routes k) (sym c.at) ∙ copied_route c;
-        clock = true_copy.0.0 ∙ sym (ap (λ o. clock_of (state_with (opening (option_map_or (λ (x : Vnode). x.id) o 0) (option_map_or (λ (x : Vnode). x.last_epoch) o 0))
-            (option_map_or (λ (x : Vnode). x.log) o [])) c.key) f.there);
-        prefix = true_copy.1 ∙ sym (ap (λ o. option_map_or (λ (x : Vnode). history_of x) o []) f.there);
+        clock = true_copy.0.0 ∙ sym (ap (λ o. clock_of (state_with (opening (option_map_or (λ (x : SiteVnode). x.id) o 0) (option_map_or (λ (x : SiteVnode). x.last_epoch) o 0))
+            (option_map_or (λ (x : SiteVnode). x.log) o [])) c.key) f.there);
+        prefix = true_copy.1 ∙ sym (ap (λ o. option_map_or (λ (x : SiteVnode). history_of x) o []) f.there);
       }
 
   -- what comes of the turn
@@ -351,15 +351,15 @@ pub no_reply : (o : Option World) (reply : Result Response ℕ)
 no_reply None reply h = not_replied reply h
 no_reply (Some after_it) reply h = only_happened reply h
 
-pub log-more : (vnodes : List Vnode) (fresh : Vnode) → fresh.log ≡ [] → (site : ℕ)
-    → option_map_or (λ (v : Vnode). v.log) (slice_get (vnodes ++ fresh ∷ []) site) [] ≡ option_map_or (λ (v : Vnode). v.log) (slice_get vnodes site) []
+pub log-more : (vnodes : List SiteVnode) (fresh : SiteVnode) → fresh.log ≡ [] → (site : ℕ)
+    → option_map_or (λ (v : SiteVnode). v.log) (slice_get (vnodes ++ fresh ∷ []) site) [] ≡ option_map_or (λ (v : SiteVnode). v.log) (slice_get vnodes site) []
 log-more [] fresh e zero = e
 log-more [] fresh e (suc site) = refl
 log-more (v ∷ vnodes) fresh e zero = refl
 log-more (v ∷ vnodes) fresh e (suc site) = log-more vnodes fresh e site
 
-pub history-more : (vnodes : List Vnode) (fresh : Vnode) → (history_of fresh) ≡ [] → (site : ℕ)
-    → option_map_or (λ (v : Vnode). history_of v) (slice_get (vnodes ++ fresh ∷ []) site) [] ≡ option_map_or (λ (v : Vnode). history_of v) (slice_get vnodes site) []
+pub history-more : (vnodes : List SiteVnode) (fresh : SiteVnode) → (history_of fresh) ≡ [] → (site : ℕ)
+    → option_map_or (λ (v : SiteVnode). history_of v) (slice_get (vnodes ++ fresh ∷ []) site) [] ≡ option_map_or (λ (v : SiteVnode). history_of v) (slice_get vnodes site) []
 history-more [] fresh e zero = e
 history-more [] fresh e (suc site) = refl
 history-more (v ∷ vnodes) fresh e zero = refl

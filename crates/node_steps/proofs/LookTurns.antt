@@ -4,19 +4,19 @@ use Rattle.std.specs.Prelude.{◌==◌, Option, Some, None, is_some, Result, Ok,
 use Rattle.std.proofs.lemmas.Option.{some_pair_parts}
 use Rattle.riak_msgs.specs.Contents.{Content}
 use Rattle.sibling_register.specs.History.{Event}
-use Rattle.sibling_register.specs.Answers.{Ask, AskGet, GetCommand, Refused as ToldRefused, Answers, Accepts as ToldAccepts}
+use Rattle.sibling_register.specs.Answers.{RegisterAsk, AskGet, GetCommand, Refused as ToldRefused, Answers, Accepts as ToldAccepts}
 use Rattle.actor_epoch.specs.Given.{Context}
 use Rattle.vnode_machine.specs.Machine.{State, apply_operation}
-use Rattle.vnode_machine.specs.Replay.{History, HasReplay, Accepts, IsWithinLimits}
+use Rattle.vnode_machine.specs.Replay.{History, HasReplay, AcceptsEvent, IsWithinLimits}
 use Rattle.vnode_machine.specs.Replies.{get_reply}
-use Rattle.vnode_machine.specs.Step.{Response, GetDone, StepOutcome, Refused, Answered, Accepted, outcome as outcome_of_ask}
+use Rattle.vnode_machine.specs.Step.{Response, GetDone, MachineOutcome, Refused, Answered, Accepted, outcome as outcome_of_ask}
 use Rattle.vnode_machine.specs.Registers.{key_of, context_in_ask, next_event, IsRegisters, IsNext}
 use Rattle.vnode_machine.specs.Runs.{IsAnswer}
 use Rattle.vnode_machine.proofs.StepLaw.{registers-after}
 use Rattle.copy_laws.specs.Copies.{Command, commands_of}
 use Rattle.copy_laws.specs.Joining.{Log}
 use Rattle.node_steps.specs.World.{Word, Phase, Idle, Asked, Reading, Holding, Done, Turned, Copying, Closing, Brought, Call, call_of}
-use Rattle.node_steps.specs.Steps.{Looks, Publishes, Elsewhere, Turn, event_at, answers, sees, reads_by, holds_by, looks_by, publishes_by}
+use Rattle.node_steps.specs.Steps.{Looks, Publishes, Elsewhere, WorkerTurn, event_at, answers, sees, reads_by, holds_by, looks_by, publishes_by}
 use Rattle.node_steps.specs.Schedules.{Begins}
 use Rattle.node_steps.specs.Contexts.{context_bytes}
 use Rattle.node_steps.proofs.Accepting.{accepted_is, was_accepted}
@@ -31,12 +31,12 @@ use Rattle.node_steps.proofs.Turns.{same_number, one_of, some_none, none_of, Goe
 module _ (id epoch home index readers holders : ℕ) where
   module _ (limits : IsWithinLimits id epoch) (log : Log) (seen : History) (brought : Brought) (place : State Content) (has : Begins seen (commands_of log)) where
     -- what comes of an ask in the replay is the register's
-    registers : IsPlain id epoch log → (ask : Ask Content Context) (hand : State Content) (came : StepOutcome) → hand ≡ state_of id epoch log → outcome_of_ask hand ask ≡ came → IsRegisters id epoch (commands_of log) ask came
+    registers : IsPlain id epoch log → (ask : RegisterAsk Content Context) (hand : State Content) (came : MachineOutcome) → hand ≡ state_of id epoch log → outcome_of_ask hand ask ≡ came → IsRegisters id epoch (commands_of log) ask came
     registers plain ask hand came is h =
         subst (λ c. IsRegisters id epoch (commands_of log) ask c) h
         (registers-after id epoch limits (commands_of log) hand ask (record { replays = plain.replays; is = is ∙ replayed id epoch log plain.commands }))
 
-    shows : (ask : Ask Content Context) (hand : State Content) (came : StepOutcome) → outcome_of_ask hand ask ≡ came → ShowsHeld hand ask came
+    shows : (ask : RegisterAsk Content Context) (hand : State Content) (came : MachineOutcome) → outcome_of_ask hand ask ≡ came → ShowsHeld hand ask came
     shows ask hand came h = subst (λ c. ShowsHeld hand ask c) h (outcome_shows hand ask)
 
     -- a look that answers: nothing but the worker changes
@@ -68,8 +68,8 @@ module _ (id epoch home index readers holders : ℕ) where
       comes = (call, c, is);
     }
 
-    look_held : (word : Word) → FitsWord word readers holders → IsInPlace id epoch word log place → (other : ℕ) (ask : Ask Content Context) (hand : State Content) → other ≡ index
-        → hand ≡ state_of id epoch log → hand.closed ≡ None → (came : StepOutcome) → outcome_of_ask hand ask ≡ came
+    look_held : (word : Word) → FitsWord word readers holders → IsInPlace id epoch word log place → (other : ℕ) (ask : RegisterAsk Content Context) (hand : State Content) → other ≡ index
+        → hand ≡ state_of id epoch log → hand.closed ≡ None → (came : MachineOutcome) → outcome_of_ask hand ask ≡ came
         → IsTurn id epoch home index readers holders Looks (Holding other ask hand None) brought log (looks_by seen brought (vnode_in id epoch home index readers holders limits log seen brought place has word) other ask hand came)
     look_held word f p other ask hand e is clear (Refused number) h =
         answered (Holding other ask hand None) (Done other (Some hand)) word f p refl refl (λ _. is) tt
@@ -145,13 +145,13 @@ module _ (id epoch home index readers holders : ℕ) where
       comes = refl;
     }
 
-    about_turned : (phase : Phase) (other : ℕ) (ask : Ask Content Context) (hand : Option (State Content)) → other ≡ index → AboutIs Looks index home phase (Turned home other ask hand)
+    about_turned : (phase : Phase) (other : ℕ) (ask : RegisterAsk Content Context) (hand : Option (State Content)) → other ≡ index → AboutIs Looks index home phase (Turned home other ask hand)
     about_turned phase other ask hand e = λ at h. elim (one_of (home == at) (other == at) h) [
       | inl is ↦ inr (inr (inl (same_number home at is)))
       | inr is ↦ inr (inl (sym e ∙ same_number other at is))
     ]
 
-    between_turned : (phase : Phase) (other : ℕ) (ask : Ask Content Context) (hand : Option (State Content)) → other ≡ index → (state_of id epoch log).closed ≢ None
+    between_turned : (phase : Phase) (other : ℕ) (ask : RegisterAsk Content Context) (hand : Option (State Content)) → other ≡ index → (state_of id epoch log).closed ≢ None
         → BetweenIs Looks index home (state_of id epoch log).closed phase (Turned home other ask hand)
     between_turned phase other ask hand e closed = λ own site h.
         let p = some_pair_parts home own other site h in (refl, inr (inr (p.0, sym e ∙ p.1, closed)))
@@ -180,7 +180,7 @@ module _ (id epoch home index readers holders : ℕ) where
           shows = λ plain. subst (λ s. AreHeld s get.key (get_reply place get).context) (is ∙ replayed id epoch log plain.commands) (outcome_shows place (AskGet get));
         })
 
-    hold_by : (word : Word) → FitsWord word readers holders → IsInPlace id epoch word log place → (other : ℕ) (ask : Ask Content Context) (hand : State Content) → other ≡ index
+    hold_by : (word : Word) → FitsWord word readers holders → IsInPlace id epoch word log place → (other : ℕ) (ask : RegisterAsk Content Context) (hand : State Content) → other ≡ index
         → hand ≡ state_of id epoch log → (closed : Bool) → is_some hand.closed ≡ closed
         → IsTurn id epoch home index readers holders Looks (Holding other ask hand None) brought log (holds_by seen brought (vnode_in id epoch home index readers holders limits log seen brought place has word) other ask hand closed)
     hold_by word f p other ask hand e is true closed =
@@ -190,7 +190,7 @@ module _ (id epoch home index readers holders : ℕ) where
     hold_by word f p other ask hand e is false closed = look_held word f p other ask hand e is (none_of hand.closed closed) (outcome_of_ask hand ask) refl
 
     pub look_turn : (word : Word) → FitsWord word readers holders → IsInPlace id epoch word log place → (phase : Phase) → IsOfOne phase → one (is_reader index phase) ≤ readers → IsAbout index phase
-        → IsInHand id epoch index log phase → (t : Turn) → turns id epoch home index readers holders limits log seen brought place has word Looks phase ≡ Some t → IsTurn id epoch home index readers holders Looks phase brought log t
+        → IsInHand id epoch index log phase → (t : WorkerTurn) → turns id epoch home index readers holders limits log seen brought place has word Looks phase ≡ Some t → IsTurn id epoch home index readers holders Looks phase brought log t
     look_turn word f p Idle one n at mine t h = cc
     look_turn word f p (Asked other ask) one n at mine t h = cc
     look_turn word f p (Reading other get) one n at mine t h =
@@ -206,7 +206,7 @@ module _ (id epoch home index readers holders : ℕ) where
     look_turn word f p (Copying own other key stage) one n at mine t h = absurd one
     look_turn word f p (Closing own other stage) one n at mine t h = absurd one
 
-    pub publish_turn : (word : Word) → FitsWord word readers holders → (phase : Phase) → IsOfOne phase → one (is_holder index phase) ≤ holders → IsAbout index phase → IsInHand id epoch index log phase → (t : Turn)
+    pub publish_turn : (word : Word) → FitsWord word readers holders → (phase : Phase) → IsOfOne phase → one (is_holder index phase) ≤ holders → IsAbout index phase → IsInHand id epoch index log phase → (t : WorkerTurn)
         → turns id epoch home index readers holders limits log seen brought place has word Publishes phase ≡ Some t → IsTurn id epoch home index readers holders Publishes phase brought log t
     publish_turn word f Idle one held at mine t h = cc
     publish_turn word f (Asked other ask) one held at mine t h = cc
@@ -214,9 +214,9 @@ module _ (id epoch home index readers holders : ℕ) where
     publish_turn word f (Holding other ask hand None) one held at mine t h = cc
     publish_turn word f (Holding other ask hand (Some plan)) one held at mine t h =
         let event : Event Content Context = event_at id epoch log ask plan.operation in
-        let turn : Turn = publishes_by seen brought (vnode_in id epoch home index readers holders limits log seen brought place has word) other ask plan in
+        let turn : WorkerTurn = publishes_by seen brought (vnode_in id epoch home index readers holders limits log seen brought place has word) other ask plan in
         let same_turn : turn ≡ t = cc in
-        let came : StepOutcome = Accepted plan.operation plan.response plan.next in
+        let came : MachineOutcome = Accepted plan.operation plan.response plan.next in
         let next : IsPlain id epoch log → IsNext id epoch (commands_of log) ask plan.operation plan.response plan.next = λ plain. registers plain ask hand came (mine at).0 (mine at).1.0 in
         let next_is : plan.next ≡ state_of id epoch (Command event ∷ log) =
         accepted_is hand ask plan.operation plan.response plan.next (mine at).1.0 ∙ ap (λ s. apply_operation s (key_of ask) (context_in_ask ask) plan.operation) (mine at).0 in
@@ -257,7 +257,7 @@ module _ (id epoch home index readers holders : ℕ) where
                 refl,
                 refl,
                 λ r. ap updates (sym (mine at).1.0) ∙ accepts_update hand ask r,
-                subst (λ s. Accepts s (key_of ask) (context_in_ask ask) plan.operation) (mine at).0 (was_accepted hand ask plan.operation plan.response plan.next (mine at).1.0),
+                subst (λ s. AcceptsEvent s (key_of ask) (context_in_ask ask) plan.operation) (mine at).0 (was_accepted hand ask plan.operation plan.response plan.next (mine at).1.0),
                 refl,
               );
               shown = subst (λ s. AreHeld s (key_of ask) (context_bytes plan.response)) next_is (shows ask hand came (mine at).1.0);

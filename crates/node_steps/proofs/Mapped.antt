@@ -4,7 +4,7 @@ use Rattle.std.specs.Prelude.{◌==◌, true, false, Some, option_map, slice_get
 use Rattle.std.proofs.lemmas.Bool.Decides.{nat_tests}
 use Rattle.std.proofs.lemmas.Option.{slice_get-map}
 use Rattle.node_steps.specs.World.{Worker, World}
-use Rattle.node_steps.specs.Steps.{Turn, seeing, turned}
+use Rattle.node_steps.specs.Steps.{WorkerTurn, seeing, turned}
 use Rattle.node_steps.specs.Erased.{erase_vnode, erase_worker, erase}
 pub use Rattle.std.proofs.lemmas.Bool.{ne_eqb as other_test, eqb-true as tested_same}
 
@@ -24,7 +24,7 @@ pub same_test : (a b : ℕ) → a ≡ b → (a == b) ≡ true
 same_test a b h = grind (arith, nat_tests)
 
 -- after a worker's turn its phase is that of the turn, and its vnode
-pub turn_erased : (w : World) (place index : ℕ) (worker : Worker) (turn : Turn)
+pub turn_erased : (w : World) (place index : ℕ) (worker : Worker) (turn : WorkerTurn)
     → erase (turned w place index worker turn)
     ≡ record {
       vnodes = slice_set (map erase_vnode w.vnodes) index (erase_vnode turn.vnode);

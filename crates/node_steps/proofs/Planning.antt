@@ -4,24 +4,24 @@ use Rattle.std.specs.Prelude.{Option, Some, None, IsSome, IfSome, is_none, optio
 use Rattle.riak_msgs.specs.Contents.{Content}
 use Rattle.riak_msgs.specs.declared.Key.{Key}
 use Rattle.sibling_register.specs.History.{Operation, Write, Tombstone, Reap as Forget}
-use Rattle.sibling_register.specs.Answers.{Ask as Command, AskGet, AskPut, AskDel, AskReap}
+use Rattle.sibling_register.specs.Answers.{RegisterAsk as Command, AskGet, AskPut, AskDel, AskReap}
 use Rattle.actor_epoch.specs.Given.{Context}
 use Rattle.clock_store.specs.declared.store.Reaped.TheVariants.{Gone, Kept, Absent}
 use Rattle.vnode_machine.specs.Asks.{put_command, del_command}
 use Rattle.vnode_machine.specs.Machine.{State, is_held, holds_dead, has_value, put_check, del_check, apply_operation}
 use Rattle.vnode_machine.specs.Replies.{put_reply}
-use Rattle.vnode_machine.specs.Step.{Response, PutDone, DelDone, ReapDone, ReapKept, StepOutcome, Refused, Answered, Accepted, unless_refused, outcome}
+use Rattle.vnode_machine.specs.Step.{Response, PutDone, DelDone, ReapDone, ReapKept, MachineOutcome, Refused, Answered, Accepted, unless_refused, outcome}
 use Rattle.vnode_core.specs.declared.ask.Ask.{Ask}
 use Rattle.vnode_core.specs.declared.ask.Ask.TheVariants.{Put, Del, Reap, ReapFirst, Copy, Close}
 use Rattle.vnode_core.specs.declared.ask.Answer.{Answer}
 use Rattle.vnode_core.specs.declared.ask.Answer.TheVariants as answers
 use Rattle.vnode_core.specs.Plans.{View, IsAcceptedStep, AcceptsOpen, IsPrepared, IsAnsweredUnchanged, StepsOpen}
 use Rattle.node_steps.specs.declared.outcome.Outcome.{Outcome as Returned}
-use Rattle.node_steps.specs.World.{Plan}
+use Rattle.node_steps.specs.World.{PlannedCommand}
 use Rattle.node_steps.specs.Returned.{returned_response}
 use Rattle.node_steps.specs.Hands.{command_of, response_of, IsReturned, plan_by, plan_of, PlansBy, PlansAsk}
 
-planned-outcome : (o : StepOutcome) → IsAcceptedStep o → PlansBy o (plan_by o) None
+planned-outcome : (o : MachineOutcome) → IsAcceptedStep o → PlansBy o (plan_by o) None
 planned-outcome (Refused number) a = absurd a
 planned-outcome (Answered response) a = absurd a
 planned-outcome (Accepted operation response next) a = (refl, refl)
@@ -40,7 +40,7 @@ plans_change vnode ask change prepared =
     by (Close number) a = tt
 
 -- a command is answered, with nothing changed
-pub record ComesTo (o : StepOutcome) (answer : Answer) : Type 0 where
+pub record ComesTo (o : MachineOutcome) (answer : Answer) : Type 0 where
   pub response : Response
   pub comes : o ≡ Answered response
   pub is : response_of answer ≡ Some response
@@ -69,7 +69,7 @@ answers_command state (Copy copy) answer opened (inl open_one) = tt
 answers_command state (Close number) answer opened (inl open_one) = tt
 
 -- by which the worker is answered
-pub plans_answer : (answer : Answer) (state : State Content) (plan : Option Plan) (returns : Returned) (made : Option (Command Content Context))
+pub plans_answer : (answer : Answer) (state : State Content) (plan : Option PlannedCommand) (returns : Returned) (made : Option (Command Content Context))
     → IfSome made (λ command. ComesTo (outcome state command) answer) → IsReturned answer returns
     → IfSome made (λ command. PlansBy (outcome state command) plan (Some returns))
 plans_answer answer state plan returns None comes returned = tt
@@ -77,7 +77,7 @@ plans_answer answer state plan returns (Some command) comes returned =
     subst (λ o. PlansBy o plan (Some returns)) (sym comes.comes) (sym returned ∙ ap (λ o. option_map returned_response o) comes.is)
 
 -- a command is accepted, and makes the state after it
-pub record Finishes (o : StepOutcome) (answer : Answer) (new : State Content) : Type 0 where
+pub record Finishes (o : MachineOutcome) (answer : Answer) (new : State Content) : Type 0 where
   pub operation : Operation Content
   pub response : Response
   pub comes : o ≡ Accepted operation response new
@@ -97,16 +97,16 @@ finishes old (Close number) answer new steps = tt
 module _ {X : Type 0} (part : State Content → X)
     (kept : (state : State Content) (key : Key) (given : Option Context) (operation : Operation Content) → part (apply_operation state key given operation) ≡ part state) where
   -- that part after what comes of a command
-  abbrev part_after : X → StepOutcome → X
+  abbrev part_after : X → MachineOutcome → X
   part_after was (Refused number) = was
   part_after was (Answered response) = was
   part_after was (Accepted operation response next) = part next
 
-  either : (was : X) (b : Bool) (x y : StepOutcome) → part_after was x ≡ was → part_after was y ≡ was → part_after was (cond b x y) ≡ was
+  either : (was : X) (b : Bool) (x y : MachineOutcome) → part_after was x ≡ was → part_after was y ≡ was → part_after was (cond b x y) ≡ was
   either was true x y first second = first
   either was false x y first second = second
 
-  unless : (was : X) (check : Option ℕ) (x : StepOutcome) → part_after was x ≡ was → part_after was (unless_refused check x) ≡ was
+  unless : (was : X) (check : Option ℕ) (x : MachineOutcome) → part_after was x ≡ was → part_after was (unless_refused check x) ≡ was
   unless was None x h = h
   unless was (Some number) x h = refl
 

@@ -5,14 +5,14 @@ use Rattle.std.specs.Option.{option_map_or}
 use Rattle.std.proofs.lemmas.Option.{none-some}
 use Rattle.riak_msgs.specs.declared.Key.{Key}
 use Rattle.riak_msgs.specs.Contents.{Content}
-use Rattle.sibling_register.specs.Answers.{Ask as Command, AskPut, AskDel, AskReap}
+use Rattle.sibling_register.specs.Answers.{RegisterAsk as Command, AskPut, AskDel, AskReap}
 use Rattle.actor_epoch.specs.Given.{Context}
 use Rattle.dvv_set.specs.Clocks.{DotState}
 use Rattle.vnode_machine.specs.Copying.{IsClock, is_stuck}
 use Rattle.vnode_machine.specs.Machine.{Stored, State, clock_of, is_held, stored}
 use Rattle.vnode_machine.specs.Sound.{IsFormed, IsSound}
 use Rattle.vnode_machine.specs.Asks.{put_command, del_command}
-use Rattle.vnode_machine.specs.Step.{StepOutcome, Refused, Answered, Accepted, outcome}
+use Rattle.vnode_machine.specs.Step.{MachineOutcome, Refused, Answered, Accepted, outcome}
 use Rattle.vnode_machine.proofs.Copying.{sound-copy}
 use Rattle.vnode_machine.proofs.Formed.{sound-next}
 use Rattle.vnode_core.specs.KeyCopies.{KeyCopyView}
@@ -111,7 +111,7 @@ clock-formed state key clock sound h = by (stored state key) (sound.keys key) h
     by None f h = cc
     by (Some s) f h = let same : s.clock ≡ clock = cc in subst IsClock same f.clock
 
-accepted-some : (o : StepOutcome) → IsAcceptedStep o → true ≡ is_some (plan_by o)
+accepted-some : (o : MachineOutcome) → IsAcceptedStep o → true ≡ is_some (plan_by o)
 accepted-some (Refused number) a = absurd a
 accepted-some (Answered response) a = absurd a
 accepted-some (Accepted operation response next) a = refl

@@ -6,7 +6,7 @@ use Rattle.riak_msgs.specs.Contents.{Content}
 use Rattle.vnode_machine.specs.Machine.{State}
 use Rattle.copy_laws.specs.Copies.{Closed}
 use Rattle.copy_laws.specs.Joining.{Log}
-use Rattle.node_steps.specs.World.{Vnode, Worker, World, CommandsAlone, Call, id_at, own_at, last_epoch_at, log_at, history_at, call_of, history_of}
+use Rattle.node_steps.specs.World.{SiteVnode, Worker, World, CommandsAlone, Call, id_at, own_at, last_epoch_at, log_at, history_at, call_of, history_of}
 use Rattle.node_steps.specs.Steps.{Action, Outcome, left_in, judged}
 use Rattle.node_steps.specs.Claims.{CommandsFirst}
 use Rattle.node_steps.proofs.Lists.{set-here, set-there, same_or_other}
@@ -62,16 +62,16 @@ module _ (w : World) (orderly : IsOrderly w) (number : ℕ) (action : Action) (r
   abbrev next : World
   next = close_world w orderly number action r c
 
-  abbrev vnode : Vnode
+  abbrev vnode : SiteVnode
   vnode = close_vnode w orderly number action r c
 
   pub close_log : log_at next c.site ≡ Closed c.count ∷ log_at w c.site
   close_log =
-      ap (λ o. option_map_or (λ (v : Vnode). v.log) o []) (set-here w.vnodes c.site c.fallback vnode c.fallback_is)
-      ∙ ap (λ (l : Log). Closed c.count ∷ l) (sym (ap (λ o. option_map_or (λ (v : Vnode). v.log) o []) c.fallback_is))
+      ap (λ o. option_map_or (λ (v : SiteVnode). v.log) o []) (set-here w.vnodes c.site c.fallback vnode c.fallback_is)
+      ∙ ap (λ (l : Log). Closed c.count ∷ l) (sym (ap (λ o. option_map_or (λ (v : SiteVnode). v.log) o []) c.fallback_is))
 
   -- what the close doesn't change of a vnode
-  same_at : {X : Type 0} (f : Vnode → X) (d : X) → f vnode ≡ f c.fallback → (site : ℕ) → option_map_or f (slice_get next.vnodes site) d ≡ option_map_or f (slice_get w.vnodes site) d
+  same_at : {X : Type 0} (f : SiteVnode → X) (d : X) → f vnode ≡ f c.fallback → (site : ℕ) → option_map_or f (slice_get next.vnodes site) d ≡ option_map_or f (slice_get w.vnodes site) d
   same_at f d e site = elim (same_or_other c.site site) [
     | inl at ↦ subst (λ k. option_map_or f (slice_get next.vnodes k) d ≡ option_map_or f (slice_get w.vnodes k) d) at
         (ap (λ o. option_map_or f o d) (set-here w.vnodes c.site c.fallback vnode c.fallback_is) ∙ e ∙ sym (ap (λ o. option_map_or f o d) c.fallback_is))
@@ -86,7 +86,7 @@ module _ (w : World) (orderly : IsOrderly w) (number : ℕ) (action : Action) (r
     histories = same_at (λ v. history_of v) [] refl;
     logs = λ site. elim (same_or_other c.site site) [
       | inl e ↦ inr (c.count, subst (λ k. log_at next k ≡ Closed c.count ∷ log_at w k) e close_log)
-      | inr n ↦ inl (ap (λ o. option_map_or (λ (v : Vnode). v.log) o []) (set-there w.vnodes c.site site vnode n))
+      | inr n ↦ inl (ap (λ o. option_map_or (λ (v : SiteVnode). v.log) o []) (set-there w.vnodes c.site site vnode n))
     ];
     calls = λ place worker h call asked.
         elim (set_cases w (pred number) c.worker (close_worker w orderly number action r c) (close_here w orderly number action r c) place worker h) [

@@ -5,7 +5,7 @@ use Rattle.std.specs.Option.{option_map_or}
 use Rattle.vnode_machine.specs.Replay.{HasReplay}
 use Rattle.copy_laws.specs.Copies.{Command, commands_of}
 use Rattle.copy_laws.specs.Joining.{Log}
-use Rattle.node_steps.specs.World.{Vnode, World, CommandsAlone, fresh_vnode, opening_world, opening_vnodes, route, id_at, last_epoch_at, log_at, history_at, history_of, brought_by}
+use Rattle.node_steps.specs.World.{SiteVnode, World, CommandsAlone, fresh_vnode, opening_world, opening_vnodes, route, id_at, last_epoch_at, log_at, history_at, history_of, brought_by}
 use Rattle.node_steps.specs.Steps.{Action, Step, By, Diverts, Outcome, NotPossible, Happened, Replied, NotHeld, StuckThere, CopiedBack, Elsewhere, LeftThere, routed, turned, fallback_ids, acts, diverted, diverted_by}
 use Rattle.node_steps.specs.Schedules.{Start, IsStart, world_after}
 use Rattle.node_steps.specs.Claims.{CommandsFirst}
@@ -19,15 +19,15 @@ use Rattle.node_steps.proofs.Lifting.{HaveReplays, turn, replays_next, log_befor
 use Rattle.node_steps.proofs.CloseSteps.{acts_cases}
 use Rattle.node_steps.proofs.Quiet.{IsQuiet, quiet-judged, quiet-closed, first_quiet}
 
-abbrev Replays : Option Vnode → Type 0
-Replays o = HasReplay (option_map_or (λ (v : Vnode). v.id) o 0) (option_map_or (λ (v : Vnode). v.last_epoch) o 0) (option_map_or (λ (v : Vnode). history_of v) o [])
+abbrev Replays : Option SiteVnode → Type 0
+Replays o = HasReplay (option_map_or (λ (v : SiteVnode). v.id) o 0) (option_map_or (λ (v : SiteVnode). v.last_epoch) o 0) (option_map_or (λ (v : SiteVnode). history_of v) o [])
 
 opening-replays : (start : Start) → HaveReplays (opening_world start.run start.workers start.vnodes)
 opening-replays start site = λ first. by (slice_get (opening_vnodes start.run 0 start.vnodes) site) refl
   where
-    by : (o : Option Vnode) → slice_get (opening_vnodes start.run 0 start.vnodes) site ≡ o → Replays o
+    by : (o : Option SiteVnode) → slice_get (opening_vnodes start.run 0 start.vnodes) site ≡ o → Replays o
     by None h = tt
-    by (Some v) h = subst (λ (u : Vnode). HasReplay u.id u.last_epoch (history_of u)) (sym (opened start.run 0 start.vnodes site v h).1) tt
+    by (Some v) h = subst (λ (u : SiteVnode). HasReplay u.id u.last_epoch (history_of u)) (sym (opened start.run 0 start.vnodes site v h).1) tt
 
 module _ (w : World) (orderly : IsOrderly w) (number : ℕ) (action : Action) (r : World × Outcome) (p : IsPossible w number action r) (was : HaveReplays w) where
   abbrev next : World
@@ -89,17 +89,17 @@ quiet-replays w next quiet was site first =
 diverted-replays : (w : World) (other : ℕ) (then : World) (d : IsDiversion w other then) → HaveReplays w → HaveReplays then
 diverted-replays w other then d was = subst HaveReplays d.gives (λ site first. by site (slice_get later.vnodes site) refl first)
   where
-    fresh : Vnode
+    fresh : SiteVnode
     fresh = fresh_vnode (d.primary.place.vnode + fallback_ids) other d.epoch
 
     later : World
     later = diverted_by w other d.epoch d.primary
 
-    by : (site : ℕ) (o : Option Vnode) → slice_get later.vnodes site ≡ o → CommandsFirst (option_map_or (λ (v : Vnode). v.log) o []) → Replays o
+    by : (site : ℕ) (o : Option SiteVnode) → slice_get later.vnodes site ≡ o → CommandsFirst (option_map_or (λ (v : SiteVnode). v.log) o []) → Replays o
     by site None h first = tt
     by site (Some v) h first = elim (get-more w.vnodes fresh site v h) [
-      | inl e ↦ subst (λ o. Replays o) e (was site (subst (λ o. CommandsFirst (option_map_or (λ (x : Vnode). x.log) o [])) (sym e) first))
-      | inr e ↦ subst (λ (u : Vnode). HasReplay u.id u.last_epoch (history_of u)) e.1 tt
+      | inl e ↦ subst (λ o. Replays o) e (was site (subst (λ o. CommandsFirst (option_map_or (λ (x : SiteVnode). x.log) o [])) (sym e) first))
+      | inr e ↦ subst (λ (u : SiteVnode). HasReplay u.id u.last_epoch (history_of u)) e.1 tt
     ]
 
 pub replays_after : (start : Start) → IsStart start → (schedule : List Step) → HaveReplays (world_after start schedule)

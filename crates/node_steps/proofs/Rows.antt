@@ -5,7 +5,7 @@ use Rattle.std.specs.Prelude.{None, Ok, Err, Some}
 use Rattle.riak_msgs.specs.declared.Key.{Key}
 use Rattle.riak_msgs.specs.Contents.{Content, no_content}
 use Rattle.sibling_register.specs.Refusals.{bad_context}
-use Rattle.sibling_register.specs.Answers.{Ask, AskGet, AskPut, AskDel, AskReap}
+use Rattle.sibling_register.specs.Answers.{RegisterAsk, AskGet, AskPut, AskDel, AskReap}
 use Rattle.actor_epoch.specs.Given.{Context, Malformed}
 use Rattle.vnode_machine.specs.Step.{GetDone, PutDone, DelDone, ReapDone, ReapKept}
 use Rattle.node_steps.specs.World.{World, opening_world}
@@ -22,16 +22,16 @@ k = record { bucket_type = 100 ∷ []; bucket = 98 ∷ []; key = 107 ∷ [] }
 abbrev pub v : Content
 v = record no_content { value = 118 ∷ [] }
 
-abbrev pub get : Ask Content Context
+abbrev pub get : RegisterAsk Content Context
 get = AskGet (record { key = k; if_modified = None; head = false; deletedvclock = false })
 
-abbrev pub put : Ask Content Context
+abbrev pub put : RegisterAsk Content Context
 put = AskPut (record { key = k; context = None; value = v; return_body = false; return_head = false; if_not_modified = false; if_none_match = false })
 
-abbrev pub del : Ask Content Context
+abbrev pub del : RegisterAsk Content Context
 del = AskDel (record { key = k; context = None })
 
-abbrev put_malformed : Ask Content Context
+abbrev put_malformed : RegisterAsk Content Context
 put_malformed = AskPut (record { key = k; context = Some Malformed; value = v; return_body = false; return_head = false; if_not_modified = false; if_none_match = false })
 
 -- the worker of this number does this

@@ -13,13 +13,13 @@ use Rattle.node_steps.specs.declared.phase.Phase.{Phase as RunPhase}
 use Rattle.node_steps.specs.declared.site.Site.{Site}
 use Rattle.node_steps.specs.declared.step.Act.{Act}
 use Rattle.node_steps.specs.declared.step.Act.TheVariants as acts
-use Rattle.node_steps.specs.World.{CloseInside, CloseLooked, CloseDone, Phase, Idle, Asked, Reading, Holding, Done, Turned, Copying, Closing, Vnode, Worker, World, history_of}
+use Rattle.node_steps.specs.World.{CloseInside, CloseLooked, CloseDone, Phase, Idle, Asked, Reading, Holding, Done, Turned, Copying, Closing, SiteVnode, Worker, World, history_of}
 use Rattle.node_steps.specs.Steps.{Enters, Looks, Publishes, By, Outcome, NotPossible, Happened, left_in, judged, judged_by, closed_by, closes, seeing, site_of, happens}
 use Rattle.node_steps.specs.Erased.{erase, erase_vnode, erase_worker}
 use Rattle.node_steps.specs.Asked.{action_of}
 use Rattle.node_steps.specs.Returned.{returned}
 use Rattle.node_steps.specs.Running.{phase_of, vnode_of, worker_of, world_of}
-use Rattle.node_steps.specs.Parts.{TakesStep}
+use Rattle.node_steps.specs.Parts.{TakesRunStep}
 use Rattle.node_steps.specs.Closings.{looked}
 use Rattle.node_steps.proofs.Mapped.{at_some, map-set, set-same}
 use Rattle.node_steps.proofs.Stepping.{not_possible, phase_back, vnodes_itself, workers_itself, at_worker, no_turn, Steps}
@@ -46,13 +46,13 @@ idle_closes w number worker act (Copying own site key stage) e = cc
 idle_closes w number worker act (Closing own site stage) e = cc
 
 -- what comes of a closer's look, by the vnodes at the two sites
-abbrev came_of : World → (place own site : ℕ) → Worker → (hand : State Content) → (fallback primary : Option Vnode) → Option (World × Outcome)
+abbrev came_of : World → (place own site : ℕ) → Worker → (hand : State Content) → (fallback primary : Option SiteVnode) → Option (World × Outcome)
 came_of w place own site worker hand a b =
     option_and_then (λ fallback. option_map (λ primary.
     let came = judged own site hand primary.place (is_some hand.closed) (left_in primary.place hand) in
     (judged_by w place own site worker primary fallback came.0, came.1)) b) a
 
-no_primary : (w : World) (place own site : ℕ) (worker : Worker) (hand : State Content) (fallback : Option Vnode) → came_of w place own site worker hand fallback None ≡ None
+no_primary : (w : World) (place own site : ℕ) (worker : Worker) (hand : State Content) (fallback : Option SiteVnode) → came_of w place own site worker hand fallback None ≡ None
 no_primary w place own site worker hand None = refl
 no_primary w place own site worker hand (Some vnode) = refl
 
@@ -102,16 +102,16 @@ module _ (sites : List Site) (routes epochs : List ℕ) (workers : List RunPhase
 
   -- a step that isn't possible leaves the phase
   pub stays : (asked : Act) → happens w (By (suc place) (action_of asked)) ≡ None → phase_of next ≡ phase_of phase → returns ≡ outcomes.No
-      → TakesStep w (By (suc place) (action_of asked)) returns (world_of sites routes epochs (slice_set workers place next))
+      → TakesRunStep w (By (suc place) (action_of asked)) returns (world_of sites routes epochs (slice_set workers place next))
   stays asked h e nothing =
       let phases = phase_back workers place phase next here e in
-      subst (λ (r : Returned). TakesStep w (By (suc place) (action_of asked)) r (world_of sites routes epochs (slice_set workers place next))) (sym nothing)
-      (subst (λ (ws : List Worker). TakesStep w (By (suc place) (action_of asked)) outcomes.No (record { vnodes = map vnode_of sites; routes = routes; epochs = epochs; diversions = []; workers = ws })) (sym phases)
+      subst (λ (r : Returned). TakesRunStep w (By (suc place) (action_of asked)) r (world_of sites routes epochs (slice_set workers place next))) (sym nothing)
+      (subst (λ (ws : List Worker). TakesRunStep w (By (suc place) (action_of asked)) outcomes.No (record { vnodes = map vnode_of sites; routes = routes; epochs = epochs; diversions = []; workers = ws })) (sym phases)
       (not_possible sites routes epochs workers (By (suc place) (action_of asked)) h))
 
   -- a step that happened
   happened : (asked : Act) (r : Result) (later : World) → happens w (By (suc place) (action_of asked)) ≡ Some r → returns ≡ returned r.1 → later ≡ erase r.0
-      → TakesStep w (By (suc place) (action_of asked)) returns later
+      → TakesRunStep w (By (suc place) (action_of asked)) returns later
   happened asked r later h e l = record {
     returns_is = e ∙ sym (ap (λ o. returned (option_map_or (λ (q : Result). q.1) o NotPossible)) h);
     world_is = l ∙ sym (ap (λ o. erase (option_map_or (λ (q : Result). q.0) o w)) h);
@@ -121,12 +121,12 @@ module _ (sites : List Site) (routes epochs : List ℕ) (workers : List RunPhase
     abbrev inside : Phase
     inside = Closing own site (CloseInside hand)
 
-    abbrev judged_at : Vnode → Vnode → Result
+    abbrev judged_at : SiteVnode → SiteVnode → Result
     judged_at fallback primary =
         let came = judged own site hand primary.place (is_some hand.closed) (left_in primary.place hand) in
         (judged_by w place own site me primary fallback came.0, came.1)
 
-    abbrev came : Option Vnode → Option Vnode → Option Result
+    abbrev came : Option SiteVnode → Option SiteVnode → Option Result
     came a b = came_of w place own site me hand a b
 
     looks_is : phase_of phase ≡ inside → happens w (By (suc place) Looks) ≡ option_map_or (λ (r : Result). Some r) (came (slice_get w.vnodes site) (slice_get w.vnodes own)) None
@@ -154,11 +154,11 @@ module _ (sites : List Site) (routes epochs : List ℕ) (workers : List RunPhase
     later = world_of sites routes epochs (slice_set workers place next)
 
     -- a closer's look at both
-    pub judges : phase_of phase ≡ inside → Comes (looked sites own site hand) → TakesStep w (By (suc place) Looks) returns later
+    pub judges : phase_of phase ≡ inside → Comes (looked sites own site hand) → TakesRunStep w (By (suc place) Looks) returns later
     judges is comes = by (slice_get sites site) (slice_get sites own) refl refl
         (looks_is is ∙ (λ i. option_map_or (λ (r : Result). Some r) (came (sites_at site i) (sites_at own i)) None)) comes
       where
-        erased : (primary fallback : Vnode) (p : Phase) → erase (judged_by w place own site me primary fallback p) ≡ with_phase p
+        erased : (primary fallback : SiteVnode) (p : Phase) → erase (judged_by w place own site me primary fallback p) ≡ with_phase p
         erased primary fallback p =
             let seen = seeing (seeing me.seen site (history_of fallback)) own (history_of primary) in
             let phases = map-set erase_worker w.workers place (record { phase = p; seen = seen }) in
@@ -166,7 +166,7 @@ module _ (sites : List Site) (routes epochs : List ℕ) (workers : List RunPhase
 
         by : (a b : Option Site) → slice_get sites site ≡ a → slice_get sites own ≡ b
             → happens w (By (suc place) Looks) ≡ option_map_or (λ (r : Result). Some r) (came (option_map vnode_of (slice_get sites site)) (option_map vnode_of (slice_get sites own))) None
-            → Comes (looked_by (slice_get sites site) (slice_get sites own)) → TakesStep w (By (suc place) Looks) returns later
+            → Comes (looked_by (slice_get sites site) (slice_get sites own)) → TakesRunStep w (By (suc place) Looks) returns later
         by None b e f h c =
             let kept = subst (λ o. Comes (looked_by o (slice_get sites own))) e c in
             stays acts.Look (h ∙ ap (λ o. option_map_or (λ (r : Result). Some r) (came (option_map vnode_of o) (option_map vnode_of (slice_get sites own))) None) e) (kept.0 ∙ sym is) kept.1
@@ -188,7 +188,7 @@ module _ (sites : List Site) (routes epochs : List ℕ) (workers : List RunPhase
       abbrev closed : Phase
       closed = Closing own site (CloseDone (apply_close hand count) true)
 
-      abbrev both : List Vnode → List Worker → World
+      abbrev both : List SiteVnode → List Worker → World
       both vs ws = record { vnodes = vs; routes = slice_set routes own own; epochs = slice_set epochs own hand.last_epoch; diversions = []; workers = ws }
 
       abbrev closed_now : World
@@ -203,7 +203,7 @@ module _ (sites : List Site) (routes epochs : List ℕ) (workers : List RunPhase
           (option_map (λ f. (closed_by w place own site me f hand count, Happened)) o) (Steps w Publishes place (record { phase = planned; seen = [] }))) (at_some vnode_of sites site fallback there)
 
       pub publishes : phase_of phase ≡ planned → (fallback : Site) → slice_get sites site ≡ Some fallback → phase_of next ≡ closed → returns ≡ outcomes.Done
-          → TakesStep w (By (suc place) Publishes) returns closed_now
+          → TakesRunStep w (By (suc place) Publishes) returns closed_now
       publishes is fallback there then done =
           happened acts.Publish (closed_by w place own site me (vnode_of fallback) hand count, Happened) closed_now (publish_is is fallback there) done
           (by ∙ sym erased)

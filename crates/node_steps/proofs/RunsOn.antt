@@ -8,7 +8,7 @@ use Rattle.node_steps.specs.Steps.{Step, outcome}
 use Rattle.node_steps.specs.Schedules.{Start, world_after}
 use Rattle.node_steps.specs.Returned.{returned}
 use Rattle.node_steps.specs.Asked.{step_of}
-use Rattle.node_steps.specs.Kept.{IsKeptAfter, Follows, FollowsAll, FollowsSome, extended, returned_by}
+use Rattle.node_steps.specs.Kept.{IsKeptAfter, FollowsInRun, FollowsAll, FollowsSome, extended, returned_by}
 use Rattle.std.proofs.lemmas.List.{append-nil}
 
 -- the steps but the rest were taken, and these are what they returned
@@ -38,7 +38,7 @@ none_taken old steps rest e = record { taken = []; parts = e; follows = λ start
 
 -- one step more
 pub one_taken : (old now new : World) (steps rest : List RunStep) (returns : List Returned) (step : RunStep) (last : Returned) → HasTaken old steps (step ∷ rest) returns now
-    → Follows now (step_of step) last new → HasTaken old steps rest (returns ++ last ∷ []) new
+    → FollowsInRun now (step_of step) last new → HasTaken old steps rest (returns ++ last ∷ []) new
 one_taken old now new steps rest returns step last h f = record {
   taken = h.taken ++ step ∷ [];
   parts = append-one h.taken rest step ∙ h.parts;

@@ -14,10 +14,10 @@ use Rattle.vnode_machine.specs.Step.{Response}
 use Rattle.vnode_machine.specs.Registers.{key_of, context_in_ask}
 use Rattle.vnode_machine.proofs.Keys.{key_eq-refl}
 use Rattle.copy_laws.specs.Copies.{commands_of}
-use Rattle.node_steps.specs.World.{Vnode, Worker, World, Call, fresh_vnode, fresh_worker, opening_world, opening_vnodes, CommandsAlone, route, id_at, last_epoch_at, log_at, history_at, brought_by, call_of, call_at, history_of}
+use Rattle.node_steps.specs.World.{SiteVnode, Worker, World, Call, fresh_vnode, fresh_worker, opening_world, opening_vnodes, CommandsAlone, route, id_at, last_epoch_at, log_at, history_at, brought_by, call_of, call_at, history_of}
 use Rattle.node_steps.specs.Steps.{Action, Step, By, Diverts, Outcome, NotPossible, Happened, Replied, NotHeld, StuckThere, CopiedBack, Elsewhere, LeftThere, routed, seeing, turned, fallback_ids, acts, diverted_by, diverted, outcome}
 use Rattle.node_steps.specs.Schedules.{Start, IsStart, world_after, Begins}
-use Rattle.node_steps.specs.Contexts.{context_bytes, call_by, given_in, WasShown, GivesShown}
+use Rattle.node_steps.specs.Contexts.{context_bytes, call_by, given_in, WasShownInRun, GivesShownInRun}
 use Rattle.node_steps.specs.Claims.{CommandsFirst, ValuesLeaveOnlySeen}
 use Rattle.node_steps.proofs.Lists.{set-here, set-there, same_or_other, get-first, get-replicate}
 use Rattle.node_steps.proofs.Beginnings.{begins-itself}
@@ -217,14 +217,14 @@ is_some r h = cc
 not_shown : (response : Response) → NotPossible ≡ Replied (Ok response) → ⊥
 not_shown response h = cc
 
-abbrev id_in : Option Vnode → ℕ
-id_in o = option_map_or (λ (v : Vnode). v.id) o 0
+abbrev id_in : Option SiteVnode → ℕ
+id_in o = option_map_or (λ (v : SiteVnode). v.id) o 0
 
-abbrev epoch_in : Option Vnode → ℕ
-epoch_in o = option_map_or (λ (v : Vnode). v.last_epoch) o 0
+abbrev epoch_in : Option SiteVnode → ℕ
+epoch_in o = option_map_or (λ (v : SiteVnode). v.last_epoch) o 0
 
-abbrev history_in : Option Vnode → History
-history_in o = option_map_or (λ (v : Vnode). history_of v) o []
+abbrev history_in : Option SiteVnode → History
+history_in o = option_map_or (λ (v : SiteVnode). history_of v) o []
 
 -- before any event nothing has a name
 nothing_named : (id epoch : ℕ) (key : Key) (context : Context) → IsName id epoch [] key context → ⊥
@@ -252,15 +252,15 @@ module _ (start : Start) (is : IsStart start) (index : ℕ) (key : Key) where
         events = λ first before event context begins k e. absurd (no_event event begins.0 before (begins.1 ∙ empty (slice_get w.vnodes index) refl));
       }
     where
-      empty : (o : Option Vnode) → slice_get (opening_vnodes start.run 0 start.vnodes) index ≡ o → option_map_or (λ (v : Vnode). history_of v) o [] ≡ []
+      empty : (o : Option SiteVnode) → slice_get (opening_vnodes start.run 0 start.vnodes) index ≡ o → option_map_or (λ (v : SiteVnode). history_of v) o [] ≡ []
       empty None h = refl
-      empty (Some v) h = ap (λ (u : Vnode). history_of u) (opened start.run 0 start.vnodes index v h).1
+      empty (Some v) h = ap (λ (u : SiteVnode). history_of u) (opened start.run 0 start.vnodes index v h).1
 
   -- a site that is opened: nothing was named there
   named_diverted : (w diverted_w : World) (other : ℕ) (Shown : Context → Type 0) → IsDiversion w other diverted_w → IsNamed index key w Shown → IsNamed index key diverted_w Shown
   named_diverted w diverted_w other Shown d named = subst (λ (x : World). IsNamed index key x Shown) d.gives (by (slice_get w.vnodes index) refl)
     where
-      fresh : Vnode
+      fresh : SiteVnode
       fresh = fresh_vnode (d.primary.place.vnode + fallback_ids) other d.epoch
 
       later : World
@@ -269,7 +269,7 @@ module _ (start : Start) (is : IsStart start) (index : ℕ) (key : Key) where
       log_same : (site : ℕ) → log_at later site ≡ log_at w site
       log_same site = log-more w.vnodes fresh refl site
 
-      by : (o : Option Vnode) → slice_get w.vnodes index ≡ o → IsNamed index key later Shown
+      by : (o : Option SiteVnode) → slice_get w.vnodes index ≡ o → IsNamed index key later Shown
       by (Some v) h = let same : slice_get later.vnodes index ≡ slice_get w.vnodes index = get-first w.vnodes fresh index v h ∙ sym h in record {
         shown = λ only context s. subst (λ o. IsName (id_in o) (epoch_in o) (history_in o) key context) (sym same) (named.shown (subst CommandsAlone (log_same index) only) context s);
         calls = λ only place worker k. subst (λ o. NamesCall index key (id_in o) (epoch_in o) (history_in o) (call_of worker.phase)) (sym same)
@@ -309,7 +309,7 @@ module _ (start : Start) (is : IsStart start) (index : ℕ) (key : Key) where
           subst (λ hist. NamesCall index key (id_at w index) (last_epoch_at w index) hist (Some call)) (sym (quiet.histories index))
           (subst (λ c. NamesCall index key (id_at w index) (last_epoch_at w index) (history_at w index) c) (ap call_of old.2 ∙ e) (named.calls (alone_quiet w next quiet index only) place old.0 old.1))
 
-  named_after : (schedule : List Step) → GivesShown start index key schedule → IsNamed index key (world_after start schedule) (WasShown start index key schedule)
+  named_after : (schedule : List Step) → GivesShownInRun start index key schedule → IsNamed index key (world_after start schedule) (WasShownInRun start index key schedule)
   named_after [] gives = named_opening
   named_after (By number action ∷ earlier) gives = by (acts (world_after start earlier) number sent) refl (named_after earlier gives.0)
     where
@@ -319,8 +319,8 @@ module _ (start : Start) (is : IsStart start) (index : ℕ) (key : Key) where
       came : (r : World × Outcome) → acts (world_after start earlier) number sent ≡ Some r → outcome (world_after start earlier) (By number action) ≡ r.1
       came r h = ap (λ o. option_map_or (λ (q : World × Outcome). q.1) o NotPossible) h
 
-      by : (o : Option (World × Outcome)) → acts (world_after start earlier) number sent ≡ o → IsNamed index key (world_after start earlier) (WasShown start index key earlier)
-          → IsNamed index key (option_map_or (λ r. r.0) o (world_after start earlier)) (WasShown start index key (By number action ∷ earlier))
+      by : (o : Option (World × Outcome)) → acts (world_after start earlier) number sent ≡ o → IsNamed index key (world_after start earlier) (WasShownInRun start index key earlier)
+          → IsNamed index key (option_map_or (λ r. r.0) o (world_after start earlier)) (WasShownInRun start index key (By number action ∷ earlier))
       by None h named = record {
         shown = λ only context s. elim s [
           | inl now ↦ absurd (not_shown now.response (sym (ap (λ o. option_map_or (λ (r : World × Outcome). r.1) o NotPossible) h) ∙ now.replied))
@@ -333,22 +333,22 @@ module _ (start : Start) (is : IsStart start) (index : ℕ) (key : Key) where
         | inl does ↦
             let w : World = world_after start earlier in
             let p = possible w number sent r does in
-            subst (λ q. IsNamed index key q.0 (WasShown start index key (By number action ∷ earlier))) p.gives
-            (named_next index key w (orderly start is earlier) number sent r p (WasShown start index key earlier) named
+            subst (λ q. IsNamed index key q.0 (WasShownInRun start index key (By number action ∷ earlier))) p.gives
+            (named_next index key w (orderly start is earlier) number sent r p (WasShownInRun start index key earlier) named
             (λ context g. gives.1 (λ none. is_some r (sym h ∙ none)) context (ap (λ o. option_map_or (λ (x : Worker). given_in (call_by sent x.phase) index key) o None) p.worker_is ∙ g))
-            (outcome w (By number action)) (ap (λ (q : World × Outcome). q.1) p.gives ∙ sym (came r h)) (WasShown start index key (By number action ∷ earlier))
+            (outcome w (By number action)) (ap (λ (q : World × Outcome). q.1) p.gives ∙ sym (came r h)) (WasShownInRun start index key (By number action ∷ earlier))
             (λ context s. elim s [
               | inl now ↦ inl (record { call = now.call; asked = now.asked; at = now.at; of_key = now.of_key; response = now.response; replied = now.replied; decodes = now.decodes })
               | inr was ↦ inr was
             ]))
         | inr two ↦ elim two [
-          | inl j ↦ named_quiet (world_after start earlier) r.0 (quiet-judged (world_after start earlier) number sent r j) (WasShown start index key earlier) (WasShown start index key (By number action ∷ earlier))
+          | inl j ↦ named_quiet (world_after start earlier) r.0 (quiet-judged (world_after start earlier) number sent r j) (WasShownInRun start index key earlier) (WasShownInRun start index key (By number action ∷ earlier))
               (λ context s. elim s [
                 | inl now ↦ absurd (silent_judged (world_after start earlier) number (orderly start is earlier) sent r j (Ok now.response) (sym (came r h) ∙ now.replied))
                 | inr was ↦ was
               ]) named
-          | inr c ↦ named_quiet (world_after start earlier) r.0 (quiet-closed (world_after start earlier) (orderly start is earlier) number sent r c) (WasShown start index key earlier)
-              (WasShown start index key (By number action ∷ earlier))
+          | inr c ↦ named_quiet (world_after start earlier) r.0 (quiet-closed (world_after start earlier) (orderly start is earlier) number sent r c) (WasShownInRun start index key earlier)
+              (WasShownInRun start index key (By number action ∷ earlier))
               (λ context s. elim s [
                 | inl now ↦ absurd (silent_closed (world_after start earlier) number (orderly start is earlier) sent r c (Ok now.response) (sym (came r h) ∙ now.replied))
                 | inr was ↦ was
@@ -358,18 +358,18 @@ module _ (start : Start) (is : IsStart start) (index : ℕ) (key : Key) where
   named_after (Diverts other ∷ earlier) gives = by (diverted (world_after start earlier) other) refl (named_after earlier gives.0)
     where
       -- what was shown was shown before
-      before : (context : Context) → WasShown start index key (Diverts other ∷ earlier) context → WasShown start index key earlier context
+      before : (context : Context) → WasShownInRun start index key (Diverts other ∷ earlier) context → WasShownInRun start index key earlier context
       before context s = elim s [
         | inl now ↦ absurd (no_reply (diverted (world_after start earlier) other) (Ok now.response) now.replied)
         | inr was ↦ was
       ]
 
-      by : (o : Option World) → diverted (world_after start earlier) other ≡ o → IsNamed index key (world_after start earlier) (WasShown start index key earlier)
-          → IsNamed index key (option_map_or (λ (r : World × Outcome). r.0) (option_map (λ (next : World). (next, Happened)) o) (world_after start earlier)) (WasShown start index key (Diverts other ∷ earlier))
+      by : (o : Option World) → diverted (world_after start earlier) other ≡ o → IsNamed index key (world_after start earlier) (WasShownInRun start index key earlier)
+          → IsNamed index key (option_map_or (λ (r : World × Outcome). r.0) (option_map (λ (next : World). (next, Happened)) o) (world_after start earlier)) (WasShownInRun start index key (Diverts other ∷ earlier))
       by None h named = record { shown = λ only context s. named.shown only context (before context s); calls = named.calls; events = named.events }
       by (Some next) h named =
           let w : World = world_after start earlier in
-          let later = named_diverted w next other (WasShown start index key earlier) (diversion w other next h) named in
+          let later = named_diverted w next other (WasShownInRun start index key earlier) (diversion w other next h) named in
           record { shown = λ only context s. later.shown only context (before context s); calls = later.calls; events = later.events }
 
 pub values_leave_only_seen : ValuesLeaveOnlySeen

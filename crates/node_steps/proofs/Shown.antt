@@ -9,13 +9,13 @@ use Rattle.riak_msgs.specs.declared.GetReply.{GetReply}
 use Rattle.riak_msgs.specs.declared.PutReply.{PutReply}
 use Rattle.sibling_register.specs.History.{Event, Write, Tombstone, Reap, is_update}
 use Rattle.sibling_register.specs.Siblings.{is_defined}
-use Rattle.sibling_register.specs.Answers.{Ask, AskGet, AskPut, AskDel, AskReap, PutCommand, DelCommand}
+use Rattle.sibling_register.specs.Answers.{RegisterAsk, AskGet, AskPut, AskDel, AskReap, PutCommand, DelCommand}
 use Rattle.actor_epoch.specs.Given.{Context, context_of}
 use Rattle.vnode_machine.specs.Machine.{State, is_held, holds_dead, matches_clock, put_check, del_check, apply_operation, stored}
 use Rattle.vnode_machine.specs.Replay.{History, replay, naming, HasReplay, IsWithinLimits}
 use Rattle.vnode_machine.specs.Replies.{contents_in, context_in, put_reply}
 use Rattle.vnode_machine.specs.Contexts.{WasShown, GivesShown, SawPosition}
-use Rattle.vnode_machine.specs.Step.{Response, DelDone, PutDone, ReapDone, ReapKept, StepOutcome, Refused, Answered, Accepted, unless_refused, outcome}
+use Rattle.vnode_machine.specs.Step.{Response, DelDone, PutDone, ReapDone, ReapKept, MachineOutcome, Refused, Answered, Accepted, unless_refused, outcome}
 use Rattle.vnode_machine.specs.Registers.{key_of}
 use Rattle.vnode_machine.proofs.Keys.{find_stored, key_eq-refl}
 use Rattle.vnode_machine.proofs.Steps.{known}
@@ -64,7 +64,7 @@ held_after state key given content =
     chosen false x o h = cc
 
 -- what a response shows: of an answer in the state itself, of an accepted command in the state after it
-abbrev pub ShowsHeld : State Content → Ask Content Context → StepOutcome → Type 0
+abbrev pub ShowsHeld : State Content → RegisterAsk Content Context → MachineOutcome → Type 0
 ShowsHeld state ask (Refused number) = Unit {0}
 ShowsHeld state ask (Answered response) = AreHeld state (key_of ask) (context_bytes response)
 ShowsHeld state ask (Accepted operation response next) = AreHeld next (key_of ask) (context_bytes response)
@@ -94,7 +94,7 @@ module _ (state : State Content) where
   reap_shows key true = inl refl
   reap_shows key false = inl refl
 
-  pub outcome_shows : (ask : Ask Content Context) → ShowsHeld state ask (outcome state ask)
+  pub outcome_shows : (ask : RegisterAsk Content Context) → ShowsHeld state ask (outcome state ask)
   outcome_shows (AskGet get) =
       held_by (is_held state get.key) (holds_dead state get.key) get.deletedvclock (matches_clock state get.key get.if_modified)
       (record { contents = contents_in state get.key get.head; context = context_in state get.key; unchanged = false }) (context_in state get.key) refl
@@ -103,12 +103,12 @@ module _ (state : State Content) where
   outcome_shows (AskReap key) = reap_shows key (holds_dead state key)
 
 -- what is accepted of a put or a delete is a write or a tombstone
-abbrev pub updates : StepOutcome → Bool
+abbrev pub updates : MachineOutcome → Bool
 updates (Refused number) = true
 updates (Answered response) = true
 updates (Accepted operation response next) = is_update operation
 
-pub accepts_update : (state : State Content) (ask : Ask Content Context) → is_reap ask ≡ false → updates (outcome state ask) ≡ true
+pub accepts_update : (state : State Content) (ask : RegisterAsk Content Context) → is_reap ask ≡ false → updates (outcome state ask) ≡ true
 accepts_update state (AskGet get) h = refl
 accepts_update state (AskPut put) h =
     let next : State Content = apply_operation state put.key put.context (Write put.value) in by (put_check state put) (PutDone (put_reply next put)) next

@@ -4,7 +4,7 @@ use Rattle.std.specs.Prelude.{◌==◌, Option, Some, None, Result as OkOrErr, O
 use Rattle.std.specs.Option.{option_map_or}
 use Rattle.riak_msgs.specs.declared.Key.{Key}
 use Rattle.riak_msgs.specs.Contents.{Content}
-use Rattle.sibling_register.specs.Answers.{Ask}
+use Rattle.sibling_register.specs.Answers.{RegisterAsk}
 use Rattle.actor_epoch.specs.Given.{Context}
 use Rattle.node_steps.specs.declared.outcome.Outcome.{Outcome as Returned}
 use Rattle.node_steps.specs.declared.outcome.Outcome.TheVariants as outcomes
@@ -13,13 +13,13 @@ use Rattle.node_steps.specs.declared.phase.Phase.TheVariants as phases
 use Rattle.node_steps.specs.declared.site.Site.{Site}
 use Rattle.node_steps.specs.declared.step.Act.{Act}
 use Rattle.node_steps.specs.declared.step.Act.TheVariants as acts
-use Rattle.node_steps.specs.World.{Phase, Idle, Asked, Reading, Holding, Done, Turned, Copying, Closing, nothing_brought, Vnode, Worker, World, route, seen_at, brought_by}
-use Rattle.node_steps.specs.Steps.{Action, Asks, AsksNowhere, CopiesFrom, ClosesFrom, is_reap, sent, sent_copy, sent_close, Enters, Step, By, Outcome, NotPossible, Turn, turn_of, routed, site_of, turned, does, closes, acts as acts_in, happens}
+use Rattle.node_steps.specs.World.{Phase, Idle, Asked, Reading, Holding, Done, Turned, Copying, Closing, nothing_brought, SiteVnode, Worker, World, route, seen_at, brought_by}
+use Rattle.node_steps.specs.Steps.{Action, Asks, AsksNowhere, CopiesFrom, ClosesFrom, is_reap, sent, sent_copy, sent_close, Enters, Step, By, Outcome, NotPossible, WorkerTurn, turn_of, routed, site_of, turned, does, closes, acts as acts_in, happens}
 use Rattle.node_steps.specs.Erased.{erase, erase_vnode, erase_worker}
 use Rattle.node_steps.specs.Returned.{returned}
 use Rattle.node_steps.specs.Running.{phase_of, vnode_of, worker_of, world_of, Turns}
 use Rattle.node_steps.specs.Asked.{action_of}
-use Rattle.node_steps.specs.Parts.{IsBusy, TakesStep}
+use Rattle.node_steps.specs.Parts.{IsBusy, TakesRunStep}
 use Rattle.node_steps.proofs.Mapped.{at_some, map-set, set-same, turn_erased}
 use Rattle.node_steps.proofs.Looking.{vnode_itself}
 
@@ -39,7 +39,7 @@ world_itself sites routes epochs workers =
 
 -- a step that isn't possible changes nothing
 pub not_possible : (sites : List Site) (routes epochs : List ℕ) (workers : List RunPhase) (step : Step) → happens (world_of sites routes epochs workers) step ≡ None
-    → TakesStep (world_of sites routes epochs workers) step outcomes.No (world_of sites routes epochs workers)
+    → TakesRunStep (world_of sites routes epochs workers) step outcomes.No (world_of sites routes epochs workers)
 not_possible sites routes epochs workers step h =
     let w = world_of sites routes epochs workers in
     record {
@@ -65,7 +65,7 @@ abbrev Result : Type 0
 Result = World × Outcome
 
 -- the world after a turn, and what comes of it
-abbrev pub result_at : World → (place index : ℕ) → Worker → Turn → Result
+abbrev pub result_at : World → (place index : ℕ) → Worker → WorkerTurn → Result
 result_at world place index worker turn = (turned world place index worker turn, turn.outcome)
 
 -- what comes of a worker's action at one site, its call sent there
@@ -108,11 +108,11 @@ module _ (sites : List Site) (routes epochs : List ℕ) (workers : List RunPhase
   abbrev later : World
   later = world_of (slice_set sites index new) routes epochs (slice_set workers place next)
 
-  abbrev result : Turn → Result
+  abbrev result : WorkerTurn → Result
   result turn = (turned w place index (worker_of phase) turn, turn.outcome)
 
   -- the world after, by its parts
-  later_is : (vnode : Vnode) (p : Phase) → vnode_of new ≡ vnode → phase_of next ≡ p
+  later_is : (vnode : SiteVnode) (p : Phase) → vnode_of new ≡ vnode → phase_of next ≡ p
       → later ≡ record {
         vnodes = slice_set (map erase_vnode w.vnodes) index vnode;
         routes = w.routes;
@@ -132,7 +132,7 @@ module _ (sites : List Site) (routes epochs : List ℕ) (workers : List RunPhase
       let phases = phase_back workers place phase next here d in
       (λ i. record { vnodes = vnodes i; routes = routes; epochs = epochs; diversions = []; workers = phases i }) ∙ world_itself sites routes epochs workers
 
-  by_turns : (t : Option Turn)
+  by_turns : (t : Option WorkerTurn)
       → MatchOption t ((vnode_of new ≡ vnode_of site) × (phase_of next ≡ phase_of phase) × (returns ≡ outcomes.No))
       (λ turn. (vnode_of new ≡ erase_vnode turn.vnode) × (phase_of next ≡ turn.phase) × (returns ≡ returned turn.outcome))
       → (returns ≡ returned (option_map_or (λ (r : Result). r.1) (option_map result t) NotPossible)) × (later ≡ erase (option_map_or (λ (r : Result). r.0) (option_map result t) w))
@@ -148,7 +148,7 @@ module _ (sites : List Site) (routes epochs : List ℕ) (workers : List RunPhase
       ∙ ap (λ o. option_and_then (λ v. option_map result (turn_of [] nothing_brought v action (phase_of phase))) o) (at_some vnode_of sites index site there)
 
   -- a turn that was taken at its places is the step of the world
-  pub step_taken : Turns action (vnode_of site) (phase_of phase) (vnode_of new) (phase_of next) returns → TakesStep w step returns later
+  pub step_taken : Turns action (vnode_of site) (phase_of phase) (vnode_of new) (phase_of next) returns → TakesRunStep w step returns later
   step_taken turns =
       let both = subst (λ o. (returns ≡ returned (option_map_or (λ (r : Result). r.1) o NotPossible)) × (later ≡ erase (option_map_or (λ (r : Result). r.0) o w))) (sym happens_is)
       (by_turns (turn_of [] nothing_brought (vnode_of site) action (phase_of phase)) turns) in
@@ -244,12 +244,12 @@ no_vnode world place index action worker h one e n =
 
 -- a worker that has a call gets no other
 abbrev pub NoTurn : World → Action → Worker → Type 0
-NoTurn world action worker = (index : ℕ) (vnode : Vnode) → turn_of (seen_at worker.seen index) (brought_by world worker) vnode action worker.phase ≡ None
+NoTurn world action worker = (index : ℕ) (vnode : SiteVnode) → turn_of (seen_at worker.seen index) (brought_by world worker) vnode action worker.phase ≡ None
 
 pub no_turn : (world : World) (place : ℕ) (action : Action) (worker : Worker) → NoTurn world action worker → Steps world action place worker ≡ None
 no_turn world place action worker none = by_index (site_of action worker.phase)
   where
-    by_vnode : (index : ℕ) (o : Option Vnode) → option_and_then (λ vnode. option_map (result_at world place index worker)
+    by_vnode : (index : ℕ) (o : Option SiteVnode) → option_and_then (λ vnode. option_map (result_at world place index worker)
         (turn_of (seen_at worker.seen index) (brought_by world worker) vnode action worker.phase)) o ≡ None
     by_vnode index None = refl
     by_vnode index (Some vnode) = ap (λ t. option_map (result_at world place index worker) t) (none index vnode)
@@ -267,7 +267,7 @@ IsAsking (CopiesFrom own site key) = Unit {0}
 IsAsking (ClosesFrom own site) = Unit {0}
 IsAsking action = ⊥
 
-pub asking_sent : (index : ℕ) (ask : Ask Content Context) (o : Option ℕ) → IsAsking (option_map_or (λ site. sent index site ask) o AsksNowhere)
+pub asking_sent : (index : ℕ) (ask : RegisterAsk Content Context) (o : Option ℕ) → IsAsking (option_map_or (λ site. sent index site ask) o AsksNowhere)
 asking_sent index ask None = tt
 asking_sent index ask (Some site) = by (not (site == index) && is_reap ask)
   where

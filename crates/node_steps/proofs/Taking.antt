@@ -11,13 +11,13 @@ use Rattle.node_steps.specs.declared.close_stage.CloseStage.{CloseStage as RunCl
 use Rattle.node_steps.specs.declared.site.Site.{Site}
 use Rattle.node_steps.specs.declared.step.Act.{Act}
 use Rattle.node_steps.specs.declared.step.Act.TheVariants as acts
-use Rattle.node_steps.specs.World.{CloseStage, CloseAsked, CloseTaken, CloseInside, CloseLooked, CloseDone, Phase, Idle, Asked, Reading, Holding, Done, Turned, Copying, Closing, nothing_brought, Vnode, World, route}
+use Rattle.node_steps.specs.World.{CloseStage, CloseAsked, CloseTaken, CloseInside, CloseLooked, CloseDone, Phase, Idle, Asked, Reading, Holding, Done, Turned, Copying, Closing, nothing_brought, SiteVnode, World, route}
 use Rattle.node_steps.specs.Steps.{Enters, Looks, Publishes as Publishes_, closes, acts as acts_in, site_of, turn_of}
 use Rattle.node_steps.specs.Erased.{IsShown}
 use Rattle.node_steps.specs.Asked.{action_of, step_by}
 use Rattle.node_steps.specs.Running.{phase_of, vnode_of, worker_of, world_of}
-use Rattle.node_steps.specs.Parts.{IsAt, IsFit, TakesStep, TakesFitStep, world_in}
-use Rattle.node_steps.specs.Closings.{Ground, MovesAt, LooksInside, Publishes, Stays, Moves, TurnsAt, ground_of}
+use Rattle.node_steps.specs.Parts.{IsAt, IsFit, TakesRunStep, TakesFitStep, world_in}
+use Rattle.node_steps.specs.Closings.{Ground, MovesAt, LooksInside, CloserPublishes, Stays, WorkerMoves, TurnsAt, ground_of}
 use Rattle.node_steps.proofs.Stepping.{sent_itself, same_site, step_taken, at_one, no_turn}
 use Rattle.node_steps.proofs.RunCloses.{judges, publishes, stays}
 use Rattle.node_steps.proofs.Mapped.{at_some}
@@ -30,16 +30,16 @@ module _ (old new : Parts) (place index : ℕ) (phase next : RunPhase) (site : S
   w = world_in old
 
   abbrev Taken_ : Act → Type 0
-  Taken_ act = TakesStep w (step_by (suc place) act) returns (world_in new)
+  Taken_ act = TakesRunStep w (step_by (suc place) act) returns (world_in new)
 
   -- the ground after it
   abbrev world_on : Ground → World
   world_on ground = world_of ground.sites ground.routes ground.epochs (slice_set old.workers.items place next)
 
-  over : (act : Act) (ground : Ground) → ground_of new ≡ ground → TakesStep w (step_by (suc place) act) returns (world_on ground) → Taken_ act
+  over : (act : Act) (ground : Ground) → ground_of new ≡ ground → TakesRunStep w (step_by (suc place) act) returns (world_on ground) → Taken_ act
   over act ground e t =
-      subst (λ ws. TakesStep w (step_by (suc place) act) returns (world_of new.sites.items new.routes.items new.epochs.items ws)) (sym workers)
-      (subst (λ g. TakesStep w (step_by (suc place) act) returns (world_on g)) (sym e) t)
+      subst (λ ws. TakesRunStep w (step_by (suc place) act) returns (world_of new.sites.items new.routes.items new.epochs.items ws)) (sym workers)
+      (subst (λ g. TakesRunStep w (step_by (suc place) act) returns (world_on g)) (sym e) t)
 
   at_site : (act : Act) → closes w (suc place) (worker_of phase) (action_of act) (phase_of phase) ≡ None
       → MovesAt act index (ground_of old) (phase_of phase) (ground_of new) (phase_of next) returns → Taken_ act
@@ -64,7 +64,7 @@ module _ (old new : Parts) (place index : ℕ) (phase next : RunPhase) (site : S
 
   -- and its publish
   closes_it : (own from : ℕ) (hand : State Content) (number : ℕ) → phase_of phase ≡ Closing own from (CloseLooked hand number)
-      → Publishes (ground_of old) own from hand number (ground_of new) (phase_of next) returns → Taken_ acts.Publish
+      → CloserPublishes (ground_of old) own from hand number (ground_of new) (phase_of next) returns → Taken_ acts.Publish
   closes_it own from hand number is m =
       let at : from ≡ index = some_same from index (sym (ap (site_of Enters) is) ∙ about) in
       over acts.Publish (record (ground_of old) { routes = slice_set old.routes.items own own; epochs = slice_set old.epochs.items own hand.last_epoch }) m.new_is
@@ -73,7 +73,7 @@ module _ (old new : Parts) (place index : ℕ) (phase next : RunPhase) (site : S
 
   -- a closer that is to do neither
   waits : (act : Act) (p : Phase) → phase_of phase ≡ p → closes w (suc place) (worker_of phase) (action_of act) p ≡ None
-      → ((v : Vnode) → turn_of [] nothing_brought v (action_of act) p ≡ None) → Stays (ground_of old) p (ground_of new) (phase_of next) returns → Taken_ act
+      → ((v : SiteVnode) → turn_of [] nothing_brought v (action_of act) p ≡ None) → Stays (ground_of old) p (ground_of new) (phase_of next) returns → Taken_ act
   waits act p is one none m =
       over act (ground_of old) m.new_is
       (stays old.sites.items old.routes.items old.epochs.items old.workers.items place phase next returns here act
@@ -99,7 +99,7 @@ module _ (old new : Parts) (place index : ℕ) (phase next : RunPhase) (site : S
       at_site act (ap (λ q. closes w (suc place) (worker_of phase) (action_of act) q) is ∙ one)
       (subst (λ q. MovesAt act index (ground_of old) q (ground_of new) (phase_of next) returns) (sym is) m)
 
-  by_phase : (p : Phase) (act : Act) → phase_of phase ≡ p → Moves p act index (ground_of old) (ground_of new) (phase_of next) returns → Taken_ act
+  by_phase : (p : Phase) (act : Act) → phase_of phase ≡ p → WorkerMoves p act index (ground_of old) (ground_of new) (phase_of next) returns → Taken_ act
   by_phase (Closing own from CloseAsked) acts.Look is m =
       waits acts.Look (Closing own from CloseAsked) is refl (λ v. refl) (record { new_is = m.0; next_is = m.1.0; outcome_is = m.1.1 })
   by_phase (Closing own from CloseAsked) acts.Publish is m = waits acts.Publish (Closing own from CloseAsked) is refl (λ v. refl) m
@@ -134,14 +134,14 @@ pub taken : (old new : Parts) (worker place index : ℕ) (act : Act) (returns : 
 taken old new worker place index act returns at t = λ fit.
     let same = some_same at.phase t.phase (sym at.here ∙ t.here) in
     let about = ap (λ p. site_of Enters (phase_of p)) (sym same) ∙ at.about in
-    subst (λ n. TakesStep (world_in old) (step_by n act) returns (world_in new)) (sym at.number)
+    subst (λ n. TakesRunStep (world_in old) (step_by n act) returns (world_in new)) (sym at.number)
     (by_phase old new place index t.phase t.next at.site returns t.here about at.there t.workers_are (fit.turns place index t.phase at.site t.here about at.there)
     (phase_of t.phase) act refl t.moves)
 
 -- a turn at one site is what the worker does, unless it is a closer that looks or publishes
 module _ (act : Act) (index : ℕ) (old new : Ground) (next : Phase) (returns : Returned) where
   pub moves_at : (phase : RunPhase) → ((own from : ℕ) (stage : RunCloseStage) → phase ≡ phases.Closing own from stage → ⊥)
-      → MovesAt act index old (phase_of phase) new next returns → Moves (phase_of phase) act index old new next returns
+      → MovesAt act index old (phase_of phase) new next returns → WorkerMoves (phase_of phase) act index old new next returns
   moves_at phases.Idle other m = m
   moves_at (phases.Asked at call) other m = m
   moves_at (phases.Reading at get) other m = m
@@ -152,7 +152,7 @@ module _ (act : Act) (index : ℕ) (old new : Ground) (next : Phase) (returns : 
   moves_at (phases.Closing own from stage) other m = absurd (other own from stage refl)
 
 pub closer_at : (act : Act) (own from index : ℕ) (stage : CloseStage) (old new : Ground) (next : Phase) (returns : Returned) → (act ≡ acts.Look → ⊥) → (act ≡ acts.Publish → ⊥)
-    → MovesAt act index old (Closing own from stage) new next returns → Moves (Closing own from stage) act index old new next returns
+    → MovesAt act index old (Closing own from stage) new next returns → WorkerMoves (Closing own from stage) act index old new next returns
 closer_at acts.Enter own from index stage old new next returns look publish m = m
 closer_at acts.Leave own from index stage old new next returns look publish m = m
 closer_at acts.Mark own from index stage old new next returns look publish m = m

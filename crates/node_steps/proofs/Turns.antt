@@ -3,14 +3,14 @@ use Rattle.std.proofs.Common.{◌≡◌, ◌≢◌, ◌⊎◌, inl, inr, ℕ, ze
 use Rattle.std.specs.Prelude.{◌==◌, Option, Some, None, is_some}
 use Rattle.std.proofs.lemmas.Bool.Decides.{nat_tests}
 use Rattle.riak_msgs.specs.Contents.{Content}
-use Rattle.sibling_register.specs.Answers.{Ask, AskGet, GetCommand}
+use Rattle.sibling_register.specs.Answers.{RegisterAsk, AskGet, GetCommand}
 use Rattle.actor_epoch.specs.Given.{Context}
 use Rattle.vnode_machine.specs.Machine.{State}
 use Rattle.vnode_machine.specs.Replay.{History, IsWithinLimits}
 use Rattle.copy_laws.specs.Copies.{commands_of}
 use Rattle.copy_laws.specs.Joining.{Log}
-use Rattle.node_steps.specs.World.{Word, Open, Taken, Phase, Idle, Asked, Reading, Holding, Done, Turned, Copying, Closing, Brought, Vnode, CommandsAlone, history_of}
-use Rattle.node_steps.specs.Steps.{Action, Asks, Enters, Leaves, Marks, Unmarks, Takes, Puts, Turn, left, moves, lays, turn_of}
+use Rattle.node_steps.specs.World.{Word, Open, Taken, Phase, Idle, Asked, Reading, Holding, Done, Turned, Copying, Closing, Brought, SiteVnode, CommandsAlone, history_of}
+use Rattle.node_steps.specs.Steps.{Action, Asks, Enters, Leaves, Marks, Unmarks, Takes, Puts, WorkerTurn, left, moves, lays, turn_of}
 use Rattle.node_steps.specs.Schedules.{Begins}
 use Rattle.node_steps.proofs.Coming.{BetweenIs, AboutIs, CallIs, Comes}
 use Rattle.node_steps.proofs.Lists.{same_or_other, one, no_more}
@@ -33,7 +33,7 @@ module _ (id epoch home index readers holders : ℕ) where
     pub about : AboutIs action index home phase next
 
   -- what a turn of a worker in this phase leaves, and what comes of it
-  pub record IsTurn (action : Action) (phase : Phase) (brought : Brought) (log : Log) (t : Turn) : Type 0 where
+  pub record IsTurn (action : Action) (phase : Phase) (brought : Brought) (log : Log) (t : WorkerTurn) : Type 0 where
     pub same_id : t.vnode.id ≡ id
     pub same_own : t.vnode.own ≡ home
     pub same_epoch : t.vnode.last_epoch ≡ epoch
@@ -91,10 +91,10 @@ module _ (id epoch home index readers holders : ℕ) where
     abbrev pub history : History
     history = commands_of log
 
-    abbrev pub vnode_in : Word → Vnode
+    abbrev pub vnode_in : Word → SiteVnode
     vnode_in word = record { id = id; own = home; last_epoch = epoch; word = word; log = log; place = place }
 
-    abbrev pub turns : Word → Action → Phase → Option Turn
+    abbrev pub turns : Word → Action → Phase → Option WorkerTurn
     turns word action phase = turn_of seen brought (vnode_in word) action phase
 
     -- the phase goes over, and the word fits
@@ -126,7 +126,7 @@ module _ (id epoch home index readers holders : ℕ) where
       comes = refl;
     }
 
-    pub asks_turn : (word : Word) → FitsWord word readers holders → IsInPlace id epoch word log place → (other : ℕ) (ask : Ask Content Context) → other ≡ index → (t : Turn)
+    pub asks_turn : (word : Word) → FitsWord word readers holders → IsInPlace id epoch word log place → (other : ℕ) (ask : RegisterAsk Content Context) → other ≡ index → (t : WorkerTurn)
         → turns word (Asks other ask) Idle ≡ Some t → IsTurn (Asks other ask) Idle brought log t
     asks_turn word f p other ask e t h =
         subst (λ u. IsTurn (Asks other ask) Idle brought log u) (cc)
@@ -134,7 +134,7 @@ module _ (id epoch home index readers holders : ℕ) where
         (one_goes (Asks other ask) Idle (Asked other ask) tt tt tt e) (not_between (Asks other ask) (state_of id epoch log).closed Idle (Asked other ask) tt)
         (inr (inr (record { site = other; ask = ask }, refl, refl))) word)
 
-    pub enter_turn : (word : Word) → FitsWord word readers holders → IsInPlace id epoch word log place → (other : ℕ) (get : GetCommand Context) → other ≡ index → (t : Turn)
+    pub enter_turn : (word : Word) → FitsWord word readers holders → IsInPlace id epoch word log place → (other : ℕ) (get : GetCommand Context) → other ≡ index → (t : WorkerTurn)
         → turns word Enters (Asked other (AskGet get)) ≡ Some t → IsTurn Enters (Asked other (AskGet get)) brought log t
     enter_turn (Open n false) f p other get e t h =
         subst (λ u. IsTurn Enters (Asked other (AskGet get)) brought log u) (cc)
@@ -153,7 +153,7 @@ module _ (id epoch home index readers holders : ℕ) where
     left_place (Open n mark) p = p
     left_place Taken p = p
 
-    pub leave_turn : (word : Word) → FitsWord word readers holders → IsInPlace id epoch word log place → (phase : Phase) → IsOfOne phase → IsAbout index phase → (t : Turn)
+    pub leave_turn : (word : Word) → FitsWord word readers holders → IsInPlace id epoch word log place → (phase : Phase) → IsOfOne phase → IsAbout index phase → (t : WorkerTurn)
         → turns word Leaves phase ≡ Some t → IsTurn Leaves phase brought log t
     leave_turn word f p Idle one at t h = cc
     leave_turn word f p (Asked other ask) one at t h = cc
@@ -172,7 +172,7 @@ module _ (id epoch home index readers holders : ℕ) where
     leave_turn word f p (Copying own other key stage) one at t h = absurd one
     leave_turn word f p (Closing own other stage) one at t h = absurd one
 
-    pub mark_turn : (word : Word) → FitsWord word readers holders → IsInPlace id epoch word log place → (other : ℕ) (ask : Ask Content Context) → other ≡ index → (t : Turn)
+    pub mark_turn : (word : Word) → FitsWord word readers holders → IsInPlace id epoch word log place → (other : ℕ) (ask : RegisterAsk Content Context) → other ≡ index → (t : WorkerTurn)
         → turns word Marks (Asked other ask) ≡ Some t → IsTurn Marks (Asked other ask) brought log t
     mark_turn (Open n false) f p other ask e t h =
         subst (λ u. IsTurn Marks (Asked other ask) brought log u) (cc)
@@ -181,7 +181,7 @@ module _ (id epoch home index readers holders : ℕ) where
     mark_turn (Open n true) f p other ask e t h = cc
     mark_turn Taken f p other ask e t h = cc
 
-    pub unmark_turn : (word : Word) → FitsWord word readers holders → IsInPlace id epoch word log place → (other : ℕ) (ask : Ask Content Context) → other ≡ index → (t : Turn)
+    pub unmark_turn : (word : Word) → FitsWord word readers holders → IsInPlace id epoch word log place → (other : ℕ) (ask : RegisterAsk Content Context) → other ≡ index → (t : WorkerTurn)
         → turns word Unmarks (Asked other ask) ≡ Some t → IsTurn Unmarks (Asked other ask) brought log t
     unmark_turn (Open n false) f p other ask e t h = cc
     unmark_turn (Open n true) f p other ask e t h =
@@ -190,7 +190,7 @@ module _ (id epoch home index readers holders : ℕ) where
         (one_goes Unmarks (Asked other ask) (Asked other ask) tt tt e e) (not_between Unmarks (state_of id epoch log).closed (Asked other ask) (Asked other ask) tt) (inl refl) (Open n true))
     unmark_turn Taken f p other ask e t h = cc
 
-    pub take_turn : (word : Word) → FitsWord word readers holders → IsInPlace id epoch word log place → (other : ℕ) (ask : Ask Content Context) → other ≡ index → (t : Turn)
+    pub take_turn : (word : Word) → FitsWord word readers holders → IsInPlace id epoch word log place → (other : ℕ) (ask : RegisterAsk Content Context) → other ≡ index → (t : WorkerTurn)
         → turns word Takes (Asked other ask) ≡ Some t → IsTurn Takes (Asked other ask) brought log t
     take_turn (Open zero mark) f p other ask e t h =
         subst (λ u. IsTurn Takes (Asked other ask) brought log u) (cc)
@@ -228,7 +228,7 @@ module _ (id epoch home index readers holders : ℕ) where
       comes = refl;
     }
 
-    pub put_turn : (word : Word) → FitsWord word readers holders → (phase : Phase) → IsOfOne phase → IsAbout index phase → IsInHand id epoch index log phase → (t : Turn)
+    pub put_turn : (word : Word) → FitsWord word readers holders → (phase : Phase) → IsOfOne phase → IsAbout index phase → IsInHand id epoch index log phase → (t : WorkerTurn)
         → turns word Puts phase ≡ Some t → IsTurn Puts phase brought log t
     put_turn word f Idle one at mine t h = cc
     put_turn word f (Asked other ask) one at mine t h = cc

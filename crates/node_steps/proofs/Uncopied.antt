@@ -5,7 +5,7 @@ use Rattle.std.specs.Option.{option_map_or}
 use Rattle.riak_msgs.specs.Contents.{Content}
 use Rattle.vnode_machine.specs.Machine.{State}
 use Rattle.copy_laws.specs.Copies.{Closed}
-use Rattle.node_steps.specs.World.{Phase, Vnode, Worker, World, CommandsAlone, Call, fresh_vnode, route, id_at, last_epoch_at, own_at, log_at, call_of, call_at}
+use Rattle.node_steps.specs.World.{Phase, SiteVnode, Worker, World, CommandsAlone, Call, fresh_vnode, route, id_at, last_epoch_at, own_at, log_at, call_of, call_at}
 use Rattle.node_steps.specs.Steps.{Action, Step, By, Diverts, Outcome, Happened, routed, fallback_ids, is_about, acts, diverted, diverted_by}
 use Rattle.node_steps.specs.Schedules.{Start, IsStart, world_after}
 use Rattle.node_steps.specs.Claims.{state_at, HadClose}
@@ -50,14 +50,14 @@ module _ (w : World) (orderly : IsOrderly w) (number : ℕ) (action : Action) (r
     ]
 
     -- a vnode elsewhere, or the closed one, by its partition
-    vnode_was : (site : ℕ) (v : Vnode) → slice_get next.vnodes site ≡ Some v → (old : Vnode) × (slice_get w.vnodes site ≡ Some old) × (v.own ≡ old.own)
+    vnode_was : (site : ℕ) (v : SiteVnode) → slice_get next.vnodes site ≡ Some v → (old : SiteVnode) × (slice_get w.vnodes site ≡ Some old) × (v.own ≡ old.own)
         × (IsOpenAt v.id v.last_epoch v.log → IsOpenAt old.id old.last_epoch old.log)
     vnode_was site v h = elim (close_after w orderly number action r c site v h) [
       | inl e ↦ (
         c.fallback,
         ap (λ k. slice_get w.vnodes k) (sym e.0) ∙ c.fallback_is,
-        ap (λ (u : Vnode). u.own) (sym e.1),
-        λ clear. absurd (not_closed (subst (λ (u : Vnode). IsOpenAt u.id u.last_epoch u.log) (sym e.1) clear)),
+        ap (λ (u : SiteVnode). u.own) (sym e.1),
+        λ clear. absurd (not_closed (subst (λ (u : SiteVnode). IsOpenAt u.id u.last_epoch u.log) (sym e.1) clear)),
       )
       | inr e ↦ (v, e.1, refl, λ clear. clear)
     ]
@@ -80,7 +80,7 @@ module _ (w : World) (orderly : IsOrderly w) (number : ℕ) (action : Action) (r
     had-now : (site : ℕ) → c.own ≡ own_at w site → IsQuiet w next → HadClose next site
     had-now site e calm = (
       c.site,
-      calm.owns c.site ∙ ap (λ o. option_map_or (λ (v : Vnode). v.own) o 0) c.fallback_is ∙ close_own w orderly number action r c ∙ e ∙ sym (calm.owns site),
+      calm.owns c.site ∙ ap (λ o. option_map_or (λ (v : SiteVnode). v.own) o 0) c.fallback_is ∙ close_own w orderly number action r c ∙ e ∙ sym (calm.owns site),
       λ none. is_closed (sym ((λ i. (state_of (calm.ids c.site i) (calm.epochs c.site i) (close_log w orderly number action r c i)).closed)) ∙ none),
     )
       where
@@ -97,7 +97,7 @@ module _ (w : World) (orderly : IsOrderly w) (number : ℕ) (action : Action) (r
         by None h = absurd (routed h)
         by (Some to) h =
             let v = found_below w.vnodes site (below site (length w.routes) (length w.vnodes) (get-below w.routes site to h) orderly.sites) in
-            ap (λ o. option_map_or (λ (u : Vnode). u.own) o 0) v.1 ∙ (orderly.homes site v.0 (get-below w.routes site to h) v.1).0
+            ap (λ o. option_map_or (λ (u : SiteVnode). u.own) o 0) v.1 ∙ (orderly.homes site v.0 (get-below w.routes site to h) v.1).0
 
     logs-closed : IsQuiet w next → (site : ℕ) → Logs next site
     logs-closed calm site = elim (calm.logs site) [
@@ -151,20 +151,20 @@ module _ (w : World) (orderly : IsOrderly w) (other : ℕ) (after : World) (d : 
   abbrev new_site : ℕ
   new_site = length w.vnodes
 
-  abbrev fresh : Vnode
+  abbrev fresh : SiteVnode
   fresh = fresh_vnode (d.primary.place.vnode + fallback_ids) other d.epoch
 
   abbrev later : World
   later = diverted_by w other d.epoch d.primary
 
   -- a site that the worker is about isn't of the partition
-  not_mine : (place : ℕ) (worker : Worker) → slice_get w.workers place ≡ Some worker → (site : ℕ) → is_about site worker.phase ≡ true → (v : Vnode) → slice_get w.vnodes site ≡ Some v → v.own ≡ other → ⊥
+  not_mine : (place : ℕ) (worker : Worker) → slice_get w.workers place ≡ Some worker → (site : ℕ) → is_about site worker.phase ≡ true → (v : SiteVnode) → slice_get w.vnodes site ≡ Some v → v.own ≡ other → ⊥
   not_mine place worker h site about v there own = false_true (is_about site worker.phase) (alone_about w other d.alone place worker h site v there own) about
 
   called_about : (phase : Phase) (call : Call) → call_of phase ≡ Some call → is_about call.site phase ≡ true
   called_about phase call asked = about_there call.site phase (call_site phase call asked)
 
-  old_vnode : (place : ℕ) (worker : Worker) → slice_get w.workers place ≡ Some worker → (site : ℕ) → is_about site worker.phase ≡ true → (v : Vnode) → slice_get later.vnodes site ≡ Some v
+  old_vnode : (place : ℕ) (worker : Worker) → slice_get w.workers place ≡ Some worker → (site : ℕ) → is_about site worker.phase ≡ true → (v : SiteVnode) → slice_get later.vnodes site ≡ Some v
       → slice_get w.vnodes site ≡ Some v
   old_vnode place worker h site about v there = elim (get-more w.vnodes fresh site v there) [
     | inl e ↦ e
@@ -174,17 +174,17 @@ module _ (w : World) (orderly : IsOrderly w) (other : ℕ) (after : World) (d : 
   logs-diverted : (site : ℕ) → Logs later site
   logs-diverted site = by (slice_get w.vnodes site) refl
     where
-      had-more : HadClose w site → (v : Vnode) → slice_get w.vnodes site ≡ Some v → HadClose later site
+      had-more : HadClose w site → (v : SiteVnode) → slice_get w.vnodes site ≡ Some v → HadClose later site
       had-more (at, own, closed) v there =
           let u = closed_vnode w at closed in
           let more = get-first w.vnodes fresh at u.0 u.1 in (
             at,
-            ap (λ o. option_map_or (λ (x : Vnode). x.own) o 0) (more ∙ sym u.1) ∙ own ∙ ap (λ o. option_map_or (λ (x : Vnode). x.own) o 0) (there ∙ sym (get-first w.vnodes fresh site v there)),
+            ap (λ o. option_map_or (λ (x : SiteVnode). x.own) o 0) (more ∙ sym u.1) ∙ own ∙ ap (λ o. option_map_or (λ (x : SiteVnode). x.own) o 0) (there ∙ sym (get-first w.vnodes fresh site v there)),
             λ none. closed (ap closed_in (u.1 ∙ sym more) ∙ none),
           )
 
-      by : (o : Option Vnode) → slice_get w.vnodes site ≡ o → Logs later site
-      by None h = inl (subst CommandsAlone (sym (log-more w.vnodes fresh refl site ∙ ap (λ o. option_map_or (λ (x : Vnode). x.log) o []) h)) refl)
+      by : (o : Option SiteVnode) → slice_get w.vnodes site ≡ o → Logs later site
+      by None h = inl (subst CommandsAlone (sym (log-more w.vnodes fresh refl site ∙ ap (λ o. option_map_or (λ (x : SiteVnode). x.log) o []) h)) refl)
       by (Some v) h = elim (is.logs site) [
         | inl only ↦ inl (subst CommandsAlone (sym (log-more w.vnodes fresh refl site)) only)
         | inr rest ↦ elim rest [
@@ -214,12 +214,12 @@ module _ (w : World) (orderly : IsOrderly w) (other : ℕ) (after : World) (d : 
             (subst (λ k. new_site ≤ k) (some_back new_site to (sym (set-here w.routes other other new_site d.own) ∙ ap (λ k. slice_get later.routes k) same ∙ route)) (omega arith)))
         | inr m ↦ is.clear index to (sym (set-there w.routes other index new_site m) ∙ route) n v e
       ]
-      | inr e ↦ subst (λ (u : Vnode). IsOpenAt u.id u.last_epoch u.log) e.1 refl
+      | inr e ↦ subst (λ (u : SiteVnode). IsOpenAt u.id u.last_epoch u.log) e.1 refl
     ];
     turned_there = λ place worker h own site turned between v there clear.
         let f = orderly.between place worker h own site between in
         is.turned_there place worker h own site turned between f.vnode f.there
-        (subst (λ (u : Vnode). IsOpenAt u.id u.last_epoch u.log) (some_back v f.vnode (sym there ∙ get-first w.vnodes fresh site f.vnode f.there)) clear);
+        (subst (λ (u : SiteVnode). IsOpenAt u.id u.last_epoch u.log) (some_back v f.vnode (sym there ∙ get-first w.vnodes fresh site f.vnode f.there)) clear);
     logs = logs-diverted;
   })
 

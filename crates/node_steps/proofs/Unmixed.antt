@@ -7,7 +7,7 @@ use Rattle.riak_msgs.specs.Contents.{Content}
 use Rattle.sibling_register.specs.History.{Event, Operation, Write, Tombstone, Reap, count_of, numbers_to}
 use Rattle.sibling_register.specs.Siblings.{is_defined}
 use Rattle.sibling_register.specs.Naming.{named}
-use Rattle.sibling_register.specs.Answers.{Ask}
+use Rattle.sibling_register.specs.Answers.{RegisterAsk}
 use Rattle.actor_epoch.specs.Dots.{covers}
 use Rattle.actor_epoch.specs.Given.{Context, Pairs}
 use Rattle.dvv_set.specs.Clocks.{join}
@@ -81,7 +81,7 @@ module _ (id epoch : ℕ) where
       by (Some position) numbers = ap (λ h. numbers_to (count_of h key)) (commands-all position)
 
   -- so an event at its end is the history's next one
-  pub same-event : (log : Log) → CommandsAlone log → HasReplay id epoch (commands_of log) → (ask : Ask Content Context) (operation : Operation Content)
+  pub same-event : (log : Log) → CommandsAlone log → HasReplay id epoch (commands_of log) → (ask : RegisterAsk Content Context) (operation : Operation Content)
       → event_at id epoch log ask operation ≡ next_event id epoch (commands_of log) ask operation
   same-event log only replays ask operation =
       let saw = ap (λ (l : Log). saw_held id epoch l (key_of ask) (context_in_ask ask) operation) only

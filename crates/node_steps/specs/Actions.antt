@@ -2,14 +2,14 @@
 use Rattle.std.specs.Prelude.{ℕ, Result}
 use Rattle.riak_msgs.specs.declared.Key.{Key}
 use Rattle.riak_msgs.specs.Contents.{Content}
-use Rattle.sibling_register.specs.Answers.{Ask}
+use Rattle.sibling_register.specs.Answers.{RegisterAsk}
 use Rattle.actor_epoch.specs.Given.{Context}
 use Rattle.vnode_machine.specs.Step.{Response}
 
 -- what a worker does
 pub data Action : Type 0 where
   -- it gets a call for the partition at this index; an ask that no vnode answers, as of a ping, is never possible
-  Asks : (index : ℕ) (ask : Ask Content Context) → Action
+  Asks : (index : ℕ) (ask : RegisterAsk Content Context) → Action
   AsksNowhere : Action
   -- it is to copy a key of the partition at this index back; and so as it is sent, with the sites that it copies to and from
   Copies : (index : ℕ) (key : Key) → Action

@@ -4,7 +4,7 @@ use Rattle.riak_msgs.specs.declared.Key.{Key}
 use Rattle.riak_msgs.specs.Contents.{Content}
 use Rattle.riak_msgs.specs.declared.Request.{Request}
 use Rattle.riak_msgs.specs.declared.Request.TheVariants as requests
-use Rattle.sibling_register.specs.Answers.{Ask, AskGet, AskPut, AskDel, AskReap}
+use Rattle.sibling_register.specs.Answers.{RegisterAsk, AskGet, AskPut, AskDel, AskReap}
 use Rattle.actor_epoch.specs.Given.{Context}
 use Rattle.vnode_machine.specs.Asks.{get_command, put_command, del_command}
 use Rattle.node_steps.specs.declared.call.Call.{Call}
@@ -16,7 +16,7 @@ use Rattle.node_steps.specs.Steps.{Action, Asks, AsksNowhere, Copies, Closes, En
 use Rattle.node_steps.specs.Running.{ask_of}
 
 -- the ask that a request makes of a vnode; a ping makes none
-abbrev pub request_ask : Request → Option (Ask Content Context)
+abbrev pub request_ask : Request → Option (RegisterAsk Content Context)
 request_ask requests.Ping = None
 request_ask (requests.Get get) = Some (AskGet (get_command get))
 request_ask (requests.Put put) = Some (AskPut (put_command put))
@@ -27,7 +27,7 @@ abbrev pub CallsFor : Request → Option Call → Type 0
 CallsFor request call = option_map ask_of call ≡ request_ask request
 
 -- to ask what a request does
-abbrev pub asks_by : ℕ → Option (Ask Content Context) → Action
+abbrev pub asks_by : ℕ → Option (RegisterAsk Content Context) → Action
 asks_by index None = AsksNowhere
 asks_by index (Some ask) = Asks index ask
 
@@ -50,7 +50,7 @@ copying_step worker index key = By worker (Copies index key)
 abbrev pub closing_step : ℕ → ℕ → Step
 closing_step worker index = By worker (Closes index)
 
-abbrev pub asking_step : ℕ → ℕ → Ask Content Context → Step
+abbrev pub asking_step : ℕ → ℕ → RegisterAsk Content Context → Step
 asking_step worker index ask = By worker (Asks index ask)
 
 -- the step of the theorem's world

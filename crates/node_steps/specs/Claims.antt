@@ -12,7 +12,7 @@ use Rattle.actor_epoch.specs.Given.{Context}
 use Rattle.vnode_machine.specs.Machine.{State, opening, clock_of}
 use Rattle.vnode_machine.specs.Lives.{dot_of, is_alive}
 use Rattle.vnode_machine.specs.Replay.{History, naming, HasReplay, IsAfter}
-use Rattle.vnode_machine.specs.Step.{Response, StepOutcome, Refused, Answered, Accepted, outcome as outcome_of_ask}
+use Rattle.vnode_machine.specs.Step.{Response, MachineOutcome, Refused, Answered, Accepted, outcome as outcome_of_ask}
 use Rattle.vnode_machine.specs.Contexts.{SawPosition}
 use Rattle.vnode_machine.specs.Runs.{IsAnswer}
 use Rattle.vnode_machine.specs.Laws.{NoDotTwice, DotsAreOfLives}
@@ -20,10 +20,10 @@ use Rattle.vnode_machine.specs.Leaving.{is_taken_in}
 use Rattle.copy_laws.specs.Copies.{Command, Copied, Closed, Copy, commands_of}
 use Rattle.copy_laws.specs.CopyReplay.{state_with}
 use Rattle.copy_laws.specs.Joining.{Log}
-use Rattle.node_steps.specs.World.{CopyInside, CopyTaken, CloseInside, Phase, Reading, Holding, Copying, Closing, Vnode, Worker, World, CommandsAlone, Call, worker_at, route, id_at, own_at, last_epoch_at, log_at, history_at, front_at, call_at}
+use Rattle.node_steps.specs.World.{CopyInside, CopyTaken, CloseInside, Phase, Reading, Holding, Copying, Closing, SiteVnode, Worker, World, CommandsAlone, Call, worker_at, route, id_at, own_at, last_epoch_at, log_at, history_at, front_at, call_at}
 use Rattle.node_steps.specs.Steps.{accepted_in, Looks, Step, By, number_of, Outcome, Happened, Replied, CopiedBack, Elsewhere, left_in, happens, after, outcome}
 use Rattle.node_steps.specs.Schedules.{Start, IsStart, world_after, Begins}
-use Rattle.node_steps.specs.Contexts.{GivesShown}
+use Rattle.node_steps.specs.Contexts.{GivesShownInRun}
 
 -- what holds of the world after every schedule
 abbrev pub AfterEvery : (World → Type 0) → Type 0
@@ -50,7 +50,7 @@ HistoriesAreLegal w =
     (site : ℕ) → CommandsFirst (log_at w site) → HasReplay (id_at w site) (last_epoch_at w site) (history_at w site) × IsLegal (naming (id_at w site) (last_epoch_at w site)) (history_at w site)
 
 -- the state that a worker in this phase is shown where it looks: the one in place, or the one in its hand
-abbrev pub state_shown : Phase → Vnode → Option (ℕ × State Content)
+abbrev pub state_shown : Phase → SiteVnode → Option (ℕ × State Content)
 state_shown (Reading site get) vnode = Some (site, vnode.place)
 state_shown (Holding site ask hand None) vnode = Some (site, hand)
 state_shown (Copying own site key CopyInside) vnode = Some (site, vnode.place)
@@ -71,7 +71,7 @@ IsReplayOf id last_epoch log state =
 -- the state that a look would show to any worker is the one after the vnode's whole log
 abbrev pub LooksShowReplays : World → Type 0
 LooksShowReplays w =
-    (number site : ℕ) (worker : Worker) (vnode : Vnode) (state : State Content)
+    (number site : ℕ) (worker : Worker) (vnode : SiteVnode) (state : State Content)
     → worker_at w number ≡ Some worker → slice_get w.vnodes site ≡ Some vnode
     → (state_shown worker.phase vnode ≡ Some (site, state)) ⊎ (hand_shown worker.phase ≡ Some (site, state))
     → IsReplayOf vnode.id vnode.last_epoch vnode.log state
@@ -88,13 +88,13 @@ CallsMeetNoCopies w =
     × ((site : ℕ) → CommandsFirst (log_at w site) ⊎ HadClose w site)
 
 -- what comes of a look, by what the machine does with the call in the state that is shown
-abbrev pub comes_of : StepOutcome → Outcome
+abbrev pub comes_of : MachineOutcome → Outcome
 comes_of (Refused number) = Replied (Err number)
 comes_of (Answered response) = Replied (Ok response)
 comes_of (Accepted operation response next) = Happened
 
 -- where that is closed, the call is turned away
-abbrev pub comes_unless : (closed : Bool) → StepOutcome → Outcome
+abbrev pub comes_unless : (closed : Bool) → MachineOutcome → Outcome
 comes_unless true came = Elsewhere
 comes_unless false came = comes_of came
 
@@ -114,7 +114,7 @@ LooksSeeReplays w step =
 
 -- a reply answers the worker's call, where nothing is closed; where nothing was copied, as the register may at the end of the history
 -- there, which then is the one after
-pub record IsRegisters (w : World) (step : Step) (reply : Result Response ℕ) : Type 0 where
+pub record IsRegistersReply (w : World) (step : Step) (reply : Result Response ℕ) : Type 0 where
   pub call : Call
   pub asked : call_at w (number_of step) ≡ Some call
   pub opened : (state_at w call.site).closed ≡ None
@@ -123,7 +123,7 @@ pub record IsRegisters (w : World) (step : Step) (reply : Result Response ℕ) :
 
 -- every reply, refusals too, is the register's, at the position of the look, or, of an accepted command, of the publish
 abbrev pub RepliesAreRegisters : World → Step → Type 0
-RepliesAreRegisters w step = (reply : Result Response ℕ) → outcome w step ≡ Replied reply → IsRegisters w step reply
+RepliesAreRegisters w step = (reply : Result Response ℕ) → outcome w step ≡ Replied reply → IsRegistersReply w step reply
 
 -- the step answers a call at this site
 pub record RepliesAt (w : World) (step : Step) (site : ℕ) : Type 0 where
@@ -204,15 +204,15 @@ ContextsNamePositions id last_epoch history key =
     → event.key ≡ key → event.context ≡ Some context → SawPosition id last_epoch before event context
 
 -- a value leaves the key's siblings only where a write or delete between had seen it
-abbrev pub LeavesOnlySeen : History → Key → Type 0
-LeavesOnlySeen history key =
+abbrev pub HistoryLeavesOnlySeen : History → Key → Type 0
+HistoryLeavesOnlySeen history key =
     (between position : History) (number : ℕ) → IsSiblingNoMore history between position key number → IsTrue (is_seen_in between key number)
 
 -- where each context that was given for a key had been shown for it, each names a position, so that what had seen a value
 -- that left had named a position where it was
 abbrev pub ValuesLeaveOnlySeen : Type 0
 ValuesLeaveOnlySeen =
-    (start : Start) → IsStart start → (schedule : List Step) (site : ℕ) (key : Key) → GivesShown start site key schedule
+    (start : Start) → IsStart start → (schedule : List Step) (site : ℕ) (key : Key) → GivesShownInRun start site key schedule
     → let w = world_after start schedule in
     CommandsFirst (log_at w site)
-    → ContextsNamePositions (id_at w site) (last_epoch_at w site) (history_at w site) key × LeavesOnlySeen (history_at w site) key
+    → ContextsNamePositions (id_at w site) (last_epoch_at w site) (history_at w site) key × HistoryLeavesOnlySeen (history_at w site) key

@@ -75,15 +75,15 @@ LooksInside ground own site hand next outcome =
     (λ came. (next ≡ came.0) × (outcome ≡ returned came.1))
 
 -- a closer that isn't to look stays as it is
-abbrev pub LooksTo : Ground → (own site : ℕ) → CloseStage → Phase → Returned → Type 0
-LooksTo ground own site CloseAsked next outcome = (next ≡ Closing own site CloseAsked) × (outcome ≡ outcomes.No)
-LooksTo ground own site (CloseTaken hand) next outcome = (next ≡ Closing own site (CloseTaken hand)) × (outcome ≡ outcomes.No)
-LooksTo ground own site (CloseInside hand) next outcome = LooksInside ground own site hand next outcome
-LooksTo ground own site (CloseLooked hand number) next outcome = (next ≡ Closing own site (CloseLooked hand number)) × (outcome ≡ outcomes.No)
-LooksTo ground own site (CloseDone hand inside) next outcome = (next ≡ Closing own site (CloseDone hand inside)) × (outcome ≡ outcomes.No)
+abbrev pub CloserLooksTo : Ground → (own site : ℕ) → CloseStage → Phase → Returned → Type 0
+CloserLooksTo ground own site CloseAsked next outcome = (next ≡ Closing own site CloseAsked) × (outcome ≡ outcomes.No)
+CloserLooksTo ground own site (CloseTaken hand) next outcome = (next ≡ Closing own site (CloseTaken hand)) × (outcome ≡ outcomes.No)
+CloserLooksTo ground own site (CloseInside hand) next outcome = LooksInside ground own site hand next outcome
+CloserLooksTo ground own site (CloseLooked hand number) next outcome = (next ≡ Closing own site (CloseLooked hand number)) × (outcome ≡ outcomes.No)
+CloserLooksTo ground own site (CloseDone hand inside) next outcome = (next ≡ Closing own site (CloseDone hand inside)) × (outcome ≡ outcomes.No)
 
 -- a close is published: the partition's calls go to its own site again, and its next fallback is opened behind this one's epochs
-pub record Publishes (old : Ground) (own site : ℕ) (hand : State Content) (number : ℕ) (new : Ground) (next : Phase) (outcome : Returned) : Type 0 where
+pub record CloserPublishes (old : Ground) (own site : ℕ) (hand : State Content) (number : ℕ) (new : Ground) (next : Phase) (outcome : Returned) : Type 0 where
   pub new_is : new ≡ record old { routes = slice_set old.routes own own; epochs = slice_set old.epochs own hand.last_epoch }
   pub next_is : next ≡ Closing own site (CloseDone (apply_close hand number) true)
   pub outcome_is : outcome ≡ outcomes.Done
@@ -99,14 +99,14 @@ abbrev pub ClosesTo : Ground → (own site : ℕ) → CloseStage → Ground → 
 ClosesTo old own site CloseAsked new next outcome = Stays old (Closing own site CloseAsked) new next outcome
 ClosesTo old own site (CloseTaken hand) new next outcome = Stays old (Closing own site (CloseTaken hand)) new next outcome
 ClosesTo old own site (CloseInside hand) new next outcome = Stays old (Closing own site (CloseInside hand)) new next outcome
-ClosesTo old own site (CloseLooked hand number) new next outcome = Publishes old own site hand number new next outcome
+ClosesTo old own site (CloseLooked hand number) new next outcome = CloserPublishes old own site hand number new next outcome
 ClosesTo old own site (CloseDone hand inside) new next outcome = Stays old (Closing own site (CloseDone hand inside)) new next outcome
 
 -- what a worker in a phase does, whose step at one site is about that of this index
-abbrev pub Moves : Phase → Act → (index : ℕ) → Ground → Ground → Phase → Returned → Type 0
-Moves (Closing own site stage) acts.Look index old new next outcome = (new ≡ old) × LooksTo old own site stage next outcome
-Moves (Closing own site stage) acts.Publish index old new next outcome = ClosesTo old own site stage new next outcome
-Moves phase act index old new next outcome = MovesAt act index old phase new next outcome
+abbrev pub WorkerMoves : Phase → Act → (index : ℕ) → Ground → Ground → Phase → Returned → Type 0
+WorkerMoves (Closing own site stage) acts.Look index old new next outcome = (new ≡ old) × CloserLooksTo old own site stage next outcome
+WorkerMoves (Closing own site stage) acts.Publish index old new next outcome = ClosesTo old own site stage new next outcome
+WorkerMoves phase act index old new next outcome = MovesAt act index old phase new next outcome
 
 -- the worker at a place does it
 pub record TurnsAt (act : Act) (place index : ℕ) (old new : Parts) (outcome : Returned) : Type 0 where
@@ -114,4 +114,4 @@ pub record TurnsAt (act : Act) (place index : ℕ) (old new : Parts) (outcome : 
   pub next : RunPhase
   pub here : slice_get old.workers.items place ≡ Some phase
   pub workers_are : new.workers.items ≡ slice_set old.workers.items place next
-  pub moves : Moves (phase_of phase) act index (ground_of old) (ground_of new) (phase_of next) outcome
+  pub moves : WorkerMoves (phase_of phase) act index (ground_of old) (ground_of new) (phase_of next) outcome

@@ -47,14 +47,14 @@ pub record Shows (w : World) (step : Step) (site : ℕ) (key : Key) (context : C
 
 module _ (start : Start) (site : ℕ) (key : Key) where
   -- some step of the schedule showed the context for the key
-  abbrev pub WasShown : List Step → Context → Type 0
-  WasShown [] context = ⊥
-  WasShown (step ∷ earlier) context = Shows (world_after start earlier) step site key context ⊎ WasShown earlier context
+  abbrev pub WasShownInRun : List Step → Context → Type 0
+  WasShownInRun [] context = ⊥
+  WasShownInRun (step ∷ earlier) context = Shows (world_after start earlier) step site key context ⊎ WasShownInRun earlier context
 
   -- each context that was given for the key had been shown for it before; a step that isn't possible gives none
-  abbrev pub GivesShown : List Step → Type 0
-  GivesShown [] = Unit {0}
-  GivesShown (step ∷ earlier) =
-      GivesShown earlier
+  abbrev pub GivesShownInRun : List Step → Type 0
+  GivesShownInRun [] = Unit {0}
+  GivesShownInRun (step ∷ earlier) =
+      GivesShownInRun earlier
       × (happens (world_after start earlier) step ≢ None
-      → (context : Context) → given_by (world_after start earlier) step site key ≡ Some context → WasShown earlier context)
+      → (context : Context) → given_by (world_after start earlier) step site key ≡ Some context → WasShownInRun earlier context)

@@ -3,7 +3,7 @@
 use Rattle.std.specs.Prelude.{◌≡◌, [], map}
 use Rattle.riak_msgs.specs.Contents.{Content}
 use Rattle.vnode_machine.specs.Machine.{State, opening}
-use Rattle.node_steps.specs.World.{Word, Open, Taken, CopyAsked, CopyInside, CopyLooked, CopyTaken, CopyDone, CloseAsked, CloseTaken, CloseInside, CloseLooked, CloseDone, Phase, Idle, Asked, Reading, Holding, Done, Turned, Copying, Closing, Vnode, Worker, World}
+use Rattle.node_steps.specs.World.{Word, Open, Taken, CopyAsked, CopyInside, CopyLooked, CopyTaken, CopyDone, CloseAsked, CloseTaken, CloseInside, CloseLooked, CloseDone, Phase, Idle, Asked, Reading, Holding, Done, Turned, Copying, Closing, SiteVnode, Worker, World}
 use Rattle.node_steps.specs.Steps.{Step, after, outcome}
 
 -- no state
@@ -15,7 +15,7 @@ abbrev pub erase_place : Word → State Content → State Content
 erase_place (Open readers marked) place = place
 erase_place Taken place = blank
 
-abbrev pub erase_vnode : Vnode → Vnode
+abbrev pub erase_vnode : SiteVnode → SiteVnode
 erase_vnode vnode = record { id = 0; own = vnode.own; last_epoch = 0; word = vnode.word; log = []; place = erase_place vnode.word vnode.place }
 
 abbrev pub erase_worker : Worker → Worker

@@ -2,13 +2,13 @@
 use Rattle.std.specs.Prelude.{◌≡◌, Option, Some, None, IsSome, IfSome, MatchOption, option_map, option_and_then}
 use Rattle.riak_msgs.specs.Contents.{Content}
 use Rattle.riak_msgs.specs.declared.GetAsk.{GetAsk}
-use Rattle.sibling_register.specs.Answers.{Ask as Command, AskPut, AskDel, AskReap}
+use Rattle.sibling_register.specs.Answers.{RegisterAsk as Command, AskPut, AskDel, AskReap}
 use Rattle.actor_epoch.specs.Given.{Context}
 use Rattle.vnode_machine.specs.Asks.{get_command, put_command, del_command}
 use Rattle.vnode_machine.specs.Machine.{State}
 use Rattle.vnode_machine.specs.Replies.{get_reply}
 use Rattle.vnode_machine.specs.Sound.{IsSound}
-use Rattle.vnode_machine.specs.Step.{Response, GetDone, PutDone, DelDone, ReapDone, ReapKept, StepOutcome, Refused, Answered, Accepted, outcome}
+use Rattle.vnode_machine.specs.Step.{Response, GetDone, PutDone, DelDone, ReapDone, ReapKept, MachineOutcome, Refused, Answered, Accepted, outcome}
 use Rattle.clock_store.specs.declared.store.Reaped.TheVariants.{Gone, Kept, Absent}
 use Rattle.vnode_core.specs.declared.ask.Ask.{Ask}
 use Rattle.vnode_core.specs.declared.ask.Ask.TheVariants.{Put, Del, Reap, ReapFirst, Copy, Close}
@@ -17,16 +17,16 @@ use Rattle.vnode_core.specs.declared.ask.Answer.TheVariants as answers
 use Rattle.vnode_core.specs.Plans.{IsPrepared}
 use Rattle.node_steps.specs.declared.hand.Hand.TheInside.{Inside}
 use Rattle.node_steps.specs.declared.outcome.Outcome.{Outcome as Returned}
-use Rattle.node_steps.specs.World.{Plan}
+use Rattle.node_steps.specs.World.{PlannedCommand}
 use Rattle.node_steps.specs.Returned.{returned_response, returned_refusal}
 
 pub record HandView : Type 0 where
   pub state : State Content
-  pub plan : Option Plan
+  pub plan : Option PlannedCommand
   pub prepared : Option Ask
 
 -- the plan that is made where the machine accepts
-abbrev pub plan_by : StepOutcome → Option Plan
+abbrev pub plan_by : MachineOutcome → Option PlannedCommand
 plan_by (Refused number) = None
 plan_by (Answered response) = None
 plan_by (Accepted operation response next) = Some (record { operation = operation; response = response; next = next })
@@ -57,7 +57,7 @@ abbrev pub IsReturned : Answer → Returned → Type 0
 IsReturned answer returns = option_map returned_response (response_of answer) ≡ Some returns
 
 -- the plan that a change is, in the state that it was prepared from
-abbrev pub plan_of : State Content → Option Ask → Option Plan
+abbrev pub plan_of : State Content → Option Ask → Option PlannedCommand
 plan_of state change = option_and_then (λ ask. option_and_then (λ command. plan_by (outcome state command)) (command_of ask)) change
 
 abbrev pub hand_of : Inside → HandView
@@ -74,14 +74,14 @@ abbrev pub ShowsBy : State Content → GetAsk → Returned → Type 0
 ShowsBy state get answer = answer ≡ returned_response (GetDone (get_reply state (get_command get)))
 
 -- by what comes of a call: it is answered, or its change is planned
-abbrev pub PlansBy : StepOutcome → Option Plan → Option Returned → Type 0
+abbrev pub PlansBy : MachineOutcome → Option PlannedCommand → Option Returned → Type 0
 PlansBy (Refused number) plan answer = answer ≡ Some (returned_refusal number)
 PlansBy (Answered response) plan answer = answer ≡ Some (returned_response response)
 PlansBy (Accepted operation response next) plan answer =
     (answer ≡ None) × (plan ≡ Some (record { operation = operation; response = response; next = next }))
 
 -- by what comes of the command that is asked
-abbrev pub PlansAsk : State Content → Ask → Option Plan → Option Returned → Type 0
+abbrev pub PlansAsk : State Content → Ask → Option PlannedCommand → Option Returned → Type 0
 PlansAsk state ask plan answer = IfSome (command_of ask) (λ command. PlansBy (outcome state command) plan answer)
 
 -- the state is the one after the plan, which is answered by its response

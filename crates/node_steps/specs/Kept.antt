@@ -27,8 +27,8 @@ abbrev pub kept_of : Inside → World
 kept_of w = world_in w.parts
 
 -- at each schedule that may have led to a world, a step returns what comes of it there, and leads to what is kept after it
-abbrev pub Follows : World → Step → Returned → World → Type 0
-Follows old step returns new =
+abbrev pub FollowsInRun : World → Step → Returned → World → Type 0
+FollowsInRun old step returns new =
     (start : Start) (schedule : List Step) → IsKeptAfter start schedule old
     → (returns ≡ returned (outcome (world_after start schedule) step)) × IsKeptAfter start (step ∷ schedule) new
 

@@ -3,7 +3,7 @@ use Rattle.std.specs.Prelude.{◌≡◌, ◌+◌, ◌<◌, ◌^◌, ℕ, suc, no
 use Rattle.std.specs.List.{list_all}
 use Rattle.riak_msgs.specs.declared.Key.{Key}
 use Rattle.riak_msgs.specs.Contents.{Content}
-use Rattle.sibling_register.specs.Answers.{Ask}
+use Rattle.sibling_register.specs.Answers.{RegisterAsk}
 use Rattle.actor_epoch.specs.Given.{Context}
 use Rattle.node_steps.specs.declared.outcome.Outcome.{Outcome as Returned}
 use Rattle.node_steps.specs.declared.phase.Phase.{Phase as RunPhase}
@@ -11,11 +11,11 @@ use Rattle.node_steps.specs.declared.site.Site.{Site}
 use Rattle.node_steps.specs.declared.phase.Phase.TheVariants as phases
 use Rattle.node_steps.specs.declared.parts.Parts.{Parts}
 use Rattle.node_steps.specs.declared.step.Act.{Act}
-use Rattle.node_steps.specs.World.{Word, Open, Taken, CopyTaken, Phase, Copying, Vnode, World, route}
+use Rattle.node_steps.specs.World.{Word, Open, Taken, CopyTaken, Phase, Copying, SiteVnode, World, route}
 use Rattle.node_steps.specs.Erased.{IsShown, erase}
 use Rattle.node_steps.specs.Steps.{Asks, Copies, CopiesFrom, Closes, ClosesFrom, Enters, Step, site_of, is_for, fallback_ids, routed, diverted_by, diverted, happens, after, outcome}
 use Rattle.node_steps.specs.Returned.{returned}
-use Rattle.node_steps.specs.Running.{HasRoom, phase_of, vnode_of, world_of}
+use Rattle.node_steps.specs.Running.{CanCountReader, phase_of, vnode_of, world_of}
 use Rattle.node_steps.specs.Asked.{asking_step, closing_step, copying_step, step_by}
 
 -- the state that a copier is to sync isn't closed: it is a primary's
@@ -25,7 +25,7 @@ IsOpenInHand phase = Unit {0}
 
 -- there is room for one reader more, a reader has a state to look at, and a copier one that isn't closed
 pub record IsFit (word : Word) (phase : Phase) : Type 0 where
-  pub room : HasRoom word
+  pub room : CanCountReader word
   pub shown : IsShown word phase
   pub opened : IsOpenInHand phase
 
@@ -39,7 +39,7 @@ IsOpen (Open readers marked) = Unit {0}
 IsOpen Taken = ⊥
 
 -- the vnode can be left for a fallback: its state is in place, and its fallback can have an id
-pub record IsLeft (vnode : Vnode) : Type 0 where
+pub record IsLeft (vnode : SiteVnode) : Type 0 where
   pub opened : IsOpen vnode.word
   pub id_fits : vnode.place.vnode + fallback_ids < 2 ^ 64
 
@@ -84,12 +84,12 @@ FindsIdle workers worker (Some place) = (worker ≡ suc place) × (slice_get wor
 FindsIdle workers worker None = (place : ℕ) (phase : RunPhase) → worker ≡ suc place → slice_get workers place ≡ Some phase → IsBusy phase
 
 -- the site that a call for a partition goes to; none where no worker can be asked it
-abbrev pub SendsTo : Parts → (index : ℕ) → Ask Content Context → Option ℕ → Type 0
+abbrev pub SendsTo : Parts → (index : ℕ) → RegisterAsk Content Context → Option ℕ → Type 0
 SendsTo parts index ask (Some site) = (routed (route (world_in parts)) (Asks index ask) ≡ Asks site ask) × (site < length parts.sites.items)
 SendsTo parts index ask None = (worker : ℕ) → happens (world_in parts) (asking_step worker index ask) ≡ None
 
 -- the site of a partition's fallback, from which copies come and which is closed
-pub record IsFallback (parts : Parts) (index site : ℕ) : Type 0 where
+pub record IsFallbackSite (parts : Parts) (index site : ℕ) : Type 0 where
   pub copies : (key : Key) → routed (route (world_in parts)) (Copies index key) ≡ CopiesFrom index site key
   pub closes : routed (route (world_in parts)) (Closes index) ≡ ClosesFrom index site
   pub there : site < length parts.sites.items
@@ -99,13 +99,13 @@ pub record HasNone (parts : Parts) (index : ℕ) : Type 0 where
   pub copies : (worker : ℕ) (key : Key) → happens (world_in parts) (copying_step worker index key) ≡ None
   pub closes : (worker : ℕ) → happens (world_in parts) (closing_step worker index) ≡ None
 
-abbrev pub HasFallback : Parts → (index : ℕ) → Option ℕ → Type 0
-HasFallback parts index (Some site) = IsFallback parts index site
-HasFallback parts index None = HasNone parts index
+abbrev pub HasFallbackSite : Parts → (index : ℕ) → Option ℕ → Type 0
+HasFallbackSite parts index (Some site) = IsFallbackSite parts index site
+HasFallbackSite parts index None = HasNone parts index
 
 -- a partition is diverted to a fallback of this id, opened behind this epoch
 pub record DivertsTo (w : World) (index id epoch : ℕ) : Type 0 where
-  pub primary : Vnode
+  pub primary : SiteVnode
   pub diverted_is : diverted w index ≡ Some (diverted_by w index epoch primary)
   pub id_is : id ≡ primary.place.vnode + fallback_ids
 
@@ -115,9 +115,9 @@ MayDivert parts index (Some next) = (index < length parts.routes.items) × (AreF
 MayDivert parts index None = AreFit parts → diverted (world_in parts) index ≡ None
 
 -- what a step returns in a world that is kept without histories, and the world after it
-pub record TakesStep (old : World) (step : Step) (returns : Returned) (new : World) : Type 0 where
+pub record TakesRunStep (old : World) (step : Step) (returns : Returned) (new : World) : Type 0 where
   pub returns_is : returns ≡ returned (outcome old step)
   pub world_is : new ≡ erase (after old step)
 
 abbrev pub TakesFitStep : Parts → Step → Returned → Parts → Type 0
-TakesFitStep old step returns new = AreFit old → TakesStep (world_in old) step returns (world_in new)
+TakesFitStep old step returns new = AreFit old → TakesRunStep (world_in old) step returns (world_in new)

@@ -1,7 +1,7 @@
 -- What running values are in the theorem's world, without its histories; and what a turn makes of them.
 use Rattle.std.specs.Prelude.{◌≡◌, ◌+◌, ◌<◌, ◌^◌, ℕ, Bool, List, [], map, Option, Some, None, option_map, MatchOption}
 use Rattle.riak_msgs.specs.Contents.{Content}
-use Rattle.sibling_register.specs.Answers.{Ask, AskGet, AskPut, AskDel, AskReap}
+use Rattle.sibling_register.specs.Answers.{RegisterAsk, AskGet, AskPut, AskDel, AskReap}
 use Rattle.actor_epoch.specs.Given.{Context}
 use Rattle.vnode_machine.specs.Asks.{get_command, put_command, del_command}
 use Rattle.vnode_core.specs.declared.ask.Ask.{Ask as Change}
@@ -17,14 +17,14 @@ use Rattle.node_steps.specs.declared.stage.Stage.TheVariants as stages
 use Rattle.node_steps.specs.declared.close_stage.CloseStage.{CloseStage as RunCloseStage}
 use Rattle.node_steps.specs.declared.close_stage.CloseStage.TheVariants as close_stages
 use Rattle.node_steps.specs.declared.site.Site.{Site}
-use Rattle.node_steps.specs.World.{Word, Open, Taken, CopyStage, CopyAsked, CopyInside, CopyLooked, CopyTaken, CopyDone, CloseStage, CloseAsked, CloseTaken, CloseInside, CloseLooked, CloseDone, Phase, Idle, Asked, Reading, Holding, Done, Turned, Copying, Closing, nothing_brought, Vnode, Worker, World}
+use Rattle.node_steps.specs.World.{Word, Open, Taken, CopyStage, CopyAsked, CopyInside, CopyLooked, CopyTaken, CopyDone, CloseStage, CloseAsked, CloseTaken, CloseInside, CloseLooked, CloseDone, Phase, Idle, Asked, Reading, Holding, Done, Turned, Copying, Closing, nothing_brought, SiteVnode, Worker, World}
 use Rattle.node_steps.specs.Steps.{Action, turn_of}
 use Rattle.node_steps.specs.Erased.{blank, erase_vnode}
 use Rattle.node_steps.specs.Hands.{HandView}
 use Rattle.node_steps.specs.Returned.{returned}
 
 -- what a call asks
-abbrev pub ask_of : Call → Ask Content Context
+abbrev pub ask_of : Call → RegisterAsk Content Context
 ask_of (calls.Get get) = AskGet (get_command get.value)
 ask_of (calls.Put put) = AskPut (put_command put.value)
 ask_of (calls.Del del) = AskDel (del_command del.value)
@@ -63,11 +63,11 @@ phase_of (phases.Copying own site key stage) = Copying own site key.value (stage
 phase_of (phases.Closing own site stage) = Closing own site (close_stage_of stage)
 
 -- a vnode by its partition's own site, its word and its state, where that is in place
-abbrev pub vnode_by : (own readers : ℕ) (marked : Bool) → Option HandView → Vnode
+abbrev pub vnode_by : (own readers : ℕ) (marked : Bool) → Option HandView → SiteVnode
 vnode_by own readers marked None = record { id = 0; own = own; last_epoch = 0; word = Taken; log = []; place = blank }
 vnode_by own readers marked (Some hand) = record { id = 0; own = own; last_epoch = 0; word = Open readers marked; log = []; place = hand.state }
 
-abbrev pub vnode_of : Site → Vnode
+abbrev pub vnode_of : Site → SiteVnode
 vnode_of site = vnode_by site.own site.readers site.marked (option_map (λ h. h.value) site.place)
 
 abbrev pub worker_of : RunPhase → Worker
@@ -79,13 +79,13 @@ world_of sites routes epochs workers =
     record { vnodes = map vnode_of sites; routes = routes; epochs = epochs; diversions = []; workers = map worker_of workers }
 
 -- the vnode and the worker after an action, and what it returns: by its turn, or where it isn't possible as they were
-abbrev pub Turns : Action → (old : Vnode) (phase : Phase) (new : Vnode) (next : Phase) → Returned → Type 0
+abbrev pub Turns : Action → (old : SiteVnode) (phase : Phase) (new : SiteVnode) (next : Phase) → Returned → Type 0
 Turns action old phase new next outcome =
     MatchOption (turn_of [] nothing_brought old action phase)
     ((new ≡ old) × (next ≡ phase) × (outcome ≡ outcomes.No))
     (λ turn. (new ≡ erase_vnode turn.vnode) × (next ≡ turn.phase) × (outcome ≡ returned turn.outcome))
 
 -- the word can count one reader more
-abbrev pub HasRoom : Word → Type 0
-HasRoom (Open readers marked) = readers + 1 < 2 ^ 64
-HasRoom Taken = Unit {0}
+abbrev pub CanCountReader : Word → Type 0
+CanCountReader (Open readers marked) = readers + 1 < 2 ^ 64
+CanCountReader Taken = Unit {0}

@@ -32,7 +32,7 @@ use Rattle.std.specs.List.{list_all}
 use Rattle.riak_msgs.specs.declared.Key.{Key}
 use Rattle.riak_msgs.specs.Contents.{Content}
 use Rattle.sibling_register.specs.History.{Event}
-use Rattle.sibling_register.specs.Answers.{Ask, AskGet, AskReap, GetCommand}
+use Rattle.sibling_register.specs.Answers.{RegisterAsk, AskGet, AskReap, GetCommand}
 use Rattle.actor_epoch.specs.Dots.{counter_in}
 use Rattle.actor_epoch.specs.Given.{Context}
 use Rattle.dvv_set.specs.Clocks.{DotState}
@@ -40,7 +40,7 @@ use Rattle.vnode_machine.specs.Copying.{is_stuck, apply_copy, apply_close}
 use Rattle.vnode_machine.specs.Machine.{State, clock_of, is_held}
 use Rattle.vnode_machine.specs.Replay.{History}
 use Rattle.vnode_machine.specs.Replies.{get_reply}
-use Rattle.vnode_machine.specs.Step.{Response, GetDone, StepOutcome, Refused, Answered, Accepted, outcome as outcome_of_ask}
+use Rattle.vnode_machine.specs.Step.{Response, GetDone, MachineOutcome, Refused, Answered, Accepted, outcome as outcome_of_ask}
 use Rattle.vnode_machine.specs.Registers.{key_of, context_in_ask}
 use Rattle.sibling_register.specs.History.{Operation}
 use Rattle.copy_laws.specs.Copies.{Copy, Command, Copied, Closed}
@@ -48,14 +48,14 @@ use Rattle.copy_laws.specs.Joining.{Log}
 pub use Rattle.node_steps.specs.Partitions.{fallback_ids}
 pub use Rattle.node_steps.specs.Actions.{Action, Asks, AsksNowhere, Copies, CopiesFrom, Closes, ClosesFrom, Enters, Leaves, Marks, Unmarks, Takes, Puts, Looks, Publishes, Step, By, Diverts, number_of, Outcome, NotPossible, Happened, Replied, NotHeld, StuckThere, CopiedBack, Elsewhere, LeftThere}
 use Rattle.node_steps.specs.HeldNames.{saw_held}
-use Rattle.node_steps.specs.World.{Word, Open, Taken, Plan, CopyStage, CopyAsked, CopyInside, CopyLooked, CopyTaken, CopyDone, CloseStage, CloseAsked, CloseTaken, CloseInside, CloseLooked, CloseDone, Phase, Idle, Asked, Reading, Holding, Done, Turned, Copying, Closing, Brought, Vnode, Worker, World, fresh_vnode, history_of, seen_at, diversions_at, brought_by, worker_at, route}
+use Rattle.node_steps.specs.World.{Word, Open, Taken, PlannedCommand, CopyStage, CopyAsked, CopyInside, CopyLooked, CopyTaken, CopyDone, CloseStage, CloseAsked, CloseTaken, CloseInside, CloseLooked, CloseDone, Phase, Idle, Asked, Reading, Holding, Done, Turned, Copying, Closing, Brought, SiteVnode, Worker, World, fresh_vnode, history_of, seen_at, diversions_at, brought_by, worker_at, route}
 
 -- what a step makes of its worker and of the vnode, the front of the vnode's history that the worker has then seen, and what comes
 -- of the step
-pub record Turn : Type 0 where
+pub record WorkerTurn : Type 0 where
   pub phase : Phase
   pub seen : History
-  pub vnode : Vnode
+  pub vnode : SiteVnode
   pub outcome : Outcome
 
 -- one reader more, where the word is neither marked nor taken
@@ -88,7 +88,7 @@ taken (Open (suc readers) mark) = None
 taken Taken = None
 
 -- the event of an ask that does this operation at the end of a log
-abbrev pub event_at : (id last_epoch : ℕ) → Log → Ask Content Context → Operation Content → Event Content Context
+abbrev pub event_at : (id last_epoch : ℕ) → Log → RegisterAsk Content Context → Operation Content → Event Content Context
 event_at id last_epoch log ask operation = record {
   key = key_of ask;
   operation = operation;
@@ -96,30 +96,30 @@ event_at id last_epoch log ask operation = record {
   saw = saw_held id last_epoch log (key_of ask) (context_in_ask ask) operation;
 }
 
-module _ (seen : History) (brought : Brought) (vnode : Vnode) where
+module _ (seen : History) (brought : Brought) (vnode : SiteVnode) where
   -- the worker goes to a phase, and the vnode's word is this
-  abbrev pub moves : Phase → Word → Turn
+  abbrev pub moves : Phase → Word → WorkerTurn
   moves phase word = record { phase = phase; seen = seen; vnode = record vnode { word = word }; outcome = Happened }
 
   -- the state in the worker's hand is in place again: no readers, not marked
-  abbrev pub lays : Phase → State Content → Turn
+  abbrev pub lays : Phase → State Content → WorkerTurn
   lays phase hand =
       record { phase = phase; seen = seen; vnode = record vnode { word = Open 0 false; place = hand }; outcome = Happened }
 
   -- the worker has seen the vnode's whole history, and its call is answered
-  abbrev pub answers : Phase → Result Response ℕ → Turn
+  abbrev pub answers : Phase → Result Response ℕ → WorkerTurn
   answers phase reply = record { phase = phase; seen = history_of vnode; vnode = vnode; outcome = Replied reply }
 
   -- a holder's look, by what comes of its call in the state in its hand: it is answered, or keeps the plan
-  abbrev pub looks_by : ℕ → Ask Content Context → State Content → StepOutcome → Turn
+  abbrev pub looks_by : ℕ → RegisterAsk Content Context → State Content → MachineOutcome → WorkerTurn
   looks_by site ask hand (Refused number) = answers (Done site (Some hand)) (Err number)
   looks_by site ask hand (Answered response) = answers (Done site (Some hand)) (Ok response)
   looks_by site ask hand (Accepted operation response next) =
-      let plan : Plan = record { operation = operation; response = response; next = next } in
+      let plan : PlannedCommand = record { operation = operation; response = response; next = next } in
       record { phase = Holding site ask hand (Some plan); seen = history_of vnode; vnode = vnode; outcome = Happened }
 
   -- the planned operation is the log's next entry, and so the history's next event, the state in hand is the one after it, and the call is answered
-  abbrev pub publishes_by : ℕ → Ask Content Context → Plan → Turn
+  abbrev pub publishes_by : ℕ → RegisterAsk Content Context → PlannedCommand → WorkerTurn
   publishes_by site ask plan =
       let event : Event Content Context = event_at vnode.id vnode.last_epoch vnode.log ask plan.operation in
       record {
@@ -130,36 +130,36 @@ module _ (seen : History) (brought : Brought) (vnode : Vnode) where
       }
 
   -- a worker has seen the vnode's whole history, and goes on, is turned away or is done
-  abbrev pub sees : Phase → Outcome → Turn
+  abbrev pub sees : Phase → Outcome → WorkerTurn
   sees phase came = record { phase = phase; seen = history_of vnode; vnode = vnode; outcome = came }
 
   -- a reader's look: where the fallback is closed it is turned away
-  abbrev pub reads_by : (site : ℕ) (get : GetCommand Context) (closed : Bool) → Turn
+  abbrev pub reads_by : (site : ℕ) (get : GetCommand Context) (closed : Bool) → WorkerTurn
   reads_by site get true = sees (Turned vnode.own site (AskGet get) None) Elsewhere
   reads_by site get false = answers (Done site None) (Ok (GetDone (get_reply vnode.place get)))
 
   -- and a holder's
-  abbrev pub holds_by : (site : ℕ) (ask : Ask Content Context) (hand : State Content) (closed : Bool) → Turn
+  abbrev pub holds_by : (site : ℕ) (ask : RegisterAsk Content Context) (hand : State Content) (closed : Bool) → WorkerTurn
   holds_by site ask hand true = sees (Turned vnode.own site ask (Some hand)) Elsewhere
   holds_by site ask hand false = looks_by site ask hand (outcome_of_ask hand ask)
 
   -- a copier's look at the fallback: it keeps the key's clock, where the key is held
-  abbrev pub finds_by : (own site : ℕ) (key : Key) (held : Bool) → Turn
+  abbrev pub finds_by : (own site : ℕ) (key : Key) (held : Bool) → WorkerTurn
   finds_by own site key true = sees (Copying own site key (CopyLooked (clock_of vnode.place key))) Happened
   finds_by own site key false = sees (Copying own site key (CopyDone None)) NotHeld
 
   -- where the fallback is closed it is done
-  abbrev pub finds_open : (own site : ℕ) (key : Key) (closed : Bool) → Turn
+  abbrev pub finds_open : (own site : ℕ) (key : Key) (closed : Bool) → WorkerTurn
   finds_open own site key true = sees (Copying own site key (CopyDone None)) Elsewhere
   finds_open own site key false = finds_by own site key (is_held vnode.place key)
 
   -- its look at the primary: it keeps the state after the copy, unless that is stuck
-  abbrev pub syncs_by : (own site : ℕ) (key : Key) (clock : DotState (Option Content)) (hand : State Content) (stuck : Bool) → Turn
+  abbrev pub syncs_by : (own site : ℕ) (key : Key) (clock : DotState (Option Content)) (hand : State Content) (stuck : Bool) → WorkerTurn
   syncs_by own site key clock hand true = sees (Copying own site key (CopyDone (Some hand))) StuckThere
   syncs_by own site key clock hand false = sees (Copying own site key (CopyTaken clock hand (Some (apply_copy hand key clock)))) Happened
 
   -- its publish: the copy is the log's next entry
-  abbrev pub copies_by : (own site : ℕ) (key : Key) (clock : DotState (Option Content)) (next : State Content) → Turn
+  abbrev pub copies_by : (own site : ℕ) (key : Key) (clock : DotState (Option Content)) (next : State Content) → WorkerTurn
   copies_by own site key clock next =
       let copy : Copy Content = record { key = key; clock = clock; diversion = brought.diversion; prefix = brought.prefix } in
       record {
@@ -170,7 +170,7 @@ module _ (seen : History) (brought : Brought) (vnode : Vnode) where
       }
 
   -- the turn of a worker in a phase, where the step is possible
-  abbrev pub turn_of : Action → Phase → Option Turn
+  abbrev pub turn_of : Action → Phase → Option WorkerTurn
   turn_of (Asks site ask) Idle = Some (moves (Asked site ask) vnode.word)
   turn_of Enters (Asked site (AskGet get)) = option_map (moves (Reading site get)) (entered vnode.word)
   turn_of Leaves (Reading site get) = Some (moves (Asked site (AskGet get)) (left vnode.word))
@@ -200,12 +200,12 @@ module _ (seen : History) (brought : Brought) (vnode : Vnode) where
   turn_of Puts (Closing own site (CloseDone hand false)) = Some (lays Idle hand)
   turn_of action phase = None
 
-abbrev pub is_reap : Ask Content Context → Bool
+abbrev pub is_reap : RegisterAsk Content Context → Bool
 is_reap (AskReap key) = true
 is_reap ask = false
 
 -- an ask for a partition, sent to this site; a reap is asked at the partition's own site alone
-abbrev pub sent : (index site : ℕ) → Ask Content Context → Action
+abbrev pub sent : (index site : ℕ) → RegisterAsk Content Context → Action
 sent index site ask = if not (site == index) && is_reap ask then AsksNowhere else Asks site ask
 
 -- a copy for a partition, from this site, where that isn't its own
@@ -266,7 +266,7 @@ seeing (other ∷ seen) zero front = front ∷ seen
 seeing (other ∷ seen) (suc site) front = other ∷ seeing seen site front
 
 -- the world after a worker's turn at a site
-abbrev pub turned : World → (place site : ℕ) → Worker → Turn → World
+abbrev pub turned : World → (place site : ℕ) → Worker → WorkerTurn → World
 turned w place site worker turn = record w {
   vnodes = slice_set w.vnodes site turn.vnode;
   workers = slice_set w.workers place (record { phase = turn.phase; seen = seeing worker.seen site turn.seen });
@@ -302,13 +302,13 @@ judged own site hand primary false zero = (Closing own site (CloseLooked hand (a
 judged own site hand primary false (suc left) = (Closing own site (CloseDone hand true), LeftThere (suc left))
 
 -- the world after a closer's look, by which it has seen both histories
-abbrev pub judged_by : World → (place own site : ℕ) → Worker → (primary fallback : Vnode) → Phase → World
+abbrev pub judged_by : World → (place own site : ℕ) → Worker → (primary fallback : SiteVnode) → Phase → World
 judged_by w place own site worker primary fallback phase = record w {
   workers = slice_set w.workers place (record { phase = phase; seen = seeing (seeing worker.seen site (history_of fallback)) own (history_of primary) });
 }
 
 -- and after its publish: the close is the last entry of the fallback's log, and the calls go to the partition's own site again
-abbrev pub closed_by : World → (place own site : ℕ) → Worker → (fallback : Vnode) (hand : State Content) (number : ℕ) → World
+abbrev pub closed_by : World → (place own site : ℕ) → Worker → (fallback : SiteVnode) (hand : State Content) (number : ℕ) → World
 closed_by w place own site worker fallback hand number = record w {
   vnodes = slice_set w.vnodes site (record fallback { log = Closed number ∷ fallback.log });
   routes = slice_set w.routes own own;
@@ -346,13 +346,13 @@ is_about site (Copying own other key stage) = (own == site) || (other == site)
 is_about site (Closing own other stage) = (own == site) || (other == site)
 
 -- it has to do with the partition: with a site of it
-abbrev pub is_for : List Vnode → (index : ℕ) → (site : ℕ) → Phase → Bool
+abbrev pub is_for : List SiteVnode → (index : ℕ) → (site : ℕ) → Phase → Bool
 is_for [] index site phase = false
 is_for (vnode ∷ vnodes) index site phase = ((vnode.own == index) && is_about site phase) || is_for vnodes index (suc site) phase
 
 -- the partition's primary stands at its own site: then a fallback is opened at a new site, behind the epochs of the earlier ones, and
 -- the calls go there
-abbrev pub diverted_by : World → (index epoch : ℕ) → Vnode → World
+abbrev pub diverted_by : World → (index epoch : ℕ) → SiteVnode → World
 diverted_by w index epoch primary = record w {
   vnodes = w.vnodes ++ fresh_vnode (primary.place.vnode + fallback_ids) index epoch ∷ [];
   routes = slice_set w.routes index (length w.vnodes);

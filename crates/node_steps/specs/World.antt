@@ -6,7 +6,7 @@ use Rattle.std.specs.Option.{option_map_or}
 use Rattle.riak_msgs.specs.declared.Key.{Key}
 use Rattle.riak_msgs.specs.Contents.{Content}
 use Rattle.sibling_register.specs.History.{Operation}
-use Rattle.sibling_register.specs.Answers.{Ask, AskGet, GetCommand}
+use Rattle.sibling_register.specs.Answers.{RegisterAsk, AskGet, GetCommand}
 use Rattle.actor_epoch.specs.Given.{Context}
 use Rattle.dvv_set.specs.Clocks.{DotState}
 use Rattle.vnode_machine.specs.Machine.{State, opening}
@@ -21,7 +21,7 @@ pub data Word : Type 0 where
   Taken : Word
 
 -- what a worker keeps of a look whose command the machine accepts: the operation, the response, and the state after it
-pub record Plan : Type 0 where
+pub record PlannedCommand : Type 0 where
   pub operation : Operation Content
   pub response : Response
   pub next : State Content
@@ -58,16 +58,16 @@ pub data Phase : Type 0 where
   -- it has no call
   Idle : Phase
   -- it has a call, and is outside
-  Asked : (site : ℕ) (ask : Ask Content Context) → Phase
+  Asked : (site : ℕ) (ask : RegisterAsk Content Context) → Phase
   -- it is inside as a reader, and has not looked
   Reading : (site : ℕ) (get : GetCommand Context) → Phase
   -- it is inside with the state in its hand; it has a plan where it has looked
-  Holding : (site : ℕ) (ask : Ask Content Context) (hand : State Content) (plan : Option Plan) → Phase
+  Holding : (site : ℕ) (ask : RegisterAsk Content Context) (hand : State Content) (plan : Option PlannedCommand) → Phase
   -- its call is answered, and it is inside as a reader, or with the state in its hand
   Done : (site : ℕ) (hand : Option (State Content)) → Phase
   -- it has found the fallback at a site closed, and is inside there as a reader or with the state in its hand; then its call is for the
   -- partition's own site
-  Turned : (own site : ℕ) (ask : Ask Content Context) (hand : Option (State Content)) → Phase
+  Turned : (own site : ℕ) (ask : RegisterAsk Content Context) (hand : Option (State Content)) → Phase
   -- it copies a key from the fallback at a site to a partition's own
   Copying : (own site : ℕ) (key : Key) (stage : CopyStage) → Phase
   -- it closes the fallback at a site, of the partition with this own one
@@ -75,7 +75,7 @@ pub data Phase : Type 0 where
 
 -- the vnode at a site: its id, its partition's own site, the last epoch that had been given when it was opened, its word, the log of
 -- what it accepted, newest entry first, and the state in place; while it is taken nobody is shown what was in place
-pub record Vnode : Type 0 where
+pub record SiteVnode : Type 0 where
   pub id : ℕ
   pub own : ℕ
   pub last_epoch : ℕ
@@ -84,7 +84,7 @@ pub record Vnode : Type 0 where
   pub place : State Content
 
 -- the history of a vnode: the commands of its log
-abbrev pub history_of : Vnode → History
+abbrev pub history_of : SiteVnode → History
 history_of vnode = commands_of vnode.log
 
 -- a log of commands alone: no entry is a copy or a close
@@ -97,7 +97,7 @@ pub record Worker : Type 0 where
   pub seen : List History
 
 pub record World : Type 0 where
-  pub vnodes : List Vnode
+  pub vnodes : List SiteVnode
   -- for each partition the site that its calls go to
   pub routes : List ℕ
   -- the last epoch that its fallbacks gave before they were closed
@@ -107,7 +107,7 @@ pub record World : Type 0 where
   pub workers : List Worker
 
 -- a vnode of this id before any event, of the partition with this own site, opened behind an epoch
-abbrev pub fresh_vnode : (id own last_epoch : ℕ) → Vnode
+abbrev pub fresh_vnode : (id own last_epoch : ℕ) → SiteVnode
 fresh_vnode id own last_epoch =
     record { id = id; own = own; last_epoch = last_epoch; word = Open 0 false; log = []; place = opening id last_epoch }
 
@@ -116,7 +116,7 @@ abbrev pub id_of : (run index : ℕ) → ℕ
 id_of run index = run * 65536 + index
 
 -- so many partitions' own vnodes from this index on
-abbrev pub opening_vnodes : (run index : ℕ) → ℕ → List Vnode
+abbrev pub opening_vnodes : (run index : ℕ) → ℕ → List SiteVnode
 opening_vnodes run index zero = []
 opening_vnodes run index (suc more) = fresh_vnode (id_of run index) index 0 ∷ opening_vnodes run (index + 1) more
 
@@ -204,7 +204,7 @@ front_at w number site = option_map_or (λ worker. seen_at worker.seen site) (wo
 -- a call: the site that it goes to, and what is asked there
 pub record Call : Type 0 where
   pub site : ℕ
-  pub ask : Ask Content Context
+  pub ask : RegisterAsk Content Context
 
 -- the call of a worker in this phase, until it is answered
 abbrev pub call_of : Phase → Option Call

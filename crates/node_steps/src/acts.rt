@@ -4,7 +4,7 @@ ghost use Rattle.std.specs.Prelude.{◌≡◌, false, Some};
 ghost use Rattle.std.specs.Option.{option_map};
 ghost use Rattle.node_steps.specs.Steps.{Enters, Leaves, Marks, Unmarks, Takes, Puts};
 ghost use Rattle.node_steps.specs.World.{Turned};
-ghost use Rattle.node_steps.specs.Running.{HasRoom, ask_of, phase_of, vnode_of, Turns};
+ghost use Rattle.node_steps.specs.Running.{CanCountReader, ask_of, phase_of, vnode_of, Turns};
 
 use crate::call::Call;
 use crate::hand::Hand;
@@ -15,7 +15,7 @@ use crate::{closer, copier};
 
 /// One reader more. There are fewer readers than 2 to the 64 in every world that is kept.
 pub(crate) fn enter(site: &mut Site, phase: Phase) -> (Phase, Outcome)
-    ensures { HasRoom (vnode_of site.old).word
+    ensures { CanCountReader (vnode_of site.old).word
         → Turns Enters (vnode_of site.old) (phase_of phase)
         (vnode_of site.new) (phase_of result.0) result.1 }
 {

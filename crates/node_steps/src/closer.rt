@@ -3,7 +3,7 @@
 ghost use Rattle.std.specs.Prelude.{◌≡◌};
 ghost use Rattle.node_steps.specs.World.{Closing};
 ghost use Rattle.node_steps.specs.Steps.{Enters, Leaves, Takes, Puts};
-ghost use Rattle.node_steps.specs.Running.{HasRoom, close_stage_of, phase_of, vnode_of, Turns};
+ghost use Rattle.node_steps.specs.Running.{CanCountReader, close_stage_of, phase_of, vnode_of, Turns};
 
 use crate::acts::lay;
 use crate::close_stage::CloseStage;
@@ -36,7 +36,7 @@ pub(crate) fn take(site: &mut Site, own: usize, from: usize, stage: CloseStage) 
 
 /// One reader more at the primary. There are fewer readers than 2 to the 64 in every world that is kept.
 pub(crate) fn enter(site: &mut Site, own: usize, from: usize, stage: CloseStage) -> (Phase, Outcome)
-    ensures { HasRoom (vnode_of site.old).word
+    ensures { CanCountReader (vnode_of site.old).word
         → Turns Enters (vnode_of site.old) (Closing own from (close_stage_of stage))
         (vnode_of site.new) (phase_of result.0) result.1 }
 {

@@ -1,7 +1,7 @@
 //! The steps of a closer that are about two sites: its look at both, and its publish.
 
 ghost use Rattle.std.specs.Prelude.{◌≡◌, ◌<◌, length, slice_set, IfOk, IfErr};
-ghost use Rattle.node_steps.specs.Closings.{ClosesTo, IsPrimaryFor, JudgesTo, LooksTo, Moves, ground_of};
+ghost use Rattle.node_steps.specs.Closings.{ClosesTo, IsPrimaryFor, JudgesTo, CloserLooksTo, WorkerMoves, ground_of};
 ghost use Rattle.node_steps.specs.Parts.{world_in};
 ghost use Rattle.node_steps.specs.World.{Closing, CloseInside};
 ghost use Rattle.node_steps.specs.Running.{close_stage_of, phase_of};
@@ -69,7 +69,7 @@ impl Parts {
     /// refused it is as it was. In every world that is kept the primary's state is in place then.
     fn look_at_both(&self, alloc: Global, own: usize, from: usize, stage: CloseStage) -> Looked
         ensures ok { IfOk result (λ r.
-            LooksTo (ground_of self.now) own from (close_stage_of stage) (phase_of r.0) r.1) }
+            CloserLooksTo (ground_of self.now) own from (close_stage_of stage) (phase_of r.0) r.1) }
         ensures err { IfErr result (λ p. phase_of p ≡ Closing own from (close_stage_of stage)) }
     {
         match stage {
@@ -120,7 +120,7 @@ impl Parts {
         stage: CloseStage,
     ) -> Looked
         requires { index < length self.old.sites.items }
-        ensures ok { IfOk result (λ r. Moves (Closing own from (close_stage_of stage)) act index
+        ensures ok { IfOk result (λ r. WorkerMoves (Closing own from (close_stage_of stage)) act index
             (ground_of self.old) (ground_of self.new) (phase_of r.0) r.1) }
         ensures err { IfErr result (λ p. (phase_of p ≡ Closing own from (close_stage_of stage))
             × (world_in self.new ≡ world_in self.old)) }

@@ -6,7 +6,7 @@ ghost use Rattle.node_steps.specs.CopyLooks.{FindsTo, SyncsTo};
 ghost use Rattle.node_steps.specs.Parts.{IsFit};
 ghost use Rattle.node_steps.specs.World.{Copying, CopyInside, CopyLooked, CopyTaken};
 ghost use Rattle.node_steps.specs.Steps.{Enters, Leaves, Takes, Puts, Looks, Publishes};
-ghost use Rattle.node_steps.specs.Running.{HasRoom, phase_of, stage_of, vnode_of, Turns};
+ghost use Rattle.node_steps.specs.Running.{CanCountReader, phase_of, stage_of, vnode_of, Turns};
 
 use crate::acts::lay;
 use crate::copied_clock::CopiedClock;
@@ -28,7 +28,7 @@ pub(crate) fn enter(
     key: Box<Key>,
     stage: Stage,
 ) -> (Phase, Outcome)
-    ensures { HasRoom (vnode_of site.old).word
+    ensures { CanCountReader (vnode_of site.old).word
         → Turns Enters (vnode_of site.old) (Copying own from key.value (stage_of stage))
         (vnode_of site.new) (phase_of result.0) result.1 }
 {

@@ -2,8 +2,8 @@
 
 ghost use Rattle.std.specs.Prelude.{◌≡◌, ◌<◌, length, IfOk, IfErr, OnErr};
 ghost use Rattle.node_steps.specs.Asked.{action_of, asking_step, closing_step, copying_step, step_by, step_of};
-ghost use Rattle.node_steps.specs.Closings.{Moves, MovesAt, TurnsAt, ground_of};
-ghost use Rattle.node_steps.specs.Parts.{Finds, FindsIdle, HasFallback, IsFit, SendsTo, TakesFitStep, TakesStep, world_in};
+ghost use Rattle.node_steps.specs.Closings.{WorkerMoves, MovesAt, TurnsAt, ground_of};
+ghost use Rattle.node_steps.specs.Parts.{Finds, FindsIdle, HasFallbackSite, IsFit, SendsTo, TakesFitStep, TakesRunStep, world_in};
 ghost use Rattle.node_steps.specs.Running.{ask_of, phase_of, vnode_of, Turns};
 
 use crate::acts::{enter, leave, mark, put, take, unmark};
@@ -103,7 +103,7 @@ impl Parts {
     fn move_on(&mut self, alloc: Global, act: Act, index: usize, phase: Phase) -> Looked
         requires { index < length self.old.sites.items }
         ensures ok { IfOk result (λ r.
-            Moves (phase_of phase) act index (ground_of self.old) (ground_of self.new) (phase_of r.0) r.1) }
+            WorkerMoves (phase_of phase) act index (ground_of self.old) (ground_of self.new) (phase_of r.0) r.1) }
         ensures err { IfErr result (λ p. (phase_of p ≡ phase_of phase)
             × (world_in self.new ≡ world_in self.old)) }
         ensures workers { self.new.workers ≡ self.old.workers }
@@ -184,7 +184,7 @@ impl Parts {
 
     /// A worker gets a call for the partition at an index.
     fn give(&mut self, worker: u16, index: u16, call: Call) -> Outcome
-        ensures { TakesStep (world_in self.old) (asking_step worker index (ask_of call)) result
+        ensures { TakesRunStep (world_in self.old) (asking_step worker index (ask_of call)) result
             (world_in self.new) }
     {
         let Some(place) = self.find_idle(worker) else {
@@ -205,7 +205,7 @@ impl Parts {
         index: u16,
         request: Request,
     ) -> Result<Outcome, StepFault>
-        ensures ok { IfOk result (λ outcome. TakesStep (world_in self.old)
+        ensures ok { IfOk result (λ outcome. TakesRunStep (world_in self.old)
             (step_of (Step.Ask worker index request)) outcome (world_in self.new)) }
         ensures err { OnErr result (world_in self.new ≡ world_in self.old) }
     {
@@ -223,7 +223,7 @@ impl Parts {
         index: u16,
         key: Key,
     ) -> Result<Outcome, StepFault>
-        ensures ok { IfOk result (λ outcome. TakesStep (world_in self.old)
+        ensures ok { IfOk result (λ outcome. TakesRunStep (world_in self.old)
             (step_of (Step.Reap worker index key)) outcome (world_in self.new)) }
         ensures err { OnErr result (world_in self.new ≡ world_in self.old) }
     {
@@ -233,7 +233,7 @@ impl Parts {
 
     /// The site of a partition's fallback; none where the partition isn't diverted.
     fn fallback_of(&self, index: u16) -> Option<usize>
-        ensures { HasFallback self.now index result }
+        ensures { HasFallbackSite self.now index result }
     {
         let own = usize::from(index);
         let site = *self.routes.get(own)?;
@@ -248,7 +248,7 @@ impl Parts {
 
     /// A worker is to copy a key of the partition at an index.
     fn send_copier(&mut self, worker: u16, index: u16, key: Box<Key>) -> Outcome
-        ensures { TakesStep (world_in self.old) (copying_step worker index key.value) result
+        ensures { TakesRunStep (world_in self.old) (copying_step worker index key.value) result
             (world_in self.new) }
     {
         let Some(place) = self.find_idle(worker) else {
@@ -273,7 +273,7 @@ impl Parts {
         index: u16,
         key: Key,
     ) -> Result<Outcome, StepFault>
-        ensures ok { IfOk result (λ outcome. TakesStep (world_in self.old)
+        ensures ok { IfOk result (λ outcome. TakesRunStep (world_in self.old)
             (step_of (Step.Copy worker index key)) outcome (world_in self.new)) }
         ensures err { OnErr result (world_in self.new ≡ world_in self.old) }
     {
@@ -283,7 +283,7 @@ impl Parts {
 
     /// A worker is to close the fallback of the partition at an index.
     fn close(&mut self, worker: u16, index: u16) -> Outcome
-        ensures { TakesStep (world_in self.old) (closing_step worker index) result
+        ensures { TakesRunStep (world_in self.old) (closing_step worker index) result
             (world_in self.new) }
     {
         let Some(place) = self.find_idle(worker) else {

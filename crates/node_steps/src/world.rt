@@ -5,8 +5,8 @@ ghost use Rattle.node_steps.specs.World.{opening_vnodes, opening_world, own_site
 ghost use Rattle.node_steps.specs.Erased.{erase, erase_vnode};
 ghost use Rattle.node_steps.specs.Running.{vnode_of};
 ghost use Rattle.node_steps.specs.Asked.{step_of};
-ghost use Rattle.node_steps.specs.Parts.{TakesStep};
-ghost use Rattle.node_steps.specs.Kept.{Follows, FollowsAll, FollowsSome};
+ghost use Rattle.node_steps.specs.Parts.{TakesRunStep};
+ghost use Rattle.node_steps.specs.Kept.{FollowsInRun, FollowsAll, FollowsSome};
 
 use crate::fault::StepFault;
 use crate::outcome::Outcome;
@@ -117,9 +117,9 @@ impl World {
     /// A look copies what it shows, and what it plans, a copier's the key's clock, a closer's one key after another; a call, and a copier's key, is kept on the heap; a
     /// fallback takes a place. All else takes no memory.
     pub fn step(&mut self, alloc: Global, step: Step) -> Result<Outcome, StepFault>
-        ensures step { IfOk result (λ outcome. TakesStep self.old (step_of step) outcome self.new) }
+        ensures step { IfOk result (λ outcome. TakesRunStep self.old (step_of step) outcome self.new) }
         ensures schedule { IfOk result (λ outcome.
-            Follows self.old (step_of step) outcome self.new) }
+            FollowsInRun self.old (step_of step) outcome self.new) }
         ensures err { OnErr result (self.new ≡ self.old) }
     {
         self.parts.step(alloc, step)

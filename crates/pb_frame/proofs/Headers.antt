@@ -8,7 +8,7 @@ use Rattle.std.specs.List.{flat_map, All}
 use Rattle.pb_frame.specs.declared.fault.FrameFault.{FrameFault}
 use Rattle.pb_frame.specs.declared.fault.FrameFault.TheVariants.{Empty, TooLarge, NoMemory}
 use Rattle.byteorder.specs.Endian.{big_bytes, big_number}
-use Rattle.pb_frame.specs.Message.{Message, frame, given_length, IsWithin, IsPartial, IsFaulty, IsShort, IsBadLength, Splits}
+use Rattle.pb_frame.specs.Message.{CodedMessage, frame, given_length, FitsLimit, IsPartial, IsFaulty, IsShort, IsBadLength, Splits}
 use Rattle.pb_frame.specs.Header.{message_at, IsWhole}
 
 -- each is a byte
@@ -23,7 +23,7 @@ four_bytes a b c d rest fits =
     (omega arith)
 
 -- the length of a frame
-pub length-frame : (m : Message) → length (frame m) ≡ length m.body + 5
+pub length-frame : (m : CodedMessage) → length (frame m) ≡ length m.body + 5
 unfolding frame
 length-frame m = omega arith
 
@@ -51,18 +51,18 @@ number_is : (a b c d : ℕ) (rest : List ℕ) → big_number 4 (a ∷ b ∷ c �
 number_is a b c d rest = omega arith
 
 -- the length with which a frame begins is its own
-pub given_length-frame : (m : Message) (more : List ℕ) → length m.body + 1 < 2 ^ 32 → given_length (frame m ++ more) ≡ length m.body + 1
+pub given_length-frame : (m : CodedMessage) (more : List ℕ) → length m.body + 1 < 2 ^ 32 → given_length (frame m ++ more) ≡ length m.body + 1
 unfolding frame given_length
 given_length-frame m more lt =
     let n = length m.body + 1 in
     number_is (byte_at 3 n) (byte_at 2 n) (byte_at 1 n) (byte_at 0 n) (m.code ∷ m.body ++ more) ∙ from_be_bytes-to_be_bytes_4 n lt
 
 -- a message by its parts
-abbrev pub made : ℕ → List ℕ → Message
+abbrev pub made : ℕ → List ℕ → CodedMessage
 made code body = record { code = code; body = body }
 
 -- messages with the same parts are the same
-same_message : (a b : Message) → a.code ≡ b.code → a.body ≡ b.body → a ≡ b
+same_message : (a b : CodedMessage) → a.code ≡ b.code → a.body ≡ b.body → a ≡ b
 same_message a b e d = ap (λ (c : ℕ). made c a.body) e ∙ ap (λ (t : List ℕ). made b.code t) d
 
 -- a length that is within the limit, and as many bytes, are a whole frame
@@ -82,7 +82,7 @@ whole_front limit bytes end fits some within is long =
 pub frame_taken : (limit : ℕ) (bytes shown again : List ℕ) (start n : ℕ) → shown ≡ bytes → again ≡ bytes
     → IsWhole limit (take (length shown - start) (drop start shown)) n
     → (drop start bytes ≡ frame (made (get_or again (start + 4) 0) (take (start + n - (start + 5)) (drop (start + 5) again))) ++ drop (start + n) bytes)
-    × IsWithin limit (made (get_or again (start + 4) 0) (take (start + n - (start + 5)) (drop (start + 5) again)))
+    × FitsLimit limit (made (get_or again (start + 4) 0) (take (start + n - (start + 5)) (drop (start + 5) again)))
 frame_taken limit bytes shown again start n is is' whole =
     let xs = drop start bytes in
     let part-is : take (length shown - start) (drop start shown) ≡ xs = ap (λ (b : List ℕ). take (length b - start) (drop start b)) is ∙ take_rest bytes start in
@@ -93,8 +93,8 @@ frame_taken limit bytes shown again start n is is' whole =
     let body : take (n - 5) (drop 5 xs) ≡ take (start + n - (start + 5)) (drop (start + 5) again) =
     ap (take (n - 5)) (drop-drop 5 start bytes ∙ ap (drop (start + 5)) (sym is')) ∙ ap (λ (j : ℕ). take j (drop (start + 5) again)) same in
     let message : message_at xs n ≡ made (get_or again (start + 4) 0) (take (start + n - (start + 5)) (drop (start + 5) again)) = same_message _ _ code body in (
-      here.front ∙ ap (λ (m : Message). frame m ++ drop n xs) message ∙ ap (λ (t : List ℕ). frame (made (get_or again (start + 4) 0) (take (start + n - (start + 5)) (drop (start + 5) again))) ++ t) (drop-drop n start bytes),
-      subst (IsWithin limit) message here.within,
+      here.front ∙ ap (λ (m : CodedMessage). frame m ++ drop n xs) message ∙ ap (λ (t : List ℕ). frame (made (get_or again (start + 4) 0) (take (start + n - (start + 5)) (drop (start + 5) again))) ++ t) (drop-drop n start bytes),
+      subst (FitsLimit limit) message here.within,
     )
 
 -- less than a whole frame begins no frame
@@ -129,7 +129,7 @@ pub none_partial : (limit : ℕ) → limit < 2 ^ 32 → IsPartial limit []
 none_partial limit lt = short_partial limit [] lt (λ long. absurd (omega arith))
 
 -- two frames within a limit that begin one stream are one
-same_frame : (a b : Message) (x y : List ℕ) → length a.body + 1 < 2 ^ 32 → length b.body + 1 < 2 ^ 32 → frame a ++ x ≡ frame b ++ y → (a ≡ b) × (x ≡ y)
+same_frame : (a b : CodedMessage) (x y : List ℕ) → length a.body + 1 < 2 ^ 32 → length b.body + 1 < 2 ^ 32 → frame a ++ x ≡ frame b ++ y → (a ≡ b) × (x ≡ y)
 unfolding frame
 same_frame a b x y la lb e =
     let len : length a.body ≡ length b.body = omega (arith, sym (given_length-frame a x la) ∙ ap given_length e ∙ given_length-frame b y lb) in
@@ -141,33 +141,33 @@ same_frame a b x y la lb e =
     (same_message a b code body, rest)
 
 -- what was taken off the front of a stream begins its messages
-pub begins_messages : (limit : ℕ) → limit < 2 ^ 32 → (stream : List ℕ) (all some : List Message) (rest more : List ℕ) → Splits limit stream all rest → stream ≡ flat_map frame some ++ more → All (IsWithin limit) some
-    → (later : List Message) × (all ≡ some ++ later) × (more ≡ flat_map frame later ++ rest)
+pub begins_messages : (limit : ℕ) → limit < 2 ^ 32 → (stream : List ℕ) (all some : List CodedMessage) (rest more : List ℕ) → Splits limit stream all rest → stream ≡ flat_map frame some ++ more → All (FitsLimit limit) some
+    → (later : List CodedMessage) × (all ≡ some ++ later) × (more ≡ flat_map frame later ++ rest)
 begins_messages limit lt stream all [] rest more p e each = (all, refl, sym e ∙ p.whole)
 begins_messages limit lt stream [] (b ∷ bs) rest more p e each =
-    absurd (p.left b (flat_map frame bs ++ more) (All-head (IsWithin limit) b bs each) (sym p.whole ∙ e ∙ append_assoc (frame b) (flat_map frame bs) more))
+    absurd (p.left b (flat_map frame bs ++ more) (All-head (FitsLimit limit) b bs each) (sym p.whole ∙ e ∙ append_assoc (frame b) (flat_map frame bs) more))
 begins_messages limit lt stream (a ∷ ms) (b ∷ bs) rest more p e each =
-    let within-a : IsWithin limit a = All-head (IsWithin limit) a ms p.each in
-    let within-b : IsWithin limit b = All-head (IsWithin limit) b bs each in
+    let within-a : FitsLimit limit a = All-head (FitsLimit limit) a ms p.each in
+    let within-b : FitsLimit limit b = All-head (FitsLimit limit) b bs each in
     let d : frame a ++ (flat_map frame ms ++ rest) ≡ frame b ++ (flat_map frame bs ++ more) =
     sym (append_assoc (frame a) (flat_map frame ms) rest) ∙ sym p.whole ∙ e ∙ append_assoc (frame b) (flat_map frame bs) more in
     let first = same_frame a b (flat_map frame ms ++ rest) (flat_map frame bs ++ more) (omega arith) (omega arith) d in
-    let next = begins_messages limit lt (flat_map frame ms ++ rest) ms bs rest more (record { whole = refl; each = All-tail (IsWithin limit) a ms p.each; left = p.left }) first.1 (All-tail (IsWithin limit) b bs each) in
-    (next.0, ap (λ (m : Message). m ∷ ms) first.0 ∙ ap (λ (ns : List Message). b ∷ ns) next.1, next.2)
+    let next = begins_messages limit lt (flat_map frame ms ++ rest) ms bs rest more (record { whole = refl; each = All-tail (FitsLimit limit) a ms p.each; left = p.left }) first.1 (All-tail (FitsLimit limit) b bs each) in
+    (next.0, ap (λ (m : CodedMessage). m ∷ ms) first.0 ∙ ap (λ (ns : List CodedMessage). b ∷ ns) next.1, next.2)
 
 -- a stream has one split
-pub one_reading : (limit : ℕ) → limit < 2 ^ 32 → (stream : List ℕ) (ms bs : List Message) (x y : List ℕ) → Splits limit stream ms x → Splits limit stream bs y → (ms ≡ bs) × (x ≡ y)
+pub one_reading : (limit : ℕ) → limit < 2 ^ 32 → (stream : List ℕ) (ms bs : List CodedMessage) (x y : List ℕ) → Splits limit stream ms x → Splits limit stream bs y → (ms ≡ bs) × (x ≡ y)
 one_reading limit lt stream [] [] x y p q = (refl, sym p.whole ∙ q.whole)
 one_reading limit lt stream [] (b ∷ bs) x y p q =
-    absurd (p.left b (flat_map frame bs ++ y) (All-head (IsWithin limit) b bs q.each) (sym p.whole ∙ q.whole ∙ append_assoc (frame b) (flat_map frame bs) y))
+    absurd (p.left b (flat_map frame bs ++ y) (All-head (FitsLimit limit) b bs q.each) (sym p.whole ∙ q.whole ∙ append_assoc (frame b) (flat_map frame bs) y))
 one_reading limit lt stream (a ∷ ms) [] x y p q =
-    absurd (q.left a (flat_map frame ms ++ x) (All-head (IsWithin limit) a ms p.each) (sym q.whole ∙ p.whole ∙ append_assoc (frame a) (flat_map frame ms) x))
+    absurd (q.left a (flat_map frame ms ++ x) (All-head (FitsLimit limit) a ms p.each) (sym q.whole ∙ p.whole ∙ append_assoc (frame a) (flat_map frame ms) x))
 one_reading limit lt stream (a ∷ ms) (b ∷ bs) x y p q =
-    let within-a : IsWithin limit a = All-head (IsWithin limit) a ms p.each in
-    let within-b : IsWithin limit b = All-head (IsWithin limit) b bs q.each in
+    let within-a : FitsLimit limit a = All-head (FitsLimit limit) a ms p.each in
+    let within-b : FitsLimit limit b = All-head (FitsLimit limit) b bs q.each in
     let e : frame a ++ (flat_map frame ms ++ x) ≡ frame b ++ (flat_map frame bs ++ y) =
     sym (append_assoc (frame a) (flat_map frame ms) x) ∙ sym p.whole ∙ q.whole ∙ append_assoc (frame b) (flat_map frame bs) y in
     let first = same_frame a b (flat_map frame ms ++ x) (flat_map frame bs ++ y) (omega arith) (omega arith) e in
-    let rest = one_reading limit lt (flat_map frame ms ++ x) ms bs x y (record { whole = refl; each = All-tail (IsWithin limit) a ms p.each; left = p.left })
-    (record { whole = first.1; each = All-tail (IsWithin limit) b bs q.each; left = q.left }) in
-    (ap (λ (m : Message). m ∷ ms) first.0 ∙ ap (λ (ns : List Message). b ∷ ns) rest.0, rest.1)
+    let rest = one_reading limit lt (flat_map frame ms ++ x) ms bs x y (record { whole = refl; each = All-tail (FitsLimit limit) a ms p.each; left = p.left })
+    (record { whole = first.1; each = All-tail (FitsLimit limit) b bs q.each; left = q.left }) in
+    (ap (λ (m : CodedMessage). m ∷ ms) first.0 ∙ ap (λ (ns : List CodedMessage). b ∷ ns) rest.0, rest.1)

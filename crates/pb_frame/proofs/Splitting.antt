@@ -5,7 +5,7 @@ use Rattle.std.proofs.lemmas.List.{length-drop, get_or-drop, get_or_past}
 use Rattle.std.proofs.lemmas.List.Elements.{All-nil, All-cons, All-get_or}
 use Rattle.std.specs.List.{flat_map, All}
 use Rattle.pb_frame.specs.declared.fault.FrameFault.TheVariants.{Empty, TooLarge}
-use Rattle.pb_frame.specs.Message.{Message, frame, given_length, IsWithin, BeginsNoFrame, Splits}
+use Rattle.pb_frame.specs.Message.{CodedMessage, frame, given_length, FitsLimit, BeginsNoFrame, Splits}
 use Rattle.pb_frame.specs.Header.{message_at, IsWhole}
 use Rattle.pb_frame.proofs.Headers.{IsBytes, whole_front, short_partial, bad_faulty}
 
@@ -28,12 +28,12 @@ whole_or_none limit bytes lt fits =
 
 -- the split of at most n bytes, a frame at a time
 split_within : (n limit : ℕ) (stream : List ℕ) → limit < 2 ^ 32 → IsBytes stream → length stream ≤ n
-    → (messages : List Message) × (rest : List ℕ) × Splits limit stream messages rest
+    → (messages : List CodedMessage) × (rest : List ℕ) × Splits limit stream messages rest
 split_within zero limit stream lt fits few =
-    ([], stream, record { whole = refl; each = All-nil (IsWithin limit); left = (short_partial limit stream lt (λ long. absurd (omega (arith, few, long)))).left })
+    ([], stream, record { whole = refl; each = All-nil (FitsLimit limit); left = (short_partial limit stream lt (λ long. absurd (omega (arith, few, long)))).left })
 split_within (suc n) limit stream lt fits few =
     elim (whole_or_none limit stream lt fits) [
-      | inr none ↦ ([], stream, record { whole = refl; each = All-nil (IsWithin limit); left = none })
+      | inr none ↦ ([], stream, record { whole = refl; each = All-nil (FitsLimit limit); left = none })
       | inl found ↦
           let end = found.0 in
           let first = found.1 in
@@ -45,7 +45,7 @@ split_within (suc n) limit stream lt fits few =
             next.1,
             record {
               whole = first.front ∙ ap (λ (t : List ℕ). frame m ++ t) next.2.whole ∙ sym (append_assoc (frame m) (flat_map frame next.0) next.1);
-              each = All-cons (IsWithin limit) m next.0 first.within next.2.each;
+              each = All-cons (FitsLimit limit) m next.0 first.within next.2.each;
               left = next.2.left;
             },
           )
@@ -60,5 +60,5 @@ bytes_fit stream each i = elim (cases_lt i (length stream)) [
 
 -- each stream of bytes has a split
 pub split_of_bytes : (limit : ℕ) → limit < 2 ^ 32 → (stream : List ℕ) → All (λ (b : ℕ). b < 2 ^ 8) stream
-    → (messages : List Message) × (rest : List ℕ) × Splits limit stream messages rest
+    → (messages : List CodedMessage) × (rest : List ℕ) × Splits limit stream messages rest
 split_of_bytes limit lt stream each = split_within (length stream) limit stream lt (bytes_fit stream each) (omega arith)

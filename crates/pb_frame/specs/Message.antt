@@ -6,12 +6,12 @@ use Rattle.pb_frame.specs.declared.fault.FrameFault.{FrameFault}
 use Rattle.pb_frame.specs.declared.fault.FrameFault.TheVariants.{Empty, TooLarge, NoMemory}
 
 -- a message: its code and its body
-pub record Message : Type 0 where
+pub record CodedMessage : Type 0 where
   pub code : ℕ
   pub body : List ℕ
 
 -- a message as a frame: in four bytes, the highest first, how long code and body are, then the code and the body
-unfoldable pub frame : Message → List ℕ
+unfoldable pub frame : CodedMessage → List ℕ
 frame m = big_bytes 4 (length m.body + 1) ++ m.code ∷ m.body
 
 -- the length with which a frame begins
@@ -19,17 +19,17 @@ unfoldable pub given_length : List ℕ → ℕ
 given_length bytes = big_number 4 bytes
 
 -- code and body are at most `limit` bytes
-abbrev pub IsWithin : ℕ → Message → Type 0
-IsWithin limit m = length m.body + 1 ≤ limit
+abbrev pub FitsLimit : ℕ → CodedMessage → Type 0
+FitsLimit limit m = length m.body + 1 ≤ limit
 
 -- no whole frame stands at the front
 abbrev pub BeginsNoFrame : ℕ → List ℕ → Type 0
-BeginsNoFrame limit rest = (m : Message) (more : List ℕ) → IsWithin limit m → rest ≡ frame m ++ more → ⊥
+BeginsNoFrame limit rest = (m : CodedMessage) (more : List ℕ) → FitsLimit limit m → rest ≡ frame m ++ more → ⊥
 
 -- the stream is the frames of these messages, and then a rest that begins no whole frame
-pub record Splits (limit : ℕ) (stream : List ℕ) (messages : List Message) (rest : List ℕ) : Type 0 where
+pub record Splits (limit : ℕ) (stream : List ℕ) (messages : List CodedMessage) (rest : List ℕ) : Type 0 where
   pub whole : stream ≡ flat_map frame messages ++ rest
-  pub each : All (IsWithin limit) messages
+  pub each : All (FitsLimit limit) messages
   pub left : BeginsNoFrame limit rest
 
 -- fewer bytes than a frame has, by the length that they begin with, if that has come
@@ -54,7 +54,7 @@ pub record IsFaulty (limit : ℕ) (rest : List ℕ) (fault : FrameFault) : Type 
 
 -- after some frames, the stream goes on with a length that no frame has
 pub record IsFaultyStream (limit : ℕ) (stream : List ℕ) (fault : FrameFault) : Type 0 where
-  pub messages : List Message
+  pub messages : List CodedMessage
   pub rest : List ℕ
   pub splits : Splits limit stream messages rest
   pub faulty : IsBadLength limit rest fault

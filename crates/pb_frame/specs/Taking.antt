@@ -5,17 +5,17 @@ use Rattle.std.specs.Io.BufRead.{Rests}
 use Rattle.pb_frame.specs.declared.fault.FrameFault.{FrameFault}
 use Rattle.pb_frame.specs.declared.frame.Frame.{Frame}
 use Rattle.pb_frame.specs.contracts.framer.Framer.{the_row}
-use Rattle.pb_frame.specs.Message.{Message, frame, IsWithin, IsPartial, IsFaulty}
+use Rattle.pb_frame.specs.Message.{CodedMessage, frame, FitsLimit, IsPartial, IsFaulty}
 use Rattle.pb_frame.specs.Stream.{Stream}
 
 -- the message of a frame that was taken
-abbrev pub message_of : Frame → Message
+abbrev pub message_of : Frame → CodedMessage
 message_of f = record { code = f.code; body = f.body.now }
 
 -- a frame was taken off the front
-pub record IsTaken (old : Stream) (m : Message) (new : Stream) : Type 0 where
+pub record IsTaken (old : Stream) (m : CodedMessage) (new : Stream) : Type 0 where
   pub fault : old.fault ≡ None
-  pub within : IsWithin old.limit m
+  pub within : FitsLimit old.limit m
   pub front : old.rest ≡ frame m ++ new.rest
   pub stream : new ≡ record old { rest = new.rest }
 

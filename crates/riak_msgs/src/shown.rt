@@ -1,8 +1,8 @@
 //! A sibling as a reply shows it.
 
 ghost use Rattle.riak_msgs.specs.Encoding.{shown_message};
-ghost use Rattle.std.specs.Prelude.{◌≡◌, IfOk};
-ghost use Rattle.riak_msgs.specs.Contents.{tombstone};
+ghost use Rattle.std.specs.Prelude.{◌≡◌, Some, IfOk};
+ghost use Rattle.riak_msgs.specs.Contents.{shown, tombstone};
 
 use crate::content::Content;
 use pb_fields::{Message, Output};
@@ -32,6 +32,25 @@ impl Shown {
         Ok(Shown {
             content: Content::of_value(alloc, &[])?,
             deleted: true,
+        })
+    }
+
+    /// A content, as a reply shows it, without its value where it is to be bare.
+    pub fn of_content(
+        alloc: Global,
+        content: &Content,
+        is_bare: bool,
+    ) -> Result<Shown, AllocError>
+        ensures { IfOk result (λ s. s ≡ shown is_bare (Some content.now)) }
+    {
+        let content = if is_bare {
+            content.clone_head(alloc)?
+        } else {
+            content.clone()?
+        };
+        Ok(Shown {
+            content,
+            deleted: false,
         })
     }
 }

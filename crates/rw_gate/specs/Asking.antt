@@ -3,8 +3,8 @@ use Rattle.std.specs.Prelude.{◌≡◌, ◌<◌, ◌-◌, ◌^◌, List, [], �
 use mathlib.Core.List.{IsPrefix}
 use Rattle.rw_gate.specs.Views.{PassView}
 use Rattle.rw_gate.specs.Histories.{RunFrom, IsLonger}
-use Rattle.rw_gate.specs.declared.asking.Outcome.{Outcome}
-use Rattle.rw_gate.specs.declared.asking.Outcome.TheVariants.{Made, Told, Refused, Moved, Full}
+use Rattle.rw_gate.specs.declared.asking.AskOutcome.{AskOutcome}
+use Rattle.rw_gate.specs.declared.asking.AskOutcome.TheVariants.{Made, Told, Refused, Moved, Full}
 
 -- the history had gone on past the state: it has events, and none of them is by this ask
 pub record IsOvertaken {S E : Type 0} (old new : PassView S E) : Type 0 where
@@ -12,7 +12,7 @@ pub record IsOvertaken {S E : Type 0} (old new : PassView S E) : Type 0 where
   pub own : new.own ≡ old.own
 
 -- the history has as many events as it can have, and none of them is by this ask
-pub record IsFull {S E : Type 0} (old new : PassView S E) : Type 0 where
+pub record IsHistoryFull {S E : Type 0} (old new : PassView S E) : Type 0 where
   pub full : length new.prefix ≡ 2 ^ 64 - 1
   pub own : new.own ≡ old.own
 
@@ -40,28 +40,28 @@ module _ {S E State Ask Reply Refusal : Type 0} (content : S → State) (accepts
     pub own : new.own ≡ old.own
 
   -- what came of one ask
-  abbrev pub Comes : Ask → PassView S E → PassView S E → Outcome Reply Refusal → Type 0
+  abbrev pub Comes : Ask → PassView S E → PassView S E → AskOutcome Reply Refusal → Type 0
   Comes ask old new (Made reply) = IsMade ask old new reply
   Comes ask old new (Told reply) = IsSaid (λ s. answers s ask reply) old new
   Comes ask old new (Refused refusal) = IsSaid (λ s. refuses s ask refusal) old new
   Comes ask old new Moved = IsOvertaken old new
-  Comes ask old new Full = IsFull old new
+  Comes ask old new Full = IsHistoryFull old new
 
   -- what was seen then, beside the history of the state under the right: more, where it had gone on; else just that, unless an
   -- event was made
-  abbrev pub SeesUnder : List E → PassView S E → Outcome Reply Refusal → Type 0
+  abbrev pub SeesUnder : List E → PassView S E → AskOutcome Reply Refusal → Type 0
   SeesUnder history new (Made reply) = Unit {0}
   SeesUnder history new Moved = IsLonger history new.prefix (length new.prefix)
   SeesUnder history new other = new.prefix ≡ history
 
   -- the event of the ask stands right behind all that the pass had seen
-  pub record IsNext (ask : Ask) (old new : PassView S E) : Type 0 where
+  pub record IsRightBehind (ask : Ask) (old new : PassView S E) : Type 0 where
     pub event : E
     pub asked : asks event ask
     pub seen : new.prefix ≡ old.prefix ++ event ∷ []
     pub own : new.own ≡ old.own ++ length old.prefix ∷ []
 
   -- where one was made
-  abbrev pub Follows : Ask → PassView S E → PassView S E → Outcome Reply Refusal → Type 0
-  Follows ask old new (Made reply) = IsNext ask old new
-  Follows ask old new other = Unit {0}
+  abbrev pub MadeRightBehind : Ask → PassView S E → PassView S E → AskOutcome Reply Refusal → Type 0
+  MadeRightBehind ask old new (Made reply) = IsRightBehind ask old new
+  MadeRightBehind ask old new other = Unit {0}

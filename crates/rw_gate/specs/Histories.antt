@@ -2,7 +2,7 @@
 use Rattle.std.specs.Prelude.{◌≡◌, ◌<◌, ◌-◌, ◌^◌, ℕ, List, [], ◌∷◌, ◌++◌, length, All, Option, Some, None}
 use mathlib.Core.List.{IsPrefix}
 use Rattle.logbook.specs.Pages.{Book}
-use Rattle.rw_gate.specs.declared.log.LogEntry.{LogEntry}
+use Rattle.rw_gate.specs.declared.log.GateEntry.{GateEntry}
 use Rattle.rw_gate.specs.Machines.{MachineRun}
 use Rattle.rw_gate.specs.Logs.{events, LeadsTo}
 use Rattle.rw_gate.specs.Views.{GateId, gate_id, RightView}
@@ -47,7 +47,7 @@ module _ {S E State : Type 0} (content : S → State) (accepts : State → E →
     pub room : HasRoom old.history
 
   -- what lies in the slot of a gate: a state, the log that leads to it, and how many events that has
-  pub record IsSlotValue (gate : GateId S) (book : Book) (log : List (LogEntry S E)) (count : ℕ) (state : S) : Type 0 where
+  pub record IsSlotValue (gate : GateId S) (book : Book) (log : List (GateEntry S E)) (count : ℕ) (state : S) : Type 0 where
     pub of_gate : gate_id book log ≡ gate
     pub counted : count ≡ length (events log)
     pub leads : LeadsTo content accepts log (content state)

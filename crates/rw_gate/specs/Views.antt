@@ -2,7 +2,7 @@
 use Rattle.std.specs.Prelude.{ℕ, List, Option, refl}
 use Rattle.std.specs.Coded.{Coded, code_by, coded×, coded_ℕ, coded_list, coded_option}
 use Rattle.logbook.specs.Pages.{Book, book_coded}
-use Rattle.rw_gate.specs.declared.log.LogEntry.{LogEntry}
+use Rattle.rw_gate.specs.declared.log.GateEntry.{GateEntry}
 use Rattle.rw_gate.specs.Logs.{opening}
 
 -- which gate it is: the book of its log, and the state that it was made with
@@ -16,7 +16,7 @@ gate_id_coded {S} c =
     (λ h. (h.book, h.opening)) (λ p. record { book = p.0; opening = p.1 }) (λ _. refl)
 
 -- the gate of a log
-abbrev pub gate_id : {S E : Type 0} → Book → List (LogEntry S E) → GateId S
+abbrev pub gate_id : {S E : Type 0} → Book → List (GateEntry S E) → GateId S
 gate_id b log = record { book = b; opening = opening log }
 
 -- a pass: the prefix of the history that it has seen, and the positions at which it published

@@ -2,7 +2,7 @@
 ghost use Rattle.std.specs.Prelude.{◌≡◌};
 ghost use mathlib.Core.List.{IsPrefix};
 ghost use Rattle.rw_gate.specs.Histories.{IsReplayed};
-ghost use Rattle.rw_gate.specs.Asking.{Comes, Follows, SeesUnder};
+ghost use Rattle.rw_gate.specs.Asking.{Comes, MadeRightBehind, SeesUnder};
 
 use crate::gate::Gate;
 use crate::kept::{Kept, Plan};
@@ -13,7 +13,7 @@ use std::sync::Wait;
 
 /// What came of an ask.
 #[derive(Drop)]
-pub enum Outcome<P, F> {
+pub enum AskOutcome<P, F> {
     /// It was accepted, as the next event of the history, and this is its answer.
     Made(P),
     /// It changes nothing, and this is its answer.
@@ -34,7 +34,7 @@ pub fn ask<S: Kept, R: Wait>(
     gate: &Gate<S>,
     pass: &mut Pass<S>,
     ask: S::Ask,
-) -> Outcome<S::Reply, S::Refusal>
+) -> AskOutcome<S::Reply, S::Refusal>
     requires { pass.old.gate ≡ gate.now }
     ensures gate { pass.new.gate ≡ pass.old.gate }
     ensures more { IsPrefix pass.old.prefix pass.new.prefix }
@@ -53,7 +53,7 @@ pub fn ask_under<S: Kept>(
     alloc: Global,
     pass: &mut Pass<S>,
     ask: S::Ask,
-) -> Outcome<S::Reply, S::Refusal>
+) -> AskOutcome<S::Reply, S::Refusal>
     requires { pass.old.gate ≡ right.old.gate }
     ensures gate { pass.new.gate ≡ pass.old.gate }
     ensures more { IsPrefix pass.old.prefix pass.new.prefix }
@@ -63,7 +63,7 @@ pub fn ask_under<S: Kept>(
         right.old.history pass.new result }
 {
     if right.look(pass).is_err() {
-        return Outcome::Moved;
+        return AskOutcome::Moved;
     }
     ask_shown(right, alloc, pass, ask)
 }
@@ -74,7 +74,7 @@ pub fn ask_shown<S: Kept>(
     alloc: Global,
     pass: &mut Pass<S>,
     ask: S::Ask,
-) -> Outcome<S::Reply, S::Refusal>
+) -> AskOutcome<S::Reply, S::Refusal>
     requires gate { pass.old.gate ≡ right.old.gate }
     requires shown { pass.old.prefix ≡ right.old.history }
     requires replay { IsReplayed S.content S.accepts right.old }
@@ -82,18 +82,18 @@ pub fn ask_shown<S: Kept>(
     ensures more { IsPrefix pass.old.prefix pass.new.prefix }
     ensures outcome { Comes S.content S.accepts S.answers S.refuses S.asks S.answered_by
         ask pass.old pass.new result }
-    ensures follows { Follows S.content S.accepts S.answers S.refuses S.asks S.answered_by
+    ensures follows { MadeRightBehind S.content S.accepts S.answers S.refuses S.asks S.answered_by
         ask pass.old pass.new result }
     ensures under { SeesUnder S.content S.accepts S.answers S.refuses S.asks S.answered_by
         right.old.history pass.new result }
 {
     match right.prepare(alloc, ask) {
         Ok(Plan::Change(change)) => match right.publish(pass, change) {
-            Ok(reply) => Outcome::Made(reply),
-            Err(PublishFault::Moved(_)) => Outcome::Moved,
-            Err(PublishFault::Full) => Outcome::Full,
+            Ok(reply) => AskOutcome::Made(reply),
+            Err(PublishFault::Moved(_)) => AskOutcome::Moved,
+            Err(PublishFault::Full) => AskOutcome::Full,
         },
-        Ok(Plan::Nothing(reply)) => Outcome::Told(reply),
-        Err(refusal) => Outcome::Refused(refusal),
+        Ok(Plan::Nothing(reply)) => AskOutcome::Told(reply),
+        Err(refusal) => AskOutcome::Refused(refusal),
     }
 }

@@ -4,7 +4,7 @@ use std::alloc::Global;
 
 /// A number. To raise it by 0 changes nothing and answers the number; past 18,446,744,073,709,551,615 an ask is refused.
 #[derive(Drop)]
-pub struct Counter {
+pub struct GatedCounter {
     pub value: u64,
 }
 
@@ -19,7 +19,7 @@ pub struct Raise {
 #[derive(Clone, Copy, Debug, PartialEq, Eq, Drop)]
 pub struct TooMuch;
 
-impl Kept for Counter {
+impl Kept for GatedCounter {
     type Ask = u64;
 
     type Change = Raise;

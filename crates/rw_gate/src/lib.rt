@@ -14,7 +14,7 @@
 //! right.release();                    // the counter 5 is in place, and may be read
 //! ```
 //!
-//! [`ask`] is that way in one call, and [`ask_under`] the part of it under a right that the caller has. What came of an ask ([`Outcome`],
+//! [`ask`] is that way in one call, and [`ask_under`] the part of it under a right that the caller has. What came of an ask ([`AskOutcome`],
 //! `specs/Asking`): one that was accepted is the event at one position of the history, behind all that the caller had seen, published once
 //! and the caller's own; one that changes nothing, or that was refused, is so by the machine's state at the end of what the caller has
 //! then seen. `Moved` and `Full` change nothing: the history had gone on past the state under the right, or it can have no further event.
@@ -41,7 +41,7 @@ mod slot_value;
 mod words;
 mod write;
 
-pub use asking::{Outcome, ask, ask_shown, ask_under};
+pub use asking::{AskOutcome, ask, ask_shown, ask_under};
 pub use counted_slot::MOST_READERS;
 pub use gate::Gate;
 pub use kept::{Kept, Plan};

@@ -5,7 +5,7 @@ use logbook::{Gain, Opening, Plain, Play, Rule, Seen, Word};
 use std::marker::PhantomData;
 
 /// An entry of the log. The code makes none.
-pub enum LogEntry<S, E> {
+pub enum GateEntry<S, E> {
     Opened(S),
     Made(E),
 }
@@ -15,7 +15,7 @@ pub struct GateRule<S> {
     of: PhantomData<S>,
 }
 
-impl<S: Kept> Rule<LogEntry<S, S::Event>, ()> for GateRule<S> {
+impl<S: Kept> Rule<GateEntry<S, S::Event>, ()> for GateRule<S> {
     ghost use Rattle.std.specs.Prelude.{[]};
     ghost use base.Fml.{ftrue};
     ghost use Rattle.rw_gate.specs.Steps.{IsLawful};
@@ -34,9 +34,9 @@ impl<S: Kept> Rule<LogEntry<S, S::Event>, ()> for GateRule<S> {
 }
 
 /// A log opens with the state that its gate is made with.
-impl<S: Kept> Opening<S, LogEntry<S, S::Event>> for GateRule<S> {
+impl<S: Kept> Opening<S, GateEntry<S, S::Event>> for GateRule<S> {
     ghost use Rattle.std.specs.Prelude.{[], ◌∷◌};
-    ghost use Rattle.rw_gate.specs.declared.log.LogEntry.TheVariants.{Opened};
+    ghost use Rattle.rw_gate.specs.declared.log.GateEntry.TheVariants.{Opened};
 
     ghost log = { λ count s. Opened s ∷ [] };
 }
@@ -46,7 +46,7 @@ pub struct NoTrade<S> {
     of: PhantomData<S>,
 }
 
-impl<S: Kept> Gain<LogEntry<S, S::Event>, ()> for NoTrade<S> {
+impl<S: Kept> Gain<GateEntry<S, S::Event>, ()> for NoTrade<S> {
     ghost use base.Fml.{ftrue};
 
     ghost after = { λ names about answer. ftrue };
@@ -57,15 +57,15 @@ pub struct Look<S> {
     of: PhantomData<S>,
 }
 
-impl<S: Kept> Play<LogEntry<S, S::Event>, ()> for Look<S> {
+impl<S: Kept> Play<GateEntry<S, S::Event>, ()> for Look<S> {
     ghost use Rattle.rw_gate.specs.Steps.{Looks};
 
     ghost then = { Looks S.content S.accepts };
 }
 
-impl<S: Kept> Plain<S, LogEntry<S, S::Event>, ()> for Look<S> {
+impl<S: Kept> Plain<S, GateEntry<S, S::Event>, ()> for Look<S> {
     ghost use Rattle.std.specs.Prelude.{None};
-    ghost use Rattle.rw_gate.specs.declared.log.LogEntry.TheVariants.{Opened};
+    ghost use Rattle.rw_gate.specs.declared.log.GateEntry.TheVariants.{Opened};
 
     ghost ask = { λ s. Opened s };
 
@@ -77,15 +77,15 @@ pub struct Publish<S> {
     of: PhantomData<S>,
 }
 
-impl<S: Kept> Play<LogEntry<S, S::Event>, ()> for Publish<S> {
+impl<S: Kept> Play<GateEntry<S, S::Event>, ()> for Publish<S> {
     ghost use Rattle.rw_gate.specs.Steps.{Publishes};
 
     ghost then = { Publishes S.content S.accepts };
 }
 
-impl<S: Kept> Plain<S::Change, LogEntry<S, S::Event>, ()> for Publish<S> {
+impl<S: Kept> Plain<S::Change, GateEntry<S, S::Event>, ()> for Publish<S> {
     ghost use Rattle.std.specs.Prelude.{None};
-    ghost use Rattle.rw_gate.specs.declared.log.LogEntry.TheVariants.{Made};
+    ghost use Rattle.rw_gate.specs.declared.log.GateEntry.TheVariants.{Made};
 
     ghost ask = { λ c. Made (S.event c) };
 
@@ -93,7 +93,7 @@ impl<S: Kept> Plain<S::Change, LogEntry<S, S::Event>, ()> for Publish<S> {
 }
 
 /// A prefix of the log that was seen. It has no bytes.
-pub type SeenLog<S> = Seen<LogEntry<S, <S as Kept>::Event>, (), GateRule<S>>;
+pub type SeenLog<S> = Seen<GateEntry<S, <S as Kept>::Event>, (), GateRule<S>>;
 
 /// The word of a log: how many events it has.
-pub type Length<S> = Word<LogEntry<S, <S as Kept>::Event>, (), GateRule<S>>;
+pub type Length<S> = Word<GateEntry<S, <S as Kept>::Event>, (), GateRule<S>>;

@@ -2,14 +2,14 @@
 ghost use Rattle.std.specs.Prelude.{◌≡◌, ◌≢◌, ◌+◌, ◌<◌, ◌^◌, [], ◌∷◌, ◌++◌, length};
 ghost use Rattle.std.specs.Prelude.{OnOk, OnErr, IfOk, IfErr, MatchBool};
 ghost use mathlib.Core.List.{IsPrefix};
-ghost use Rattle.rw_gate.specs.declared.log.LogEntry.TheVariants.{Made};
+ghost use Rattle.rw_gate.specs.declared.log.GateEntry.TheVariants.{Made};
 ghost use Rattle.rw_gate.specs.Logs.{events, IsRun, LeadsTo};
 ghost use Rattle.rw_gate.specs.Steps.{length_word};
 ghost use Rattle.rw_gate.specs.Views.{gate_id};
 ghost use Rattle.rw_gate.specs.Histories.{AreBelow, IsHistory, IsLonger};
 
 use crate::kept::Kept;
-use crate::log::{GateRule, Length, LogEntry, Look, NoTrade, Publish, SeenLog};
+use crate::log::{GateRule, Length, GateEntry, Look, NoTrade, Publish, SeenLog};
 use ghost_state::GhostList;
 use logbook::Offer;
 use std::marker::Model;
@@ -141,7 +141,7 @@ impl<S: Kept> Pass<S> {
     {
         let mut both = self.seen.again();
         both.learn(seen);
-        let mut offer: Offer<LogEntry<S, S::Event>, (), GateRule<S>, NoTrade<S>> = both.plain::<
+        let mut offer: Offer<GateEntry<S, S::Event>, (), GateRule<S>, NoTrade<S>> = both.plain::<
             NoTrade<S>,
             S,
             Look<S>,
@@ -216,7 +216,7 @@ impl<S: Kept> Pass<S> {
             × (length (events both.old.log) ≡ count) }
         ensures missed { result ≢ count → length (events both.new.log) ≡ result }
     {
-        let mut offer: Offer<LogEntry<S, S::Event>, (), GateRule<S>, NoTrade<S>> = both.plain::<
+        let mut offer: Offer<GateEntry<S, S::Event>, (), GateRule<S>, NoTrade<S>> = both.plain::<
             NoTrade<S>,
             S::Change,
             Publish<S>,

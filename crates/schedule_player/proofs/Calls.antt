@@ -9,7 +9,7 @@ use Rattle.riak_msgs.specs.Contents.{Content}
 use Rattle.riak_msgs.specs.declared.Request.{Request}
 use Rattle.riak_msgs.specs.declared.Request.TheVariants as requests
 use Rattle.riak_msgs.specs.declared.reply.Reply.{Reply}
-use Rattle.sibling_register.specs.Answers.{Ask}
+use Rattle.sibling_register.specs.Answers.{RegisterAsk}
 use Rattle.actor_epoch.specs.Given.{Context}
 use Rattle.schedule_text.specs.Compared.{Compared, ask_of, after_call, after_reply}
 use Rattle.node_steps.specs.declared.step.Step.{Step as RunStep}
@@ -48,7 +48,7 @@ replied_is line index (requests.Put put) reply known = refl
 replied_is line index (requests.Del del) reply known = refl
 
 -- what is heard where only the comparison changes, by an ask that may be there
-pub compared_is : (o : Option (Ask Content Context)) (calls : Calls) (known : Compared) (f : Ask Content Context → Compared)
+pub compared_is : (o : Option (RegisterAsk Content Context)) (calls : Calls) (known : Compared) (f : RegisterAsk Content Context → Compared)
     → (let heard : Heard = record { calls = calls; compared = option_map_or f o known } in heard)
     ≡ option_map_or (λ ask. record { calls = calls; compared = f ask }) o (record { calls = calls; compared = known })
 compared_is None calls known f = refl
@@ -60,30 +60,30 @@ pub last_is : (calls : List (Option (Box RunStep))) (worker : ℕ)
 last_is calls worker = ap (λ o. unwrap_or o None) (slice_get-map call_in calls (worker - 1))
 
 -- a call is kept where the list has a place for it
-pub kept_is : (calls : List (Option (Box RunStep))) (worker : ℕ) (call : Box RunStep) (ask : Ask Content Context) → call_of call.value ≡ Some ask
+pub kept_is : (calls : List (Option (Box RunStep))) (worker : ℕ) (call : Box RunStep) (ask : RegisterAsk Content Context) → call_of call.value ≡ Some ask
     → map call_in (slice_set calls (worker - 1) (Some call)) ≡ with_call (map call_in calls) worker ask
 kept_is calls worker call ask is =
     map-set call_in calls (worker - 1) (Some call) ∙ ap (λ o. slice_set (map call_in calls) (worker - 1) o) is
 
-pub none_is : (o : Option (Ask Content Context)) → is_some o ≡ false → o ≡ None
+pub none_is : (o : Option (RegisterAsk Content Context)) → is_some o ≡ false → o ≡ None
 none_is None e = refl
 none_is (Some ask) e = cc
 
 -- a call was told of, and kept
-pub called_is : (o : Option (Ask Content Context)) (calls calls' : Calls) (known known' : Compared) (line worker : ℕ) → is_some o ≡ true
-    → ((ask : Ask Content Context) → o ≡ Some ask → calls' ≡ with_call calls worker ask)
+pub called_is : (o : Option (RegisterAsk Content Context)) (calls calls' : Calls) (known known' : Compared) (line worker : ℕ) → is_some o ≡ true
+    → ((ask : RegisterAsk Content Context) → o ≡ Some ask → calls' ≡ with_call calls worker ask)
     → known' ≡ option_map_or (λ ask. after_call ask known) o known
     → (let heard : Heard = record { calls = calls'; compared = known' } in heard) ≡ after_act line worker o outcomes.Done (record { calls = calls; compared = known })
 called_is None calls calls' known known' line worker e kept told = cc
 called_is (Some ask) calls calls' known known' line worker e kept told = λ i. record { calls = kept ask refl i; compared = told i }
 
 -- a list without a place for a call stays
-no_place : (calls : List (Option (Box RunStep))) (i : ℕ) (kept : Option (Ask Content Context)) → slice_get calls i ≡ None
+no_place : (calls : List (Option (Box RunStep))) (i : ℕ) (kept : Option (RegisterAsk Content Context)) → slice_get calls i ≡ None
     → map call_in calls ≡ slice_set (map call_in calls) i kept
 no_place [] i kept e = refl
 no_place (call ∷ calls) zero kept e = cc
 no_place (call ∷ calls) (suc i) kept e = ap (λ rest. call_in call ∷ rest) (no_place calls i kept e)
 
-pub not_kept : (calls : List (Option (Box RunStep))) (worker : ℕ) (ask : Ask Content Context) → slice_get calls (worker - 1) ≡ None
+pub not_kept : (calls : List (Option (Box RunStep))) (worker : ℕ) (ask : RegisterAsk Content Context) → slice_get calls (worker - 1) ≡ None
     → map call_in calls ≡ with_call (map call_in calls) worker ask
 not_kept calls worker ask e = no_place calls (worker - 1) (Some ask) e

@@ -4,7 +4,7 @@ use Rattle.std.specs.Prelude.{Option, Some, None}
 use Rattle.std.specs.Option.{option_map_or}
 use Rattle.riak_msgs.specs.Contents.{Content}
 use Rattle.riak_msgs.specs.declared.reply.Reply.{Reply}
-use Rattle.sibling_register.specs.Answers.{Ask, AskGet, AskPut, AskDel, AskReap}
+use Rattle.sibling_register.specs.Answers.{RegisterAsk, AskGet, AskPut, AskDel, AskReap}
 use Rattle.actor_epoch.specs.Given.{Context}
 use Rattle.vnode_machine.specs.Registers.{key_of}
 use Rattle.schedule_text.specs.declared.verdict.Verdict.{Verdict}
@@ -23,7 +23,7 @@ abbrev IsEnded : Compared → Type 0
 IsEnded known = known.verdict ≡ NotCompared
 
 -- what isn't compared stays so
-call-ended : (ask : Ask Content Context) (known : Compared) → IsEnded known → IsEnded (after_call ask known)
+call-ended : (ask : RegisterAsk Content Context) (known : Compared) → IsEnded known → IsEnded (after_call ask known)
 call-ended ask known e = by (is_unknown known.shown (key_of ask) (given_in ask))
   where
     by : (b : Bool) → IsEnded (cond b (not_compared known) known)
@@ -33,7 +33,7 @@ call-ended ask known e = by (is_unknown known.shown (key_of ask) (given_in ask))
 after-ended : (line : ℕ) (verdict : Verdict) (is_due : Bool) → verdict ≡ NotCompared → verdict_after line verdict is_due ≡ NotCompared
 after-ended line verdict is_due e = ap (λ v. verdict_after line v is_due) e
 
-reply-ended : (line : ℕ) (ask : Ask Content Context) (reply : Reply) (known : Compared) → IsEnded known → IsEnded (after_reply line ask reply known)
+reply-ended : (line : ℕ) (ask : RegisterAsk Content Context) (reply : Reply) (known : Compared) → IsEnded known → IsEnded (after_reply line ask reply known)
 reply-ended line ask reply known e = by (is_asked reply)
   where
     by : (b : Bool) → IsEnded (cond b (after_reply_at line ask reply known) known)
@@ -43,25 +43,25 @@ reply-ended line ask reply known e = by (is_asked reply)
         after-ended line known.verdict (is_due (history_after known.history outcome) (key_of ask) (told_in outcome) reply) e
     by false = e
 
-replied-ended : (line : ℕ) (reply : Reply) (ask : Ask Content Context) (known : Compared) → IsEnded known → IsEnded (replied line reply ask known)
+replied-ended : (line : ℕ) (reply : Reply) (ask : RegisterAsk Content Context) (known : Compared) → IsEnded known → IsEnded (replied line reply ask known)
 replied-ended line reply (AskGet get) known e = reply-ended line (AskGet get) reply known e
 replied-ended line reply (AskPut put) known e = reply-ended line (AskPut put) reply known e
 replied-ended line reply (AskDel del) known e = reply-ended line (AskDel del) reply known e
 replied-ended line reply (AskReap key) known e = e
 
-reaped-ended : (ask : Ask Content Context) (known : Compared) → IsEnded known → IsEnded (reaped ask known)
+reaped-ended : (ask : RegisterAsk Content Context) (known : Compared) → IsEnded known → IsEnded (reaped ask known)
 reaped-ended (AskGet get) known e = e
 reaped-ended (AskPut put) known e = e
 reaped-ended (AskDel del) known e = e
 reaped-ended (AskReap key) known e = e
 
 -- by an ask that may be there
-by_ask : (heard : Heard) (f : Ask Content Context → Heard) → IsEnded heard.compared → ((ask : Ask Content Context) → IsEnded (f ask).compared)
-    → (o : Option (Ask Content Context)) → IsEnded (option_map_or f o heard).compared
+by_ask : (heard : Heard) (f : RegisterAsk Content Context → Heard) → IsEnded heard.compared → ((ask : RegisterAsk Content Context) → IsEnded (f ask).compared)
+    → (o : Option (RegisterAsk Content Context)) → IsEnded (option_map_or f o heard).compared
 by_ask heard f e h None = e
 by_ask heard f e h (Some ask) = h ask
 
-act-ended : (line worker : ℕ) (asked : Option (Ask Content Context)) (came : Returned) (heard : Heard) → IsEnded heard.compared
+act-ended : (line worker : ℕ) (asked : Option (RegisterAsk Content Context)) (came : Returned) (heard : Heard) → IsEnded heard.compared
     → IsEnded (after_act line worker asked came heard).compared
 act-ended line worker asked outcomes.No heard e = e
 act-ended line worker asked outcomes.Copied heard e = e

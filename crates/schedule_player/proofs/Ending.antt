@@ -12,7 +12,7 @@ use Rattle.schedule_player.specs.declared.fault.StepsFault.{StepsFault}
 use Rattle.schedule_player.specs.declared.fault.StepsFault.TheVariants.{BadStep, ReadFailed, WriteFailed, NoMemory}
 use Rattle.schedule_player.specs.declared.player.Player.{Player}
 use Rattle.schedule_player.specs.Answers.{answer_line, next_line}
-use Rattle.schedule_player.specs.Asked.{AsksFor, AsksForNone, AskForAll}
+use Rattle.schedule_player.specs.Asked.{AsksForStep, AsksForNone, AskForAll}
 use Rattle.schedule_player.specs.Lines.{PlaysLine}
 use Rattle.schedule_player.specs.Heard.{Heard, heard_after, last_line}
 use Rattle.schedule_player.specs.Played.{IsLastLine, Ends, Answered, Played}
@@ -28,9 +28,9 @@ module _ (start : Start) (ring : ℕ) where
       ap (λ n. answer_line (n + 1) outcome') count ∙ ap (answer_line (length schedule + 1)) is
 
   pub asks_on : (player : Player) (text : List ℕ) (step : Step) (texts : List (List ℕ)) (schedule : List Step) (held held' : Option (List ℕ))
-      → HasAnswered start ring player texts schedule held held' → AsksFor player.workers player.ring text step → AsksFor start.workers ring text step
+      → HasAnswered start ring player texts schedule held held' → AsksForStep player.workers player.ring text step → AsksForStep start.workers ring text step
   asks_on player text step texts schedule held held' has asks =
-      subst (λ w. AsksFor w ring text step) has.workers (subst (λ r. AsksFor player.workers r text step) has.ring_is asks)
+      subst (λ w. AsksForStep w ring text step) has.workers (subst (λ r. AsksForStep player.workers r text step) has.ring_is asks)
 
   -- the answers, and what was written behind them
   ended : (input answered rest last : List ℕ) (texts : List (List ℕ)) (schedule : List Step) (player : Player) (first held held' : Option (List ℕ)) (result : Result (Unit {0}) StepsFault)

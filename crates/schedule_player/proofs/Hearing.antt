@@ -5,7 +5,7 @@ use Rattle.std.specs.Option.{option_map_or}
 use Rattle.std.specs.Global.{Box}
 use Rattle.riak_msgs.specs.Contents.{Content}
 use Rattle.riak_msgs.specs.declared.reply.Reply.{Reply}
-use Rattle.sibling_register.specs.Answers.{Ask}
+use Rattle.sibling_register.specs.Answers.{RegisterAsk}
 use Rattle.actor_epoch.specs.Given.{Context}
 use Rattle.schedule_text.specs.Compared.{Compared}
 use Rattle.node_steps.specs.declared.outcome.Outcome.{Outcome as Returned}
@@ -13,7 +13,7 @@ use Rattle.node_steps.specs.declared.outcome.Outcome.TheVariants as outcomes
 use Rattle.node_steps.specs.declared.step.Step.{Step as RunStep}
 use Rattle.node_steps.specs.World.{World}
 use Rattle.node_steps.specs.Steps.{Step, By, Diverts, number_of}
-use Rattle.node_steps.specs.Kept.{Follows}
+use Rattle.node_steps.specs.Kept.{FollowsInRun}
 use Rattle.schedule_player.specs.declared.fault.StepsFault.{StepsFault}
 use Rattle.schedule_player.specs.declared.fault.StepsFault.TheVariants.{BadStep, ReadFailed, WriteFailed, NoMemory}
 use Rattle.schedule_player.specs.declared.player.Player.{Player}
@@ -24,11 +24,11 @@ use Rattle.schedule_player.specs.Heard.{Heard, Calls, after_act, asked_in, is_di
 use Rattle.schedule_player.specs.Lines.{AnswersStep, WritesLine}
 use Rattle.schedule_player.proofs.Calls.{compared_is}
 
-module _ (calls : Calls) (known : Compared) (line worker : ℕ) (asked : Option (Ask Content Context)) (last : Option RunStep) where
+module _ (calls : Calls) (known : Compared) (line worker : ℕ) (asked : Option (RegisterAsk Content Context)) (last : Option RunStep) where
   abbrev heard_with : Compared → Heard
   heard_with compared = record { calls = calls; compared = compared }
 
-  by_last : (f : Ask Content Context → Compared) (new : Compared) → option_and_then call_of last ≡ last_call calls worker
+  by_last : (f : RegisterAsk Content Context → Compared) (new : Compared) → option_and_then call_of last ≡ last_call calls worker
       → new ≡ option_map_or f (option_and_then call_of last) known
       → heard_with new ≡ option_map_or (λ ask. heard_with (f ask)) (last_call calls worker) (heard_with known)
   by_last f new at is =
@@ -59,11 +59,11 @@ diversion_noted (Diverts index) is = λ line returned heard. refl
 
 -- a step's line, by what was noted of it
 pub step_answered : (old : Player) (w : World) (new : Player) (step : Step) (note : Note) (outcome : Returned)
-    (held held' : Option (List ℕ)) (result : Result (Unit {0}) StepsFault) → IsNoteOf note step → Follows old.world step outcome w
+    (held held' : Option (List ℕ)) (result : Result (Unit {0}) StepsFault) → IsNoteOf note step → FollowsInRun old.world step outcome w
     → WritesLine (record old { world = w }) note outcome held held' new result → AnswersStep old step held held' new result
 step_answered old w new step note outcome held held' (Ok u) is follows written = record {
   outcome = outcome;
-  follows = subst (λ x. Follows old.world step outcome x) (sym written.world) follows;
+  follows = subst (λ x. FollowsInRun old.world step outcome x) (sym written.world) follows;
   workers = written.workers;
   ring = written.ring;
   lines = written.lines;
@@ -74,7 +74,7 @@ step_answered old w new step note outcome held held' (Err (BadStep line)) is fol
 step_answered old w new step note outcome held held' (Err ReadFailed) is follows written = written
 step_answered old w new step note outcome held held' (Err WriteFailed) is follows written = record {
   outcome = outcome;
-  follows = subst (λ x. Follows old.world step outcome x) (sym written.1) follows;
+  follows = subst (λ x. FollowsInRun old.world step outcome x) (sym written.1) follows;
   cut = written.0;
 }
 step_answered old w new step note outcome held held' (Err NoMemory) is follows written = written

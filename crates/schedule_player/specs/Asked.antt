@@ -5,8 +5,8 @@ use Rattle.riak_msgs.specs.declared.Request.TheVariants as requests
 use Rattle.ring_map.specs.Ring.{index_of, digest_of}
 use Rattle.schedule_text.specs.declared.line.Line.{Line}
 use Rattle.schedule_text.specs.declared.line.Line.TheVariants as lines
-use Rattle.schedule_text.specs.declared.line.Action.{Action}
-use Rattle.schedule_text.specs.declared.line.Action.TheVariants.{Ask, Key as OfKey, Gate}
+use Rattle.schedule_text.specs.declared.line.LineAction.{LineAction}
+use Rattle.schedule_text.specs.declared.line.LineAction.TheVariants.{Ask, Key as OfKey, Gate}
 use Rattle.schedule_text.specs.declared.line.KeyStep.TheVariants.{Reap, Copy}
 use Rattle.schedule_text.specs.declared.line.GateStep.{GateStep}
 use Rattle.schedule_text.specs.declared.line.GateStep.TheVariants.{Enter, Leave, Mark, Unmark, Take, Put, Look, Publish}
@@ -35,7 +35,7 @@ gate_step worker Look = steps.Look worker
 gate_step worker Publish = steps.Publish worker
 
 -- a worker's step by its action
-abbrev pub step_by : (ring worker : ℕ) → Action → RunStep
+abbrev pub step_by : (ring worker : ℕ) → LineAction → RunStep
 step_by ring worker (Ask request) = steps.Ask worker (index_for ring request) request
 step_by ring worker (OfKey Reap key) = steps.Reap worker (index_of ring (digest_of key)) key
 step_by ring worker (OfKey Copy key) = steps.Copy worker (index_of ring (digest_of key)) key
@@ -48,7 +48,7 @@ line_step ring (lines.Divert index) = steps.Divert index
 line_step ring (lines.Close worker index) = steps.Close worker index
 
 -- a line of text that asks for a step
-pub record AsksFor (workers ring : ℕ) (text : List ℕ) (step : Step) : Type 0 where
+pub record AsksForStep (workers ring : ℕ) (text : List ℕ) (step : Step) : Type 0 where
   pub line : Line
   pub reads : IsLine workers text line
   pub step_is : step ≡ step_of (line_step ring line)
@@ -68,4 +68,4 @@ abbrev pub AskForAll : (workers ring : ℕ) → List (List ℕ) → List Step �
 AskForAll workers ring texts [] = texts ≡ []
 AskForAll workers ring texts (step ∷ earlier) =
     (before : List (List ℕ)) × (text : List ℕ) × (texts ≡ before ++ text ∷ [])
-    × AsksFor workers ring text step × AskForAll workers ring before earlier
+    × AsksForStep workers ring text step × AskForAll workers ring before earlier

@@ -2,7 +2,7 @@
 use Rattle.std.specs.Prelude.{◌≡◌, ℕ, Option, Some, None}
 use Rattle.std.specs.Global.{Box}
 use Rattle.riak_msgs.specs.Contents.{Content}
-use Rattle.sibling_register.specs.Answers.{Ask}
+use Rattle.sibling_register.specs.Answers.{RegisterAsk}
 use Rattle.actor_epoch.specs.Given.{Context}
 use Rattle.node_steps.specs.declared.step.Step.{Step as RunStep}
 use Rattle.node_steps.specs.declared.outcome.Outcome.{Outcome as Returned}
@@ -13,11 +13,11 @@ use Rattle.schedule_player.specs.declared.asking.Note.TheVariants as notes
 use Rattle.schedule_player.specs.Heard.{Heard, asked_in, after_act, after_diversion, after_line}
 
 -- what a running step asks, if it gives its worker a call
-abbrev pub call_of : RunStep → Option (Ask Content Context)
+abbrev pub call_of : RunStep → Option (RegisterAsk Content Context)
 call_of step = asked_in (step_of step)
 
 -- what a step that is kept on the heap asks, if one is kept
-abbrev pub call_in : Option (Box RunStep) → Option (Ask Content Context)
+abbrev pub call_in : Option (Box RunStep) → Option (RegisterAsk Content Context)
 call_in None = None
 call_in (Some call) = call_of call.value
 

@@ -4,7 +4,7 @@ use Rattle.std.specs.Prelude.{◌≡◌, ◌⊎◌, ℕ, Bool, true, false, ◌+
 use Rattle.std.specs.Option.{option_map_or}
 use Rattle.riak_msgs.specs.Contents.{Content}
 use Rattle.riak_msgs.specs.declared.reply.Reply.{Reply}
-use Rattle.sibling_register.specs.Answers.{Ask, AskReap}
+use Rattle.sibling_register.specs.Answers.{RegisterAsk, AskReap}
 use Rattle.actor_epoch.specs.Given.{Context}
 use Rattle.schedule_text.specs.Compared.{Compared, nothing_compared, not_compared, after_call, after_reply, after_reap}
 use Rattle.schedule_text.specs.Verdicts.{verdict_line}
@@ -16,42 +16,42 @@ use Rattle.node_steps.specs.Steps.{Action, Asks, Step, By, Diverts, Happened, ou
 
 -- the last call of each worker, from worker 1 on; none before the first
 abbrev pub Calls : Type 0
-Calls = List (Option (Ask Content Context))
+Calls = List (Option (RegisterAsk Content Context))
 
 pub record Heard : Type 0 where
   pub calls : Calls
   pub compared : Compared
 
 -- the last call of the worker of a number
-abbrev pub last_call : Calls → ℕ → Option (Ask Content Context)
+abbrev pub last_call : Calls → ℕ → Option (RegisterAsk Content Context)
 last_call calls worker = unwrap_or (slice_get calls (worker - 1)) None
 
 -- the worker of a number got a call
-abbrev pub with_call : Calls → ℕ → Ask Content Context → Calls
+abbrev pub with_call : Calls → ℕ → RegisterAsk Content Context → Calls
 with_call calls worker ask = slice_set calls (worker - 1) (Some ask)
 
 -- what an action asks, if it gives its worker a call
-abbrev pub asked_by : Action → Option (Ask Content Context)
+abbrev pub asked_by : Action → Option (RegisterAsk Content Context)
 asked_by (Asks index ask) = Some ask
 asked_by action = None
 
 -- what a step asks, if it gives its worker a call
-abbrev pub asked_in : Step → Option (Ask Content Context)
+abbrev pub asked_in : Step → Option (RegisterAsk Content Context)
 asked_in (By number action) = asked_by action
 asked_in (Diverts index) = None
 
 -- a get, put or delete was answered by this reply, at the line of this number
-abbrev pub replied : ℕ → Reply → Ask Content Context → Compared → Compared
+abbrev pub replied : ℕ → Reply → RegisterAsk Content Context → Compared → Compared
 replied line reply (AskReap key) known = known
 replied line reply ask known = after_reply line ask reply known
 
 -- a reap was answered
-abbrev pub reaped : Ask Content Context → Compared → Compared
+abbrev pub reaped : RegisterAsk Content Context → Compared → Compared
 reaped (AskReap key) known = after_reap key known
 reaped ask known = known
 
 -- what a worker's line of this number adds, by whose step it gets a call or not: this was returned
-abbrev pub after_act : (line worker : ℕ) → Option (Ask Content Context) → Returned → Heard → Heard
+abbrev pub after_act : (line worker : ℕ) → Option (RegisterAsk Content Context) → Returned → Heard → Heard
 after_act line worker asked outcomes.No heard = heard
 after_act line worker asked outcomes.Copied heard = heard
 after_act line worker asked outcomes.Stuck heard = heard

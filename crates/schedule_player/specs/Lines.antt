@@ -3,12 +3,12 @@ use Rattle.std.specs.Prelude.{◌≡◌, ◌⊎◌, ◌+◌, ◌<◌, ◌≤◌,
 use Rattle.std.specs.Io.KnownBytes.{Appends, Keeps}
 use Rattle.node_steps.specs.declared.outcome.Outcome.{Outcome as Returned}
 use Rattle.node_steps.specs.Steps.{Step}
-use Rattle.node_steps.specs.Kept.{Follows}
+use Rattle.node_steps.specs.Kept.{FollowsInRun}
 use Rattle.schedule_player.specs.declared.fault.StepsFault.{StepsFault}
 use Rattle.schedule_player.specs.declared.fault.StepsFault.TheVariants.{BadStep, ReadFailed, WriteFailed, NoMemory}
 use Rattle.schedule_player.specs.declared.player.Player.{Player}
 use Rattle.schedule_player.specs.Answers.{answer_line}
-use Rattle.schedule_player.specs.Asked.{AsksFor, AsksForNone}
+use Rattle.schedule_player.specs.Asked.{AsksForStep, AsksForNone}
 use Rattle.schedule_player.specs.declared.asking.Note.{Note}
 use Rattle.schedule_player.specs.Calls.{after_note}
 use Rattle.schedule_player.specs.Heard.{after_line}
@@ -37,7 +37,7 @@ WritesLine old note outcome held held' new (Err NoMemory) = Keeps held held'
 -- a step was taken, and what it returned is the next line
 pub record IsAnswered (old : Player) (step : Step) (held held' : Option (List ℕ)) (new : Player) : Type 0 where
   pub outcome : Returned
-  pub follows : Follows old.world step outcome new.world
+  pub follows : FollowsInRun old.world step outcome new.world
   pub workers : new.workers ≡ old.workers
   pub ring : new.ring ≡ old.ring
   pub lines : new.lines ≡ old.lines + 1
@@ -47,7 +47,7 @@ pub record IsAnswered (old : Player) (step : Step) (held held' : Option (List �
 -- a step was taken, and a beginning of its line was written
 pub record IsCutShort (old : Player) (step : Step) (held held' : Option (List ℕ)) (new : Player) : Type 0 where
   pub outcome : Returned
-  pub follows : Follows old.world step outcome new.world
+  pub follows : FollowsInRun old.world step outcome new.world
   pub cut : IsCutTo old outcome held held'
 
 -- a step is taken, and what it returns is written as the next line
@@ -62,13 +62,13 @@ AnswersStep old step held held' new (Err NoMemory) = Keeps held held'
 pub record IsPlayed (old : Player) (text : List ℕ) (held held' : Option (List ℕ)) (new : Player) : Type 0 where
   pub few : old.lines < 100000
   pub step : Step
-  pub asks : AsksFor old.workers old.ring text step
+  pub asks : AsksForStep old.workers old.ring text step
   pub answered : IsAnswered old step held held' new
 
 -- the text asks for a step, whose line was cut short
 pub record IsPlayedInPart (old : Player) (text : List ℕ) (held held' : Option (List ℕ)) (new : Player) : Type 0 where
   pub step : Step
-  pub asks : AsksFor old.workers old.ring text step
+  pub asks : AsksForStep old.workers old.ring text step
   pub cut : IsCutShort old step held held' new
 
 -- a bad step: the text asks for none, or there were as many lines as there may be

@@ -7,7 +7,7 @@ use Rattle.node_steps.specs.Schedules.{Start}
 use Rattle.schedule_player.specs.declared.fault.StepsFault.{StepsFault}
 use Rattle.schedule_player.specs.declared.fault.StepsFault.TheVariants.{BadStep, ReadFailed, WriteFailed, NoMemory}
 use Rattle.schedule_player.specs.Answers.{answer_lines, next_line}
-use Rattle.schedule_player.specs.Asked.{AsksFor, AsksForNone, AskForAll}
+use Rattle.schedule_player.specs.Asked.{AsksForStep, AsksForNone, AskForAll}
 use Rattle.schedule_player.specs.Heard.{last_line, HasDiverted}
 
 -- where a run begins, on a ring of so many index bits
@@ -21,7 +21,7 @@ module _ (start : Start) (ring : ℕ) where
     pub behind : List (List ℕ)
     pub first : lines_of rest ≡ text ∷ behind
     pub step : Step
-    pub asks : AsksFor start.workers ring text step
+    pub asks : AsksForStep start.workers ring text step
     pub next_is : next ≡ next_line start schedule step
 
   -- nothing is left, and this is the last line, which after a diversion says that the run isn't compared

@@ -6,13 +6,13 @@ use Rattle.node_steps.specs.declared.step.Step.{Step as RunStep}
 use Rattle.schedule_player.specs.Asked.{AsksForRun, AsksForNone}
 
 -- a line of this number is refused: it asks for no step, or memory is refused
-abbrev pub IsRefused : (workers number : ℕ) → List ℕ → StepsFault → Type 0
-IsRefused workers number text (BadStep line) = (line ≡ number) × AsksForNone workers text
-IsRefused workers number text ReadFailed = ⊥
-IsRefused workers number text WriteFailed = ⊥
-IsRefused workers number text NoMemory = Unit {0}
+abbrev pub IsLineRefused : (workers number : ℕ) → List ℕ → StepsFault → Type 0
+IsLineRefused workers number text (BadStep line) = (line ≡ number) × AsksForNone workers text
+IsLineRefused workers number text ReadFailed = ⊥
+IsLineRefused workers number text WriteFailed = ⊥
+IsLineRefused workers number text NoMemory = Unit {0}
 
 -- a line of this number is read as the step that it asks for, or refused
 abbrev pub ReadsStep : (workers ring number : ℕ) → List ℕ → Result RunStep StepsFault → Type 0
 ReadsStep workers ring number text (Ok step) = AsksForRun workers ring text step
-ReadsStep workers ring number text (Err fault) = IsRefused workers number text fault
+ReadsStep workers ring number text (Err fault) = IsLineRefused workers number text fault

@@ -12,7 +12,7 @@ use crate::fault::StepsFault;
 use node_steps::Step;
 use riak_msgs::Request;
 use ring_map::Ring;
-use schedule_text::{Action, GateStep, KeyStep, Line, LineFault, read_line};
+use schedule_text::{LineAction, GateStep, KeyStep, Line, LineFault, read_line};
 use std::alloc::{AllocError, Global};
 
 /// The index of the partition that a request is for. (A ping is for none, and no line asks for one.)
@@ -48,19 +48,19 @@ fn line_step(ring: Ring, line: Line) -> Step
     ensures { result ≡ line_step ring line }
 {
     match line {
-        Line::By(worker, Action::Ask(request)) => {
+        Line::By(worker, LineAction::Ask(request)) => {
             let index = index_for(ring, &request);
             Step::Ask(worker, index, request)
         }
-        Line::By(worker, Action::Key(KeyStep::Reap, key)) => {
+        Line::By(worker, LineAction::Key(KeyStep::Reap, key)) => {
             let index = ring.index(&key);
             Step::Reap(worker, index, key)
         }
-        Line::By(worker, Action::Key(KeyStep::Copy, key)) => {
+        Line::By(worker, LineAction::Key(KeyStep::Copy, key)) => {
             let index = ring.index(&key);
             Step::Copy(worker, index, key)
         }
-        Line::By(worker, Action::Gate(step)) => gate_step(worker, step),
+        Line::By(worker, LineAction::Gate(step)) => gate_step(worker, step),
         Line::Divert(index) => Step::Divert(index),
         Line::Close(worker, index) => Step::Close(worker, index),
     }

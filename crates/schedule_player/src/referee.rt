@@ -4,7 +4,7 @@ ghost use Rattle.std.specs.Prelude.{◌≡◌, ◌-◌, IfOk, OnOk, Some, map, o
 ghost use Rattle.std.specs.Option.{option_map_or};
 ghost use Rattle.riak_msgs.specs.Contents.{Content};
 ghost use Rattle.actor_epoch.specs.Given.{Context};
-ghost use Rattle.sibling_register.specs.Answers.{Ask};
+ghost use Rattle.sibling_register.specs.Answers.{RegisterAsk};
 ghost use Rattle.node_steps.specs.declared.outcome.Outcome.TheVariants.{Done};
 ghost use Rattle.schedule_text.specs.Compared.{after_call};
 ghost use Rattle.schedule_player.specs.Calls.{after_note, call_in, call_of};
@@ -72,7 +72,7 @@ fn compare(
         (option_and_then call_of (option_copied call.entry)) comparison.old) }
 {
     match call {
-        Some(Step::Ask(_, _, request)) => comparison.reply(alloc, line, request, reply),
+        Some(Step::RegisterAsk(_, _, request)) => comparison.reply(alloc, line, request, reply),
         _ => Ok(()),
     }
 }
@@ -96,7 +96,7 @@ fn tell(comparison: &mut Comparison, call: &Step)
         ≡ option_map_or (λ ask. after_call ask comparison.old) (call_of call.now) comparison.old }
 {
     match call {
-        Step::Ask(_, _, request) => comparison.call(request),
+        Step::RegisterAsk(_, _, request) => comparison.call(request),
         Step::Reap(_, _, _)
         | Step::Enter(_)
         | Step::Leave(_)
@@ -115,7 +115,7 @@ fn tell(comparison: &mut Comparison, call: &Step)
 /// Keeps a worker's call.
 #[tactic(auto, using(crate::proofs::Calls::kept_is, crate::proofs::Calls::not_kept))]
 fn keep(calls: &mut Vec<Option<Box<Step>>>, worker: u16, call: Box<Step>)
-    ensures { (ask : Ask Content Context) → call_of call.value ≡ Some ask
+    ensures { (ask : RegisterAsk Content Context) → call_of call.value ≡ Some ask
         → map call_in calls.new.items ≡ with_call (map call_in calls.old.items) worker ask }
 {
     match calls.get_mut(place_of(worker)) {

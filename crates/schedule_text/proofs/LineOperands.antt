@@ -11,13 +11,13 @@ use Rattle.schedule_text.specs.declared.fault.LineFault.{LineFault}
 use Rattle.schedule_text.specs.declared.fault.LineFault.TheVariants.{BadStep, NoMemory}
 use Rattle.schedule_text.specs.declared.line.Line.{Line}
 use Rattle.schedule_text.specs.declared.line.Line.TheVariants.{By, Divert, Close}
-use Rattle.schedule_text.specs.declared.line.Action.{Action}
-use Rattle.schedule_text.specs.declared.line.Action.TheVariants.{Ask, Key as OfKey, Gate}
+use Rattle.schedule_text.specs.declared.line.LineAction.{LineAction}
+use Rattle.schedule_text.specs.declared.line.LineAction.TheVariants.{Ask, Key as OfKey, Gate}
 use Rattle.schedule_text.specs.declared.line.KeyStep.{KeyStep}
 use Rattle.schedule_text.specs.declared.line.GateStep.{GateStep}
 use Rattle.schedule_text.specs.Cuts.{IsCut}
 use Rattle.schedule_text.specs.Lines.{gate_word, key_word, action_word, word_of, operand_text, IsWorker, HasWorker, HasClose, HasOperands, IsLine}
-use Rattle.schedule_text.specs.Reading.{Reads, ReadsDecimal, ReadsOperands, Asks, ReadsAsked, MakesKeyed, ReadsHexMessage}
+use Rattle.schedule_text.specs.Reading.{ReadsLine, ReadsDecimal, ReadsOperands, Asks, ReadsAsked, MakesKeyed, ReadsHexMessage}
 use Rattle.schedule_text.proofs.Cutting.{cut_once}
 use Rattle.schedule_text.proofs.Words.{word-lacks_space, decimal-lacks_space, gate_word-not_ask, gate_word-not_key, key_word-not_ask, action_word-not_divert, action_word-not_close, divert-not_ask, divert-not_key, close-not_ask, close-not_key, close-not_divert}
 use Rattle.schedule_text.proofs.Hexadecimal.{hex_once}
@@ -78,7 +78,7 @@ asks_one workers u v text a b few x y =
     asks_once y.message a b (rw same at x.asks) y.asks
 
 -- the operands of an ask ask for its request
-ask_asks : (workers worker : ℕ) (text : List ℕ) (action : Action) → action_word action ≡ codes "ask"
+ask_asks : (workers worker : ℕ) (text : List ℕ) (action : LineAction) → action_word action ≡ codes "ask"
     → HasWorker workers text worker action → (request : Request) × Asks workers text worker request
 ask_asks workers worker text (Ask request) word has = (
   request,
@@ -94,7 +94,7 @@ ask_asks workers worker text (OfKey step key) word has = absurd (key_word-not_as
 ask_asks workers worker text (Gate step) word has = absurd (gate_word-not_ask step word)
 
 -- the operands of a step with a key ask for a get
-keyed_asks : (kind : KeyStep) (workers worker : ℕ) (text : List ℕ) (action : Action) → action_word action ≡ key_word kind
+keyed_asks : (kind : KeyStep) (workers worker : ℕ) (text : List ℕ) (action : LineAction) → action_word action ≡ key_word kind
     → HasWorker workers text worker action
     → (get : GetAsk) × Asks workers text worker (requests.Get get)
 keyed_asks kind workers worker text (Ask request) word has = absurd (key_word-not_ask kind (sym word))
@@ -168,7 +168,7 @@ keyed_read kind workers worker text request (Err fault) few asks makes =
 
 -- a line is read as the operands behind its word are
 pub whole_line : (workers : ℕ) (text word operands known : List ℕ) (r : Result Line LineFault) → IsCut 32 text word operands
-    → word ≡ known → ReadsOperands known workers operands r → Reads workers text r
+    → word ≡ known → ReadsOperands known workers operands r → ReadsLine workers text r
 whole_line workers text word operands known (Ok line) cut is reads = record {
   operands = operands;
   whole = cut.whole ∙ ap (λ w. w ++ 32 ∷ operands) (is ∙ sym reads.0);

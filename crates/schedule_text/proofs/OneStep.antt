@@ -11,8 +11,8 @@ use Rattle.riak_msgs.specs.declared.request.Request.{Request}
 use Rattle.riak_msgs.specs.declared.request.Request.TheVariants as requests
 use Rattle.schedule_text.specs.declared.line.Line.{Line}
 use Rattle.schedule_text.specs.declared.line.Line.TheVariants.{By, Divert, Close}
-use Rattle.schedule_text.specs.declared.line.Action.{Action}
-use Rattle.schedule_text.specs.declared.line.Action.TheVariants.{Ask, Key as OfKey, Gate}
+use Rattle.schedule_text.specs.declared.line.LineAction.{LineAction}
+use Rattle.schedule_text.specs.declared.line.LineAction.TheVariants.{Ask, Key as OfKey, Gate}
 use Rattle.schedule_text.specs.declared.line.KeyStep.{KeyStep}
 use Rattle.schedule_text.specs.declared.line.GateStep.{GateStep}
 use Rattle.schedule_text.specs.declared.line.GateStep.TheVariants.{Enter, Leave, Mark, Unmark, Take, Put, Look, Publish}
@@ -123,7 +123,7 @@ gate_once workers u v text s t few word x y =
     rw (one, step_once s t word) refl
 
 -- behind one word stand the operands of one step
-action_once : (workers u v : ℕ) (text : List ℕ) (p q : Action) → workers < 2 ^ 16 → action_word p ≡ action_word q
+action_once : (workers u v : ℕ) (text : List ℕ) (p q : LineAction) → workers < 2 ^ 16 → action_word p ≡ action_word q
     → HasWorker workers text u p → HasWorker workers text v q → By u p ≡ By v q
 action_once workers u v text (Ask r) (Ask s) few word x y = ask_once workers u v text r s few x y
 action_once workers u v text (Ask r) (OfKey b l) few word x y = absurd (key_word-not_ask b (sym word))

@@ -8,8 +8,8 @@ use Rattle.std.proofs.lemmas.Fmt.{decimal_is_IsNumeral}
 use Rattle.std.proofs.lemmas.Str.Parse.{digit_from_value}
 use Rattle.schedule_text.specs.declared.line.Line.{Line}
 use Rattle.schedule_text.specs.declared.line.Line.TheVariants.{By, Divert, Close}
-use Rattle.schedule_text.specs.declared.line.Action.{Action}
-use Rattle.schedule_text.specs.declared.line.Action.TheVariants.{Ask, Key as OfKey, Gate}
+use Rattle.schedule_text.specs.declared.line.LineAction.{LineAction}
+use Rattle.schedule_text.specs.declared.line.LineAction.TheVariants.{Ask, Key as OfKey, Gate}
 use Rattle.schedule_text.specs.declared.line.KeyStep.{KeyStep}
 use Rattle.schedule_text.specs.declared.line.KeyStep.TheVariants.{Reap, Copy}
 use Rattle.schedule_text.specs.declared.line.GateStep.{GateStep}
@@ -27,7 +27,7 @@ gate_word-lacks_space Put = refl
 gate_word-lacks_space Look = refl
 gate_word-lacks_space Publish = refl
 
-action_word-lacks_space : (action : Action) → Lacks 32 (action_word action)
+action_word-lacks_space : (action : LineAction) → Lacks 32 (action_word action)
 action_word-lacks_space (Ask request) = refl
 action_word-lacks_space (OfKey Reap key) = refl
 action_word-lacks_space (OfKey Copy key) = refl
@@ -117,13 +117,13 @@ key_word-once Copy Reap e = absurd (other_than (codes "copy") (codes "reap") ref
 key_word-once Copy Copy e = refl
 
 -- and none names a partition
-pub action_word-not_divert : (action : Action) → action_word action ≢ codes "divert"
+pub action_word-not_divert : (action : LineAction) → action_word action ≢ codes "divert"
 action_word-not_divert (Ask request) = other_than (codes "ask") (codes "divert") refl refl
 action_word-not_divert (OfKey Reap key) = other_than (codes "reap") (codes "divert") refl refl
 action_word-not_divert (OfKey Copy key) = other_than (codes "copy") (codes "divert") refl refl
 action_word-not_divert (Gate step) = gate_word-not_divert step
 
-pub action_word-not_close : (action : Action) → action_word action ≢ codes "close"
+pub action_word-not_close : (action : LineAction) → action_word action ≢ codes "close"
 action_word-not_close (Ask request) = other_than (codes "ask") (codes "close") refl refl
 action_word-not_close (OfKey Reap key) = other_than (codes "reap") (codes "close") refl refl
 action_word-not_close (OfKey Copy key) = other_than (codes "copy") (codes "close") refl refl

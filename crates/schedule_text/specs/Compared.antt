@@ -10,7 +10,7 @@ use Rattle.riak_msgs.specs.declared.Request.TheVariants as requests
 use Rattle.riak_msgs.specs.declared.reply.Reply.{Reply}
 use Rattle.riak_msgs.specs.declared.reply.Reply.TheVariants as replies
 use Rattle.riak_msgs.specs.KeyOrder.{key_eq}
-use Rattle.sibling_register.specs.Answers.{Ask, AskGet, AskPut, AskDel, AskReap}
+use Rattle.sibling_register.specs.Answers.{RegisterAsk, AskGet, AskPut, AskDel, AskReap}
 use Rattle.sibling_register.specs.declared.command.Command.TheVariants as commands
 use Rattle.actor_epoch.specs.declared.dot.Dot.{Dot}
 use Rattle.actor_epoch.specs.Dots.{dot_eq}
@@ -35,14 +35,14 @@ abbrev pub nothing_compared : Compared
 nothing_compared = record { history = []; shown = []; verdict = Equal }
 
 -- what a request asks; a ping asks nothing
-abbrev pub ask_of : Request → Option (Ask Content Context)
+abbrev pub ask_of : Request → Option (RegisterAsk Content Context)
 ask_of requests.Ping = None
 ask_of (requests.Get get) = Some (AskGet (get_command get))
 ask_of (requests.Put put) = Some (AskPut (put_command put))
 ask_of (requests.Del del) = Some (AskDel (del_command del))
 
 -- the context that an ask gives; of a get that is `if_modified`
-abbrev pub given_in : Ask Content Context → Option Context
+abbrev pub given_in : RegisterAsk Content Context → Option Context
 given_in (AskGet get) = get.if_modified
 given_in (AskPut put) = put.context
 given_in (AskDel del) = del.context
@@ -51,7 +51,7 @@ given_in (AskReap key) = None
 -- a key and the bytes of a context are those that a request gives
 abbrev pub AreOf : Request → Key → List ℕ → Type 0
 AreOf request key bytes =
-    (ask : Ask Content Context) × (ask_of request ≡ Some ask) × (key_of ask ≡ key) × (given_in ask ≡ context_of bytes)
+    (ask : RegisterAsk Content Context) × (ask_of request ≡ Some ask) × (key_of ask ≡ key) × (given_in ask ≡ context_of bytes)
 
 -- a context of these pairs was shown for the key: contexts are one where their pairs are
 abbrev pub is_of : Key → List Dot → ShownContext → Bool
@@ -98,7 +98,7 @@ abbrev pub not_compared : Compared → Compared
 not_compared known = record known { verdict = NotCompared }
 
 -- a worker got a call: where that gives a context that wasn't shown, the run isn't compared
-abbrev pub after_call : Ask Content Context → Compared → Compared
+abbrev pub after_call : RegisterAsk Content Context → Compared → Compared
 after_call ask known = if is_unknown known.shown (key_of ask) (given_in ask) then not_compared known else known
 
 -- what a position is asked as: it is never past the end, and the minimum only says so
@@ -107,7 +107,7 @@ within history position = option_map (λ p. min p (length history)) position
 
 -- a call was answered by a reply, at the line of this number: the register is asked the same, its context as the position
 -- that it names
-abbrev pub after_reply_at : ℕ → Ask Content Context → Reply → Compared → Compared
+abbrev pub after_reply_at : ℕ → RegisterAsk Content Context → Reply → Compared → Compared
 after_reply_at line ask reply known =
     let key : Key = key_of ask in
     let position = within known.history (position_given known.shown key (given_in ask)) in
@@ -119,7 +119,7 @@ after_reply_at line ask reply known =
       verdict = verdict_after line known.verdict (is_due history key (told_in outcome) reply);
     }
 
-abbrev pub after_reply : ℕ → Ask Content Context → Reply → Compared → Compared
+abbrev pub after_reply : ℕ → RegisterAsk Content Context → Reply → Compared → Compared
 after_reply line ask reply known = if is_asked reply then after_reply_at line ask reply known else known
 
 -- a reap was answered, whether it forgot the key or kept it: the register is asked to reap

@@ -7,8 +7,8 @@ use Rattle.riak_msgs.specs.declared.request.Request.TheVariants as requests
 use Rattle.riak_msgs.specs.Reading.{Decodes}
 use Rattle.schedule_text.specs.declared.line.Line.{Line}
 use Rattle.schedule_text.specs.declared.line.Line.TheVariants.{By, Divert, Close}
-use Rattle.schedule_text.specs.declared.line.Action.{Action}
-use Rattle.schedule_text.specs.declared.line.Action.TheVariants.{Ask, Key as OfKey, Gate}
+use Rattle.schedule_text.specs.declared.line.LineAction.{LineAction}
+use Rattle.schedule_text.specs.declared.line.LineAction.TheVariants.{Ask, Key as OfKey, Gate}
 use Rattle.schedule_text.specs.declared.line.KeyStep.{KeyStep}
 use Rattle.schedule_text.specs.declared.line.KeyStep.TheVariants.{Reap, Copy}
 use Rattle.schedule_text.specs.declared.line.GateStep.{GateStep}
@@ -42,7 +42,7 @@ key_word Reap = codes "reap"
 key_word Copy = codes "copy"
 
 -- the word of an action
-abbrev pub action_word : Action → List ℕ
+abbrev pub action_word : LineAction → List ℕ
 action_word (Ask request) = codes "ask"
 action_word (OfKey step key) = key_word step
 action_word (Gate step) = gate_word step
@@ -86,13 +86,13 @@ pub record CarriesRequest (carried : Option (List ℕ)) (request : Request) : Ty
   pub asks : AsksFor message request
 
 -- an ask carries its request, a reap and a copy a get of its key, and a gate's step nothing
-abbrev pub Carries : Action → Option (List ℕ) → Type 0
+abbrev pub Carries : LineAction → Option (List ℕ) → Type 0
 Carries (Ask request) carried = CarriesRequest carried request
 Carries (OfKey step key) carried = (get : GetAsk) × (get.key ≡ key) × CarriesRequest carried (requests.Get get)
 Carries (Gate step) carried = carried ≡ None
 
 -- the text behind the word of what a worker does, and its space
-pub record HasWorker (workers : ℕ) (text : List ℕ) (worker : ℕ) (action : Action) : Type 0 where
+pub record HasWorker (workers : ℕ) (text : List ℕ) (worker : ℕ) (action : LineAction) : Type 0 where
   pub carried : Option (List ℕ)
   pub whole : text ≡ operand_text worker carried
   pub is_worker : IsWorker workers worker

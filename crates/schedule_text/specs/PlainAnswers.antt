@@ -3,7 +3,7 @@ use Rattle.std.specs.Prelude.{◌≡◌, ℕ, List, [], ◌∷◌, Bool, false, 
 use Rattle.std.specs.Option.{option_map_or, option_eq}
 use Rattle.std.specs.Str.{bytes_eq}
 use Rattle.pb_fields.specs.Encoding.{repeated_field}
-use Rattle.riak_msgs.specs.Contents.{Content, bare, tombstone}
+use Rattle.riak_msgs.specs.Contents.{Content, shown}
 use Rattle.riak_msgs.specs.Encoding.{shown_message}
 use Rattle.riak_msgs.specs.declared.Key.{Key}
 use Rattle.riak_msgs.specs.declared.shown.Shown.{Shown}
@@ -14,7 +14,7 @@ use Rattle.riak_msgs.specs.declared.text.Text.TheVariants as texts
 use Rattle.sibling_register.specs.declared.command.Command.{Command}
 use Rattle.sibling_register.specs.declared.command.Command.TheVariants as commands
 use Rattle.sibling_register.specs.History.{Event, content_of}
-use Rattle.sibling_register.specs.Answers.{Ask, AskGet, AskPut, AskDel, AskReap, Told, Refused, Shown as ToldShown, Done, Reaped, Kept, Outcome, Answers, Accepts}
+use Rattle.sibling_register.specs.Answers.{RegisterAsk, AskGet, AskPut, AskDel, AskReap, Told, Refused, Shown as ToldShown, Done, Reaped, Kept, RegisterOutcome, Answers, Accepts}
 use Rattle.sibling_register.specs.Plain.{asked}
 use Rattle.sibling_register.specs.Plans.{plain_outcome}
 use Rattle.sibling_register.specs.Refusals.{match_found, modified, not_found, too_many_siblings}
@@ -25,7 +25,7 @@ abbrev pub PlainHistory : Type 0
 PlainHistory = List (Event Content ℕ)
 
 -- the command of an ask whose context names this position
-abbrev pub command_by : Ask Content Context → Option ℕ → Command Content
+abbrev pub command_by : RegisterAsk Content Context → Option ℕ → Command Content
 command_by (AskGet get) position = commands.Get get.key position get.head get.deletedvclock
 command_by (AskPut put) position =
     commands.Put put.key position put.value put.return_body put.return_head put.if_not_modified put.if_none_match
@@ -33,15 +33,15 @@ command_by (AskDel del) position = commands.Del del.key position
 command_by (AskReap key) position = commands.Reap key
 
 -- what comes of a command at the end of a plain register's history
-abbrev pub plain_of : PlainHistory → Command Content → Outcome Content ℕ
+abbrev pub plain_of : PlainHistory → Command Content → RegisterOutcome Content ℕ
 plain_of history command = plain_outcome history (asked history command)
 
 -- what is told, and the history after it
-abbrev pub told_in : Outcome Content ℕ → Told ℕ
+abbrev pub told_in : RegisterOutcome Content ℕ → Told ℕ
 told_in (Answers told) = told
 told_in (Accepts event told) = told
 
-abbrev pub history_after : PlainHistory → Outcome Content ℕ → PlainHistory
+abbrev pub history_after : PlainHistory → RegisterOutcome Content ℕ → PlainHistory
 history_after history (Answers told) = history
 history_after history (Accepts event told) = event ∷ history
 
@@ -55,9 +55,7 @@ plain_refusal text = None
 
 -- a sibling of the key as a reply shows it: a tombstone where the number has no value
 abbrev pub sibling_shown : PlainHistory → Key → Bool → ℕ → Shown
-sibling_shown history key is_bare number =
-    option_map_or (λ content. record { content = if is_bare then bare content else content; deleted = false })
-    (content_of history key number) tombstone
+sibling_shown history key is_bare number = shown is_bare (content_of history key number)
 
 -- the contents that are due for an answer, after which the history is this; none where it refuses
 abbrev pub contents_due : PlainHistory → Key → Told ℕ → Option (List Shown)
@@ -92,5 +90,5 @@ is_due history key told (replies.Put reply) = are_due history key told reply.con
 is_due history key told replies.Del = are_due history key told []
 
 -- the register answers a command so, and goes from one history to another
-abbrev pub Comes : PlainHistory → Command Content → Told ℕ → PlainHistory → Type 0
-Comes old command told new = (told ≡ told_in (plain_of old command)) × (new ≡ history_after old (plain_of old command))
+abbrev pub RegisterStep : PlainHistory → Command Content → Told ℕ → PlainHistory → Type 0
+RegisterStep old command told new = (told ≡ told_in (plain_of old command)) × (new ≡ history_after old (plain_of old command))

@@ -8,7 +8,7 @@ use Rattle.riak_msgs.specs.declared.fault.MsgFault.{MsgFault}
 use Rattle.riak_msgs.specs.declared.fault.MsgFault.TheVariants as faults
 use Rattle.schedule_text.specs.declared.line.Line.{Line}
 use Rattle.schedule_text.specs.declared.line.Line.TheVariants.{By}
-use Rattle.schedule_text.specs.declared.line.Action.TheVariants.{Key as OfKey}
+use Rattle.schedule_text.specs.declared.line.LineAction.TheVariants.{Key as OfKey}
 use Rattle.schedule_text.specs.declared.line.KeyStep.{KeyStep}
 use Rattle.schedule_text.specs.declared.fault.LineFault.{LineFault}
 use Rattle.schedule_text.specs.declared.fault.LineFault.TheVariants.{BadStep, NoMemory}
@@ -55,10 +55,10 @@ pub record IsOfAskForm (workers : ℕ) (text : List ℕ) : Type 0 where
 
 -- a line is read as what it asks for, and refused where it asks for nothing; want of memory is told of a line of the
 -- form of an ask, a reap or a copy alone
-abbrev pub Reads : ℕ → List ℕ → Result Line LineFault → Type 0
-Reads workers text (Ok line) = IsLine workers text line
-Reads workers text (Err BadStep) = (line : Line) → ¬ (IsLine workers text line)
-Reads workers text (Err NoMemory) = IsOfAskForm workers text
+abbrev pub ReadsLine : ℕ → List ℕ → Result Line LineFault → Type 0
+ReadsLine workers text (Ok line) = IsLine workers text line
+ReadsLine workers text (Err BadStep) = (line : Line) → ¬ (IsLine workers text line)
+ReadsLine workers text (Err NoMemory) = IsOfAskForm workers text
 
 -- the same of the text behind a word and its space
 abbrev pub ReadsOperands : List ℕ → ℕ → List ℕ → Result Line LineFault → Type 0

@@ -11,7 +11,7 @@ pub const MAX_LINES: u64 = 100_000;
 #[derive(Drop)]
 pub enum Line {
     /// The worker of this number, from 1, does something.
-    By(u16, Action),
+    By(u16, LineAction),
     /// The partition of this index, from 0, is diverted to a fallback.
     Divert(u16),
     /// The worker of the first number closes the fallback of the partition of the second, its index.
@@ -20,7 +20,7 @@ pub enum Line {
 
 /// What a worker does in a step.
 #[derive(Drop)]
-pub enum Action {
+pub enum LineAction {
     /// It is asked this get, put or delete.
     Ask(Request),
     /// It is asked to do this with a key.

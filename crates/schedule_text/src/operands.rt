@@ -7,7 +7,7 @@ ghost use Rattle.schedule_text.specs.Reading.{MakesKeyed, ReadsAsked, ReadsDecim
 
 use crate::cut::cut_at;
 use crate::fault::LineFault;
-use crate::line::{Action, GateStep, KeyStep, Line};
+use crate::line::{LineAction, GateStep, KeyStep, Line};
 use crate::message::read_hex_message;
 use itoa::Buffer;
 use riak_msgs::Request;
@@ -82,7 +82,7 @@ pub(crate) fn read_ask(alloc: Global, text: &[u8], workers: u16) -> Result<Line,
     ensures { ReadsOperands (codes "ask") workers text.now result }
 {
     match read_asked(alloc, text, workers) {
-        Ok((worker, request)) => Ok(Line::By(worker, Action::Ask(request))),
+        Ok((worker, request)) => Ok(Line::By(worker, LineAction::Ask(request))),
         Err(fault) => Err(fault),
     }
 }
@@ -92,7 +92,7 @@ fn keyed_of(step: KeyStep, worker: u16, request: Request) -> Result<Line, LineFa
     ensures { MakesKeyed step worker request result }
 {
     match request {
-        Request::Get(get) => Ok(Line::By(worker, Action::Key(step, get.key))),
+        Request::Get(get) => Ok(Line::By(worker, LineAction::Key(step, get.key))),
         _ => Err(LineFault::BadStep),
     }
 }
@@ -117,7 +117,7 @@ pub(crate) fn read_gate_step(step: GateStep, text: &[u8], workers: u16) -> Resul
     ensures { ReadsOperands (gate_word step) workers text.now result }
 {
     match read_worker(text, workers) {
-        Some(worker) => Ok(Line::By(worker, Action::Gate(step))),
+        Some(worker) => Ok(Line::By(worker, LineAction::Gate(step))),
         None => Err(LineFault::BadStep),
     }
 }

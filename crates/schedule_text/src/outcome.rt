@@ -9,7 +9,7 @@ use std::alloc::{AllocError, Global};
 
 /// The outcome of a step, as its line holds it.
 #[derive(Clone, Copy)]
-pub enum StepOutcome<'a> {
+pub enum LineOutcome<'a> {
     /// The step was not possible, and nothing changed: `no`.
     No,
     /// The step was taken, and nobody was answered: `ok`.
@@ -54,23 +54,23 @@ fn append_left(out: &mut Vec<u8>, keys: u64) -> Result<(), AllocError>
 fn append_outcome(
     alloc: Global,
     out: &mut Vec<u8>,
-    outcome: StepOutcome<'_>,
+    outcome: LineOutcome<'_>,
 ) -> Result<(), AllocError>
     ensures { OnOk result (out.new.items ≡ out.old.items ++ outcome_text outcome.entry) }
 {
     match outcome {
-        StepOutcome::No => out.extend_from_slice(b"no"),
-        StepOutcome::Done => out.extend_from_slice(b"ok"),
-        StepOutcome::Reply(reply) => {
+        LineOutcome::No => out.extend_from_slice(b"no"),
+        LineOutcome::Done => out.extend_from_slice(b"ok"),
+        LineOutcome::Reply(reply) => {
             out.extend_from_slice(b"reply ")?;
             append_reply(alloc, out, reply)
         }
-        StepOutcome::Reaped => out.extend_from_slice(b"reaped"),
-        StepOutcome::Kept => out.extend_from_slice(b"kept"),
-        StepOutcome::Copied => out.extend_from_slice(b"copied"),
-        StepOutcome::Stuck => out.extend_from_slice(b"stuck"),
-        StepOutcome::Elsewhere => out.extend_from_slice(b"elsewhere"),
-        StepOutcome::Left(keys) => append_left(out, keys),
+        LineOutcome::Reaped => out.extend_from_slice(b"reaped"),
+        LineOutcome::Kept => out.extend_from_slice(b"kept"),
+        LineOutcome::Copied => out.extend_from_slice(b"copied"),
+        LineOutcome::Stuck => out.extend_from_slice(b"stuck"),
+        LineOutcome::Elsewhere => out.extend_from_slice(b"elsewhere"),
+        LineOutcome::Left(keys) => append_left(out, keys),
     }
 }
 
@@ -81,7 +81,7 @@ fn append_outcome(
 pub fn write_outcome(
     alloc: Global,
     number: u64,
-    outcome: StepOutcome<'_>,
+    outcome: LineOutcome<'_>,
 ) -> Result<Vec<u8>, AllocError>
     ensures line { IfOk result (λ line. line.items ≡ outcome_line number outcome.entry) }
 {

@@ -1,6 +1,6 @@
 //! Reading a line of a schedule.
 
-ghost use Rattle.schedule_text.specs.Reading.{Reads};
+ghost use Rattle.schedule_text.specs.Reading.{ReadsLine};
 
 use crate::cut::cut_at;
 use crate::fault::LineFault;
@@ -22,7 +22,7 @@ use std::alloc::Global;
 /// - `NoMemory`: memory was refused, for an `ask`, a `reap` or a `copy` of this form; whether its message is a request is then
 ///   not known.
 pub fn read_line(alloc: Global, text: &[u8], workers: u16) -> Result<Line, LineFault>
-    ensures reads { Reads workers text.now result }
+    ensures reads { ReadsLine workers text.now result }
 {
     let Some((word, operands)) = cut_at(text, b' ') else {
         return Err(LineFault::BadStep);

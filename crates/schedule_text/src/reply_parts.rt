@@ -4,7 +4,6 @@ ghost use Rattle.std.specs.Prelude.{◌≡◌, IfOk, IfNone, IfSome, None, map, 
 ghost use Rattle.std.specs.Option.{option_eq};
 ghost use Rattle.pb_fields.specs.Encoding.{repeated_field};
 ghost use Rattle.riak_msgs.specs.Encoding.{shown_message};
-ghost use Rattle.riak_msgs.specs.Contents.{bare};
 ghost use Rattle.sibling_register.specs.Plain.{answer_of};
 ghost use Rattle.schedule_text.specs.PlainAnswers.{are_due, is_due, plain_refusal, refusal_due, same_contents, sibling_shown};
 ghost use Rattle.schedule_text.specs.Compared.{AreOf, ask_of, context_in, is_asked};
@@ -62,22 +61,6 @@ pub(crate) fn context_shown(reply: &Reply) -> &[u8]
     }
 }
 
-/// A content as a reply shows it, whole or bare.
-fn content_shown(alloc: Global, content: &Content, is_bare: bool) -> Result<Shown, AllocError>
-    ensures { IfOk result (λ shown. shown
-        ≡ record { content = if is_bare then bare content.now else content.now; deleted = false }) }
-{
-    let content = if is_bare {
-        content.clone_head(alloc)?
-    } else {
-        content.clone()?
-    };
-    Ok(Shown {
-        content,
-        deleted: false,
-    })
-}
-
 /// A sibling of the key as a reply shows it: a tombstone where the number has no value.
 fn sibling_shown(
     register: &PlainRegister<Content>,
@@ -90,7 +73,7 @@ fn sibling_shown(
 {
     match register.value(key, number) {
         None => Shown::tombstone(alloc),
-        Some(content) => content_shown(alloc, content, is_bare),
+        Some(content) => Shown::of_content(alloc, content, is_bare),
     }
 }
 

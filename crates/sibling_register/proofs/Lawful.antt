@@ -7,7 +7,7 @@ use Rattle.sibling_register.specs.declared.entry.Entry.{Entry}
 use Rattle.sibling_register.specs.History.{Event, Write, Reap as Forgotten, count_of, numbers_to}
 use Rattle.sibling_register.specs.Siblings.{is_defined, is_present, is_dead}
 use Rattle.sibling_register.specs.Naming.{DelSees}
-use Rattle.sibling_register.specs.Answers.{Told, Refused, Shown, Done, Reaped, Kept, GetCommand, PutCommand, DelCommand, Outcome, Answers, Accepts, MayGive, PutGives, DelGives, get_told, all_shown, put_refusal, del_refusal, does_nothing, has_too_many, is_name, nothing_shown}
+use Rattle.sibling_register.specs.Answers.{Told, Refused, Shown, Done, Reaped, Kept, GetCommand, PutCommand, DelCommand, RegisterOutcome, Answers, Accepts, MayGive, PutGives, DelGives, get_told, all_shown, put_refusal, del_refusal, does_nothing, has_too_many, is_name, nothing_shown}
 use Rattle.sibling_register.specs.Legal.{IsAccepted, EachAccepted, IsLegal}
 use Rattle.sibling_register.specs.Counting.{by_count, context_at}
 use Rattle.sibling_register.specs.Plain.{asked, Follows, Gives, is_decided}
@@ -53,11 +53,11 @@ module _ {V : Type 0} where
   del_may history del saw None e = (e, refl, refl)
   del_may history del saw (Some number) e = inr (rw e refl)
 
-  idle_or : (b : Bool) (x y : Outcome V ℕ) (P : Outcome V ℕ → Type 0) → P y → MatchBool b (cond b x y ≡ x) (P (cond b x y))
+  idle_or : (b : Bool) (x y : RegisterOutcome V ℕ) (P : RegisterOutcome V ℕ → Type 0) → P y → MatchBool b (cond b x y ≡ x) (P (cond b x y))
   idle_or true x y P p = refl
   idle_or false x y P p = p
 
-  abbrev answer_of : Outcome V ℕ → Told ℕ
+  abbrev answer_of : RegisterOutcome V ℕ → Told ℕ
   answer_of (Answers told) = told
   answer_of (Accepts event told) = told
 
@@ -79,7 +79,7 @@ module _ {V : Type 0} where
       check_by (put.if_none_match && is_present history put.key) ((put.if_not_modified && not put.if_none_match) && not (is_present history put.key))
       ((put.if_not_modified && not put.if_none_match) && not (is_name by_count history put.key put.context)) (has_too_many history put.key saw)
 
-  abbrev IsDecided : Outcome V ℕ → Type 0
+  abbrev IsDecided : RegisterOutcome V ℕ → Type 0
   IsDecided outcome = IsTrue (is_decided (answer_of outcome))
 
   put_decided : (history : List (Event V ℕ)) (put : PutCommand V ℕ) (r : Option ℕ) → DecidedBy r → IsDecided (put_outcome_by history put r)
@@ -98,7 +98,7 @@ module _ {V : Type 0} where
       get_by (not (is_defined history get.key)) (is_dead history get.key) get.deletedvclock (is_name by_count history get.key get.if_modified)
       nothing_shown (Shown [] (Some (length history)) false false) (Shown [] None true false) (all_shown history get.key get.head) refl refl refl refl
 
-  del_idle : (b : Bool) (outcome : Outcome V ℕ) → IsDecided outcome → IsDecided (cond b (Answers Done) outcome)
+  del_idle : (b : Bool) (outcome : RegisterOutcome V ℕ) → IsDecided outcome → IsDecided (cond b (Answers Done) outcome)
   del_idle true outcome d = refl
   del_idle false outcome d = d
 
@@ -118,7 +118,7 @@ module _ {V : Type 0} where
       (del_decided history del (del_saw history del) (has_too_many history key (del_saw history del)))
   decided history (Reap key) = reap_decided (is_dead history key) (record { key = key; operation = Forgotten; context = None; saw = numbers_to (count_of history key) })
 
-  same_answer : (old : List (Event V ℕ)) (outcome : Outcome V ℕ) (told : Told ℕ) (new : List (Event V ℕ)) → Follows old outcome told new → told ≡ answer_of outcome
+  same_answer : (old : List (Event V ℕ)) (outcome : RegisterOutcome V ℕ) (told : Told ℕ) (new : List (Event V ℕ)) → Follows old outcome told new → told ≡ answer_of outcome
   same_answer old (Answers given) told new f = f.0
   same_answer old (Accepts event given) told new f = f.0
 
@@ -130,8 +130,8 @@ module _ {V : Type 0} where
   pub gives : (history : List (Event V ℕ)) (command : Command V) (told : Told ℕ) (entry : Option (Entry V)) (new : List (Event V ℕ))
       → outcome_by told entry ≡ plain_outcome history (asked history command) → new ≡ kept_of history entry → Gives history command told new
   gives history command told entry new o n =
-      let outcome : Outcome V ℕ = plain_outcome history (asked history command) in
-      let F : Outcome V ℕ → Type 0 = λ x. Follows history x told (kept_of history entry) in
+      let outcome : RegisterOutcome V ℕ = plain_outcome history (asked history command) in
+      let F : RegisterOutcome V ℕ → Type 0 = λ x. Follows history x told (kept_of history entry) in
       let G : List (Event V ℕ) → Type 0 = λ x. Follows history outcome told x in
       let f : F outcome = subst F o (follows_kept history told entry) in
       let D : Told ℕ → Type 0 = λ x. IsTrue (is_decided x) in
@@ -148,7 +148,7 @@ module _ {V : Type 0} where
       → EachAccepted by_count old → EachAccepted by_count new
   each_accepted old command told new gives each = by gives.outcome gives.may gives.follows
     where
-      by : (outcome : Outcome V ℕ) → MayGive by_count old (asked old command) outcome → Follows old outcome told new → EachAccepted by_count new
+      by : (outcome : RegisterOutcome V ℕ) → MayGive by_count old (asked old command) outcome → Follows old outcome told new → EachAccepted by_count new
       by (Answers given) may follows = subst (EachAccepted by_count) (sym follows.1) each
       by (Accepts event given) may follows =
           let one_more : IsAccepted by_count old event = record { ask = asked old command; told = given; given = may } in

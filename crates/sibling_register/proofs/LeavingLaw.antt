@@ -10,7 +10,7 @@ use Rattle.riak_msgs.specs.KeyOrder.{key_eq}
 use Rattle.sibling_register.specs.History.{Event, Reap, events_of, count_of, is_update, written, numbered, numbers_to, content_of}
 use Rattle.sibling_register.specs.Siblings.{siblings, unseen_by, is_among, is_present, is_defined, is_dead}
 use Rattle.sibling_register.specs.Naming.{Naming, DelSees}
-use Rattle.sibling_register.specs.Answers.{Told, Reaped, Kept, Done, Ask, AskGet, AskPut, AskDel, AskReap, Outcome, Answers, Accepts, MayGive, DelGives, does_nothing}
+use Rattle.sibling_register.specs.Answers.{Told, Reaped, Kept, Done, RegisterAsk, AskGet, AskPut, AskDel, AskReap, RegisterOutcome, Answers, Accepts, MayGive, DelGives, does_nothing}
 use Rattle.sibling_register.specs.Legal.{IsAccepted}
 use Rattle.sibling_register.specs.Leaving.{is_seen_in, LeavesOnlySeen}
 use Rattle.sibling_register.proofs.Following.{left_by, siblings-own, siblings-other, numbered-later}
@@ -77,7 +77,7 @@ module _ {V C : Type 0} where
       by false f h = let le : n ≤ length before = f h in omega (arith, le)
 
   -- an event that is no write or tombstone found its key dead
-  found_dead : (naming : Naming V C) (history : List (Event V C)) (ask : Ask V C) (event : Event V C) (told : Told ℕ)
+  found_dead : (naming : Naming V C) (history : List (Event V C)) (ask : RegisterAsk V C) (event : Event V C) (told : Told ℕ)
       → MayGive naming history ask (Accepts event told) → is_update event.operation ≡ false → is_dead history event.key ≡ true
   found_dead naming history (AskGet get) event told g u = cc
   found_dead naming history (AskPut put) event told g u = let e : is_update event.operation ≡ true = ap (λ (x : Event V C). is_update x.operation) g.2.1 in cc
@@ -92,9 +92,9 @@ module _ {V C : Type 0} where
       by : (b : Bool) → is_dead history key ≡ b
           → Accepts event told ≡ cond b (Accepts (record { key = key; operation = Reap; context = None; saw = numbers_to (count_of history key) }) Reaped) (Answers Kept)
           → is_dead history event.key ≡ true
-      by true d h = let same : event.key ≡ key = ap (λ (o : Outcome V C). key_of o) h in ap (is_dead history) same ∙ d
+      by true d h = let same : event.key ≡ key = ap (λ (o : RegisterOutcome V C). key_of o) h in ap (is_dead history) same ∙ d
         where
-          key_of : Outcome V C → Key
+          key_of : RegisterOutcome V C → Key
           key_of (Answers t) = key
           key_of (Accepts e t) = e.key
       by false d h = cc

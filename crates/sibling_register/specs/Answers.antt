@@ -1,10 +1,10 @@
 -- What the register answers at the end of a history, and which event follows.
-use Rattle.std.specs.Prelude.{◌≡◌, Bool, true, false, not, MatchBool, is_none, ◌&&◌, ◌||◌, ◌⊎◌, if◌then◌else◌, List, [], ◌∷◌, ℕ, length, count_by, Option, Some, None, IsTrue, MatchOption, nat_le}
+use Rattle.std.specs.Prelude.{◌≡◌, Bool, true, false, not, MatchBool, is_none, ◌&&◌, ◌||◌, ◌⊎◌, if◌then◌else◌, List, [], ◌∷◌, ◌++◌, ℕ, length, count_by, Option, Some, None, IsTrue, MatchOption, nat_le}
 use Rattle.riak_msgs.specs.declared.key.Key.{Key}
 use Rattle.sibling_register.specs.History.{Event, Write, Tombstone, Reap, count_of, numbers_to}
 use Rattle.sibling_register.specs.Siblings.{siblings, is_among, is_defined, is_present, is_dead}
 use Rattle.sibling_register.specs.Naming.{Naming, named, PutSees, DelSees}
-use Rattle.sibling_register.specs.Refusals.{match_found, modified, not_found, bad_context, too_many_siblings, max_siblings, is_free, first_of}
+use Rattle.sibling_register.specs.Refusals.{bad_context, too_many_siblings, max_siblings, is_free, first_of, option_checks}
 
 -- what the register answers, N being what its siblings' sequence numbers are: it refuses by the number of a check; it
 -- shows siblings in their order, and the name of a position where one is given, or that nothing was modified, or the
@@ -36,16 +36,16 @@ pub record DelCommand (C : Type 0) : Type 0 where
   pub context : Option C
 
 -- what the register is asked
-pub data Ask (V C : Type 0) : Type 0 where
-  AskGet : GetCommand C → Ask V C
-  AskPut : PutCommand V C → Ask V C
-  AskDel : DelCommand C → Ask V C
-  AskReap : Key → Ask V C
+pub data RegisterAsk (V C : Type 0) : Type 0 where
+  AskGet : GetCommand C → RegisterAsk V C
+  AskPut : PutCommand V C → RegisterAsk V C
+  AskDel : DelCommand C → RegisterAsk V C
+  AskReap : Key → RegisterAsk V C
 
 -- its outcome: an answer alone, or an event and the answer to it
-pub data Outcome (V C : Type 0) : Type 0 where
-  Answers : Told ℕ → Outcome V C
-  Accepts : Event V C → Told ℕ → Outcome V C
+pub data RegisterOutcome (V C : Type 0) : Type 0 where
+  Answers : Told ℕ → RegisterOutcome V C
+  Accepts : Event V C → Told ℕ → RegisterOutcome V C
 
 -- an absent key shows nothing
 abbrev pub nothing_shown : Told ℕ
@@ -78,13 +78,9 @@ module _ {V C : Type 0} where
   -- the first of a put's checks that holds
   abbrev pub put_refusal : Naming V C → List (Event V C) → PutCommand V C → List ℕ → Option ℕ
   put_refusal naming history put saw =
-      let present = is_present history put.key in
-      let if_not_modified = put.if_not_modified && not put.if_none_match in
       first_of (
-      (put.if_none_match && present, match_found)
-      ∷ (if_not_modified && not present, not_found)
-      ∷ (if_not_modified && not (is_name naming history put.key put.context), modified)
-      ∷ (has_too_many history put.key saw, too_many_siblings) ∷ [])
+      option_checks put.if_none_match put.if_not_modified (is_present history put.key) (is_name naming history put.key put.context)
+      ++ (has_too_many history put.key saw, too_many_siblings) ∷ [])
 
   -- the answer to an accepted put, by the history that it ends
   abbrev pub put_told : List (Event V C) → PutCommand V C → Told ℕ
@@ -102,7 +98,7 @@ module _ {V C : Type 0} where
       ⊎ MatchOption check (IsTrue (is_free number)) (λ first. number ≡ first)
 
   -- the outcomes of a put that saw these sequence numbers
-  abbrev pub PutGives : Naming V C → List (Event V C) → PutCommand V C → List ℕ → Outcome V C → Type 0
+  abbrev pub PutGives : Naming V C → List (Event V C) → PutCommand V C → List ℕ → RegisterOutcome V C → Type 0
   PutGives naming history put saw (Answers (Refused number)) =
       MayRefuse naming history put.key put.context (put_refusal naming history put saw) number
   PutGives naming history put saw (Accepts event told) =
@@ -119,7 +115,7 @@ module _ {V C : Type 0} where
   del_refusal history key saw = if has_too_many history key saw then Some too_many_siblings else None
 
   -- the outcomes of a delete that does something and saw these sequence numbers
-  abbrev pub DelGives : Naming V C → List (Event V C) → DelCommand C → List ℕ → Outcome V C → Type 0
+  abbrev pub DelGives : Naming V C → List (Event V C) → DelCommand C → List ℕ → RegisterOutcome V C → Type 0
   DelGives naming history del saw (Answers (Refused number)) =
       MayRefuse naming history del.key del.context (del_refusal history del.key saw) number
   DelGives naming history del saw (Accepts event told) =
@@ -136,14 +132,14 @@ module _ {V C : Type 0} where
   does_nothing history del = is_none del.context && not (is_defined history del.key)
 
   -- the outcome of a reap: a dead key is forgotten by an event that saw every number of it; any other is kept
-  abbrev pub reap_outcome : List (Event V C) → Key → Outcome V C
+  abbrev pub reap_outcome : List (Event V C) → Key → RegisterOutcome V C
   reap_outcome history key =
       if is_dead history key
       then Accepts (record { key = key; operation = Reap; context = None; saw = numbers_to (count_of history key) }) Reaped
       else Answers Kept
 
   -- the outcomes of an ask at the end of this history
-  abbrev pub MayGive : Naming V C → List (Event V C) → Ask V C → Outcome V C → Type 0
+  abbrev pub MayGive : Naming V C → List (Event V C) → RegisterAsk V C → RegisterOutcome V C → Type 0
   MayGive naming history (AskGet get) outcome = outcome ≡ Answers (get_told naming history get)
   MayGive naming history (AskPut put) outcome =
       (saw : List ℕ) × PutSees naming history put.key put.context saw × PutGives naming history put saw outcome

@@ -8,7 +8,7 @@ use Rattle.sibling_register.specs.declared.planned.Planned.{Planned}
 use Rattle.sibling_register.specs.declared.put.Put.{Put}
 use Rattle.sibling_register.specs.declared.key_state.KeyState.{KeyState}
 use Rattle.sibling_register.specs.History.{Operation, Write, Tombstone, Reap, Event, numbers_to, is_update}
-use Rattle.sibling_register.specs.Answers.{Told, Shown, Done, Ask, GetCommand, PutCommand, DelCommand, Outcome, Answers, Accepts}
+use Rattle.sibling_register.specs.Answers.{Told, Shown, Done, RegisterAsk, GetCommand, PutCommand, DelCommand, RegisterOutcome, Answers, Accepts}
 use Rattle.sibling_register.specs.Counting.{context_at}
 use Rattle.sibling_register.specs.Plain.{answer_of}
 use Rattle.sibling_register.specs.Plans.{plain_outcome}
@@ -42,24 +42,24 @@ module _ {V : Type 0} where
       let rest = filter (λ n. nat_lt entry.saw n) before in
       if is_update (operation_of entry.operation) then number ∷ rest else rest
 
-  abbrev pub outcome_by : Told ℕ → Option (Entry V) → Outcome V ℕ
+  abbrev pub outcome_by : Told ℕ → Option (Entry V) → RegisterOutcome V ℕ
   outcome_by told None = Answers told
   outcome_by told (Some entry) = Accepts (event_of entry) told
 
   -- the outcome that was planned
-  abbrev pub outcome_of : Planned V → Outcome V ℕ
+  abbrev pub outcome_of : Planned V → RegisterOutcome V ℕ
   outcome_of planned = outcome_by (answer_of planned.told) planned.entry
 
   -- the outcome of a put that nothing refuses, whose entry has this sequence number and is at this position, where the
   -- key had these siblings before
-  abbrev pub accepted_put : Put V → Option ℕ → List ℕ → ℕ → ℕ → Outcome V ℕ
+  abbrev pub accepted_put : Put V → Option ℕ → List ℕ → ℕ → ℕ → RegisterOutcome V ℕ
   accepted_put put named before number position =
       let entry : Entry V = record { key = put.key; operation = EntryWrite put.value; context = named; saw = unwrap_or named 0 } in
       Accepts (event_of entry) (if put.return_body || put.return_head
       then Shown (follow_of entry number before) (Some position) false (not put.return_body) else Done)
 
   -- what was planned is the outcome of the ask at the plain register
-  abbrev pub IsOutcomeOf : List (Event V ℕ) → Ask V ℕ → Planned V → Type 0
+  abbrev pub IsOutcomeOf : List (Event V ℕ) → RegisterAsk V ℕ → Planned V → Type 0
   IsOutcomeOf history ask planned = outcome_of planned ≡ plain_outcome history ask
 
   -- the history with an entry more, where there is one

@@ -2,12 +2,12 @@
 use Rattle.std.specs.Prelude.{List, [], ◌∷◌, ℕ}
 use Rattle.sibling_register.specs.History.{Event}
 use Rattle.sibling_register.specs.Naming.{Naming, IsNamingOf}
-use Rattle.sibling_register.specs.Answers.{Ask, Told, Accepts, MayGive}
+use Rattle.sibling_register.specs.Answers.{RegisterAsk, Told, Accepts, MayGive}
 
 module _ {V C : Type 0} where
   -- the event is what some ask may give at the end of this history
   pub record IsAccepted (naming : Naming V C) (history : List (Event V C)) (event : Event V C) : Type 0 where
-    pub ask : Ask V C
+    pub ask : RegisterAsk V C
     pub told : Told ℕ
     pub given : MayGive naming history ask (Accepts event told)
 

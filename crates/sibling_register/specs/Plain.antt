@@ -7,7 +7,7 @@ use Rattle.sibling_register.specs.declared.told.Told.{Told as TypeTold}
 use Rattle.sibling_register.specs.declared.told.Told.TheVariants.{Refused as TypeRefused, Shown as TypeShown, Done as TypeDone, Reaped as TypeReaped, Kept as TypeKept}
 use Rattle.sibling_register.specs.History.{Event}
 use Rattle.sibling_register.specs.Refusals.{match_found, not_found, too_many_siblings}
-use Rattle.sibling_register.specs.Answers.{Ask, AskGet, AskPut, AskDel, AskReap, Told, Refused, Shown, Done, Reaped, Kept, Outcome, Answers, Accepts, MayGive}
+use Rattle.sibling_register.specs.Answers.{RegisterAsk, AskGet, AskPut, AskDel, AskReap, Told, Refused, Shown, Done, Reaped, Kept, RegisterOutcome, Answers, Accepts, MayGive}
 use Rattle.sibling_register.specs.Plans.{plain_outcome}
 use Rattle.sibling_register.specs.Counting.{by_count, context_at}
 
@@ -29,7 +29,7 @@ is_decided Kept = true
 
 module _ {V : Type 0} where
   -- what a command asks, the positions that it gives read as contexts
-  abbrev pub asked : List (Event V ℕ) → Command V → Ask V ℕ
+  abbrev pub asked : List (Event V ℕ) → Command V → RegisterAsk V ℕ
   asked history (Get key if_modified head deletedvclock) =
       AskGet (record { key = key; if_modified = context_at history key if_modified; head = head; deletedvclock = deletedvclock })
   asked history (Put key context value return_body return_head if_not_modified if_none_match) =
@@ -57,14 +57,14 @@ module _ {V : Type 0} where
   GivesPositions history (Reap key) = Unit {0}
 
   -- from one history to another by what came of an ask
-  abbrev pub Follows : List (Event V ℕ) → Outcome V ℕ → Told ℕ → List (Event V ℕ) → Type 0
+  abbrev pub Follows : List (Event V ℕ) → RegisterOutcome V ℕ → Told ℕ → List (Event V ℕ) → Type 0
   Follows old (Answers given) told new = (told ≡ given) × (new ≡ old)
   Follows old (Accepts event given) told new = (told ≡ given) × (new ≡ event ∷ old)
 
 -- the register answers the command as the plain register does, so by the definition, and refuses by no check that the
 -- definition leaves free
 pub record Gives {V : Type 0} (old : List (Event V ℕ)) (command : Command V) (told : Told ℕ) (new : List (Event V ℕ)) : Type 0 where
-  pub outcome : Outcome V ℕ
+  pub outcome : RegisterOutcome V ℕ
   pub exact : outcome ≡ plain_outcome old (asked old command)
   pub may : MayGive by_count old (asked old command) outcome
   pub follows : Follows old outcome told new

@@ -2,7 +2,7 @@
 use Rattle.std.specs.Prelude.{Bool, true, false, not, ◌&&◌, ◌==◌, List, [], ◌∷◌, ℕ, length, Option, Some, None, unwrap_or, if◌then◌else◌}
 use Rattle.sibling_register.specs.History.{Event, Write, Tombstone, count_of, numbers_to}
 use Rattle.sibling_register.specs.Refusals.{match_found, modified, not_found, too_many_siblings}
-use Rattle.sibling_register.specs.Answers.{Ask, AskGet, AskPut, AskDel, AskReap, Told, Refused, Shown, Done, nothing_shown, PutCommand, DelCommand, Outcome, Answers, Accepts, get_told, put_refusal, put_told, del_refusal, does_nothing, reap_outcome}
+use Rattle.sibling_register.specs.Answers.{RegisterAsk, AskGet, AskPut, AskDel, AskReap, Told, Refused, Shown, Done, nothing_shown, PutCommand, DelCommand, RegisterOutcome, Answers, Accepts, get_told, put_refusal, put_told, del_refusal, does_nothing, reap_outcome}
 use Rattle.sibling_register.specs.Counting.{by_count}
 
 -- what the plain register saw by a context
@@ -10,13 +10,13 @@ abbrev pub saw_by : Option ℕ → List ℕ
 saw_by context = numbers_to (unwrap_or context 0)
 
 module _ {V : Type 0} where
-  abbrev pub put_outcome_by : List (Event V ℕ) → PutCommand V ℕ → Option ℕ → Outcome V ℕ
+  abbrev pub put_outcome_by : List (Event V ℕ) → PutCommand V ℕ → Option ℕ → RegisterOutcome V ℕ
   put_outcome_by history put (Some number) = Answers (Refused number)
   put_outcome_by history put None =
       let event : Event V ℕ = record { key = put.key; operation = Write put.value; context = put.context; saw = saw_by put.context } in
       Accepts event (put_told (event ∷ history) put)
 
-  abbrev pub del_outcome_by : List (Event V ℕ) → DelCommand ℕ → List ℕ → Option ℕ → Outcome V ℕ
+  abbrev pub del_outcome_by : List (Event V ℕ) → DelCommand ℕ → List ℕ → Option ℕ → RegisterOutcome V ℕ
   del_outcome_by history del saw (Some number) = Answers (Refused number)
   del_outcome_by history del saw None =
       Accepts (record { key = del.key; operation = Tombstone; context = del.context; saw = saw }) Done
@@ -26,7 +26,7 @@ module _ {V : Type 0} where
   del_saw history del = numbers_to (unwrap_or del.context (count_of history del.key))
 
   -- the outcome of an ask at the plain register
-  abbrev pub plain_outcome : List (Event V ℕ) → Ask V ℕ → Outcome V ℕ
+  abbrev pub plain_outcome : List (Event V ℕ) → RegisterAsk V ℕ → RegisterOutcome V ℕ
   plain_outcome history (AskGet get) = Answers (get_told by_count history get)
   plain_outcome history (AskPut put) = put_outcome_by history put (put_refusal by_count history put (saw_by put.context))
   plain_outcome history (AskDel del) =

@@ -1,5 +1,5 @@
 -- The refusals of a put or a delete, by their numbers, with their texts, and the limit of siblings.
-use Rattle.std.specs.Prelude.{Bool, ◌&&◌, ◌==◌, if◌then◌else◌, List, [], ◌∷◌, ℕ, Option, Some, None, nat_le}
+use Rattle.std.specs.Prelude.{Bool, not, ◌&&◌, ◌==◌, if◌then◌else◌, List, [], ◌∷◌, ℕ, Option, Some, None, nat_le}
 use Rattle.riak_msgs.specs.declared.Text.{Text}
 use Rattle.riak_msgs.specs.declared.Text.TheVariants as texts
 
@@ -64,3 +64,16 @@ max_siblings = 64
 abbrev pub first_of : List (Bool × ℕ) → Option ℕ
 first_of [] = None
 first_of (check ∷ checks) = if check.0 then Some check.1 else first_of checks
+
+-- The checks of a put are answered in one order, which is decided here; whoever speaks of them cites these two lists. First comes
+-- `bad_context`, then what the options ask, then `too_many_siblings`, then what there is no room for at the actor that writes.
+abbrev pub option_checks : (if_none_match if_not_modified is_present is_named : Bool) → List (Bool × ℕ)
+option_checks if_none_match if_not_modified is_present is_named =
+    let asks_not_modified = if_not_modified && not if_none_match in
+    (if_none_match && is_present, match_found)
+    ∷ (asks_not_modified && not is_present, not_found)
+    ∷ (asks_not_modified && not is_named, modified) ∷ []
+
+abbrev pub actor_checks : (is_full is_out_of_epochs is_out_of_counters : Bool) → List (Bool × ℕ)
+actor_checks is_full is_out_of_epochs is_out_of_counters =
+    (is_full, clock_full) ∷ (is_out_of_epochs, epochs_used_up) ∷ (is_out_of_counters, counter_used_up) ∷ []

@@ -26,7 +26,7 @@ use Rattle.node_server.specs.declared.connections.Streams.{Streams}
 use Rattle.node_server.specs.declared.end.ConnectionEnd.{ConnectionEnd}
 use Rattle.node_server.specs.Steps.{Continues, EndsConnection}
 use Rattle.gate_node.specs.Gates.{Gates}
-use Rattle.gate_node.specs.GateStep.{NodeOverGates, GateStep}
+use Rattle.gate_node.specs.GateStep.{NodeOverGates, GateNodeStep}
 use Rattle.gate_node.specs.Passes.{Sights, ArePassesOf, AreUnused}
 use Rattle.gate_node.specs.Tallies.{GateHistory}
 use Rattle.gate_node.specs.OneHistory.{IsSeen, StepIn, CallersAreOfRun, ShareHistories}
@@ -120,15 +120,15 @@ module _ {N : Type 0} (Step : N → Request → Reply → N → Type 0) (Holds :
       )
 
 -- a worker keeps its node's gates
-pub worker_keeps : (first last : NodeOverGates) (ends : List ConnectionEnd) → ServesConnections GateStep first last ends → last.shared ≡ first.shared
+pub worker_keeps : (first last : NodeOverGates) (ends : List ConnectionEnd) → ServesConnections GateNodeStep first last ends → last.shared ≡ first.shared
 worker_keeps first last ends h =
-    sym (serves_with GateStep (λ node. node.shared ≡ last.shared) (λ old request reply new step same. sym (step-keeps old request reply new step) ∙ same) first last ends h refl).1
+    sym (serves_with GateNodeStep (λ node. node.shared ≡ last.shared) (λ old request reply new step same. sym (step-keeps old request reply new step) ∙ same) first last ends h refl).1
 
 -- what a worker counted by a node that was made of unused passes and a share that has counted nothing
 pub worker_counts : (gates : Gates) (first last : NodeOverGates) (ends : List ConnectionEnd) (begins after : Sights) (share totals : Totals) (full : Bool)
     → first.shared ≡ gates → first.passes ≡ begins → ArePassesOf gates begins → AreUnused begins → first.count ≡ record { counted = share; book_full = false } → share ≡ zeros
-    → ServesConnections GateStep first last ends → after ≡ last.passes → ArePassesOf last.shared after → totals ≡ last.count.counted → full ≡ last.count.book_full → full ≡ false
-    → WorkerCounts GateStep gates ends after totals
+    → ServesConnections GateNodeStep first last ends → after ≡ last.passes → ArePassesOf last.shared after → totals ≡ last.count.counted → full ≡ last.count.book_full → full ≡ false
+    → WorkerCounts GateNodeStep gates ends after totals
 worker_counts gates first last ends begins after share totals full of_gates passes fits unused count none serves left kept counted is_full not_full =
     record {
       first = first;
@@ -149,7 +149,7 @@ module _ (gates : Gates) (histories : List GateHistory) where
   abbrev Saw : Sights → Type 0
   Saw passes = AllZip IsSeen histories passes.primaries
 
-  worker_in : (ends : List ConnectionEnd) (passes : Sights) (totals : Totals) → Saw passes → WorkerCounts GateStep gates ends passes totals → WorkerCounts (StepIn histories) gates ends passes totals
+  worker_in : (ends : List ConnectionEnd) (passes : Sights) (totals : Totals) → Saw passes → WorkerCounts GateNodeStep gates ends passes totals → WorkerCounts (StepIn histories) gates ends passes totals
   worker_in ends passes totals saw h =
       record {
         first = h.first;
@@ -158,14 +158,14 @@ module _ (gates : Gates) (histories : List GateHistory) where
         begins = h.begins;
         unused = h.unused;
         from_zero = h.from_zero;
-        serves = (serves_with GateStep (AreSeen histories) (seen_before_step histories) h.first h.last ends h.serves (subst Saw (sym h.left) saw)).0;
+        serves = (serves_with GateNodeStep (AreSeen histories) (seen_before_step histories) h.first h.last ends h.serves (subst Saw (sym h.left) saw)).0;
         left = h.left;
         kept = h.kept;
         counted = h.counted;
         room = h.room;
       }
 
-  workers_in : (ends : List (List ConnectionEnd)) (passes : List Sights) (totals : Totals) → All Saw passes → AreTotals GateStep gates ends passes totals → AreTotals (StepIn histories) gates ends passes totals
+  workers_in : (ends : List (List ConnectionEnd)) (passes : List Sights) (totals : Totals) → All Saw passes → AreTotals GateNodeStep gates ends passes totals → AreTotals (StepIn histories) gates ends passes totals
   workers_in [] [] totals saw h = h
   workers_in [] (left ∷ passes) totals saw h = absurd h
   workers_in (one ∷ ends) [] totals saw h = absurd h
@@ -174,14 +174,14 @@ module _ (gates : Gates) (histories : List GateHistory) where
 
 module _ (gates : Gates) where
   -- the passes that workers left are of their gates
-  pub left_of_run : (ends : List (List ConnectionEnd)) (passes : List Sights) (totals : Totals) → AreTotals GateStep gates ends passes totals → CallersAreOfRun (λ p. p) gates passes
+  pub left_of_run : (ends : List (List ConnectionEnd)) (passes : List Sights) (totals : Totals) → AreTotals GateNodeStep gates ends passes totals → CallersAreOfRun (λ p. p) gates passes
   left_of_run [] [] totals h = All-nil (ArePassesOf gates)
   left_of_run [] (left ∷ passes) totals h = absurd h
   left_of_run (one ∷ ends) [] totals h = absurd h
   left_of_run (one ∷ ends) (left ∷ passes) totals h = All-cons (ArePassesOf gates) left passes h.2.kept (left_of_run ends passes h.1 h.3)
 
   -- so all their steps were in one history of each primary, where the tallies share that with what they left
-  pub serve_in_histories : (ends : List (List ConnectionEnd)) (passes : List Sights) (tallies : List Tally) (totals : Totals) → AreTotals GateStep gates ends passes totals → ShareHistories (λ p. p) gates.gates passes tallies
+  pub serve_in_histories : (ends : List (List ConnectionEnd)) (passes : List Sights) (tallies : List Tally) (totals : Totals) → AreTotals GateNodeStep gates ends passes totals → ShareHistories (λ p. p) gates.gates passes tallies
       → ServeInHistories gates ends tallies totals
   serve_in_histories ends passes tallies totals h share =
       let seen = each_seen (λ p. p) gates share.histories share.of_gates passes (left_of_run ends passes totals h) share.seen in

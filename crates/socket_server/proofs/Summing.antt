@@ -5,7 +5,7 @@ use Rattle.std.proofs.lemmas.List.{length-append, map-append}
 use Rattle.stats_book.specs.declared.totals.Totals.{Totals}
 use Rattle.stats_book.specs.Counting.{both, numbers}
 use Rattle.gate_node.specs.Gates.{Gates}
-use Rattle.gate_node.specs.GateStep.{GateStep}
+use Rattle.gate_node.specs.GateStep.{GateNodeStep}
 use Rattle.gate_node.specs.Passes.{Sights}
 use Rattle.node_server.specs.declared.end.ConnectionEnd.{ConnectionEnd}
 use Rattle.socket_server.specs.Counting.{WorkerCounts, AreTotals, AddsWorker}
@@ -24,7 +24,7 @@ both-swapped a b c =
 
 -- one worker more, behind the others
 pub one_more : (gates : Gates) (all : List (List ConnectionEnd)) (passes : List Sights) (ends : List ConnectionEnd) (left : Sights) (others own : Totals)
-    → AreTotals GateStep gates all passes others → WorkerCounts GateStep gates ends left own → AreTotals GateStep gates (all ++ ends ∷ []) (passes ++ left ∷ []) (both own others)
+    → AreTotals GateNodeStep gates all passes others → WorkerCounts GateNodeStep gates ends left own → AreTotals GateNodeStep gates (all ++ ends ∷ []) (passes ++ left ∷ []) (both own others)
 one_more gates [] [] ends left others own before counts = (own, others, counts, before, refl)
 one_more gates [] (first ∷ passes) ends left others own before counts = absurd before
 one_more gates (one ∷ all) [] ends left others own before counts = absurd before
@@ -52,14 +52,14 @@ module _ {S : Type 0} where
 
   -- what a worker counted is added to what the others did
   pub one_counted : (given : S → List ConnectionEnd) (gates : Gates) (others : Result (AllCounted S) ServerFault) (own : Result (WorkerOutcome S) ServerFault) (all : AllCounted S)
-      → AddsWorker others own all → IfOk others (λ o. AreTotals GateStep gates (map given o.sinks.items) o.passes.items o.totals)
-      → IfOk own (λ o. WorkerCounts GateStep gates (given o.sink) o.passes o.totals) → AreTotals GateStep gates (map given all.sinks.items) all.passes.items all.totals
+      → AddsWorker others own all → IfOk others (λ o. AreTotals GateNodeStep gates (map given o.sinks.items) o.passes.items o.totals)
+      → IfOk own (λ o. WorkerCounts GateNodeStep gates (given o.sink) o.passes o.totals) → AreTotals GateNodeStep gates (map given all.sinks.items) all.passes.items all.totals
   one_counted given gates (Ok others) (Ok own) all added before counts =
       let ends = map given others.sinks.items in
       let more = one_more gates ends others.passes.items (given own.sink) own.passes others.totals own.totals before counts in
-      subst (λ es. AreTotals GateStep gates es all.passes.items all.totals) (sym (ap (map given) added.0 ∙ map-append given others.sinks.items (own.sink ∷ [])))
-      (subst (λ ps. AreTotals GateStep gates (ends ++ given own.sink ∷ []) ps all.totals) (sym added.1)
-      (subst (λ totals. AreTotals GateStep gates (ends ++ given own.sink ∷ []) (others.passes.items ++ own.passes ∷ []) totals) (sym added.2) more))
+      subst (λ es. AreTotals GateNodeStep gates es all.passes.items all.totals) (sym (ap (map given) added.0 ∙ map-append given others.sinks.items (own.sink ∷ [])))
+      (subst (λ ps. AreTotals GateNodeStep gates (ends ++ given own.sink ∷ []) ps all.totals) (sym added.1)
+      (subst (λ totals. AreTotals GateNodeStep gates (ends ++ given own.sink ∷ []) (others.passes.items ++ own.passes ∷ []) totals) (sym added.2) more))
   one_counted given gates (Ok others) (Err fault) all added before counts = absurd added
   one_counted given gates (Err fault) (Ok own) all added before counts = absurd added
   one_counted given gates (Err fault) (Err other) all added before counts = absurd added

@@ -2,7 +2,7 @@
 ghost use Rattle.std.specs.Prelude.{◌≡◌, ◌++◌, ◌∷◌, [], length, map, Ok, IfOk};
 ghost use Rattle.std.specs.List.{All};
 ghost use Rattle.stats_book.specs.Counting.{both};
-ghost use Rattle.gate_node.specs.GateStep.{GateStep};
+ghost use Rattle.gate_node.specs.GateStep.{GateNodeStep};
 ghost use Rattle.socket_server.specs.Counting.{AreTotals, IsOver, AddsWorker};
 
 use crate::counting::WorkerOutcome;
@@ -23,10 +23,10 @@ pub struct ServesOver {
 
 impl<S: EndSink> Promise<Result<WorkerOutcome<S>, ServerFault>> for ServesOver {
     ghost use Rattle.std.specs.Prelude.{IfOk};
-    ghost use Rattle.gate_node.specs.GateStep.{GateStep};
+    ghost use Rattle.gate_node.specs.GateStep.{GateNodeStep};
     ghost use Rattle.socket_server.specs.Counting.{WorkerCounts};
 
-    ghost kept_by = { λ promise counted. IfOk counted (λ outcome. WorkerCounts GateStep
+    ghost kept_by = { λ promise counted. IfOk counted (λ outcome. WorkerCounts GateNodeStep
         promise.gates.value (S.given outcome.sink) outcome.passes outcome.totals) };
 }
 
@@ -81,7 +81,7 @@ pub(crate) fn join_workers<X: Threads, S: EndSink + Drop>(
 ) -> Result<AllCounted<S>, ServerFault>
     requires { All (IsOver gates.value) children.items }
     ensures workers { IfOk result (λ all. length all.sinks.items ≡ length children.items) }
-    ensures totals { IfOk result (λ all. AreTotals GateStep gates.value
+    ensures totals { IfOk result (λ all. AreTotals GateNodeStep gates.value
         (map S.given all.sinks.items) all.passes.items all.totals) }
 {
     let mut counted = Ok(AllCounted {

@@ -3,7 +3,7 @@ ghost use Rattle.std.specs.Prelude.{◌≡◌, [], ◌∷◌, ◌++◌, false, t
 ghost use Rattle.stats_book.specs.Counting.{zeros};
 ghost use Rattle.stats_book.specs.Holdings.{AllAre};
 ghost use Rattle.stats_book.specs.declared.totals.Totals.{Totals};
-ghost use Rattle.gate_node.specs.GateStep.{GateStep};
+ghost use Rattle.gate_node.specs.GateStep.{GateNodeStep};
 ghost use Rattle.gate_node.specs.Passes.{ArePassesOf, AreUnused};
 ghost use Rattle.socket_server.specs.Counting.{WorkerCounts, IsWorkerOutcome};
 
@@ -68,7 +68,7 @@ where
     requires unused { AreUnused passes }
     requires sink { S.given station.sink ≡ [] }
     ensures { result.1.book_full ≡ false →
-        WorkerCounts GateStep shared.now (S.given result.1.sink) result.1.passes result.0 }
+        WorkerCounts GateNodeStep shared.now (S.given result.1.sink) result.1.passes result.0 }
 {
     let Station { waits, sink } = station;
     let node = GateNode::new(rt, shared, book, share, passes, &Open);
@@ -119,7 +119,7 @@ where
     requires sink { S.given station.sink ≡ [] }
     ensures { IfSome result (λ left. (counted : Totals) × (shares.new.items ≡ counted ∷ [])
         × (left.book_full ≡ false →
-        WorkerCounts GateStep shared.now (S.given left.sink) left.passes counted)) }
+        WorkerCounts GateNodeStep shared.now (S.given left.sink) left.passes counted)) }
 {
     let Ok(passes) = Passes::new(alloc, shared) else {
         return None;
@@ -165,7 +165,7 @@ where
     requires sink { S.given station.sink ≡ [] }
     ensures { IfSome result (λ left. (counted : Totals) × (shares.new.items ≡ counted ∷ [])
         × (left.book_full ≡ false →
-        WorkerCounts GateStep shared.now (S.given left.sink) left.passes counted)) }
+        WorkerCounts GateNodeStep shared.now (S.given left.sink) left.passes counted)) }
 {
     match shares.pop() {
         Some(share) => serve_by_one(
@@ -232,7 +232,7 @@ where
     requires parts { AllAre 1 G.parts P.parts D.parts E.parts R.parts }
     requires sink { S.given station.sink ≡ [] }
     ensures { IfOk result (λ outcome.
-        WorkerCounts GateStep shared.now (S.given outcome.sink) outcome.passes outcome.totals) }
+        WorkerCounts GateNodeStep shared.now (S.given outcome.sink) outcome.passes outcome.totals) }
 {
     let Ok((book, mut shares)) = Book::<G, P, D, E, R>::new(alloc, 1, blanks) else {
         return Err(ServerFault::NoMemory);
@@ -265,7 +265,7 @@ pub(crate) fn work<X: Log + Clock + Wait, S: EndSink + Drop>(
 ) -> Result<WorkerOutcome<S>, ServerFault>
     requires { S.given station.sink ≡ [] }
     ensures { IfOk result (λ outcome.
-        WorkerCounts GateStep shared.now (S.given outcome.sink) outcome.passes outcome.totals) }
+        WorkerCounts GateNodeStep shared.now (S.given outcome.sink) outcome.passes outcome.totals) }
 {
     let counted = count_by::<X, S, Brand, Brand, Brand, Brand, Brand>(
         rt,

@@ -1,7 +1,7 @@
 //! A server over a listener.
 ghost use Rattle.std.specs.Prelude.{◌≡◌, ◌≤◌, [], length, map, Some, None, Ok, false, IfOk, IfSome};
 ghost use Rattle.std.specs.List.{All};
-ghost use Rattle.gate_node.specs.GateStep.{GateStep};
+ghost use Rattle.gate_node.specs.GateStep.{GateNodeStep};
 ghost use Rattle.socket_server.specs.Counting.{AreTotals, IsOver, IsServerOutcome};
 ghost use Rattle.socket_server.specs.Counting.{ServeInHistories};
 
@@ -151,7 +151,7 @@ fn with_tallies<X: Wait, S: EndSink + Drop>(
     all: AllCounted<S>,
     connections: u64,
 ) -> Result<ServerOutcome<S>, ServerFault>
-    requires { AreTotals GateStep shared.now (map S.given all.sinks.items)
+    requires { AreTotals GateNodeStep shared.now (map S.given all.sinks.items)
         all.passes.items all.totals }
     ensures outcome { IfOk result (IsServerOutcome (Ok all) (Ok connections)) }
     ensures served { IfOk result (λ outcome. ServeInHistories shared.now
@@ -181,7 +181,7 @@ fn outcome_of<X: Wait, S: EndSink + Drop>(
     counted: Result<AllCounted<S>, ServerFault>,
     accepted: Result<u64, ServerFault>,
 ) -> Result<ServerOutcome<S>, ServerFault>
-    requires { IfOk counted (λ all. AreTotals GateStep shared.now
+    requires { IfOk counted (λ all. AreTotals GateNodeStep shared.now
         (map S.given all.sinks.items) all.passes.items all.totals) }
     ensures outcome { IfOk result (IsServerOutcome counted accepted) }
     ensures served { IfOk result (λ outcome. ServeInHistories shared.now

@@ -1,7 +1,7 @@
 //! How the workers are started.
 ghost use Rattle.std.specs.Prelude.{◌≡◌, ◌+◌, ◌++◌, ◌∷◌, [], length, IfOk, OnOk};
 ghost use Rattle.std.specs.List.{All};
-ghost use Rattle.gate_node.specs.GateStep.{GateStep};
+ghost use Rattle.gate_node.specs.GateStep.{GateNodeStep};
 ghost use Rattle.socket_server.specs.Counting.{IsOver, WorkerCounts};
 ghost use Rattle.socket_server.specs.declared.counting.Station.{Station};
 
@@ -93,7 +93,7 @@ where
         promise,
         move || -> Result<WorkerOutcome<S>, ServerFault>
             requires { S.given station.sink ≡ [] }
-            ensures { IfOk result (λ outcome. WorkerCounts GateStep shared.entry.now
+            ensures { IfOk result (λ outcome. WorkerCounts GateNodeStep shared.entry.now
                 (S.given outcome.sink) outcome.passes outcome.totals) }
         { work(rt, alloc, shared, station, inbox, idle_seconds) },
     ) {

@@ -17,8 +17,8 @@ Counts quantity n old new =
     ⊎ ((0 < n) × (new ≡ record old { book_full = true }))
 
 -- they are counted, unless they would pass the last number
-abbrev pub HasRoom : Quantity → ℕ → Count → Count → Type 0
-HasRoom quantity n old new =
+abbrev pub CountsOrIsFull : Quantity → ℕ → Count → Count → Type 0
+CountsOrIsFull quantity n old new =
     (new ≡ record old { counted = raised quantity n old.counted }) ⊎ IsFull quantity old.counted n
 
 -- a reply is counted as one of its quantity, where it has one

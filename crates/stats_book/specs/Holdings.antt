@@ -3,7 +3,7 @@ use Rattle.std.specs.Prelude.{ℕ, ◌≡◌}
 use Rattle.stats_book.specs.declared.totals.Totals.{Totals}
 
 -- of how many shares, and what they have counted in all
-pub record Held : Type 0 where
+pub record HoldingView : Type 0 where
   pub shares : ℕ
   pub counted : Totals
 

@@ -1,6 +1,6 @@
 //! What one worker counts, by its share of the book.
 ghost use Rattle.std.specs.Prelude.{◌≡◌, false};
-ghost use Rattle.stats_book.specs.Counter.{Counts, CountsReply, CountsAnswer, HasRoom};
+ghost use Rattle.stats_book.specs.Counter.{Counts, CountsReply, CountsAnswer, CountsOrIsFull};
 ghost use Rattle.stats_book.specs.Holdings.{AllAre};
 
 use crate::book::Book;
@@ -14,14 +14,14 @@ use std::sync::ledger::Ledger;
 ///
 /// A reply never waits for room: where the book is full, the numbers stay and the counter remembers that.
 #[derive(Drop)]
-pub struct Counter<'a, G: Ledger, P: Ledger, D: Ledger, E: Ledger, R: Ledger> {
+pub struct ReplyCounter<'a, G: Ledger, P: Ledger, D: Ledger, E: Ledger, R: Ledger> {
     book: &'a Book<G, P, D, E, R>,
     share: Share<G, P, D, E, R>,
     is_book_full: bool,
 }
 
 impl<'a, G: Ledger, P: Ledger, D: Ledger, E: Ledger, R: Ledger> Model
-    for Counter<'a, G, P, D, E, R> {
+    for ReplyCounter<'a, G, P, D, E, R> {
     ghost use Rattle.stats_book.specs.Counter.{Count};
 
     ghost Value = { Count };
@@ -29,15 +29,15 @@ impl<'a, G: Ledger, P: Ledger, D: Ledger, E: Ledger, R: Ledger> Model
     ghost view = { λ c. record { counted = c.share; book_full = c.is_book_full } };
 }
 
-impl<'a, G: Ledger, P: Ledger, D: Ledger, E: Ledger, R: Ledger> Counter<'a, G, P, D, E, R> {
+impl<'a, G: Ledger, P: Ledger, D: Ledger, E: Ledger, R: Ledger> ReplyCounter<'a, G, P, D, E, R> {
     /// A counter by this share of the book, which had room so far.
     pub fn new(
         book: &'a Book<G, P, D, E, R>,
         share: Share<G, P, D, E, R>,
-    ) -> Counter<'a, G, P, D, E, R>
+    ) -> ReplyCounter<'a, G, P, D, E, R>
         ensures { result ≡ record { counted = share; book_full = false } }
     {
-        Counter {
+        ReplyCounter {
             book,
             share,
             is_book_full: false,
@@ -49,7 +49,7 @@ impl<'a, G: Ledger, P: Ledger, D: Ledger, E: Ledger, R: Ledger> Counter<'a, G, P
         ensures share { result.0 ≡ self.entry.counted }
         ensures full { result.1 ≡ self.entry.book_full }
     {
-        let Counter {
+        let ReplyCounter {
             book: _,
             share,
             is_book_full,
@@ -64,7 +64,7 @@ impl<'a, G: Ledger, P: Ledger, D: Ledger, E: Ledger, R: Ledger> Counter<'a, G, P
 
         // Where the book has no other share, it has room for all that this one may count.
         ensures sole { AllAre 1 G.parts P.parts D.parts E.parts R.parts
-            → HasRoom quantity amount self.old self.new }
+            → CountsOrIsFull quantity amount self.old self.new }
     {
         if amount == 0 {
             return;

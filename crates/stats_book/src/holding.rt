@@ -20,9 +20,9 @@ pub(crate) struct Holding<G: Ledger, P: Ledger, D: Ledger, E: Ledger, R: Ledger>
 
 impl<G: Ledger, P: Ledger, D: Ledger, E: Ledger, R: Ledger> Model for Holding<G, P, D, E, R> {
     ghost use Rattle.stats_book.specs.Counting.{numbers};
-    ghost use Rattle.stats_book.specs.Holdings.{AllAre, Held};
+    ghost use Rattle.stats_book.specs.Holdings.{AllAre, HoldingView};
 
-    ghost Value = { Held };
+    ghost Value = { HoldingView };
 
     ghost view = { λ h. record {
       shares = h.gets.parts;

@@ -5,8 +5,8 @@
 //! shares, and answers numbers that are the sums of what the shares have counted (`sum_of`), whatever threads added
 //! them, in whatever order. No count is lost and none is made up.
 //!
-//! A [`Counter`] is what one worker counts by: its share, its book, and whether the book had no room for some of it
-//! (`specs/Counter`).
+//! A [`ReplyCounter`] is what one worker counts by: its share, its book, and whether the book had no room for some of it
+//! (`specs/ReplyCounter`).
 //!
 //! What it costs: an addition is one lock and one sum with a test for overflow. Only [`Book::new`] takes memory, for the
 //! vector of shares.
@@ -35,7 +35,7 @@ mod totals;
 
 pub use blanks::Blanks;
 pub use book::{Book, Opened, close};
-pub use counter::Counter;
+pub use counter::ReplyCounter;
 pub use fault::BookFault;
 pub use quantity::Quantity;
 pub use share::Share;

@@ -17,7 +17,7 @@ use Rattle.dvv_set.specs.Held.{IsWithin, known_after}
 use Rattle.dvv_set.proofs.Discards.{union-itself}
 use Rattle.vnode_machine.specs.Asks.{del_command}
 use Rattle.vnode_machine.specs.Machine.{State, Stored, clock_of, actor_for, del_pairs, updated}
-use Rattle.vnode_machine.specs.Step.{StepOutcome, Refused, del_step}
+use Rattle.vnode_machine.specs.Step.{MachineOutcome, Refused, del_step}
 use Rattle.vnode_machine.proofs.Formed.{sound-next}
 use Rattle.vnode_machine.proofs.Seen.{form-within}
 use Rattle.vnode_machine.proofs.Tests.{and_left, and_right, and_both}
@@ -31,7 +31,7 @@ use Rattle.vnode_core.proofs.Putting.{find-next}
 use Rattle.vnode_core.proofs.Sound.{known-at}
 
 -- a delete of a key by what was given as its context
-abbrev step_by : State Content → Key → Option Context → StepOutcome
+abbrev step_by : State Content → Key → Option Context → MachineOutcome
 step_by state key given = del_step state (record { key = key; context = given })
 
 -- the context of a delete that the machine accepts is not malformed

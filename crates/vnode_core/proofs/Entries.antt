@@ -1,13 +1,13 @@
 -- The commands of a log.
 use Rattle.std.proofs.Common.{◌≡◌, ◌∙◌, ◌++◌, List, [], ◌∷◌, refl, sym, ap}
 use mathlib.Core.List.{IsPrefix}
-use Rattle.vnode_core.specs.declared.event.Event.{Event}
+use Rattle.vnode_core.specs.declared.event.VnodeEvent.{VnodeEvent}
 use Rattle.vnode_core.specs.declared.entry.Entry.{Entry}
 use Rattle.vnode_core.specs.declared.entry.Entry.TheVariants.{Command as Commanded, Copied, Closed}
 use Rattle.vnode_core.specs.Events.{commands_of, all_commands, AreCommands}
 
 -- the commands of a log of commands alone are these
-pub commands_of-all_commands : (events : List Event) → commands_of (all_commands events) ≡ events
+pub commands_of-all_commands : (events : List VnodeEvent) → commands_of (all_commands events) ≡ events
 commands_of-all_commands [] = refl
 commands_of-all_commands (event ∷ events) = ap (λ es. event ∷ es) (commands_of-all_commands events)
 
@@ -26,7 +26,7 @@ pub commands_begin : (xs ys : List Entry) → IsPrefix xs ys → IsPrefix (comma
 commands_begin xs ys (rest, is) = (commands_of rest, sym (commands_of-append xs rest) ∙ ap commands_of is)
 
 -- what begins a log of commands alone is one
-begins_commands : (xs rest : List Entry) (events : List Event) → xs ++ rest ≡ all_commands events → AreCommands xs
+begins_commands : (xs rest : List Entry) (events : List VnodeEvent) → xs ++ rest ≡ all_commands events → AreCommands xs
 begins_commands [] rest events is = ([], refl)
 begins_commands (x ∷ xs) rest [] is = absurd (cc is)
 begins_commands (x ∷ xs) rest (event ∷ events) is =

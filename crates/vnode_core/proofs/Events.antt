@@ -12,7 +12,7 @@ use Rattle.vnode_machine.specs.Dead.{is_from, first_dead}
 use Rattle.vnode_machine.specs.Machine.{State, opening, is_held, holds_dead, put_check, del_check}
 use Rattle.vnode_machine.specs.Registers.{IsRegisters, IsNext}
 use Rattle.vnode_machine.specs.Replay.{History, naming, IsWithinLimits, IsAfter}
-use Rattle.vnode_machine.specs.Step.{Response, ReapDone, ReapKept, StepOutcome, Answered, Accepted, DelDone, outcome, unless_refused}
+use Rattle.vnode_machine.specs.Step.{Response, ReapDone, ReapKept, MachineOutcome, Answered, Accepted, DelDone, outcome, unless_refused}
 use Rattle.vnode_machine.proofs.DeadKeys.{first_is_dead}
 use Rattle.vnode_machine.proofs.Legals.{replay_is_legal}
 use Rattle.vnode_machine.proofs.StepLaw.{registers-after}
@@ -23,8 +23,8 @@ use Rattle.rw_gate.specs.Views.{GateId}
 use Rattle.rw_gate.specs.Histories.{RunFrom}
 use Rattle.vnode_core.specs.declared.ask.Ask.{Ask}
 use Rattle.vnode_core.specs.declared.ask.Ask.TheVariants as asks
-use Rattle.vnode_core.specs.declared.event.Event.{Event}
-use Rattle.vnode_core.specs.declared.event.Event.TheVariants.{Reap}
+use Rattle.vnode_core.specs.declared.event.VnodeEvent.{VnodeEvent}
+use Rattle.vnode_core.specs.declared.event.VnodeEvent.TheVariants.{Reap}
 use Rattle.vnode_core.specs.Plans.{View, IsAcceptedStep, AcceptsOpen, AcceptsAsk, Plans}
 use Rattle.vnode_core.specs.declared.entry.Entry.TheVariants.{Command as Commanded}
 use Rattle.vnode_core.specs.Events.{no_key, event_command, event_deed, event_response, all_commands, MakesOpen, Makes, EntryAsks, entry_of, IsLoggable, register_event, GoesOnTo, RunIsLegal, GateHistoryIsLegal}
@@ -36,7 +36,7 @@ unrefused None operation response next h = refl
 unrefused (Some number) operation response next h = absurd h
 
 -- a delete that is accepted does something
-busy : (idle : Bool) (made : StepOutcome) → IsAcceptedStep (cond idle (Answered DelDone) made) → (cond idle (Answered DelDone) made ≡ made) × IsAcceptedStep made
+busy : (idle : Bool) (made : MachineOutcome) → IsAcceptedStep (cond idle (Answered DelDone) made) → (cond idle (Answered DelDone) made ≡ made) × IsAcceptedStep made
 busy true made h = absurd h
 busy false made h = (refl, h)
 
@@ -50,7 +50,7 @@ reap-makes : (state : State Content) (key : Key) → IsAcceptedStep (outcome sta
 reap-makes state key h = (_, reaps-dead (holds_dead state key) _ h)
 
 -- what a reap of the first dead key comes to, where this one was found
-abbrev first_outcome : State Content → Option Key → StepOutcome
+abbrev first_outcome : State Content → Option Key → MachineOutcome
 first_outcome state found = option_map_or (λ key. outcome state (AskReap key)) found (Answered ReapKept)
 
 first-makes : (state : State Content) (found : Option Key) → IsAcceptedStep (first_outcome state found)
@@ -99,12 +99,12 @@ loggable vnode ask change logged before is e b =
     (prepared-loggable vnode ask is.prepared is.accepted)
 
 module _ (v l : ℕ) (limits : IsWithinLimits v l) where
-  makes-next : (history : History) (state next : State Content) (event : Event) → IsAfter v l history state → Makes state (Commanded event) next
+  makes-next : (history : History) (state next : State Content) (event : VnodeEvent) → IsAfter v l history state → Makes state (Commanded event) next
       → IsNext v l history (event_command event) (event_deed event) (event_response event) next
   makes-next history state next event after makes =
       subst (IsRegisters v l history (event_command event)) makes.1 (registers-after v l limits history state (event_command event) after)
 
-  goes-on : (events : List Event) (history : History) (s t : State Content) → IsAfter v l history s → IsLegal (naming v l) history → MachineRun Makes s (all_commands events) t
+  goes-on : (events : List VnodeEvent) (history : History) (s t : State Content) → IsAfter v l history s → IsLegal (naming v l) history → MachineRun Makes s (all_commands events) t
       → GoesOnTo v l history events t
   goes-on [] history s t after legal run = record { answered = tt; after = subst (IsAfter v l history) run after; legal = legal }
   goes-on (event ∷ events) history s t after legal (mid, makes, run) =
@@ -112,11 +112,11 @@ module _ (v l : ℕ) (limits : IsWithinLimits v l) where
       let rest = goes-on events (register_event v l history event ∷ history) mid t next.leads next.legal run in
       record { answered = ((mid, next), rest.answered); after = rest.after; legal = rest.legal }
 
-pub run-is-legal : (vnode last_epoch : ℕ) (events : List Event) (state : State Content) → RunIsLegal vnode last_epoch events state
+pub run-is-legal : (vnode last_epoch : ℕ) (events : List VnodeEvent) (state : State Content) → RunIsLegal vnode last_epoch events state
 run-is-legal v l events state limits run =
     goes-on v l limits events [] (opening v l) state (record { replays = tt; is = refl }) (replay_is_legal v l [] tt) run
 
-pub gate-history-is-legal : (vnode last_epoch : ℕ) (gate : GateId View) (events : List Event) (state : View) → GateHistoryIsLegal vnode last_epoch gate events state
+pub gate-history-is-legal : (vnode last_epoch : ℕ) (gate : GateId View) (events : List VnodeEvent) (state : View) → GateHistoryIsLegal vnode last_epoch gate events state
 gate-history-is-legal v l gate events state limits made replay =
     run-is-legal v l events state.state limits (subst (λ s. MachineRun Makes s (all_commands events) state.state) made.new
     (subst (λ opened. RunFrom (λ (view : View). view.state) Makes opened (all_commands events) state.state) made.made replay))

@@ -9,7 +9,7 @@ use Rattle.actor_epoch.specs.Given.{Context, Malformed, Pairs, context_of, pairs
 use Rattle.vnode_machine.specs.Machine.{State, actor_for}
 use Rattle.sibling_register.specs.Answers.{AskPut}
 use Rattle.sibling_register.specs.History.{Operation, Write}
-use Rattle.vnode_machine.specs.Step.{Response, StepOutcome, Accepted, Refused, outcome}
+use Rattle.vnode_machine.specs.Step.{Response, MachineOutcome, Accepted, Refused, outcome}
 use Rattle.vnode_core.specs.declared.ask.Ask.{Ask}
 use Rattle.vnode_core.specs.declared.ask.Ask.TheVariants.{Put, Del, Reap, ReapFirst, Copy, Close}
 use Rattle.vnode_core.specs.declared.ask.Answer.{Answer}
@@ -75,7 +75,7 @@ ready-write state store ready (Close number) write r = absurd write
 put-form : (state : State Content) (put : PutAsk) (reply : Response) (next : State Content)
     → outcome state (AskPut (put_command put)) ≡ Accepted (Write put.content) reply next → context_of put.context ≢ Some Malformed
 put-form state put reply next step reads =
-    let asked : Option Context → StepOutcome = λ given. outcome state (AskPut (record (put_command put) { context = given })) in
+    let asked : Option Context → MachineOutcome = λ given. outcome state (AskPut (record (put_command put) { context = given })) in
     let refused : asked (Some Malformed) ≡ Refused 4 = refl in
     let both = sym refused ∙ ap asked (sym reads) ∙ step in
     cc
@@ -104,7 +104,7 @@ finished v is seen sees ask write prepared ready found epochs writes tombstones 
     let here = finished-here v is.sound ask write r ready found next (state-is v is.sound ask write r ready found epochs writes tombstones keys e n m k) in
     subst (λ (w : View). IsFinished w.state ask ready.answer next) sees here
 
-accepted-step : (outcome : StepOutcome) (operation : Operation Content) (response : Response) (next : State Content) → outcome ≡ Accepted operation response next → IsAcceptedStep outcome
+accepted-step : (outcome : MachineOutcome) (operation : Operation Content) (response : Response) (next : State Content) → outcome ≡ Accepted operation response next → IsAcceptedStep outcome
 accepted-step outcome operation response next h = subst IsAcceptedStep (sym h) tt
 
 ready-accepted : (state : State Content) (store : Contents) (ready : Option Ready) (ask : Ask) → IsReadyFor state store ready (Some ask) → AcceptsAsk state ask

@@ -3,12 +3,11 @@ use Rattle.std.proofs.Common.{◌≡◌, ℕ, true, not, ◌||◌, List, [], ◌
 use Rattle.std.specs.Prelude.{if◌then◌else◌, Option, Some, None, unwrap_or}
 use Rattle.std.specs.Borrow.{Bor}
 use Rattle.std.proofs.lemmas.Simd.{map-map}
-use Rattle.riak_msgs.specs.Contents.{Content}
+use Rattle.riak_msgs.specs.Contents.{Content, shown}
 use Rattle.riak_msgs.specs.declared.Shown.{Shown}
 use Rattle.riak_msgs.specs.declared.PutAsk.{PutAsk}
 use Rattle.riak_msgs.specs.declared.PutReply.{PutReply}
 use Rattle.actor_epoch.specs.Contexts.{encoding}
-use Rattle.vnode_machine.specs.Replies.{shown}
 use Rattle.actor_epoch.specs.declared.Actor.{Actor}
 use Rattle.actor_epoch.specs.declared.Dot.{Dot}
 use Rattle.dvv_set.specs.Clocks.{DotState, event}

@@ -9,7 +9,7 @@ use Rattle.sibling_register.specs.Answers.{AskReap}
 use Rattle.vnode_machine.specs.Dead.{dead_keys, first_dead, has_dead, is_from, reaped}
 use Rattle.vnode_machine.specs.Machine.{State, counted, holds_dead, has_value}
 use Rattle.vnode_machine.specs.Runs.{state_after_step}
-use Rattle.vnode_machine.specs.Step.{ReapDone, ReapKept, StepOutcome, Answered, Accepted, outcome}
+use Rattle.vnode_machine.specs.Step.{ReapDone, ReapKept, MachineOutcome, Answered, Accepted, outcome}
 use Rattle.vnode_machine.proofs.DeadKeys.{dead_left, first_is_dead}
 use Rattle.vnode_machine.proofs.Tests.{and_right}
 use denote.Enum.Bare.{sameb}
@@ -33,7 +33,7 @@ module _ (state : State Content) (key : Key) (result : Reaped) (after : State Co
   outcome-is = by (holds_dead state key) (has_value state key) (reaped state key) ∙ (λ i. reap_outcome (sym exact i) (sym leads i))
     where
       by : (dead value : Bool) (next : State Content)
-          → (let o : StepOutcome = if dead then Accepted Reap ReapDone next else Answered ReapKept in o)
+          → (let o : MachineOutcome = if dead then Accepted Reap ReapDone next else Answered ReapKept in o)
           ≡ reap_outcome (if dead then Gone else if value then Kept else Absent) (state_after_step state (if dead then Accepted Reap ReapDone next else Answered ReapKept))
       by true value next = refl
       by false true next = refl

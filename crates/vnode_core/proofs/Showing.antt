@@ -3,14 +3,14 @@ use Rattle.std.proofs.Common.{◌≡◌, Bool, true, false, not, ◌&&◌, [], r
 use Rattle.std.specs.Prelude.{Option, Some, None, is_some, if◌then◌else◌}
 use Rattle.std.specs.List.{list_any}
 use Rattle.riak_msgs.specs.declared.Key.{Key}
-use Rattle.riak_msgs.specs.Contents.{Content}
+use Rattle.riak_msgs.specs.Contents.{Content, shown}
 use Rattle.riak_msgs.specs.declared.GetAsk.{GetAsk}
 use Rattle.riak_msgs.specs.declared.GetReply.{GetReply}
 use Rattle.actor_epoch.specs.Contexts.{encoding}
 use Rattle.actor_epoch.specs.Given.{Context, Malformed, Pairs, context_of}
 use Rattle.vnode_machine.specs.Asks.{get_command}
 use Rattle.vnode_machine.specs.Machine.{State, Stored, stored, matches_clock}
-use Rattle.vnode_machine.specs.Replies.{get_reply, shown}
+use Rattle.vnode_machine.specs.Replies.{get_reply}
 use Rattle.vnode_machine.proofs.Invariants.{clock_in}
 use Rattle.vnode_core.specs.Replies.{nothing, is_its, siblings_of}
 

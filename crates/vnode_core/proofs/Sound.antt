@@ -6,7 +6,7 @@ use Rattle.riak_msgs.specs.declared.Key.{Key}
 use Rattle.riak_msgs.specs.Contents.{Content}
 use Rattle.sibling_register.specs.History.{Write, Reap as Forget}
 use Rattle.riak_msgs.specs.declared.PutReply.{PutReply}
-use Rattle.sibling_register.specs.Answers.{Ask as Command, AskPut, AskDel, AskReap}
+use Rattle.sibling_register.specs.Answers.{RegisterAsk as Command, AskPut, AskDel, AskReap}
 use Rattle.actor_epoch.specs.Contexts.{is_well_formed}
 use Rattle.actor_epoch.specs.Given.{Context}
 use Rattle.vnode_machine.specs.Dead.{first_dead}
@@ -14,7 +14,7 @@ use Rattle.vnode_machine.specs.Asks.{put_command, del_command}
 use Rattle.vnode_machine.specs.Machine.{State, Stored, stored, clock_of}
 use Rattle.vnode_machine.specs.Sound.{ArePairs, IsFormed, IsSound}
 use Rattle.vnode_machine.specs.Copying.{is_stuck}
-use Rattle.vnode_machine.specs.Step.{StepOutcome, Answered, Accepted, PutDone, ReapDone, ReapKept, outcome}
+use Rattle.vnode_machine.specs.Step.{MachineOutcome, Answered, Accepted, PutDone, ReapDone, ReapKept, outcome}
 use Rattle.vnode_machine.proofs.Copying.{sound-copy, sound-close}
 use Rattle.vnode_machine.proofs.Forms.{form-whole}
 use Rattle.vnode_machine.proofs.Formed.{known-pairs, sound-next}
@@ -42,7 +42,7 @@ module _ (state : State Content) (is : IsSound state) where
   known-at key = known-pairs (stored state key) (is.keys key)
 
   -- what comes of a command is the register's
-  pub registers : (command : Command Content Context) (result : StepOutcome) → outcome state command ≡ result → Registers state command result
+  pub registers : (command : Command Content Context) (result : MachineOutcome) → outcome state command ≡ result → Registers state command result
   registers command result h = subst (λ r. Registers state command r) h (step_is_registers state command is.limits)
 
   -- of what the vnode is asked, where it isn't refused
@@ -78,6 +78,6 @@ module _ (state : State Content) (is : IsSound state) where
       subst IsSound (sym made) (sound-copy state is copy.key copy.clock form (untrue (is_stuck state copy.key copy.clock) unstuck))
   sound-after (Close number) answer next (opened, (is_closed, made)) = subst IsSound (sym made) (sound-close state is number)
 
-pub registers-view : (state seen : State Content) → state ≡ seen → IsSound state → (command : Command Content Context) (result : StepOutcome) → outcome state command ≡ result
+pub registers-view : (state seen : State Content) → state ≡ seen → IsSound state → (command : Command Content Context) (result : MachineOutcome) → outcome state command ≡ result
     → Registers seen command result
 registers-view state seen same is command result h = subst (λ s. Registers s command result) same (registers state is command result h)

@@ -13,7 +13,7 @@ use Rattle.clock_store.specs.declared.key_ref.KeyRef.{KeyRef}
 use Rattle.clock_store.specs.Keys.{stored_of}
 use Rattle.clock_store.specs.declared.stored_clock.StoredClock.{StoredClock}
 use Rattle.vnode_machine.specs.Machine.{State, Stored}
-use Rattle.vnode_machine.specs.Sound.{IsClock, IsForm, IsFormed, IsSound}
+use Rattle.vnode_machine.specs.Sound.{IsStoredClock, IsForm, IsFormed, IsSound}
 use Rattle.vnode_machine.proofs.DeadKeys.{not_eq-above, eq-itself}
 use Rattle.vnode_machine.proofs.Keys.{eq_by_key_cmp, key_eq-same}
 use Rattle.vnode_machine.proofs.Seen.{less}
@@ -47,13 +47,13 @@ module _ {X : Type 0} where
           ap (λ b. cond b (Some x.1) (find key_cmp e.0 xs)) (above-other x.0 e.0 xs e.1 (and_left _ _ sorted) (rest h)) ∙ rest h
 
 -- so its clock is of the form
-pub next-clock : (state : State Content) → IsSound state → (after : Option Key) (key : Key) (s : Stored Content) → next_entry key_cmp after state.keys ≡ Some (key, s) → IsClock s.clock
+pub next-clock : (state : State Content) → IsSound state → (after : Option Key) (key : Key) (s : Stored Content) → next_entry key_cmp after state.keys ≡ Some (key, s) → IsStoredClock s.clock
 next-clock state is after key s h =
     let form : IsForm s = subst IsFormed (next-found after state.keys (key, s) is.sorted h) (is.keys key) in
     form.clock
 
 -- as a caller is lent it
 pub next-lent : (state : State Content) → IsSound state → (after : Option Key) (lent : Option (KeyRef × Bor StoredClock))
-    → option_map (λ entry. (key_in entry.0, stored_of entry.1.now)) lent ≡ next_entry key_cmp after state.keys → IfSome lent (λ entry. IsClock entry.1.now.clock.meaning)
+    → option_map (λ entry. (key_in entry.0, stored_of entry.1.now)) lent ≡ next_entry key_cmp after state.keys → IfSome lent (λ entry. IsStoredClock entry.1.now.clock.meaning)
 next-lent state is after None h = tt
 next-lent state is after (Some entry) h = next-clock state is after (key_in entry.0) (stored_of entry.1.now) (sym h)

@@ -6,7 +6,7 @@ use Rattle.std.specs.List.{list_any}
 use Rattle.riak_msgs.specs.declared.Key.{Key}
 use Rattle.riak_msgs.specs.Contents.{Content}
 use Rattle.riak_msgs.specs.declared.PutAsk.{PutAsk}
-use Rattle.sibling_register.specs.Refusals.{match_found, not_found, modified, too_many_siblings, clock_full, epochs_used_up, counter_used_up, max_siblings, first_of}
+use Rattle.sibling_register.specs.Refusals.{too_many_siblings, max_siblings, first_of, option_checks, actor_checks}
 use Rattle.actor_epoch.specs.declared.Actor.{Actor}
 use Rattle.actor_epoch.specs.declared.Dot.{Dot}
 use Rattle.actor_epoch.specs.Dots.{actor_eq, counter_in}
@@ -59,11 +59,7 @@ is_current_in (Some s) (Some pairs) = same_pairs pairs s.clock.known
 -- what the options of a put refuse
 abbrev pub options_check : PutAsk → Option (Stored Content) → Option (List Dot) → Option ℕ
 options_check put found seen =
-    let if_not_modified = put.if_not_modified && not put.if_none_match in
-    first_of (
-    (put.if_none_match && has_value_in found, match_found)
-    ∷ (if_not_modified && not (has_value_in found), not_found)
-    ∷ (if_not_modified && not (is_current_in found seen), modified) ∷ [])
+    first_of (option_checks put.if_none_match put.if_not_modified (has_value_in found) (is_current_in found seen))
 
 -- what is stored of a key at a vnode of this id that gave this epoch last
 pub record IsStored (state : State Content) (key : Key) (id last_epoch : ℕ) (s : Stored Content) : Type 0 where
@@ -128,10 +124,8 @@ siblings_check clock seen = first_of ((nat_le max_siblings (uncovered (pairs_in 
 
 -- whether the clock of a key and this actor have room for a write, where the actor can be had
 abbrev pub actor_check : DotState (Option Content) → Option (List Dot) → Actor → (is_out_of_epochs : Bool) → Option ℕ
-actor_check clock seen actor is_out_of_epochs = first_of (
-    (nat_lt max_actors (actors_after clock.known seen actor), clock_full)
-    ∷ (is_out_of_epochs, epochs_used_up)
-    ∷ (counter_in clock.known actor == max_counter, counter_used_up) ∷ [])
+actor_check clock seen actor is_out_of_epochs =
+    first_of (actor_checks (nat_lt max_actors (actors_after clock.known seen actor)) is_out_of_epochs (counter_in clock.known actor == max_counter))
 
 -- who writes a stored key next, at a vnode of this id that gave this epoch last
 abbrev pub next_writer : (id last_epoch : ℕ) → Option Actor → Writer

@@ -4,7 +4,7 @@ use Rattle.std.specs.Prelude.{◌≡◌, not, List, [], ◌∷◌, ℕ, map, Som
 use Rattle.riak_msgs.specs.declared.Key.{Key}
 use Rattle.riak_msgs.specs.Contents.{Content}
 use Rattle.sibling_register.specs.History.{Event as RegisterEvent, Operation, Write, Tombstone, Reap as ReapDeed}
-use Rattle.sibling_register.specs.Answers.{Ask as Command, AskPut, AskDel, AskReap}
+use Rattle.sibling_register.specs.Answers.{RegisterAsk as Command, AskPut, AskDel, AskReap}
 use Rattle.sibling_register.specs.Legal.{IsLegal}
 use Rattle.actor_epoch.specs.Given.{Context, context_of}
 use Rattle.vnode_machine.specs.Asks.{put_command, del_command}
@@ -23,42 +23,42 @@ use Rattle.vnode_core.specs.declared.ask.Ask.TheVariants as asks
 use Rattle.vnode_core.specs.declared.ask.Answer.{Answer}
 use Rattle.vnode_core.specs.declared.ask.Answer.TheVariants as answers
 use Rattle.clock_store.specs.declared.store.Reaped.TheVariants.{Gone}
-use Rattle.vnode_core.specs.declared.event.Event.{Event}
-use Rattle.vnode_core.specs.declared.event.Event.TheVariants.{Put, Del, Reap}
+use Rattle.vnode_core.specs.declared.event.VnodeEvent.{VnodeEvent}
+use Rattle.vnode_core.specs.declared.event.VnodeEvent.TheVariants.{Put, Del, Reap}
 use Rattle.vnode_core.specs.declared.entry.Entry.{Entry}
 use Rattle.vnode_core.specs.declared.entry.Entry.TheVariants.{Command as Commanded, Copied, Closed}
 use Rattle.vnode_core.specs.Plans.{View}
 
 -- the command of an event, what it did, and the machine's response to it
-abbrev pub event_command : Event → Command Content Context
+abbrev pub event_command : VnodeEvent → Command Content Context
 event_command (Put put reply) = AskPut (put_command put)
 event_command (Del del) = AskDel (del_command del)
 event_command (Reap key) = AskReap key
 
-abbrev pub event_deed : Event → Operation Content
+abbrev pub event_deed : VnodeEvent → Operation Content
 event_deed (Put put reply) = Write put.content
 event_deed (Del del) = Tombstone
 event_deed (Reap key) = ReapDeed
 
-abbrev pub event_response : Event → Response
+abbrev pub event_response : VnodeEvent → Response
 event_response (Put put reply) = PutDone reply
 event_response (Del del) = DelDone
 event_response (Reap key) = ReapDone
 
 -- the commands of a log, without copies and closes
-abbrev pub commands_of : List Entry → List Event
+abbrev pub commands_of : List Entry → List VnodeEvent
 commands_of [] = []
 commands_of (Commanded event ∷ entries) = event ∷ commands_of entries
 commands_of (Copied copy ∷ entries) = commands_of entries
 commands_of (Closed number ∷ entries) = commands_of entries
 
 -- a log of commands alone
-abbrev pub all_commands : List Event → List Entry
+abbrev pub all_commands : List VnodeEvent → List Entry
 all_commands events = map (λ event. Commanded event) events
 
 -- these entries are commands alone
 abbrev pub AreCommands : List Entry → Type 0
-AreCommands entries = (events : List Event) × (entries ≡ all_commands events)
+AreCommands entries = (events : List VnodeEvent) × (entries ≡ all_commands events)
 
 -- a vnode that isn't closed takes the entry in the first state, and goes on to the second: the machine accepts the event's command,
 -- and answers it as the event says; a copy isn't stuck, and its clock is one that a vnode can hold; a close forgets all keys
@@ -82,7 +82,7 @@ AsksReap key (asks.Copy copy) = ⊥
 AsksReap key (asks.Close number) = ⊥
 
 -- the event is of what was asked
-abbrev pub AsksEvent : Event → Ask → Type 0
+abbrev pub AsksEvent : VnodeEvent → Ask → Type 0
 AsksEvent (Put put reply) ask = ask ≡ asks.Put put
 AsksEvent (Del del) ask = ask ≡ asks.Del del
 AsksEvent (Reap key) ask = AsksReap key ask
@@ -94,7 +94,7 @@ EntryAsks (Copied copy) ask = ask ≡ asks.Copy copy
 EntryAsks (Closed number) ask = ask ≡ asks.Close number
 
 -- and says that it was answered so
-abbrev pub AnswersEvent : Event → Answer → Type 0
+abbrev pub AnswersEvent : VnodeEvent → Answer → Type 0
 AnswersEvent (Put put reply) answer = answer ≡ answers.Put reply
 AnswersEvent (Del del) answer = answer ≡ answers.Del
 AnswersEvent (Reap key) answer = answer ≡ answers.Reaped Gone
@@ -127,16 +127,16 @@ pub record IsLoggable (vnode : View) (change : Ask) (before : View) : Type 0 whe
 
 module _ (vnode last_epoch : ℕ) where
   -- the register's event, behind its history
-  abbrev pub register_event : History → Event → RegisterEvent Content Context
+  abbrev pub register_event : History → VnodeEvent → RegisterEvent Content Context
   register_event history event = next_event vnode last_epoch history (event_command event) (event_deed event)
 
   -- the register's history, newest first, after these events, oldest first
-  abbrev pub history_after : History → List Event → History
+  abbrev pub history_after : History → List VnodeEvent → History
   history_after history [] = history
   history_after history (event ∷ events) = history_after (register_event history event ∷ history) events
 
   -- each event is the register's next one at its place, and was answered as the register answers it there
-  abbrev pub AreNext : History → List Event → Type 0
+  abbrev pub AreNext : History → List VnodeEvent → Type 0
   AreNext history [] = Unit {0}
   AreNext history (event ∷ events) =
       ((next : State Content)
@@ -144,13 +144,13 @@ module _ (vnode last_epoch : ℕ) where
       × AreNext (register_event history event ∷ history) events
 
   -- from a history on, these events lead to a legal history, of which the state is the replay
-  pub record GoesOnTo (before : History) (events : List Event) (state : State Content) : Type 0 where
+  pub record GoesOnTo (before : History) (events : List VnodeEvent) (state : State Content) : Type 0 where
     pub answered : AreNext before events
     pub after : IsAfter vnode last_epoch (history_after before events) state
     pub legal : IsLegal (naming vnode last_epoch) (history_after before events)
 
   -- a run of commands from the opening state of a vnode is a legal history
-  abbrev pub RunIsLegal : List Event → State Content → Type 0
+  abbrev pub RunIsLegal : List VnodeEvent → State Content → Type 0
   RunIsLegal events state =
       IsWithinLimits vnode last_epoch → MachineRun Makes (opening vnode last_epoch) (all_commands events) state → GoesOnTo [] events state
 
@@ -161,7 +161,7 @@ module _ (vnode last_epoch : ℕ) where
     pub new : first.state ≡ opening vnode last_epoch
 
   -- of a gate round a new vnode, each history of commands alone is legal whose replay is a state
-  abbrev pub GateHistoryIsLegal : GateId View → List Event → View → Type 0
+  abbrev pub GateHistoryIsLegal : GateId View → List VnodeEvent → View → Type 0
   GateHistoryIsLegal gate events state =
       IsWithinLimits vnode last_epoch → IsMadeNew gate → IsReplay (λ v. v.state) Makes gate (all_commands events) state
       → GoesOnTo [] events state.state

@@ -3,7 +3,7 @@ use Rattle.std.specs.Prelude.{ℕ, List, Option}
 use Rattle.riak_msgs.specs.declared.Key.{Key}
 use Rattle.riak_msgs.specs.Contents.{Content}
 use Rattle.dvv_set.specs.Clocks.{DotState}
-use Rattle.vnode_core.specs.declared.event.Event.{Event}
+use Rattle.vnode_core.specs.declared.event.VnodeEvent.{VnodeEvent}
 
 -- the key, what its clock meant at the fallback, the number of the diversion, and the commands that the fallback had accepted by
 -- then, oldest first
@@ -11,4 +11,4 @@ pub record KeyCopyView : Type 0 where
   pub key : Key
   pub clock : DotState (Option Content)
   pub diversion : ℕ
-  pub prefix : List Event
+  pub prefix : List VnodeEvent

@@ -5,14 +5,14 @@ use Rattle.riak_msgs.specs.declared.Key.{Key}
 use Rattle.riak_msgs.specs.Contents.{Content}
 use Rattle.riak_msgs.specs.declared.PutReply.{PutReply}
 use Rattle.sibling_register.specs.History.{Write, Tombstone, Reap as Forget}
-use Rattle.sibling_register.specs.Answers.{Ask as Command, AskPut, AskDel, AskReap}
+use Rattle.sibling_register.specs.Answers.{RegisterAsk as Command, AskPut, AskDel, AskReap}
 use Rattle.actor_epoch.specs.Given.{Context}
 use Rattle.vnode_machine.specs.Asks.{put_command, del_command}
 use Rattle.vnode_machine.specs.Copying.{IsClock, is_stuck, apply_copy, apply_close}
 use Rattle.vnode_machine.specs.Dead.{first_dead}
 use Rattle.vnode_machine.specs.Machine.{State}
 use Rattle.vnode_machine.specs.Replay.{AtEachHistory}
-use Rattle.vnode_machine.specs.Step.{PutDone, DelDone, ReapDone, ReapKept, StepOutcome, Refused, Answered, Accepted, outcome}
+use Rattle.vnode_machine.specs.Step.{PutDone, DelDone, ReapDone, ReapKept, MachineOutcome, Refused, Answered, Accepted, outcome}
 use Rattle.vnode_machine.specs.Registers.{IsRegisters}
 use Rattle.vnode_core.specs.declared.ask.Ask.{Ask}
 use Rattle.vnode_core.specs.declared.ask.Ask.TheVariants.{Put, Del, Reap, ReapFirst, Copy, Close}
@@ -33,7 +33,7 @@ pub record View : Type 0 where
   pub prepared : Option Ask
 
 -- what a reap of the least dead key at or after one comes to at the machine
-abbrev pub first_reap : State Content → Option Key → StepOutcome
+abbrev pub first_reap : State Content → Option Key → MachineOutcome
 first_reap state from = option_map_or (λ key. outcome state (AskReap key)) (first_dead state from) (Answered ReapKept)
 
 -- a write of a client
@@ -45,7 +45,7 @@ IsWrite (ReapFirst from) = ⊥
 IsWrite (Copy copy) = ⊥
 IsWrite (Close number) = ⊥
 
-abbrev pub IsAcceptedStep : StepOutcome → Type 0
+abbrev pub IsAcceptedStep : MachineOutcome → Type 0
 IsAcceptedStep (Refused number) = ⊥
 IsAcceptedStep (Answered response) = ⊥
 IsAcceptedStep (Accepted operation response next) = Unit {0}
@@ -126,12 +126,12 @@ abbrev pub Steps : State Content → Ask → Answer → State Content → Type 0
 Steps old change answer new = (old.closed ≡ None) × StepsOpen old change answer new
 
 -- what a command comes to where it is planned, or refused
-abbrev pub planned : {X : Type 0} → StepOutcome → Result X Refusal → StepOutcome
+abbrev pub planned : {X : Type 0} → MachineOutcome → Result X Refusal → MachineOutcome
 planned result (Ok plan) = result
 planned result (Err refusal) = Refused (number_of refusal)
 
 -- the register may do so with its command, at each history that the vnode may have had
-abbrev pub Registers : State Content → Command Content Context → StepOutcome → Type 0
+abbrev pub Registers : State Content → Command Content Context → MachineOutcome → Type 0
 Registers state command result = AtEachHistory state (λ vnode last_epoch history. IsRegisters vnode last_epoch history command result)
 
 -- the register may do so with the command that is asked for, and so with each key that the reap of the least dead one may be of. Of a

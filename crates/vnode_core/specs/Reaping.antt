@@ -5,13 +5,13 @@ use Rattle.riak_msgs.specs.Contents.{Content}
 use Rattle.sibling_register.specs.History.{Reap}
 use Rattle.vnode_machine.specs.Machine.{State}
 use Rattle.vnode_machine.specs.Dead.{dead_keys}
-use Rattle.vnode_machine.specs.Step.{ReapDone, ReapKept, StepOutcome, Answered, Accepted}
+use Rattle.vnode_machine.specs.Step.{ReapDone, ReapKept, MachineOutcome, Answered, Accepted}
 use Rattle.clock_store.specs.declared.store.Reaped.{Reaped}
 use Rattle.clock_store.specs.declared.store.Reaped.TheVariants.{Gone, Kept, Absent}
 pub use Rattle.clock_store.specs.Forgetting.{key_given, reap_result, after_reap, after_first_reap}
 
 -- what comes of a reap, by its result and the state after it
-abbrev pub reap_outcome : Reaped → State Content → StepOutcome
+abbrev pub reap_outcome : Reaped → State Content → MachineOutcome
 reap_outcome Gone next = Accepted Reap ReapDone next
 reap_outcome Kept next = Answered ReapKept
 reap_outcome Absent next = Answered ReapKept

@@ -3,7 +3,7 @@ use Rattle.std.specs.Prelude.{◌≡◌, Bool, true, false, not, ◌||◌, if◌
 use Rattle.std.specs.Option.{option_map_or}
 use Rattle.std.specs.Borrow.{Bor}
 use Rattle.std.specs.List.{list_any}
-use Rattle.riak_msgs.specs.Contents.{Content}
+use Rattle.riak_msgs.specs.Contents.{Content, shown}
 use Rattle.riak_msgs.specs.declared.GetAsk.{GetAsk}
 use Rattle.riak_msgs.specs.declared.GetReply.{GetReply}
 use Rattle.riak_msgs.specs.declared.PutAsk.{PutAsk}
@@ -17,7 +17,6 @@ use Rattle.dvv_set.specs.Clocks.{DotState, event}
 use Rattle.dvv_set.specs.Held.{IsWithin, known_after, known_with, without}
 use Rattle.dvv_set.specs.References.{referred, with_values}
 use Rattle.vnode_machine.specs.Machine.{Stored, same_pairs}
-use Rattle.vnode_machine.specs.Replies.{shown}
 
 -- a reply that shows nothing
 abbrev pub nothing : GetReply

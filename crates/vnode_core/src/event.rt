@@ -5,13 +5,13 @@ ghost use Rattle.riak_msgs.specs.Contents.{Content};
 ghost use Rattle.vnode_machine.specs.Machine.{State};
 ghost use Rattle.rw_gate.specs.Views.{GateId};
 ghost use Rattle.vnode_core.specs.Plans.{View};
-ghost use Rattle.vnode_core.specs.declared.event.Event.{Event};
+ghost use Rattle.vnode_core.specs.declared.event.VnodeEvent.{VnodeEvent};
 ghost use Rattle.vnode_core.specs.Events.{RunIsLegal, GateHistoryIsLegal};
 
 use riak_msgs::{DelAsk, Key, PutAsk, PutReply};
 
 /// A command that a vnode accepted, with what it was answered. Clauses alone speak of it, and code makes none.
-pub enum Event {
+pub enum VnodeEvent {
     /// A put, and the reply to it.
     Put(PutAsk, PutReply),
     /// A delete that wrote a tombstone.
@@ -25,8 +25,8 @@ pub enum Event {
 /// place; and the vnode's state is the replay of that history. So it is of each run of commands from the opening state of a vnode, and of
 /// each history of commands of which a state under a right is the replay. Of histories with copies `copy_laws` speaks.
 pub fn histories_are_legal()
-    ensures run { (vnode last_epoch : ℕ) (events : List Event) (state : State Content)
+    ensures run { (vnode last_epoch : ℕ) (events : List VnodeEvent) (state : State Content)
         → RunIsLegal vnode last_epoch events state }
-    ensures gate { (vnode last_epoch : ℕ) (gate : GateId View) (events : List Event) (state : View)
+    ensures gate { (vnode last_epoch : ℕ) (gate : GateId View) (events : List VnodeEvent) (state : View)
         → GateHistoryIsLegal vnode last_epoch gate events state }
 {}

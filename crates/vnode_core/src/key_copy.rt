@@ -4,7 +4,7 @@ ghost use Rattle.std.specs.Prelude.{◌≡◌, IfOk};
 ghost use Rattle.vnode_machine.specs.Copying.{IsClock};
 ghost use Rattle.clock_store.specs.KeyRefs.{key_in};
 
-use crate::event::Event;
+use crate::event::VnodeEvent;
 use clock_store::{KeyRef, StoredClock};
 use dvv_set::{Clock, CloneValue};
 use ghost_state::GhostList;
@@ -16,7 +16,7 @@ use std::marker::Model;
 /// command that may be one moves no more bytes for it. For clauses alone it has the commands that the fallback had accepted by then.
 pub struct KeyCopy {
     parts: Box<CopyParts>,
-    prefix: GhostList<Event>,
+    prefix: GhostList<VnodeEvent>,
 }
 
 /// What is copied.
@@ -75,7 +75,7 @@ impl KeyCopy {
         key: KeyRef<'_>,
         stored: &StoredClock,
         diversion: u32,
-        prefix: GhostList<Event>,
+        prefix: GhostList<VnodeEvent>,
     ) -> Result<KeyCopy, AllocError>
         requires { IsClock stored.now.clock.meaning }
         ensures key { IfOk result (λ copy. copy.key ≡ key_in key.entry) }

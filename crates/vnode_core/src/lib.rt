@@ -15,10 +15,10 @@
 //! [`Change`] is that command and nothing else. Room, the actor and the answer that were made for it lie in the vnode, so
 //! nothing that callers see is a place, an index or a number of actors; the next `prepare` or `finish` ends it.
 //!
-//! Behind a gate (`rw_gate`) a vnode is a [`Kept`] state, and an [`Entry`] is what its history consists of: an [`Event`], which is a
+//! Behind a gate (`rw_gate`) a vnode is a [`Kept`] state, and an [`Entry`] is what its history consists of: an [`VnodeEvent`], which is a
 //! command that was accepted with its answer, a copy of a key from another vnode, or the close of a vnode, after which it takes nothing
 //! more. Its change there, a [`LoggedChange`], carries for clauses alone the
-//! vnode that it was prepared from, and the two name the [`Event`] that it makes in the gate's history, with its answer.
+//! vnode that it was prepared from, and the two name the [`VnodeEvent`] that it makes in the gate's history, with its answer.
 //! [`histories_are_legal`] is the law of such a history.
 //!
 //! Its storage is any [`ClockStore`](clock_store::ClockStore): a [`VnodeOver`] is proved from that trait's contract
@@ -37,10 +37,10 @@
 //! ```
 //!
 //! ```text
-//! Ask::Put(put)              planned as Plan::Change, made with Answer::Put(reply)     Event::Put(put, reply)
-//! Ask::Del(del)              planned as Plan::Change, made with Answer::Del            Event::Del(del)
+//! Ask::Put(put)              planned as Plan::Change, made with Answer::Put(reply)     VnodeEvent::Put(put, reply)
+//! Ask::Del(del)              planned as Plan::Change, made with Answer::Del            VnodeEvent::Del(del)
 //! Ask::Del(del), absent      planned as Plan::Nothing(Answer::Del)                     no event
-//! Ask::Reap(key), dead       made with Answer::Reaped(Reaped::Gone)                    Event::Reap(key)
+//! Ask::Reap(key), dead       made with Answer::Reaped(Reaped::Gone)                    VnodeEvent::Reap(key)
 //! Ask::Put(put), 64 stay     Refusal::TooManySiblings, Text::TooManySiblings           no event
 //! ```
 //!
@@ -67,7 +67,7 @@ pub use change::Change;
 /// The law of copies between a primary vnode and its fallbacks: what is live of a key at the primary are its joint siblings.
 pub use copy_laws::copy_joins;
 pub use entry::Entry;
-pub use event::{Event, histories_are_legal};
+pub use event::{VnodeEvent, histories_are_legal};
 pub use kept::LoggedChange;
 pub use key_copy::KeyCopy;
 pub use laws::{

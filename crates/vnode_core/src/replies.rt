@@ -6,7 +6,7 @@ ghost use Rattle.actor_epoch.specs.Contexts.{encoding, is_well_formed};
 ghost use Rattle.actor_epoch.specs.Entries.{entries_of};
 ghost use Rattle.actor_epoch.specs.Given.{context_of};
 ghost use Rattle.dvv_set.specs.Held.{IsWithin, pairs_of as seen_in};
-ghost use Rattle.vnode_machine.specs.Replies.{shown};
+ghost use Rattle.riak_msgs.specs.Contents.{shown};
 ghost use Rattle.vnode_core.specs.Replies.{nothing, nothing_after, is_its, all_shown, siblings_of, reply_after, filled, clock_after, clock_found, RefersTo, Previews, FitsPut};
 ghost use Rattle.clock_store.specs.Keys.{stored_of};
 
@@ -35,23 +35,8 @@ fn show(alloc: Global, sibling: &Option<Content>, is_bare: bool) -> Result<Shown
 {
     match sibling {
         None => Shown::tombstone(alloc),
-        Some(content) => show_content(alloc, content, is_bare),
+        Some(content) => Shown::of_content(alloc, content, is_bare),
     }
-}
-
-/// A copy of a content as a reply shows it, without its value where it is to be bare.
-fn show_content(alloc: Global, content: &Content, is_bare: bool) -> Result<Shown, AllocError>
-    ensures { IfOk result (λ s. s ≡ shown is_bare (Some content.now)) }
-{
-    let content = if is_bare {
-        content.clone_head(alloc)?
-    } else {
-        content.clone()?
-    };
-    Ok(Shown {
-        content,
-        deleted: false,
-    })
 }
 
 /// The room that copies of a clock's values are given at once: theirs, since a key has no more siblings than its limit.

@@ -10,7 +10,7 @@ use Rattle.actor_epoch.specs.Limits.{max_actors}
 use Rattle.actor_epoch.specs.Contexts.{is_within_limits}
 use Rattle.dvv_set.specs.Clocks.{DotState, sync}
 use Rattle.vnode_machine.specs.Machine.{Stored, State, stored, clock_of, own_of}
-use Rattle.vnode_machine.specs.Sound.{ArePairs, IsClock, IsForm, IsFormed, IsSound}
+use Rattle.vnode_machine.specs.Sound.{ArePairs, IsStoredClock, IsForm, IsFormed, IsSound}
 use Rattle.vnode_machine.specs.Copying.{is_stuck, apply_copy, apply_close}
 use Rattle.vnode_machine.proofs.Keys.{find_stored, sorted-put}
 use Rattle.vnode_machine.proofs.Counters.{all-union}
@@ -19,7 +19,7 @@ use Rattle.vnode_machine.proofs.Forms.{own-formed, form-chosen}
 use Rattle.vnode_machine.proofs.Formed.{known-pairs}
 
 -- with a clock of the form in that has room, a clock stays of the form
-pub clock-sync : (own other : DotState (Option Content)) → ArePairs own.known → IsClock other → length (sync own other).known ≤ max_actors → IsClock (sync own other)
+pub clock-sync : (own other : DotState (Option Content)) → ArePairs own.known → IsStoredClock other → length (sync own other).known ≤ max_actors → IsStoredClock (sync own other)
 clock-sync own other are is most = record {
   pairs = record {
     rising = rising-union own.known other.known is.pairs.rising;
@@ -30,7 +30,7 @@ clock-sync own other are is most = record {
 }
 
 module _ (state : State Content) (sound : IsSound state) where
-  pub sound-copy : (key : Key) (clock : DotState (Option Content)) → IsClock clock → is_stuck state key clock ≡ false → IsSound (apply_copy state key clock)
+  pub sound-copy : (key : Key) (clock : DotState (Option Content)) → IsStoredClock clock → is_stuck state key clock ≡ false → IsSound (apply_copy state key clock)
   sound-copy key clock is unstuck =
       let synced : DotState (Option Content) = sync (clock_of state key) clock in
       let now : Stored Content = record { own = own_of state key; clock = synced } in

@@ -4,7 +4,7 @@ use Rattle.std.specs.Prelude.{Some, None, Result, Ok, Err}
 use Rattle.riak_msgs.specs.Contents.{Content, no_content, tombstone}
 use Rattle.riak_msgs.specs.declared.Shown.{Shown}
 use Rattle.riak_msgs.specs.declared.DelAsk.{DelAsk}
-use Rattle.sibling_register.specs.Answers.{Ask, AskGet, AskPut, AskDel, AskReap}
+use Rattle.sibling_register.specs.Answers.{RegisterAsk, AskGet, AskPut, AskDel, AskReap}
 use Rattle.actor_epoch.specs.Entries.{entry_in}
 use Rattle.actor_epoch.specs.Given.{Context, Malformed, Pairs, context_of}
 use Rattle.vnode_machine.specs.Machine.{State, opening}
@@ -14,7 +14,7 @@ use Rattle.vnode_machine.specs.Runs.{reply_of, state_after_step}
 use Rattle.vnode_machine.proofs.Rows.{k, j, at, bytes, put_of, put, get, reply, live}
 
 abbrev Asks : Type 0
-Asks = List (Ask Content Context)
+Asks = List (RegisterAsk Content Context)
 
 abbrev Replies : Type 0
 Replies = List (Result Response ℕ)

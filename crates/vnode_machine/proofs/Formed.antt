@@ -6,7 +6,7 @@ use Rattle.riak_msgs.specs.declared.Key.{Key}
 use Rattle.riak_msgs.specs.Contents.{Content}
 use Rattle.riak_msgs.specs.KeyOrder.{key_eq}
 use Rattle.sibling_register.specs.History.{Operation, Write, Tombstone, Reap}
-use Rattle.sibling_register.specs.Answers.{PutCommand, DelCommand, Ask, AskGet, AskPut, AskDel, AskReap}
+use Rattle.sibling_register.specs.Answers.{PutCommand, DelCommand, RegisterAsk, AskGet, AskPut, AskDel, AskReap}
 use Rattle.sibling_register.specs.Refusals.{first_of}
 use Rattle.sibling_register.specs.Siblings.{is_defined}
 use Rattle.actor_epoch.specs.declared.Actor.{Actor}
@@ -16,9 +16,9 @@ use Rattle.actor_epoch.specs.Contexts.{is_well_formed}
 use Rattle.actor_epoch.specs.Given.{Context, Malformed, Pairs}
 use Rattle.actor_epoch.proofs.Given.{context_of-encoding}
 use Rattle.vnode_machine.specs.Machine.{Stored, State, opening, stored, clock_of, is_held, holds_dead, next_actor, is_bad_context, names_unissued_dot, has_too_many_siblings, has_too_many_actors, is_out_of_epochs, is_out_of_counters, room_checks, update_check, put_check, del_check, pairs_of, del_pairs, apply_operation}
-use Rattle.vnode_machine.specs.Replay.{replay, Accepts, HasReplay, IsWithinLimits}
+use Rattle.vnode_machine.specs.Replay.{replay, AcceptsEvent, HasReplay, IsWithinLimits}
 use Rattle.vnode_machine.specs.Sound.{ArePairs, IsForm, IsFormed, IsSound}
-use Rattle.vnode_machine.specs.Step.{Response, DelDone, ReapDone, ReapKept, StepOutcome, Answered, Accepted, unless_refused, outcome}
+use Rattle.vnode_machine.specs.Step.{Response, DelDone, ReapDone, ReapKept, MachineOutcome, Answered, Accepted, unless_refused, outcome}
 use Rattle.vnode_machine.specs.Laws.{ShownContextIsName}
 use Rattle.vnode_machine.proofs.Keys.{find_stored, find_reaped, sorted-step}
 use Rattle.vnode_machine.proofs.Invariants.{H, clock_in}
@@ -100,7 +100,7 @@ module _ (state : State Content) (sound : IsSound state) where
     left true o h = tt
     left false o h = h
 
-    pub sound-step : (given : Option Context) (operation : Operation Content) → Accepts state at given operation → IsSound (apply_operation state at given operation)
+    pub sound-step : (given : Option Context) (operation : Operation Content) → AcceptsEvent state at given operation → IsSound (apply_operation state at given operation)
     sound-step given (Write content) h =
         let fits = next_fits given (pairs_of given) (Some content) (fit_put given) h in
         record {
@@ -142,14 +142,14 @@ module _ (state : State Content) (sound : IsSound state) where
       held false h = cc
 
       accepts : (given : Option Context) → (is_none given && not (is_held state del.key)) ≡ false → update_check state del.key given (del_pairs state del.key given) ≡ None
-          → Accepts state del.key given Tombstone
+          → AcceptsEvent state del.key given Tombstone
       accepts None does h = (held (is_held state del.key) does, h)
       accepts (Some context) does h = h
 
   pub sound-reap : (key : Key) → holds_dead state key ≡ true → IsSound (apply_operation state key None Reap)
   sound-reap key dead = sound-step key None Reap dead
 
-  pub sound-next : (command : Ask Content Context) (operation : Operation Content) (response : Response) (after : State Content)
+  pub sound-next : (command : RegisterAsk Content Context) (operation : Operation Content) (response : Response) (after : State Content)
       → outcome state command ≡ Accepted operation response after → IsSound after
   sound-next (AskGet get) operation response after h = cc
   sound-next (AskPut put) operation response after h = by (put_check state put) _ _ (sound-put put) h
@@ -161,14 +161,14 @@ module _ (state : State Content) (sound : IsSound state) where
   sound-next (AskDel del) operation response after h = by (is_none del.context && not (is_held state del.key)) (del_check state del) _ (sound-del del) h
     where
       by : (idle : Bool) (o : Option ℕ) (made : State Content) → (idle ≡ false → o ≡ None → IsSound made)
-          → (let r : StepOutcome = if idle then Answered DelDone else unless_refused o (Accepted Tombstone DelDone made) in r) ≡ Accepted operation response after → IsSound after
+          → (let r : MachineOutcome = if idle then Answered DelDone else unless_refused o (Accepted Tombstone DelDone made) in r) ≡ Accepted operation response after → IsSound after
       by true o made sound h = cc
       by false None made sound h = let same : made ≡ after = cc in subst IsSound same (sound refl refl)
       by false (Some number) made sound h = cc
   sound-next (AskReap key) operation response after h = by (holds_dead state key) _ (sound-reap key) h
     where
       by : (dead : Bool) (made : State Content) → (dead ≡ true → IsSound made)
-          → (let r : StepOutcome = if dead then Accepted Reap ReapDone made else Answered ReapKept in r) ≡ Accepted operation response after → IsSound after
+          → (let r : MachineOutcome = if dead then Accepted Reap ReapDone made else Answered ReapKept in r) ≡ Accepted operation response after → IsSound after
       by true made sound h = let same : made ≡ after = cc in subst IsSound same (sound refl)
       by false made sound h = cc
 

@@ -3,7 +3,7 @@ use Rattle.std.proofs.Common.{◌≡◌, ℕ, Bool, true, not, ◌&&◌, List, l
 use Rattle.std.specs.Prelude.{nat_le, filter, Option, Some, None, is_some, ◌-◌}
 use Rattle.std.proofs.lemmas.List.Sums.{length-filter}
 use Rattle.riak_msgs.specs.declared.Key.{Key}
-use Rattle.riak_msgs.specs.Contents.{Content}
+use Rattle.riak_msgs.specs.Contents.{Content, shown}
 use Rattle.sibling_register.specs.History.{content_of}
 use Rattle.sibling_register.specs.Siblings.{siblings, is_among, is_defined, is_present, is_dead}
 use Rattle.sibling_register.specs.Refusals.{max_siblings}
@@ -14,7 +14,7 @@ use Rattle.dvv_set.specs.Clocks.{join}
 use Rattle.actor_epoch.specs.Given.{Context, Malformed, Pairs}
 use Rattle.vnode_machine.specs.Machine.{State, stored, clock_of, same_pairs, is_held, has_value, holds_dead, has_too_many_siblings, matches_clock}
 use Rattle.vnode_machine.specs.Replay.{replay, naming}
-use Rattle.vnode_machine.specs.Replies.{shown, contents_in, siblings_shown, position_at}
+use Rattle.vnode_machine.specs.Replies.{contents_in, siblings_shown, position_at}
 use Rattle.vnode_machine.proofs.Pairwise.{Pairwise, Pairwise-map, Pairwise-filter, Pairwise-length, Pairwise-any, Pairwise-images}
 use Rattle.vnode_machine.proofs.Invariants.{H, Entry}
 use Rattle.vnode_machine.proofs.Sights.{live-each}

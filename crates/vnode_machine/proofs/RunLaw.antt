@@ -4,9 +4,9 @@ use Rattle.riak_msgs.specs.Contents.{Content}
 use Rattle.sibling_register.specs.Answers.{Refused as ToldRefused, Answers, Accepts}
 use Rattle.vnode_machine.specs.Machine.{State, opening}
 use Rattle.vnode_machine.specs.Replay.{History, IsWithinLimits, IsAfter}
-use Rattle.vnode_machine.specs.Step.{StepOutcome, Refused, Answered, Accepted, outcome}
+use Rattle.vnode_machine.specs.Step.{MachineOutcome, Refused, Answered, Accepted, outcome}
 use Rattle.vnode_machine.specs.Registers.{next_event, IsRegisters}
-use Rattle.vnode_machine.specs.Runs.{Turn, TakesEach, reply_of, state_after_step, TakesTurn, AnswersTurn, IsPlayed, RunIsPlayed, FirstRunIsPlayed}
+use Rattle.vnode_machine.specs.Runs.{Turn, TakesEach, reply_of, state_after_step, TakesTurn, AnswersTurn, PlaysTurns, RunIsPlayed, FirstRunIsPlayed}
 use Rattle.vnode_machine.proofs.Legals.{replay_is_legal}
 use Rattle.vnode_machine.proofs.StepLaw.{registers-after}
 
@@ -28,7 +28,7 @@ module _ (v l : ℕ) (limits : IsWithinLimits v l) where
   stays : (history : History) (state after : State Content) → IsAfter v l history state → after ≡ state → IsAfter v l history after
   stays history state after h e = record { replays = h.replays; is = e ∙ h.is }
 
-  step : (history : History) (state after : State Content) (turn : Turn) (came : StepOutcome) → IsAfter v l history state → IsRegisters v l history turn.ask came
+  step : (history : History) (state after : State Content) (turn : Turn) (came : MachineOutcome) → IsAfter v l history state → IsRegisters v l history turn.ask came
       → turn.reply ≡ reply_of came → after ≡ state_after_step state came → IsFollowed history turn after
   step history state after turn (Refused number) h given reply e = (
     history,
@@ -52,7 +52,7 @@ module _ (v l : ℕ) (limits : IsWithinLimits v l) where
       step history state after turn (outcome state turn.ask) h (registers-after v l limits history state turn.ask h) made.0 made.1
   turn-followed history state after turn h (inr refused) = (history, stays history state after h refused.1, inr (refused.0, refl))
 
-  played : (before : History) (turns : List Turn) (state after : State Content) → IsAfter v l before state → TakesEach TakesTurn state turns after → IsPlayed v l before turns after
+  played : (before : History) (turns : List Turn) (state after : State Content) → IsAfter v l before state → TakesEach TakesTurn state turns after → PlaysTurns v l before turns after
   played before turns state after h taken =
       let run = TakesEach-followed TakesTurn (AnswersTurn v l) (IsAfter v l) turn-followed turns before state after h taken in
       record { history = run.0; after = run.1; legal = replay_is_legal v l run.0 run.1.replays; answered = run.2 }

@@ -2,7 +2,7 @@
 use Rattle.std.proofs.Common.{◌≡◌, ℕ, ◌+◌, ◌≤◌, sym, subst, arith}
 use Rattle.std.specs.Prelude.{◌<◌, ◌^◌}
 use Rattle.riak_msgs.specs.Contents.{Content}
-use Rattle.sibling_register.specs.Answers.{Ask, AskGet, AskPut, AskDel, AskReap}
+use Rattle.sibling_register.specs.Answers.{RegisterAsk, AskGet, AskPut, AskDel, AskReap}
 use Rattle.actor_epoch.specs.Limits.{max_epoch}
 use Rattle.actor_epoch.specs.Given.{Context}
 use Rattle.vnode_machine.specs.Machine.{State}
@@ -25,17 +25,17 @@ limits-opening v l history replays limits =
     less : (l b last : ℕ) → last ≡ l + b → last ≤ max_epoch → l ≤ max_epoch
     less l b last e h = omega (arith, e, h)
 
-registers-at : (v l : ℕ) (history : H) (ask : Ask Content Context) → IsWithinLimits v l → HasReplay v l history → IsRegisters v l history ask (outcome (replay v l history) ask)
+registers-at : (v l : ℕ) (history : H) (ask : RegisterAsk Content Context) → IsWithinLimits v l → HasReplay v l history → IsRegisters v l history ask (outcome (replay v l history) ask)
 registers-at v l history (AskGet get) limits replays = get-registers v l history get replays
 registers-at v l history (AskPut put) limits replays = put-registers v l history put limits replays
 registers-at v l history (AskDel del) limits replays = del-registers v l history del limits replays
 registers-at v l history (AskReap key) limits replays = reap-registers v l history key replays
 
-pub registers-after : (v l : ℕ) → IsWithinLimits v l → (history : H) (state : State Content) (ask : Ask Content Context) → IsAfter v l history state
+pub registers-after : (v l : ℕ) → IsWithinLimits v l → (history : H) (state : State Content) (ask : RegisterAsk Content Context) → IsAfter v l history state
     → IsRegisters v l history ask (outcome state ask)
 registers-after v l limits history state ask h =
     subst (λ (s : State Content). IsRegisters v l history ask (outcome s ask)) (sym h.is) (registers-at v l history ask limits h.replays)
 
-pub step_is_registers : (state : State Content) (ask : Ask Content Context) → StepIsRegisters state ask
+pub step_is_registers : (state : State Content) (ask : RegisterAsk Content Context) → StepIsRegisters state ask
 step_is_registers state ask limits v l history h =
     registers-after v l (limits-opening v l history h.replays (subst (λ (s : State Content). IsWithinLimits s.vnode s.last_epoch) h.is limits)) history state ask h

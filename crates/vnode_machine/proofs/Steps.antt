@@ -13,7 +13,7 @@ use Rattle.actor_epoch.specs.Contexts.{is_well_formed}
 use Rattle.actor_epoch.specs.Given.{Context, Malformed, Pairs}
 use Rattle.vnode_machine.specs.Machine.{Stored, State, stored, next_actor, holds_dead, is_bad_context, names_unissued_dot, apply_operation}
 use Rattle.vnode_machine.specs.Lives.{lives_begun, is_alive}
-use Rattle.vnode_machine.specs.Replay.{replay, seen_by, Accepts, HasReplay}
+use Rattle.vnode_machine.specs.Replay.{replay, seen_by, AcceptsEvent, HasReplay}
 use Rattle.vnode_machine.proofs.Keys.{find_stored, find_reaped, key_eq-same, key_eq-refl}
 use Rattle.vnode_machine.proofs.Pairwise.{Pairwise}
 use Rattle.vnode_machine.proofs.Invariants.{H, clock_in, IsKept, IsEarlier, earlier-self}
@@ -181,7 +181,7 @@ module _ (v l : ℕ) where
         }
 
     -- an accepted event
-    pub accepted-step : (operation : Operation Content) (given : Option Context) (saw : List ℕ) → Accepts state at given operation → saw ≡ seen_by v l history at given operation
+    pub accepted-step : (operation : Operation Content) (given : Option Context) (saw : List ℕ) → AcceptsEvent state at given operation → saw ≡ seen_by v l history at given operation
         → IsKnown ((let event : Event Content Context = record { key = at; operation = operation; context = given; saw = saw } in event) ∷ history)
     accepted-step (Write content) None saw accepts e =
         write_step content None saw [] (λ key. find_stored key at _ state.keys) refl (behind_none before)

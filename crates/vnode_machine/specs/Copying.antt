@@ -7,7 +7,7 @@ use Rattle.sibling_register.specs.Refusals.{max_siblings}
 use Rattle.actor_epoch.specs.Limits.{max_actors}
 use Rattle.dvv_set.specs.Clocks.{DotState, sync}
 use Rattle.vnode_machine.specs.Machine.{State, clock_of, own_of}
-pub use Rattle.vnode_machine.specs.Sound.{IsClock}
+pub use Rattle.vnode_machine.specs.Sound.{IsStoredClock}
 
 module _ {V : Type 0} where
   -- a copy is stuck where the key would have too many siblings or its clock too many actors

@@ -1,5 +1,5 @@
 -- The vnode machine: its state, what it refuses, and what a command changes.
-use Rattle.std.specs.Prelude.{Bool, true, false, not, ◌&&◌, ◌||◌, ◌==◌, ◌+◌, ◌-◌, ◌^◌, if◌then◌else◌, List, [], ◌∷◌, ℕ, min, Option, Some, None, is_some, nat_le, nat_lt, unwrap_or, option_and_then}
+use Rattle.std.specs.Prelude.{Bool, true, false, not, ◌&&◌, ◌||◌, ◌==◌, ◌+◌, ◌-◌, ◌^◌, if◌then◌else◌, List, [], ◌∷◌, ◌++◌, ℕ, min, Option, Some, None, is_some, nat_le, nat_lt, unwrap_or, option_and_then}
 use Rattle.std.specs.Option.{option_map_or}
 use Rattle.std.specs.List.{list_any}
 use Rattle.std.specs.Ordering.{eq_by_cmp}
@@ -8,7 +8,7 @@ use Rattle.std.specs.FinMap.Entries.{find, put, where_key}
 use Rattle.riak_msgs.specs.declared.Key.{Key}
 use Rattle.riak_msgs.specs.KeyOrder.{key_cmp}
 use Rattle.sibling_register.specs.History.{Event, Operation, Write, Tombstone, Reap}
-use Rattle.sibling_register.specs.Refusals.{match_found, modified, not_found, bad_context, too_many_siblings, clock_full, epochs_used_up, counter_used_up, max_siblings, first_of}
+use Rattle.sibling_register.specs.Refusals.{bad_context, too_many_siblings, max_siblings, first_of, option_checks, actor_checks}
 use Rattle.sibling_register.specs.Answers.{PutCommand, DelCommand}
 use Rattle.actor_epoch.specs.declared.Actor.{Actor}
 use Rattle.actor_epoch.specs.declared.Dot.{Dot}
@@ -133,8 +133,8 @@ module _ {V : Type 0} where
   -- the checks of a put or delete that discards these pairs, in their order
   abbrev pub room_checks : State V → Key → List Dot → List (Bool × ℕ)
   room_checks state key pairs =
-      (has_too_many_siblings state key pairs, too_many_siblings) ∷ (has_too_many_actors state key pairs, clock_full)
-      ∷ (is_out_of_epochs state key, epochs_used_up) ∷ (is_out_of_counters state key, counter_used_up) ∷ []
+      (has_too_many_siblings state key pairs, too_many_siblings)
+      ∷ actor_checks (has_too_many_actors state key pairs) (is_out_of_epochs state key) (is_out_of_counters state key)
 
   -- the refusal of a write or tombstone, where there is one
   abbrev pub update_check : State V → Key → Option Context → List Dot → Option ℕ
@@ -142,14 +142,10 @@ module _ {V : Type 0} where
 
   abbrev pub put_check : State V → PutCommand V Context → Option ℕ
   put_check state put =
-      let present = has_value state put.key in
-      let if_not_modified = put.if_not_modified && not put.if_none_match in
       first_of (
       (is_bad_context state put.key put.context, bad_context)
-      ∷ (put.if_none_match && present, match_found)
-      ∷ (if_not_modified && not present, not_found)
-      ∷ (if_not_modified && not (matches_clock state put.key put.context), modified)
-      ∷ room_checks state put.key (pairs_of put.context))
+      ∷ option_checks put.if_none_match put.if_not_modified (has_value state put.key) (matches_clock state put.key put.context)
+      ++ room_checks state put.key (pairs_of put.context))
 
   abbrev pub del_check : State V → DelCommand Context → Option ℕ
   del_check state del = update_check state del.key del.context (del_pairs state del.key del.context)

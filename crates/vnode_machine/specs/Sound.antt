@@ -30,14 +30,14 @@ IsOwn None = Unit {0}
 IsOwn (Some actor) = IsActor actor
 
 -- a clock of a stored key knows pairs of the form of a context
-pub record IsClock {V : Type 0} (clock : DotState (Option V)) : Type 0 where
+pub record IsStoredClock {V : Type 0} (clock : DotState (Option V)) : Type 0 where
   pub pairs : ArePairs clock.known
   pub some : 1 ≤ length clock.known
   pub most : length clock.known ≤ max_actors
 
 pub record IsForm (s : Stored Content) : Type 0 where
   pub own : IsOwn s.own
-  pub clock : IsClock s.clock
+  pub clock : IsStoredClock s.clock
 
 abbrev pub IsFormed : Option (Stored Content) → Type 0
 IsFormed None = Unit {0}

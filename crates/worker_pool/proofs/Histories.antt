@@ -4,12 +4,12 @@ use Rattle.std.proofs.lemmas.List.Elements.{All-cons, All-nil}
 use Rattle.std.specs.Prelude.{Option}
 use Rattle.job_pool.specs.Lists.{Pairwise}
 use Rattle.gate_node.specs.Gates.{Gates}
-use Rattle.gate_node.specs.GateStep.{GateStep}
+use Rattle.gate_node.specs.GateStep.{GateNodeStep}
 use Rattle.gate_node.specs.OneHistory.{CallersAreOfRun}
 use Rattle.gate_node.specs.Passes.{ArePassesOf}
 use Rattle.worker_pool.specs.declared.job.Job.{Job}
 use Rattle.worker_pool.specs.declared.job.End.{End}
-use Rattle.worker_pool.specs.declared.server.Served.{Served}
+use Rattle.worker_pool.specs.declared.server.ServedJob.{ServedJob}
 use Rattle.worker_pool.specs.Serving.{EndsWell, Serves, WereOfRun, counted_whole, end_passes}
 
 module _ {I O : Type 0} (shared : Gates) where
@@ -23,14 +23,14 @@ module _ {I O : Type 0} (shared : Gates) where
 
   module _ (remaining : I → Option (List ℕ)) (contents : O → Option (List ℕ)) where
     -- sessions end with passes of the gates
-    pub served_of_run : (jobs : List (Job I O)) (all : List (Served I O)) → Pairwise (Serves GateStep remaining contents shared) jobs all → WereOfRun shared all
+    pub served_of_run : (jobs : List (Job I O)) (all : List (ServedJob I O)) → Pairwise (Serves GateNodeStep remaining contents shared) jobs all → WereOfRun shared all
     served_of_run [] [] h = tt
     served_of_run [] (one ∷ all) h = absurd h
     served_of_run (job ∷ jobs) [] h = absurd h
     served_of_run (job ∷ jobs) (one ∷ all) h = (h.0.2.kept, served_of_run jobs all h.1)
 
     -- and so with those of a run at none of whose answers the book was full
-    pub ends_of_run : (jobs : List (Job I O)) (ends : List (End I O)) → Pairwise (EndsWell GateStep remaining contents shared) jobs ends → CallersAreOfRun end_passes shared ends
+    pub ends_of_run : (jobs : List (Job I O)) (ends : List (End I O)) → Pairwise (EndsWell GateNodeStep remaining contents shared) jobs ends → CallersAreOfRun end_passes shared ends
     ends_of_run [] [] h = All-nil HasPassesOf
     ends_of_run [] (end ∷ ends) h = absurd h
     ends_of_run (job ∷ jobs) [] h = absurd h

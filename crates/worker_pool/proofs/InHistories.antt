@@ -10,14 +10,14 @@ use Rattle.node_session.specs.declared.ended.Ended.{Ended}
 use Rattle.node_session.specs.declared.fault.SessionFault.{SessionFault}
 use Rattle.node_session.proofs.HandingBack.{end_in, stops_in}
 use Rattle.gate_node.specs.Gates.{Gates}
-use Rattle.gate_node.specs.GateStep.{NodeOverGates, GateStep}
+use Rattle.gate_node.specs.GateStep.{NodeOverGates, GateNodeStep}
 use Rattle.gate_node.specs.Passes.{Sights}
 use Rattle.gate_node.specs.Tallies.{GateHistory}
 use Rattle.gate_node.specs.OneHistory.{IsSeen, StepIn}
 use Rattle.gate_node.proofs.InHistories.{AreSeen, seen_before_step}
 use Rattle.worker_pool.specs.declared.job.Job.{Job}
 use Rattle.worker_pool.specs.declared.job.End.{End}
-use Rattle.worker_pool.specs.declared.server.Served.{Served}
+use Rattle.worker_pool.specs.declared.server.ServedJob.{ServedJob}
 use Rattle.worker_pool.specs.Serving.{EndsAtEnd, EndsAtFault, EndsWell, Joins, counted_whole}
 
 module _ (histories : List GateHistory) {I O : Type 0} (remaining : I → Option (List ℕ)) (contents : O → Option (List ℕ)) (shared : Gates) where
@@ -28,29 +28,29 @@ module _ (histories : List GateHistory) {I O : Type 0} (remaining : I → Option
   abbrev SawThese : End I O → Type 0
   SawThese end = AllZip IsSeen histories end.passes.primaries
 
-  session_in : (job : Job I O) (end : End I O) (before after : NodeOverGates) → AreSeen histories after → MatchResult end.result (EndsAtEnd GateStep remaining contents shared job end before after) (EndsAtFault GateStep remaining contents shared job end before after)
+  session_in : (job : Job I O) (end : End I O) (before after : NodeOverGates) → AreSeen histories after → MatchResult end.result (EndsAtEnd GateNodeStep remaining contents shared job end before after) (EndsAtFault GateNodeStep remaining contents shared job end before after)
       → MatchResult end.result (EndsAtEnd In remaining contents shared job end before after) (EndsAtFault In remaining contents shared job end before after)
   session_in job end before after seen = by end.result where
-    by : (result : Result Ended SessionFault) → MatchResult result (EndsAtEnd GateStep remaining contents shared job end before after) (EndsAtFault GateStep remaining contents shared job end before after)
+    by : (result : Result Ended SessionFault) → MatchResult result (EndsAtEnd GateNodeStep remaining contents shared job end before after) (EndsAtFault GateNodeStep remaining contents shared job end before after)
         → MatchResult result (EndsAtEnd In remaining contents shared job end before after) (EndsAtFault In remaining contents shared job end before after)
     by (Ok ended) h =
         record {
           input = h.input;
           read = h.read;
           bound = h.bound;
-          serves = (h.serves.0, end_in GateStep (AreSeen histories) (seen_before_step histories) before after h.input (contents job.writer) (contents end.writer) ended.replies ended.rest h.serves.1 seen);
+          serves = (h.serves.0, end_in GateNodeStep (AreSeen histories) (seen_before_step histories) before after h.input (contents job.writer) (contents end.writer) ended.replies ended.rest h.serves.1 seen);
         }
     by (Err fault) h = (
       record {
         input = h.0.input;
         read = h.0.read;
         bound = h.0.bound;
-        serves = stops_in GateStep (AreSeen histories) (seen_before_step histories) before after h.0.input (contents job.writer) (contents end.writer) fault h.0.serves seen;
+        serves = stops_in GateNodeStep (AreSeen histories) (seen_before_step histories) before after h.0.input (contents job.writer) (contents end.writer) fault h.0.serves seen;
       },
       h.1,
     )
 
-  joins_in : (job : Job I O) (served : Served I O) (before after : NodeOverGates) → AllZip IsSeen histories served.end.passes.primaries → Joins GateStep remaining contents shared job served before after → Joins In remaining contents shared job served before after
+  joins_in : (job : Job I O) (served : ServedJob I O) (before after : NodeOverGates) → AllZip IsSeen histories served.end.passes.primaries → Joins GateNodeStep remaining contents shared job served before after → Joins In remaining contents shared job served before after
   joins_in job served before after seen h =
       record {
         gates = h.gates;
@@ -63,7 +63,7 @@ module _ (histories : List GateHistory) {I O : Type 0} (remaining : I → Option
       }
 
   -- so the sessions of these ends were by steps in the histories
-  pub ends_in : (jobs : List (Job I O)) (ends : List (End I O)) → All SawThese ends → Pairwise (EndsWell GateStep remaining contents shared) jobs ends → Pairwise (EndsWell In remaining contents shared) jobs ends
+  pub ends_in : (jobs : List (Job I O)) (ends : List (End I O)) → All SawThese ends → Pairwise (EndsWell GateNodeStep remaining contents shared) jobs ends → Pairwise (EndsWell In remaining contents shared) jobs ends
   ends_in [] [] seen h = tt
   ends_in [] (end ∷ ends) seen h = absurd h
   ends_in (job ∷ jobs) [] seen h = absurd h

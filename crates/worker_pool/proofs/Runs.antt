@@ -7,12 +7,12 @@ use Rattle.job_pool.specs.declared.jobs.JobFault.{JobFault}
 use Rattle.stats_book.specs.Counting.{sum_of, zeros}
 use Rattle.stats_book.specs.declared.totals.Totals.{Totals}
 use Rattle.gate_node.specs.Gates.{Gates}
-use Rattle.gate_node.specs.GateStep.{GateStep}
+use Rattle.gate_node.specs.GateStep.{GateNodeStep}
 use Rattle.gate_node.specs.OneHistory.{ShareHistories}
 use Rattle.gate_node.proofs.Histories.{each_seen}
 use Rattle.worker_pool.specs.declared.closed.Closed.{Closed}
 use Rattle.worker_pool.specs.declared.job.Job.{Job}
-use Rattle.worker_pool.specs.declared.server.Served.{Served}
+use Rattle.worker_pool.specs.declared.server.ServedJob.{ServedJob}
 use Rattle.worker_pool.specs.Serving.{EndsWell, Serves, counted_whole, end_passes}
 use Rattle.worker_pool.specs.Run.{ServesSource}
 use Rattle.worker_pool.proofs.Ends.{pairwise_whole}
@@ -27,18 +27,18 @@ if_ok_three P Q R S (Err b) f p q r = p
 
 module _ {J I O : Type 0} (Gives : J → Result (Option (Job I O)) JobFault → J → Type 0) (remaining : I → Option (List ℕ)) (contents : O → Option (List ℕ)) (shared : Gates) (first last : J) where
   -- the jobs of the source were served
-  pub source_served : (firsts : List Totals) (served : List (Served I O)) (lasts : List Totals) → AllServedOnce Gives (Counts remaining contents shared) first firsts served lasts last → AllServed Gives (Serves GateStep remaining contents shared) first served last
+  pub source_served : (firsts : List Totals) (served : List (ServedJob I O)) (lasts : List Totals) → AllServedOnce Gives (Counts remaining contents shared) first firsts served lasts last → AllServed Gives (Serves GateNodeStep remaining contents shared) first served last
   source_served firsts served lasts h = (h.0, h.1, served_all remaining contents shared h.0 firsts served lasts h.2)
 
   -- and their sessions were by steps in one history of each vnode
-  pub serves_source : (n : ℕ) (firsts : List Totals) (served : List (Served I O)) (lasts : List Totals) (closed : Closed I O) → firsts ≡ replicate n zeros → map counted_whole closed.ends.items ≡ served → ShareHistories end_passes shared.gates closed.ends.items closed.tallies.items → closed.totals ≡ sum_of lasts
+  pub serves_source : (n : ℕ) (firsts : List Totals) (served : List (ServedJob I O)) (lasts : List Totals) (closed : Closed I O) → firsts ≡ replicate n zeros → map counted_whole closed.ends.items ≡ served → ShareHistories end_passes shared.gates closed.ends.items closed.tallies.items → closed.totals ≡ sum_of lasts
       → AllServedOnce Gives (Counts remaining contents shared) first firsts served lasts last → ServesSource remaining contents shared Gives n first closed last
   serves_source n firsts served lasts closed new whole h sums once =
-      let S : Job I O → Served I O → Type 0 = Serves GateStep remaining contents shared in
+      let S : Job I O → ServedJob I O → Type 0 = Serves GateNodeStep remaining contents shared in
       let jobs = once.0 in
       let ends = closed.ends.items in
       let all = served_all remaining contents shared jobs firsts served lasts once.2 in
-      let ended : Pairwise (EndsWell GateStep remaining contents shared) jobs ends = pairwise_whole S jobs ends (subst (λ l. Pairwise S jobs l) (sym whole) all) in
+      let ended : Pairwise (EndsWell GateNodeStep remaining contents shared) jobs ends = pairwise_whole S jobs ends (subst (λ l. Pairwise S jobs l) (sym whole) all) in
       let seen = each_seen end_passes shared h.histories h.of_gates ends (ends_of_run shared remaining contents jobs ends ended) h.seen in (
         jobs,
         once.1,

@@ -11,7 +11,7 @@ use Rattle.node_session.specs.declared.fault.SessionFault.TheVariants.{ReadFaile
 use Rattle.node_session.specs.Answered.{AnsweredInput}
 use Rattle.node_session.specs.Session.{Given, IsInputEnd, Stops, IsTooManyReads, MadeReads}
 use Rattle.gate_node.specs.Gates.{Gates}
-use Rattle.gate_node.specs.GateStep.{NodeOverGates, GateStep}
+use Rattle.gate_node.specs.GateStep.{NodeOverGates, GateNodeStep}
 use Rattle.worker_pool.specs.declared.job.Job.{Job}
 use Rattle.worker_pool.specs.declared.job.End.{End}
 use Rattle.worker_pool.specs.Serving.{EndsAtEnd, EndsAtFault}
@@ -44,21 +44,21 @@ module _ {I O : Type 0} (remaining : I → Option (List ℕ)) (contents : O → 
   -- what `serve` says of a session, of the reader and the writer that the end has
   pub session_kept : (end : End I O) → Keeps (remaining read) (remaining end.reader) → Keeps (contents written) (contents end.writer)
       → IfOk end.result (λ ended. Given (remaining job.reader) (remaining read) reads (λ input.
-      AnsweredInput GateStep before input (contents job.writer) (contents written) ended.replies (IsInputEnd after ended.rest)))
+      AnsweredInput GateNodeStep before input (contents job.writer) (contents written) ended.replies (IsInputEnd after ended.rest)))
       → IfOk end.result (λ ended. IsAtEnd (remaining read))
       → IfErr end.result (λ fault. Given (remaining job.reader) (remaining read) reads (λ input.
-      Stops GateStep before after input (contents job.writer) (contents written) fault))
+      Stops GateNodeStep before after input (contents job.writer) (contents written) fault))
       → IfErr end.result (λ fault. IsTooManyReads fault → MadeReads (remaining job.reader) (remaining read) reads)
-      → MatchResult end.result (EndsAtEnd GateStep remaining contents shared job end before after) (EndsAtFault GateStep remaining contents shared job end before after)
+      → MatchResult end.result (EndsAtEnd GateNodeStep remaining contents shared job end before after) (EndsAtFault GateNodeStep remaining contents shared job end before after)
   session_kept end unread writes = by_result end.result where
     by_result : (result : Result Ended SessionFault)
         → IfOk result (λ ended. Given (remaining job.reader) (remaining read) reads (λ input.
-        AnsweredInput GateStep before input (contents job.writer) (contents written) ended.replies (IsInputEnd after ended.rest)))
+        AnsweredInput GateNodeStep before input (contents job.writer) (contents written) ended.replies (IsInputEnd after ended.rest)))
         → IfOk result (λ ended. IsAtEnd (remaining read))
         → IfErr result (λ fault. Given (remaining job.reader) (remaining read) reads (λ input.
-        Stops GateStep before after input (contents job.writer) (contents written) fault))
+        Stops GateNodeStep before after input (contents job.writer) (contents written) fault))
         → IfErr result (λ fault. IsTooManyReads fault → MadeReads (remaining job.reader) (remaining read) reads)
-        → MatchResult result (EndsAtEnd GateStep remaining contents shared job end before after) (EndsAtFault GateStep remaining contents shared job end before after)
+        → MatchResult result (EndsAtEnd GateNodeStep remaining contents shared job end before after) (EndsAtFault GateNodeStep remaining contents shared job end before after)
     by_result (Ok ended) h all none many =
         record {
           input = h.input;
@@ -66,7 +66,7 @@ module _ {I O : Type 0} (remaining : I → Option (List ℕ)) (contents : O → 
           bound = subst (λ n. length h.input ≤ 4096 * n) same h.bound;
           serves = (
             Consumes-whole (remaining job.reader) (remaining read) h.input (λ xs. h.input ≡ xs) h.read all refl,
-            answered_kept GateStep _ _ _ writes before h.input ended.replies (IsInputEnd after ended.rest) h.serves,
+            answered_kept GateNodeStep _ _ _ writes before h.input ended.replies (IsInputEnd after ended.rest) h.serves,
           );
         }
     by_result (Err fault) none all h many = (
@@ -74,7 +74,7 @@ module _ {I O : Type 0} (remaining : I → Option (List ℕ)) (contents : O → 
         input = h.input;
         read = Consumes-kept _ _ _ _ h.read unread;
         bound = subst (λ n. length h.input ≤ 4096 * n) same h.bound;
-        serves = stops_kept GateStep _ _ _ writes before after h.input fault h.serves;
+        serves = stops_kept GateNodeStep _ _ _ writes before after h.input fault h.serves;
       },
       λ is. record {
         input = (many is).input;

@@ -10,10 +10,10 @@ use Rattle.job_pool.proofs.Once.{once_pairs, once_sums}
 use Rattle.stats_book.specs.Counting.{both, sum_of, zeros}
 use Rattle.stats_book.specs.declared.totals.Totals.{Totals}
 use Rattle.gate_node.specs.Gates.{Gates}
-use Rattle.gate_node.specs.GateStep.{GateStep}
+use Rattle.gate_node.specs.GateStep.{GateNodeStep}
 use Rattle.worker_pool.specs.declared.job.Job.{Job}
 use Rattle.worker_pool.specs.declared.job.End.{End}
-use Rattle.worker_pool.specs.declared.server.Served.{Served}
+use Rattle.worker_pool.specs.declared.server.ServedJob.{ServedJob}
 use Rattle.worker_pool.specs.Serving.{CountsInSession, Serves, counted_whole}
 use Rattle.worker_pool.specs.Summing.{SessionTurn, SumsSessions, sums_before, sums_after}
 
@@ -41,7 +41,7 @@ module _ (q : Totals → ℕ) (none : q zeros ≡ 0) (add : (a b : Totals) → q
       let one = sum_by-cons q zeros (replicate n zeros) in
       omega (arith, rest, one, none)
 
-  module _ {I O : Type 0} (R : Totals → Job I O → Totals → Served I O → Type 0) (jobs : List (Job I O)) (n : ℕ) (ends : List (Served I O)) (lasts : List Totals) where
+  module _ {I O : Type 0} (R : Totals → Job I O → Totals → ServedJob I O → Type 0) (jobs : List (Job I O)) (n : ℕ) (ends : List (ServedJob I O)) (lasts : List Totals) where
     number_raised : (h : ServedOnce R jobs (replicate n zeros) ends lasts) → q (both (sums_before h.turns) (sum_of lasts)) ≡ q (sums_after h.turns)
     number_raised h =
         let all = once_sums R q jobs (replicate n zeros) ends lasts h in
@@ -52,7 +52,7 @@ module _ (q : Totals → ℕ) (none : q zeros ≡ 0) (add : (a b : Totals) → q
         let here = add (sums_before h.turns) (sum_of lasts) in
         omega (arith, all, first, last, before, after, here)
 
-module _ {I O : Type 0} (R : Totals → Job I O → Totals → Served I O → Type 0) (jobs : List (Job I O)) (n : ℕ) (ends : List (Served I O)) (lasts : List Totals) where
+module _ {I O : Type 0} (R : Totals → Job I O → Totals → ServedJob I O → Type 0) (jobs : List (Job I O)) (n : ℕ) (ends : List (ServedJob I O)) (lasts : List Totals) where
   all_raised : (h : ServedOnce R jobs (replicate n zeros) ends lasts) → both (sums_before h.turns) (sum_of lasts) ≡ sums_after h.turns
   all_raised h =
       let gets = number_raised (λ t. t.gets) refl (λ a b. refl) R jobs n ends lasts h in
@@ -63,15 +63,15 @@ module _ {I O : Type 0} (R : Totals → Job I O → Totals → Served I O → Ty
       λ i. record { gets = gets i; puts = puts i; deletes = deletes i; refusals = refusals i; reaps = reaps i }
 
 module _ {I O : Type 0} (remaining : I → Option (List ℕ)) (contents : O → Option (List ℕ)) (shared : Gates) where
-  abbrev pub Counts : Totals → Job I O → Totals → Served I O → Type 0
+  abbrev pub Counts : Totals → Job I O → Totals → ServedJob I O → Type 0
   Counts = CountsInSession remaining contents shared
 
   -- each job was served
-  pub served_all : (jobs : List (Job I O)) (firsts : List Totals) (ends : List (Served I O)) (lasts : List Totals) → ServedOnce Counts jobs firsts ends lasts → Pairwise (Serves GateStep remaining contents shared) jobs ends
+  pub served_all : (jobs : List (Job I O)) (firsts : List Totals) (ends : List (ServedJob I O)) (lasts : List Totals) → ServedOnce Counts jobs firsts ends lasts → Pairwise (Serves GateNodeStep remaining contents shared) jobs ends
   served_all jobs firsts ends lasts h = pairs_more (λ job served was. (was.2.0, was.2.1, was.2.4)) jobs ends (once_pairs Counts jobs firsts ends lasts h)
 
   -- and by the sums of the shares the sessions raised the numbers
-  pub sums_sessions : (n : ℕ) (jobs : List (Job I O)) (firsts : List Totals) (served : List (Served I O)) (lasts : List Totals) (ends : List (End I O)) (totals : Totals) → firsts ≡ replicate n zeros → map counted_whole ends ≡ served → totals ≡ sum_of lasts → ServedOnce Counts jobs firsts served lasts
+  pub sums_sessions : (n : ℕ) (jobs : List (Job I O)) (firsts : List Totals) (served : List (ServedJob I O)) (lasts : List Totals) (ends : List (End I O)) (totals : Totals) → firsts ≡ replicate n zeros → map counted_whole ends ≡ served → totals ≡ sum_of lasts → ServedOnce Counts jobs firsts served lasts
       → SumsSessions remaining contents shared n jobs ends totals
   sums_sessions n jobs firsts served lasts ends totals new whole sums h =
       let once : ServedOnce Counts jobs (replicate n zeros) (map counted_whole ends) lasts = subst (λ es. ServedOnce Counts jobs (replicate n zeros) es lasts) (sym whole) (subst (λ fs. ServedOnce Counts jobs fs served lasts) new h) in

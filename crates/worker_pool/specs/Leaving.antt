@@ -5,15 +5,15 @@ use Rattle.job_pool.specs.declared.jobs.JobFault.{JobFault}
 use Rattle.job_pool.specs.declared.fault.RunFault.{RunFault}
 use Rattle.job_pool.specs.declared.fault.RunFault.TheVariants as runs
 use Rattle.gate_node.specs.Gates.{Gates}
-use Rattle.gate_node.specs.GateStep.{GateStep}
+use Rattle.gate_node.specs.GateStep.{GateNodeStep}
 use Rattle.gate_node.specs.declared.fault.PoolFault.{PoolFault}
 use Rattle.gate_node.specs.declared.fault.PoolFault.TheVariants.{NoMemory, NoThread, JobsFailed, BookFull}
 use Rattle.worker_pool.specs.declared.job.Job.{Job}
-use Rattle.worker_pool.specs.declared.server.Served.{Served}
+use Rattle.worker_pool.specs.declared.server.ServedJob.{ServedJob}
 use Rattle.worker_pool.specs.Serving.{Serves}
 
 -- at one of these ends the book was full
-abbrev pub MetFullBook : {I O : Type 0} → List (Served I O) → Type 0
+abbrev pub MetFullBook : {I O : Type 0} → List (ServedJob I O) → Type 0
 MetFullBook [] = ⊥
 MetFullBook (served ∷ rest) = (served.book_full ≡ true) ⊎ MetFullBook rest
 
@@ -24,7 +24,7 @@ pool_fault runs.NoThread = NoThread
 pool_fault runs.JobsFailed = JobsFailed
 
 -- why there are no ends, where these jobs were served
-abbrev pub IsFaultAfter : {I O : Type 0} → List (Served I O) → PoolFault → Type 0
+abbrev pub IsFaultAfter : {I O : Type 0} → List (ServedJob I O) → PoolFault → Type 0
 IsFaultAfter served NoMemory = Unit {0}
 IsFaultAfter served NoThread = ⊥
 IsFaultAfter served JobsFailed = ⊥
@@ -33,7 +33,7 @@ IsFaultAfter served BookFull = MetFullBook served
 module _ {J I O : Type 0} (Gives : J → Result (Option (Job I O)) JobFault → J → Type 0) (remaining : I → Option (List ℕ)) (contents : O → Option (List ℕ)) (shared : Gates) where
   -- all jobs were served, and the book was full in one of the sessions
   abbrev pub ServedPastFullBook : J → J → Type 0
-  ServedPastFullBook first last = (served : List (Served I O)) × AllServed Gives (Serves GateStep remaining contents shared) first served last × MetFullBook served
+  ServedPastFullBook first last = (served : List (ServedJob I O)) × AllServed Gives (Serves GateNodeStep remaining contents shared) first served last × MetFullBook served
 
   -- what is left of the source of jobs
   abbrev pub LeavesSource : PoolFault → J → J → Type 0

@@ -9,11 +9,11 @@ use Rattle.node_session.specs.Answered.{AnsweredInput}
 use Rattle.node_session.specs.Session.{Given, IsInputEnd, Stops, IsTooManyReads, MadeReads}
 use Rattle.stats_book.specs.declared.totals.Totals.{Totals}
 use Rattle.gate_node.specs.Gates.{Gates}
-use Rattle.gate_node.specs.GateStep.{NodeOverGates, GateStep}
+use Rattle.gate_node.specs.GateStep.{NodeOverGates, GateNodeStep}
 use Rattle.gate_node.specs.Passes.{Sights, ArePassesOf}
 use Rattle.worker_pool.specs.declared.job.Job.{Job}
 use Rattle.worker_pool.specs.declared.job.End.{End}
-use Rattle.worker_pool.specs.declared.server.Served.{Served}
+use Rattle.worker_pool.specs.declared.server.ServedJob.{ServedJob}
 
 module _ {I O : Type 0} where
   abbrev pub IsForGates : Gates → Job I O → Type 0
@@ -24,11 +24,11 @@ module _ {I O : Type 0} where
   end_passes end = end.passes
 
   -- the passes that each of these sessions left are of the gates of this run
-  abbrev pub WereOfRun : Gates → List (Served I O) → Type 0
-  WereOfRun shared all = Every (λ (served : Served I O). ArePassesOf shared served.end.passes) all
+  abbrev pub WereOfRun : Gates → List (ServedJob I O) → Type 0
+  WereOfRun shared all = Every (λ (served : ServedJob I O). ArePassesOf shared served.end.passes) all
 
   -- an end at none of whose answers the book was full
-  abbrev pub counted_whole : End I O → Served I O
+  abbrev pub counted_whole : End I O → ServedJob I O
   counted_whole end = record { end = end; book_full = false }
 
   module _ (Step : NodeOverGates → Request → Reply → NodeOverGates → Type 0) (remaining : I → Option (List ℕ)) (contents : O → Option (List ℕ)) (shared : Gates) where
@@ -46,7 +46,7 @@ module _ {I O : Type 0} where
 
     -- between a node over these gates by the job's passes, which has met no full book, and one with what the end has,
     -- whose passes are of the same gates
-    pub record Joins (job : Job I O) (served : Served I O) (before after : NodeOverGates) : Type 0 where
+    pub record Joins (job : Job I O) (served : ServedJob I O) (before after : NodeOverGates) : Type 0 where
       pub gates : before.shared ≡ shared
       pub passes : before.passes ≡ job.passes
       pub begins : before.count.book_full ≡ false
@@ -56,7 +56,7 @@ module _ {I O : Type 0} where
       pub session : MatchResult served.end.result (EndsAtEnd job served.end before after) (EndsAtFault job served.end before after)
 
     -- a session of the job came to this end
-    abbrev pub Serves : Job I O → Served I O → Type 0
+    abbrev pub Serves : Job I O → ServedJob I O → Type 0
     Serves job served = (before : NodeOverGates) × (after : NodeOverGates) × Joins job served before after
 
     -- and the book was full at none of its answers
@@ -65,6 +65,6 @@ module _ {I O : Type 0} where
 
   module _ (remaining : I → Option (List ℕ)) (contents : O → Option (List ℕ)) (shared : Gates) where
     -- a session of the job over the gates counted on from the first numbers to the last, and came to this end
-    abbrev pub CountsInSession : Totals → Job I O → Totals → Served I O → Type 0
+    abbrev pub CountsInSession : Totals → Job I O → Totals → ServedJob I O → Type 0
     CountsInSession first job last served = (before : NodeOverGates) × (after : NodeOverGates)
-        × (before.count.counted ≡ first) × (after.count.counted ≡ last) × Joins GateStep remaining contents shared job served before after
+        × (before.count.counted ≡ first) × (after.count.counted ≡ last) × Joins GateNodeStep remaining contents shared job served before after

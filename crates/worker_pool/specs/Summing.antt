@@ -1,17 +1,17 @@
 -- What the sessions of a run counted in all.
 use Rattle.std.specs.Prelude.{◌≡◌, ℕ, List, Option, map, replicate}
-use Rattle.job_pool.specs.Turns.{Turn, ServedOnce}
+use Rattle.job_pool.specs.Turns.{ServedTurn, ServedOnce}
 use Rattle.stats_book.specs.Counting.{both, sum_of, zeros}
 use Rattle.stats_book.specs.declared.totals.Totals.{Totals}
 use Rattle.gate_node.specs.Gates.{Gates}
 use Rattle.worker_pool.specs.declared.job.Job.{Job}
 use Rattle.worker_pool.specs.declared.job.End.{End}
-use Rattle.worker_pool.specs.declared.server.Served.{Served}
+use Rattle.worker_pool.specs.declared.server.ServedJob.{ServedJob}
 use Rattle.worker_pool.specs.Serving.{CountsInSession, counted_whole}
 
 -- a session that was to be held, as a turn of a worker that counts
 abbrev pub SessionTurn : Type 0 → Type 0 → Type 0
-SessionTurn I O = Turn Totals (Job I O) (Served I O)
+SessionTurn I O = ServedTurn Totals (Job I O) (ServedJob I O)
 
 -- the sums of what was counted before each of these sessions, and after each
 abbrev pub sums_before : {I O : Type 0} → List (SessionTurn I O) → Totals

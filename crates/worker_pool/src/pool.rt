@@ -10,7 +10,7 @@ ghost use Rattle.worker_pool.specs.Leaving.{LeavesSource, IsFaultAfter, pool_fau
 
 use crate::closed::Closed;
 use crate::job::{End, EndRead, EndWrite, Job};
-use crate::server::{Served, Server};
+use crate::server::{ServedJob, Server};
 use gate_node::{PoolFault, Shared, Turnstile, tallies_of};
 use job_pool::{Finished, Jobs, RunFault};
 use stats_book::{Blanks, Book, Share, close};
@@ -37,7 +37,7 @@ fn fault_of(fault: RunFault) -> PoolFault
 /// The ends, where the book was full at none of them.
 fn whole_ends<I: Drop, O: Drop>(
     alloc: Global,
-    served: Vec<Served<I, O>>,
+    served: Vec<ServedJob<I, O>>,
 ) -> Result<Vec<End<I, O>>, PoolFault>
     ensures ends { IfOk result (λ ends. map counted_whole ends.items ≡ served.items) }
     ensures fault { IfErr result (IsFaultAfter served.items) }
@@ -60,7 +60,7 @@ fn finish<X, I, O, G, P, D, E, R>(
     alloc: Global,
     shared: &Shared,
     book: Book<G, P, D, E, R>,
-    finished: Finished<Served<I, O>, Share<G, P, D, E, R>>,
+    finished: Finished<ServedJob<I, O>, Share<G, P, D, E, R>>,
 ) -> Result<Closed<I, O>, PoolFault>
 where
     X: Wait,

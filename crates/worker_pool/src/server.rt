@@ -11,7 +11,7 @@ use std::sync::ledger::Ledger;
 
 /// An end, and whether the book was full at one of its answers.
 #[derive(Drop)]
-pub struct Served<I, O> {
+pub struct ServedJob<I, O> {
     pub end: End<I, O>,
     pub book_full: bool,
 }
@@ -40,7 +40,7 @@ where
 {
     type Job = Job<I, O>;
 
-    type End = Served<I, O>;
+    type End = ServedJob<I, O>;
 
     type Worker = Share<G, P, D, E, R>;
 
@@ -55,7 +55,7 @@ where
         alloc: Global,
         worker: Share<G, P, D, E, R>,
         job: Job<I, O>,
-    ) -> (Share<G, P, D, E, R>, Served<I, O>) {
+    ) -> (Share<G, P, D, E, R>, ServedJob<I, O>) {
         let Job {
             mut reader,
             mut writer,
@@ -85,6 +85,6 @@ where
             writer,
             passes,
         };
-        (share, Served { end, book_full })
+        (share, ServedJob { end, book_full })
     }
 }

@@ -5,7 +5,7 @@ use crate::tests::steps::Who::{Ann, Bob};
 use crate::tests::steps::{Outcome, Request, Step, Turn, View, plays};
 use crate::tests::threads::{Work, cross_threads, is_end, makes_rounds, name_of};
 use rw_gate::Gate;
-use rw_gate::counter::{Counter, TooMuch};
+use rw_gate::counter::{GatedCounter, TooMuch};
 use std::alloc::Global;
 use std::process::Abort;
 use std::sync::Wait;
@@ -26,7 +26,7 @@ pub(crate) enum Shown {
     Rounds,
 }
 
-impl Request<Counter, u64, u64, TooMuch> for Add {
+impl Request<GatedCounter, u64, u64, TooMuch> for Add {
     fn ask(&self, _alloc: Global, _turn: Turn) -> Option<u64> {
         Some(self.by)
     }
@@ -43,8 +43,8 @@ impl Request<Counter, u64, u64, TooMuch> for Add {
     }
 }
 
-impl View<Counter> for Shown {
-    fn is_of(&self, counter: &Counter, _alloc: Global, turn: Turn) -> bool {
+impl View<GatedCounter> for Shown {
+    fn is_of(&self, counter: &GatedCounter, _alloc: Global, turn: Turn) -> bool {
         match self {
             Shown::Sum(sum) => counter.value == *sum,
             Shown::Rounds => u64::from(turn.round) <= counter.value,
@@ -148,7 +148,7 @@ const ROWS: &[Row] = &[
 #[test]
 fn a_counter_behind_a_gate(rt: HostRuntime) {
     for row in ROWS {
-        let counter = Counter { value: row.from };
+        let counter = GatedCounter { value: row.from };
         assert!(rt; plays(rt.alloc(), counter, row.steps), "{}", row.shows);
     }
 }
@@ -161,7 +161,7 @@ const HUNDRED_ADDS: &Work<Add, Shown> = &Work {
 };
 
 /// Whether four threads did their work, and it is shown in the end what the work says.
-fn four_work<R: Threads + Wait + Sync>(rt: &R, alloc: Global, gate: &Gate<Counter>) -> bool {
+fn four_work<R: Threads + Wait + Sync>(rt: &R, alloc: Global, gate: &Gate<GatedCounter>) -> bool {
     match map_indices(
         rt,
         alloc,
@@ -174,7 +174,7 @@ fn four_work<R: Threads + Wait + Sync>(rt: &R, alloc: Global, gate: &Gate<Counte
 }
 
 fn is_worked<R: Threads + Wait + Sync>(rt: &R, alloc: Global) -> bool {
-    match Gate::new(alloc, Counter { value: 0 }) {
+    match Gate::new(alloc, GatedCounter { value: 0 }) {
         Ok(gate) => {
             cross_threads(&gate, &gate.pass());
             four_work(rt, alloc, &gate) && is_end(rt, alloc, &gate, HUNDRED_ADDS)

@@ -93,13 +93,13 @@ impl Kept for Register {
     ghost use Rattle.std.specs.Prelude.{◌≡◌, ℕ, true, List, Some};
     ghost use Rattle.sibling_register.specs.History.{Event};
     ghost use Rattle.sibling_register.specs.Plain.{Gives, answer_of};
-    ghost use Rattle.gate_tests.specs.Registers.{applied, Makes};
+    ghost use Rattle.gate_tests.specs.Registers.{applied, RegisterMakes};
 
     ghost State = { List (Event ℕ ℕ) };
 
     ghost content = { λ r. applied r.is_ahead r.register };
 
-    ghost accepts = { λ old e new. Makes e.command (answer_of e.told) old new };
+    ghost accepts = { λ old e new. RegisterMakes e.command (answer_of e.told) old new };
 
     ghost answers = { λ h ask told. Gives h ask (answer_of told) h };
 
@@ -113,7 +113,7 @@ impl Kept for Register {
     ghost event = { λ c. c };
 
     ghost ready = { λ r c. (r.is_ahead ≡ true)
-        × Makes c.command (answer_of c.told) (applied r.is_ahead r.register) r.register };
+        × RegisterMakes c.command (answer_of c.told) (applied r.is_ahead r.register) r.register };
 
     fn prepare(
         &mut self,

@@ -2,7 +2,7 @@ use Rattle.std.proofs.Common.{◌∙◌, ap, sym, subst, refl, length, map, arit
 use Rattle.std.specs.Vec.Iter.{into_iter_items}
 use Rattle.crossbeam_queue.specs.Passes.{view}
 use Rattle.job_pool.specs.Lists.{Every}
-use Rattle.job_pool.specs.Ends.{AreJoined, IsJoined}
+use Rattle.job_pool.specs.Ends.{AreJoined, IsWorkerJoined}
 use Rattle.job_pool.specs.Workers.{IsOn, state_before}
 use Rattle.job_pool.proofs.Joining.{none_joined, one_joined}
 use Rattle.job_pool.proofs.Starting.{room_left}
@@ -46,8 +46,8 @@ loop-child-preserved g c =
     let new = c.collect-worker.new.places.items in
     let taken = (view c.loop-child.pass).taken in
     let taken' = (view c.collect-worker.new.pass).taken in
-    let one = subst (λ js. IsJoined Serves js taken taken' first last old new) was.3
-    (subst (λ s. IsJoined (g.S.Service.serves s) (view c.loop-child.pass).given taken taken' first last old new) each.0.1 left.joined) in (
+    let one = subst (λ js. IsWorkerJoined Serves js taken taken' first last old new) was.3
+    (subst (λ s. IsWorkerJoined (g.S.Service.serves s) (view c.loop-child.pass).given taken taken' first last old new) each.0.1 left.joined) in (
       each.1,
       left.queue.0,
       left.queue.1,

@@ -4,7 +4,7 @@ use Rattle.std.specs.Vec.Iter.{into_iter_items}
 use Rattle.std.specs.Prelude.{IfOk}
 use Rattle.std.proofs.lemmas.Result.{IfOk-weaker}
 use Rattle.std.proofs.lemmas.List.Elements.{All-head, All-tail}
-use Rattle.gate_node.specs.GateStep.{GateStep}
+use Rattle.gate_node.specs.GateStep.{GateNodeStep}
 use Rattle.socket_server.specs.Counting.{AreTotals, AddsWorker, IsOver, WorkerCounts}
 use Rattle.socket_server.proofs.Summing.{one_joined, one_counted}
 use Rattle.socket_server.proofs.child.join_workers.Goals as goal
@@ -24,7 +24,7 @@ loop-child-preserved g c =
       IfOk-weaker c.add-counted.result (AddsWorker counted own) (λ all. length all.sinks.items + length rest ≡ length c.args.children.items)
           (λ all added. one_joined counted own all (length (into_iter_items c.loop-child.child-iterator)) (length rest) (length c.args.children.items) added (ap length cut) was.1)
           c.add-counted.ensures,
-      IfOk-weaker c.add-counted.result (AddsWorker counted own) (λ all. AreTotals GateStep gates (map given all.sinks.items) all.passes.items all.totals)
-          (λ all added. one_counted given gates counted own all added was.2 (subst (λ it. IfOk own (λ o. WorkerCounts GateStep it (given o.sink) o.passes o.totals)) over c.join.ensures))
+      IfOk-weaker c.add-counted.result (AddsWorker counted own) (λ all. AreTotals GateNodeStep gates (map given all.sinks.items) all.passes.items all.totals)
+          (λ all added. one_counted given gates counted own all added was.2 (subst (λ it. IfOk own (λ o. WorkerCounts GateNodeStep it (given o.sink) o.passes o.totals)) over c.join.ensures))
           c.add-counted.ensures,
     )

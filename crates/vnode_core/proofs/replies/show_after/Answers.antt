@@ -3,9 +3,8 @@ use Rattle.std.proofs.lemmas.Simd.{map-map}
 use Rattle.std.proofs.lemmas.List.{append-nil}
 use Rattle.std.specs.Prelude.{Option}
 use Rattle.std.specs.Borrow.{Bor}
-use Rattle.riak_msgs.specs.Contents.{Content}
+use Rattle.riak_msgs.specs.Contents.{Content, shown}
 use Rattle.riak_msgs.specs.declared.Shown.{Shown}
-use Rattle.vnode_machine.specs.Replies.{shown}
 use Rattle.vnode_core.specs.Replies.{filled}
 use Rattle.vnode_core.proofs.replies.show_after.Goals as goal
 

@@ -1,5 +1,5 @@
 use Rattle.std.proofs.Common.{◌≡◌, ◌++◌, map}
-use Rattle.vnode_machine.specs.Replies.{shown}
+use Rattle.riak_msgs.specs.Contents.{shown}
 use Rattle.vnode_core.specs.Replies.{filled}
 use Rattle.vnode_core.proofs.replies.show_after.Given as goal
 

@@ -1,7 +1,7 @@
 use Rattle.std.proofs.Common.{◌∙◌, ◌++◌, sym, ap, map}
 use Rattle.std.proofs.lemmas.Simd.{map-map}
 use Rattle.std.proofs.lemmas.List.{append-nil}
-use Rattle.vnode_machine.specs.Replies.{shown}
+use Rattle.riak_msgs.specs.Contents.{shown}
 use Rattle.vnode_core.proofs.replies.show_all.Goals as goal
 
 pub returns : goal.returns

@@ -4,7 +4,7 @@ use Rattle.node_steps.specs.declared.outcome.Outcome.TheVariants.{Done}
 use Rattle.node_steps.specs.declared.phase.Phase.TheVariants.{Idle, Closing}
 use Rattle.node_steps.specs.declared.close_stage.CloseStage.TheVariants.{Asked}
 use Rattle.node_steps.specs.Asked.{closing_step}
-use Rattle.node_steps.specs.Parts.{TakesStep, world_in}
+use Rattle.node_steps.specs.Parts.{TakesRunStep, world_in}
 use Rattle.node_steps.specs.Running.{world_of}
 use Rattle.node_steps.proofs.CopyAsking.{not_closing, is_closing}
 use Rattle.node_steps.proofs.Finding.{something}
@@ -31,10 +31,10 @@ pub returns : goal.returns
 returns c =
     let fallback = c.in-Some-fallback_of.ensures in
     let there = something c.args.self.now.sites.items c.in-Some-fallback_of.site fallback.there in
-    subst (λ phase. TakesStep (world_in c.args.self.now) (closing_step c.args.worker c.args.index) Done
+    subst (λ phase. TakesRunStep (world_in c.args.self.now) (closing_step c.args.worker c.args.index) Done
     (world_of c.args.self.now.sites.items c.args.self.now.routes.items c.args.self.now.epochs.items (slice_set c.args.self.now.workers.items c.in-Some.place phase)))
     (sym c.set_phase.ensures)
-    (subst (λ own. TakesStep (world_in c.args.self.now) (closing_step c.args.worker c.args.index) Done
+    (subst (λ own. TakesRunStep (world_in c.args.self.now) (closing_step c.args.worker c.args.index) Done
     (world_of c.args.self.now.sites.items c.args.self.now.routes.items c.args.self.now.epochs.items
     (slice_set c.args.self.now.workers.items c.in-Some.place (Closing own c.in-Some-fallback_of.site Asked)))) (sym c.from-own.ensures)
     (is_closing c.args.self.now.sites.items c.args.self.now.routes.items c.args.self.now.epochs.items c.args.self.now.workers.items c.args.worker c.in-Some.place

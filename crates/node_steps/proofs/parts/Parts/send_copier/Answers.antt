@@ -4,7 +4,7 @@ use Rattle.node_steps.specs.declared.outcome.Outcome.TheVariants.{Done}
 use Rattle.node_steps.specs.declared.phase.Phase.TheVariants.{Idle, Copying}
 use Rattle.node_steps.specs.declared.stage.Stage.TheVariants.{Asked}
 use Rattle.node_steps.specs.Asked.{copying_step}
-use Rattle.node_steps.specs.Parts.{TakesStep, world_in}
+use Rattle.node_steps.specs.Parts.{TakesRunStep, world_in}
 use Rattle.node_steps.specs.Running.{world_of}
 use Rattle.node_steps.proofs.CopyAsking.{not_sent, is_sent}
 use Rattle.node_steps.proofs.Finding.{something}
@@ -31,10 +31,10 @@ pub returns : goal.returns
 returns c =
     let fallback = c.in-Some-fallback_of.ensures in
     let there = something c.args.self.now.sites.items c.in-Some-fallback_of.site fallback.there in
-    subst (λ phase. TakesStep (world_in c.args.self.now) (copying_step c.args.worker c.args.index c.args.key.value) Done
+    subst (λ phase. TakesRunStep (world_in c.args.self.now) (copying_step c.args.worker c.args.index c.args.key.value) Done
     (world_of c.args.self.now.sites.items c.args.self.now.routes.items c.args.self.now.epochs.items (slice_set c.args.self.now.workers.items c.in-Some.place phase)))
     (sym c.set_phase.ensures)
-    (subst (λ own. TakesStep (world_in c.args.self.now) (copying_step c.args.worker c.args.index c.args.key.value) Done
+    (subst (λ own. TakesRunStep (world_in c.args.self.now) (copying_step c.args.worker c.args.index c.args.key.value) Done
     (world_of c.args.self.now.sites.items c.args.self.now.routes.items c.args.self.now.epochs.items
     (slice_set c.args.self.now.workers.items c.in-Some.place (Copying own c.in-Some-fallback_of.site c.args.key Asked)))) (sym c.from-own.ensures)
     (is_sent c.args.self.now.sites.items c.args.self.now.routes.items c.args.self.now.epochs.items c.args.self.now.workers.items c.args.worker c.in-Some.place

@@ -1,7 +1,7 @@
 use Rattle.std.proofs.Common.{refl, sym, subst, drop, ◌+◌, ◌∙◌, ap, ◌∷◌}
 use Rattle.std.proofs.lemmas.List.{drop_more, drop_all}
 use Rattle.node_steps.specs.Asked.{step_of}
-use Rattle.node_steps.specs.Kept.{Follows, FollowsSome}
+use Rattle.node_steps.specs.Kept.{FollowsInRun, FollowsSome}
 use Rattle.node_steps.proofs.RunsOn.{HasTaken, none_taken, one_taken, all_taken, some_taken, on_err}
 use Rattle.node_steps.proofs.world.World.run.Goals as goal
 
@@ -41,7 +41,7 @@ loop-step-preserved c =
     let step = c.step-item.result in
     let split = drop_more steps i step c.loop-step-test.true ∙ ap (λ s. s ∷ rest) (sym c.step-item.is) in
     let had = subst (λ r. HasTaken old steps r c.loop-step.outcomes.items c.loop-step.self) split c.loop-step.invariant in
-    let follows = subst (λ s. Follows c.loop-step.self (step_of s) c.in_ok-outcome.outcome c.step.new.self) c.in_ok-copy.ensures c.in_ok-outcome.ensures.schedule in
+    let follows = subst (λ s. FollowsInRun c.loop-step.self (step_of s) c.in_ok-outcome.outcome c.step.new.self) c.in_ok-copy.ensures c.in_ok-outcome.ensures.schedule in
     subst (λ returns. HasTaken old steps rest returns c.step.new.self) (sym c.in-Ok.ensures.items)
     (one_taken old c.loop-step.self c.step.new.self steps rest c.loop-step.outcomes.items step c.in_ok-outcome.outcome had follows)
 
@@ -54,7 +54,7 @@ returns-in_default-clause-err c =
     let step = c.step-item.result in
     let split = drop_more steps i step c.loop-step-test.true ∙ ap (λ s. s ∷ rest) (sym c.step-item.is) in
     let had = subst (λ r. HasTaken old steps r c.loop-step.outcomes.items c.loop-step.self) split c.loop-step.invariant in
-    let follows = subst (λ s. Follows c.loop-step.self (step_of s) c.in_ok-outcome.outcome c.step.new.self) c.in_ok-copy.ensures c.in_ok-outcome.ensures.schedule in
+    let follows = subst (λ s. FollowsInRun c.loop-step.self (step_of s) c.in_ok-outcome.outcome c.step.new.self) c.in_ok-copy.ensures c.in_ok-outcome.ensures.schedule in
     some_taken old steps rest _ c.step.new.self
     (one_taken old c.loop-step.self c.step.new.self steps rest c.loop-step.outcomes.items step c.in_ok-outcome.outcome had follows)
 

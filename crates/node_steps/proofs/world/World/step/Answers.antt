@@ -1,7 +1,7 @@
 use Rattle.std.proofs.Common.{IfOk, subst}
 use Rattle.node_steps.specs.Asked.{step_of}
-use Rattle.node_steps.specs.Parts.{TakesFitStep, TakesStep, world_in}
-use Rattle.node_steps.specs.Kept.{Follows}
+use Rattle.node_steps.specs.Parts.{TakesFitStep, TakesRunStep, world_in}
+use Rattle.node_steps.specs.Kept.{FollowsInRun}
 use Rattle.node_steps.proofs.Fitting.{are_fit}
 use Rattle.node_steps.proofs.Following.{follows, still_kept}
 use Rattle.node_steps.proofs.Stepping.{ok_then}
@@ -13,15 +13,15 @@ invariant_of-self c =
 
 pub returns-clause-step : goal.returns-clause-step
 returns-clause-step c =
-    subst (λ w. IfOk c.step.result (λ outcome. TakesStep w (step_of c.args.step) outcome (world_in c.step.new.self))) c.self.view_is
+    subst (λ w. IfOk c.step.result (λ outcome. TakesRunStep w (step_of c.args.step) outcome (world_in c.step.new.self))) c.self.view_is
     (ok_then {P = λ outcome. TakesFitStep c.self.inside.parts (step_of c.args.step) outcome c.step.new.self}
-    {Q = λ outcome. TakesStep (world_in c.self.inside.parts) (step_of c.args.step) outcome (world_in c.step.new.self)}
+    {Q = λ outcome. TakesRunStep (world_in c.self.inside.parts) (step_of c.args.step) outcome (world_in c.step.new.self)}
     c.step.result c.step.ensures.ok (λ outcome t. t (are_fit c.self.inside.parts c.self.invariant)))
 
 pub returns-clause-schedule : goal.returns-clause-schedule
 returns-clause-schedule c =
-    subst (λ w. IfOk c.step.result (λ outcome. Follows w (step_of c.args.step) outcome (world_in c.step.new.self))) c.self.view_is
+    subst (λ w. IfOk c.step.result (λ outcome. FollowsInRun w (step_of c.args.step) outcome (world_in c.step.new.self))) c.self.view_is
     (ok_then {P = λ outcome. TakesFitStep c.self.inside.parts (step_of c.args.step) outcome c.step.new.self}
-    {Q = λ outcome. Follows (world_in c.self.inside.parts) (step_of c.args.step) outcome (world_in c.step.new.self)}
+    {Q = λ outcome. FollowsInRun (world_in c.self.inside.parts) (step_of c.args.step) outcome (world_in c.step.new.self)}
     c.step.result c.step.ensures.ok
     (λ outcome t. follows (world_in c.self.inside.parts) (step_of c.args.step) outcome (world_in c.step.new.self) (t (are_fit c.self.inside.parts c.self.invariant))))

@@ -1,5 +1,5 @@
 use Rattle.std.proofs.Common.{◌∷◌, ◌∙◌, [], length, refl, ap, sym}
-use Rattle.rw_gate.specs.declared.log.LogEntry.TheVariants.{Opened}
+use Rattle.rw_gate.specs.declared.log.GateEntry.TheVariants.{Opened}
 use Rattle.rw_gate.specs.Logs.{events, opening}
 use Rattle.rw_gate.specs.Views.{gate_id}
 use Rattle.rw_gate.proofs.Logs.{opened_leads}

@@ -1,6 +1,6 @@
 use Rattle.std.proofs.Common.{◌≡◌, ◌+◌, [], ◌∷◌, ◌++◌, length, ap, sym, ◌∙◌, subst, arith}
 use mathlib.Core.List.{IsPrefix}
-use Rattle.rw_gate.specs.declared.log.LogEntry.TheVariants.{Made}
+use Rattle.rw_gate.specs.declared.log.GateEntry.TheVariants.{Made}
 use Rattle.rw_gate.specs.Logs.{events}
 use Rattle.rw_gate.specs.Steps.{length_word}
 use Rattle.rw_gate.proofs.Prefixes.{prefix_trans, prefix_length}

@@ -1,5 +1,5 @@
 use Rattle.std.proofs.Common.{◌<◌, ◌++◌, ◌∷◌, [], length, ap, sym, ◌∙◌, arith}
-use Rattle.rw_gate.specs.declared.log.LogEntry.TheVariants.{Made}
+use Rattle.rw_gate.specs.declared.log.GateEntry.TheVariants.{Made}
 use Rattle.rw_gate.specs.Logs.{events}
 use Rattle.rw_gate.proofs.Logs.{events_append}
 use Rattle.rw_gate.proofs.SlotValues.{replay_of, slot_value_snoc, gate_id_prefix}

@@ -1,8 +1,8 @@
 use Rattle.std.proofs.Common.{◌∙◌, ap, sym, subst}
-use Rattle.gate_node.specs.GateStep.{GateStep}
+use Rattle.gate_node.specs.GateStep.{GateNodeStep}
 use Rattle.gate_node.specs.Passes.{ArePassesOf}
 use Rattle.worker_pool.specs.declared.job.End.{End}
-use Rattle.worker_pool.specs.declared.server.Served.{Served}
+use Rattle.worker_pool.specs.declared.server.ServedJob.{ServedJob}
 use Rattle.worker_pool.specs.Serving.{Joins}
 use Rattle.worker_pool.proofs.Keeping.{session_keeps}
 use Rattle.worker_pool.proofs.Sessions.{session_kept}
@@ -16,10 +16,10 @@ returns g c =
     let before = c.new-node.result in
     let after = c.serve-result.new.node in
     let end : End g.row.I.Denot g.row.O.Denot = record { result = c.serve-result.result; reader = c.ended.new.self; writer = c.ended-2.new.self; passes = c.parts-share.result.1 } in
-    let served : Served g.row.I.Denot g.row.O.Denot = record { end = end; book_full = c.parts-share.result.2 } in
+    let served : ServedJob g.row.I.Denot g.row.O.Denot = record { end = end; book_full = c.parts-share.result.2 } in
     let said = c.serve-result.ensures in
     let same = session_keeps before after _ _ _ _ c.reads.result c.serve-result.result said.ended said.stopped ∙ c.new-node.ensures.shared in
-    let joins : Joins {I = g.row.I.Denot} {O = g.row.O.Denot} GateStep remaining contents shared c.args.job served before after = record {
+    let joins : Joins {I = g.row.I.Denot} {O = g.row.O.Denot} GateNodeStep remaining contents shared c.args.job served before after = record {
       gates = c.new-node.ensures.shared;
       passes = c.new-node.ensures.passes;
       begins = ap (λ n. n.book_full) c.new-node.ensures.count;
