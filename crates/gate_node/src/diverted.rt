@@ -12,7 +12,7 @@ use crate::shared::Shared;
 use crate::turnstile::Turnstile;
 use handoff::Fallback;
 use riak_msgs::{GetAsk, Reply, Text};
-use rw_gate::{Gate, AskOutcome, Pass, WriteRight, ask_shown};
+use rw_gate::{AskOutcome, Gate, Pass, WriteRight, ask_shown};
 use stats_book::Quantity;
 use std::alloc::Global;
 use std::sync::Wait;

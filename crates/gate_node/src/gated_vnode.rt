@@ -7,7 +7,7 @@ use crate::replies::{get_quantity, outcome_quantity, outcome_reply};
 use crate::shared::Shared;
 use crate::turnstile::Turnstile;
 use riak_msgs::{GetAsk, Reply, Text};
-use rw_gate::{Gate, AskOutcome, Pass, ask, ask_under};
+use rw_gate::{AskOutcome, Gate, Pass, ask, ask_under};
 use stats_book::Quantity;
 use std::alloc::Global;
 use std::sync::Wait;

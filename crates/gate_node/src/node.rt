@@ -16,7 +16,7 @@ use handoff::Fallback;
 use node_session::Node;
 use riak_msgs::{GetAsk, Key, Reply, Request, Text};
 use rw_gate::Pass;
-use stats_book::{Book, ReplyCounter, Quantity, Share};
+use stats_book::{Book, Quantity, ReplyCounter, Share};
 use std::alloc::Global;
 use std::marker::Model;
 use std::sync::Wait;

@@ -18,10 +18,10 @@ use crate::left::{Found, Left, is_copied, next_left};
 use clock_store::KeyRef;
 use ghost_state::{GhostList, Listing};
 use riak_msgs::Key;
-use rw_gate::{Gate, AskOutcome, Pass, ReadRight, WriteRight, ask_shown};
+use rw_gate::{AskOutcome, Gate, Pass, ReadRight, WriteRight, ask_shown};
 use std::alloc::Global;
 use std::sync::Wait;
-use vnode_core::{Ask, VnodeEvent, KeyCopy, Vnode};
+use vnode_core::{Ask, KeyCopy, Vnode, VnodeEvent};
 
 /// How many keys are looked at under the same rights, but for one: so long puts at the fallback wait for a look that finds all copied.
 const STRETCH: u32 = 15;

@@ -10,7 +10,7 @@ ghost use Rattle.handoff.specs.Steps.{IsStopOf};
 use crate::copying::Diverted;
 use crate::fault::{HandoffFault, Returned, Stop};
 use crate::left::first_left;
-use rw_gate::{Gate, AskOutcome, Pass, ReadRight, WriteRight, ask_shown};
+use rw_gate::{AskOutcome, Gate, Pass, ReadRight, WriteRight, ask_shown};
 use std::alloc::Global;
 use std::sync::Wait;
 use vnode_core::{Ask, Vnode};

@@ -9,7 +9,7 @@ ghost use Rattle.rw_gate.specs.Views.{gate_id};
 ghost use Rattle.rw_gate.specs.Histories.{AreBelow, IsHistory, IsLonger};
 
 use crate::kept::Kept;
-use crate::log::{GateRule, Length, GateEntry, Look, NoTrade, Publish, SeenLog};
+use crate::log::{GateEntry, GateRule, Length, Look, NoTrade, Publish, SeenLog};
 use ghost_state::GhostList;
 use logbook::Offer;
 use std::marker::Model;

@@ -12,7 +12,7 @@ use crate::fault::StepsFault;
 use node_steps::Step;
 use riak_msgs::Request;
 use ring_map::Ring;
-use schedule_text::{LineAction, GateStep, KeyStep, Line, LineFault, read_line};
+use schedule_text::{GateStep, KeyStep, Line, LineAction, LineFault, read_line};
 use std::alloc::{AllocError, Global};
 
 /// The index of the partition that a request is for. (A ping is for none, and no line asks for one.)

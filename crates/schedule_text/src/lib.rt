@@ -39,7 +39,7 @@ mod verdict;
 pub use comparison::Comparison;
 pub use fault::LineFault;
 pub use laws::a_line_asks_for_one_step;
-pub use line::{LineAction, GateStep, KeyStep, Line, MAX_LINES};
+pub use line::{GateStep, KeyStep, Line, LineAction, MAX_LINES};
 pub use lines::Lines;
 pub use outcome::{LineOutcome, write_outcome};
 pub use reading::read_line;

@@ -7,7 +7,7 @@ ghost use Rattle.schedule_text.specs.Reading.{MakesKeyed, ReadsAsked, ReadsDecim
 
 use crate::cut::cut_at;
 use crate::fault::LineFault;
-use crate::line::{LineAction, GateStep, KeyStep, Line};
+use crate::line::{GateStep, KeyStep, Line, LineAction};
 use crate::message::read_hex_message;
 use itoa::Buffer;
 use riak_msgs::Request;
