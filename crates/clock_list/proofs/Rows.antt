@@ -34,6 +34,7 @@ use Rattle.std.specs.Ordering.{eq_by_cmp}
 use Rattle.clock_list.specs.Rows.{entry_of, nothing, place_entry, first_place, RowFits, ReadyAt, SyncFitsAt, SyncReadyAt, reservation_of, contents_in, IsRowRoom, IsList}
 use Rattle.clock_list.proofs.Finding.{at_place, new_place}
 pub use Rattle.clock_store.proofs.Nested.{on_ok}
+use Rattle.vnode_machine.proofs.Tests.{unmapped}
 
 -- a key stands at its place
 pub record HoldsAt (items : List Row) (key : Key) (i : ℕ) : Type 0 where
@@ -41,11 +42,6 @@ pub record HoldsAt (items : List Row) (key : Key) (i : ℕ) : Type 0 where
   pub get : slice_get items i ≡ Some row
   pub find : find key_cmp key (map entry_of items) ≡ Some (stored_of row.stored)
   pub put : (s : Stored Content) → put key_cmp key s (map entry_of items) ≡ set (map entry_of items) i (row.key, s)
-
--- where a mapped list has an element, the list has one
-unmapped : {X Y : Type 0} (f : X → Y) (o : Option X) (y : Y) → option_map f o ≡ Some y → (x : X) × (o ≡ Some x) × (f x ≡ y)
-unmapped f None y h = cc
-unmapped f (Some x) y h = (x, refl, cc)
 
 pub stands : (items : List Row) (key : Key) (i : ℕ) → place_in key (map entry_of items) ≡ At i → HoldsAt items key i
 stands items key i h =

@@ -18,6 +18,7 @@ use Rattle.copy_laws.specs.Diversions.{Course, primary_of, fallback_of, Happens}
 use Rattle.copy_laws.specs.JointAnswers.{is_name_at, get_told_at, get_shown_at, CoursesAnswerGets, CoursesReapDead}
 use Rattle.copy_laws.proofs.CourseLaw.{courses_show}
 use Rattle.copy_laws.proofs.CourseHeld.{courses_hold_defined}
+use Rattle.vnode_machine.proofs.Mirrors.{position-all}
 
 map-map : {X Y Z : Type 0} (f : X → Y) (g : Y → Z) (xs : List X) → map g (map f xs) ≡ map (λ x. g (f x)) xs
 map-map f g [] = refl
@@ -51,12 +52,8 @@ module _ (partition : Partition) (course : Course) (ids : partition.primary < pa
       ∙ map-map {Y = Option Dot × Option Content} (λ number. (dot_at partition log (brought log key) key number, content_at partition log (brought log key) key number)) (λ pair. shown bare pair.1)
       (siblings_at partition log key)
 
-  -- the end of a log is its last position
-  whole : {X : Type 0} (xs : List X) → position_at xs (length xs) ≡ xs
-  whole xs = let none : length xs - length xs ≡ 0 = omega arith in ap (λ n. drop n xs) none
-
   pub context-same : (key : Key) → context_in state key ≡ context_in (primary_after partition (position_at log (length log))) key
-  context-same key = ap (λ t. context_in (primary_after partition t) key) (sym (whole log))
+  context-same key = ap (λ t. context_in (primary_after partition t) key) (sym (position-all log))
 
   gets : (get : GetCommand Context) → get_reply state get ≡ get_shown_at partition log get.key (get_told_at partition log get)
   gets get = by (is_held state get.key) (is_defined_at partition log get.key) (held-same get.key) refl (holds_dead state get.key) (is_dead_at partition log get.key) (dead-same get.key)

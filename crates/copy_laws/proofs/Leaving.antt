@@ -33,11 +33,11 @@ use Rattle.vnode_machine.proofs.Showing.{leaves_only_to_seers}
 use Rattle.copy_laws.proofs.Tests.{le-test, or_true}
 use Rattle.copy_laws.proofs.Clocks.{Clock, knows, synced, value-synced, taken_pairs, clock-other, clock-uncopied}
 use Rattle.copy_laws.proofs.Since.{state_at, clock_at, pairs_at, dot_given, IsUpdate, value-at, sync-at}
-use Rattle.copy_laws.proofs.Later.{H, are_updates, replay-before}
+use Rattle.copy_laws.proofs.Later.{H, are_updates, replay-before, open-before}
 use Rattle.copy_laws.proofs.Fallback.{known-from, sibling-value}
 use Rattle.copy_laws.proofs.LifeDots.{one-number}
 use Rattle.copy_laws.proofs.Numbered.{number-within, number-known}
-use Rattle.copy_laws.proofs.PrimaryDots.{open-before, no-close, accepted}
+use Rattle.copy_laws.proofs.PrimaryDots.{no-close, accepted}
 use Rattle.copy_laws.proofs.OwnCommands.{siblings-step, siblings-newest, covers-saw}
 use Rattle.copy_laws.proofs.OwnNumbers.{IsOwnNumber, own-number, own-positive, known-counted}
 use Rattle.copy_laws.proofs.JoinedFacts.{Dotted, IsOfFallback, of-fallback, fallback-number, dotted-prefix, prefix-dotted}
@@ -131,7 +131,7 @@ module _ (partition : Partition) (primary : Log) (fallbacks : Fallbacks) (key : 
 
   open_at : (later position : Log) → later ++ position ≡ primary → (primary_after partition position).closed ≡ None
   open_at later position e =
-      open-before partition primary fallbacks key joined later position (subst (HasEntries partition) (sym e) joined.hand_off.primary_legal)
+      open-before partition later position (subst (HasEntries partition) (sym e) joined.hand_off.primary_legal)
       (ap (λ t. (primary_after partition t).closed) e ∙ joined.open_still)
 
   -- so it has a value there

@@ -33,9 +33,6 @@ module _ (partition : Partition) (primary : Log) (fallbacks : Fallbacks) (key : 
   abbrev OfFallback : Copy Content → Type 0
   OfFallback copy = IsOfFallback partition primary fallbacks key joined copy
 
-  facts_of : (later : Log) (copy : Copy Content) (before : Log) → later ++ Copied copy ∷ before ≡ primary → key_eq copy.key key ≡ true → OfFallback copy
-  facts_of later copy before is e = of-fallback partition primary fallbacks key joined later copy before is e
-
   module _ (dot : Dot) (live : Since key (TakesAway v l key dot) primary → ⊥) where
     -- a copy that stands with nothing after it that forgets the key, and knows the dot, has it as its side's
     pub known-is-own : (later : Log) (copy : Copy Content) (before : Log) → later ++ Copied copy ∷ before ≡ primary → key_eq copy.key key ≡ true → is_forgotten_in key later ≡ false
@@ -50,7 +47,7 @@ module _ (partition : Partition) (primary : Log) (fallbacks : Fallbacks) (key : 
     side-of-copy : (later : Log) (copy : Copy Content) (before : Log) → later ++ Copied copy ∷ before ≡ primary → key_eq copy.key key ≡ true → is_forgotten_in key later ≡ false
         → knows copy.clock dot ≡ true → (number : ℕ) × Has copy.diversion number dot
     side-of-copy later copy before is e quiet k =
-        let facts = facts_of later copy before is e in
+        let facts = of-fallback partition primary fallbacks key joined later copy before is e in
         let one = known-is-own later copy before is e quiet k in
         let sibling = copy-sibling partition primary fallbacks key joined copy facts dot one.0 one.1 in
         (sibling.number, dotted-prefix partition primary fallbacks key joined copy facts sibling.number dot sibling.dot_is)

@@ -43,7 +43,7 @@ module _ {V : Type 0} where
       by false false true p q r = absurd (let w : ⊥ = grind (arith, nat_tests) in w)
       by false false false p q r = refl
 
-  nothing : (b : Bool) → let none : Option V = None in cond b none none ≡ none
+  pub nothing : (b : Bool) → let none : Option V = None in cond b none none ≡ none
   nothing true = refl
   nothing false = refl
 

@@ -136,9 +136,6 @@ module _ {V : Type 0} where
       ∙ (λ i. newest pairs entry.0 entry.1.0 entry.1.1 within i + sym (length-uncovered pairs entries (and_second (is_entry entry) (list_all is_entry entries) h)) i))
 
   -- a value in place of all
-  pub overwrite-entries : (entries : ClockEntries V) → AreEntries entries → AreEntries (map emptied entries)
-  overwrite-entries entries h = AreEntries-emptied entries h
-
   pub overwrite-counter : (entries : ClockEntries V) (a : Actor) → AreEntries entries → (entry_for a (map emptied entries)).0 ≡ counter_in (known_of entries) a
   overwrite-counter entries a h = ap (λ entry. entry.0) (entry_for-emptied a entries) ∙ sym (counter_in-known_of a entries h.sorted)
 

@@ -5,7 +5,7 @@ use Rattle.std.specs.Option.{option_or, option_map}
 use Rattle.std.specs.List.{slice_get}
 use Rattle.std.proofs.lemmas.Bool.Decides.{nat_tests}
 use Rattle.dvv_set.specs.ClockEntries.{merged}
-use Rattle.dvv_set.proofs.ClockEntries.{value_at}
+use Rattle.dvv_set.proofs.ClockEntries.{nothing, value_at}
 
 module _ {V : Type 0} where
   slice_get-take : (k i : ℕ) (l : List V) → slice_get (take k l) i ≡ cond (nat_lt i k) (slice_get l i) None
@@ -31,10 +31,6 @@ module _ {V : Type 0} where
       by : (o : Option V) → is_some o ≡ false → o ≡ None
       by None e = refl
       by (Some v) e = cc
-
-  nothing : (b : Bool) → let none : Option V = None in cond b none none ≡ none
-  nothing true = refl
-  nothing false = refl
 
   option_map-itself : (o : Option V) → option_map (λ v. v) o ≡ o
   option_map-itself None = refl

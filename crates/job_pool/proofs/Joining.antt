@@ -8,11 +8,7 @@ use Rattle.job_pool.specs.declared.queue.NumberedJob.{NumberedJob}
 use Rattle.job_pool.specs.Ends.{AreFilled, AreCollected, IsWorkerJoined, AreJoined}
 use Rattle.job_pool.proofs.Lists.{all_snoc}
 use Rattle.job_pool.proofs.Ends.{filled_jobs, filled_ends}
-
-module _ {A B : Type 0} (f : A → B) where
-  pub map_snoc : (xs : List A) (x : A) (rest : List B) → map f (xs ++ x ∷ []) ++ rest ≡ map f xs ++ f x ∷ rest
-  map_snoc [] x rest = refl
-  map_snoc (y ∷ xs) x rest = ap (λ l. f y ∷ l) (map_snoc xs x rest)
+use Rattle.job_pool.proofs.Starting.{map_snoc}
 
 module _ {W J E : Type 0} where
   turns_snoc : (shares : List (WorkerTurns W J E)) (share : WorkerTurns W J E) → turns_of (shares ++ share ∷ []) ≡ turns_of shares ++ share.turns

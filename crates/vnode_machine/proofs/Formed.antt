@@ -29,6 +29,7 @@ use Rattle.vnode_machine.proofs.Steps.{known}
 use Rattle.vnode_machine.proofs.Mirrors.{held-same}
 use Rattle.vnode_machine.proofs.Forms.{form-whole, form-parts, form-chosen, AreFit, room_left}
 use Rattle.vnode_machine.proofs.Tests.{or_left, or_right}
+use Rattle.std.proofs.lemmas.Bool.{not-false}
 
 rooms : (bad crowded full epochs counters : Bool)
     → cond {A = Option ℕ} bad (Some 4) (cond crowded (Some 5) (cond full (Some 6) (cond epochs (Some 7) (cond counters (Some 8) None)))) ≡ None
@@ -46,7 +47,7 @@ known-pairs None h = record { rising = refl; within = refl }
 known-pairs (Some s) h = h.clock.pairs
 
 -- a put that no check refuses is an accepted write
-without_options : (bad a b c : Bool) (m i j k : ℕ) (rest : List (Bool × ℕ)) → first_of ((bad, m) ∷ (a, i) ∷ (b, j) ∷ (c, k) ∷ rest) ≡ None → first_of ((bad, m) ∷ rest) ≡ None
+pub without_options : (bad a b c : Bool) (m i j k : ℕ) (rest : List (Bool × ℕ)) → first_of ((bad, m) ∷ (a, i) ∷ (b, j) ∷ (c, k) ∷ rest) ≡ None → first_of ((bad, m) ∷ rest) ≡ None
 without_options true a b c m i j k rest h = cc
 without_options false true b c m i j k rest h = cc
 without_options false false true c m i j k rest h = cc
@@ -63,10 +64,6 @@ module _ (state : State Content) (sound : IsSound state) where
     abbrev before : Option (Stored Content)
     before = stored state at
 
-    shown_true : (b : Bool) → not b ≡ false → b ≡ true
-    shown_true true h = refl
-    shown_true false h = cc
-
     abbrev own : Actor
     own = own_in (next_actor state) before
 
@@ -75,7 +72,7 @@ module _ (state : State Content) (sound : IsSound state) where
     fit_put (Some Malformed) h = cc
     fit_put (Some (Pairs pairs)) h = record {
       behind = behind-next state at pairs (or_right (not (is_well_formed pairs)) (list_any (names_unissued_dot state at) pairs) h);
-      are = form-parts pairs (shown_true (is_well_formed pairs) (or_left (not (is_well_formed pairs)) (list_any (names_unissued_dot state at) pairs) h));
+      are = form-parts pairs (not-false (is_well_formed pairs) (or_left (not (is_well_formed pairs)) (list_any (names_unissued_dot state at) pairs) h));
     }
 
     fit_del : (given : Option Context) → is_bad_context state at given ≡ false → AreFit own before (del_pairs state at given)

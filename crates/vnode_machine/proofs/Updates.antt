@@ -8,7 +8,7 @@ use Rattle.std.proofs.lemmas.Bool.Decides.{nat_tests}
 use Rattle.riak_msgs.specs.declared.Key.{Key}
 use Rattle.riak_msgs.specs.Contents.{Content}
 use Rattle.riak_msgs.specs.KeyOrder.{key_eq}
-use Rattle.sibling_register.specs.History.{Event, is_update, written, count_of}
+use Rattle.sibling_register.specs.History.{Operation, Write, Tombstone, Reap, Event, is_update, written, count_of}
 use Rattle.sibling_register.specs.Siblings.{siblings, is_among}
 use Rattle.sibling_register.proofs.Following.{left_by, siblings-own, count_of-own}
 use Rattle.actor_epoch.specs.declared.Actor.{Actor}
@@ -17,7 +17,7 @@ use Rattle.actor_epoch.specs.Dots.{actor_cmp, covers, counter_in, union, next_do
 use Rattle.actor_epoch.proofs.Pairs.{counter_in-insert_max}
 use Rattle.dvv_set.specs.Clocks.{show_cmp, discard, event}
 use Rattle.actor_epoch.specs.Given.{Context}
-use Rattle.vnode_machine.specs.Machine.{Stored}
+use Rattle.vnode_machine.specs.Machine.{State, Stored, apply_operation}
 use Rattle.vnode_machine.proofs.Pairwise.{Pairwise, Pairwise-map, Pairwise-filter}
 use Rattle.vnode_machine.proofs.Numbers.{count_of-more, content_of-own, dot_of-own}
 use Rattle.vnode_machine.proofs.Invariants.{H, Entry, clock_in, IsLiveOf, AreLiveOf, live-more, IsStored, IsSplit, IsEarlier}
@@ -158,3 +158,9 @@ module _ (v l : ℕ) where
               ));
           grown = one_more (counter_in old own) top (counter_in next.clock.known own) (nat_eq count (count_of (event ∷ history) key)) fresh counter_is;
         }
+
+-- a command leaves a vnode closed or open
+pub closed-kept : (state : State Content) (key : Key) (given : Option Context) (operation : Operation Content) → (apply_operation state key given operation).closed ≡ state.closed
+closed-kept state key given (Write content) = refl
+closed-kept state key given Tombstone = refl
+closed-kept state key given Reap = refl

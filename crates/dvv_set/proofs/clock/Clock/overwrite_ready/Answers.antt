@@ -6,7 +6,7 @@ use Rattle.dvv_set.specs.Held.{actors_after, counter_before, values_of}
 use Rattle.dvv_set.specs.ClockEntries.{dot_state_of, entry_for, with_value}
 use Rattle.dvv_set.specs.Stored.{clock_entries}
 use Rattle.dvv_set.proofs.Stored.{length-clock_entries}
-use Rattle.dvv_set.proofs.Emptied.{overwrite-entries, overwrite-counter, overwrite-length, overwrite-next, overwrite-meaning}
+use Rattle.dvv_set.proofs.Emptied.{AreEntries-emptied, overwrite-counter, overwrite-length, overwrite-next, overwrite-meaning}
 use Rattle.dvv_set.proofs.Rooms.{room-each}
 use Rattle.dvv_set.proofs.clock.Clock.overwrite_ready.Goals as goal
 
@@ -25,7 +25,7 @@ put_value-requires g c =
       (
         omega arith,
         (
-          rw c.drop_values.ensures.emptied (overwrite-entries own c.self.invariant.entries),
+          rw c.drop_values.ensures.emptied (AreEntries-emptied own c.self.invariant.entries),
           (
             omega (arith, last, counter, c.requires.counter),
             (
