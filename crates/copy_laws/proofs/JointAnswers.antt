@@ -1,6 +1,6 @@
 -- In each course the primary answers gets, and reaps, as the register does over sides and numbers.
-use Rattle.std.proofs.Common.{◌≡◌, ◌-◌, ◌<◌, Bool, true, false, not, ◌&&◌, cond, List, [], ◌∷◌, length, map, refl, sym, ◌∙◌, ap, arith}
-use Rattle.std.specs.Prelude.{Option, Some, None, drop}
+use Rattle.std.proofs.Common.{◌≡◌, ◌-◌, ◌<◌, Bool, true, false, not, ◌&&◌, cond, List, [], ◌∷◌, length, map, refl, sym, ◌∙◌, ap}
+use Rattle.std.specs.Prelude.{Option, Some, None}
 use Rattle.riak_msgs.specs.declared.Key.{Key}
 use Rattle.riak_msgs.specs.declared.GetReply.{GetReply}
 use Rattle.riak_msgs.specs.Contents.{Content, shown}

@@ -1,5 +1,5 @@
 -- Folds of a step over a message's fields.
-use Rattle.std.proofs.Common.{◌≡◌, ℕ, List, [], ◌∷◌, ◌++◌, Some, Result, Ok, refl, sym, ap, subst, ◌∙◌, arith}
+use Rattle.std.proofs.Common.{◌≡◌, ℕ, List, [], ◌∷◌, ◌++◌, Some, Result, Ok, refl, sym, ap, subst, ◌∙◌}
 use Rattle.std.proofs.lemmas.List.{append_assoc, append-nil}
 use Rattle.pb_fields.specs.Field.{WireField, BeginsWithField, seen}
 use Rattle.pb_fields.specs.Message.{BeginsWithFields, Encodes}
@@ -7,7 +7,7 @@ use Rattle.pb_fields.specs.Next.{Yields}
 use Rattle.pb_fields.specs.Merging.{MergesAll, RefusesOne, Tracks}
 use Rattle.pb_fields.specs.declared.field.Field.{Field}
 use Rattle.pb_fields.specs.declared.fault.FieldFault.{FieldFault}
-use Rattle.pb_fields.proofs.Parts.{field_once, field_some}
+use Rattle.pb_fields.proofs.Parts.{field_once}
 use Rattle.pb_fields.proofs.Lists.{fields_more, nothing}
 
 -- one field more

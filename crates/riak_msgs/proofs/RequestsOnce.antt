@@ -1,5 +1,5 @@
 -- A message says one thing.
-use Rattle.std.proofs.Common.{◌≡◌, ℕ, List, Result, Ok, Err, refl, ap, sym, subst, arith, ◌∙◌, inl, inr}
+use Rattle.std.proofs.Common.{◌≡◌, ℕ, List, Result, Ok, Err, refl, sym, subst, arith, ◌∙◌, inl, inr}
 use Rattle.pb_fields.specs.Message.{Encodes}
 use Rattle.pb_fields.proofs.Lists.{fields_once}
 use Rattle.riak_msgs.specs.declared.request.Request.{Request}
