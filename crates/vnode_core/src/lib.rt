@@ -22,6 +22,9 @@
 //! vnode that it was prepared from, and the two name the [`VnodeEvent`] that it makes in the gate's history, with its answer.
 //! [`histories_are_legal`] is the law of such a history.
 //!
+//! A vnode may stand beside another, as the fallback of a primary: [`is_copied`] says whether the primary has a key as the fallback has it
+//! now, and [`count_left`] how many keys it hasn't so.
+//!
 //! Its storage is any [`ClockStore`](clock_store::ClockStore): a [`VnodeOver`] is proved from that trait's contract
 //! alone, so each form of storage gives the same vnode, and [`Vnode`] is the one over the ordered map. What a key costs
 //! to find is the form's; a put looks its key up once, for its checks, its answer (`checks` and `replies`) and its room,
