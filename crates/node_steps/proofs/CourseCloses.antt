@@ -1,6 +1,7 @@
 -- A closer's look leaves each partition's course as it is; by its publish the fallback returns: all was brought back.
 use Rattle.std.proofs.Common.{◌≡◌, ◌≢◌, inl, inr, ℕ, ◌+◌, ◌<◌, Bool, true, false, not, cond, List, [], ◌∷◌, length, refl, sym, ◌∙◌, ap, arith, subst}
-use Rattle.std.specs.Prelude.{pred, Option, Some, None, filter, nat_le, option_and_then, slice_get}
+use Rattle.std.proofs.lemmas.Option.{none-some}
+use Rattle.std.specs.Prelude.{pred, Option, Some, filter, nat_le, option_and_then, slice_get}
 use Rattle.std.specs.Option.{option_map_or}
 use Rattle.std.specs.FinMap.Entries.{find}
 use Rattle.riak_msgs.specs.declared.Key.{Key}
@@ -33,7 +34,7 @@ use Rattle.node_steps.proofs.Closes.{close_here, close_hand, close_open, close_o
 use Rattle.node_steps.proofs.Quiet.{IsQuiet, quiet-judged, quiet-closed}
 use Rattle.node_steps.proofs.Judged.{AreJudged}
 use Rattle.node_steps.proofs.CallsApart.{route_own}
-use Rattle.node_steps.proofs.Coursing.{IsVnode, vnode-state, home_id, away_id, Agrees, IsAway, WasFallback, WasGiven, given-later, IsLawful, IsRun, shown-later, ids, primary-state, away-state}
+use Rattle.node_steps.proofs.Coursing.{IsVnode, vnode-state, home_id, away_id, Agrees, IsAway, WasFallback, WasGiven, given-later, IsLawful, IsRun, shown-later, ids, primary-state, away-state, was-later}
 
 -- the primary has as much of a fallback's actor of the key
 abbrev has_all : (primary : State Content) → Key → Option (Stored Content) → Bool
@@ -148,18 +149,10 @@ module _ (run index : ℕ) (w : World) (orderly : IsOrderly w) (number : ℕ) (a
 
   -- a closed fallback is another
   was-stays : (later : Course) (n : ℕ) → fallback_of later n ≡ fallback_of course n → WasFallback run index w course opened n → WasFallback run index next later opened n
-  was-stays later n same f = record {
-    site = f.site;
-    vnode = f.vnode;
-    there = set-there w.vnodes c.site f.site closed (λ e. f.closed
-        (ap (λ (v : SiteVnode). (state_of v.id v.last_epoch v.log).closed) (sym (some_back c.fallback f.vnode (sym c.fallback_is ∙ ap (λ k. slice_get w.vnodes k) e ∙ f.there)))
-        ∙ close_open w orderly number action r c)) ∙ f.there;
-    own_is = f.own_is;
-    id_is = f.id_is;
-    epoch_is = f.epoch_is;
-    history_is = f.history_is ∙ sym same;
-    closed = f.closed;
-  }
+  was-stays later n same f =
+      was-later run index w next course later opened n same f (set-there w.vnodes c.site f.site closed (λ e. f.closed
+      (ap (λ (v : SiteVnode). (state_of v.id v.last_epoch v.log).closed) (sym (some_back c.fallback f.vnode (sym c.fallback_is ∙ ap (λ k. slice_get w.vnodes k) e ∙ f.there)))
+      ∙ close_open w orderly number action r c)) ∙ f.there)
 
   -- a partition's own vnode is another
   not_home : c.site ≢ index
@@ -273,11 +266,8 @@ module _ (run index : ℕ) (w : World) (orderly : IsOrderly w) (number : ℕ) (a
       id_is = ap (λ (v : SiteVnode). v.id) (sym fallback_is) ∙ away.vnode.id_is;
       epoch_is = ap (λ (v : SiteVnode). v.last_epoch) (sym fallback_is) ∙ away.vnode.epoch_is;
       history_is = ap (λ (l : Log). commands_of l) log_is ∙ commands-all (fallback_of course count);
-      closed = λ none. is_closed none;
+      closed = λ none. none-some c.count (sym none);
     }
-      where
-        is_closed : Some c.count ≡ None → ⊥
-        is_closed e = cc
 
     returned : IsRun run index next later opened Shown
     returned = record {

@@ -4,8 +4,7 @@ use Rattle.std.specs.Prelude.{◌==◌, Option, Some, None, option_map, option_a
 use Rattle.std.specs.Option.{option_map_or}
 use Rattle.std.specs.List.{list_all}
 use Rattle.std.specs.Global.{Box}
-use Rattle.std.proofs.lemmas.Option.{slice_get-map}
-use Rattle.std.proofs.lemmas.List.{length-map}
+use Rattle.std.proofs.lemmas.List.{length-map, map-append}
 use Rattle.node_steps.specs.declared.hand.Hand.{Hand}
 use Rattle.node_steps.specs.declared.outcome.Outcome.TheVariants as outcomes
 use Rattle.node_steps.specs.declared.parts.Parts.{Parts}
@@ -17,7 +16,7 @@ use Rattle.node_steps.specs.Erased.{erase, erase_vnode}
 use Rattle.node_steps.specs.Returned.{returned}
 use Rattle.node_steps.specs.Running.{phase_of, vnode_of, worker_of}
 use Rattle.node_steps.specs.Parts.{AreFit, IsOpen, DivertsTo, TakesFitStep, world_in}
-use Rattle.node_steps.proofs.Mapped.{at_some, map-more, tested_same}
+use Rattle.node_steps.proofs.Mapped.{at_some, at_none, tested_same}
 use Rattle.node_steps.proofs.Stepping.{vnodes_itself, workers_itself, not_possible}
 
 -- no worker of these has to do with a partition whose sites are these
@@ -79,7 +78,7 @@ module _ (parts : Parts) (index : ℕ) where
       by : (o : Option ℕ) → by_epoch site o ≡ None
       by None = refl
       by (Some epoch) =
-          ap (λ o. option_and_then (tested site epoch) o) (slice_get-map vnode_of parts.sites.items index ∙ ap (λ o. option_map vnode_of o) none)
+          ap (λ o. option_and_then (tested site epoch) o) (at_none vnode_of parts.sites.items index none)
 
   module _ (site epoch : ℕ) (primary : Site) (routed : slice_get parts.routes.items index ≡ Some site) (behind : slice_get parts.epochs.items index ≡ Some epoch)
       (own : (site == index) && free ≡ true) (there : slice_get parts.sites.items index ≡ Some primary) where
@@ -140,9 +139,9 @@ module _ (parts : Parts) (index : ℕ) where
       let d = to fit in
       let count = ap (λ n. slice_set parts.routes.items index n) (sym (length-map parts.sites.items vnode_of)) in
       let all_routes = routes ∙ count in
-      let vnodes = ap (λ ss. map vnode_of ss) sites ∙ map-more vnode_of parts.sites.items fallback
+      let vnodes = ap (λ ss. map vnode_of ss) sites ∙ map-append vnode_of parts.sites.items (fallback ∷ [])
       ∙ (λ i. vnodes_itself parts.sites.items i ++ (is ∙ ap (λ n. erase_vnode (fresh_vnode n index epoch)) d.id_is) i ∷ [])
-      ∙ sym (map-more erase_vnode (map vnode_of parts.sites.items) (fresh_vnode (d.primary.place.vnode + fallback_ids) index epoch)) in
+      ∙ sym (map-append erase_vnode (map vnode_of parts.sites.items) (fresh_vnode (d.primary.place.vnode + fallback_ids) index epoch ∷ [])) in
       let phases = ap (λ ps. map worker_of ps) workers ∙ workers_itself parts.workers.items in
       let later : world_in new ≡ erase (diverted_by w index epoch d.primary) =
       λ i. record { vnodes = vnodes i; routes = all_routes i; epochs = epochs i; diversions = []; workers = phases i } in

@@ -1,3 +1,4 @@
+pub mod Numbers
 pub mod Lists
 pub mod Mapped
 pub mod Beginnings
@@ -62,6 +63,6 @@ mod Syncing
 mod Sighting
 mod Lefts
 mod Fallbacks
-mod Opening
+pub mod Opening
 mod RunsOn
 mod Gates

@@ -7,8 +7,7 @@ use Rattle.node_steps.specs.Asked.{copying_step}
 use Rattle.node_steps.specs.Parts.{TakesRunStep, world_in}
 use Rattle.node_steps.specs.Running.{world_of}
 use Rattle.node_steps.proofs.CopyAsking.{not_sent, is_sent}
-use Rattle.node_steps.proofs.Finding.{something}
-use Rattle.node_steps.proofs.Lists.{get-below}
+use Rattle.node_steps.proofs.Lists.{get-below, found_below}
 use Rattle.node_steps.proofs.Stepping.{not_possible}
 use Rattle.node_steps.proofs.parts.Parts.send_copier.Goals as goal
 
@@ -30,7 +29,7 @@ index_mut-requires c =
 pub returns : goal.returns
 returns c =
     let fallback = c.in-Some-fallback_of.ensures in
-    let there = something c.args.self.now.sites.items c.in-Some-fallback_of.site fallback.there in
+    let there = found_below c.args.self.now.sites.items c.in-Some-fallback_of.site fallback.there in
     subst (λ phase. TakesRunStep (world_in c.args.self.now) (copying_step c.args.worker c.args.index c.args.key.value) Done
     (world_of c.args.self.now.sites.items c.args.self.now.routes.items c.args.self.now.epochs.items (slice_set c.args.self.now.workers.items c.in-Some.place phase)))
     (sym c.set_phase.ensures)
