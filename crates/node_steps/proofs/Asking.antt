@@ -8,6 +8,7 @@ use Rattle.riak_msgs.specs.declared.Request.{Request}
 use Rattle.sibling_register.specs.Answers.{RegisterAsk}
 use Rattle.actor_epoch.specs.Given.{Context}
 use Rattle.vnode_machine.specs.Replay.{History}
+use Rattle.vnode_machine.specs.Asks.{request_ask}
 use Rattle.node_steps.specs.declared.call.Call.{Call}
 use Rattle.node_steps.specs.declared.outcome.Outcome.TheVariants as outcomes
 use Rattle.node_steps.specs.declared.phase.Phase.{Phase as RunPhase}
@@ -17,7 +18,7 @@ use Rattle.node_steps.specs.declared.parts.Parts.{Parts}
 use Rattle.node_steps.specs.World.{Phase, Idle, Asked, Reading, Holding, Done, Turned, Copying, Closing, Brought, SiteVnode, Worker, World, route, seen_at, brought_by}
 use Rattle.node_steps.specs.Steps.{Asks, AsksNowhere, is_reap, sent, routed, By, site_of, acts, happens, turn_of}
 use Rattle.node_steps.specs.Running.{ask_of, vnode_of, worker_of, world_of}
-use Rattle.node_steps.specs.Asked.{CallsFor, asking_step, asks_by, request_ask}
+use Rattle.node_steps.specs.Asked.{CallsFor, asking_step, asks_by}
 use Rattle.node_steps.specs.Parts.{FindsIdle, SendsTo, TakesRunStep, world_in}
 use Rattle.node_steps.proofs.Looking.{vnode_itself}
 use Rattle.node_steps.proofs.Mapped.{set-same, at_none}

@@ -61,7 +61,6 @@ mod Taking
 mod Preparing
 mod Syncing
 mod Sighting
-mod Lefts
 mod Fallbacks
 pub mod Opening
 mod RunsOn
