@@ -74,6 +74,7 @@ module _ (w : World) (orderly : IsOrderly w) (action : Action) (sends : SendsWel
       | inl e ↦ inl (e, same_Some turn.vnode v (sym (set-here w.vnodes index vnode turn.vnode there) ∙ ap (λ k. slice_get world.vnodes k) e ∙ h))
       | inr n ↦ inr (n, sym (set-there w.vnodes index other turn.vnode n) ∙ h)
     ]
+
     -- the worker at a place afterwards
     worker_after : (other : ℕ) (x : Worker) → slice_get world.workers other ≡ Some x
         → ((place ≡ other) × (next ≡ x)) ⊎ ((place ≢ other) × (slice_get w.workers other ≡ Some x))
@@ -81,6 +82,7 @@ module _ (w : World) (orderly : IsOrderly w) (action : Action) (sends : SendsWel
       | inl e ↦ inl (e, same_Some next x (sym (set-here w.workers place worker next here) ∙ ap (λ k. slice_get world.workers k) e ∙ h))
       | inr n ↦ inr (n, sym (set-there w.workers place other next n) ∙ h)
     ]
+
     -- the worker itself, at the vnode and elsewhere
     next_here : IsAware vnode.id vnode.last_epoch index turn.vnode.log next
     next_here = record {
@@ -132,6 +134,7 @@ module _ (w : World) (orderly : IsOrderly w) (action : Action) (sends : SendsWel
       }
       | inr n ↦ record { apart = f.apart; vnode = f.vnode; there = set-there w.vnodes index site turn.vnode n ∙ f.there; own_is = f.own_is }
     ]
+
     -- a site that calls are sent to or that is closed is a fallback's
     sent_fallback : (own site : ℕ) → CopiesWell w own site → IsFallback w own site
     sent_fallback own site well = elim (orderly.routed_to own site well.0) [
