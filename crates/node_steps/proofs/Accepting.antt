@@ -1,5 +1,6 @@
 -- What the machine accepts, whatever had led to the state: its checks hold, and it makes the state after the operation.
 use Rattle.std.proofs.Common.{◌≡◌, ℕ, Bool, true, false, cond, not, ◌&&◌, refl, ◌∙◌, ap, subst}
+use Rattle.std.proofs.lemmas.Bool.{not-false}
 use Rattle.std.specs.Prelude.{Option, Some, None, is_none}
 use Rattle.riak_msgs.specs.declared.Key.{Key}
 use Rattle.riak_msgs.specs.Contents.{Content}
@@ -63,13 +64,9 @@ was_accepted state (AskDel del) operation response next h = by_test (is_none del
     made : State Content
     made = apply_operation state del.key del.context Tombstone
 
-    held : (b : Bool) → (true && not b) ≡ false → b ≡ true
-    held true e = refl
-    held false e = cc
-
     by_context : (given : Option Context) → (is_none given && not (is_held state del.key)) ≡ false → update_check state del.key given (del_pairs state del.key given) ≡ None
         → AcceptsEvent state del.key given Tombstone
-    by_context None e check = (held (is_held state del.key) e, check)
+    by_context None e check = (not-false (is_held state del.key) e, check)
     by_context (Some context) e check = check
 
     by_test : (b : Bool) → (is_none del.context && not (is_held state del.key)) ≡ b

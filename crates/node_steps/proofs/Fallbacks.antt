@@ -59,26 +59,25 @@ module _ (parts : Parts) (index : ℕ) where
       by None = refl
       by (Some site) = ap (by_epoch site) e
 
+  -- it isn't diverted behind any epoch
+  never : (site : ℕ) → slice_get parts.routes.items index ≡ Some site → ((epoch : ℕ) → option_and_then (tested site epoch) (slice_get w.vnodes index) ≡ None) → diverted w index ≡ None
+  never site e none = ap by_route e ∙ by (slice_get w.epochs index)
+    where
+      by : (o : Option ℕ) → by_epoch site o ≡ None
+      by None = refl
+      by (Some epoch) = none epoch
+
   -- its calls go elsewhere, or a worker has to do with it
   pub not_free : (site : ℕ) → slice_get parts.routes.items index ≡ Some site → (site == index) && free ≡ false → diverted w index ≡ None
-  not_free site e test = ap by_route e ∙ by (slice_get w.epochs index)
+  not_free site e test = never site e (λ epoch. by_vnode epoch (slice_get w.vnodes index))
     where
       by_vnode : (epoch : ℕ) (o : Option SiteVnode) → option_and_then (tested site epoch) o ≡ None
       by_vnode epoch None = refl
       by_vnode epoch (Some vnode) = ap (λ b. cond b (Some (diverted_by w index epoch vnode)) None) test
 
-      by : (o : Option ℕ) → by_epoch site o ≡ None
-      by None = refl
-      by (Some epoch) = by_vnode epoch (slice_get w.vnodes index)
-
   -- it has no vnode
   pub no_primary : (site : ℕ) → slice_get parts.routes.items index ≡ Some site → slice_get parts.sites.items index ≡ None → diverted w index ≡ None
-  no_primary site e none = ap by_route e ∙ by (slice_get w.epochs index)
-    where
-      by : (o : Option ℕ) → by_epoch site o ≡ None
-      by None = refl
-      by (Some epoch) =
-          ap (λ o. option_and_then (tested site epoch) o) (at_none vnode_of parts.sites.items index none)
+  no_primary site e none = never site e (λ epoch. ap (λ o. option_and_then (tested site epoch) o) (at_none vnode_of parts.sites.items index none))
 
   module _ (site epoch : ℕ) (primary : Site) (routed : slice_get parts.routes.items index ≡ Some site) (behind : slice_get parts.epochs.items index ≡ Some epoch)
       (own : (site == index) && free ≡ true) (there : slice_get parts.sites.items index ≡ Some primary) where
