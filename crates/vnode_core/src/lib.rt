@@ -16,7 +16,7 @@
 //! nothing that callers see is a place, an index or a number of actors. The next `prepare` or `finish` ends the command; the room of a
 //! copy that was given up stays until room is made again, or a reap or a close ends it.
 //!
-//! Behind a gate (`rw_gate`) a vnode is a [`Kept`] state, and an [`Entry`] is what its history consists of: an [`VnodeEvent`], which is a
+//! Behind a gate (`rw_gate`) a vnode is a [`Kept`] state, and an [`Entry`] is what its history consists of: a [`VnodeEvent`], which is a
 //! command that was accepted with its answer, a copy of a key from another vnode, or the close of a vnode, after which it takes nothing
 //! more. Its change there, a [`LoggedChange`], carries for clauses alone the
 //! vnode that it was prepared from, and the two name the [`VnodeEvent`] that it makes in the gate's history, with its answer.
