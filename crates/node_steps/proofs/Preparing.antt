@@ -8,7 +8,7 @@ use Rattle.riak_msgs.specs.Contents.{Content}
 use Rattle.sibling_register.specs.Answers.{RegisterAsk as Command, AskPut, AskDel, AskReap}
 use Rattle.actor_epoch.specs.Given.{Context}
 use Rattle.dvv_set.specs.Clocks.{DotState}
-use Rattle.vnode_machine.specs.Copying.{IsClock, is_stuck}
+use Rattle.vnode_machine.specs.Copying.{IsStoredClock, is_stuck}
 use Rattle.vnode_machine.specs.Machine.{Stored, State, clock_of, is_held, stored}
 use Rattle.vnode_machine.specs.Sound.{IsFormed, IsSound}
 use Rattle.vnode_machine.specs.Asks.{put_command, del_command}
@@ -97,12 +97,12 @@ none-found state key h = by (stored state key) refl h
     by None e h = cc
     by (Some s) e h = cc
 
-pub clock-formed : (state : State Content) (key : Key) (clock : DotState (Option Content)) → IsSound state → Some clock ≡ option_map (λ (s : Stored Content). s.clock) (stored state key) → IsClock clock
+pub clock-formed : (state : State Content) (key : Key) (clock : DotState (Option Content)) → IsSound state → Some clock ≡ option_map (λ (s : Stored Content). s.clock) (stored state key) → IsStoredClock clock
 clock-formed state key clock sound h = by (stored state key) (sound.keys key) h
   where
-    by : (o : Option (Stored Content)) → IsFormed o → Some clock ≡ option_map (λ (s : Stored Content). s.clock) o → IsClock clock
+    by : (o : Option (Stored Content)) → IsFormed o → Some clock ≡ option_map (λ (s : Stored Content). s.clock) o → IsStoredClock clock
     by None f h = cc
-    by (Some s) f h = let same : s.clock ≡ clock = cc in subst IsClock same f.clock
+    by (Some s) f h = let same : s.clock ≡ clock = cc in subst IsStoredClock same f.clock
 
 accepted-some : (o : MachineOutcome) → IsAcceptedStep o → true ≡ is_some (plan_by o)
 accepted-some (Refused number) a = absurd a

@@ -1,7 +1,7 @@
 //! The clock of a key, as a copier has read it at the fallback.
 
 ghost use Rattle.std.specs.Prelude.{◌≡◌, IfOk};
-ghost use Rattle.vnode_machine.specs.Copying.{IsClock};
+ghost use Rattle.vnode_machine.specs.Copying.{IsStoredClock};
 
 use clock_store::{OwnActor, StoredClock};
 use dvv_set::Clock;
@@ -26,13 +26,13 @@ impl Model for CopiedClock {
     ghost use Rattle.std.specs.Prelude.{Option};
     ghost use Rattle.riak_msgs.specs.Contents.{Content};
     ghost use Rattle.dvv_set.specs.Clocks.{DotState};
-    ghost use Rattle.vnode_machine.specs.Copying.{IsClock};
+    ghost use Rattle.vnode_machine.specs.Copying.{IsStoredClock};
 
     ghost Value = { DotState (Option Content) };
 
     ghost view = { λ c. c.stored.clock.meaning };
 
-    ghost invariant = { λ c. IsClock c.stored.clock.meaning };
+    ghost invariant = { λ c. IsStoredClock c.stored.clock.meaning };
 }
 
 impl CopiedClock {
@@ -41,7 +41,7 @@ impl CopiedClock {
         alloc: Global,
         clock: &Clock<Option<Content>>,
     ) -> Result<CopiedClock, AllocError>
-        requires { IsClock clock.now.meaning }
+        requires { IsStoredClock clock.now.meaning }
         ensures { IfOk result (λ copied. copied ≡ clock.now.meaning) }
     {
         let clock = clock.try_clone::<CloneSibling>(alloc)?;
@@ -54,7 +54,7 @@ impl CopiedClock {
     /// The clock, as it is stored for a key.
     pub(crate) fn stored(&self) -> &StoredClock
         ensures meaning { result.now.clock.meaning ≡ self.now }
-        ensures form { IsClock self.now }
+        ensures form { IsStoredClock self.now }
     {
         &self.stored
     }
