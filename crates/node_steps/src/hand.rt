@@ -144,7 +144,8 @@ impl Hand {
         }
     }
 
-    /// How many keys a fallback has that this primary hasn't as they are there now; at most 18,446,744,073,709,551,615. Refused where memory is.
+    /// How many keys a fallback has that this primary hasn't as they are there now; at most 18,446,744,073,709,551,615. Refused where
+    /// memory is.
     pub(crate) fn left_of(&self, alloc: Global, fallback: &Hand) -> Result<u64, AllocError>
         ensures { IfOk result (λ count. count
             ≡ min (left_in self.now.state fallback.now.state) (2 ^ 64 - 1)) }
