@@ -1,13 +1,14 @@
 //! The clock of a key, as a copier has read it at the fallback.
 
 ghost use Rattle.std.specs.Prelude.{◌≡◌, IfOk};
-ghost use Rattle.vnode_machine.specs.Copying.{IsClock};
+ghost use Rattle.vnode_machine.specs.Copying.{IsStoredClock};
 
 use clock_store::{OwnActor, StoredClock};
-use dvv_set::{Clock, CloneValue};
+use dvv_set::Clock;
 use riak_msgs::Content;
 use std::alloc::{AllocError, Global};
 use std::marker::Model;
+use vnode_core::CloneSibling;
 
 /// The clock that a key had at a fallback, as its copier keeps it. Contracts see what it knows and has live.
 pub(crate) struct CopiedClock {
@@ -25,28 +26,13 @@ impl Model for CopiedClock {
     ghost use Rattle.std.specs.Prelude.{Option};
     ghost use Rattle.riak_msgs.specs.Contents.{Content};
     ghost use Rattle.dvv_set.specs.Clocks.{DotState};
-    ghost use Rattle.vnode_machine.specs.Copying.{IsClock};
+    ghost use Rattle.vnode_machine.specs.Copying.{IsStoredClock};
 
     ghost Value = { DotState (Option Content) };
 
     ghost view = { λ c. c.stored.clock.meaning };
 
-    ghost invariant = { λ c. IsClock c.stored.clock.meaning };
-}
-
-/// Copies of siblings.
-struct Sibling;
-
-impl CloneValue<Option<Content>> for Sibling {
-    fn clone_value(
-        sibling: &Option<Content>,
-        _alloc: Global,
-    ) -> Result<Option<Content>, AllocError> {
-        match sibling {
-            None => Ok(None),
-            Some(content) => Ok(Some(content.clone()?)),
-        }
-    }
+    ghost invariant = { λ c. IsStoredClock c.stored.clock.meaning };
 }
 
 impl CopiedClock {
@@ -55,10 +41,10 @@ impl CopiedClock {
         alloc: Global,
         clock: &Clock<Option<Content>>,
     ) -> Result<CopiedClock, AllocError>
-        requires { IsClock clock.now.meaning }
+        requires { IsStoredClock clock.now.meaning }
         ensures { IfOk result (λ copied. copied ≡ clock.now.meaning) }
     {
-        let clock = clock.try_clone::<Sibling>(alloc)?;
+        let clock = clock.try_clone::<CloneSibling>(alloc)?;
         let actor = OwnActor::none();
         Ok(CopiedClock {
             stored: StoredClock { actor, clock },
@@ -68,7 +54,7 @@ impl CopiedClock {
     /// The clock, as it is stored for a key.
     pub(crate) fn stored(&self) -> &StoredClock
         ensures meaning { result.now.clock.meaning ≡ self.now }
-        ensures form { IsClock self.now }
+        ensures form { IsStoredClock self.now }
     {
         &self.stored
     }

@@ -17,17 +17,17 @@ ghost use Rattle.node_steps.specs.Gates.{RunsAreScheduled};
 /// divert a partition to a fallback, which has a history of its own, copy keys back from there, close it, so that the calls go to
 /// the primary again, and divert the partition once more. *One thread*: the history is legal and has a replay where no command
 /// follows a copy (`histories`); the state that any look shows is the one after the log, which is that replay where nothing was
-/// copied (`looks`), as it is where a worker has a call, unless a fallback of its partition was closed (`uncopied`); what comes of
-/// a look for a call is what the vnode machine does with it in that state, and where that is closed the call is turned away to the
-/// primary (`looked`). *Is answered*: nothing is answered where the state is closed, and each reply, a refusal too, the register
-/// may give at the end of the history at its look, or, of an accepted command, at its publish, by which the history has just that
-/// event more, where nothing was copied (`answers`); no other step changes a log, but a copy, which carries the clock that its key
-/// has at the fallback then, and the fallback's history, and a close, before which each key that the fallback holds is copied as it
-/// is there, and which carries the number of commands that the primary accepted (`nothing_else`). *Had seen*: the worker had seen no
-/// more than that history, and has seen all of it afterwards, its own event too (`seen`). *No second time*: whatever the keys and
-/// lives (`dots`); a key is in a life exactly where it is defined (`lives`). *Unless .. had seen it*: a value leaves only by a write
-/// or delete whose context covers its dot, or by a delete without context (`covered`); and where each context that was given for its
-/// key at a site had been shown for it there, such a write or delete had seen the value (`left`).
+/// copied (`looks`), as it is where a worker has a call, unless a fallback of its partition was closed, and until then no command
+/// follows a copy (`uncopied`); what comes of a look for a call is what the vnode machine does with it in that state, and where that is
+/// closed the call is turned away to the primary (`looked`). *Is answered*: nothing is answered where the state is closed, and each
+/// reply, a refusal too, the register may give at the end of the history at its look, or, of an accepted command, at its publish, by
+/// which the history has just that event more, where nothing was copied (`answers`); no other step changes a log, but a copy, which
+/// carries the clock that its key has at the fallback then, and the fallback's history, and a close, before which each key that the
+/// fallback holds is copied as it is there, and which carries the number of commands that the primary accepted (`nothing_else`). *Had
+/// seen*: the worker had seen no more than that history, and has seen all of it afterwards, its own event too (`seen`). *No second
+/// time*: whatever the keys and lives (`dots`); a key is in a life exactly where it is defined (`lives`). *Unless .. had seen it*: a
+/// value leaves only by a write or delete whose context covers its dot, or by a delete without context (`covered`); and where each
+/// context that was given for its key at a site had been shown for it there, such a write or delete had seen the value (`left`).
 ///
 /// Where each context that was given for a key at a site of a partition had been shown for it at one of them, its primary and its
 /// fallbacks, with the copies between, are a hand-off (`handed_off`, `specs/HandOffs`), also behind copies: each command saw what it
