@@ -72,7 +72,7 @@ fn compare(
         (option_and_then call_of (option_copied call.entry)) comparison.old) }
 {
     match call {
-        Some(Step::RegisterAsk(_, _, request)) => comparison.reply(alloc, line, request, reply),
+        Some(Step::Ask(_, _, request)) => comparison.reply(alloc, line, request, reply),
         _ => Ok(()),
     }
 }
@@ -95,20 +95,8 @@ fn tell(comparison: &mut Comparison, call: &Step)
     ensures { comparison.new
         ≡ option_map_or (λ ask. after_call ask comparison.old) (call_of call.now) comparison.old }
 {
-    match call {
-        Step::RegisterAsk(_, _, request) => comparison.call(request),
-        Step::Reap(_, _, _)
-        | Step::Enter(_)
-        | Step::Leave(_)
-        | Step::Mark(_)
-        | Step::Unmark(_)
-        | Step::Take(_)
-        | Step::Put(_)
-        | Step::Look(_)
-        | Step::Publish(_)
-        | Step::Divert(_)
-        | Step::Copy(_, _, _)
-        | Step::Close(_, _) => {}
+    if let Step::Ask(_, _, request) = call {
+        comparison.call(request);
     }
 }
 

@@ -61,11 +61,6 @@ asked_refused workers worker text number digits NoMemory few cut is is_worker re
   bytes = reads.1.bytes;
 }
 
--- the bytes behind a byte, and the byte
-abbrev behind : List ℕ → List ℕ
-behind [] = []
-behind (x ∷ xs) = xs
-
 -- operands ask for one request
 pub asks_one : (workers u v : ℕ) (text : List ℕ) (a b : Request) → workers < 2 ^ 16 → Asks workers text u a
     → Asks workers text v b → a ≡ b
