@@ -70,5 +70,6 @@ fn write_end<W: Write>(alloc: Global, player: &Player, writer: &mut W) -> Result
 {
     let line = write_verdict(alloc, player.referee.verdict())?;
     send(writer, line.as_slice())?;
-    flush(writer)
+    flush(writer)?;
+    Ok(())
 }

@@ -1,5 +1,5 @@
 -- Where a text is cut at its first byte of a kind is settled by the text.
-use Rattle.std.proofs.Common.{◌≡◌, ℕ, ◌==◌, not, List, [], ◌∷◌, ◌++◌, ◌<◌, length, take, drop, true, false, Bool, if◌then◌else◌, sym, refl, ap, ◌∙◌, arith}
+use Rattle.std.proofs.Common.{◌≡◌, ℕ, ◌==◌, not, List, [], ◌∷◌, ◌++◌, ◌<◌, length, take, drop, true, if◌then◌else◌, sym, refl, ap, ◌∙◌, arith}
 use Rattle.std.proofs.lemmas.Bool.{and_parts, not-true as is_false}
 use Rattle.std.proofs.lemmas.List.{take_all, drop_all}
 use Rattle.std.specs.List.{list_all}

@@ -1,5 +1,5 @@
 -- What a message asks for, and that it asks for one request.
-use Rattle.std.proofs.Common.{◌≡◌, ℕ, List, [], ◌∷◌, Result, Ok, Err, sym, ap, ◌∙◌, subst}
+use Rattle.std.proofs.Common.{◌≡◌, ℕ, List, ◌∷◌, Result, Ok, Err, sym, ap, ◌∙◌, subst}
 use Rattle.riak_msgs.specs.declared.request.Request.{Request}
 use Rattle.riak_msgs.specs.declared.fault.MsgFault.{MsgFault}
 use Rattle.riak_msgs.specs.declared.fault.MsgFault.TheVariants as faults

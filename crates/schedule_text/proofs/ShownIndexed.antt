@@ -10,7 +10,7 @@ use Rattle.std.proofs.lemmas.Bool.Decides.{nat_tests}
 use Rattle.riak_msgs.specs.declared.Key.{Key}
 use Rattle.riak_msgs.specs.KeyOrder.{key_eq}
 use Rattle.actor_epoch.specs.declared.dot.Dot.{Dot}
-use Rattle.actor_epoch.specs.Dots.{actor_eq, dot_eq}
+use Rattle.actor_epoch.specs.Dots.{dot_eq}
 use Rattle.actor_epoch.specs.Given.{context_of, pairs_read}
 use Rattle.schedule_text.specs.declared.shown_context.ShownContext.{ShownContext}
 use Rattle.schedule_text.specs.Compared.{is_of, position_of}
