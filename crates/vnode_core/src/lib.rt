@@ -15,7 +15,7 @@
 //! [`Change`] is that command and nothing else. Room, the actor and the answer that were made for it lie in the vnode, so
 //! nothing that callers see is a place, an index or a number of actors; the next `prepare` or `finish` ends it.
 //!
-//! Behind a gate (`rw_gate`) a vnode is a [`Kept`] state, and an [`Entry`] is what its history consists of: an [`VnodeEvent`], which is a
+//! Behind a gate (`rw_gate`) a vnode is a [`Kept`] state, and an [`Entry`] is what its history consists of: a [`VnodeEvent`], which is a
 //! command that was accepted with its answer, a copy of a key from another vnode, or the close of a vnode, after which it takes nothing
 //! more. Its change there, a [`LoggedChange`], carries for clauses alone the
 //! vnode that it was prepared from, and the two name the [`VnodeEvent`] that it makes in the gate's history, with its answer.
