@@ -3,10 +3,9 @@ use Rattle.std.specs.Prelude.{◌≡◌, ℕ, Option, Some, None, option_map}
 use Rattle.riak_msgs.specs.declared.Key.{Key}
 use Rattle.riak_msgs.specs.Contents.{Content}
 use Rattle.riak_msgs.specs.declared.Request.{Request}
-use Rattle.riak_msgs.specs.declared.Request.TheVariants as requests
-use Rattle.sibling_register.specs.Answers.{RegisterAsk, AskGet, AskPut, AskDel, AskReap}
+use Rattle.sibling_register.specs.Answers.{RegisterAsk, AskReap}
 use Rattle.actor_epoch.specs.Given.{Context}
-use Rattle.vnode_machine.specs.Asks.{get_command, put_command, del_command}
+pub use Rattle.vnode_machine.specs.Asks.{request_ask}
 use Rattle.node_steps.specs.declared.call.Call.{Call}
 use Rattle.node_steps.specs.declared.step.Step.{Step as RunStep}
 use Rattle.node_steps.specs.declared.step.Step.TheVariants as steps
@@ -14,13 +13,6 @@ use Rattle.node_steps.specs.declared.step.Act.{Act}
 use Rattle.node_steps.specs.declared.step.Act.TheVariants as acts
 use Rattle.node_steps.specs.Steps.{Action, Asks, AsksNowhere, Copies, Closes, Enters, Leaves, Marks, Unmarks, Takes, Puts, Looks, Publishes, Step, By, Diverts}
 use Rattle.node_steps.specs.Running.{ask_of}
-
--- the ask that a request makes of a vnode; a ping makes none
-abbrev pub request_ask : Request → Option (RegisterAsk Content Context)
-request_ask requests.Ping = None
-request_ask (requests.Get get) = Some (AskGet (get_command get))
-request_ask (requests.Put put) = Some (AskPut (put_command put))
-request_ask (requests.Del del) = Some (AskDel (del_command del))
 
 -- the call asks what the request does
 abbrev pub CallsFor : Request → Option Call → Type 0

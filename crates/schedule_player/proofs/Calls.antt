@@ -11,10 +11,11 @@ use Rattle.riak_msgs.specs.declared.Request.TheVariants as requests
 use Rattle.riak_msgs.specs.declared.reply.Reply.{Reply}
 use Rattle.sibling_register.specs.Answers.{RegisterAsk}
 use Rattle.actor_epoch.specs.Given.{Context}
-use Rattle.schedule_text.specs.Compared.{Compared, ask_of, after_call, after_reply}
+use Rattle.vnode_machine.specs.Asks.{request_ask}
+use Rattle.schedule_text.specs.Compared.{Compared, after_call, after_reply}
 use Rattle.node_steps.specs.declared.step.Step.{Step as RunStep}
 use Rattle.node_steps.specs.declared.outcome.Outcome.TheVariants as outcomes
-use Rattle.node_steps.specs.Asked.{request_ask, asks_by}
+use Rattle.node_steps.specs.Asked.{asks_by}
 use Rattle.node_steps.proofs.Erasing.{map-set}
 use Rattle.schedule_player.specs.Calls.{call_in, call_of}
 use Rattle.schedule_player.specs.Heard.{Heard, Calls, after_act, asked_by, last_call, replied, with_call}
@@ -26,7 +27,7 @@ map-one f xs xs' x n y more is before =
     ap (map f) more ∙ map-append f xs (x ∷ []) ∙ ap (λ ys. ys ++ f x ∷ []) before ∙ ap (λ z. replicate n y ++ z ∷ []) is ∙ replicate_more n y
 
 -- what a step asks is what its request does
-pub asked_is : (index : ℕ) (request : Request) → asked_by (asks_by index (request_ask request)) ≡ ask_of request
+pub asked_is : (index : ℕ) (request : Request) → asked_by (asks_by index (request_ask request)) ≡ request_ask request
 asked_is index requests.Ping = refl
 asked_is index (requests.Get get) = refl
 asked_is index (requests.Put put) = refl
@@ -34,7 +35,7 @@ asked_is index (requests.Del del) = refl
 
 -- a request's reply, by what the step asks
 pub replied_is : (line index : ℕ) (request : Request) (reply : Reply) (known : Compared)
-    → option_map_or (λ ask. after_reply line ask reply known) (ask_of request) known
+    → option_map_or (λ ask. after_reply line ask reply known) (request_ask request) known
     ≡ option_map_or (λ ask. replied line reply ask known) (asked_by (asks_by index (request_ask request))) known
 replied_is line index requests.Ping reply known = refl
 replied_is line index (requests.Get get) reply known = refl
