@@ -1,10 +1,11 @@
 -- What the machine accepts, whatever had led to the state: its checks hold, and it makes the state after the operation.
-use Rattle.std.proofs.Common.{◌≡◌, ℕ, Bool, true, false, cond, not, ◌&&◌, List, ◌∷◌, refl, ◌∙◌, ap, subst}
+use Rattle.std.proofs.Common.{◌≡◌, ℕ, Bool, true, false, cond, not, ◌&&◌, refl, ◌∙◌, ap, subst}
+use Rattle.std.proofs.lemmas.Bool.{not-false}
 use Rattle.std.specs.Prelude.{Option, Some, None, is_none}
 use Rattle.riak_msgs.specs.declared.Key.{Key}
 use Rattle.riak_msgs.specs.Contents.{Content}
 use Rattle.sibling_register.specs.History.{Operation, Write, Tombstone, Reap}
-use Rattle.sibling_register.specs.Refusals.{first_of, bad_context, match_found, not_found, modified}
+use Rattle.sibling_register.specs.Refusals.{bad_context, match_found, not_found, modified}
 use Rattle.sibling_register.specs.Answers.{RegisterAsk, AskGet, AskPut, AskDel, AskReap}
 use Rattle.actor_epoch.specs.Given.{Context}
 use Rattle.vnode_machine.specs.Machine.{State, has_value, is_held, holds_dead, is_bad_context, matches_clock, room_checks, pairs_of, del_pairs, update_check, put_check, del_check, apply_operation}
@@ -12,6 +13,7 @@ use Rattle.vnode_machine.specs.Replay.{AcceptsEvent}
 use Rattle.vnode_machine.specs.Replies.{put_reply}
 use Rattle.vnode_machine.specs.Step.{Response, PutDone, DelDone, ReapDone, ReapKept, Answered, Accepted, unless_refused, outcome as outcome_of_ask}
 use Rattle.vnode_machine.specs.Registers.{key_of, context_in_ask}
+use Rattle.vnode_machine.proofs.Formed.{without_options}
 
 -- by the first check that holds
 accepted_by : (state : State Content) (key : Key) (given : Option Context) (made operation : Operation Content) (said response : Response) (next : State Content) (check : Option ℕ)
@@ -40,14 +42,6 @@ accepted_is state (AskReap key) operation response next h = by (holds_dead state
     by true h = accepted_by state key None Reap operation ReapDone response next None h
     by false h = cc
 
--- where no check of a put refuses, none does that all writes have
-puts_accepted : (a b c d : Bool) (m n o p : ℕ) (rooms : List (Bool × ℕ)) → first_of ((a, m) ∷ (b, n) ∷ (c, o) ∷ (d, p) ∷ rooms) ≡ None → first_of ((a, m) ∷ rooms) ≡ None
-puts_accepted true b c d m n o p rooms h = cc
-puts_accepted false true c d m n o p rooms h = cc
-puts_accepted false false true d m n o p rooms h = cc
-puts_accepted false false false true m n o p rooms h = cc
-puts_accepted false false false false m n o p rooms h = h
-
 refused_none : (check : Option ℕ) (made operation : Operation Content) (said response : Response) (then next : State Content)
     → unless_refused check (Accepted made said then) ≡ Accepted operation response next → (check ≡ None) × (made ≡ operation)
 refused_none None made operation said response then next h = (refl, cc)
@@ -60,7 +54,7 @@ was_accepted state (AskGet get) operation response next h = cc
 was_accepted state (AskPut put) operation response next h =
     let made = apply_operation state put.key put.context (Write put.value) in
     let both = refused_none (put_check state put) (Write put.value) operation (PutDone (put_reply made put)) response made next h in
-    subst (λ o. AcceptsEvent state put.key put.context o) both.1 (puts_accepted (is_bad_context state put.key put.context)
+    subst (λ o. AcceptsEvent state put.key put.context o) both.1 (without_options (is_bad_context state put.key put.context)
     (put.if_none_match && has_value state put.key)
     ((put.if_not_modified && not put.if_none_match) && not (has_value state put.key))
     ((put.if_not_modified && not put.if_none_match) && not (matches_clock state put.key put.context))
@@ -70,13 +64,9 @@ was_accepted state (AskDel del) operation response next h = by_test (is_none del
     made : State Content
     made = apply_operation state del.key del.context Tombstone
 
-    held : (b : Bool) → (true && not b) ≡ false → b ≡ true
-    held true e = refl
-    held false e = cc
-
     by_context : (given : Option Context) → (is_none given && not (is_held state del.key)) ≡ false → update_check state del.key given (del_pairs state del.key given) ≡ None
         → AcceptsEvent state del.key given Tombstone
-    by_context None e check = (held (is_held state del.key) e, check)
+    by_context None e check = (not-false (is_held state del.key) e, check)
     by_context (Some context) e check = check
 
     by_test : (b : Bool) → (is_none del.context && not (is_held state del.key)) ≡ b

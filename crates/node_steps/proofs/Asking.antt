@@ -2,12 +2,13 @@
 use Rattle.std.proofs.Common.{◌≡◌, ℕ, zero, suc, ◌<◌, ◌≤◌, Bool, true, false, cond, not, ◌&&◌, List, length, refl, sym, ◌∙◌, ap, subst}
 use Rattle.std.specs.Prelude.{◌==◌, Option, Some, None, option_map, option_and_then, slice_get, slice_set}
 use Rattle.std.specs.Option.{option_map_or}
-use Rattle.std.proofs.lemmas.Option.{slice_get-map, slice_get_past}
+use Rattle.std.proofs.lemmas.Option.{slice_get_past}
 use Rattle.riak_msgs.specs.Contents.{Content}
 use Rattle.riak_msgs.specs.declared.Request.{Request}
 use Rattle.sibling_register.specs.Answers.{RegisterAsk}
 use Rattle.actor_epoch.specs.Given.{Context}
 use Rattle.vnode_machine.specs.Replay.{History}
+use Rattle.vnode_machine.specs.Asks.{request_ask}
 use Rattle.node_steps.specs.declared.call.Call.{Call}
 use Rattle.node_steps.specs.declared.outcome.Outcome.TheVariants as outcomes
 use Rattle.node_steps.specs.declared.phase.Phase.{Phase as RunPhase}
@@ -17,10 +18,10 @@ use Rattle.node_steps.specs.declared.parts.Parts.{Parts}
 use Rattle.node_steps.specs.World.{Phase, Idle, Asked, Reading, Holding, Done, Turned, Copying, Closing, Brought, SiteVnode, Worker, World, route, seen_at, brought_by}
 use Rattle.node_steps.specs.Steps.{Asks, AsksNowhere, is_reap, sent, routed, By, site_of, acts, happens, turn_of}
 use Rattle.node_steps.specs.Running.{ask_of, vnode_of, worker_of, world_of}
-use Rattle.node_steps.specs.Asked.{CallsFor, asking_step, asks_by, request_ask}
+use Rattle.node_steps.specs.Asked.{CallsFor, asking_step, asks_by}
 use Rattle.node_steps.specs.Parts.{FindsIdle, SendsTo, TakesRunStep, world_in}
 use Rattle.node_steps.proofs.Looking.{vnode_itself}
-use Rattle.node_steps.proofs.Mapped.{set-same}
+use Rattle.node_steps.proofs.Mapped.{set-same, at_none}
 use Rattle.node_steps.proofs.Stepping.{not_possible, result_at, Steps, step_taken, no_worker, at_one, no_turn, NoTurn, asking_sent, is_busy}
 
 -- nobody is asked a ping
@@ -86,7 +87,7 @@ module _ (sites : List Site) (routes epochs : List ℕ) (workers : List RunPhase
   busy_or_none (suc place) index ask h = by (slice_get workers place) refl
     where
       by : (o : Option RunPhase) → slice_get workers place ≡ o → happens w (asking_step (suc place) index ask) ≡ None
-      by None e = no_worker w place (routed (route w) (Asks index ask)) (slice_get-map worker_of workers place ∙ ap (λ o. option_map worker_of o) e)
+      by None e = no_worker w place (routed (route w) (Asks index ask)) (at_none worker_of workers place e)
       by (Some phase) e = is_busy sites routes epochs workers place (Asks index ask) phase e (h place phase refl e) (asking_sent index ask (route w index))
 
   pub not_asked : (worker index : ℕ) (ask : RegisterAsk Content Context) → FindsIdle workers worker None → TakesRunStep w (asking_step worker index ask) outcomes.No w
@@ -131,12 +132,9 @@ module _ (parts : Parts) (index : ℕ) (ask : RegisterAsk Content Context) where
   without_site site e past worker =
       goes (Some site) e worker ∙ by (not (site == index) && is_reap ask)
     where
-      nobody : slice_get (world_in parts).vnodes site ≡ None
-      nobody = slice_get-map vnode_of parts.sites.items site ∙ ap (λ o. option_map vnode_of o) (slice_get_past parts.sites.items site past)
-
       by : (b : Bool) → acts (world_in parts) worker (cond b AsksNowhere (Asks site ask)) ≡ None
       by true = asks_nowhere (world_in parts) worker
-      by false = asks_past (world_in parts) site ask nobody worker
+      by false = asks_past (world_in parts) site ask (at_none vnode_of parts.sites.items site (slice_get_past parts.sites.items site past)) worker
 
   -- it goes to the site of its partition's calls
   pub sends_there : (site : ℕ) → route (world_in parts) index ≡ Some site → not (site == index) && is_reap ask ≡ false → site < length parts.sites.items

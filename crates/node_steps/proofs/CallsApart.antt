@@ -1,6 +1,9 @@
 -- Calls of a partition that is diverted are at its fallback, which is open, and nothing was copied but to such a partition, or one that
 -- was: so it is before any step, and after a step at one site.
-use Rattle.std.proofs.Common.{◌≡◌, ◌≢◌, ◌⊎◌, inl, inr, ℕ, ◌<◌, ◌≤◌, true, false, not, ◌&&◌, [], ◌∷◌, length, refl, sym, ◌∙◌, ap, arith, subst}
+use Rattle.std.proofs.Common.{◌≡◌, ◌≢◌, ◌⊎◌, inl, inr, ℕ, ◌<◌, true, false, not, ◌&&◌, [], ◌∷◌, length, refl, sym, ◌∙◌, ap, subst}
+use Rattle.std.proofs.Math.Nat.{zero-add}
+use Rattle.std.proofs.lemmas.Option.{none-some}
+use Rattle.std.proofs.lemmas.Bool.{false≢true}
 use Rattle.std.specs.Prelude.{◌==◌, pred, Option, Some, None, slice_get}
 use Rattle.std.specs.Option.{option_map_or}
 use Rattle.riak_msgs.specs.Contents.{Content}
@@ -15,7 +18,7 @@ use Rattle.node_steps.specs.Contexts.{call_by}
 use Rattle.node_steps.specs.Schedules.{Start}
 use Rattle.node_steps.specs.Claims.{state_at, HadClose}
 use Rattle.node_steps.proofs.Lists.{how_many, set-here, set-there, same_or_other, get-replicate, get-below}
-use Rattle.node_steps.proofs.Own.{own_is, from_zero}
+use Rattle.node_steps.proofs.Own.{own_is}
 use Rattle.node_steps.proofs.Inside.{reads, holds, state_of, IsOpenAt, false_true}
 use Rattle.node_steps.proofs.Coming.{between_in, is_turned, CallIs, Comes}
 use Rattle.node_steps.proofs.Kept.{IsOrderly, IsPossible}
@@ -49,24 +52,15 @@ empty-opening run vnodes site = by (slice_get (opening_vnodes run 0 vnodes) site
     by None h = refl
     by (Some v) h = ap (λ (u : SiteVnode). u.log) (opened run 0 vnodes site v h).1
 
-pub no_call : (call : Call) → None ≡ Some call → ⊥
-no_call call h = cc
-
-not_turned : false ≡ true → ⊥
-not_turned h = cc
-
 pub apart-opening : (start : Start) → IsApart (opening_world start.run start.workers start.vnodes)
 apart-opening start = record {
   away = λ index to h n place worker k call asked v there own.
-      absurd (no_call call (ap (λ (x : Worker). call_of x.phase) (sym (get-replicate start.workers place fresh_worker worker k)) ∙ asked));
-  clear = λ index to h n v there. absurd (n (own_is 0 start.vnodes index to h ∙ from_zero index));
+      absurd (none-some call (ap (λ (x : Worker). call_of x.phase) (sym (get-replicate start.workers place fresh_worker worker k)) ∙ asked));
+  clear = λ index to h n v there. absurd (n (own_is 0 start.vnodes index to h ∙ zero-add index));
   turned_there = λ place worker k own site turned between v there open_there.
-      not_turned (ap (λ (x : Worker). is_turned x.phase) (sym (get-replicate start.workers place fresh_worker worker k)) ∙ turned);
+      false≢true (ap (λ (x : Worker). is_turned x.phase) (sym (get-replicate start.workers place fresh_worker worker k)) ∙ turned);
   logs = λ site. inl (subst CommandsAlone (sym (empty-opening start.run start.vnodes site)) refl);
 }
-
-pub below_past : (a n : ℕ) → a < n → n ≤ a → ⊥
-below_past a n h k = omega (arith, h, k)
 
 -- the number of the close at a site, where there is one
 abbrev pub closed_in : Option SiteVnode → Option ℕ
@@ -150,7 +144,7 @@ module _ (w : World) (orderly : IsOrderly w) (number : ℕ) (action : Action) (r
     where
       by : (old : SiteVnode) → slice_get w.vnodes call.site ≡ Some old → old.own ≡ index → CallIs action p.worker.phase p.turn.phase → call_of p.turn.phase ≡ Some call → call.site ≡ to
       by old there own (inl same) k = is.away index to route n (pred number) p.worker (here w orderly number action r p) call (sym same ∙ k) old there own
-      by old there own (inr (inl none)) k = absurd (no_call call (sym none ∙ k))
+      by old there own (inr (inl none)) k = absurd (none-some call (sym none ∙ k))
       by old there own (inr (inr new)) k =
           let same : new.0 ≡ call = some_back new.0 call (sym new.1 ∙ k) in
           called call (new.2 ∙ ap (λ (c : Call). Some c) same) index to route n old there own

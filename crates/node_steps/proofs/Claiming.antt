@@ -17,7 +17,7 @@ use Rattle.node_steps.proofs.CloseSteps.{IsJudgement, IsClose, acts_cases}
 use Rattle.node_steps.proofs.Closes.{close_here, close_hand, close_route, close_vnode, close_world}
 use Rattle.node_steps.proofs.Quiet.{close_log}
 use Rattle.node_steps.proofs.Judged.{AreJudged}
-use Rattle.node_steps.proofs.Lifting.{not_replied, no_reply, log-diverted, step_answers, step_nothing_else, step_seen}
+use Rattle.node_steps.proofs.Lifting.{not_replied, no_reply, log-diverted, step_answers, step_nothing_else, step_seen, only_happened}
 
 abbrev then : World → Option (World × Outcome) → World × Outcome
 then w o = (option_map_or (λ r. r.0) o w, option_map_or (λ r. r.1) o NotPossible)
@@ -31,9 +31,6 @@ judged_silent : (own site : ℕ) (hand primary : State Content) (closed : Bool) 
 judged_silent own site hand primary true left reply h = cc
 judged_silent own site hand primary false zero reply h = cc
 judged_silent own site hand primary false (suc left) reply h = cc
-
-happened_silent : (reply : Result Response ℕ) → Happened ≡ Replied reply → ⊥
-happened_silent reply h = cc
 
 -- the claims, by the world after what a worker does and what comes of it
 module _ (w : World) (number : ℕ) where
@@ -60,7 +57,7 @@ module _ (w : World) (number : ℕ) where
     silent_judged r j reply h = judged_silent j.own j.site j.hand j.primary.place (is_some j.hand.closed) (left_in j.primary.place j.hand) reply (ap (λ (q : World × Outcome). q.1) j.gives ∙ h)
 
     pub silent_closed : (r : World × Outcome) → IsClose w number action r → (reply : Result Response ℕ) → r.1 ≡ Replied reply → ⊥
-    silent_closed r c reply h = happened_silent reply (ap (λ (q : World × Outcome). q.1) c.gives ∙ h)
+    silent_closed r c reply h = only_happened reply (ap (λ (q : World × Outcome). q.1) c.gives ∙ h)
 
     answers_by : (o : Option (World × Outcome)) → acts w number action ≡ o → AnswersBy (then w o)
     answers_by None h = λ reply e. absurd (not_replied reply e)

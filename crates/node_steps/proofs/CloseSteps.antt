@@ -1,10 +1,11 @@
 -- A closer's look and its publish, the two steps that are about two sites; and that what is always true stays so at the look.
-use Rattle.std.proofs.Common.{◌≡◌, ◌≢◌, ◌⊎◌, inl, inr, ℕ, ◌+◌, ◌<◌, ◌≤◌, Bool, true, false, zero, suc, List, [], ◌∷◌, length, refl, sym, ◌∙◌, ap, arith, subst}
+use Rattle.std.proofs.Common.{◌≡◌, ◌≢◌, ◌⊎◌, inl, inr, ℕ, ◌+◌, ◌≤◌, Bool, true, false, zero, suc, List, [], ◌∷◌, length, refl, sym, ◌∙◌, ap, arith, subst}
 use Rattle.std.specs.Prelude.{pred, Option, Some, None, is_some, slice_get, slice_set}
 use Rattle.std.specs.Option.{option_map_or}
 use Rattle.riak_msgs.specs.Contents.{Content}
 use Rattle.vnode_machine.specs.Machine.{State}
 use Rattle.vnode_machine.specs.Replay.{History}
+use Rattle.vnode_machine.proofs.Tests.{none-from, unmapped}
 use Rattle.node_steps.specs.World.{CloseInside, CloseLooked, CloseDone, Phase, Closing, SiteVnode, Worker, World, worker_at, seen_at, history_of}
 use Rattle.node_steps.specs.Steps.{Action, Looks, Publishes, Outcome, Happened, left_in, judged, judged_by, closed_by, closes, seeing, is_about, does, acts}
 use Rattle.node_steps.specs.Schedules.{Begins}
@@ -12,8 +13,8 @@ use Rattle.node_steps.proofs.Lists.{one, how_many, set-here, set-there, same_or_
 use Rattle.node_steps.proofs.Beginnings.{begins-itself}
 use Rattle.node_steps.proofs.Inside.{is_reader, is_holder, reads, holds, IsInHand, state_of, IsSound, IsAware}
 use Rattle.node_steps.proofs.Coming.{between_in}
-use Rattle.node_steps.proofs.Turns.{none_of}
-use Rattle.node_steps.proofs.Kept.{IsOrderly, and_then_some, map_some, at_place, seeing-here, seeing-there}
+use Rattle.node_steps.proofs.Kept.{IsOrderly, and_then_some, at_place, seeing-here, seeing-there}
+use Rattle.node_steps.proofs.Numbers.{not_past}
 pub use Rattle.std.proofs.lemmas.Option.{same_Some as some_back}
 
 -- a closer's look that is possible
@@ -63,7 +64,7 @@ acts_cases w number action r h =
     by worker is Looks e (Closing own site (CloseInside hand)) f h = elim (chosen (closes w number worker Looks (Closing own site (CloseInside hand))) (does w number action) h) [
       | inl k ↦
           let a = and_then_some _ (slice_get w.vnodes site) r k in
-          let b = map_some _ (slice_get w.vnodes own) r a.2 in
+          let b = unmapped _ (slice_get w.vnodes own) r a.2 in
           inr (inl (record {
             worker = worker;
             own = own;
@@ -82,7 +83,7 @@ acts_cases w number action r h =
     ]
     by worker is Publishes e (Closing own site (CloseLooked hand count)) f h = elim (chosen (closes w number worker Publishes (Closing own site (CloseLooked hand count))) (does w number action) h) [
       | inl k ↦
-          let a = map_some _ (slice_get w.vnodes site) r k in
+          let a = unmapped _ (slice_get w.vnodes site) r k in
           inr (inr (record {
             worker = worker;
             own = own;
@@ -171,9 +172,6 @@ module _ (w : World) (orderly : IsOrderly w) (place : ℕ) (worker next : Worker
     ];
   }
 
-pub not_past : (a n b : ℕ) → a < n → n ≤ b → a ≡ b → ⊥
-not_past a n b h k e = omega (arith, h, k, e)
-
 module _ (w : World) (orderly : IsOrderly w) (number : ℕ) (action : Action) (r : World × Outcome) (j : IsJudgement w number action r) where
   abbrev place : ℕ
   place = pred number
@@ -231,5 +229,5 @@ module _ (w : World) (orderly : IsOrderly w) (number : ℕ) (action : Action) (r
     where
       by : (closed : Bool) → is_some j.hand.closed ≡ closed → (left : ℕ) → IsOrderly (over (judged j.own j.site j.hand j.primary.place closed left).0)
       by true e left = judged-done
-      by false e zero = judged-looked _ (none_of j.hand.closed e)
+      by false e zero = judged-looked _ (none-from j.hand.closed e)
       by false e (suc left) = judged-done

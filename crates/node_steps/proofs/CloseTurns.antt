@@ -15,9 +15,7 @@ use Rattle.node_steps.proofs.Coming.{is_looked, BetweenIs}
 use Rattle.node_steps.proofs.Lists.{one, no_more, cancel}
 use Rattle.node_steps.proofs.Inside.{FitsWord, state_of, IsInPlace, IsInHand, other_test, StaysAt}
 use Rattle.node_steps.proofs.Turns.{same_number, one_of, Goes, IsTurn, not_between, one_same, fits_same, turns, moved, laid, lay_fits, leave_fits, left_place}
-
-apart : (a b c : ℕ) → a ≡ b → b ≢ c → a ≢ c
-apart a b c e n = λ f. n (sym e ∙ f)
+use Rattle.node_steps.proofs.Numbers.{apart}
 
 module _ (id epoch home index readers holders : ℕ) where
   -- a closer goes on, between the same sites

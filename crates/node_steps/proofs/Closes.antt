@@ -2,6 +2,7 @@
 use Rattle.std.proofs.Common.{◌≡◌, ◌≢◌, ◌⊎◌, inl, inr, ℕ, ◌<◌, ◌≤◌, true, ◌∷◌, length, refl, sym, ◌∙◌, ap, arith, subst}
 use Rattle.std.specs.Prelude.{pred, Some, None, slice_get, slice_set}
 use Rattle.std.proofs.lemmas.Bool.{cases_lt}
+use Rattle.std.proofs.lemmas.Option.{none-some}
 use Rattle.riak_msgs.specs.Contents.{Content}
 use Rattle.actor_epoch.specs.Limits.{max_epoch}
 use Rattle.vnode_machine.specs.Machine.{State}
@@ -15,7 +16,8 @@ use Rattle.node_steps.proofs.Lists.{how_many, set-here, set-there, same_or_other
 use Rattle.node_steps.proofs.Inside.{is_reader, is_holder, reads, holds, IsInHand, same_test, no_hand, state_of, IsOpenAt, IsSound, IsPlain, IsAware, IsInPlace, FitsWord, closed-mixed}
 use Rattle.node_steps.proofs.Coming.{between_in}
 use Rattle.node_steps.proofs.Kept.{IsFallback, IsOrderly, at_place, outside}
-use Rattle.node_steps.proofs.CloseSteps.{IsClose, some_back, count_same, set_is, set_cases, not_past}
+use Rattle.node_steps.proofs.CloseSteps.{IsClose, some_back, count_same, set_is, set_cases}
+use Rattle.node_steps.proofs.Numbers.{not_past}
 
 module _ (w : World) (orderly : IsOrderly w) (number : ℕ) (action : Action) (r : World × Outcome) (c : IsClose w number action r) where
   abbrev place : ℕ
@@ -178,7 +180,7 @@ module _ (w : World) (orderly : IsOrderly w) (number : ℕ) (action : Action) (r
       ]
     ];
     opens = λ site v h n clear. elim (close_after site v h) [
-      | inl e ↦ absurd (not_closed (subst (λ (u : SiteVnode). IsOpenAt u.id u.last_epoch u.log) (sym e.1) clear))
+      | inl e ↦ absurd (none-some c.count (sym (subst (λ (u : SiteVnode). IsOpenAt u.id u.last_epoch u.log) (sym e.1) clear)))
       | inr e ↦ elim (same_or_other c.own v.own) [
         | inl same ↦ absurd (e.0 (some_back c.site site (sym close_route ∙ ap (λ k. slice_get w.routes k) same ∙ orderly.opens site v e.1 n clear)))
         | inr m ↦ set-there w.routes c.own v.own c.own m ∙ orderly.opens site v e.1 n clear
@@ -207,9 +209,6 @@ module _ (w : World) (orderly : IsOrderly w) (number : ℕ) (action : Action) (r
         ];
   }
     where
-      not_closed : Some c.count ≡ None → ⊥
-      not_closed e = cc
-
       limited_here : (index epoch : ℕ) → c.own ≡ index → slice_get (slice_set w.epochs c.own c.hand.last_epoch) index ≡ Some epoch → epoch ≤ max_epoch
       limited_here index epoch e h =
           subst (λ n. n ≤ max_epoch) (set_is w.epochs c.own index c.hand.last_epoch epoch e h)

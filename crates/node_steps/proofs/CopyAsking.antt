@@ -3,7 +3,7 @@ use Rattle.std.proofs.Common.{◌≡◌, ℕ, zero, suc, ◌<◌, ◌≤◌, Boo
 use Rattle.std.specs.Prelude.{◌==◌, Option, Some, None, option_map, option_and_then, slice_get, slice_set}
 use Rattle.std.specs.Option.{option_map_or}
 use Rattle.std.specs.Global.{Box}
-use Rattle.std.proofs.lemmas.Option.{slice_get-map, slice_get_past}
+use Rattle.std.proofs.lemmas.Option.{slice_get_past}
 use Rattle.riak_msgs.specs.declared.Key.{Key}
 use Rattle.vnode_machine.specs.Replay.{History}
 use Rattle.node_steps.specs.declared.outcome.Outcome.TheVariants as outcomes
@@ -19,7 +19,7 @@ use Rattle.node_steps.specs.Running.{vnode_of, worker_of, world_of}
 use Rattle.node_steps.specs.Asked.{closing_step, copying_step}
 use Rattle.node_steps.specs.Parts.{FindsIdle, HasFallbackSite, HasNone, TakesRunStep, world_in}
 use Rattle.node_steps.proofs.Looking.{vnode_itself}
-use Rattle.node_steps.proofs.Mapped.{same_test, set-same}
+use Rattle.node_steps.proofs.Mapped.{same_test, set-same, at_none}
 use Rattle.node_steps.proofs.Stepping.{not_possible, result_at, Steps, step_taken, no_worker, at_one, no_turn, NoTurn, IsAsking, copying_sent, closing_sent, is_busy}
 use Rattle.node_steps.proofs.Asking.{asks_nowhere}
 
@@ -95,7 +95,7 @@ module _ (sites : List Site) (routes epochs : List ℕ) (workers : List RunPhase
   busy_or_none (suc place) action asking h = by (slice_get workers place) refl
     where
       by : (o : Option RunPhase) → slice_get workers place ≡ o → happens w (By (suc place) action) ≡ None
-      by None e = no_worker w place (routed (route w) action) (slice_get-map worker_of workers place ∙ ap (λ o. option_map worker_of o) e)
+      by None e = no_worker w place (routed (route w) action) (at_none worker_of workers place e)
       by (Some phase) e = is_busy sites routes epochs workers place action phase e (h place phase refl e) asking
 
   pub not_sent : (worker index : ℕ) (key : Key) → FindsIdle workers worker None → TakesRunStep w (copying_step worker index key) outcomes.No w
@@ -165,16 +165,13 @@ module _ (parts : Parts) (index : ℕ) where
     closes = λ worker. closed (Some site) e worker ∙ closes_by worker (site == index);
   }
     where
-      nobody : slice_get (world_in parts).vnodes site ≡ None
-      nobody = slice_get-map vnode_of parts.sites.items site ∙ ap (λ o. option_map vnode_of o) (slice_get_past parts.sites.items site past)
-
       copies_by : (worker : ℕ) (key : Key) (b : Bool) → acts (world_in parts) worker (cond b AsksNowhere (CopiesFrom index site key)) ≡ None
       copies_by worker key true = asks_nowhere (world_in parts) worker
-      copies_by worker key false = copies_past (world_in parts) index site key nobody worker
+      copies_by worker key false = copies_past (world_in parts) index site key (at_none vnode_of parts.sites.items site (slice_get_past parts.sites.items site past)) worker
 
       closes_by : (worker : ℕ) (b : Bool) → acts (world_in parts) worker (cond b AsksNowhere (ClosesFrom index site)) ≡ None
       closes_by worker true = asks_nowhere (world_in parts) worker
-      closes_by worker false = closes_past (world_in parts) index site nobody worker
+      closes_by worker false = closes_past (world_in parts) index site (at_none vnode_of parts.sites.items site (slice_get_past parts.sites.items site past)) worker
 
   -- it is the one that the calls go to
   pub from_there : (site : ℕ) → route (world_in parts) index ≡ Some site → (site == index) ≡ false → site < length parts.sites.items

@@ -8,22 +8,20 @@ use Rattle.vnode_machine.specs.Copying.{is_stuck}
 use Rattle.vnode_machine.specs.Machine.{State, is_held}
 use Rattle.vnode_machine.specs.Replay.{History}
 use Rattle.copy_laws.specs.Joining.{Log}
-use Rattle.node_steps.specs.World.{Word, Open, Taken, CopyStage, CopyAsked, CopyInside, CopyLooked, CopyTaken, CopyDone, Phase, Idle, Copying, Brought, nothing_brought, SiteVnode}
+use Rattle.node_steps.specs.World.{Word, Open, Taken, CopyStage, CopyAsked, CopyInside, CopyLooked, CopyTaken, CopyDone, Phase, Idle, Copying, Brought, nothing_brought}
 use Rattle.node_steps.specs.Steps.{Action, CopiesFrom, Enters, Leaves, Takes, Puts, Looks, Publishes, WorkerTurn, finds_by, finds_open, syncs_by, turn_of}
 use Rattle.node_steps.specs.Erased.{IsShown, erase_vnode}
+use Rattle.node_steps.proofs.Inside.{vnode_in}
 
 abbrev pub erase_turn : WorkerTurn → WorkerTurn
 erase_turn turn = record { phase = turn.phase; seen = []; vnode = erase_vnode turn.vnode; outcome = turn.outcome }
 
 module _ (id home epoch : ℕ) (seen : History) (brought : Brought) (log : Log) (place : State Content) where
-  abbrev vnode_in : Word → SiteVnode
-  vnode_in word = record { id = id; own = home; last_epoch = epoch; word = word; log = log; place = place }
-
   -- the turn in the erased world is the erased turn
   abbrev pub IsErased : Word → Action → Phase → Type 0
   IsErased word action phase =
-      option_map erase_turn (turn_of seen brought (vnode_in word) action phase)
-      ≡ option_map erase_turn (turn_of [] nothing_brought (erase_vnode (vnode_in word)) action phase)
+      option_map erase_turn (turn_of seen brought (vnode_in id home epoch log place word) action phase)
+      ≡ option_map erase_turn (turn_of [] nothing_brought (erase_vnode (vnode_in id home epoch log place word)) action phase)
 
   pub copy_asks : (word : Word) (own site : ℕ) (key : Key) → IsErased word (CopiesFrom own site key) Idle
   copy_asks (Open n mark) own site key = refl
@@ -71,17 +69,17 @@ module _ (id home epoch : ℕ) (seen : History) (brought : Brought) (log : Log) 
   copy_puts word own site key (CopyDone (Some hand)) = refl
 
   found : (n : ℕ) (mark : Bool) (own site : ℕ) (key : Key) (held : Bool)
-      → erase_turn (finds_by seen brought (vnode_in (Open n mark)) own site key held) ≡ erase_turn (finds_by [] nothing_brought (erase_vnode (vnode_in (Open n mark))) own site key held)
+      → erase_turn (finds_by seen brought (vnode_in id home epoch log place (Open n mark)) own site key held) ≡ erase_turn (finds_by [] nothing_brought (erase_vnode (vnode_in id home epoch log place (Open n mark))) own site key held)
   found n mark own site key true = refl
   found n mark own site key false = refl
 
   found_open : (n : ℕ) (mark : Bool) (own site : ℕ) (key : Key) (closed : Bool)
-      → erase_turn (finds_open seen brought (vnode_in (Open n mark)) own site key closed) ≡ erase_turn (finds_open [] nothing_brought (erase_vnode (vnode_in (Open n mark))) own site key closed)
+      → erase_turn (finds_open seen brought (vnode_in id home epoch log place (Open n mark)) own site key closed) ≡ erase_turn (finds_open [] nothing_brought (erase_vnode (vnode_in id home epoch log place (Open n mark))) own site key closed)
   found_open n mark own site key true = refl
   found_open n mark own site key false = found n mark own site key (is_held place key)
 
   synced : (word : Word) (own site : ℕ) (key : Key) (clock : DotState (Option Content)) (hand : State Content) (stuck : Bool)
-      → erase_turn (syncs_by seen brought (vnode_in word) own site key clock hand stuck) ≡ erase_turn (syncs_by [] nothing_brought (erase_vnode (vnode_in word)) own site key clock hand stuck)
+      → erase_turn (syncs_by seen brought (vnode_in id home epoch log place word) own site key clock hand stuck) ≡ erase_turn (syncs_by [] nothing_brought (erase_vnode (vnode_in id home epoch log place word)) own site key clock hand stuck)
   synced (Open n mark) own site key clock hand true = refl
   synced (Open n mark) own site key clock hand false = refl
   synced Taken own site key clock hand true = refl

@@ -7,6 +7,7 @@ use Rattle.dvv_set.specs.Clocks.{DotState}
 use Rattle.vnode_machine.specs.Copying.{is_stuck, apply_copy}
 use Rattle.vnode_machine.specs.Machine.{State, clock_of, is_held}
 use Rattle.vnode_machine.specs.Replay.{History, IsWithinLimits}
+use Rattle.vnode_machine.proofs.Tests.{none-from}
 use Rattle.copy_laws.specs.Copies.{Copy, Copied, commands_of}
 use Rattle.copy_laws.specs.Joining.{Log}
 use Rattle.node_steps.specs.World.{Word, Open, Taken, CopyStage, CopyAsked, CopyInside, CopyLooked, CopyTaken, CopyDone, Phase, Idle, Copying, Brought}
@@ -15,11 +16,9 @@ use Rattle.node_steps.specs.Schedules.{Begins}
 use Rattle.node_steps.proofs.Coming.{BetweenIs, Comes}
 use Rattle.node_steps.proofs.Lists.{one, no_more, cancel}
 use Rattle.node_steps.proofs.Beginnings.{begins-itself}
-use Rattle.node_steps.proofs.Inside.{is_reader, is_holder, FitsWord, state_of, IsInPlace, IsInHand, HasSeen, same_test, other_test, StaysAt, copied-mixed}
-use Rattle.node_steps.proofs.Turns.{same_number, one_of, none_of, Goes, IsTurn, one_same, fits_same, place_read, vnode_in, turns, moved, laid, leave_fits, left_place, held_place}
-
-apart : (a b c : ℕ) → a ≡ b → b ≢ c → a ≢ c
-apart a b c e n = λ f. n (sym e ∙ f)
+use Rattle.node_steps.proofs.Inside.{is_reader, is_holder, FitsWord, state_of, IsInPlace, IsInHand, HasSeen, same_test, other_test, StaysAt, copied-mixed, vnode_in}
+use Rattle.node_steps.proofs.Turns.{same_number, one_of, Goes, IsTurn, one_same, fits_same, place_read, turns, moved, laid, leave_fits, left_place, held_place}
+use Rattle.node_steps.proofs.Numbers.{apart}
 
 module _ (id epoch home index readers holders : ℕ) where
   -- a copier goes on with its copy, between the same sites
@@ -83,8 +82,8 @@ module _ (id epoch home index readers holders : ℕ) where
         → is_reader index (copying was) ≡ is_reader index (copying next) → is_holder index (copying was) ≡ is_holder index (copying next)
         → IsInHand id epoch index log (copying next) → HasSeen index (copying next) (commands_of log) (commands_of log)
         → ((other : ℕ) → index ≢ other → stay other was next)
-        → Comes id epoch index (copying was) brought log (sees seen brought (vnode_in id epoch home index readers holders limits log seen brought place has word) (copying next) came) came
-        → Is Looks (copying was) (sees seen brought (vnode_in id epoch home index readers holders limits log seen brought place has word) (copying next) came)
+        → Comes id epoch index (copying was) brought log (sees seen brought (vnode_in id home epoch log place word) (copying next) came) came
+        → Is Looks (copying was) (sees seen brought (vnode_in id home epoch log place word) (copying next) came)
     looked was next word came f p a b in_hand whole keeps comes = record {
       same_id = refl;
       same_own = refl;
@@ -108,7 +107,7 @@ module _ (id epoch home index readers holders : ℕ) where
     }
 
     abbrev found : Word → Bool → WorkerTurn
-    found word held = finds_by seen brought (vnode_in id epoch home index readers holders limits log seen brought place has word) own site key held
+    found word held = finds_by seen brought (vnode_in id home epoch log place word) own site key held
 
     find_by : (word : Word) → FitsWord word readers holders → IsInPlace id epoch word log place → site ≡ index → place ≡ state_of id epoch log
         → place.closed ≡ None → (held : Bool) → is_held place key ≡ held → Is Looks (copying CopyInside) (found word held)
@@ -128,11 +127,11 @@ module _ (id epoch home index readers holders : ℕ) where
     -- where the fallback is closed it is done
     open_by : (word : Word) → FitsWord word readers holders → IsInPlace id epoch word log place → site ≡ index → place ≡ state_of id epoch log
         → (closed : Bool) → is_some place.closed ≡ closed
-        → Is Looks (copying CopyInside) (finds_open seen brought (vnode_in id epoch home index readers holders limits log seen brought place has word) own site key closed)
+        → Is Looks (copying CopyInside) (finds_open seen brought (vnode_in id home epoch log place word) own site key closed)
     open_by word f p e is true closed =
         looked CopyInside (CopyDone None) word Elsewhere f p refl refl tt tt
         (λ other n. record { reader = refl; holder = refl; hand = λ i k l had. tt; whole = λ front history had. tt }) refl
-    open_by word f p e is false closed = find_by word f p e is (none_of place.closed closed) (is_held place key) refl
+    open_by word f p e is false closed = find_by word f p e is (none-from place.closed closed) (is_held place key) refl
 
     pub find_turn : (word : Word) → FitsWord word readers holders → IsInPlace id epoch word log place → one (is_reader index (copying CopyInside)) ≤ readers → site ≡ index → (t : WorkerTurn)
         → TurnsTo word Looks (copying CopyInside) t → Is Looks (copying CopyInside) t
@@ -162,7 +161,7 @@ module _ (id epoch home index readers holders : ℕ) where
     take_turn Taken f p clock m mine e t h = cc
 
     abbrev synced : Word → DotState (Option Content) → State Content → Bool → WorkerTurn
-    synced word clock hand stuck = syncs_by seen brought (vnode_in id epoch home index readers holders limits log seen brought place has word) own site key clock hand stuck
+    synced word clock hand stuck = syncs_by seen brought (vnode_in id home epoch log place word) own site key clock hand stuck
 
     sync_by : (word : Word) → FitsWord word readers holders → IsInPlace id epoch word log place → (clock : DotState (Option Content)) (hand : State Content)
         → IsInHand id epoch index log (copying (CopyTaken clock hand None)) → own ≡ index
@@ -194,7 +193,7 @@ module _ (id epoch home index readers holders : ℕ) where
         → TurnsTo word Publishes (copying (CopyTaken clock hand (Some next))) t → Is Publishes (copying (CopyTaken clock hand (Some next))) t
     publish_turn word f clock hand next held mine e t h =
         let copy : Copy Content = record { key = key; clock = clock; diversion = brought.diversion; prefix = brought.prefix } in
-        let turn : WorkerTurn = copies_by seen brought (vnode_in id epoch home index readers holders limits log seen brought place has word) own site key clock next in
+        let turn : WorkerTurn = copies_by seen brought (vnode_in id home epoch log place word) own site key clock next in
         let same : turn ≡ t = cc in
         let was : (hand ≡ state_of id epoch log) × ((next ≡ apply_copy hand key clock) × (is_stuck hand key clock ≡ false)) = mine.1 e in
         subst (λ u. Is Publishes (copying (CopyTaken clock hand (Some next))) u) same (record {

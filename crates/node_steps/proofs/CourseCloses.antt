@@ -1,6 +1,8 @@
 -- A closer's look leaves each partition's course as it is; by its publish the fallback returns: all was brought back.
-use Rattle.std.proofs.Common.{◌≡◌, ◌≢◌, inl, inr, ℕ, ◌+◌, ◌<◌, Bool, true, false, not, cond, List, [], ◌∷◌, length, refl, sym, ◌∙◌, ap, arith, subst}
-use Rattle.std.specs.Prelude.{pred, Option, Some, None, filter, nat_le, option_and_then, slice_get}
+use Rattle.std.proofs.Common.{◌≡◌, ◌≢◌, inl, inr, ℕ, ◌+◌, ◌<◌, Bool, true, false, cond, [], ◌∷◌, length, refl, sym, ◌∙◌, ap, arith, subst}
+use Rattle.std.proofs.lemmas.Option.{none-some}
+use Rattle.std.proofs.lemmas.Bool.Decides.{nat_tests}
+use Rattle.std.specs.Prelude.{pred, Option, Some, nat_le, option_and_then, slice_get, ◌==◌}
 use Rattle.std.specs.Option.{option_map_or}
 use Rattle.std.specs.FinMap.Entries.{find}
 use Rattle.riak_msgs.specs.declared.Key.{Key}
@@ -9,7 +11,7 @@ use Rattle.riak_msgs.specs.KeyOrder.{key_cmp, key_eq}
 use Rattle.actor_epoch.specs.declared.Actor.{Actor}
 use Rattle.actor_epoch.specs.Dots.{counter_in}
 use Rattle.actor_epoch.specs.Given.{Context}
-use Rattle.vnode_machine.specs.Machine.{Stored, State, clock_of}
+use Rattle.vnode_machine.specs.Machine.{Stored, State, clock_of, stored}
 use Rattle.vnode_machine.specs.Lives.{lives_begun}
 use Rattle.vnode_machine.specs.Replay.{replay, HasReplay}
 use Rattle.vnode_machine.specs.Registers.{key_of, context_in_ask}
@@ -33,7 +35,9 @@ use Rattle.node_steps.proofs.Closes.{close_here, close_hand, close_open, close_o
 use Rattle.node_steps.proofs.Quiet.{IsQuiet, quiet-judged, quiet-closed}
 use Rattle.node_steps.proofs.Judged.{AreJudged}
 use Rattle.node_steps.proofs.CallsApart.{route_own}
-use Rattle.node_steps.proofs.Coursing.{IsVnode, vnode-state, home_id, away_id, Agrees, IsAway, WasFallback, WasGiven, given-later, IsLawful, IsRun, shown-later, ids, primary-state, away-state}
+use Rattle.node_steps.proofs.Coursing.{IsVnode, vnode-state, home_id, away_id, Agrees, IsAway, WasFallback, WasGiven, given-later, IsLawful, IsRun, shown-later, ids, primary-state, away-state, was-later}
+use Rattle.vnode_core.specs.Left.{has_last_dot, is_copied as is_copied_in, one_unless, count_left}
+use Rattle.clock_store.specs.Keys.{Keys}
 
 -- the primary has as much of a fallback's actor of the key
 abbrev has_all : (primary : State Content) → Key → Option (Stored Content) → Bool
@@ -42,42 +46,40 @@ has_all primary key s =
     (λ (own : Actor). nat_le (counter_in (option_map_or (λ (x : Stored Content). x.clock) s (record { known = []; live = [] })).known own) (counter_in (clock_of primary key).known own))
     (option_and_then (λ (x : Stored Content). x.own) s) true
 
--- where none is left, it is so of each key
-none-left : (primary : State Content) (keys : List (Key × Stored Content))
-    → length (filter (λ (entry : Key × Stored Content). not (option_map_or
-    (λ own. nat_le (counter_in entry.1.clock.known own) (counter_in (clock_of primary entry.0).known own)) entry.1.own true)) keys) ≡ 0
-    → (key : Key) → has_all primary key (find key_cmp key keys) ≡ true
-none-left primary [] h key = refl
-none-left primary (entry ∷ keys) h key = by (key_eq key entry.0) refl (passes (option_map_or (λ own. nat_le (counter_in entry.1.clock.known own) (counter_in (clock_of primary entry.0).known own)) entry.1.own true) refl h) (λ g. none-left primary keys g key)
+enough : (here there : ℕ) → (here == there) ≡ true → nat_le there here ≡ true
+enough here there h = grind (arith, nat_tests)
+
+-- so it has of a key that is copied as it is there
+copied-has : (primary : State Content) (key : Key) (there : Stored Content) → is_copied_in primary (key, there) ≡ true → has_all primary key (Some there) ≡ true
+copied-has primary key there copied = by (stored primary key) copied
   where
-    passes : (b : Bool) → option_map_or (λ own. nat_le (counter_in entry.1.clock.known own) (counter_in (clock_of primary entry.0).known own)) entry.1.own true ≡ b
-        → length (cond (not b) (entry ∷ filter (λ (e : Key × Stored Content). not (option_map_or
-        (λ own. nat_le (counter_in e.1.clock.known own) (counter_in (clock_of primary e.0).known own)) e.1.own true)) keys) (filter (λ (e : Key × Stored Content). not (option_map_or
-        (λ own. nat_le (counter_in e.1.clock.known own) (counter_in (clock_of primary e.0).known own)) e.1.own true)) keys)) ≡ 0
-        → (option_map_or (λ own. nat_le (counter_in entry.1.clock.known own) (counter_in (clock_of primary entry.0).known own)) entry.1.own true ≡ true)
-        × (length (filter (λ (e : Key × Stored Content). not (option_map_or
-        (λ own. nat_le (counter_in e.1.clock.known own) (counter_in (clock_of primary e.0).known own)) e.1.own true)) keys) ≡ 0)
-    passes true e h = (e, h)
+    last : (here : Stored Content) (own : Option Actor) → option_map_or (λ (a : Actor). counter_in here.clock.known a == counter_in there.clock.known a) own false ≡ true
+        → option_map_or (λ (a : Actor). nat_le (counter_in there.clock.known a) (counter_in here.clock.known a)) own true ≡ true
+    last here None h = cc
+    last here (Some own) h = enough (counter_in here.clock.known own) (counter_in there.clock.known own) h
+
+    by : (o : Option (Stored Content)) → option_map_or (λ (here : Stored Content). has_last_dot here there) o false ≡ true
+        → option_map_or (λ (own : Actor). nat_le (counter_in there.clock.known own) (counter_in (option_map_or (λ (x : Stored Content). x.clock) o (record { known = []; live = [] })).known own)) there.own true ≡ true
+    by None h = cc
+    by (Some here) h = last here there.own h
+
+-- where none is left, it is so of each key
+none-left : (primary : State Content) (keys : Keys) → count_left primary keys ≡ 0 → (key : Key) → has_all primary key (find key_cmp key keys) ≡ true
+none-left primary [] h key = refl
+none-left primary (entry ∷ keys) h key = by (key_eq key entry.0) refl (passes (is_copied_in primary entry) refl h) (λ g. none-left primary keys g key)
+  where
+    passes : (b : Bool) → is_copied_in primary entry ≡ b → one_unless b + count_left primary keys ≡ 0 → (is_copied_in primary entry ≡ true) × (count_left primary keys ≡ 0)
+    passes true e h = (e, omega (arith, h))
     passes false e h = absurd (omega (arith, h))
 
-    first : (s : Option Actor) (k : Key) → key ≡ k
-        → option_map_or (λ (own : Actor). nat_le (counter_in entry.1.clock.known own) (counter_in (clock_of primary k).known own)) s true ≡ true
-        → option_map_or (λ (own : Actor). nat_le (counter_in entry.1.clock.known own) (counter_in (clock_of primary key).known own)) s true ≡ true
-    first s k e h = ap (λ j. option_map_or (λ (own : Actor). nat_le (counter_in entry.1.clock.known own) (counter_in (clock_of primary j).known own)) s true) e ∙ h
-
-    by : (b : Bool) → key_eq key entry.0 ≡ b
-        → (option_map_or (λ own. nat_le (counter_in entry.1.clock.known own) (counter_in (clock_of primary entry.0).known own)) entry.1.own true ≡ true)
-        × (length (filter (λ (e : Key × Stored Content). not (option_map_or
-        (λ own. nat_le (counter_in e.1.clock.known own) (counter_in (clock_of primary e.0).known own)) e.1.own true)) keys) ≡ 0)
-        → (length (filter (λ (e : Key × Stored Content). not (option_map_or
-        (λ own. nat_le (counter_in e.1.clock.known own) (counter_in (clock_of primary e.0).known own)) e.1.own true)) keys) ≡ 0 → has_all primary key (find key_cmp key keys) ≡ true)
-        → has_all primary key (find key_cmp key (entry ∷ keys)) ≡ true
-    by true e h rest =
+    by : (b : Bool) → key_eq key entry.0 ≡ b → (is_copied_in primary entry ≡ true) × (count_left primary keys ≡ 0)
+        → (count_left primary keys ≡ 0 → has_all primary key (find key_cmp key keys) ≡ true) → has_all primary key (find key_cmp key (entry ∷ keys)) ≡ true
+    by true e copied rest =
         ap (λ b. has_all primary key (cond b (Some entry.1) (find key_cmp key keys))) (eq_by_key_cmp key entry.0 ∙ e)
-        ∙ first entry.1.own entry.0 (key_eq-same key entry.0 e) h.0
-    by false e h rest =
+        ∙ ap (λ k. has_all primary k (Some entry.1)) (key_eq-same key entry.0 e) ∙ copied-has primary entry.0 entry.1 copied.0
+    by false e copied rest =
         ap (λ b. has_all primary key (cond b (Some entry.1) (find key_cmp key keys))) (eq_by_key_cmp key entry.0 ∙ e)
-        ∙ rest h.1
+        ∙ rest copied.1
 
 -- a closer's look
 pub run-judged : (run index : ℕ) (w : World) (number : ℕ) (action : Action) (r : World × Outcome) → IsJudgement w number action r
@@ -148,18 +150,10 @@ module _ (run index : ℕ) (w : World) (orderly : IsOrderly w) (number : ℕ) (a
 
   -- a closed fallback is another
   was-stays : (later : Course) (n : ℕ) → fallback_of later n ≡ fallback_of course n → WasFallback run index w course opened n → WasFallback run index next later opened n
-  was-stays later n same f = record {
-    site = f.site;
-    vnode = f.vnode;
-    there = set-there w.vnodes c.site f.site closed (λ e. f.closed
-        (ap (λ (v : SiteVnode). (state_of v.id v.last_epoch v.log).closed) (sym (some_back c.fallback f.vnode (sym c.fallback_is ∙ ap (λ k. slice_get w.vnodes k) e ∙ f.there)))
-        ∙ close_open w orderly number action r c)) ∙ f.there;
-    own_is = f.own_is;
-    id_is = f.id_is;
-    epoch_is = f.epoch_is;
-    history_is = f.history_is ∙ sym same;
-    closed = f.closed;
-  }
+  was-stays later n same f =
+      was-later run index w next course later opened n same f (set-there w.vnodes c.site f.site closed (λ e. f.closed
+      (ap (λ (v : SiteVnode). (state_of v.id v.last_epoch v.log).closed) (sym (some_back c.fallback f.vnode (sym c.fallback_is ∙ ap (λ k. slice_get w.vnodes k) e ∙ f.there)))
+      ∙ close_open w orderly number action r c)) ∙ f.there)
 
   -- a partition's own vnode is another
   not_home : c.site ≢ index
@@ -273,11 +267,8 @@ module _ (run index : ℕ) (w : World) (orderly : IsOrderly w) (number : ℕ) (a
       id_is = ap (λ (v : SiteVnode). v.id) (sym fallback_is) ∙ away.vnode.id_is;
       epoch_is = ap (λ (v : SiteVnode). v.last_epoch) (sym fallback_is) ∙ away.vnode.epoch_is;
       history_is = ap (λ (l : Log). commands_of l) log_is ∙ commands-all (fallback_of course count);
-      closed = λ none. is_closed none;
+      closed = λ none. none-some c.count (sym none);
     }
-      where
-        is_closed : Some c.count ≡ None → ⊥
-        is_closed e = cc
 
     returned : IsRun run index next later opened Shown
     returned = record {

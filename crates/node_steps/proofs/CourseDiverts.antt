@@ -1,5 +1,5 @@
 -- Where a partition is diverted its course goes on with a diversion, behind the epochs of the last fallback; other courses stay.
-use Rattle.std.proofs.Common.{◌≡◌, ◌≢◌, inl, inr, ℕ, ◌+◌, ◌<◌, ◌≤◌, Bool, true, false, cond, [], ◌∷◌, length, refl, sym, ◌∙◌, ap, arith, subst}
+use Rattle.std.proofs.Common.{◌≡◌, ◌≢◌, inl, inr, ℕ, ◌+◌, ◌<◌, ◌≤◌, cond, ◌∷◌, length, refl, sym, ◌∙◌, ap, arith, subst}
 use Rattle.std.specs.Prelude.{◌==◌, Some, slice_get}
 use Rattle.std.specs.Option.{option_map_or}
 use Rattle.riak_msgs.specs.declared.Key.{Key}
@@ -10,27 +10,18 @@ use Rattle.vnode_machine.specs.Registers.{key_of, context_in_ask}
 use Rattle.copy_laws.specs.Copies.{all_commands}
 use Rattle.copy_laws.specs.Joining.{Log}
 use Rattle.copy_laws.specs.Sides.{Partition}
-use Rattle.copy_laws.specs.Diversions.{Course, AtPrimary, Divert, AtFallback, CopyBack, Return, diversions_of, is_diverted, fallback_of, primary_of, WasShownInCourse, MayHappen}
+use Rattle.copy_laws.specs.Diversions.{Course, Divert, diversions_of, is_diverted, fallback_of, primary_of, WasShownInCourse, MayHappen}
+use Rattle.copy_laws.proofs.Courses.{none-yet}
 use Rattle.node_steps.specs.World.{SiteVnode, Worker, World, Call, fresh_vnode, diversions_at, call_of}
 use Rattle.node_steps.specs.Steps.{fallback_ids, diverted_by}
 use Rattle.node_steps.proofs.Lists.{set-here, set-there, same_or_other, get-first, get-last, get-more, length-set}
-use Rattle.node_steps.proofs.Inside.{about_there, other_test, same_test}
+use Rattle.node_steps.proofs.Inside.{about_there, other_test, same_test, false_true}
 use Rattle.node_steps.proofs.Kept.{IsOrderly}
 use Rattle.node_steps.proofs.CloseSteps.{some_back}
 use Rattle.node_steps.proofs.Diverting.{IsDiversion, id_is}
 use Rattle.node_steps.proofs.CallSites.{call_site}
-use Rattle.node_steps.proofs.CallsApart.{below_past}
-use Rattle.node_steps.proofs.Coursing.{IsVnode, home_id, away_id, Agrees, IsOwn, WasGiven, given-later, IsLawful, IsRun, shown-later}
-
--- no fallback behind the last has events
-beyond : (course : Course) (n : ℕ) → diversions_of course < n → fallback_of course n ≡ []
-beyond [] n h = refl
-beyond (AtPrimary event ∷ before) n h = beyond before n h
-beyond (Divert ∷ before) n h = beyond before n (omega (arith, h))
-beyond (AtFallback event ∷ before) n h =
-    ap (λ b. cond b (event ∷ fallback_of before n) (fallback_of before n)) (other_test (diversions_of before) n (λ e. absurd (omega (arith, e, h)))) ∙ beyond before n h
-beyond (CopyBack key ∷ before) n h = beyond before n h
-beyond (Return ∷ before) n h = beyond before n h
+use Rattle.node_steps.proofs.Coursing.{IsVnode, home_id, away_id, Agrees, IsOwn, WasGiven, given-later, IsLawful, IsRun, shown-later, was-later}
+use Rattle.node_steps.proofs.Numbers.{below, below_past}
 
 -- a partition of the law that agrees
 abbrev pub some_partition : (run index : ℕ) (opened : ℕ → ℕ) (count : ℕ) → Partition
@@ -110,16 +101,8 @@ module _ (run index : ℕ) (w : World) (orderly : IsOrderly w) (other : ℕ) (af
         updates = away.updates;
       })
     ];
-    fallbacks = λ m one most last. let f = run_is.fallbacks m one most last in record {
-      site = f.site;
-      vnode = f.vnode;
-      there = get-first w.vnodes fresh f.site f.vnode f.there;
-      own_is = f.own_is;
-      id_is = f.id_is;
-      epoch_is = f.epoch_is;
-      history_is = f.history_is;
-      closed = f.closed;
-    };
+    fallbacks = λ m one most last.
+        let f = run_is.fallbacks m one most last in was-later run index w later course course opened m refl f (get-first w.vnodes fresh f.site f.vnode f.there);
     lawful = λ partition agrees. let law = run_is.lawful partition agrees in record {
       may_happen = law.may_happen;
       vnode = vnode-stays index (home_id run index) 0 (primary_of partition course) law.vnode;
@@ -158,13 +141,13 @@ module _ (run index : ℕ) (w : World) (orderly : IsOrderly w) (other : ℕ) (af
     may-divert : (partition : Partition) → Agrees run index more (diversions_of next) partition → MayHappen partition course Divert
     may-divert partition agrees = (
       own.not_diverted,
-      below count partition.diversions agrees.diversions,
+      more_follow count partition.diversions agrees.diversions,
       behind (partition.opened count) (lives_begun (fallback_of course count)) (partition.opened (count + 1)) (opened count) ((agrees_before partition agrees).opened_is count (omega arith))
           (agrees.opened_is (count + 1) (omega arith) ∙ opened_here opened (count + 1) d.epoch ∙ epoch_is),
     )
       where
-        below : (n m : ℕ) → n + 1 ≤ m → n < m
-        below n m h = omega (arith, h)
+        more_follow : (n m : ℕ) → n + 1 ≤ m → n < m
+        more_follow n m h = omega (arith, h)
 
         behind : (a b c o : ℕ) → a ≡ o → c ≡ o + b → a + b ≤ c
         behind a b c o h k = omega (arith, h, k)
@@ -180,7 +163,7 @@ module _ (run index : ℕ) (w : World) (orderly : IsOrderly w) (other : ℕ) (af
       there = get-last w.vnodes fresh;
       id_is = ap (λ n. n + fallback_ids) (id_is w orderly other d.epoch d.primary d.vnode_is d.own d.alone ∙ home_is);
       epoch_is = sym (opened_here opened (count + 1) d.epoch);
-      log_is = sym (ap (λ (h : History). all_commands h) (beyond course (count + 1) (omega arith)));
+      log_is = sym (ap (λ (h : History). all_commands h) (none-yet course (count + 1) (omega arith)));
     }
 
     own-diverted : IsRun run index later next more Shown
@@ -194,7 +177,7 @@ module _ (run index : ℕ) (w : World) (orderly : IsOrderly w) (other : ℕ) (af
       side = inr (record {
         site = new_site;
         route_is = ap (λ k. slice_get later.routes k) (sym e) ∙ set-here w.routes other other new_site d.own;
-        other = λ z. below_past index new_site (under index (length w.routes) new_site run_is.known orderly.sites) (subst (λ n. new_site ≤ n) (sym z) (omega arith));
+        other = λ z. below_past index new_site (below index (length w.routes) new_site run_is.known orderly.sites) (subst (λ n. new_site ≤ n) (sym z) (omega arith));
         diverted = refl;
         vnode = fresh-there;
         updates = λ place worker h call asked at. absurd (below_past call.site new_site
@@ -202,7 +185,7 @@ module _ (run index : ℕ) (w : World) (orderly : IsOrderly w) (other : ℕ) (af
       });
       fallbacks = λ n one most last.
           let not_last : n ≢ count + 1 = last refl in
-          let f = run_is.fallbacks n one (at_most n count most not_last) (λ diverted. absurd (both (is_diverted course) own.not_diverted diverted)) in record {
+          let f = run_is.fallbacks n one (at_most n count most not_last) (λ diverted. absurd (false_true (is_diverted course) own.not_diverted diverted)) in record {
             site = f.site;
             vnode = f.vnode;
             there = get-first w.vnodes fresh f.site f.vnode f.there;
@@ -219,13 +202,6 @@ module _ (run index : ℕ) (w : World) (orderly : IsOrderly w) (other : ℕ) (af
         calls = calls-stay partition next (shown-later run index partition Divert course) law;
       };
     }
-      where
-        under : (a b c : ℕ) → a < b → b ≤ c → a < c
-        under a b c h k = omega (arith, h, k)
-
-        both : (b : Bool) → b ≡ false → b ≡ true → ⊥
-        both true h k = cc
-        both false h k = cc
 
   diverts-on : (next : Course) × (more : ℕ → ℕ) × IsRun run index later next more Shown
   diverts-on = elim (same_or_other other index) [

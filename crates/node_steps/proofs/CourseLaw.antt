@@ -1,5 +1,7 @@
 -- Each run of a partition is a course: before any step, and so after every schedule.
 use Rattle.std.proofs.Common.{◌≡◌, inl, inr, ℕ, zero, suc, ◌<◌, ◌≤◌, List, [], ◌∷◌, refl, sym, ◌∙◌, ap, arith, subst}
+use Rattle.std.proofs.Math.Nat.{zero-add}
+use Rattle.std.proofs.lemmas.Option.{none-some}
 use Rattle.std.specs.Prelude.{Option, Some, None, Ok, option_map, slice_get}
 use Rattle.std.specs.Option.{option_map_or}
 use Rattle.riak_msgs.specs.declared.Key.{Key}
@@ -17,16 +19,16 @@ use Rattle.node_steps.specs.Schedules.{Start, IsStart, world_after}
 use Rattle.node_steps.specs.Contexts.{call_by, given_in}
 use Rattle.node_steps.specs.Courses.{WasShownThere, GivesShownThere, IsFallbackOf, IsCourseOf, CallsMayBeAsked, RunsAreCourses}
 use Rattle.node_steps.proofs.Lists.{same_or_other, get-replicate, get-replicated, length-replicate}
-use Rattle.node_steps.proofs.Own.{length-own, vnode_there, own_there, from_zero}
+use Rattle.node_steps.proofs.Own.{length-own, vnode_there, own_there}
 use Rattle.node_steps.proofs.Inside.{false_true}
 use Rattle.node_steps.proofs.Unmixed.{commands-all}
 use Rattle.node_steps.proofs.Kept.{IsOrderly, possible}
 use Rattle.node_steps.proofs.Diverting.{diversion}
 use Rattle.node_steps.proofs.Scheduled.{orderly, sends-well}
 use Rattle.node_steps.proofs.CloseSteps.{acts_cases, some_back}
-use Rattle.node_steps.proofs.Lifting.{no_reply}
+use Rattle.node_steps.proofs.Lifting.{no_reply, not_replied}
 use Rattle.node_steps.proofs.CallSites.{sent-by}
-use Rattle.node_steps.proofs.CallsApart.{IsApart, no_call, route_own}
+use Rattle.node_steps.proofs.CallsApart.{IsApart, route_own}
 use Rattle.node_steps.proofs.Uncopied.{stays_apart, call_worker}
 use Rattle.node_steps.proofs.Judged.{judged_after}
 use Rattle.node_steps.proofs.Claiming.{silent_judged, silent_closed}
@@ -44,7 +46,7 @@ run-opening start index known = record {
   first = refl;
   number = get-replicated start.vnodes index 0 known;
   side = inl (record {
-    route_is = own_there 0 start.vnodes index known ∙ ap (λ n. Some n) (from_zero index);
+    route_is = own_there 0 start.vnodes index known ∙ ap (λ n. Some n) (zero-add index);
     not_diverted = refl;
     epoch_is = get-replicated start.vnodes index 0 known;
   });
@@ -53,25 +55,19 @@ run-opening start index known = record {
     may_happen = tt;
     vnode = record {
       vnode = fresh_vnode (id_of start.run index) index 0;
-      there = vnode_there start.run 0 start.vnodes index known ∙ ap (λ n. Some (fresh_vnode (id_of start.run n) n 0)) (from_zero index);
+      there = vnode_there start.run 0 start.vnodes index known ∙ ap (λ n. Some (fresh_vnode (id_of start.run n) n 0)) (zero-add index);
       id_is = refl;
       epoch_is = refl;
       log_is = refl;
     };
     shown = λ key context h. absurd h;
     calls = λ place worker h call asked v there own context e.
-        absurd (no_call call (ap (λ (x : Worker). call_of x.phase) (sym (get-replicate start.workers place fresh_worker worker h)) ∙ asked));
+        absurd (none-some call (ap (λ (x : Worker). call_of x.phase) (sym (get-replicate start.workers place fresh_worker worker h)) ∙ asked));
   };
 }
   where
     none : (n : ℕ) → 1 ≤ n → n ≤ 0 → ⊥
     none n h k = omega (arith, h, k)
-
-is_some : (r : World × Outcome) → Some r ≡ None → ⊥
-is_some r h = cc
-
-not_shown : (response : Response) → NotPossible ≡ Replied (Ok response) → ⊥
-not_shown response h = cc
 
 -- a run by the contexts that had been shown
 run-shown : (run index : ℕ) (w : World) (course : Course) (opened : ℕ → ℕ) (Shown Later : Key → Context → Type 0) → ((key : Key) (context : Context) → Later key context → Shown key context)
@@ -123,7 +119,7 @@ module _ (start : Start) (is : IsStart start) (index : ℕ) (known : index < sta
         before.1,
         run-shown start.run index w before.0 before.1 (WasShownThere start index earlier) (WasShownThere start index (By number action ∷ earlier))
             (λ key context s. elim s [
-              | inl now ↦ absurd (not_shown now.2.response (sym (ap (λ o. option_map_or (λ (r : World × Outcome). r.1) o NotPossible) h) ∙ now.2.replied))
+              | inl now ↦ absurd (not_replied (Ok now.2.response) (sym (ap (λ o. option_map_or (λ (r : World × Outcome). r.1) o NotPossible) h) ∙ now.2.replied))
               | inr was ↦ was
             ]) before.2,
       )
@@ -138,7 +134,7 @@ module _ (start : Start) (is : IsStart start) (index : ℕ) (known : index < sta
               before.1,
               subst (λ (q : World × Outcome). IsRun start.run index q.0 n.0 before.1 (WasShownThere start index (By number action ∷ earlier))) p.gives
                   (run-next start.run index w ordered apart number to r p sends before.0 before.1 (WasShownThere start index earlier) before.2 (sends-well w action)
-                  (λ site there key context g. gives.1 (λ none. is_some r (sym h ∙ none)) site there key context
+                  (λ site there key context g. gives.1 (λ none. none-some r (sym none ∙ h)) site there key context
                   (ap (λ o. option_map_or (λ (x : Worker). given_in (call_by to x.phase) site key) o None) p.worker_is ∙ g)) n.0 n.1
                   (WasShownThere start index (By number action ∷ earlier))
                   (λ key context s. elim s [

@@ -1,5 +1,6 @@
 -- What a worker's step shows, and the contexts of calls after it: so a run goes on with its course.
 use Rattle.std.proofs.Common.{◌≡◌, ◌⊎◌, inl, inr, ℕ, false, not, ◌&&◌, cond, [], refl, sym, ◌∙◌, ap, subst}
+use Rattle.std.proofs.lemmas.Option.{none-some}
 use Rattle.std.specs.Prelude.{◌==◌, pred, Some, None, Ok, slice_get}
 use Rattle.riak_msgs.specs.declared.Key.{Key}
 use Rattle.riak_msgs.specs.Contents.{Content}
@@ -23,7 +24,7 @@ use Rattle.node_steps.proofs.Inside.{state_of, same_test}
 use Rattle.node_steps.proofs.Coming.{CallIs}
 use Rattle.node_steps.proofs.Kept.{SendsWell, IsOrderly, IsPossible}
 use Rattle.node_steps.proofs.CloseSteps.{some_back, set_cases}
-use Rattle.node_steps.proofs.CallsApart.{IsApart, no_call, vnode_was}
+use Rattle.node_steps.proofs.CallsApart.{IsApart, vnode_was}
 use Rattle.node_steps.proofs.Lifting.{here, turn}
 use Rattle.node_steps.proofs.Coursing.{IsVnode, vnode-state, home_id, away_id, Agrees, IsOwn, IsAway, WasGiven, given-later, IsRun, primary-state, away-state}
 use Rattle.node_steps.proofs.Growing.{next_of, is_now, shown-context, comes-to}
@@ -41,9 +42,6 @@ module _ (run index : ℕ) (w : World) (orderly : IsOrderly w) (apart : IsApart 
 
   abbrev now : Worker
   now = record { phase = p.turn.phase; seen = seeing p.worker.seen p.index p.turn.seen }
-
-  mine : slice_get w.workers (pred number) ≡ Some p.worker
-  mine = here w orderly number action r p
 
   -- a context that the step shows
   pub record IsShownNow (key : Key) (context : Context) : Type 0 where
@@ -111,15 +109,15 @@ module _ (run index : ℕ) (w : World) (orderly : IsOrderly w) (apart : IsApart 
     calls-next place worker h call asked v there own context e =
         let old = vnode_was w orderly number action r p apart sends call.site v there in
         let law = run_is.lawful partition agrees_before in
-        given-later run index partition course later (goes.lawful partition agrees_before).still (key_of call.ask) context (elim (set_cases w (pred number) p.worker now mine place worker h) [
+        given-later run index partition course later (goes.lawful partition agrees_before).still (key_of call.ask) context (elim (set_cases w (pred number) p.worker now (here w orderly number action r p) place worker h) [
           | inl d ↦ by old.0 old.1 (sym old.2 ∙ own) (turn w orderly number action r p).call (ap (λ (x : Worker). call_of x.phase) d.1 ∙ asked)
           | inr d ↦ law.calls place worker d.1 call asked old.0 old.1 (sym old.2 ∙ own) context e
         ])
       where
         by : (old : SiteVnode) → slice_get w.vnodes call.site ≡ Some old → old.own ≡ index → CallIs action p.worker.phase p.turn.phase → call_of p.turn.phase ≡ Some call
             → WasGiven run index partition course (key_of call.ask) context
-        by old there own (inl same) k = (run_is.lawful partition agrees_before).calls (pred number) p.worker mine call (sym same ∙ k) old there own context e
-        by old there own (inr (inl none)) k = absurd (no_call call (sym none ∙ k))
+        by old there own (inl same) k = (run_is.lawful partition agrees_before).calls (pred number) p.worker (here w orderly number action r p) call (sym same ∙ k) old there own context e
+        by old there own (inr (inl none)) k = absurd (none-some call (sym none ∙ k))
         by old there own (inr (inr new)) k =
             let same : new.0 ≡ call = some_back new.0 call (sym new.1 ∙ k) in
             let made = new.2 ∙ ap (λ (c : Call). Some c) same in

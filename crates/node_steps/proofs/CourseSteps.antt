@@ -1,5 +1,6 @@
 -- A worker's step at one site goes on with a partition's course, by one happening at most.
 use Rattle.std.proofs.Common.{◌≡◌, ◌≢◌, ◌⊎◌, inl, inr, ℕ, ◌+◌, ◌<◌, ◌≤◌, true, false, not, ◌&&◌, cond, ◌∷◌, length, refl, sym, ◌∙◌, ap, subst}
+use Rattle.std.proofs.lemmas.Option.{none-some}
 use Rattle.std.specs.Prelude.{◌==◌, pred, Some, None, slice_get}
 use Rattle.std.specs.Option.{option_map_or}
 use Rattle.riak_msgs.specs.declared.Key.{Key}
@@ -26,9 +27,9 @@ use Rattle.node_steps.proofs.Unmixed.{commands-all, saw-plain, saw-course}
 use Rattle.node_steps.proofs.Coming.{CallIs}
 use Rattle.node_steps.proofs.Kept.{IsOrderly, IsPossible}
 use Rattle.node_steps.proofs.CloseSteps.{some_back, set_cases}
-use Rattle.node_steps.proofs.CallsApart.{IsApart, no_call, route_own}
+use Rattle.node_steps.proofs.CallsApart.{IsApart, route_own}
 use Rattle.node_steps.proofs.Lifting.{here, turn, from_there, copied_fallback, copied_route}
-use Rattle.node_steps.proofs.Coursing.{IsVnode, home_id, away_id, Agrees, IsOwn, IsAway, WasFallback, IsLawful, IsRun, shown-later, ids, by-primary, by-fallback, away-state}
+use Rattle.node_steps.proofs.Coursing.{IsVnode, home_id, away_id, Agrees, IsOwn, IsAway, WasFallback, IsLawful, IsRun, shown-later, ids, by-primary, by-fallback, away-state, was-later}
 use Rattle.node_steps.proofs.Growing.{next_of, Grows, Copies, grown, copied-home, closed-same, vnode-there, is_there, is_now, vnode-here, vnode-kept, as-known, comes-to}
 
 module _ (run index : ℕ) (w : World) (orderly : IsOrderly w) (apart : IsApart w) (number : ℕ) (action : Action) (r : World × Outcome) (p : IsPossible w number action r)
@@ -40,9 +41,6 @@ module _ (run index : ℕ) (w : World) (orderly : IsOrderly w) (apart : IsApart 
 
   abbrev now : Worker
   now = record { phase = p.turn.phase; seen = seeing p.worker.seen p.index p.turn.seen }
-
-  mine : slice_get w.workers (pred number) ≡ Some p.worker
-  mine = here w orderly number action r p
 
   abbrev count : ℕ
   count = diversions_of course
@@ -82,22 +80,13 @@ module _ (run index : ℕ) (w : World) (orderly : IsOrderly w) (apart : IsApart 
           history_is = ap (λ (l : Log). commands_of l) log ∙ f.history_is ∙ sym same;
           closed = λ none. f.closed (sym (λ i. (state_of (id i) (epoch i) (log i)).closed) ∙ none);
         }
-    | inr n ↦ record {
-      site = f.site;
-      vnode = f.vnode;
-      there = set-there w.vnodes p.index f.site p.turn.vnode n ∙ f.there;
-      own_is = f.own_is;
-      id_is = f.id_is;
-      epoch_is = f.epoch_is;
-      history_is = f.history_is ∙ sym same;
-      closed = f.closed;
-    }
+    | inr m ↦ was-later run index w next course later opened n same f (set-there w.vnodes p.index f.site p.turn.vnode m ∙ f.there)
   ]
 
   -- no reap comes to a fallback
   updates-next : (away : IsAway run index w course opened) (place : ℕ) (worker : Worker) → slice_get next.workers place ≡ Some worker → (call : Call) → call_of worker.phase ≡ Some call
       → call.site ≡ away.site → is_reap call.ask ≡ false
-  updates-next away place worker h call asked at = elim (set_cases w (pred number) p.worker now mine place worker h) [
+  updates-next away place worker h call asked at = elim (set_cases w (pred number) p.worker now (here w orderly number action r p) place worker h) [
     | inl d ↦ by (turn w orderly number action r p).call (ap (λ (x : Worker). call_of x.phase) d.1 ∙ asked)
     | inr d ↦ away.updates place worker d.1 call asked at
   ]
@@ -112,8 +101,8 @@ module _ (run index : ℕ) (w : World) (orderly : IsOrderly w) (apart : IsApart 
       apart_test = other_test call.site index (λ e. away.other (sym e ∙ at))
 
       by : CallIs action p.worker.phase p.turn.phase → call_of p.turn.phase ≡ Some call → is_reap call.ask ≡ false
-      by (inl same) k = away.updates (pred number) p.worker mine call (sym same ∙ k) at
-      by (inr (inl none)) k = absurd (no_call call (sym none ∙ k))
+      by (inl same) k = away.updates (pred number) p.worker (here w orderly number action r p) call (sym same ∙ k) at
+      by (inr (inl none)) k = absurd (none-some call (sym none ∙ k))
       by (inr (inr new)) k =
           let same : new.0 ≡ call = some_back new.0 call (sym new.1 ∙ k) in
           elim (comes-to w orderly number action r p sends call (new.2 ∙ ap (λ (c : Call). Some c) same) index away.vnode.vnode there own) [
@@ -167,7 +156,7 @@ module _ (run index : ℕ) (w : World) (orderly : IsOrderly w) (apart : IsApart 
     gives-event : (g : Grows w orderly number action r p) → p.vnode.own ≡ index → (context : Context) → g.event.context ≡ Some context → WasShownInCourse partition course g.event.key context
     gives-event g own context e =
         subst (λ k. WasShownInCourse partition course k context) (sym g.key_is)
-        (law.calls (pred number) p.worker mine g.call g.asked p.vnode (ap (λ k. slice_get w.vnodes k) g.at ∙ p.vnode_is) own context (sym g.context_is ∙ e)).0
+        (law.calls (pred number) p.worker (here w orderly number action r p) g.call g.asked p.vnode (ap (λ k. slice_get w.vnodes k) g.at ∙ p.vnode_is) own context (sym g.context_is ∙ e)).0
 
     -- an event at the primary may happen
     at-primary : (g : Grows w orderly number action r p) → p.index ≡ index → p.vnode.own ≡ index → IsOwn run index w course opened → MayHappen partition course (AtPrimary g.event)
@@ -192,7 +181,7 @@ module _ (run index : ℕ) (w : World) (orderly : IsOrderly w) (apart : IsApart 
         let known = as-known w orderly number action r p away.site (away_id run index) (opened count) (all_commands history) at away.vnode in
         let replays = legal-fallback partition course law.may_happen count in (
           away.diverted,
-          g.update (away.updates (pred number) p.worker mine g.call g.asked (g.at ∙ at)),
+          g.update (away.updates (pred number) p.worker (here w orderly number action r p) g.call g.asked (g.at ∙ at)),
           subst (λ s. AcceptsEvent s event.key event.context event.operation) (log-replay partition.fallback (partition.opened count) history)
               (by-fallback run index opened count partition agrees (λ id epoch. AcceptsEvent (state_of id epoch (all_commands history)) event.key event.context event.operation)
               (known (λ id epoch l. AcceptsEvent (state_of id epoch l) event.key event.context event.operation) g.accepts)),
@@ -308,7 +297,7 @@ module _ (run index : ℕ) (w : World) (orderly : IsOrderly w) (apart : IsApart 
     | inl at ↦ elim run_is.side [
       | inl own ↦ (AtPrimary g.event ∷ course, primary-next g at own)
       | inr away ↦ absurd (away.other (sym (g.at ∙ at)
-          ∙ apart.away index away.site away.route_is (λ e. away.other (sym e)) (pred number) p.worker mine g.call g.asked p.vnode (ap (λ k. slice_get w.vnodes k) g.at ∙ p.vnode_is) (own-home at)))
+          ∙ apart.away index away.site away.route_is (λ e. away.other (sym e)) (pred number) p.worker (here w orderly number action r p) g.call g.asked p.vnode (ap (λ k. slice_get w.vnodes k) g.at ∙ p.vnode_is) (own-home at)))
     ]
     | inr n ↦ elim run_is.side [
       | inl own ↦ (course, remains (λ e. absurd (n e)) (λ away e. absurd (away.other (some_back index away.site (sym own.route_is ∙ away.route_is)))))

@@ -29,6 +29,9 @@ pub record IsVnode (w : World) (site id epoch : ℕ) (log : Log) : Type 0 where
 pub vnode-state : (w : World) (site id epoch : ℕ) (log : Log) (v : IsVnode w site id epoch log) → state_of v.vnode.id v.vnode.last_epoch v.vnode.log ≡ state_of id epoch log
 vnode-state w site id epoch log v = λ i. state_of (v.id_is i) (v.epoch_is i) (v.log_is i)
 
+pub above : (a b n : ℕ) → a ≡ n → b ≡ n + fallback_ids → a < b
+above a b n e f = omega (arith, e, f)
+
 module _ (run index : ℕ) where
   abbrev pub home_id : ℕ
   home_id = id_of run index
@@ -71,6 +74,20 @@ module _ (run index : ℕ) where
     pub history_is : history_of vnode ≡ fallback_of course n
     pub closed : (state_of vnode.id vnode.last_epoch vnode.log).closed ≢ None
 
+  -- it stays one where its vnode does
+  pub was-later : (w next : World) (course later : Course) (opened : ℕ → ℕ) (n : ℕ) → fallback_of later n ≡ fallback_of course n
+      → (f : WasFallback w course opened n) → slice_get next.vnodes f.site ≡ Some f.vnode → WasFallback next later opened n
+  was-later w next course later opened n same f there = record {
+    site = f.site;
+    vnode = f.vnode;
+    there = there;
+    own_is = f.own_is;
+    id_is = f.id_is;
+    epoch_is = f.epoch_is;
+    history_is = f.history_is ∙ sym same;
+    closed = f.closed;
+  }
+
   -- a context was shown, and isn't empty
   abbrev pub WasGiven : Partition → Course → Key → Context → Type 0
   WasGiven partition course key context = WasShownInCourse partition course key context × (context ≢ Pairs [])
@@ -104,9 +121,6 @@ module _ (run index : ℕ) where
   pub given-later : (partition : Partition) (course later : Course) → ((key : Key) (context : Context) → WasShownInCourse partition course key context → WasShownInCourse partition later key context)
       → (key : Key) (context : Context) → WasGiven partition course key context → WasGiven partition later key context
   given-later partition course later still key context given = (still key context given.0, given.1)
-
-  above : (a b n : ℕ) → a ≡ n → b ≡ n + fallback_ids → a < b
-  above a b n e f = omega (arith, e, f)
 
   module _ (opened : ℕ → ℕ) (count : ℕ) (partition : Partition) (agrees : Agrees opened count partition) where
     pub ids : partition.primary < partition.fallback

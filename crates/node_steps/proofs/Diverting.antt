@@ -1,8 +1,7 @@
 -- A partition that is diverted: what is always true stays so, with a site more.
-use Rattle.std.proofs.Common.{◌≡◌, ◌≢◌, inl, inr, ℕ, zero, suc, List, ◌+◌, ◌^◌, ◌<◌, ◌≤◌, Bool, true, false, cond, not, ◌&&◌, ◌||◌, [], ◌∷◌, ◌++◌, length, refl, sym, ◌∙◌, ap, arith, subst}
+use Rattle.std.proofs.Common.{◌≡◌, inl, inr, ℕ, zero, suc, List, ◌+◌, ◌^◌, ◌<◌, ◌≤◌, Bool, true, false, cond, not, ◌&&◌, ◌||◌, [], ◌∷◌, ◌++◌, length, refl, sym, ◌∙◌, ap, arith, subst}
 use Rattle.std.specs.Prelude.{◌==◌, Some, None, slice_get}
 use Rattle.std.specs.List.{list_all}
-use Rattle.std.proofs.lemmas.Bool.Decides.{nat_tests}
 use Rattle.riak_msgs.specs.Contents.{Content}
 use Rattle.vnode_machine.specs.Machine.{State}
 use Rattle.vnode_machine.specs.Sound.{IsSound as IsSoundState}
@@ -16,9 +15,11 @@ use Rattle.node_steps.proofs.Beginnings.{begins-itself}
 use Rattle.node_steps.specs.Schedules.{Begins}
 use Rattle.node_steps.proofs.Inside.{is_reader, is_holder, reads, holds, FitsWord, state_of, state-vnode, IsInPlace, no_hand, no_whole, IsSound, sound-fresh, IsPlain, plain-fresh, IsAware, same_test}
 use Rattle.node_steps.proofs.Kept.{IsFallback, IsOrderly, and_then_some}
+use Rattle.node_steps.proofs.Numbers.{below_past, not_past}
 pub use Rattle.std.proofs.lemmas.Bool.{eqb-true as same_number}
 use Rattle.std.proofs.lemmas.Bool.{not-true as not_true}
 use Rattle.std.proofs.lemmas.Option.{same_Some as some_same}
+use Rattle.std.proofs.Math.Nat.{zero-add, add-zero, add-suc, suc-add}
 
 -- no worker has to do with the partition
 abbrev pub is_alone : World → (index : ℕ) → Bool
@@ -66,30 +67,21 @@ for_about [] index from phase h site v there own = cc
 for_about (vnode ∷ vnodes) index from phase h zero v there own =
     let same : vnode ≡ v = cc in
     let both = neither ((vnode.own == index) && is_about from phase) (is_for vnodes index (suc from) phase) h in
-    ap (λ n. is_about n phase) (plain from) ∙ second (vnode.own == index) (is_about from phase) (same_test vnode.own index (ap (λ (u : SiteVnode). u.own) same ∙ own)) both.0
+    ap (λ n. is_about n phase) (add-zero from) ∙ second (vnode.own == index) (is_about from phase) (same_test vnode.own index (ap (λ (u : SiteVnode). u.own) same ∙ own)) both.0
   where
-    plain : (n : ℕ) → n + 0 ≡ n
-    plain n = omega arith
-
     second : (a b : Bool) → a ≡ true → (a && b) ≡ false → b ≡ false
     second true b e h = h
     second false b e h = cc
 for_about (vnode ∷ vnodes) index from phase h (suc site) v there own =
-    ap (λ n. is_about n phase) (shift from site)
+    ap (λ n. is_about n phase) (add-suc from site ∙ sym (suc-add from site))
     ∙ for_about vnodes index (suc from) phase (neither ((vnode.own == index) && is_about from phase) (is_for vnodes index (suc from) phase) h).1 site v there own
-  where
-    shift : (a b : ℕ) → a + suc b ≡ suc a + b
-    shift a b = omega arith
 
 pub alone_about : (w : World) (index : ℕ) → is_alone w index ≡ true → (place : ℕ) (worker : Worker) → slice_get w.workers place ≡ Some worker
     → (site : ℕ) (v : SiteVnode) → slice_get w.vnodes site ≡ Some v → v.own ≡ index → is_about site worker.phase ≡ false
 alone_about w index alone place worker h site v there own =
-    ap (λ n. is_about n worker.phase) (from_zero site)
+    ap (λ n. is_about n worker.phase) (sym (zero-add site))
     ∙ for_about w.vnodes index 0 worker.phase
     (not_true (is_for w.vnodes index 0 worker.phase) (each_passes (λ (x : Worker). not (is_for w.vnodes index 0 x.phase)) w.workers alone place worker h)) site v there own
-  where
-    from_zero : (n : ℕ) → n ≡ 0 + n
-    from_zero n = omega arith
 
 -- who has no call at a site, and copies or closes nothing there, isn't inside
 not_inside : (index : ℕ) (phase : Phase) → is_about index phase ≡ false → (is_reader index phase ≡ false) × (is_holder index phase ≡ false)
@@ -122,9 +114,6 @@ not_inside index (Copying own other key stage) h = by stage (neither (own == ind
     by (CopyDone None) a b = (b, refl)
     by (CopyDone (Some hand)) a b = (b, a)
 
-below_not : (site n : ℕ) → site < n → site ≢ n
-below_not site n h = λ e. absurd (omega (arith, e, h))
-
 -- where nobody holds the state it is in place
 in_place : (word : Word) (readers holders : ℕ) → FitsWord word readers holders → holders ≡ 0 → (id epoch : ℕ) (log : Log) (place : State Content)
     → IsInPlace id epoch word log place → place ≡ state_of id epoch log
@@ -135,7 +124,7 @@ erased_there : (word : Word) (readers holders : ℕ) → FitsWord word readers h
 erased_there (Open n mark) readers holders f h place = refl
 erased_there Taken readers holders f h place = absurd (omega (arith, f.1, h))
 
-bound : (a b : ℕ) → a ≡ b → b + fallback_ids < 2 ^ 64 → a + fallback_ids < 2 ^ 64
+pub bound : (a b : ℕ) → a ≡ b → b + fallback_ids < 2 ^ 64 → a + fallback_ids < 2 ^ 64
 bound a b e h = subst (λ n. n + fallback_ids < 2 ^ 64) (sym e) h
 
 step_up : (n m : ℕ) → n ≤ m → n ≤ suc m
@@ -146,9 +135,6 @@ further site n h = omega (arith, h)
 
 closer : (site n : ℕ) → suc n ≤ site → n ≤ site
 closer site n h = omega (arith, h)
-
-not_last : (index n m : ℕ) → index < n → n ≤ m → index ≡ m → ⊥
-not_last index n m h k e = omega (arith, h, k, e)
 
 module _ (w : World) (orderly : IsOrderly w) (index epoch : ℕ) (primary : SiteVnode) (there : slice_get w.vnodes index ≡ Some primary) (own : slice_get w.routes index ≡ Some index) (alone : is_alone w index ≡ true) where
   abbrev new_site : ℕ
@@ -181,7 +167,7 @@ module _ (w : World) (orderly : IsOrderly w) (index epoch : ℕ) (primary : Site
   nobody_new place worker h = by (is_about new_site worker.phase) refl
     where
       by : (b : Bool) → is_about new_site worker.phase ≡ b → is_about new_site worker.phase ≡ false
-      by true e = absurd (below_not new_site new_site (orderly.about place worker h new_site e) refl)
+      by true e = absurd (below_past new_site new_site (orderly.about place worker h new_site e) (omega arith))
       by false e = e
 
   sound_new : slice_get w.epochs index ≡ Some epoch → IsSound (how_many (reads new_site) w.workers) (how_many (holds new_site) w.workers) fallback
@@ -204,7 +190,7 @@ module _ (w : World) (orderly : IsOrderly w) (index epoch : ℕ) (primary : Site
 
   new_fallback : IsFallback next index new_site
   new_fallback = record {
-    apart = λ e. not_last index (length w.routes) new_site (get-below w.routes index index own) orderly.sites e;
+    apart = λ e. not_past index (length w.routes) new_site (get-below w.routes index index own) orderly.sites e;
     vnode = fallback;
     there = get-last w.vnodes fallback;
     own_is = refl;
@@ -239,7 +225,7 @@ module _ (w : World) (orderly : IsOrderly w) (index epoch : ℕ) (primary : Site
         let old_below : other < length w.routes = subst (λ n. other < n) (length-set w.routes index new_site) under in
         elim (get-more w.vnodes fallback other v h) [
           | inl e ↦ orderly.homes other v old_below e
-          | inr e ↦ absurd (not_last other (length w.routes) new_site old_below orderly.sites e.0)
+          | inr e ↦ absurd (not_past other (length w.routes) new_site old_below orderly.sites e.0)
         ];
     routed_to = λ o s h. elim (same_or_other index o) [
       | inl e ↦
@@ -264,7 +250,7 @@ module _ (w : World) (orderly : IsOrderly w) (index epoch : ℕ) (primary : Site
         let old_below : other < length w.routes = subst (λ n. other < n) (length-set w.routes index new_site) below in
         elim (get-more w.vnodes fallback other v h) [
           | inl e ↦ orderly.bounds other v old_below e
-          | inr e ↦ absurd (not_last other (length w.routes) new_site old_below orderly.sites e.0)
+          | inr e ↦ absurd (not_past other (length w.routes) new_site old_below orderly.sites e.0)
         ];
     sites = subst (λ n. n ≤ length (w.vnodes ++ fallback ∷ [])) (sym (length-set w.routes index new_site))
         (subst (λ n. length w.routes ≤ n) (sym (length-more w.vnodes fallback)) (step_up (length w.routes) new_site orderly.sites));

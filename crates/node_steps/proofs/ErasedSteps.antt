@@ -3,7 +3,7 @@ use Rattle.std.proofs.Common.{◌≡◌, ℕ, suc, ◌+◌, Bool, true, false, c
 use Rattle.std.specs.Prelude.{◌==◌, pred, Option, Some, None, is_some, option_map, option_and_then, slice_get, slice_set}
 use Rattle.std.specs.Option.{option_map_or}
 use Rattle.std.proofs.lemmas.Option.{slice_get-map}
-use Rattle.std.proofs.lemmas.List.{length-map}
+use Rattle.std.proofs.lemmas.List.{length-map, map-append}
 use Rattle.std.specs.List.{list_all}
 use Rattle.riak_msgs.specs.Contents.{Content}
 use Rattle.vnode_machine.specs.Machine.{State}
@@ -12,7 +12,6 @@ use Rattle.copy_laws.specs.Copies.{Closed}
 use Rattle.vnode_machine.specs.Copying.{apply_close}
 use Rattle.node_steps.specs.World.{Word, Open, Taken, CloseInside, CloseLooked, CloseDone, Phase, Closing, SiteVnode, Worker, World, fresh_vnode, worker_at, route, history_of}
 use Rattle.node_steps.specs.Steps.{Action, Looks, Publishes, Step, By, Diverts, Outcome, NotPossible, Happened, routed, site_of, seeing, does, left_in, judged, judged_by, closed_by, closes, acts, is_about, is_for, fallback_ids, diverted_by, diverted, happens, after, outcome}
-use Rattle.node_steps.proofs.Mapped.{map-more}
 use Rattle.node_steps.proofs.Kept.{IsOrderly}
 use Rattle.node_steps.proofs.Diverting.{in_place_still, same_number}
 use Rattle.node_steps.specs.Erased.{IsShown, erase_place, erase_vnode, erase_worker, erase}
@@ -143,9 +142,9 @@ module _ (w : World) (orderly : IsOrderly w) (index : ℕ) where
       → erase (diverted_by w index epoch vnode) ≡ erase (diverted_by (erase w) index epoch (erase_vnode vnode))
   same_diverted epoch vnode e =
       let fresh : SiteVnode = fresh_vnode (vnode.place.vnode + fallback_ids) index epoch in
-      let vnodes = map-more erase_vnode w.vnodes fresh
+      let vnodes = map-append erase_vnode w.vnodes (fresh ∷ [])
       ∙ (λ i. sym (vnodes_twice w.vnodes) i ++ erase_vnode (fresh_vnode ((sym e i).vnode + fallback_ids) index epoch) ∷ [])
-      ∙ sym (map-more erase_vnode (map erase_vnode w.vnodes) (fresh_vnode ((erase_place vnode.word vnode.place).vnode + fallback_ids) index epoch)) in
+      ∙ sym (map-append erase_vnode (map erase_vnode w.vnodes) (fresh_vnode ((erase_place vnode.word vnode.place).vnode + fallback_ids) index epoch ∷ [])) in
       let count = sym (length-map w.vnodes erase_vnode) in
       let workers = sym (workers_twice w.workers) in
       λ i. record { vnodes = vnodes i; routes = slice_set w.routes index (count i); epochs = w.epochs; diversions = []; workers = workers i }

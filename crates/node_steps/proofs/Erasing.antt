@@ -9,11 +9,11 @@ use Rattle.vnode_machine.specs.Machine.{State}
 use Rattle.vnode_machine.specs.Replay.{History}
 use Rattle.copy_laws.specs.Joining.{Log}
 use Rattle.vnode_machine.specs.Step.{MachineOutcome, Refused, Answered, Accepted, outcome as outcome_of_ask}
-pub use Rattle.node_steps.proofs.Mapped.{map-set}
+pub use Rattle.std.proofs.lemmas.List.{map-set}
 use Rattle.node_steps.specs.World.{Word, Open, Taken, CopyAsked, CopyInside, CopyLooked, CopyTaken, CopyDone, CloseAsked, CloseTaken, CloseInside, CloseLooked, CloseDone, Phase, Idle, Asked, Reading, Holding, Done, Turned, Copying, Closing, Brought, nothing_brought, SiteVnode, Worker, World, worker_at, seen_at, brought_by}
 use Rattle.node_steps.specs.Steps.{Action, Asks, AsksNowhere, Copies, CopiesFrom, Closes, ClosesFrom, Enters, Leaves, Marks, Unmarks, Takes, Puts, Looks, Publishes, Outcome, WorkerTurn, reads_by, holds_by, looks_by, turn_of, site_of, seeing, turned, does}
 use Rattle.node_steps.proofs.Lists.{one, how_many}
-use Rattle.node_steps.proofs.Inside.{is_reader, reads, holds, FitsWord, IsAbout, same_test}
+use Rattle.node_steps.proofs.Inside.{is_reader, reads, holds, FitsWord, IsAbout, same_test, vnode_in}
 use Rattle.node_steps.proofs.EachTurn.{about_is}
 use Rattle.node_steps.proofs.CopyErasing.{erase_turn, IsErased, copy_asks, copy_enters, copy_leaves, copy_takes, copy_puts, copy_looks, copy_publishes}
 use Rattle.node_steps.proofs.CloseErasing.{turned_leaves, turned_puts, close_asks, close_takes, close_enters, close_leaves, close_puts}
@@ -29,9 +29,6 @@ pub vnode_twice : (vnode : SiteVnode) → erase_vnode (erase_vnode vnode) ≡ er
 vnode_twice vnode = ap (λ p. record { id = 0; own = vnode.own; last_epoch = 0; word = vnode.word; log = []; place = p }) (place_twice vnode.word vnode.place)
 
 module _ (id home epoch : ℕ) (seen : History) (brought : Brought) (log : Log) (place : State Content) where
-  abbrev vnode_in : Word → SiteVnode
-  vnode_in word = record { id = id; own = home; last_epoch = epoch; word = word; log = log; place = place }
-
   abbrev Same : Word → Action → Phase → Type 0
   Same word action phase = IsErased id home epoch seen brought log place word action phase
 
@@ -85,7 +82,7 @@ module _ (id home epoch : ℕ) (seen : History) (brought : Brought) (log : Log) 
   puts word (Copying own site key stage) = copy_puts id home epoch seen brought log place word own site key stage
 
   held_look : (word : Word) (index : ℕ) (ask : RegisterAsk Content Context) (hand : State Content) (o : MachineOutcome)
-      → erase_turn (looks_by seen brought (vnode_in word) index ask hand o) ≡ erase_turn (looks_by [] nothing_brought (erase_vnode (vnode_in word)) index ask hand o)
+      → erase_turn (looks_by seen brought (vnode_in id home epoch log place word) index ask hand o) ≡ erase_turn (looks_by [] nothing_brought (erase_vnode (vnode_in id home epoch log place word)) index ask hand o)
   held_look (Open n mark) index ask hand (Refused number) = refl
   held_look (Open n mark) index ask hand (Answered response) = refl
   held_look (Open n mark) index ask hand (Accepted operation response next) = refl
@@ -94,13 +91,13 @@ module _ (id home epoch : ℕ) (seen : History) (brought : Brought) (log : Log) 
   held_look Taken index ask hand (Accepted operation response next) = refl
 
   held_by : (word : Word) (index : ℕ) (ask : RegisterAsk Content Context) (hand : State Content) (closed : Bool)
-      → erase_turn (holds_by seen brought (vnode_in word) index ask hand closed) ≡ erase_turn (holds_by [] nothing_brought (erase_vnode (vnode_in word)) index ask hand closed)
+      → erase_turn (holds_by seen brought (vnode_in id home epoch log place word) index ask hand closed) ≡ erase_turn (holds_by [] nothing_brought (erase_vnode (vnode_in id home epoch log place word)) index ask hand closed)
   held_by (Open n mark) index ask hand true = refl
   held_by Taken index ask hand true = refl
   held_by word index ask hand false = held_look word index ask hand (outcome_of_ask hand ask)
 
   read_by : (n : ℕ) (mark : Bool) (index : ℕ) (get : GetCommand Context) (closed : Bool)
-      → erase_turn (reads_by seen brought (vnode_in (Open n mark)) index get closed) ≡ erase_turn (reads_by [] nothing_brought (erase_vnode (vnode_in (Open n mark))) index get closed)
+      → erase_turn (reads_by seen brought (vnode_in id home epoch log place (Open n mark)) index get closed) ≡ erase_turn (reads_by [] nothing_brought (erase_vnode (vnode_in id home epoch log place (Open n mark))) index get closed)
   read_by n mark index get true = refl
   read_by n mark index get false = refl
 

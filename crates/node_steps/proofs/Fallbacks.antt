@@ -4,8 +4,7 @@ use Rattle.std.specs.Prelude.{◌==◌, Option, Some, None, option_map, option_a
 use Rattle.std.specs.Option.{option_map_or}
 use Rattle.std.specs.List.{list_all}
 use Rattle.std.specs.Global.{Box}
-use Rattle.std.proofs.lemmas.Option.{slice_get-map}
-use Rattle.std.proofs.lemmas.List.{length-map}
+use Rattle.std.proofs.lemmas.List.{length-map, map-append}
 use Rattle.node_steps.specs.declared.hand.Hand.{Hand}
 use Rattle.node_steps.specs.declared.outcome.Outcome.TheVariants as outcomes
 use Rattle.node_steps.specs.declared.parts.Parts.{Parts}
@@ -17,7 +16,7 @@ use Rattle.node_steps.specs.Erased.{erase, erase_vnode}
 use Rattle.node_steps.specs.Returned.{returned}
 use Rattle.node_steps.specs.Running.{phase_of, vnode_of, worker_of}
 use Rattle.node_steps.specs.Parts.{AreFit, IsOpen, DivertsTo, TakesFitStep, world_in}
-use Rattle.node_steps.proofs.Mapped.{at_some, map-more, tested_same}
+use Rattle.node_steps.proofs.Mapped.{at_some, at_none, tested_same}
 use Rattle.node_steps.proofs.Stepping.{vnodes_itself, workers_itself, not_possible}
 
 -- no worker of these has to do with a partition whose sites are these
@@ -60,26 +59,25 @@ module _ (parts : Parts) (index : ℕ) where
       by None = refl
       by (Some site) = ap (by_epoch site) e
 
+  -- it isn't diverted behind any epoch
+  never : (site : ℕ) → slice_get parts.routes.items index ≡ Some site → ((epoch : ℕ) → option_and_then (tested site epoch) (slice_get w.vnodes index) ≡ None) → diverted w index ≡ None
+  never site e none = ap by_route e ∙ by (slice_get w.epochs index)
+    where
+      by : (o : Option ℕ) → by_epoch site o ≡ None
+      by None = refl
+      by (Some epoch) = none epoch
+
   -- its calls go elsewhere, or a worker has to do with it
   pub not_free : (site : ℕ) → slice_get parts.routes.items index ≡ Some site → (site == index) && free ≡ false → diverted w index ≡ None
-  not_free site e test = ap by_route e ∙ by (slice_get w.epochs index)
+  not_free site e test = never site e (λ epoch. by_vnode epoch (slice_get w.vnodes index))
     where
       by_vnode : (epoch : ℕ) (o : Option SiteVnode) → option_and_then (tested site epoch) o ≡ None
       by_vnode epoch None = refl
       by_vnode epoch (Some vnode) = ap (λ b. cond b (Some (diverted_by w index epoch vnode)) None) test
 
-      by : (o : Option ℕ) → by_epoch site o ≡ None
-      by None = refl
-      by (Some epoch) = by_vnode epoch (slice_get w.vnodes index)
-
   -- it has no vnode
   pub no_primary : (site : ℕ) → slice_get parts.routes.items index ≡ Some site → slice_get parts.sites.items index ≡ None → diverted w index ≡ None
-  no_primary site e none = ap by_route e ∙ by (slice_get w.epochs index)
-    where
-      by : (o : Option ℕ) → by_epoch site o ≡ None
-      by None = refl
-      by (Some epoch) =
-          ap (λ o. option_and_then (tested site epoch) o) (slice_get-map vnode_of parts.sites.items index ∙ ap (λ o. option_map vnode_of o) none)
+  no_primary site e none = never site e (λ epoch. ap (λ o. option_and_then (tested site epoch) o) (at_none vnode_of parts.sites.items index none))
 
   module _ (site epoch : ℕ) (primary : Site) (routed : slice_get parts.routes.items index ≡ Some site) (behind : slice_get parts.epochs.items index ≡ Some epoch)
       (own : (site == index) && free ≡ true) (there : slice_get parts.sites.items index ≡ Some primary) where
@@ -140,9 +138,9 @@ module _ (parts : Parts) (index : ℕ) where
       let d = to fit in
       let count = ap (λ n. slice_set parts.routes.items index n) (sym (length-map parts.sites.items vnode_of)) in
       let all_routes = routes ∙ count in
-      let vnodes = ap (λ ss. map vnode_of ss) sites ∙ map-more vnode_of parts.sites.items fallback
+      let vnodes = ap (λ ss. map vnode_of ss) sites ∙ map-append vnode_of parts.sites.items (fallback ∷ [])
       ∙ (λ i. vnodes_itself parts.sites.items i ++ (is ∙ ap (λ n. erase_vnode (fresh_vnode n index epoch)) d.id_is) i ∷ [])
-      ∙ sym (map-more erase_vnode (map vnode_of parts.sites.items) (fresh_vnode (d.primary.place.vnode + fallback_ids) index epoch)) in
+      ∙ sym (map-append erase_vnode (map vnode_of parts.sites.items) (fresh_vnode (d.primary.place.vnode + fallback_ids) index epoch ∷ [])) in
       let phases = ap (λ ps. map worker_of ps) workers ∙ workers_itself parts.workers.items in
       let later : world_in new ≡ erase (diverted_by w index epoch d.primary) =
       λ i. record { vnodes = vnodes i; routes = all_routes i; epochs = epochs i; diversions = []; workers = phases i } in

@@ -1,7 +1,7 @@
 -- Where a step finds its worker and its vnode.
-use Rattle.std.proofs.Common.{◌≡◌, inl, inr, refl, ℕ, suc, ◌≤◌, ◌<◌, ◌-◌, List, length, ◌∙◌, ap, subst, arith}
-use Rattle.std.specs.Prelude.{Option, Some, None, SomeIff, option_map, get_or, slice_get}
-use Rattle.std.proofs.lemmas.Option.{slice_get_past, slice_get-map, slice_get_read, slice_get_cases}
+use Rattle.std.proofs.Common.{◌≡◌, refl, ℕ, suc, ◌≤◌, ◌<◌, ◌-◌, List, length, ◌∙◌, ap, subst, arith}
+use Rattle.std.specs.Prelude.{Option, Some, None, SomeIff, get_or, slice_get}
+use Rattle.std.proofs.lemmas.Option.{slice_get_past, slice_get_read}
 use Rattle.node_steps.specs.declared.parts.Parts.{Parts}
 use Rattle.node_steps.specs.declared.phase.Phase.{Phase as RunPhase}
 use Rattle.node_steps.specs.declared.step.Act.{Act}
@@ -10,7 +10,7 @@ use Rattle.node_steps.specs.Steps.{Enters, acts as acts_in, site_of, happens}
 use Rattle.node_steps.specs.Running.{phase_of, vnode_of, worker_of}
 use Rattle.node_steps.specs.Asked.{action_of, step_by}
 use Rattle.node_steps.specs.Parts.{world_in}
-use Rattle.node_steps.proofs.Mapped.{at_some}
+use Rattle.node_steps.proofs.Mapped.{at_some, at_none}
 use Rattle.node_steps.proofs.Stepping.{sent_itself, same_site, no_call, no_vnode}
 use Rattle.node_steps.proofs.RunCloses.{idle_closes, past_closes}
 
@@ -35,7 +35,7 @@ module _ (parts : Parts) (worker place : ℕ) (phase : RunPhase) (number : worke
 
   pub without_vnode : (index : ℕ) → site_of Enters (phase_of phase) ≡ Some index → length parts.sites.items ≤ index → Cannot parts worker
   without_vnode index about past = λ act.
-      let none : slice_get w.vnodes index ≡ None = slice_get-map vnode_of parts.sites.items index ∙ ap (λ o. option_map vnode_of o) (slice_get_past parts.sites.items index past) in
+      let none = at_none vnode_of parts.sites.items index (slice_get_past parts.sites.items index past) in
       by_place act
       ∙ no_vnode w place index (action_of act) (worker_of phase) there (past_closes w (suc place) (worker_of phase) act (phase_of phase) index about none)
       (same_site act (phase_of phase) ∙ about) none
@@ -48,10 +48,3 @@ number_is worker place (Some x) h e = let same : x ≡ place = cc in omega (arit
 -- what was read at a place of a list stands there
 pub stands : {X : Type 0} (xs ys : List X) (i : ℕ) (x : X) → xs ≡ ys → i < length xs → x ≡ get_or xs i x → slice_get ys i ≡ Some x
 stands xs ys i x e h r = subst (λ zs. slice_get zs i ≡ Some x) e (slice_get_read xs (length xs) i x refl h r)
-
--- something stands at each place of a list
-pub something : {X : Type 0} (xs : List X) (i : ℕ) → i < length xs → (x : X) × (slice_get xs i ≡ Some x)
-something xs i h = elim (slice_get_cases xs i).1 [
-  | inl e ↦ (e.0, e.2)
-  | inr e ↦ absurd (omega (arith, h, e.0))
-]

@@ -1,5 +1,7 @@
 -- What is always true of a world is true of the first.
 use Rattle.std.proofs.Common.{◌≡◌, inl, ℕ, zero, suc, ◌+◌, ◌^◌, ◌<◌, ◌≤◌, true, List, [], length, refl, sym, ◌∙◌, ap, arith, subst}
+use Rattle.std.proofs.lemmas.Option.{same_Some}
+use Rattle.std.proofs.Math.Nat.{zero-add, add-zero}
 use Rattle.std.specs.Prelude.{Some, slice_get, replicate}
 use Rattle.actor_epoch.specs.Limits.{max_epoch}
 use Rattle.vnode_machine.specs.Sound.{IsSound as IsSoundState}
@@ -9,29 +11,21 @@ use Rattle.node_steps.specs.World.{Idle, SiteVnode, Worker, CommandsAlone, fresh
 use Rattle.node_steps.specs.Steps.{is_about, fallback_ids}
 use Rattle.node_steps.specs.Schedules.{Start, IsStart}
 use Rattle.node_steps.proofs.Lists.{how_many, counted_none, get-replicate}
-use Rattle.node_steps.proofs.Own.{length-own, length-opening, own_is, from_zero}
+use Rattle.node_steps.proofs.Own.{length-own, length-opening, own_is}
 use Rattle.node_steps.proofs.Beginnings.{begins-itself}
 use Rattle.node_steps.proofs.Inside.{is_reader, is_holder, reads, holds, IsSound, sound-fresh, IsPlain, plain-fresh, IsAware, state_of, IsOpenAt}
 use Rattle.node_steps.proofs.Coming.{between_in}
 use Rattle.node_steps.proofs.Kept.{IsOrderly}
+use Rattle.node_steps.proofs.Numbers.{shift}
 
 -- a vnode of the opening world is a fresh one
 pub opened : (run from count index : ℕ) (vnode : SiteVnode) → slice_get (opening_vnodes run from count) index ≡ Some vnode
     → (index < count) × (vnode ≡ fresh_vnode (id_of run (from + index)) (from + index) 0)
 opened run from zero index vnode h = cc
-opened run from (suc count) zero vnode h = (omega arith, sym (same h) ∙ ap (λ n. fresh_vnode (id_of run n) n 0) (plain from))
-  where
-    same : {a b : SiteVnode} → Some a ≡ Some b → a ≡ b
-    same e = cc
-
-    plain : (n : ℕ) → n ≡ n + 0
-    plain n = omega arith
+opened run from (suc count) zero vnode h = (omega arith, sym (same_Some _ vnode h) ∙ ap (λ n. fresh_vnode (id_of run n) n 0) (sym (add-zero from)))
 opened run from (suc count) (suc index) vnode h =
     let rest = opened run (from + 1) count index vnode h in
     (omega (arith, rest.0), rest.1 ∙ ap (λ n. fresh_vnode (id_of run n) n 0) (shift from index))
-  where
-    shift : (a b : ℕ) → (a + 1) + b ≡ a + suc b
-    shift a b = omega arith
 
 within : (run index count : ℕ) → run < 2 ^ 32 → count < 2 ^ 16 → index < count → IsWithinLimits (id_of run (0 + index)) 0
 within run index count r c h = (omega (arith, r, c, h), omega arith)
@@ -84,10 +78,10 @@ orderly-opening start is =
           subst (λ n. vnode.own < n) (sym (length-own 0 start.vnodes)) (subst (λ (v : SiteVnode). v.own < start.vnodes) (sym o.1) (plainly index start.vnodes o.0));
       homes = λ index vnode below h.
           let o = opened start.run 0 start.vnodes index vnode h in
-          subst (λ (v : SiteVnode). (v.own ≡ index) × IsOpenAt v.id v.last_epoch v.log) (sym o.1) (from_zero index, refl);
-      routed_to = λ own site h. inl (own_is 0 start.vnodes own site h ∙ from_zero own);
+          subst (λ (v : SiteVnode). (v.own ≡ index) × IsOpenAt v.id v.last_epoch v.log) (sym o.1) (zero-add index, refl);
+      routed_to = λ own site h. inl (own_is 0 start.vnodes own site h ∙ zero-add own);
       opens = λ site vnode h n clear.
-          let o = opened start.run 0 start.vnodes site vnode h in absurd (n (ap (λ (v : SiteVnode). v.own) o.1 ∙ from_zero site));
+          let o = opened start.run 0 start.vnodes site vnode h in absurd (n (ap (λ (v : SiteVnode). v.own) o.1 ∙ zero-add site));
       limited = λ index epoch h. subst (λ n. n ≤ max_epoch) (sym (get-replicate start.vnodes index 0 epoch h)) (omega arith);
       bounds = λ index vnode below h.
           let o = opened start.run 0 start.vnodes index vnode h in

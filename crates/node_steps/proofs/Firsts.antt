@@ -1,21 +1,19 @@
 -- Until a fallback of its partition is closed, no command follows a copy in a log.
-use Rattle.std.proofs.Common.{◌≡◌, ◌≢◌, ◌⊎◌, inl, inr, ℕ, ◌+◌, List, [], ◌∷◌, refl, sym, ◌∙◌, ap, subst}
+use Rattle.std.proofs.Common.{◌≡◌, ◌⊎◌, inl, inr, ℕ, ◌+◌, List, [], ◌∷◌, refl, sym, ◌∙◌, ap, subst}
 use Rattle.std.specs.Prelude.{pred, Option, Some, None, option_map, slice_get}
 use Rattle.std.specs.Option.{option_map_or}
-use Rattle.copy_laws.specs.Copies.{Closed}
 use Rattle.node_steps.specs.World.{SiteVnode, World, CommandsAlone, fresh_vnode, opening_world, opening_vnodes, route, log_at, brought_by}
 use Rattle.node_steps.specs.Steps.{Action, Step, By, Diverts, Outcome, NotPossible, Happened, Replied, NotHeld, StuckThere, CopiedBack, Elsewhere, LeftThere, fallback_ids, routed, turned, acts, diverted_by, diverted}
 use Rattle.node_steps.specs.Schedules.{Start, IsStart, world_after}
-use Rattle.node_steps.specs.Claims.{CommandsFirst, state_at, HadClose, CallsMeetNoCopies}
+use Rattle.node_steps.specs.Claims.{CommandsFirst, HadClose, CallsMeetNoCopies}
 use Rattle.node_steps.proofs.Lists.{same_or_other, get-first}
-use Rattle.node_steps.proofs.Inside.{state_of}
 use Rattle.node_steps.proofs.Coming.{Comes}
 use Rattle.node_steps.proofs.Kept.{IsPossible, possible}
 use Rattle.node_steps.proofs.FirstWorld.{opened}
 use Rattle.node_steps.proofs.Diverting.{IsDiversion, diversion}
 use Rattle.node_steps.proofs.Scheduled.{orderly}
 use Rattle.node_steps.proofs.CloseSteps.{acts_cases}
-use Rattle.node_steps.proofs.Quiet.{IsQuiet, quiet-judged, quiet-closed}
+use Rattle.node_steps.proofs.Quiet.{IsQuiet, quiet-judged, quiet-closed, had_quiet}
 use Rattle.node_steps.proofs.Lifting.{turn, call_is, log_before, log_after, log_elsewhere, log-more}
 use Rattle.node_steps.proofs.CallSites.{sent-by}
 use Rattle.node_steps.proofs.CallsApart.{closed_in, closed_vnode, had-close}
@@ -31,24 +29,13 @@ first-opening start site = inl (by (slice_get (opening_vnodes start.run 0 start.
     by None h = tt
     by (Some v) h = subst CommandsFirst (sym (ap (λ (u : SiteVnode). u.log) (opened start.run 0 start.vnodes site v h).1)) tt
 
--- what was closed still is, by a closer's look or publish
-had-quiet : (w next : World) → IsQuiet w next → (site : ℕ) → HadClose w site → HadClose next site
-had-quiet w next calm site (other, own, closed) = (other, calm.owns other ∙ own ∙ sym (calm.owns site), by (calm.logs other))
-  where
-    not_none : (number : ℕ) → Some number ≡ None → ⊥
-    not_none number e = cc
-
-    by : (log_at next other ≡ log_at w other) ⊎ ((number : ℕ) × (log_at next other ≡ Closed number ∷ log_at w other)) → (state_at next other).closed ≢ None
-    by (inl same) = λ none. closed (sym (λ i. (state_of (calm.ids other i) (calm.epochs other i) (same i)).closed) ∙ none)
-    by (inr more) = λ none. not_none more.0 (sym (λ i. (state_of (calm.ids other i) (calm.epochs other i) (more.1 i)).closed) ∙ none)
-
 first-quiet : (w next : World) → IsQuiet w next → ((site : ℕ) → First w site) → (site : ℕ) → First next site
 first-quiet w next calm was site = elim (was site) [
   | inl first ↦ inl (elim (calm.logs site) [
     | inl same ↦ subst CommandsFirst (sym same) first
     | inr more ↦ subst CommandsFirst (sym more.1) first
   ])
-  | inr had ↦ inr (had-quiet w next calm site had)
+  | inr had ↦ inr (had_quiet w next calm site had)
 ]
 
 first-diverted : (w : World) (other : ℕ) (after : World) (d : IsDiversion w other after) → ((site : ℕ) → First w site) → (site : ℕ) → First after site

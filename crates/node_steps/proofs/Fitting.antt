@@ -1,16 +1,17 @@
 -- What is kept of a world is fit for every step: readers are counted, and a reader has a state to look at.
-use Rattle.std.proofs.Common.{◌≡◌, ◌⊎◌, inl, inr, ℕ, zero, suc, ◌+◌, ◌≤◌, ◌<◌, ◌^◌, Bool, true, false, not, List, [], ◌∷◌, map, length, refl, sym, ◌∙◌, ap, arith, subst}
-use Rattle.std.specs.Prelude.{Option, Some, None, option_map, slice_get, replicate}
+use Rattle.std.proofs.Common.{◌≡◌, ◌⊎◌, inl, inr, ℕ, suc, ◌+◌, ◌≤◌, ◌<◌, ◌^◌, Bool, true, false, not, List, [], ◌∷◌, map, length, refl, sym, ◌∙◌, ap, arith, subst}
+use Rattle.std.specs.Prelude.{Option, Some, None, option_map, slice_get}
 use Rattle.std.specs.Option.{option_map_or}
 use Rattle.std.specs.List.{list_all}
 use Rattle.std.proofs.lemmas.Option.{slice_get-map, same_Some as some_same}
 use Rattle.riak_msgs.specs.Contents.{Content}
 use Rattle.vnode_machine.specs.Machine.{State}
+use Rattle.vnode_machine.proofs.Tests.{unmapped}
 use Rattle.node_steps.specs.declared.parts.Parts.{Parts}
 use Rattle.node_steps.specs.declared.phase.Phase.{Phase as RunPhase}
 use Rattle.node_steps.specs.declared.site.Site.{Site}
 use Rattle.node_steps.specs.World.{Word, Open, Taken, CopyTaken, Phase, Copying, SiteVnode, Worker, World, route}
-use Rattle.node_steps.specs.Steps.{Step, By, Diverts, Enters, Outcome, Happened, routed, site_of, is_for, fallback_ids, does, acts, diverted, after}
+use Rattle.node_steps.specs.Steps.{Step, By, Diverts, Enters, Outcome, Happened, routed, site_of, is_for, does, acts, diverted, after}
 use Rattle.node_steps.specs.Schedules.{Start, world_after}
 use Rattle.node_steps.specs.Erased.{IsShown, erase_vnode, erase_worker}
 use Rattle.node_steps.specs.Running.{CanCountReader, phase_of, vnode_of, worker_of}
@@ -20,16 +21,16 @@ use Rattle.node_steps.proofs.Lists.{one, how_many, get-below, length-set}
 use Rattle.node_steps.proofs.Mapped.{at_some}
 use Rattle.node_steps.proofs.Inside.{reads, holds, FitsWord, IsInHand}
 use Rattle.node_steps.proofs.Coming.{between_in}
-use Rattle.node_steps.proofs.Kept.{IsOrderly, map_some, possible}
+use Rattle.node_steps.proofs.Kept.{IsOrderly, possible}
 use Rattle.node_steps.proofs.CloseSteps.{IsJudgement, IsClose, acts_cases}
-use Rattle.node_steps.proofs.Diverting.{diversion, holders_none, in_place_still, id_is}
+use Rattle.node_steps.proofs.Diverting.{diversion, holders_none, in_place_still, id_is, bound}
 use Rattle.node_steps.proofs.Scheduled.{orderly}
 use Rattle.node_steps.proofs.Erasing.{shown_at}
 use Rattle.node_steps.proofs.ErasedSteps.{alone_erased}
 use Rattle.std.proofs.lemmas.List.{length-replicate}
 
 from_some : {A B : Type 0} (f : A → B) (xs : List A) (i : ℕ) (y : B) → slice_get (map f xs) i ≡ Some y → (x : A) × (slice_get xs i ≡ Some x) × (f x ≡ y)
-from_some f xs i y h = map_some f (slice_get xs i) y (sym (slice_get-map f xs i) ∙ h)
+from_some f xs i y h = unmapped f (slice_get xs i) y (sym (slice_get-map f xs i) ∙ h)
 
 workers_stay : (w : World) (step : Step) → length (after w step).workers ≡ length w.workers
 workers_stay w (By number action) = by (acts w number (routed (route w) action)) refl
@@ -109,9 +110,6 @@ is_open : (word : Word) (readers holders : ℕ) → FitsWord word readers holder
 is_open (Open n mark) readers holders f h = tt
 is_open Taken readers holders f h = absurd (omega (arith, f.1, h))
 
-small : (a b : ℕ) → a ≡ b → b + fallback_ids < 2 ^ 64 → a + fallback_ids < 2 ^ 64
-small a b e h = subst (λ n. n + fallback_ids < 2 ^ 64) (sym e) h
-
 left_fit : (parts : Parts) → IsKept (world_in parts) → (index : ℕ) (site : Site) → slice_get parts.routes.items index ≡ Some index → slice_get parts.sites.items index ≡ Some site
     → list_all (λ worker. not (is_for (world_in parts).vnodes index 0 worker.phase)) (world_in parts).workers ≡ true → IsLeft (vnode_of site)
 left_fit parts kept index site route_is there free =
@@ -126,7 +124,7 @@ left_fit parts kept index site route_is there free =
     let place = ap (λ (v : SiteVnode). v.place.vnode) (sym b.2) ∙ ap (λ (s : State Content). s.vnode) (in_place_still w sound index 0 b.0 b.1 own alone) ∙ id_is w sound index 0 b.0 b.1 own alone in
     record {
       opened = subst IsOpen (ap (λ (v : SiteVnode). v.word) b.2) is;
-      id_fits = small (vnode_of site).place.vnode b.0.id place (sound.bounds index b.0 (get-below w.routes index index own) b.1);
+      id_fits = bound (vnode_of site).place.vnode b.0.id place (sound.bounds index b.0 (get-below w.routes index index own) b.1);
     }
 
 pub are_fit : (parts : Parts) → IsKept (world_in parts) → AreFit parts

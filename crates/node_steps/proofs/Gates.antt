@@ -1,5 +1,6 @@
 -- Each event of a vnode behind a gate is five steps of one worker: it is asked, takes, looks, publishes, and puts back.
 use Rattle.std.proofs.Common.{◌≡◌, ℕ, zero, suc, ◌≤◌, List, [], ◌∷◌, refl, ◌∙◌, ap, arith, subst}
+use Rattle.std.proofs.Math.Nat.{zero-add}
 use Rattle.std.specs.Prelude.{false, is_some, Some, None, option_map, option_and_then, slice_get, replicate}
 use Rattle.std.specs.Option.{option_map_or}
 use Rattle.riak_msgs.specs.Contents.{Content}
@@ -21,7 +22,7 @@ use Rattle.node_steps.specs.Gates.{RunsAreScheduled}
 use Rattle.sibling_register.specs.History.{Event as RegisterEvent}
 use Rattle.node_steps.proofs.Unmixed.{same-event}
 use Rattle.node_steps.proofs.Lists.{set-here}
-use Rattle.node_steps.proofs.Own.{vnode_there, own_there, from_zero}
+use Rattle.node_steps.proofs.Own.{vnode_there, own_there}
 use Rattle.node_steps.proofs.Kept.{routed_own}
 use Rattle.node_steps.proofs.Stepping.{result_at, at_one}
 use Rattle.node_steps.proofs.Accepting.{accepted_is, was_accepted}
@@ -131,7 +132,7 @@ runs_are_scheduled start index events state workers vnodes run =
         fresh_worker,
         first_there start.workers fresh_worker workers,
         refl,
-        vnode_there start.run 0 start.vnodes index vnodes ∙ ap (λ n. Some (fresh_vnode (id_of start.run n) n 0)) (from_zero index),
-        own_there 0 start.vnodes index vnodes ∙ ap (λ n. Some n) (from_zero index),
+        vnode_there start.run 0 start.vnodes index vnodes ∙ ap (λ n. Some (fresh_vnode (id_of start.run n) n 0)) (zero-add index),
+        own_there 0 start.vnodes index vnodes ∙ ap (λ n. Some n) (zero-add index),
       ),
     )

@@ -15,7 +15,9 @@ use Rattle.copy_laws.specs.Joining.{Log}
 use Rattle.copy_laws.proofs.Fallback.{log-replay}
 use Rattle.dvv_set.specs.Clocks.{DotState}
 use Rattle.vnode_machine.specs.Copying.{is_stuck, apply_copy}
+use Rattle.vnode_machine.proofs.Updates.{closed-kept}
 pub use Rattle.node_steps.proofs.Mapped.{same_test, other_test}
+use Rattle.node_steps.proofs.Numbers.{apart}
 use Rattle.node_steps.specs.World.{Word, Open, Taken, PlannedCommand, CopyStage, CopyAsked, CopyInside, CopyLooked, CopyTaken, CopyDone, CloseStage, CloseAsked, CloseTaken, CloseInside, CloseLooked, CloseDone, Phase, Idle, Asked, Reading, Holding, Done, Turned, Copying, Closing, SiteVnode, Worker, CommandsAlone, fresh_vnode, seen_at}
 use Rattle.node_steps.specs.Steps.{Enters, copy_site, close_site, site_of, is_about}
 use Rattle.node_steps.specs.Schedules.{Begins}
@@ -77,19 +79,24 @@ abbrev pub FitsWord : Word → (readers holders : ℕ) → Type 0
 FitsWord (Open n mark) readers holders = (readers ≡ n) × (holders ≡ 0)
 FitsWord Taken readers holders = (readers ≡ 0) × (holders ≡ 1)
 
+-- a vnode by its parts
+abbrev pub vnode_in : (id home epoch : ℕ) → Log → State Content → Word → SiteVnode
+vnode_in id home epoch log place word = record { id = id; own = home; last_epoch = epoch; word = word; log = log; place = place }
+
 -- the state after a vnode's log
 abbrev pub state_of : (id epoch : ℕ) → Log → State Content
 state_of id epoch log = state_with (opening id epoch) log
 
+-- no command gives a vnode another id
+pub vnode-kept : (state : State Content) (key : Key) (given : Option Context) (operation : Operation Content) → (apply_operation state key given operation).vnode ≡ state.vnode
+vnode-kept state key given (Write content) = refl
+vnode-kept state key given Tombstone = refl
+vnode-kept state key given Reap = refl
+
 -- it has the vnode's id, whatever the entries
 pub state-vnode : (id epoch : ℕ) (log : Log) → (state_of id epoch log).vnode ≡ id
 state-vnode id epoch [] = refl
-state-vnode id epoch (Command event ∷ before) = kept (state_of id epoch before) event.key event.context event.operation ∙ state-vnode id epoch before
-  where
-    kept : (state : State Content) (key : Key) (given : Option Context) (operation : Operation Content) → (apply_operation state key given operation).vnode ≡ state.vnode
-    kept state key given (Write content) = refl
-    kept state key given Tombstone = refl
-    kept state key given Reap = refl
+state-vnode id epoch (Command event ∷ before) = vnode-kept (state_of id epoch before) event.key event.context event.operation ∙ state-vnode id epoch before
 state-vnode id epoch (Copied copy ∷ before) = state-vnode id epoch before
 state-vnode id epoch (Closed number ∷ before) = state-vnode id epoch before
 
@@ -168,9 +175,6 @@ IsOfOne (Turned own other ask hand) = ⊥
 IsOfOne (Copying own other key stage) = ⊥
 IsOfOne (Closing own other stage) = ⊥
 IsOfOne phase = Unit {0}
-
-apart : (a b c : ℕ) → a ≡ b → b ≢ c → a ≢ c
-apart a b c e n = λ f. n (sym e ∙ f)
 
 -- elsewhere it is nobody's
 pub elsewhere : (index other : ℕ) (phase : Phase) → IsOfOne phase → IsAbout index phase → index ≢ other → (is_reader other phase ≡ false) × (is_holder other phase ≡ false)
@@ -341,16 +345,10 @@ closed-mixed number log h = by (commands_of log) h
     by [] e = cc
     by (event ∷ before) e = cc
 
--- a command leaves a vnode open, or closed
-pub same-closed : (state : State Content) (key : Key) (given : Option Context) (operation : Operation Content) → (apply_operation state key given operation).closed ≡ state.closed
-same-closed state key given (Write content) = refl
-same-closed state key given Tombstone = refl
-same-closed state key given Reap = refl
-
 -- a log of commands alone isn't closed
 pub alone-open : (id epoch : ℕ) (log : Log) → CommandsAlone log → IsOpenAt id epoch log
 alone-open id epoch [] only = refl
 alone-open id epoch (Command event ∷ before) only =
-    same-closed (state_of id epoch before) event.key event.context event.operation ∙ alone-open id epoch before (alone-before event before only)
+    closed-kept (state_of id epoch before) event.key event.context event.operation ∙ alone-open id epoch before (alone-before event before only)
 alone-open id epoch (Copied copy ∷ before) only = absurd (copied-mixed copy before only)
 alone-open id epoch (Closed number ∷ before) only = absurd (closed-mixed number before only)

@@ -19,6 +19,7 @@ use Rattle.node_steps.specs.Schedules.{Start, IsStart, world_after}
 use Rattle.node_steps.specs.Courses.{IsCourseOf, CallsMayBeAsked}
 use Rattle.node_steps.specs.HandOffs.{AnswersAsRegister, HandsOff, PartitionsHandOff}
 use Rattle.node_steps.proofs.CourseLaw.{runs_are_courses}
+use Rattle.node_steps.proofs.Coursing.{above}
 
 low : (run index vnodes : ℕ) → run < 2 ^ 32 → vnodes < 2 ^ 16 → index < vnodes → run * 65536 + index + fallback_ids < 2 ^ 64
 low run index vnodes r v i = omega (arith, r, v, i)
@@ -31,9 +32,6 @@ same_low n m k e h = omega (arith, e, h)
 
 zero_epoch : (n : ℕ) → n ≡ 0 → n ≤ max_epoch
 zero_epoch n e = omega (arith, e)
-
-above : (a b n : ℕ) → a ≡ n → b ≡ n + fallback_ids → a < b
-above a b n e f = omega (arith, e, f)
 
 module _ (start : Start) (is : IsStart start) (index : ℕ) (known : index < start.vnodes) (partition : Partition) (course : Course) (w : World)
     (of : IsCourseOf partition start.run w index course) (asked : CallsMayBeAsked partition w index course) where

@@ -1,5 +1,6 @@
 -- A closer that has looked: nothing was left to copy, and it has the number of the primary's commands; so it is as long as it is inside.
 use Rattle.std.proofs.Common.{◌≡◌, ◌≢◌, inl, inr, ℕ, zero, suc, ◌+◌, Bool, true, false, List, [], ◌∷◌, refl, sym, ◌∙◌, ap, subst}
+use Rattle.std.proofs.lemmas.Bool.{false≢true}
 use Rattle.std.specs.Prelude.{pred, Option, Some, None, is_some, option_map, slice_get}
 use Rattle.std.specs.Option.{option_map_or}
 use Rattle.riak_msgs.specs.Contents.{Content}
@@ -120,7 +121,7 @@ module _ (w : World) (orderly : IsOrderly w) (number : ℕ) (action : Action) (r
   judged-closed : AreJudged r.0
   judged-closed = subst (λ (q : World × Outcome). AreJudged q.0) c.gives (λ place worker h own site hand count e.
       elim (set_cases w (pred number) c.worker (close_worker w orderly number action r c) (close_here w orderly number action r c) place worker h) [
-        | inl d ↦ absurd (done_not own site hand count (ap (λ (x : Worker). is_looked x.phase) d.1 ∙ ap is_looked e))
+        | inl d ↦ absurd (false≢true (ap (λ (x : Worker). is_looked x.phase) d.1 ∙ ap is_looked e))
         | inr d ↦
             let f = was place worker d.1 own site hand count e in
             record {
@@ -131,9 +132,6 @@ module _ (w : World) (orderly : IsOrderly w) (number : ℕ) (action : Action) (r
             }
       ])
     where
-      done_not : (own site : ℕ) (hand : State Content) (count : ℕ) → false ≡ true → ⊥
-      done_not own site hand count e = cc
-
       apart : (place : ℕ) (worker : Worker) → pred number ≢ place → slice_get w.workers place ≡ Some worker → (own site : ℕ) (hand : State Content) (count : ℕ)
           → worker.phase ≡ Closing own site (CloseLooked hand count) → c.site ≢ own
       apart place worker n h own site hand count e = λ at.

@@ -1,6 +1,7 @@
 -- What is always true of a world; and who a possible step is of.
-use Rattle.std.proofs.Common.{◌≡◌, ◌≢◌, ◌⊎◌, inl, inr, ℕ, zero, suc, ◌+◌, ◌^◌, ◌<◌, ◌≤◌, Bool, true, false, cond, not, ◌&&◌, List, [], ◌∷◌, length, refl, ◌∙◌, ap, arith}
-use Rattle.std.specs.Prelude.{pred, Option, Some, None, option_map, option_and_then, slice_get}
+use Rattle.std.proofs.Common.{◌≡◌, ◌≢◌, ◌⊎◌, inl, inr, ℕ, zero, suc, ◌+◌, ◌^◌, ◌<◌, ◌≤◌, true, false, cond, not, ◌&&◌, List, [], ◌∷◌, length, refl, ◌∙◌, ap, arith}
+use Rattle.std.proofs.lemmas.Bool.{cases_Bool}
+use Rattle.std.specs.Prelude.{pred, Option, Some, None, option_and_then, slice_get}
 use Rattle.std.specs.Option.{option_map_or}
 use Rattle.riak_msgs.specs.Contents.{Content}
 use Rattle.sibling_register.specs.Answers.{RegisterAsk}
@@ -8,6 +9,7 @@ use Rattle.actor_epoch.specs.Given.{Context}
 use Rattle.actor_epoch.specs.Limits.{max_epoch}
 use Rattle.vnode_machine.specs.Replay.{History}
 use Rattle.vnode_machine.specs.Sound.{IsSound as IsSoundState}
+use Rattle.vnode_machine.proofs.Tests.{unmapped}
 use Rattle.node_steps.specs.World.{Word, Open, Taken, SiteVnode, Worker, World, CommandsAlone, worker_at, seen_at, brought_by}
 use Rattle.node_steps.specs.Steps.{Action, Asks, AsksNowhere, is_reap, sent, routed, Outcome, WorkerTurn, turn_of, site_of, is_about, seeing, turned, fallback_ids, does}
 use Rattle.node_steps.proofs.Lists.{how_many, counted_one, counted_two}
@@ -72,16 +74,12 @@ pub and_then_some : {A B : Type 0} (f : A → Option B) (o : Option A) (y : B) �
 and_then_some f None y h = cc
 and_then_some f (Some x) y h = (x, refl, h)
 
-pub map_some : {A B : Type 0} (f : A → B) (o : Option A) (y : B) → option_map f o ≡ Some y → (x : A) × (o ≡ Some x) × (f x ≡ y)
-map_some f None y h = cc
-map_some f (Some x) y h = (x, refl, cc)
-
 pub possible : (w : World) (number : ℕ) (action : Action) (r : World × Outcome) → does w number action ≡ Some r → IsPossible w number action r
 possible w number action r h =
     let a = and_then_some _ (worker_at w number) r h in
     let b = and_then_some _ (site_of action a.0.phase) r a.2 in
     let c = and_then_some _ (slice_get w.vnodes b.0) r b.2 in
-    let d = map_some _ (turn_of (seen_at a.0.seen b.0) (brought_by w a.0) c.0 action a.0.phase) r c.2 in
+    let d = unmapped _ (turn_of (seen_at a.0.seen b.0) (brought_by w a.0) c.0 action a.0.phase) r c.2 in
     record { worker = a.0; index = b.0; vnode = c.0; turn = d.0; worker_is = a.1; site_is = b.1; vnode_is = c.1; turn_is = d.1; gives = d.2 }
 
 pub at_place : (w : World) (number : ℕ) (worker : Worker) → worker_at w number ≡ Some worker → slice_get w.workers (pred number) ≡ Some worker
@@ -124,10 +122,6 @@ module _ (w : World) (orderly : IsOrderly w) (place index : ℕ) (worker : Worke
   at_most_one (Open n mark) r h f = omega (arith, f.1)
   at_most_one Taken r h f = omega (arith, f.1)
 
-  bool_cases : (b : Bool) → (b ≡ true) ⊎ (b ≡ false)
-  bool_cases true = inl refl
-  bool_cases false = inr refl
-
   too_many : (a : ℕ) → a ≤ 1 → 2 ≤ a → ⊥
   too_many a h k = omega (arith, h, k)
 
@@ -138,12 +132,12 @@ module _ (w : World) (orderly : IsOrderly w) (place index : ℕ) (worker : Worke
   pub outside : (at : ℕ) (x : Worker) → place ≢ at → slice_get w.workers at ≡ Some x → is_holder index worker.phase ≡ true
       → (is_reader index x.phase ≡ false) × (is_holder index x.phase ≡ false)
   outside at x n h mine = (
-    elim (bool_cases (is_reader index x.phase)) [
+    elim (cases_Bool (is_reader index x.phase)) [
       | inl his ↦ absurd (no_reader vnode.word readers_in holders_in (orderly.vnodes index vnode there).word
           (counted_one (reads index) w.workers at x h his) (counted_one (holds index) w.workers place worker here mine))
       | inr nobody ↦ nobody
     ],
-    elim (bool_cases (is_holder index x.phase)) [
+    elim (cases_Bool (is_holder index x.phase)) [
       | inl his ↦ absurd (too_many holders_in (at_most_one vnode.word readers_in holders_in (orderly.vnodes index vnode there).word)
           (counted_two (holds index) w.workers place at worker x n here h mine his))
       | inr nobody ↦ nobody

@@ -3,6 +3,7 @@ use Rattle.std.proofs.Common.{◌≡◌, ◌≢◌, ◌⊎◌, inl, inr, ℕ, �
 use Rattle.std.specs.Prelude.{pred, Option, Some, None, is_some, slice_get}
 use Rattle.std.specs.Option.{option_map_or}
 use Rattle.std.proofs.lemmas.Bool.{cases_lt}
+use Rattle.std.proofs.lemmas.Option.{same_Some}
 use Rattle.riak_msgs.specs.declared.Key.{Key}
 use Rattle.riak_msgs.specs.Contents.{Content}
 use Rattle.vnode_machine.specs.Machine.{Stored, State, stored}
@@ -21,9 +22,7 @@ use Rattle.node_steps.proofs.Coming.{between_in, CopyIs, Comes}
 use Rattle.node_steps.proofs.Turns.{IsTurn}
 use Rattle.node_steps.proofs.EachTurn.{turn_is}
 use Rattle.node_steps.proofs.Kept.{CopiesWell, SendsWell, IsFallback, IsOrderly, IsPossible, possible, at_place, seeing-here, seeing-there, outside}
-
-not_past : (index n site : ℕ) → index < n → n ≤ site → index ≢ site
-not_past index n site h k = λ e. absurd (omega (arith, e, h, k))
+use Rattle.node_steps.proofs.Numbers.{below, not_past}
 
 module _ (w : World) (orderly : IsOrderly w) (action : Action) (sends : SendsWell w action) (place index : ℕ) (worker : Worker) (vnode : SiteVnode) (turn : WorkerTurn) where
   abbrev readers : ℕ → ℕ
@@ -72,23 +71,17 @@ module _ (w : World) (orderly : IsOrderly w) (action : Action) (sends : SendsWel
     vnode_after : (other : ℕ) (v : SiteVnode) → slice_get world.vnodes other ≡ Some v
         → ((index ≡ other) × (turn.vnode ≡ v)) ⊎ ((index ≢ other) × (slice_get w.vnodes other ≡ Some v))
     vnode_after other v h = elim (same_or_other index other) [
-      | inl e ↦ inl (e, unwrapped turn.vnode v (sym (set-here w.vnodes index vnode turn.vnode there) ∙ ap (λ k. slice_get world.vnodes k) e ∙ h))
+      | inl e ↦ inl (e, same_Some turn.vnode v (sym (set-here w.vnodes index vnode turn.vnode there) ∙ ap (λ k. slice_get world.vnodes k) e ∙ h))
       | inr n ↦ inr (n, sym (set-there w.vnodes index other turn.vnode n) ∙ h)
     ]
-      where
-        unwrapped : (a b : SiteVnode) → Some a ≡ Some b → a ≡ b
-        unwrapped a b h = cc
 
     -- the worker at a place afterwards
     worker_after : (other : ℕ) (x : Worker) → slice_get world.workers other ≡ Some x
         → ((place ≡ other) × (next ≡ x)) ⊎ ((place ≢ other) × (slice_get w.workers other ≡ Some x))
     worker_after other x h = elim (same_or_other place other) [
-      | inl e ↦ inl (e, unwrapped next x (sym (set-here w.workers place worker next here) ∙ ap (λ k. slice_get world.workers k) e ∙ h))
+      | inl e ↦ inl (e, same_Some next x (sym (set-here w.workers place worker next here) ∙ ap (λ k. slice_get world.workers k) e ∙ h))
       | inr n ↦ inr (n, sym (set-there w.workers place other next n) ∙ h)
     ]
-      where
-        unwrapped : (a b : Worker) → Some a ≡ Some b → a ≡ b
-        unwrapped a b h = cc
 
     -- the worker itself, at the vnode and elsewhere
     next_here : IsAware vnode.id vnode.last_epoch index turn.vnode.log next
@@ -130,15 +123,6 @@ module _ (w : World) (orderly : IsOrderly w) (action : Action) (sends : SendsWel
       | inr d ↦ other_here at x d.0 d.1
     ])
 
-    below : (a b c : ℕ) → a < b → b ≤ c → a < c
-    below a b c h k = omega (arith, h, k)
-
-    not_below : (a b n : ℕ) → a < n → n ≤ b → a ≡ b → ⊥
-    not_below a b n h k e = omega (arith, h, k, e)
-
-    cases_below : (a n : ℕ) → (a < n) ⊎ (n ≤ a)
-    cases_below a n = cases_lt a n
-
     -- a fallback stays one
     fallback-stays : (own site : ℕ) → IsFallback w own site → IsFallback world own site
     fallback-stays own site f = elim (same_or_other index site) [
@@ -146,13 +130,10 @@ module _ (w : World) (orderly : IsOrderly w) (action : Action) (sends : SendsWel
         apart = f.apart;
         vnode = turn.vnode;
         there = ap (λ k. slice_get world.vnodes k) (sym e) ∙ set-here w.vnodes index vnode turn.vnode there;
-        own_is = is.same_own ∙ ap (λ (v : SiteVnode). v.own) (unwrapped vnode f.vnode (sym there ∙ ap (λ k. slice_get w.vnodes k) e ∙ f.there)) ∙ f.own_is;
+        own_is = is.same_own ∙ ap (λ (v : SiteVnode). v.own) (same_Some vnode f.vnode (sym there ∙ ap (λ k. slice_get w.vnodes k) e ∙ f.there)) ∙ f.own_is;
       }
       | inr n ↦ record { apart = f.apart; vnode = f.vnode; there = set-there w.vnodes index site turn.vnode n ∙ f.there; own_is = f.own_is }
     ]
-      where
-        unwrapped : (a b : SiteVnode) → Some a ≡ Some b → a ≡ b
-        unwrapped a b h = cc
 
     -- a site that calls are sent to or that is closed is a fallback's
     sent_fallback : (own site : ℕ) → CopiesWell w own site → IsFallback w own site
@@ -163,9 +144,9 @@ module _ (w : World) (orderly : IsOrderly w) (action : Action) (sends : SendsWel
 
     closed_fallback : (state_of vnode.id vnode.last_epoch vnode.log).closed ≢ None → IsFallback w vnode.own index
     closed_fallback closed = record {
-      apart = λ e. elim (cases_below index (length w.routes)) [
+      apart = λ e. elim (cases_lt index (length w.routes)) [
         | inl h ↦ closed (orderly.homes index vnode h there).1
-        | inr h ↦ not_below vnode.own index (length w.routes) (orderly.owned index vnode there) h e
+        | inr h ↦ not_past vnode.own (length w.routes) index (orderly.owned index vnode there) h e
       ];
       vnode = vnode;
       there = there;

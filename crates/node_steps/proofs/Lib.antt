@@ -1,3 +1,4 @@
+pub mod Numbers
 pub mod Lists
 pub mod Mapped
 pub mod Beginnings
@@ -60,8 +61,7 @@ mod Taking
 mod Preparing
 mod Syncing
 mod Sighting
-mod Lefts
 mod Fallbacks
-mod Opening
+pub mod Opening
 mod RunsOn
 mod Gates

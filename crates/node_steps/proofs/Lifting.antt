@@ -1,5 +1,5 @@
 -- The claims that speak of one step: from the turn to the world.
-use Rattle.std.proofs.Common.{◌≡◌, ◌≢◌, ◌⊎◌, inl, inr, ℕ, zero, suc, ◌+◌, ◌<◌, true, List, [], ◌∷◌, ◌++◌, length, refl, sym, ◌∙◌, ap, arith, subst}
+use Rattle.std.proofs.Common.{◌≡◌, ◌≢◌, ◌⊎◌, inl, inr, ℕ, zero, suc, ◌+◌, true, List, [], ◌∷◌, ◌++◌, refl, sym, ◌∙◌, ap, subst}
 use Rattle.std.specs.Prelude.{pred, Option, Some, None, Result, option_map, slice_get}
 use Rattle.std.specs.Option.{option_map_or}
 use Rattle.std.proofs.lemmas.Option.{some_pair_parts, same_Some as same_call}
@@ -124,11 +124,6 @@ worker_next : (w : World) (number index : ℕ) (worker : Worker) (turn : WorkerT
     → worker_at (turned w (pred number) index worker turn) number ≡ Some (record { phase = turn.phase; seen = seeing worker.seen index turn.seen })
 worker_next w zero index worker turn h = cc
 worker_next w (suc place) index worker turn h = set-here w.workers place worker (record { phase = turn.phase; seen = seeing worker.seen index turn.seen }) h
-
-found : {X : Type 0} (xs : List X) (i : ℕ) → i < length xs → (x : X) × (slice_get xs i ≡ Some x)
-found [] i h = absurd (omega (arith, h))
-found (x ∷ xs) zero h = (x, refl)
-found (x ∷ xs) (suc i) h = found xs i (omega (arith, h))
 
 -- of commands alone they stand first
 pub alone-first : (log : Log) → CommandsAlone log → CommandsFirst log
@@ -342,7 +337,7 @@ module _ (w : World) (orderly : IsOrderly w) (number : ℕ) (action : Action) (r
 pub not_replied : (reply : Result Response ℕ) → NotPossible ≡ Replied reply → ⊥
 not_replied reply h = cc
 
-only_happened : (reply : Result Response ℕ) → Happened ≡ Replied reply → ⊥
+pub only_happened : (reply : Result Response ℕ) → Happened ≡ Replied reply → ⊥
 only_happened reply h = cc
 
 -- a partition's step replies nothing

@@ -13,6 +13,8 @@ use Rattle.vnode_machine.specs.Step.{Response, GetDone, MachineOutcome, Refused,
 use Rattle.vnode_machine.specs.Registers.{key_of, context_in_ask, next_event, IsRegisters, IsNext}
 use Rattle.vnode_machine.specs.Runs.{IsAnswer}
 use Rattle.vnode_machine.proofs.StepLaw.{registers-after}
+use Rattle.vnode_machine.proofs.Tests.{none-from}
+use Rattle.vnode_machine.proofs.Updates.{closed-kept}
 use Rattle.copy_laws.specs.Copies.{Command, commands_of}
 use Rattle.copy_laws.specs.Joining.{Log}
 use Rattle.node_steps.specs.World.{Word, Phase, Idle, Asked, Reading, Holding, Done, Turned, Copying, Closing, Brought, Call, call_of}
@@ -25,8 +27,8 @@ use Rattle.node_steps.proofs.Lists.{one, no_more, cancel}
 use Rattle.node_steps.proofs.Beginnings.{begins-itself, begins-longer}
 use Rattle.node_steps.proofs.Shown.{AreHeld, ShowsHeld, outcome_shows, updates, accepts_update}
 use Rattle.node_steps.proofs.Unmixed.{same-event}
-use Rattle.node_steps.proofs.Inside.{is_reader, is_holder, FitsWord, state_of, replayed, IsInPlace, IsInHand, HasSeen, IsAbout, IsOfOne, same_test, StaysAt, IsOpenAt, IsPlain, alone-before, same-closed}
-use Rattle.node_steps.proofs.Turns.{same_number, one_of, some_none, none_of, Goes, IsTurn, not_between, one_goes, one_same, fits_same, place_read, vnode_in, turns, held_place}
+use Rattle.node_steps.proofs.Inside.{is_reader, is_holder, FitsWord, state_of, replayed, IsInPlace, IsInHand, HasSeen, IsAbout, IsOfOne, same_test, StaysAt, IsOpenAt, IsPlain, alone-before, vnode_in}
+use Rattle.node_steps.proofs.Turns.{same_number, one_of, some_none, Goes, IsTurn, not_between, one_goes, one_same, fits_same, place_read, turns, held_place}
 
 module _ (id epoch home index readers holders : ℕ) where
   module _ (limits : IsWithinLimits id epoch) (log : Log) (seen : History) (brought : Brought) (place : State Content) (has : Begins seen (commands_of log)) where
@@ -44,8 +46,8 @@ module _ (id epoch home index readers holders : ℕ) where
         → is_holder index phase ≡ is_holder index next → IsInHand id epoch index log next → HasSeen index next (commands_of log) (commands_of log) → Goes id epoch home index readers holders Looks phase next
         → BetweenIs Looks index home (state_of id epoch log).closed phase next → call_of next ≡ None
         → (reply : Result Response ℕ) (call : Call) → call_of phase ≡ Some call
-        → IsReplyTo id epoch index log (answers seen brought (vnode_in id epoch home index readers holders limits log seen brought place has word) next reply) reply call
-        → IsTurn id epoch home index readers holders Looks phase brought log (answers seen brought (vnode_in id epoch home index readers holders limits log seen brought place has word) next reply)
+        → IsReplyTo id epoch index log (answers seen brought (vnode_in id home epoch log place word) next reply) reply call
+        → IsTurn id epoch home index readers holders Looks phase brought log (answers seen brought (vnode_in id home epoch log place word) next reply)
     answered phase next word f p a b in_hand whole goes between none reply call c is = record {
       same_id = refl;
       same_own = refl;
@@ -70,7 +72,7 @@ module _ (id epoch home index readers holders : ℕ) where
 
     look_held : (word : Word) → FitsWord word readers holders → IsInPlace id epoch word log place → (other : ℕ) (ask : RegisterAsk Content Context) (hand : State Content) → other ≡ index
         → hand ≡ state_of id epoch log → hand.closed ≡ None → (came : MachineOutcome) → outcome_of_ask hand ask ≡ came
-        → IsTurn id epoch home index readers holders Looks (Holding other ask hand None) brought log (looks_by seen brought (vnode_in id epoch home index readers holders limits log seen brought place has word) other ask hand came)
+        → IsTurn id epoch home index readers holders Looks (Holding other ask hand None) brought log (looks_by seen brought (vnode_in id home epoch log place word) other ask hand came)
     look_held word f p other ask hand e is clear (Refused number) h =
         answered (Holding other ask hand None) (Done other (Some hand)) word f p refl refl (λ _. is) tt
         (one_goes id epoch home index readers holders Looks (Holding other ask hand None) (Done other (Some hand)) tt tt e e)
@@ -122,7 +124,7 @@ module _ (id epoch home index readers holders : ℕ) where
         → is_holder index phase ≡ is_holder index next → IsInHand id epoch index log next → HasSeen index next (commands_of log) (commands_of log)
         → ((other : ℕ) → index ≢ other → StaysAt other phase next) → AboutIs Looks index home phase next
         → BetweenIs Looks index home (state_of id epoch log).closed phase next → call_of next ≡ call_of phase
-        → IsTurn id epoch home index readers holders Looks phase brought log (sees seen brought (vnode_in id epoch home index readers holders limits log seen brought place has word) next Elsewhere)
+        → IsTurn id epoch home index readers holders Looks phase brought log (sees seen brought (vnode_in id home epoch log place word) next Elsewhere)
     turned phase next word f p a b in_hand whole keeps about between call = record {
       same_id = refl;
       same_own = refl;
@@ -160,7 +162,7 @@ module _ (id epoch home index readers holders : ℕ) where
     not_none state is e = λ none. some_none state.closed is (ap (λ (s : State Content). s.closed) e ∙ none)
 
     read_by : (word : Word) → FitsWord word readers holders → IsInPlace id epoch word log place → (other : ℕ) (get : GetCommand Context) → other ≡ index → place ≡ state_of id epoch log
-        → (closed : Bool) → is_some place.closed ≡ closed → IsTurn id epoch home index readers holders Looks (Reading other get) brought log (reads_by seen brought (vnode_in id epoch home index readers holders limits log seen brought place has word) other get closed)
+        → (closed : Bool) → is_some place.closed ≡ closed → IsTurn id epoch home index readers holders Looks (Reading other get) brought log (reads_by seen brought (vnode_in id home epoch log place word) other get closed)
     read_by word f p other get e is true closed =
         turned (Reading other get) (Turned home other (AskGet get) None) word f p refl refl tt tt
         (λ at n. record { reader = refl; holder = refl; hand = λ i k l had. tt; whole = λ front past had. tt })
@@ -170,7 +172,7 @@ module _ (id epoch home index readers holders : ℕ) where
         answered (Reading other get) (Done other None) word f p refl refl tt tt (one_goes id epoch home index readers holders Looks (Reading other get) (Done other None) tt tt e e)
         (not_between id epoch home index readers holders Looks (state_of id epoch log).closed (Reading other get) (Done other None) tt) refl reply (record { site = other; ask = AskGet get }) refl (record {
           at = e;
-          opened = ap (λ (s : State Content). s.closed) (sym is) ∙ none_of place.closed closed;
+          opened = ap (λ (s : State Content). s.closed) (sym is) ∙ none-from place.closed closed;
           answer = λ plain.
               let gives = registers plain (AskGet get) place (Answered (GetDone (get_reply place get))) is refl in
               record { given = Answers gives.told; may = gives.given; leads = refl; shown = gives.shown };
@@ -182,12 +184,12 @@ module _ (id epoch home index readers holders : ℕ) where
 
     hold_by : (word : Word) → FitsWord word readers holders → IsInPlace id epoch word log place → (other : ℕ) (ask : RegisterAsk Content Context) (hand : State Content) → other ≡ index
         → hand ≡ state_of id epoch log → (closed : Bool) → is_some hand.closed ≡ closed
-        → IsTurn id epoch home index readers holders Looks (Holding other ask hand None) brought log (holds_by seen brought (vnode_in id epoch home index readers holders limits log seen brought place has word) other ask hand closed)
+        → IsTurn id epoch home index readers holders Looks (Holding other ask hand None) brought log (holds_by seen brought (vnode_in id home epoch log place word) other ask hand closed)
     hold_by word f p other ask hand e is true closed =
         turned (Holding other ask hand None) (Turned home other ask (Some hand)) word f p refl refl (λ _. is) tt
         (λ at n. record { reader = refl; holder = refl; hand = λ i k l had. λ e. (had e).0; whole = λ front past had. tt })
         (about_turned (Holding other ask hand None) other ask (Some hand) e) (between_turned (Holding other ask hand None) other ask (Some hand) e (not_none hand closed is)) refl
-    hold_by word f p other ask hand e is false closed = look_held word f p other ask hand e is (none_of hand.closed closed) (outcome_of_ask hand ask) refl
+    hold_by word f p other ask hand e is false closed = look_held word f p other ask hand e is (none-from hand.closed closed) (outcome_of_ask hand ask) refl
 
     pub look_turn : (word : Word) → FitsWord word readers holders → IsInPlace id epoch word log place → (phase : Phase) → IsOfOne phase → one (is_reader index phase) ≤ readers → IsAbout index phase
         → IsInHand id epoch index log phase → (t : WorkerTurn) → turns id epoch home index readers holders limits log seen brought place has word Looks phase ≡ Some t → IsTurn id epoch home index readers holders Looks phase brought log t
@@ -214,7 +216,7 @@ module _ (id epoch home index readers holders : ℕ) where
     publish_turn word f (Holding other ask hand None) one held at mine t h = cc
     publish_turn word f (Holding other ask hand (Some plan)) one held at mine t h =
         let event : Event Content Context = event_at id epoch log ask plan.operation in
-        let turn : WorkerTurn = publishes_by seen brought (vnode_in id epoch home index readers holders limits log seen brought place has word) other ask plan in
+        let turn : WorkerTurn = publishes_by seen brought (vnode_in id home epoch log place word) other ask plan in
         let same_turn : turn ≡ t = cc in
         let came : MachineOutcome = Accepted plan.operation plan.response plan.next in
         let next : IsPlain id epoch log → IsNext id epoch (commands_of log) ask plan.operation plan.response plan.next = λ plain. registers plain ask hand came (mine at).0 (mine at).1.0 in
@@ -225,7 +227,7 @@ module _ (id epoch home index readers holders : ℕ) where
           same_id = refl;
           same_own = refl;
           same_epoch = refl;
-          same_closed = same-closed (state_of id epoch log) (key_of ask) (context_in_ask ask) plan.operation;
+          same_closed = closed-kept (state_of id epoch log) (key_of ask) (context_in_ask ask) plan.operation;
           between = not_between id epoch home index readers holders Publishes (state_of id epoch log).closed (Holding other ask hand (Some plan)) (Done other (Some plan.next)) tt;
           same = inr (same_test other index at);
           grows = begins-longer event (commands_of log) (commands_of log) (begins-itself (commands_of log));

@@ -1,27 +1,18 @@
 -- Lists that a function is mapped over, and what is kept of a world after a turn.
-use Rattle.std.proofs.Common.{◌≡◌, ◌≢◌, ℕ, zero, suc, List, [], ◌∷◌, ◌++◌, map, refl, sym, ◌∙◌, ap, arith}
-use Rattle.std.specs.Prelude.{◌==◌, true, false, Some, option_map, slice_get, slice_set}
-use Rattle.std.proofs.lemmas.Bool.Decides.{nat_tests}
+use Rattle.std.proofs.Common.{◌≡◌, ℕ, zero, suc, List, [], ◌∷◌, map, refl, sym, ◌∙◌, ap}
+use Rattle.std.specs.Prelude.{Some, None, option_map, slice_get, slice_set}
 use Rattle.std.proofs.lemmas.Option.{slice_get-map}
 use Rattle.node_steps.specs.World.{Worker, World}
 use Rattle.node_steps.specs.Steps.{WorkerTurn, seeing, turned}
 use Rattle.node_steps.specs.Erased.{erase_vnode, erase_worker, erase}
-pub use Rattle.std.proofs.lemmas.Bool.{ne_eqb as other_test, eqb-true as tested_same}
+pub use Rattle.std.proofs.lemmas.Bool.{ne_eqb as other_test, eq-eqb as same_test, eqb-true as tested_same}
+pub use Rattle.std.proofs.lemmas.List.{map-set, set-set}
 
 pub at_some : {A B : Type 0} (f : A → B) (xs : List A) (i : ℕ) (x : A) → slice_get xs i ≡ Some x → slice_get (map f xs) i ≡ Some (f x)
 at_some f xs i x h = slice_get-map f xs i ∙ ap (λ o. option_map f o) h
 
-pub map-set : {A B : Type 0} (f : A → B) (xs : List A) (i : ℕ) (y : A) → map f (slice_set xs i y) ≡ slice_set (map f xs) i (f y)
-map-set f [] i y = refl
-map-set f (x ∷ xs) zero y = refl
-map-set f (x ∷ xs) (suc i) y = ap (λ rest. f x ∷ rest) (map-set f xs i y)
-
-pub map-more : {A B : Type 0} (f : A → B) (xs : List A) (x : A) → map f (xs ++ x ∷ []) ≡ map f xs ++ f x ∷ []
-map-more f [] x = refl
-map-more f (y ∷ xs) x = ap (λ rest. f y ∷ rest) (map-more f xs x)
-
-pub same_test : (a b : ℕ) → a ≡ b → (a == b) ≡ true
-same_test a b h = grind (arith, nat_tests)
+pub at_none : {A B : Type 0} (f : A → B) (xs : List A) (i : ℕ) → slice_get xs i ≡ None → slice_get (map f xs) i ≡ None
+at_none f xs i h = slice_get-map f xs i ∙ ap (λ o. option_map f o) h
 
 -- after a worker's turn its phase is that of the turn, and its vnode
 pub turn_erased : (w : World) (place index : ℕ) (worker : Worker) (turn : WorkerTurn)
@@ -43,9 +34,3 @@ pub set-same : {A : Type 0} (xs : List A) (i : ℕ) (x : A) → slice_get xs i �
 set-same [] i x h = refl
 set-same (y ∷ xs) zero x h = let e : y ≡ x = cc in ap (λ z. z ∷ xs) (sym e)
 set-same (y ∷ xs) (suc i) x h = ap (λ rest. y ∷ rest) (set-same xs i x h)
-
--- set twice, it has what was set last
-pub set-set : {A : Type 0} (xs : List A) (i : ℕ) (x y : A) → slice_set (slice_set xs i x) i y ≡ slice_set xs i y
-set-set [] i x y = refl
-set-set (z ∷ xs) zero x y = refl
-set-set (z ∷ xs) (suc i) x y = ap (λ rest. z ∷ rest) (set-set xs i x y)

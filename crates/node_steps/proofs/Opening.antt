@@ -1,5 +1,7 @@
 -- The parts of a world before any step.
-use Rattle.std.proofs.Common.{◌≡◌, ℕ, zero, suc, ◌+◌, ◌<◌, ◌^◌, List, [], ◌∷◌, ◌++◌, map, refl, sym, ◌∙◌, ap, arith}
+use Rattle.std.proofs.Common.{◌≡◌, ℕ, zero, suc, ◌+◌, ◌<◌, ◌^◌, List, [], ◌∷◌, ◌++◌, map, refl, sym, ◌∙◌, ap}
+use Rattle.std.proofs.lemmas.List.{map-append}
+use Rattle.std.proofs.Math.Nat.{zero-add, add-zero}
 use Rattle.std.specs.Prelude.{replicate}
 use Rattle.node_steps.specs.declared.phase.Phase.TheVariants as phases
 use Rattle.node_steps.specs.declared.phase.Phase.{Phase as RunPhase}
@@ -8,7 +10,7 @@ use Rattle.node_steps.specs.World.{World, fresh_vnode, fresh_worker, id_of, open
 use Rattle.node_steps.specs.Erased.{erase, erase_vnode, erase_worker}
 use Rattle.node_steps.specs.Running.{vnode_of, worker_of, world_of}
 use Rattle.node_steps.specs.Kept.{IsKept}
-use Rattle.node_steps.proofs.Mapped.{map-more}
+use Rattle.node_steps.proofs.Numbers.{shift}
 
 pub idle_workers : (n : ℕ) → map worker_of (replicate n phases.Idle) ≡ map erase_worker (replicate n fresh_worker)
 idle_workers zero = refl
@@ -18,37 +20,28 @@ pub replicate-more : {X : Type 0} (n : ℕ) (x : X) → replicate n x ++ x ∷ [
 replicate-more zero x = refl
 replicate-more (suc n) x = ap (λ rest. x ∷ rest) (replicate-more n x)
 
-plain : (n : ℕ) → n ≡ n + 0
-plain n = omega arith
-
-shift : (a b : ℕ) → (a + 1) + b ≡ a + suc b
-shift a b = omega arith
-
 opening-more : (run from n : ℕ) → opening_vnodes run from n ++ fresh_vnode (id_of run (from + n)) (from + n) 0 ∷ [] ≡ opening_vnodes run from (suc n)
-opening-more run from zero = ap (λ i. fresh_vnode (id_of run i) i 0 ∷ []) (sym (plain from))
+opening-more run from zero = ap (λ i. fresh_vnode (id_of run i) i 0 ∷ []) (add-zero from)
 opening-more run from (suc n) =
     ap (λ i. fresh_vnode (id_of run from) from 0 ∷ (opening_vnodes run (from + 1) n ++ fresh_vnode (id_of run i) i 0 ∷ [])) (sym (shift from n))
     ∙ ap (λ rest. fresh_vnode (id_of run from) from 0 ∷ rest) (opening-more run (from + 1) n)
-
-from_zero : (n : ℕ) → n ≡ 0 + n
-from_zero n = omega arith
 
 -- one vnode more
 pub more_sites : (sites : List Site) (site : Site) (run n : ℕ) → map vnode_of sites ≡ map erase_vnode (opening_vnodes run 0 n)
     → vnode_of site ≡ erase_vnode (fresh_vnode (id_of run n) n 0) → map vnode_of (sites ++ site ∷ []) ≡ map erase_vnode (opening_vnodes run 0 (suc n))
 more_sites sites site run n h e =
-    map-more vnode_of sites site ∙ (λ i. h i ++ e i ∷ [])
-    ∙ sym (map-more erase_vnode (opening_vnodes run 0 n) (fresh_vnode (id_of run n) n 0))
-    ∙ ap (λ i. map erase_vnode (opening_vnodes run 0 n ++ fresh_vnode (id_of run i) i 0 ∷ [])) (from_zero n)
+    map-append vnode_of sites (site ∷ []) ∙ (λ i. h i ++ e i ∷ [])
+    ∙ sym (map-append erase_vnode (opening_vnodes run 0 n) (fresh_vnode (id_of run n) n 0 ∷ []))
+    ∙ ap (λ i. map erase_vnode (opening_vnodes run 0 n ++ fresh_vnode (id_of run i) i 0 ∷ [])) (sym (zero-add n))
     ∙ ap (λ vs. map erase_vnode vs) (opening-more run 0 n)
 
 own-more : (from n : ℕ) → own_sites from n ++ (from + n) ∷ [] ≡ own_sites from (suc n)
-own-more from zero = ap (λ i. i ∷ []) (sym (plain from))
+own-more from zero = ap (λ i. i ∷ []) (add-zero from)
 own-more from (suc n) = ap (λ i. from ∷ (own_sites (from + 1) n ++ i ∷ [])) (sym (shift from n)) ∙ ap (λ rest. from ∷ rest) (own-more (from + 1) n)
 
 -- one route more
 pub more_routes : (routes more : List ℕ) (n : ℕ) → routes ≡ own_sites 0 n → more ≡ routes ++ n ∷ [] → more ≡ own_sites 0 (suc n)
-more_routes routes more n h e = e ∙ (λ i. h i ++ from_zero n i ∷ []) ∙ own-more 0 n
+more_routes routes more n h e = e ∙ (λ i. h i ++ sym (zero-add n) i ∷ []) ∙ own-more 0 n
 
 -- sites, routes, epochs and workers are a world before any step
 pub opening_is : (sites : List Site) (routes epochs : List ℕ) (workers : List RunPhase) (run count vnodes : ℕ) → map vnode_of sites ≡ map erase_vnode (opening_vnodes run 0 vnodes)

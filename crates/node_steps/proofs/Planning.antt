@@ -20,6 +20,7 @@ use Rattle.node_steps.specs.declared.outcome.Outcome.{Outcome as Returned}
 use Rattle.node_steps.specs.World.{PlannedCommand}
 use Rattle.node_steps.specs.Returned.{returned_response}
 use Rattle.node_steps.specs.Hands.{command_of, response_of, IsReturned, plan_by, plan_of, PlansBy, PlansAsk}
+use Rattle.node_steps.proofs.Inside.{vnode-kept}
 
 planned-outcome : (o : MachineOutcome) → IsAcceptedStep o → PlansBy o (plan_by o) None
 planned-outcome (Refused number) a = absurd a
@@ -51,7 +52,7 @@ reap-kept true value next h = cc
 reap-kept false true next h = refl
 reap-kept false false next h = refl
 
-not_closed : (closed : Option ℕ) → closed ≡ None → IsSome closed → ⊥
+pub not_closed : (closed : Option ℕ) → closed ≡ None → IsSome closed → ⊥
 not_closed None e s = cc
 not_closed (Some number) e s = cc
 
@@ -127,11 +128,6 @@ module _ {X : Type 0} (part : State Content → X)
       → IfSome made (λ command. Finishes (outcome old command) answer new) → part new ≡ part old
   still old answer new None s f = cc
   still old answer new (Some command) s f = sym (ap (part_after (part old)) f.comes) ∙ keeps old command
-
-vnode-kept : (state : State Content) (key : Key) (given : Option Context) (operation : Operation Content) → (apply_operation state key given operation).vnode ≡ state.vnode
-vnode-kept state key given (Write content) = refl
-vnode-kept state key given Tombstone = refl
-vnode-kept state key given Forget = refl
 
 -- no command gives a vnode another id
 pub still_named : (old : State Content) (answer : Answer) (new : State Content) (made : Option (Command Content Context)) → IsSome made

@@ -1,8 +1,8 @@
 -- A copy that a vnode in hand prepares, finds stuck, or makes.
-use Rattle.std.proofs.Common.{◌≡◌, inl, inr, ℕ, Bool, true, false, not, refl, sym, ◌∙◌, ap, subst}
+use Rattle.std.proofs.Common.{◌≡◌, inl, inr, true, false, refl, sym, ◌∙◌, ap, subst}
 use Rattle.std.specs.Prelude.{[], Option, Some, None, IsSome, IfSome, is_some, option_map}
 use Rattle.std.specs.Option.{option_map_or}
-use Rattle.std.proofs.lemmas.Option.{none-some}
+use Rattle.std.proofs.lemmas.Option.{none-some, same_Some}
 use Rattle.riak_msgs.specs.declared.Key.{Key}
 use Rattle.riak_msgs.specs.Contents.{Content}
 use Rattle.sibling_register.specs.Answers.{RegisterAsk as Command, AskPut, AskDel, AskReap}
@@ -22,12 +22,8 @@ use Rattle.vnode_core.specs.declared.ask.Answer.{Answer}
 use Rattle.vnode_core.specs.Plans.{View, IsAcceptedStep, AcceptsOpen, IsPrepared, IsAnsweredUnchanged, StepsOpen}
 use Rattle.node_steps.specs.Hands.{command_of, plan_by, plan_of}
 use Rattle.node_steps.specs.CopyHands.{copied_by, IsCopy, PlansCopy}
-use Rattle.node_steps.proofs.Planning.{Finishes}
+use Rattle.node_steps.proofs.Planning.{Finishes, not_closed}
 use Rattle.std.proofs.lemmas.Bool.{not-true as unstuck}
-
-none_closed : (closed : Option ℕ) → closed ≡ None → IsSome closed → ⊥
-none_closed None e s = cc
-none_closed (Some number) e s = cc
 
 module _ (key : Key) (clock : DotState (Option Content)) (copy : KeyCopyView) (key_is : copy.key ≡ key) (clock_is : copy.clock ≡ clock) where
   -- a change that is prepared
@@ -44,7 +40,7 @@ module _ (key : Key) (clock : DotState (Option Content)) (copy : KeyCopyView) (k
   -- or none, where it is stuck
   pub is_stuck_then : (state : State Content) (answer : Answer) → state.closed ≡ None → IsAnsweredUnchanged state (Copy copy) answer → is_stuck state key clock ≡ true
   is_stuck_then state answer opened (inl h) = (λ i. is_stuck state (sym key_is i) (sym clock_is i)) ∙ h.1.1
-  is_stuck_then state answer opened (inr h) = absurd (none_closed state.closed opened h.0)
+  is_stuck_then state answer opened (inr h) = absurd (not_closed state.closed opened h.0)
 
 -- what the copy makes
 pub makes_copy : (old : State Content) (change : Ask) (answer : Answer) (new : State Content) → IsCopy change → StepsOpen old change answer new → new ≡ copied_by old change
@@ -82,9 +78,6 @@ pub still_sound : (old : State Content) (answer : Answer) (new : State Content) 
 still_sound old answer new None s f sound = absurd (nothing s)
 still_sound old answer new (Some command) s f sound = sound-next old sound command f.operation f.response new f.comes
 
-same_clock : (a b : DotState (Option Content)) → Some a ≡ Some b → a ≡ b
-same_clock a b h = cc
-
 -- the clock of a key that is held
 pub clock-found : (state : State Content) (key : Key) (clock : DotState (Option Content)) → Some clock ≡ option_map (λ (s : Stored Content). s.clock) (stored state key)
     → (clock ≡ clock_of state key) × (is_held state key ≡ true)
@@ -93,7 +86,7 @@ clock-found state key clock h = by (stored state key) refl h
     by : (o : Option (Stored Content)) → stored state key ≡ o → Some clock ≡ option_map (λ (s : Stored Content). s.clock) o → (clock ≡ clock_of state key) × (is_held state key ≡ true)
     by None e h = absurd (none-some clock (sym h))
     by (Some s) e h = (
-      same_clock clock s.clock h ∙ sym (ap (λ o. option_map_or (λ (x : Stored Content). x.clock) o (record { known = []; live = [] })) e),
+      same_Some clock s.clock h ∙ sym (ap (λ o. option_map_or (λ (x : Stored Content). x.clock) o (record { known = []; live = [] })) e),
       ap (λ o. is_some o) e,
     )
 

@@ -1,5 +1,7 @@
 -- A closer's look and its publish leave ids, histories and calls as they were; a publish adds a close to one log.
-use Rattle.std.proofs.Common.{◌≡◌, ◌⊎◌, inl, inr, ℕ, zero, suc, Bool, true, false, [], ◌∷◌, refl, sym, ◌∙◌, ap, subst}
+use Rattle.std.proofs.Common.{◌≡◌, ◌⊎◌, inl, inr, ℕ, zero, suc, Bool, true, false, [], ◌∷◌, refl, sym, ◌∙◌, ap, subst, ◌≢◌}
+use Rattle.std.proofs.lemmas.Option.{none-some}
+use Rattle.std.proofs.lemmas.Bool.{false≢true}
 use Rattle.std.specs.Prelude.{pred, Some, None, is_some, slice_get}
 use Rattle.std.specs.Option.{option_map_or}
 use Rattle.riak_msgs.specs.Contents.{Content}
@@ -8,9 +10,9 @@ use Rattle.copy_laws.specs.Copies.{Closed}
 use Rattle.copy_laws.specs.Joining.{Log}
 use Rattle.node_steps.specs.World.{SiteVnode, Worker, World, CommandsAlone, Call, id_at, own_at, last_epoch_at, log_at, history_at, call_of, history_of}
 use Rattle.node_steps.specs.Steps.{Action, Outcome, left_in, judged}
-use Rattle.node_steps.specs.Claims.{CommandsFirst}
+use Rattle.node_steps.specs.Claims.{CommandsFirst, state_at, HadClose}
 use Rattle.node_steps.proofs.Lists.{set-here, set-there, same_or_other}
-use Rattle.node_steps.proofs.Inside.{closed-mixed, false_true}
+use Rattle.node_steps.proofs.Inside.{closed-mixed, false_true, state_of}
 use Rattle.node_steps.proofs.Coming.{is_turned}
 use Rattle.node_steps.proofs.CloseSteps.{IsJudgement, IsClose, set_cases}
 use Rattle.node_steps.proofs.Kept.{IsOrderly, at_place}
@@ -32,9 +34,6 @@ judged_turned own site hand primary true left = refl
 judged_turned own site hand primary false zero = refl
 judged_turned own site hand primary false (suc left) = refl
 
-none_called : (call : Call) → None ≡ Some call → ⊥
-none_called call h = cc
-
 judged_call : (own site : ℕ) (hand primary : State Content) (closed : Bool) (left : ℕ) → call_of (judged own site hand primary closed left).0 ≡ None
 judged_call own site hand primary true left = refl
 judged_call own site hand primary false zero = refl
@@ -48,7 +47,7 @@ quiet-judged w number action r j = subst (λ (q : World × Outcome). IsQuiet w q
   histories = λ site. refl;
   logs = λ site. inl refl;
   calls = λ place worker h call asked. elim (set_cases w (pred number) j.worker _ (at_place w number j.worker j.worker_is) place worker h) [
-    | inl d ↦ absurd (none_called call (sym (judged_call j.own j.site j.hand j.primary.place (is_some j.hand.closed) (left_in j.primary.place j.hand)) ∙ ap (λ (x : Worker). call_of x.phase) d.1 ∙ asked))
+    | inl d ↦ absurd (none-some call (sym (judged_call j.own j.site j.hand j.primary.place (is_some j.hand.closed) (left_in j.primary.place j.hand)) ∙ ap (λ (x : Worker). call_of x.phase) d.1 ∙ asked))
     | inr d ↦ (worker, d.1, refl)
   ];
   turned = λ place worker h turned. elim (set_cases w (pred number) j.worker _ (at_place w number j.worker j.worker_is) place worker h) [
@@ -90,21 +89,26 @@ module _ (w : World) (orderly : IsOrderly w) (number : ℕ) (action : Action) (r
     ];
     calls = λ place worker h call asked.
         elim (set_cases w (pred number) c.worker (close_worker w orderly number action r c) (close_here w orderly number action r c) place worker h) [
-          | inl d ↦ absurd (none_called call (ap (λ (x : Worker). call_of x.phase) d.1 ∙ asked))
+          | inl d ↦ absurd (none-some call (ap (λ (x : Worker). call_of x.phase) d.1 ∙ asked))
           | inr d ↦ (worker, d.1, refl)
         ];
     turned = λ place worker h turned.
         elim (set_cases w (pred number) c.worker (close_worker w orderly number action r c) (close_here w orderly number action r c) place worker h) [
-          | inl d ↦ absurd (not_turned (ap (λ (x : Worker). is_turned x.phase) d.1 ∙ turned))
+          | inl d ↦ absurd (false≢true (ap (λ (x : Worker). is_turned x.phase) d.1 ∙ turned))
           | inr d ↦ (worker, d.1, refl)
         ];
   })
-    where
-      not_turned : false ≡ true → ⊥
-      not_turned e = cc
 
--- a log that is of commands alone, or has its commands first, was so
 module _ (w next : World) (quiet : IsQuiet w next) where
+  -- what was closed still is
+  pub had_quiet : (site : ℕ) → HadClose w site → HadClose next site
+  had_quiet site (other, own, closed) = (other, quiet.owns other ∙ own ∙ sym (quiet.owns site), by (quiet.logs other))
+    where
+      by : (log_at next other ≡ log_at w other) ⊎ ((number : ℕ) × (log_at next other ≡ Closed number ∷ log_at w other)) → (state_at next other).closed ≢ None
+      by (inl same) = λ none. closed (sym (λ i. (state_of (quiet.ids other i) (quiet.epochs other i) (same i)).closed) ∙ none)
+      by (inr more) = λ none. none-some more.0 (sym none ∙ (λ i. (state_of (quiet.ids other i) (quiet.epochs other i) (more.1 i)).closed))
+
+  -- a log that is of commands alone, or has its commands first, was so
   pub alone_quiet : (site : ℕ) → CommandsAlone (log_at next site) → CommandsAlone (log_at w site)
   alone_quiet site only = elim (quiet.logs site) [
     | inl same ↦ subst CommandsAlone same only

@@ -7,13 +7,14 @@ use Rattle.node_steps.specs.Steps.{Action, Asks, AsksNowhere, Copies, CopiesFrom
 use Rattle.node_steps.specs.Schedules.{Start, IsStart, world_after}
 use Rattle.std.proofs.lemmas.Option.{some_pair_parts}
 use Rattle.node_steps.proofs.Inside.{false_true, same_test}
-use Rattle.node_steps.proofs.Kept.{CopiesWell, SendsWell, IsOrderly, map_some}
+use Rattle.node_steps.proofs.Kept.{CopiesWell, SendsWell, IsOrderly}
 use Rattle.node_steps.proofs.KeptSteps.{orderly-does}
 use Rattle.node_steps.proofs.Coming.{sent_between}
 use Rattle.node_steps.proofs.CloseSteps.{acts_cases, orderly-judged}
 use Rattle.node_steps.proofs.Closes.{orderly-closed}
 use Rattle.node_steps.proofs.FirstWorld.{orderly-opening}
 use Rattle.node_steps.proofs.Diverting.{diversion, orderly-diverted}
+use Rattle.vnode_machine.proofs.Tests.{unmapped}
 
 not_same : (a b : ℕ) → (a == b) ≡ false → a ≡ b → ⊥
 not_same a b h e = false_true (a == b) h (same_test a b e)
@@ -71,7 +72,7 @@ orderly-step w orderly (By number action) r h =
       ]
     ]
 orderly-step w orderly (Diverts index) r h =
-    let d = map_some _ (diverted w index) r h in
+    let d = unmapped _ (diverted w index) r h in
     let p = diversion w index d.0 d.1 in
     subst (λ (q : World × Outcome). IsOrderly q.0) d.2 (subst IsOrderly p.gives (orderly-diverted w orderly index p.epoch p.primary p.vnode_is p.own p.alone p.epoch_is))
 

@@ -28,13 +28,13 @@ use Rattle.node_steps.proofs.Kept.{IsOrderly, IsPossible, possible}
 use Rattle.node_steps.proofs.FirstWorld.{opened}
 use Rattle.node_steps.proofs.Diverting.{IsDiversion, diversion}
 use Rattle.node_steps.proofs.Scheduled.{orderly}
-use Rattle.node_steps.proofs.Lifting.{no_reply, history-more, log-more, log_before, log_after, log_elsewhere, alone_was, first_before, replied_alone, here, turn, plain, replays_next, reply_is, id_before, epoch_before, id_next, epoch_next, before_is, after_is, elsewhere_is}
+use Rattle.node_steps.proofs.Lifting.{no_reply, history-more, log-more, log_before, log_after, log_elsewhere, alone_was, first_before, replied_alone, here, turn, plain, replays_next, reply_is, id_before, epoch_before, id_next, epoch_next, before_is, after_is, elsewhere_is, not_replied}
 use Rattle.node_steps.proofs.Leaving.{seen}
 use Rattle.node_steps.proofs.CloseSteps.{acts_cases}
 use Rattle.node_steps.proofs.Quiet.{IsQuiet, quiet-judged, quiet-closed, alone_quiet, first_quiet}
 use Rattle.node_steps.proofs.Claiming.{silent_judged, silent_closed}
 use Rattle.node_steps.proofs.Replaying.{replays_after}
-use Rattle.std.proofs.lemmas.Option.{same_Some as call_same}
+use Rattle.std.proofs.lemmas.Option.{same_Some as call_same, none-some}
 
 no_event : (event : Event Content Context) (later before : History) → later ++ (event ∷ before) ≡ [] → ⊥
 no_event event [] before h = cc
@@ -211,12 +211,6 @@ module _ (index : ℕ) (key : Key) where
           events = events_next;
         }))
 
-is_some : (r : World × Outcome) → Some r ≡ None → ⊥
-is_some r h = cc
-
-not_shown : (response : Response) → NotPossible ≡ Replied (Ok response) → ⊥
-not_shown response h = cc
-
 abbrev id_in : Option SiteVnode → ℕ
 id_in o = option_map_or (λ (v : SiteVnode). v.id) o 0
 
@@ -323,7 +317,7 @@ module _ (start : Start) (is : IsStart start) (index : ℕ) (key : Key) where
           → IsNamed index key (option_map_or (λ r. r.0) o (world_after start earlier)) (WasShownInRun start index key (By number action ∷ earlier))
       by None h named = record {
         shown = λ only context s. elim s [
-          | inl now ↦ absurd (not_shown now.response (sym (ap (λ o. option_map_or (λ (r : World × Outcome). r.1) o NotPossible) h) ∙ now.replied))
+          | inl now ↦ absurd (not_replied (Ok now.response) (sym (ap (λ o. option_map_or (λ (r : World × Outcome). r.1) o NotPossible) h) ∙ now.replied))
           | inr was ↦ named.shown only context was
         ];
         calls = named.calls;
@@ -335,7 +329,7 @@ module _ (start : Start) (is : IsStart start) (index : ℕ) (key : Key) where
             let p = possible w number sent r does in
             subst (λ q. IsNamed index key q.0 (WasShownInRun start index key (By number action ∷ earlier))) p.gives
             (named_next index key w (orderly start is earlier) number sent r p (WasShownInRun start index key earlier) named
-            (λ context g. gives.1 (λ none. is_some r (sym h ∙ none)) context (ap (λ o. option_map_or (λ (x : Worker). given_in (call_by sent x.phase) index key) o None) p.worker_is ∙ g))
+            (λ context g. gives.1 (λ none. none-some r (sym none ∙ h)) context (ap (λ o. option_map_or (λ (x : Worker). given_in (call_by sent x.phase) index key) o None) p.worker_is ∙ g))
             (outcome w (By number action)) (ap (λ (q : World × Outcome). q.1) p.gives ∙ sym (came r h)) (WasShownInRun start index key (By number action ∷ earlier))
             (λ context s. elim s [
               | inl now ↦ inl (record { call = now.call; asked = now.asked; at = now.at; of_key = now.of_key; response = now.response; replied = now.replied; decodes = now.decodes })

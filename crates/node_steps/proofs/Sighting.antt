@@ -1,6 +1,6 @@
 -- What a running worker's looks for its call come to, as turns at its vnode.
 use Rattle.std.proofs.Common.{◌≡◌, ℕ, Bool, true, false, [], refl, sym, ◌∙◌, ap}
-use Rattle.std.specs.Prelude.{Option, Some, None, is_some}
+use Rattle.std.specs.Prelude.{None, is_some}
 use Rattle.riak_msgs.specs.Contents.{Content}
 use Rattle.sibling_register.specs.Answers.{RegisterAsk}
 use Rattle.actor_epoch.specs.Given.{Context}
@@ -24,11 +24,6 @@ holds_open own site ask hand next outcome opened looks = λ vnode same.
       comes.0 ∙ ap (λ b. (holds_by [] nothing_brought vnode site ask hand b).phase) (sym opened),
       comes.1 ∙ ap (λ b. returned (holds_by [] nothing_brought vnode site ask hand b).outcome) (sym opened),
     )
-
--- nothing is planned where a test says so
-pub no_plan : {X : Type 0} (o : Option X) → is_some o ≡ false → o ≡ None
-no_plan None h = refl
-no_plan (Some x) h = cc
 
 -- and whatever it is
 pub holds : (at : Site) (site : ℕ) (ask : RegisterAsk Content Context) (hand : State Content) (next : Phase) (outcome : Returned)

@@ -1,7 +1,6 @@
 -- What a step for a call makes of its worker and its vnode, where they were as they always are.
-use Rattle.std.proofs.Common.{◌≡◌, ◌≢◌, ◌⊎◌, inl, inr, ℕ, zero, suc, ◌+◌, ◌≤◌, Bool, true, false, ◌||◌, refl, ◌∙◌, ap, arith, subst}
+use Rattle.std.proofs.Common.{◌≡◌, ◌≢◌, ◌⊎◌, inl, inr, ℕ, zero, suc, ◌+◌, ◌≤◌, true, false, refl, ◌∙◌, ap, arith, subst}
 use Rattle.std.specs.Prelude.{◌==◌, Option, Some, None, is_some}
-use Rattle.std.proofs.lemmas.Bool.Decides.{nat_tests}
 use Rattle.riak_msgs.specs.Contents.{Content}
 use Rattle.sibling_register.specs.Answers.{RegisterAsk, AskGet, GetCommand}
 use Rattle.actor_epoch.specs.Given.{Context}
@@ -9,22 +8,18 @@ use Rattle.vnode_machine.specs.Machine.{State}
 use Rattle.vnode_machine.specs.Replay.{History, IsWithinLimits}
 use Rattle.copy_laws.specs.Copies.{commands_of}
 use Rattle.copy_laws.specs.Joining.{Log}
-use Rattle.node_steps.specs.World.{Word, Open, Taken, Phase, Idle, Asked, Reading, Holding, Done, Turned, Copying, Closing, Brought, SiteVnode, CommandsAlone, history_of}
+use Rattle.node_steps.specs.World.{Word, Open, Taken, Phase, Idle, Asked, Reading, Holding, Done, Turned, Copying, Closing, Brought, CommandsAlone, history_of}
 use Rattle.node_steps.specs.Steps.{Action, Asks, Enters, Leaves, Marks, Unmarks, Takes, Puts, WorkerTurn, left, moves, lays, turn_of}
 use Rattle.node_steps.specs.Schedules.{Begins}
 use Rattle.node_steps.proofs.Coming.{BetweenIs, AboutIs, CallIs, Comes}
 use Rattle.node_steps.proofs.Lists.{same_or_other, one, no_more}
 use Rattle.node_steps.proofs.Beginnings.{begins-itself}
-use Rattle.node_steps.proofs.Inside.{is_reader, is_holder, FitsWord, state_of, IsInPlace, IsInHand, HasSeen, IsAbout, IsOfOne, same_test, StaysAt, stays, about_one, IsPlain}
+use Rattle.node_steps.proofs.Inside.{is_reader, is_holder, FitsWord, state_of, IsInPlace, IsInHand, HasSeen, IsAbout, IsOfOne, same_test, StaysAt, stays, about_one, IsPlain, vnode_in}
 pub use Rattle.std.proofs.lemmas.Bool.{eqb-true as same_number, or_cases as one_of}
 
 pub some_none : (o : Option ℕ) → is_some o ≡ true → o ≡ None → ⊥
 some_none None h e = cc
 some_none (Some n) h e = cc
-
-pub none_of : (o : Option ℕ) → is_some o ≡ false → o ≡ None
-none_of None h = refl
-none_of (Some n) h = cc
 
 module _ (id epoch home index readers holders : ℕ) where
   -- how a worker's phase goes over: elsewhere it has what it had, and it is about no site that is new but the step's and its own
@@ -91,11 +86,8 @@ module _ (id epoch home index readers holders : ℕ) where
     abbrev pub history : History
     history = commands_of log
 
-    abbrev pub vnode_in : Word → SiteVnode
-    vnode_in word = record { id = id; own = home; last_epoch = epoch; word = word; log = log; place = place }
-
     abbrev pub turns : Word → Action → Phase → Option WorkerTurn
-    turns word action phase = turn_of seen brought (vnode_in word) action phase
+    turns word action phase = turn_of seen brought (vnode_in id home epoch log place word) action phase
 
     -- the phase goes over, and the word fits
     abbrev pub Fits : Phase → Phase → Word → Type 0
@@ -105,7 +97,7 @@ module _ (id epoch home index readers holders : ℕ) where
     -- a turn that moves its worker, and the word
     pub moved : (action : Action) (phase next : Phase) (word : Word) → Fits phase next word → IsInPlace id epoch word log place → IsInHand id epoch index log next
         → HasSeen index next seen history → Goes action phase next → BetweenIs action index home (state_of id epoch log).closed phase next → CallIs action phase next → (old : Word)
-        → IsTurn action phase brought log (moves seen brought (vnode_in old) next word)
+        → IsTurn action phase brought log (moves seen brought (vnode_in id home epoch log place old) next word)
     moved action phase next word fits in_place in_hand whole goes between call old = record {
       same_id = refl;
       same_own = refl;
@@ -207,7 +199,7 @@ module _ (id epoch home index readers holders : ℕ) where
 
     pub laid : (phase next : Phase) (word : Word) (hand : State Content) → Fits phase next (Open 0 false) → hand ≡ state_of id epoch log
         → IsInHand id epoch index log next → HasSeen index next seen history → Goes Puts phase next → BetweenIs Puts index home (state_of id epoch log).closed phase next → CallIs Puts phase next
-        → IsTurn Puts phase brought log (lays seen brought (vnode_in word) next hand)
+        → IsTurn Puts phase brought log (lays seen brought (vnode_in id home epoch log place word) next hand)
     laid phase next word hand fits is in_hand whole goes between call = record {
       same_id = refl;
       same_own = refl;

@@ -1,14 +1,12 @@
 -- Where a worker has a call nothing was copied, unless a fallback of its partition was closed.
-use Rattle.std.proofs.Common.{◌≡◌, ◌≢◌, ◌⊎◌, inl, inr, ℕ, zero, suc, ◌+◌, ◌<◌, ◌≤◌, true, List, [], ◌∷◌, length, refl, sym, ◌∙◌, ap, arith, subst}
+use Rattle.std.proofs.Common.{◌≡◌, ◌≢◌, ◌⊎◌, inl, inr, ℕ, zero, suc, ◌+◌, ◌≤◌, true, List, [], ◌∷◌, length, refl, sym, ◌∙◌, ap, arith, subst}
+use Rattle.std.proofs.lemmas.Option.{none-some}
 use Rattle.std.specs.Prelude.{Option, Some, None, option_map, slice_get}
 use Rattle.std.specs.Option.{option_map_or}
-use Rattle.riak_msgs.specs.Contents.{Content}
-use Rattle.vnode_machine.specs.Machine.{State}
-use Rattle.copy_laws.specs.Copies.{Closed}
-use Rattle.node_steps.specs.World.{Phase, SiteVnode, Worker, World, CommandsAlone, Call, fresh_vnode, route, id_at, last_epoch_at, own_at, log_at, call_of, call_at}
+use Rattle.node_steps.specs.World.{Phase, SiteVnode, Worker, World, CommandsAlone, Call, fresh_vnode, route, own_at, log_at, call_of, call_at}
 use Rattle.node_steps.specs.Steps.{Action, Step, By, Diverts, Outcome, Happened, routed, fallback_ids, is_about, acts, diverted, diverted_by}
 use Rattle.node_steps.specs.Schedules.{Start, IsStart, world_after}
-use Rattle.node_steps.specs.Claims.{state_at, HadClose}
+use Rattle.node_steps.specs.Claims.{HadClose}
 use Rattle.node_steps.proofs.Lists.{set-here, set-there, same_or_other, get-below, get-first, get-more, found_below}
 use Rattle.node_steps.proofs.Inside.{about_there, state_of, IsOpenAt, false_true}
 use Rattle.node_steps.proofs.Coming.{between_in, is_turned}
@@ -17,10 +15,11 @@ use Rattle.node_steps.proofs.Diverting.{IsDiversion, diversion, alone_about}
 use Rattle.node_steps.proofs.Scheduled.{orderly}
 use Rattle.node_steps.proofs.CloseSteps.{IsJudgement, IsClose, acts_cases, some_back}
 use Rattle.node_steps.proofs.Closes.{close_world, close_route, close_after, close_own}
-use Rattle.node_steps.proofs.Quiet.{IsQuiet, quiet-judged, quiet-closed, close_log}
+use Rattle.node_steps.proofs.Quiet.{IsQuiet, quiet-judged, quiet-closed, close_log, had_quiet}
 use Rattle.node_steps.proofs.Lifting.{log-more}
 use Rattle.node_steps.proofs.CallSites.{call_site, sent-by}
-use Rattle.node_steps.proofs.CallsApart.{IsApart, Logs, no_call, below_past, route_own, closed_in, closed_vnode, apart-opening, apart-does}
+use Rattle.node_steps.proofs.CallsApart.{IsApart, Logs, route_own, closed_in, closed_vnode, apart-opening, apart-does}
+use Rattle.node_steps.proofs.Numbers.{below, below_past}
 
 -- a closer's look, and its publish: calls are as they were
 module _ (w : World) (orderly : IsOrderly w) (number : ℕ) (action : Action) (r : World × Outcome) (is : IsApart w) where
@@ -40,12 +39,9 @@ module _ (w : World) (orderly : IsOrderly w) (number : ℕ) (action : Action) (r
     abbrev next : World
     next = close_world w orderly number action r c
 
-    abbrev route_there : slice_get w.routes c.own ≡ Some c.site
-    route_there = close_route w orderly number action r c
-
     route_was : (index to : ℕ) → slice_get next.routes index ≡ Some to → to ≢ index → (c.own ≢ index) × (slice_get w.routes index ≡ Some to)
     route_was index to route n = elim (same_or_other c.own index) [
-      | inl e ↦ absurd (n (sym (some_back c.own to (sym (set-here w.routes c.own c.site c.own route_there) ∙ ap (λ k. slice_get next.routes k) e ∙ route)) ∙ e))
+      | inl e ↦ absurd (n (sym (some_back c.own to (sym (set-here w.routes c.own c.site c.own (close_route w orderly number action r c)) ∙ ap (λ k. slice_get next.routes k) e ∙ route)) ∙ e))
       | inr m ↦ (m, sym (set-there w.routes c.own index c.own m) ∙ route)
     ]
 
@@ -57,38 +53,18 @@ module _ (w : World) (orderly : IsOrderly w) (number : ℕ) (action : Action) (r
         c.fallback,
         ap (λ k. slice_get w.vnodes k) (sym e.0) ∙ c.fallback_is,
         ap (λ (u : SiteVnode). u.own) (sym e.1),
-        λ clear. absurd (not_closed (subst (λ (u : SiteVnode). IsOpenAt u.id u.last_epoch u.log) (sym e.1) clear)),
+        λ clear. absurd (none-some c.count (sym (subst (λ (u : SiteVnode). IsOpenAt u.id u.last_epoch u.log) (sym e.1) clear))),
       )
       | inr e ↦ (v, e.1, refl, λ clear. clear)
     ]
-      where
-        not_closed : Some c.count ≡ None → ⊥
-        not_closed e = cc
-
-    had-kept : (site : ℕ) → IsQuiet w next → HadClose w site → HadClose next site
-    had-kept site calm (other, own, closed) = (other, calm.owns other ∙ own ∙ sym (calm.owns site), by (calm.logs other))
-      where
-        not_none : (number : ℕ) (state : State Content) → (record state { keys = []; closed = Some number }).closed ≡ None → ⊥
-        not_none number state e = cc
-
-        by : (log_at next other ≡ log_at w other) ⊎ ((number : ℕ) × (log_at next other ≡ Closed number ∷ log_at w other)) → (state_at next other).closed ≢ None
-        by (inl same) = λ none. closed (sym ((λ i. (state_of (calm.ids other i) (calm.epochs other i) (same i)).closed)) ∙ none)
-        by (inr more) = λ none. not_none more.0 (state_of (id_at w other) (last_epoch_at w other) (log_at w other))
-            (sym ((λ i. (state_of (calm.ids other i) (calm.epochs other i) (more.1 i)).closed)) ∙ none)
 
     -- a site of the partition whose fallback is closed
     had-now : (site : ℕ) → c.own ≡ own_at w site → IsQuiet w next → HadClose next site
     had-now site e calm = (
       c.site,
       calm.owns c.site ∙ ap (λ o. option_map_or (λ (v : SiteVnode). v.own) o 0) c.fallback_is ∙ close_own w orderly number action r c ∙ e ∙ sym (calm.owns site),
-      λ none. is_closed (sym ((λ i. (state_of (calm.ids c.site i) (calm.epochs c.site i) (close_log w orderly number action r c i)).closed)) ∙ none),
+      λ none. none-some c.count (sym none ∙ (λ i. (state_of (calm.ids c.site i) (calm.epochs c.site i) (close_log w orderly number action r c i)).closed)),
     )
-      where
-        is_closed : Some c.count ≡ None → ⊥
-        is_closed e = cc
-
-    below : (a b c : ℕ) → a < b → b ≤ c → a < c
-    below a b c h k = omega (arith, h, k)
 
     own_there : (site : ℕ) → slice_get w.routes site ≢ None → own_at w site ≡ site
     own_there site routed = by (slice_get w.routes site) refl
@@ -105,24 +81,18 @@ module _ (w : World) (orderly : IsOrderly w) (number : ℕ) (action : Action) (r
         | inl only ↦ inl (subst CommandsAlone (sym same) only)
         | inr rest ↦ elim rest [
           | inl away ↦ elim (same_or_other c.own site) [
-            | inl e ↦ inr (inr (had-now site (e ∙ sym (own_there site (λ none. no_route (sym none ∙ away.1)))) calm))
+            | inl e ↦ inr (inr (had-now site (e ∙ sym (own_there site (λ none. none-some away.0 (sym none ∙ away.1)))) calm))
             | inr n ↦ inr (inl (away.0, set-there w.routes c.own site c.own n ∙ away.1, away.2))
           ]
-          | inr had ↦ inr (inr (had-kept site calm had))
+          | inr had ↦ inr (inr (had_quiet w next calm site had))
         ]
       ]
       | inr more ↦ inr (inr (
         site,
         refl,
-        λ none. not_open more.0 (sym ((λ i. (state_of (calm.ids site i) (calm.epochs site i) (more.1 i)).closed)) ∙ none),
+        λ none. none-some more.0 (sym none ∙ (λ i. (state_of (calm.ids site i) (calm.epochs site i) (more.1 i)).closed)),
       ))
     ]
-      where
-        no_route : {to : ℕ} → None ≡ Some to → ⊥
-        no_route h = cc
-
-        not_open : (number : ℕ) → Some number ≡ None → ⊥
-        not_open number e = cc
 
     apart-closed : IsApart r.0
     apart-closed = subst (λ (q : World × Outcome). IsQuiet w q.0 → IsApart q.0) c.gives (λ calm. record {
@@ -256,12 +226,12 @@ stays_apart start is (Diverts other ∷ earlier) = by (diverted w other) refl (s
 -- where a worker has a call
 pub call_worker : (w : World) (number : ℕ) (call : Call) → call_at w number ≡ Some call
     → (place : ℕ) × (worker : Worker) × (slice_get w.workers place ≡ Some worker) × (call_of worker.phase ≡ Some call)
-call_worker w zero call h = absurd (no_call call h)
+call_worker w zero call h = absurd (none-some call h)
 call_worker w (suc place) call h = by (slice_get w.workers place) refl h
   where
     by : (o : Option Worker) → slice_get w.workers place ≡ o → option_map_or (λ (worker : Worker). call_of worker.phase) o None ≡ Some call
         → (at : ℕ) × (worker : Worker) × (slice_get w.workers at ≡ Some worker) × (call_of worker.phase ≡ Some call)
-    by None e h = absurd (no_call call h)
+    by None e h = absurd (none-some call h)
     by (Some worker) e h = (place, worker, e, h)
 
 pub call_there : (w : World) → IsOrderly w → IsApart w → (number : ℕ) (call : Call) → call_at w number ≡ Some call → CommandsAlone (log_at w call.site) ⊎ HadClose w call.site
@@ -270,12 +240,9 @@ call_there w orderly is number call asked = elim (is.logs call.site) [
   | inr rest ↦ elim rest [
     | inl away ↦
         let x = call_worker w number call asked in
-        let below = get-below w.routes call.site away.0 away.1 in
-        let v = found_below w.vnodes call.site (under call.site (length w.routes) (length w.vnodes) below orderly.sites) in
-        absurd (away.2 (sym (is.away call.site away.0 away.1 away.2 x.0 x.1 x.2 call x.3 v.0 v.1 (orderly.homes call.site v.0 below v.1).0)))
+        let known = get-below w.routes call.site away.0 away.1 in
+        let v = found_below w.vnodes call.site (below call.site (length w.routes) (length w.vnodes) known orderly.sites) in
+        absurd (away.2 (sym (is.away call.site away.0 away.1 away.2 x.0 x.1 x.2 call x.3 v.0 v.1 (orderly.homes call.site v.0 known v.1).0)))
     | inr had ↦ inr had
   ]
 ]
-  where
-    under : (a b c : ℕ) → a < b → b ≤ c → a < c
-    under a b c h k = omega (arith, h, k)

@@ -20,5 +20,4 @@ pub mod Kept
 pub mod Gates
 pub mod CloseHands
 pub mod Turning
-pub mod Lefts
 pub mod Closings

@@ -1,5 +1,5 @@
 -- Where a step finds its worker and its vnode among the running parts, and what it leaves of them; which partition may be diverted.
-use Rattle.std.specs.Prelude.{◌≡◌, ◌+◌, ◌<◌, ◌^◌, ℕ, suc, not, true, List, length, Option, Some, None, slice_get}
+use Rattle.std.specs.Prelude.{◌≡◌, ◌⊎◌, ◌+◌, ◌<◌, ◌^◌, ℕ, suc, not, true, List, length, Option, Some, None, slice_get}
 use Rattle.std.specs.List.{list_all}
 use Rattle.riak_msgs.specs.declared.Key.{Key}
 use Rattle.riak_msgs.specs.Contents.{Content}
@@ -102,6 +102,11 @@ pub record HasNone (parts : Parts) (index : ℕ) : Type 0 where
 abbrev pub HasFallbackSite : Parts → (index : ℕ) → Option ℕ → Type 0
 HasFallbackSite parts index (Some site) = IsFallbackSite parts index site
 HasFallbackSite parts index None = HasNone parts index
+
+-- a worker that has no call, and a partition's fallback; none where one of them is missing
+abbrev pub FindsIdleAndFallback : Parts → (worker index : ℕ) → Option (ℕ × ℕ) → Type 0
+FindsIdleAndFallback parts worker index (Some found) = FindsIdle parts.workers.items worker (Some found.0) × IsFallbackSite parts index found.1
+FindsIdleAndFallback parts worker index None = FindsIdle parts.workers.items worker None ⊎ HasNone parts index
 
 -- a partition is diverted to a fallback of this id, opened behind this epoch
 pub record DivertsTo (w : World) (index id epoch : ℕ) : Type 0 where

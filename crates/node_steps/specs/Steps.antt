@@ -26,14 +26,13 @@
 --     its publish       Publishes   closes CloseLooked
 --     its leave, put    Leaves, ..  turn_of Leaves, turn_of Puts CloseDone, inside the primary and not any more
 --   leave W, put W where the fallback was found closed: turn_of Leaves, turn_of Puts Turned
-use Rattle.std.specs.Prelude.{Bool, true, false, not, if◌then◌else◌, ◌==◌, ◌&&◌, ◌||◌, ◌+◌, ◌-◌, ◌^◌, ◌++◌, List, [], ◌∷◌, ℕ, length, filter, min, nat_le, zero, suc, pred, Option, Some, None, is_some, Result, Ok, Err, option_map, option_and_then, slice_get, slice_set}
+use Rattle.std.specs.Prelude.{Bool, true, false, not, if◌then◌else◌, ◌==◌, ◌&&◌, ◌||◌, ◌+◌, ◌-◌, ◌^◌, ◌++◌, List, [], ◌∷◌, ℕ, length, min, zero, suc, pred, Option, Some, None, is_some, Result, Ok, Err, option_map, option_and_then, slice_get, slice_set}
 use Rattle.std.specs.Option.{option_map_or}
 use Rattle.std.specs.List.{list_all}
 use Rattle.riak_msgs.specs.declared.Key.{Key}
 use Rattle.riak_msgs.specs.Contents.{Content}
 use Rattle.sibling_register.specs.History.{Event}
 use Rattle.sibling_register.specs.Answers.{RegisterAsk, AskGet, AskReap, GetCommand}
-use Rattle.actor_epoch.specs.Dots.{counter_in}
 use Rattle.actor_epoch.specs.Given.{Context}
 use Rattle.dvv_set.specs.Clocks.{DotState}
 use Rattle.vnode_machine.specs.Copying.{is_stuck, apply_copy, apply_close}
@@ -49,6 +48,7 @@ pub use Rattle.node_steps.specs.Partitions.{fallback_ids}
 pub use Rattle.node_steps.specs.Actions.{Action, Asks, AsksNowhere, Copies, CopiesFrom, Closes, ClosesFrom, Enters, Leaves, Marks, Unmarks, Takes, Puts, Looks, Publishes, Step, By, Diverts, number_of, Outcome, NotPossible, Happened, Replied, NotHeld, StuckThere, CopiedBack, Elsewhere, LeftThere}
 use Rattle.node_steps.specs.HeldNames.{saw_held}
 use Rattle.node_steps.specs.World.{Word, Open, Taken, PlannedCommand, CopyStage, CopyAsked, CopyInside, CopyLooked, CopyTaken, CopyDone, CloseStage, CloseAsked, CloseTaken, CloseInside, CloseLooked, CloseDone, Phase, Idle, Asked, Reading, Holding, Done, Turned, Copying, Closing, Brought, SiteVnode, Worker, World, fresh_vnode, history_of, seen_at, diversions_at, brought_by, worker_at, route}
+use Rattle.vnode_core.specs.Left.{count_left}
 
 -- what a step makes of its worker and of the vnode, the front of the vnode's history that the worker has then seen, and what comes
 -- of the step
@@ -285,11 +285,9 @@ does w number action =
     (site_of action worker.phase))
     (worker_at w number)
 
--- the keys of a fallback that the primary doesn't have as they are now: it knows less of the fallback's own actor of the key
+-- how many keys of a fallback the primary doesn't have as they are there now
 abbrev pub left_in : (primary fallback : State Content) → ℕ
-left_in primary fallback =
-    length (filter (λ entry. not (option_map_or
-    (λ own. nat_le (counter_in entry.1.clock.known own) (counter_in (clock_of primary entry.0).known own)) entry.1.own true)) fallback.keys)
+left_in primary fallback = count_left primary fallback.keys
 
 -- how many commands a vnode has accepted, up to the greatest number that a close can carry
 abbrev pub accepted_in : State Content → ℕ

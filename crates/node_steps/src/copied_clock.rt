@@ -4,10 +4,11 @@ ghost use Rattle.std.specs.Prelude.{◌≡◌, IfOk};
 ghost use Rattle.vnode_machine.specs.Copying.{IsClock};
 
 use clock_store::{OwnActor, StoredClock};
-use dvv_set::{Clock, CloneValue};
+use dvv_set::Clock;
 use riak_msgs::Content;
 use std::alloc::{AllocError, Global};
 use std::marker::Model;
+use vnode_core::CloneSibling;
 
 /// The clock that a key had at a fallback, as its copier keeps it. Contracts see what it knows and has live.
 pub(crate) struct CopiedClock {
@@ -34,21 +35,6 @@ impl Model for CopiedClock {
     ghost invariant = { λ c. IsClock c.stored.clock.meaning };
 }
 
-/// Copies of siblings.
-struct Sibling;
-
-impl CloneValue<Option<Content>> for Sibling {
-    fn clone_value(
-        sibling: &Option<Content>,
-        _alloc: Global,
-    ) -> Result<Option<Content>, AllocError> {
-        match sibling {
-            None => Ok(None),
-            Some(content) => Ok(Some(content.clone()?)),
-        }
-    }
-}
-
 impl CopiedClock {
     /// A copy of a clock.
     pub(crate) fn of(
@@ -58,7 +44,7 @@ impl CopiedClock {
         requires { IsClock clock.now.meaning }
         ensures { IfOk result (λ copied. copied ≡ clock.now.meaning) }
     {
-        let clock = clock.try_clone::<Sibling>(alloc)?;
+        let clock = clock.try_clone::<CloneSibling>(alloc)?;
         let actor = OwnActor::none();
         Ok(CopiedClock {
             stored: StoredClock { actor, clock },

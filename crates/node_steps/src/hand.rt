@@ -12,14 +12,13 @@ ghost use Rattle.vnode_machine.specs.Sound.{IsSound};
 use crate::call::Call;
 use crate::copied_clock::CopiedClock;
 use crate::fault::StepFault;
-use crate::left::count_left;
 use crate::outcome::{Outcome, answered};
 use clock_store::KeyRef;
 use ghost_state::GhostList;
 use riak_msgs::{GetAsk, Key, Reply, Text};
 use std::alloc::{AllocError, Global};
 use std::marker::Model;
-use vnode_core::{Ask, Change, KeyCopy, Plan, Refusal, Vnode};
+use vnode_core::{Ask, Change, KeyCopy, Plan, Refusal, Vnode, count_left};
 
 /// A vnode of an id, and the change that was planned at a look. Contracts see its state and the plan.
 pub(crate) struct Hand {
@@ -145,7 +144,7 @@ impl Hand {
         }
     }
 
-    /// How many keys a fallback has otherwise than this primary has them; at most 18,446,744,073,709,551,615. Refused where memory is.
+    /// How many keys a fallback has that this primary hasn't as they are there now; at most 18,446,744,073,709,551,615. Refused where memory is.
     pub(crate) fn left_of(&self, alloc: Global, fallback: &Hand) -> Result<u64, AllocError>
         ensures { IfOk result (λ count. count
             ≡ min (left_in self.now.state fallback.now.state) (2 ^ 64 - 1)) }

@@ -17,7 +17,7 @@ ghost use Rattle.node_steps.specs.Gates.{RunsAreScheduled};
 /// divert a partition to a fallback, which has a history of its own, copy keys back from there, close it, so that the calls go to
 /// the primary again, and divert the partition once more. *One thread*: the history is legal and has a replay where no command
 /// follows a copy (`histories`); the state that any look shows is the one after the log, which is that replay where nothing was
-/// copied (`looks`), as it is where a worker has a call, unless a fallback of its partition was closed (`uncopied`); what comes of
+/// copied (`looks`), as it is where a worker has a call, unless a fallback of its partition was closed, and until then no command follows a copy (`uncopied`); what comes of
 /// a look for a call is what the vnode machine does with it in that state, and where that is closed the call is turned away to the
 /// primary (`looked`). *Is answered*: nothing is answered where the state is closed, and each reply, a refusal too, the register
 /// may give at the end of the history at its look, or, of an accepted command, at its publish, by which the history has just that

@@ -67,7 +67,6 @@ mod divert;
 mod fault;
 mod hand;
 mod laws;
-mod left;
 mod looks;
 mod outcome;
 mod parts;

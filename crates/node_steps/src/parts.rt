@@ -3,7 +3,7 @@
 ghost use Rattle.std.specs.Prelude.{◌≡◌, ◌<◌, length, IfOk, IfErr, OnErr};
 ghost use Rattle.node_steps.specs.Asked.{action_of, asking_step, closing_step, copying_step, step_by, step_of};
 ghost use Rattle.node_steps.specs.Closings.{WorkerMoves, MovesAt, TurnsAt, ground_of};
-ghost use Rattle.node_steps.specs.Parts.{Finds, FindsIdle, HasFallbackSite, IsFit, SendsTo, TakesFitStep, TakesRunStep, world_in};
+ghost use Rattle.node_steps.specs.Parts.{Finds, FindsIdle, FindsIdleAndFallback, HasFallbackSite, IsFit, SendsTo, TakesFitStep, TakesRunStep, world_in};
 ghost use Rattle.node_steps.specs.Running.{ask_of, phase_of, vnode_of, Turns};
 
 use crate::acts::{enter, leave, mark, put, take, unmark};
@@ -246,15 +246,21 @@ impl Parts {
         Some(site)
     }
 
+    /// The place of a worker that has no call, and the site of a partition's fallback.
+    fn idle_and_fallback(&self, worker: u16, index: u16) -> Option<(usize, usize)>
+        ensures { FindsIdleAndFallback self.now worker index result }
+    {
+        let place = self.find_idle(worker)?;
+        let site = self.fallback_of(index)?;
+        Some((place, site))
+    }
+
     /// A worker is to copy a key of the partition at an index.
     fn send_copier(&mut self, worker: u16, index: u16, key: Box<Key>) -> Outcome
         ensures { TakesRunStep (world_in self.old) (copying_step worker index key.value) result
             (world_in self.new) }
     {
-        let Some(place) = self.find_idle(worker) else {
-            return Outcome::No;
-        };
-        let Some(site) = self.fallback_of(index) else {
+        let Some((place, site)) = self.idle_and_fallback(worker, index) else {
             return Outcome::No;
         };
         let own = usize::from(index);
@@ -286,10 +292,7 @@ impl Parts {
         ensures { TakesRunStep (world_in self.old) (closing_step worker index) result
             (world_in self.new) }
     {
-        let Some(place) = self.find_idle(worker) else {
-            return Outcome::No;
-        };
-        let Some(site) = self.fallback_of(index) else {
+        let Some((place, site)) = self.idle_and_fallback(worker, index) else {
             return Outcome::No;
         };
         let own = usize::from(index);

@@ -53,10 +53,10 @@ impl Model for KeyCopy {
     ghost invariant = { λ c. IsClock c.parts.value.clock.meaning };
 }
 
-/// Copies of siblings.
-struct CopySibling;
+/// Clones the siblings of a clock (`Clock::try_clone`): each clone is one owner more of its content's bytes.
+pub struct CloneSibling;
 
-impl CloneValue<Option<Content>> for CopySibling {
+impl CloneValue<Option<Content>> for CloneSibling {
     fn clone_value(
         sibling: &Option<Content>,
         _alloc: Global,
@@ -83,7 +83,7 @@ impl KeyCopy {
         ensures diversion { IfOk result (λ copy. copy.diversion ≡ diversion) }
         ensures prefix { IfOk result (λ copy. copy.prefix ≡ prefix) }
     {
-        let clock = stored.clock.try_clone::<CopySibling>(alloc)?;
+        let clock = stored.clock.try_clone::<CloneSibling>(alloc)?;
         let key = key.to_key(alloc)?;
         let parts = Box::new(
             alloc,

@@ -1,7 +1,8 @@
 use Rattle.std.proofs.Common.{suc, sym, ◌∙◌, ap, subst, arith}
 use Rattle.node_steps.specs.Parts.{Finds}
-use Rattle.node_steps.proofs.Finding.{without_call, without_vnode, number_is, stands, something}
+use Rattle.node_steps.proofs.Finding.{without_call, without_vnode, number_is, stands}
 use Rattle.node_steps.proofs.parts.Parts.find.Goals as goal
+use Rattle.node_steps.proofs.Lists.{found_below}
 
 pub returns-in_err-index : goal.returns-in_err-index
 returns-in_err-index c =
@@ -24,7 +25,7 @@ returns-then-index-len c =
 
 pub returns : goal.returns
 returns c =
-    let there = something c.args.self.now.sites.items c.in_ok-index.index (omega (arith, c.if-index-len.false, c.len.ensures)) in
+    let there = found_below c.args.self.now.sites.items c.in_ok-index.index (omega (arith, c.if-index-len.false, c.len.ensures)) in
     record {
       phase = c.in_ok-phase.phase.now;
       site = there.0;

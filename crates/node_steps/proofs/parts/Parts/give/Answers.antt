@@ -5,9 +5,9 @@ use Rattle.node_steps.specs.Asked.{asking_step}
 use Rattle.node_steps.specs.Parts.{TakesRunStep, world_in}
 use Rattle.node_steps.specs.Running.{ask_of, world_of}
 use Rattle.node_steps.proofs.Asking.{not_asked, asked}
-use Rattle.node_steps.proofs.Finding.{something}
 use Rattle.node_steps.proofs.Stepping.{not_possible}
 use Rattle.node_steps.proofs.parts.Parts.give.Goals as goal
+use Rattle.node_steps.proofs.Lists.{found_below}
 
 pub returns-in_default : goal.returns-in_default
 returns-in_default c =
@@ -24,7 +24,7 @@ returns-in_default-site_for c =
 
 pub returns : goal.returns
 returns c =
-    let there = something c.args.self.now.sites.items c.in-Some-site_for.site c.in-Some-site_for.ensures.1 in
+    let there = found_below c.args.self.now.sites.items c.in-Some-site_for.site c.in-Some-site_for.ensures.1 in
     subst (λ phase. TakesRunStep (world_in c.args.self.now) (asking_step c.args.worker c.args.index (ask_of c.args.call)) Done
     (world_of c.args.self.now.sites.items c.args.self.now.routes.items c.args.self.now.epochs.items (slice_set c.args.self.now.workers.items c.in-Some.place phase)))
     (sym c.set_phase.ensures)

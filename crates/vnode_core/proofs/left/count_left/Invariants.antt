@@ -1,7 +1,7 @@
 use Rattle.std.proofs.Common.{◌≡◌, ◌+◌, ◌-◌, ◌≤◌, ◌^◌, min, length}
 use Rattle.clock_store.specs.KeyRefs.{key_after}
-use Rattle.node_steps.proofs.Lefts.{count_left, keys_behind}
-use Rattle.node_steps.proofs.left.count_left.Given as goal
+use Rattle.vnode_core.specs.Left.{count_left, keys_behind}
+use Rattle.vnode_core.proofs.left.count_left.Given as goal
 
 abbrev pub invariant-loop-parts : goal.invariant-loop-parts
 invariant-loop-parts l =
