@@ -12,6 +12,7 @@ use Rattle.riak_msgs.specs.declared.Reply.TheVariants as replies
 use Rattle.riak_msgs.specs.declared.Text.TheVariants as texts
 use Rattle.sibling_register.specs.Answers.{RegisterAsk}
 use Rattle.actor_epoch.specs.Given.{Context}
+use Rattle.vnode_machine.specs.Asks.{request_ask}
 use Rattle.vnode_machine.specs.Machine.{State}
 use Rattle.vnode_machine.specs.Replay.{History}
 use Rattle.vnode_machine.specs.Step.{Response}
@@ -24,7 +25,6 @@ use Rattle.node_session.specs.declared.fault.SessionFault.{SessionFault}
 use Rattle.node_session.specs.Answers.{AnswersInTurn}
 use Rattle.node_session.specs.Answered.{AnsweredInput}
 use Rattle.node_session.specs.PlainNodes.{partition_of}
-use Rattle.vnode_machine.specs.Asks.{request_ask}
 use Rattle.node_session.specs.PlainStep.{reply_of}
 use Rattle.node_session.specs.Session.{IsInputEnd, Stops}
 use Rattle.vnode_core.specs.Plans.{View}

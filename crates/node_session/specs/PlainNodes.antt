@@ -8,13 +8,13 @@ use Rattle.riak_msgs.specs.declared.Reply.{Reply}
 use Rattle.riak_msgs.specs.declared.Reply.TheVariants as replies
 use Rattle.sibling_register.specs.Answers.{RegisterAsk}
 use Rattle.actor_epoch.specs.Given.{Context}
+use Rattle.vnode_machine.specs.Asks.{request_ask}
 use Rattle.vnode_machine.specs.Machine.{State, opening}
 use Rattle.vnode_machine.specs.Step.{MachineOutcome, outcome}
 use Rattle.vnode_machine.specs.Dead.{swept}
 use Rattle.vnode_machine.specs.Registers.{key_of}
 use Rattle.vnode_core.specs.Plans.{View}
 use Rattle.vnode_core.specs.declared.ask.Ask.{Ask as AskOfVnode}
-use Rattle.vnode_machine.specs.Asks.{request_ask}
 use Rattle.node_session.specs.PlainStep.{StepsBy, StepsByWrite}
 
 -- how many bits number the partitions, how many dead keys a sweep forgets at most, and the state of the vnode of each

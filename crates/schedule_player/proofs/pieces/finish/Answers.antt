@@ -1,8 +1,8 @@
 use Rattle.std.proofs.Common.{◌≡◌, ◌<◌, length, arith, subst}
+use Rattle.std.proofs.lemmas.List.{nil_from_length}
 use Rattle.std.proofs.lemmas.Result.{err_from_is_err_and}
 use Rattle.schedule_player.specs.declared.player.Player.{Player}
 use Rattle.schedule_player.specs.Progress.{WritesEnd}
-use Rattle.std.proofs.lemmas.List.{nil_from_length}
 use Rattle.schedule_player.proofs.Going.{end_empty, end_line, end_stops}
 use Rattle.schedule_player.proofs.pieces.finish.Goals as goal
 use Rattle.schedule_player.proofs.pieces.finish.Goals.{then-not-is_empty+in_ok-play_line, else-not-is_empty}
