@@ -12,6 +12,7 @@ use Rattle.riak_msgs.specs.declared.Reply.TheVariants as replies
 use Rattle.riak_msgs.specs.declared.Text.TheVariants as texts
 use Rattle.sibling_register.specs.Answers.{RegisterAsk}
 use Rattle.actor_epoch.specs.Given.{Context}
+use Rattle.vnode_machine.specs.Asks.{request_ask}
 use Rattle.vnode_machine.specs.Machine.{State}
 use Rattle.vnode_machine.specs.Replay.{History}
 use Rattle.vnode_machine.specs.Step.{Response}
@@ -24,7 +25,7 @@ use Rattle.node_session.specs.declared.fault.SessionFault.{SessionFault}
 use Rattle.node_session.specs.Answers.{AnswersInTurn}
 use Rattle.node_session.specs.Answered.{AnsweredInput}
 use Rattle.node_session.specs.PlainNodes.{partition_of}
-use Rattle.node_session.specs.PlainStep.{ask_of, reply_of}
+use Rattle.node_session.specs.PlainStep.{reply_of}
 use Rattle.node_session.specs.Session.{IsInputEnd, Stops}
 use Rattle.vnode_core.specs.Plans.{View}
 use Rattle.rw_gate.specs.Views.{GateId}
@@ -119,7 +120,7 @@ pub record AnswersAskAt (id : VnodeId) (index : ℕ) (ask : RegisterAsk Content 
 -- a ping is answered by a ping and shows nothing, any other request at the partition that its key lies in
 abbrev pub RegisterAmongOthers : (vnode_of : ℕ → VnodeId) (index_of : Key → ℕ) → Seen → Request → Reply → Seen → Type 0
 RegisterAmongOthers vnode_of index_of old request reply new =
-    MatchOption (ask_of request) ((reply ≡ replies.Ping) × (new ≡ old))
+    MatchOption (request_ask request) ((reply ≡ replies.Ping) × (new ≡ old))
     (λ ask. AnswersAskAt (vnode_of (index_of (key_of ask))) (index_of (key_of ask)) ask old reply new)
 
 -- that of the gates of a run

@@ -23,9 +23,6 @@ pub record IsNewRun (ring run sweep : ℕ) (gates : Gates) : Type 0 where
   pub made_new : AreMadeNew run 0 gates.gates
   pub undiverted : AreNone gates.fallbacks
 
-abbrev pub SettingsAreOfRun : Settings → Gates → Type 0
-SettingsAreOfRun settings gates = IsNewRun settings.ring settings.run settings.sweep gates
-
 module _ {I O : Type 0} where
   -- so many connections were served over these gates by so many workers; of the bytes of a socket nothing is known
   pub record AreServed (gates : Gates) (connections workers : ℕ) (closed : Closed I O) : Type 0 where
@@ -37,7 +34,7 @@ module _ {I O : Type 0} where
   -- the settings' connections were, over the gates of a new run
   pub record AreConnectionsServed (settings : Settings) (closed : Closed I O) : Type 0 where
     pub gates : Gates
-    pub of_run : SettingsAreOfRun settings gates
+    pub of_run : IsNewRun settings.ring settings.run settings.sweep gates
     pub served : AreServed gates settings.connections settings.workers closed
 
 -- connections were served over the gates of a new run for as long as was wanted: those of each worker came to these ends, the workers counted

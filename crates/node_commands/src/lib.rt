@@ -27,8 +27,8 @@
 mod accept;
 mod connections;
 mod fault;
+mod gates;
 mod halves;
-mod limits;
 mod lines;
 mod serving;
 mod streams;

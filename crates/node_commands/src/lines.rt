@@ -43,10 +43,20 @@ fn write_others<W: Write>(writer: &mut W, totals: Totals) -> io::Result<()>
 }
 
 /// Writes the totals, in a line.
-pub(crate) fn write_totals<W: Write>(writer: &mut W, totals: Totals) -> io::Result<()>
+fn write_totals<W: Write>(writer: &mut W, totals: Totals) -> io::Result<()>
     ensures { OnOk result
         (Appends (W.contents writer.old) (W.contents writer.new) (totals_line totals)) }
 {
     write_commands(writer, totals)?;
     write_others(writer, totals)
+}
+
+/// Writes and flushes the totals, in a line.
+pub(crate) fn report<W: Write>(totals: Totals, writer: &mut W) -> io::Result<()>
+    ensures { OnOk result
+        (Appends (W.contents writer.old) (W.contents writer.new) (totals_line totals)) }
+{
+    let written = write_totals(writer, totals);
+    writer.flush()?;
+    written
 }

@@ -1,18 +1,15 @@
 //! Many connections by many threads.
-ghost use Rattle.std.specs.Prelude.{◌≤◌, IfOk, IfSome, OnOk};
-ghost use Rattle.std.specs.Io.KnownBytes.{Appends};
-ghost use Rattle.node_commands.specs.Runs.{SettingsAreOfRun, AreServed, AreConnectionsServed};
-ghost use Rattle.node_commands.specs.Lines.{totals_line};
+ghost use Rattle.std.specs.Prelude.{◌≤◌, IfOk};
+ghost use Rattle.node_commands.specs.Runs.{AreServed, AreConnectionsServed};
 
 use crate::connections::Connections;
 use crate::fault::ServeFault;
+use crate::gates::new_shared;
 use crate::halves::{ReplyHalf, RequestHalf};
-use crate::limits::MAX_READS;
-use crate::lines::{write_address, write_totals};
+use crate::lines::{report, write_address};
 use log::{Log, info, warn};
 use ring_map::Ring;
 use std::alloc::Global;
-use std::io;
 use std::io::Write;
 use std::net::{OpenListener, TcpStream};
 use std::rt::Clock;
@@ -58,21 +55,6 @@ fn serve_fault(fault: PoolFault, of_connections: ServeFault) -> ServeFault {
     }
 }
 
-/// The gates of a new run. Refused where memory is.
-fn new_shared(alloc: Global, settings: &Settings) -> Option<Shared>
-    requires { 1 ≤ settings.now.run }
-    ensures { IfSome result (SettingsAreOfRun settings.now) }
-{
-    Shared::new(
-        alloc,
-        settings.ring,
-        settings.run,
-        settings.sweep,
-        MAX_READS,
-    )
-    .ok()
-}
-
 /// Serves the next connections of a listener, so many, over the gates of a run.
 fn serve_over<T, L>(
     rt: &T,
@@ -108,17 +90,6 @@ fn announce<L: OpenListener, W: Write>(listener: &L, writer: &mut W) {
         let _ = write_address(writer, address.port());
         let _ = writer.flush();
     }
-}
-
-/// Logs the ends, and writes and flushes the totals.
-fn report<T: Log, W: Write>(rt: &T, served: &Served, writer: &mut W) -> io::Result<()>
-    ensures { OnOk result
-        (Appends (W.contents writer.old) (W.contents writer.new) (totals_line served.now.totals)) }
-{
-    log_ends(rt, served.ends.as_slice());
-    let written = write_totals(writer, served.totals);
-    writer.flush()?;
-    written
 }
 
 /// Serves the next connections of a listener, so many, by threads, and returns what came of them when all have ended.
@@ -160,7 +131,7 @@ where
     // tallies of the vnodes at the ends of these histories, and the totals.
     ensures served { IfOk result (AreConnectionsServed settings.now) }
 {
-    let Some(shared) = new_shared(alloc, settings) else {
+    let Some(shared) = new_shared(alloc, settings.ring, settings.run, settings.sweep) else {
         return Err(ServeFault::NoMemory);
     };
     announce(&listener, writer);
@@ -173,7 +144,8 @@ where
         settings.workers,
     );
     if let Ok(served) = &outcome {
-        let _ = report(rt, served, writer);
+        log_ends(rt, served.ends.as_slice());
+        let _ = report(served.totals, writer);
     }
     outcome
 }

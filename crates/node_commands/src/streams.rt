@@ -5,7 +5,7 @@ ghost use Rattle.std.specs.Io.KnownBytes.{IsAtEnd};
 ghost use Rattle.node_session.specs.Session.{Given, IsTooManyReads, MadeReads};
 ghost use Rattle.node_session.specs.Pipes.{PipeEnds, PipeStops, IsNotBegun};
 
-use crate::limits::MAX_READS;
+use byte_streams::MAX_READS;
 use node_session::{Ended, PlainNode, SessionFault, serve};
 use ring_map::Ring;
 use std::alloc::Global;

@@ -1,19 +1,15 @@
 //! Serving for as long as is wanted.
 
-ghost use Rattle.std.specs.Prelude.{◌≡◌, ◌≤◌, [], length, map, Some, None, IfOk, IfSome, OnOk};
+ghost use Rattle.std.specs.Prelude.{◌≡◌, ◌≤◌, [], length, map, Some, None, IfOk, IfSome};
 ghost use Rattle.std.specs.List.{All};
-ghost use Rattle.std.specs.Io.KnownBytes.{Appends};
-ghost use Rattle.node_commands.specs.Lines.{totals_line};
-ghost use Rattle.node_commands.specs.Runs.{IsNewRun, IsServedUntil};
+ghost use Rattle.node_commands.specs.Runs.{IsServedUntil};
 
 use crate::fault::ServeFault;
-use crate::limits::MAX_READS;
-use crate::lines::write_totals;
-use gate_node::Shared;
+use crate::gates::new_shared;
+use crate::lines::report;
 use log::Log;
 use ring_map::Ring;
 use socket_server::{EndSink, ServerFault, ServerOutcome, ServerSettings, serve_until};
-use stats_book::Totals;
 use std::alloc::Global;
 use std::io;
 use std::io::{Read, Write};
@@ -53,31 +49,6 @@ fn announce<W: Write>(listener: &TcpListener, writer: &mut W) -> io::Result<()> 
     let address = listener.local_addr()?;
     writeln!(writer, "listening {address}")?;
     writer.flush()
-}
-
-/// Writes and flushes the totals.
-fn report<W: Write>(totals: Totals, writer: &mut W) -> io::Result<()>
-    ensures { OnOk result
-        (Appends (W.contents writer.old) (W.contents writer.new) (totals_line totals)) }
-{
-    let written = write_totals(writer, totals);
-    writer.flush()?;
-    written
-}
-
-/// The gates of a new run. Refused where memory is.
-fn new_shared(alloc: Global, settings: &UntilSettings) -> Option<Shared>
-    requires { 1 ≤ settings.now.run }
-    ensures { IfSome result (IsNewRun settings.now.ring settings.now.run settings.now.sweep) }
-{
-    Shared::new(
-        alloc,
-        settings.ring,
-        settings.run,
-        settings.sweep,
-        MAX_READS,
-    )
-    .ok()
 }
 
 /// Serves all connections of a listener, each as it is ready, by a thread for each sink that has many of them, over the gates of a new run.
@@ -125,7 +96,7 @@ where
     ensures all { until ≡ None → IfOk result (λ outcome.
         settings.now.connections ≡ Some outcome.connections) }
 {
-    let Some(shared) = new_shared(alloc, settings) else {
+    let Some(shared) = new_shared(alloc, settings.ring, settings.run, settings.sweep) else {
         return Err(ServeFault::NoMemory);
     };
     let _ = announce(&listener, writer);

@@ -3,7 +3,7 @@ use Rattle.std.proofs.Common.{◌≡◌, ℕ, zero, suc, ◌+◌, ◌-◌, ◌<�
 use Rattle.std.specs.Prelude.{◌⊎◌, min}
 use Rattle.std.specs.Int.{w32, from_be_bytes}
 use Rattle.std.specs.List.{flat_map, All}
-use Rattle.std.proofs.lemmas.List.{take_at, drop_at, take-append-le, drop-append-le, take-append-drop, length-take-le, length-drop, get_or-drop, flat_map_more}
+use Rattle.std.proofs.lemmas.List.{nil_from_length, take_at, drop_at, take-append-le, drop-append-le, take-append-drop, length-take-le, length-drop, get_or-drop, flat_map_more}
 use Rattle.std.proofs.Math.Seq.{drop-append-add}
 use Rattle.std.proofs.lemmas.List.Elements.{All-nil, All-cons, All-append, All-head, All-tail}
 use Rattle.pb_frame.specs.Message.{CodedMessage, given_length}
@@ -192,10 +192,6 @@ at_boundary due done unsent count begun (r ∷ rs) splits sent waits counted som
   counted = λ few. counted (omega (arith, few));
 }
 
-nothing : (xs : List ℕ) → length xs ≡ 0 → xs ≡ []
-nothing [] e = refl
-nothing (x ∷ xs) e = absurd (omega (arith, e))
-
 -- the last frame that was begun didn't end
 within : (due : List Reply) (done unsent : List ℕ) (count left total : ℕ) (p : SentFrames due done unsent total left) → 0 < left → count ≡ total - 1 → (left ≡ 0) ⊎ IsReplyCut p.begun left → CutShort due done count
 within due done unsent count left total p some is (inl none) = absurd (omega (arith, none, some))
@@ -226,6 +222,6 @@ within due done unsent count left total p some is (inr c) =
 -- how many were sent whole, where something is to be sent
 pub cut_short : (due : List Reply) (done unsent : List ℕ) (count left total : ℕ) → (left ≡ 0 → count ≡ total) → (0 < left → count ≡ total - 1) → 0 < length unsent → SentFrames due done unsent total left → CutShort due done count
 cut_short due done unsent count zero total none one some p =
-    let empty = nothing p.tail p.remains in
+    let empty = nil_from_length p.tail p.remains in
     at_boundary due done unsent count p.begun p.later p.splits (sym (append-nil done) ∙ ap (λ (l : List ℕ). done ++ l) (sym empty) ∙ p.sent) (p.waits ∙ ap (λ (l : List ℕ). l ++ flat_map reply_frame p.later) empty) (λ few. none refl ∙ p.counted few) some
 cut_short due done unsent count (suc k) total none one some p = within due done unsent count (suc k) total p (omega arith) (one (omega arith)) p.cut

@@ -2,7 +2,7 @@
 use Rattle.std.proofs.Common.{◌≡◌, ◌==◌, Bool, false, ℕ, ◌+◌, ◌<◌, ◌≤◌, List, [], ◌∷◌, ◌++◌, length, take, drop, Option, refl, sym, ap, subst, ◌∙◌, append_assoc, append-nil, length-append, arith}
 use Rattle.std.specs.Io.KnownBytes.{Appends, Keeps}
 use Rattle.std.proofs.KnownBytes.{Appends-trans, Appends-nil, Appends-kept}
-use Rattle.std.proofs.lemmas.List.{take-append-le, take-append-drop, length-drop}
+use Rattle.std.proofs.lemmas.List.{nil_from_length, take-append-le, take-append-drop, length-drop}
 use Rattle.std.proofs.lemmas.Bool.{false≢true}
 use Rattle.std.proofs.Math.Seq.{take-append_seam}
 use Rattle.node_session.specs.Sending.{IsWriteCutShort}
@@ -45,14 +45,10 @@ sent_less mid new front n is some le e =
 pub all_sent : (a b : Option (List ℕ)) (old new : SessionView) (front : List ℕ) → SentPart a b old new → IsFront front new.unsent → length front ≡ 0
     → Appends a b old.unsent × (new ≡ record old { unsent = [] })
 all_sent a b old new front p is none =
-    let empty : new.unsent ≡ [] = is.some (nothing front none) in (
+    let empty : new.unsent ≡ [] = is.some (nil_from_length front none) in (
       subst (Appends a b) (sym (append-nil p.done) ∙ ap (λ (t : List ℕ). p.done ++ t) (sym empty) ∙ sym p.splits) p.written,
       p.same ∙ ap (λ (t : List ℕ). record old { unsent = t }) empty,
     )
-  where
-    nothing : (xs : List ℕ) → length xs ≡ 0 → xs ≡ []
-    nothing [] e = refl
-    nothing (x ∷ xs) e = absurd (omega (arith, e))
 
 -- some is left
 pub sent_short : (a b c : Option (List ℕ)) (old new : SessionView) → SentPart a b old new → 0 < length new.unsent → Keeps b c → IsWriteCutShort a c old.unsent

@@ -11,7 +11,8 @@ use Rattle.actor_epoch.specs.Given.{Context}
 use Rattle.vnode_machine.specs.Step.{Response}
 use Rattle.vnode_machine.specs.Registers.{key_of}
 use Rattle.vnode_machine.specs.Runs.{Turn, TakesEach}
-use Rattle.node_session.specs.PlainStep.{ask_of, reply_of}
+use Rattle.vnode_machine.specs.Asks.{request_ask}
+use Rattle.node_session.specs.PlainStep.{reply_of}
 
 -- a turn by which a node forgets a key
 abbrev pub IsReap : Turn → Type 0
@@ -36,4 +37,4 @@ module _ {S : Type 0} (Takes : (index : ℕ) → S → Turn → S → Type 0) wh
     -- a ping is answered by a ping and changes nothing, any other request by the reply to its ask
     abbrev pub StepByIndex : (ℕ → S) → Request → Reply → (ℕ → S) → Type 0
     StepByIndex old request reply new =
-        MatchOption (ask_of request) ((reply ≡ replies.Ping) × (new ≡ old)) (λ ask. AnswersAsk old ask reply new)
+        MatchOption (request_ask request) ((reply ≡ replies.Ping) × (new ≡ old)) (λ ask. AnswersAsk old ask reply new)

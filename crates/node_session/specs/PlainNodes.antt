@@ -8,13 +8,14 @@ use Rattle.riak_msgs.specs.declared.Reply.{Reply}
 use Rattle.riak_msgs.specs.declared.Reply.TheVariants as replies
 use Rattle.sibling_register.specs.Answers.{RegisterAsk}
 use Rattle.actor_epoch.specs.Given.{Context}
+use Rattle.vnode_machine.specs.Asks.{request_ask}
 use Rattle.vnode_machine.specs.Machine.{State, opening}
 use Rattle.vnode_machine.specs.Step.{MachineOutcome, outcome}
 use Rattle.vnode_machine.specs.Dead.{swept}
 use Rattle.vnode_machine.specs.Registers.{key_of}
 use Rattle.vnode_core.specs.Plans.{View}
 use Rattle.vnode_core.specs.declared.ask.Ask.{Ask as AskOfVnode}
-use Rattle.node_session.specs.PlainStep.{StepsBy, StepsByWrite, ask_of}
+use Rattle.node_session.specs.PlainStep.{StepsBy, StepsByWrite}
 
 -- how many bits number the partitions, how many dead keys a sweep forgets at most, and the state of the vnode of each
 -- partition
@@ -80,4 +81,4 @@ AnswersByKey node ask reply node' = AnswersAt (partition_of node.index_bits (key
 -- key lies in, as its ask is
 abbrev pub PlainStep : NodeState → Request → Reply → NodeState → Type 0
 PlainStep node request reply node' =
-    MatchOption (ask_of request) ((reply ≡ replies.Ping) × (node' ≡ node)) (λ ask. AnswersByKey node ask reply node')
+    MatchOption (request_ask request) ((reply ≡ replies.Ping) × (node' ≡ node)) (λ ask. AnswersByKey node ask reply node')

@@ -1,28 +1,18 @@
 -- What a vnode does for a node: what comes of the ask that a request makes, as a reply.
-use Rattle.std.specs.Prelude.{◌≡◌, ◌⊎◌, ℕ, Option, Some, None, Result, Ok, Err}
+use Rattle.std.specs.Prelude.{◌≡◌, ◌⊎◌, ℕ, Result, Ok, Err}
 use Rattle.riak_msgs.specs.Contents.{Content}
 use Rattle.riak_msgs.specs.declared.Text.TheVariants as texts
-use Rattle.riak_msgs.specs.declared.Request.{Request}
-use Rattle.riak_msgs.specs.declared.Request.TheVariants as requests
 use Rattle.riak_msgs.specs.declared.Reply.{Reply}
 use Rattle.riak_msgs.specs.declared.Reply.TheVariants as replies
 use Rattle.sibling_register.specs.Refusals.{refusal_text}
-use Rattle.sibling_register.specs.Answers.{RegisterAsk, AskGet, AskPut, AskDel}
-use Rattle.actor_epoch.specs.Given.{Context}
+use Rattle.sibling_register.specs.Answers.{AskPut, AskDel}
 use Rattle.vnode_machine.specs.Machine.{State}
-use Rattle.vnode_machine.specs.Asks.{get_command, put_command, del_command}
+use Rattle.vnode_machine.specs.Asks.{put_command, del_command}
 use Rattle.vnode_machine.specs.Step.{Response, GetDone, PutDone, DelDone, ReapDone, ReapKept, MachineOutcome, Refused, Answered, Accepted, outcome}
 use Rattle.vnode_core.specs.declared.ask.Ask.{Ask as AskOfVnode}
 use Rattle.vnode_core.specs.declared.ask.Ask.TheVariants as asks
 use Rattle.vnode_core.specs.declared.ask.Answer.{Answer}
 use Rattle.vnode_core.specs.declared.ask.Answer.TheVariants as answers
-
--- the ask that a request makes of a vnode; a ping makes none
-abbrev pub ask_of : Request → Option (RegisterAsk Content Context)
-ask_of requests.Ping = None
-ask_of (requests.Get get) = Some (AskGet (get_command get))
-ask_of (requests.Put put) = Some (AskPut (put_command put))
-ask_of (requests.Del del) = Some (AskDel (del_command del))
 
 -- the reply for a response; that to a reap, which no request asks for, is that to a delete
 abbrev pub response_reply : Response → Reply

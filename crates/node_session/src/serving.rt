@@ -10,8 +10,9 @@ ghost use Rattle.node_session.specs.Sending.{IsSessionOpen, IsAllAnswered, Stand
 use crate::ended::Ended;
 use crate::fault::SessionFault;
 use crate::node::Node;
-use crate::sending::{Stop, flush, send_all};
+use crate::sending::{Stop, send_all};
 use crate::session::{Halt, Next, Session};
+use byte_streams::flush;
 use std::alloc::Global;
 use std::io::{ErrorKind, Read, Write};
 

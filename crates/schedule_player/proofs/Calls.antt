@@ -1,9 +1,9 @@
 -- Calls that are kept, and what is told of them.
-use Rattle.std.proofs.Common.{◌≡◌, ℕ, zero, suc, ◌+◌, List, [], ◌∷◌, ◌++◌, refl, sym, ap, ◌∙◌, add-one}
+use Rattle.std.proofs.Common.{◌≡◌, ℕ, zero, suc, ◌+◌, List, [], ◌∷◌, ◌++◌, refl, ap, ◌∙◌}
 use Rattle.std.specs.Prelude.{◌-◌, true, false, is_some, Option, Some, None, replicate, map, option_map, slice_get, slice_set, unwrap_or}
 use Rattle.std.specs.Option.{option_map_or}
 use Rattle.std.specs.Global.{Box}
-use Rattle.std.proofs.lemmas.List.{map-append}
+use Rattle.std.proofs.lemmas.List.{map-append, replicate_more}
 use Rattle.std.proofs.lemmas.Option.{slice_get-map}
 use Rattle.riak_msgs.specs.Contents.{Content}
 use Rattle.riak_msgs.specs.declared.Request.{Request}
@@ -11,28 +11,23 @@ use Rattle.riak_msgs.specs.declared.Request.TheVariants as requests
 use Rattle.riak_msgs.specs.declared.reply.Reply.{Reply}
 use Rattle.sibling_register.specs.Answers.{RegisterAsk}
 use Rattle.actor_epoch.specs.Given.{Context}
-use Rattle.schedule_text.specs.Compared.{Compared, ask_of, after_call, after_reply}
+use Rattle.vnode_machine.specs.Asks.{request_ask}
+use Rattle.schedule_text.specs.Compared.{Compared, after_call, after_reply}
 use Rattle.node_steps.specs.declared.step.Step.{Step as RunStep}
 use Rattle.node_steps.specs.declared.outcome.Outcome.TheVariants as outcomes
-use Rattle.node_steps.specs.Asked.{request_ask, asks_by}
+use Rattle.node_steps.specs.Asked.{asks_by}
 use Rattle.node_steps.proofs.Erasing.{map-set}
 use Rattle.schedule_player.specs.Calls.{call_in, call_of}
 use Rattle.schedule_player.specs.Heard.{Heard, Calls, after_act, asked_by, last_call, replied, with_call}
-
--- one more of the same
-pub replicate-one : {X : Type 0} (n : ℕ) (x : X) → replicate n x ++ x ∷ [] ≡ replicate (suc n) x
-replicate-one zero x = refl
-replicate-one (suc n) x = ap (λ xs. x ∷ xs) (replicate-one n x)
 
 -- a list that one more is put behind, seen through a map
 pub map-one : {X Y : Type 0} (f : X → Y) (xs xs' : List X) (x : X) (n : ℕ) (y : Y) → xs' ≡ xs ++ x ∷ [] → f x ≡ y → map f xs ≡ replicate n y
     → map f xs' ≡ replicate (n + 1) y
 map-one f xs xs' x n y more is before =
-    ap (map f) more ∙ map-append f xs (x ∷ []) ∙ ap (λ ys. ys ++ f x ∷ []) before ∙ ap (λ z. replicate n y ++ z ∷ []) is ∙ replicate-one n y
-    ∙ ap (λ k. replicate k y) (sym (add-one n))
+    ap (map f) more ∙ map-append f xs (x ∷ []) ∙ ap (λ ys. ys ++ f x ∷ []) before ∙ ap (λ z. replicate n y ++ z ∷ []) is ∙ replicate_more n y
 
 -- what a step asks is what its request does
-pub asked_is : (index : ℕ) (request : Request) → asked_by (asks_by index (request_ask request)) ≡ ask_of request
+pub asked_is : (index : ℕ) (request : Request) → asked_by (asks_by index (request_ask request)) ≡ request_ask request
 asked_is index requests.Ping = refl
 asked_is index (requests.Get get) = refl
 asked_is index (requests.Put put) = refl
@@ -40,7 +35,7 @@ asked_is index (requests.Del del) = refl
 
 -- a request's reply, by what the step asks
 pub replied_is : (line index : ℕ) (request : Request) (reply : Reply) (known : Compared)
-    → option_map_or (λ ask. after_reply line ask reply known) (ask_of request) known
+    → option_map_or (λ ask. after_reply line ask reply known) (request_ask request) known
     ≡ option_map_or (λ ask. replied line reply ask known) (asked_by (asks_by index (request_ask request))) known
 replied_is line index requests.Ping reply known = refl
 replied_is line index (requests.Get get) reply known = refl

@@ -9,7 +9,8 @@ use Rattle.schedule_player.specs.declared.fault.StepsFault.TheVariants.{ReadFail
 use Rattle.schedule_player.specs.declared.player.Player.{Player}
 use Rattle.schedule_player.specs.Lines.{IsPlayed, PlaysLine}
 use Rattle.schedule_player.specs.Progress.{HasPlayed, PlaysPiece, PlaysEnd, PlaysAll, WritesEnd}
-use Rattle.schedule_player.proofs.Texts.{lines_at, last_line, lacks_both, whole_alone}
+use Rattle.schedule_text.proofs.Cutting.{lines_at}
+use Rattle.schedule_player.proofs.Texts.{last_line, lacks_both, whole_alone}
 use Rattle.schedule_player.proofs.Progress.{has_more, line_played, rest_kept, played_flushed}
 use Rattle.schedule_player.proofs.Ending.{stopped, ended_between, end_written}
 

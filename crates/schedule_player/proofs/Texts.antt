@@ -1,27 +1,11 @@
 -- The lines of texts that are put together.
-use Rattle.std.proofs.Common.{◌≡◌, ℕ, ◌<◌, ◌==◌, length, arith, not, List, [], ◌∷◌, ◌++◌, true, false, Bool, if◌then◌else◌, sym, refl, ap, ◌∙◌, append_assoc, append-nil}
-use Rattle.std.proofs.lemmas.Bool.{and_parts, not-true as is_false}
+use Rattle.std.proofs.Common.{◌≡◌, ℕ, ◌<◌, ◌==◌, length, arith, not, List, [], ◌∷◌, ◌++◌, sym, ap, ◌∙◌, append_assoc, append-nil}
+use Rattle.std.proofs.lemmas.Bool.{and_parts}
 use Rattle.std.specs.List.{list_all}
-use Rattle.schedule_text.specs.Cuts.{Lacks, lines_of, lengthen_first}
-pub use Rattle.std.proofs.lemmas.List.{nil_from_length as no_bytes}
-
--- the first line ends at the first line feed
-pub lines_at : (text rest : List ℕ) → Lacks 10 text → lines_of (text ++ 10 ∷ rest) ≡ text ∷ lines_of rest
-lines_at [] rest lacks = refl
-lines_at (b ∷ text) rest lacks =
-    let parts = and_parts (not (b == 10)) (list_all (λ c. not (c == 10)) text) lacks in
-    rw (is_false (b == 10) parts.0, lines_at text rest parts.1) refl
+use Rattle.schedule_text.specs.Cuts.{Lacks, lines_of}
+use Rattle.schedule_text.proofs.Cutting.{lines_at, one_line}
 
 -- a text without line feed is one line, where it is not empty
-one_line : (b : ℕ) (text : List ℕ) → Lacks 10 (b ∷ text) → lines_of (b ∷ text) ≡ (b ∷ text) ∷ []
-one_line b [] lacks =
-    let parts = and_parts (not (b == 10)) true lacks in
-    rw (is_false (b == 10) parts.0) refl
-one_line b (c ∷ text) lacks =
-    let parts = and_parts (not (b == 10)) (list_all (λ x. not (x == 10)) (c ∷ text)) lacks in
-    ap (λ t. if t then [] ∷ lines_of (c ∷ text) else lengthen_first b (lines_of (c ∷ text))) (is_false (b == 10) parts.0)
-    ∙ ap (lengthen_first b) (one_line c text parts.1)
-
 pub last_line : (text : List ℕ) → 0 < length text → Lacks 10 text → lines_of text ≡ text ∷ []
 last_line [] some lacks = absurd (omega arith)
 last_line (b ∷ text) some lacks = one_line b text lacks

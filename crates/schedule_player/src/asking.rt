@@ -93,18 +93,7 @@ pub(crate) fn asks(step: &Step) -> bool
 {
     match step {
         Step::Ask(_, _, request) => !matches!(request, Request::Ping),
-        Step::Reap(_, _, _) => true,
-        Step::Enter(_)
-        | Step::Leave(_)
-        | Step::Mark(_)
-        | Step::Unmark(_)
-        | Step::Take(_)
-        | Step::Put(_)
-        | Step::Look(_)
-        | Step::Publish(_)
-        | Step::Divert(_)
-        | Step::Copy(_, _, _)
-        | Step::Close(_, _) => false,
+        _ => matches!(step, Step::Reap(_, _, _)),
     }
 }
 
@@ -155,21 +144,7 @@ pub(crate) enum Note {
 fn is_diversion(step: &Step) -> bool
     ensures { result ≡ is_diversion (step_of step.now) }
 {
-    match step {
-        Step::Divert(_) => true,
-        Step::Ask(_, _, _)
-        | Step::Reap(_, _, _)
-        | Step::Enter(_)
-        | Step::Leave(_)
-        | Step::Mark(_)
-        | Step::Unmark(_)
-        | Step::Take(_)
-        | Step::Put(_)
-        | Step::Look(_)
-        | Step::Publish(_)
-        | Step::Copy(_, _, _)
-        | Step::Close(_, _) => false,
-    }
+    matches!(step, Step::Divert(_))
 }
 
 /// What is to be heard of a step. It is refused where memory is.

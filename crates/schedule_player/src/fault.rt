@@ -1,5 +1,6 @@
 //! Why a schedule is not played to its end.
 
+use byte_streams::WriteFailed;
 use std::alloc::AllocError;
 use thiserror::Error;
 
@@ -28,5 +29,16 @@ impl From<AllocError> for StepsFault {
 
     fn from(_error: AllocError) -> StepsFault {
         StepsFault::NoMemory
+    }
+}
+
+impl From<WriteFailed> for StepsFault {
+    ghost use Rattle.std.specs.Prelude.{◌≡◌};
+    ghost use Rattle.schedule_player.specs.declared.fault.StepsFault.TheVariants as faults;
+
+    ghost from_gives = { λ _ fault. fault ≡ faults.WriteFailed };
+
+    fn from(_failed: WriteFailed) -> StepsFault {
+        StepsFault::WriteFailed
     }
 }

@@ -5,7 +5,8 @@ ghost use Rattle.schedule_player.specs.Progress.{PlaysEnd, PlaysPiece, WritesEnd
 
 use crate::fault::StepsFault;
 use crate::player::Player;
-use crate::sending::{flush, send};
+use crate::sending::send;
+use byte_streams::flush;
 use schedule_text::write_verdict;
 use std::alloc::Global;
 use std::io::Write;
@@ -69,5 +70,6 @@ fn write_end<W: Write>(alloc: Global, player: &Player, writer: &mut W) -> Result
 {
     let line = write_verdict(alloc, player.referee.verdict())?;
     send(writer, line.as_slice())?;
-    flush(writer)
+    flush(writer)?;
+    Ok(())
 }

@@ -9,16 +9,13 @@ use crate::fault::StepsFault;
 use crate::opening::new_player;
 use crate::pieces::{finish, play_piece};
 use crate::player::Player;
-use crate::sending::flush;
+use byte_streams::{MAX_READS, flush};
 use ring_map::Ring;
 use std::alloc::Global;
 use std::io::{ErrorKind, Read, Write};
 
 /// How much is read at a time.
 const PIECE: usize = 4096;
-
-/// The most reads of a schedule.
-const MAX_READS: u64 = 4_294_967_296;
 
 /// Plays the schedule that is read from `reader`, and writes to `writer` a line for each of its lines, and the line of the
 /// comparison with a plain register, which is `plain not compared` where a partition was diverted. `workers` workers, without a call, begin over the vnodes of `ring`, before any event of

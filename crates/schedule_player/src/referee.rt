@@ -95,20 +95,8 @@ fn tell(comparison: &mut Comparison, call: &Step)
     ensures { comparison.new
         ≡ option_map_or (λ ask. after_call ask comparison.old) (call_of call.now) comparison.old }
 {
-    match call {
-        Step::Ask(_, _, request) => comparison.call(request),
-        Step::Reap(_, _, _)
-        | Step::Enter(_)
-        | Step::Leave(_)
-        | Step::Mark(_)
-        | Step::Unmark(_)
-        | Step::Take(_)
-        | Step::Put(_)
-        | Step::Look(_)
-        | Step::Publish(_)
-        | Step::Divert(_)
-        | Step::Copy(_, _, _)
-        | Step::Close(_, _) => {}
+    if let Step::Ask(_, _, request) = call {
+        comparison.call(request);
     }
 }
 

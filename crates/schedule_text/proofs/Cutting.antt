@@ -1,5 +1,5 @@
 -- Where a text is cut at its first byte of a kind is settled by the text.
-use Rattle.std.proofs.Common.{◌≡◌, ℕ, ◌==◌, not, List, [], ◌∷◌, ◌++◌, ◌<◌, length, take, drop, true, false, Bool, if◌then◌else◌, sym, refl, ap, ◌∙◌, arith}
+use Rattle.std.proofs.Common.{◌≡◌, ℕ, ◌==◌, not, List, [], ◌∷◌, ◌++◌, ◌<◌, length, take, drop, true, if◌then◌else◌, sym, refl, ap, ◌∙◌, arith}
 use Rattle.std.proofs.lemmas.Bool.{and_parts, not-true as is_false}
 use Rattle.std.proofs.lemmas.List.{take_all, drop_all}
 use Rattle.std.specs.List.{list_all}
@@ -10,12 +10,12 @@ not_first : (byte x : ℕ) → not (x == byte) ≡ true → x ≡ byte → ⊥
 not_first byte x other same = grind (arith)
 
 -- the first of a list
-abbrev head_or : ℕ → List ℕ → ℕ
+abbrev pub head_or : ℕ → List ℕ → ℕ
 head_or other [] = other
 head_or other (x ∷ xs) = x
 
 -- a list without its first
-abbrev behind : List ℕ → List ℕ
+abbrev pub behind : List ℕ → List ℕ
 behind [] = []
 behind (x ∷ xs) = xs
 
@@ -41,7 +41,7 @@ lacks_none byte (x ∷ xs) ys lacks =
     lacks_none byte xs ys (and_parts (not (x == byte)) (list_all (λ b. not (b == byte)) (xs ++ byte ∷ ys)) lacks).1
 
 -- the first line ends at the first line feed
-lines_at : (before rest : List ℕ) → Lacks 10 before → lines_of (before ++ 10 ∷ rest) ≡ before ∷ lines_of rest
+pub lines_at : (before rest : List ℕ) → Lacks 10 before → lines_of (before ++ 10 ∷ rest) ≡ before ∷ lines_of rest
 lines_at [] rest lacks = refl
 lines_at (b ∷ before) rest lacks =
     let parts = and_parts (not (b == 10)) (list_all (λ c. not (c == 10)) before) lacks in
@@ -51,7 +51,7 @@ pub lines_cut : (text before rest : List ℕ) → IsCut 10 text before rest → 
 lines_cut text before rest cut = ap lines_of cut.whole ∙ lines_at before rest cut.first
 
 -- a text without line feed is one line
-one_line : (b : ℕ) (text : List ℕ) → Lacks 10 (b ∷ text) → lines_of (b ∷ text) ≡ (b ∷ text) ∷ []
+pub one_line : (b : ℕ) (text : List ℕ) → Lacks 10 (b ∷ text) → lines_of (b ∷ text) ≡ (b ∷ text) ∷ []
 one_line b [] lacks =
     let parts = and_parts (not (b == 10)) true lacks in
     rw (is_false (b == 10) parts.0) refl

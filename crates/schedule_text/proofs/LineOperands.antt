@@ -1,5 +1,5 @@
 -- The operands of a line, and what they ask for.
-use Rattle.std.proofs.Common.{◌≡◌, ℕ, ◌<◌, List, [], ◌∷◌, ◌++◌, Some, None, Result, Ok, Err, codes, refl, sym, ap, ◌∙◌, subst, inl, inr, true, false, arith}
+use Rattle.std.proofs.Common.{◌≡◌, ℕ, ◌<◌, List, ◌∷◌, ◌++◌, Some, None, Result, Ok, Err, codes, refl, sym, ap, ◌∙◌, subst, inl, inr, true, false, arith}
 use Rattle.std.specs.Prelude.{◌^◌, ◌≢◌, decimal}
 use Rattle.std.specs.Str.{bytes_eq}
 use Rattle.std.proofs.lemmas.Slice.Eq.{bytes_eq-Decides}
@@ -60,11 +60,6 @@ asked_refused workers worker text number digits NoMemory few cut is is_worker re
   is_worker = is_worker;
   bytes = reads.1.bytes;
 }
-
--- the bytes behind a byte, and the byte
-abbrev behind : List ℕ → List ℕ
-behind [] = []
-behind (x ∷ xs) = xs
 
 -- operands ask for one request
 pub asks_one : (workers u v : ℕ) (text : List ℕ) (a b : Request) → workers < 2 ^ 16 → Asks workers text u a

@@ -1,5 +1,5 @@
 -- What a message asks for, and that it asks for one request.
-use Rattle.std.proofs.Common.{◌≡◌, ℕ, List, [], ◌∷◌, Result, Ok, Err, sym, ap, ◌∙◌, subst}
+use Rattle.std.proofs.Common.{◌≡◌, ℕ, List, ◌∷◌, Result, Ok, Err, sym, ap, ◌∙◌, subst}
 use Rattle.riak_msgs.specs.declared.request.Request.{Request}
 use Rattle.riak_msgs.specs.declared.fault.MsgFault.{MsgFault}
 use Rattle.riak_msgs.specs.declared.fault.MsgFault.TheVariants as faults
@@ -9,16 +9,8 @@ use Rattle.schedule_text.specs.declared.fault.LineFault.{LineFault}
 use Rattle.schedule_text.specs.declared.fault.LineFault.TheVariants.{BadStep, NoMemory}
 use Rattle.schedule_text.specs.Lines.{IsStoreCode, AsksFor}
 use Rattle.schedule_text.specs.Reading.{IsHexOf, ReadsMessage, ReadsHexMessage, fault_of_message}
+use Rattle.schedule_text.proofs.Cutting.{head_or, behind}
 use Rattle.schedule_text.proofs.Hexadecimal.{hex_once}
-
--- the parts of a list
-abbrev head_or : ℕ → List ℕ → ℕ
-head_or other [] = other
-head_or other (x ∷ xs) = x
-
-abbrev behind : List ℕ → List ℕ
-behind [] = []
-behind (x ∷ xs) = xs
 
 -- the code and the body of a message are its own
 says_of_message : (message body : List ℕ) (code : ℕ) (request : Request) → message ≡ code ∷ body

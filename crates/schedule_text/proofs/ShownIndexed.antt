@@ -10,7 +10,7 @@ use Rattle.std.proofs.lemmas.Bool.Decides.{nat_tests}
 use Rattle.riak_msgs.specs.declared.Key.{Key}
 use Rattle.riak_msgs.specs.KeyOrder.{key_eq}
 use Rattle.actor_epoch.specs.declared.dot.Dot.{Dot}
-use Rattle.actor_epoch.specs.Dots.{actor_eq, dot_eq}
+use Rattle.actor_epoch.specs.Dots.{dot_eq}
 use Rattle.actor_epoch.specs.Given.{context_of, pairs_read}
 use Rattle.schedule_text.specs.declared.shown_context.ShownContext.{ShownContext}
 use Rattle.schedule_text.specs.Compared.{is_of, position_of}
@@ -18,6 +18,7 @@ use Rattle.schedule_text.specs.ShownIndex.{digest_of, entry_digest, places_from,
 use Rattle.actor_epoch.proofs.Rising.{and_first as and_left, and_second as and_right}
 use Rattle.std.proofs.lemmas.Bool.{eqb-true as same_number}
 use Rattle.dvv_set.proofs.Live.{dot_eq-same as same_dot}
+use Rattle.vnode_machine.proofs.Tests.{none-from}
 
 same_pairs : (a b : List Dot) → pointwise dot_eq a b ≡ true → a ≡ b
 same_pairs [] [] h = refl
@@ -119,10 +120,6 @@ indexed-same entries old new indexed same other = same other ∙ indexed other
 is_at-nat : (a b : ℕ) → is_at (nat_cmp a) b ≡ (a == b)
 is_at-nat a b = grind (arith, nat_tests)
 
-none_of : {X : Type 0} (o : Option X) → is_some o ≡ false → o ≡ None
-none_of None e = refl
-none_of (Some x) e = cc
-
 items_of : Option (Vec ℕ) → List ℕ
 items_of o = option_map_or (λ same. same.items) o []
 
@@ -134,7 +131,7 @@ digest-added old new digest empty absent none updates other = by (is_at (nat_cmp
     by : (b : Bool) → is_at (nat_cmp digest) other ≡ b → get nat_cmp new other ≡ cond b (Some empty) (get nat_cmp old other) → places_at new other ≡ places_at old other
     by true e up =
         let same : digest ≡ other = same_number digest other (sym (is_at-nat digest other) ∙ e) in
-        let was : get nat_cmp old other ≡ None = ap (get nat_cmp old) (sym same) ∙ none_of (get nat_cmp old digest) absent in
+        let was : get nat_cmp old other ≡ None = ap (get nat_cmp old) (sym same) ∙ none-from (get nat_cmp old digest) absent in
         ap (λ o. option_map_or (λ (s : Vec ℕ). s.items) o []) up ∙ none ∙ ap (λ o. option_map_or (λ (s : Vec ℕ). s.items) o []) (sym was)
     by false e up = ap (λ o. option_map_or (λ (s : Vec ℕ). s.items) o []) up
 

@@ -6,7 +6,6 @@ use Rattle.std.specs.Cmp.Lexicographic.{pointwise}
 use Rattle.riak_msgs.specs.Contents.{Content}
 use Rattle.riak_msgs.specs.declared.Key.{Key}
 use Rattle.riak_msgs.specs.declared.Request.{Request}
-use Rattle.riak_msgs.specs.declared.Request.TheVariants as requests
 use Rattle.riak_msgs.specs.declared.reply.Reply.{Reply}
 use Rattle.riak_msgs.specs.declared.reply.Reply.TheVariants as replies
 use Rattle.riak_msgs.specs.KeyOrder.{key_eq}
@@ -15,7 +14,7 @@ use Rattle.sibling_register.specs.declared.command.Command.TheVariants as comman
 use Rattle.actor_epoch.specs.declared.dot.Dot.{Dot}
 use Rattle.actor_epoch.specs.Dots.{dot_eq}
 use Rattle.actor_epoch.specs.Given.{Context, context_of, pairs_read}
-use Rattle.vnode_machine.specs.Asks.{get_command, put_command, del_command}
+use Rattle.vnode_machine.specs.Asks.{request_ask}
 use Rattle.vnode_machine.specs.Registers.{key_of}
 use Rattle.schedule_text.specs.declared.shown_context.ShownContext.{ShownContext}
 use Rattle.schedule_text.specs.declared.verdict.Verdict.{Verdict}
@@ -34,13 +33,6 @@ pub record Compared : Type 0 where
 abbrev pub nothing_compared : Compared
 nothing_compared = record { history = []; shown = []; verdict = Equal }
 
--- what a request asks; a ping asks nothing
-abbrev pub ask_of : Request → Option (RegisterAsk Content Context)
-ask_of requests.Ping = None
-ask_of (requests.Get get) = Some (AskGet (get_command get))
-ask_of (requests.Put put) = Some (AskPut (put_command put))
-ask_of (requests.Del del) = Some (AskDel (del_command del))
-
 -- the context that an ask gives; of a get that is `if_modified`
 abbrev pub given_in : RegisterAsk Content Context → Option Context
 given_in (AskGet get) = get.if_modified
@@ -51,7 +43,7 @@ given_in (AskReap key) = None
 -- a key and the bytes of a context are those that a request gives
 abbrev pub AreOf : Request → Key → List ℕ → Type 0
 AreOf request key bytes =
-    (ask : RegisterAsk Content Context) × (ask_of request ≡ Some ask) × (key_of ask ≡ key) × (given_in ask ≡ context_of bytes)
+    (ask : RegisterAsk Content Context) × (request_ask request ≡ Some ask) × (key_of ask ≡ key) × (given_in ask ≡ context_of bytes)
 
 -- a context of these pairs was shown for the key: contexts are one where their pairs are
 abbrev pub is_of : Key → List Dot → ShownContext → Bool

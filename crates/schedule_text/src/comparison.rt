@@ -2,7 +2,8 @@
 
 ghost use Rattle.std.specs.Prelude.{◌≡◌, OnOk};
 ghost use Rattle.std.specs.Option.{option_map_or};
-ghost use Rattle.schedule_text.specs.Compared.{after_call, after_reap, after_reply, ask_of, not_compared, nothing_compared};
+ghost use Rattle.vnode_machine.specs.Asks.{request_ask};
+ghost use Rattle.schedule_text.specs.Compared.{after_call, after_reap, after_reply, not_compared, nothing_compared};
 
 use crate::plain_ask::{ask_register, reap_plain, within};
 use crate::reply_parts::{context_shown, is_asked, is_due, key_and_context};
@@ -67,7 +68,7 @@ impl Comparison {
     /// the comparison, whether it is answered later or not.
     pub fn call(&mut self, request: &Request)
         ensures { self.new
-            ≡ option_map_or (λ ask. after_call ask self.old) (ask_of request.now) self.old }
+            ≡ option_map_or (λ ask. after_call ask self.old) (request_ask request.now) self.old }
     {
         let Some((key, context)) = key_and_context(request) else {
             return;
@@ -89,7 +90,7 @@ impl Comparison {
     ) -> Result<(), AllocError>
         ensures { OnOk result (self.new
             ≡ option_map_or (λ ask. after_reply line ask reply.now self.old)
-            (ask_of request.now) self.old) }
+            (request_ask request.now) self.old) }
     {
         let Some((key, context)) = key_and_context(request) else {
             return Ok(());

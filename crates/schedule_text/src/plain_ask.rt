@@ -6,9 +6,9 @@ ghost use Rattle.actor_epoch.specs.Given.{Context};
 ghost use Rattle.sibling_register.specs.Answers.{RegisterAsk, AskDel, AskGet, AskPut};
 ghost use Rattle.sibling_register.specs.Plain.{GivesPositions, IsPosition, answer_of};
 ghost use Rattle.sibling_register.specs.declared.command.Command.TheVariants.{Reap};
-ghost use Rattle.vnode_machine.specs.Asks.{del_command, get_command, put_command};
+ghost use Rattle.vnode_machine.specs.Asks.{del_command, get_command, put_command, request_ask};
 ghost use Rattle.schedule_text.specs.PlainAnswers.{RegisterStep, command_by, history_after, plain_of};
-ghost use Rattle.schedule_text.specs.Compared.{ask_of, within};
+ghost use Rattle.schedule_text.specs.Compared.{within};
 
 use riak_msgs::{Content, DelAsk, GetAsk, Key, PutAsk, Request};
 use sibling_register::{Command, PlainRegister, Told};
@@ -112,7 +112,7 @@ pub(crate) fn ask_register(
     position: Option<u64>,
 ) -> Result<Told, AllocError>
     requires { IsPosition register.old position }
-    ensures { (ask : RegisterAsk Content Context) → ask_of request.now ≡ Some ask → IfOk result (λ told.
+    ensures { (ask : RegisterAsk Content Context) → request_ask request.now ≡ Some ask → IfOk result (λ told.
         RegisterStep register.old (command_by ask position) (answer_of told) register.new) }
 {
     match request {

@@ -5,8 +5,9 @@ ghost use Rattle.std.specs.Option.{option_eq};
 ghost use Rattle.pb_fields.specs.Encoding.{repeated_field};
 ghost use Rattle.riak_msgs.specs.Encoding.{shown_message};
 ghost use Rattle.sibling_register.specs.Plain.{answer_of};
+ghost use Rattle.vnode_machine.specs.Asks.{request_ask};
 ghost use Rattle.schedule_text.specs.PlainAnswers.{are_due, is_due, plain_refusal, refusal_due, same_contents, sibling_shown};
-ghost use Rattle.schedule_text.specs.Compared.{AreOf, ask_of, context_in, is_asked};
+ghost use Rattle.schedule_text.specs.Compared.{AreOf, context_in, is_asked};
 
 use pb_fields::encode_repeated;
 use riak_msgs::{Bytes, Content, Key, Reply, Request, Shown, Text};
@@ -16,7 +17,7 @@ use std::alloc::{AllocError, Global};
 /// The key of a request, and the context that it gives: of a get that is `if_modified`. A ping has none.
 pub(crate) fn key_and_context(request: &Request) -> Option<(&Key, &Bytes)>
     ensures some { IfSome result (λ given. AreOf request.now given.0.now given.1.now) }
-    ensures none { IfNone result (ask_of request.now ≡ None) }
+    ensures none { IfNone result (request_ask request.now ≡ None) }
 {
     match request {
         Request::Ping => None,

@@ -15,7 +15,7 @@ const MAX_SOCKETS: usize = 64;
 pub(crate) const LOOK_MILLIS: u64 = 20;
 
 /// How many reads of a socket are made at a look at most.
-const MAX_READS: u32 = 32;
+const MAX_LINGER_READS: u32 = 32;
 
 /// How many bytes are read at once.
 const MAX_READ_LEN: usize = 4096;
@@ -48,7 +48,7 @@ fn is_of_now(error: &Error) -> bool {
 fn pass_over(socket: &Socket) -> bool {
     let mut stream: &TcpStream = socket;
     let mut piece = [0u8; MAX_READ_LEN];
-    for _ in 0..MAX_READS {
+    for _ in 0..MAX_LINGER_READS {
         match stream.read(&mut piece) {
             Ok(0) => return false,
             Ok(_) => {}

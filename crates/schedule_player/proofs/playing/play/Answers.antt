@@ -10,7 +10,7 @@ use Rattle.schedule_player.proofs.playing.play.Goals.{in-Ok+in_ok-play_piece-in-
 pub returns-in_err-flush-clause-played : goal.returns-in_err-flush-clause-played
 returns-in_err-flush-clause-played g c =
     let p = err_from_is_err_and c.from_residual.result c.from_residual.ensures.1 in
-    rw (p.1, p.2, c.in_err-flush.ensures.fault)
+    rw (p.1, p.2)
     (flush_fails c.args.player.now c.loop.player (g.R.Read.remaining c.args.reader.now) (g.R.Read.remaining c.loop.reader) (g.W.Write.contents c.args.writer.now) (g.W.Write.contents c.loop.writer) (g.W.Write.contents c.flush.new.writer) c.loop.partial.items
     c.loop.invariant.read c.flush.ensures.kept)
 

@@ -1,0 +1,16 @@
+//! The gates of a new run.
+ghost use Rattle.std.specs.Prelude.{◌≤◌, IfSome};
+ghost use Rattle.node_commands.specs.Runs.{IsNewRun};
+
+use byte_streams::MAX_READS;
+use gate_node::Shared;
+use ring_map::Ring;
+use std::alloc::Global;
+
+/// The gates of a new run. A server for as many clients as come ends no session by its number of reads. Refused where memory is.
+pub(crate) fn new_shared(alloc: Global, ring: Ring, run: u32, sweep: u32) -> Option<Shared>
+    requires { 1 ≤ run }
+    ensures { IfSome result (IsNewRun ring run sweep) }
+{
+    Shared::new(alloc, ring, run, sweep, MAX_READS).ok()
+}
