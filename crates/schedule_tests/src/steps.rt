@@ -2,7 +2,7 @@
 
 mod closing;
 mod copying;
-mod handing;
 mod meeting;
+mod parts;
 mod playing;
 mod schedules;

@@ -2,6 +2,7 @@
 ghost use Rattle.std.specs.Prelude.{◌≡◌, vec_len};
 ghost use Rattle.stats_book.specs.Holdings.{AllAre};
 
+use crate::exchanges::NOTHING_COUNTED;
 use stats_book::*;
 use std::alloc::Global;
 use std::marker::Brand;
@@ -9,21 +10,77 @@ use std::process::Abort;
 use std::sync::Wait;
 use std::sync::ledger::Ledger;
 
-/// One call of `Share::add`.
-#[derive(Clone, Copy)]
-struct Addition {
-    share: usize,
-    quantity: Quantity,
-    amount: u64,
+/// A call of `Share::add`: which share adds, which quantity and how much.
+struct Addition(usize, Quantity, u64);
+
+/// Additions to a new book, and what it comes to.
+struct Sum {
+    shows: &'static str,
+    shares: u16,
+    additions: &'static [Addition],
+    /// How many of them are refused.
+    refused: u32,
+    totals: Totals,
 }
 
-fn by(share: usize, quantity: Quantity, amount: u64) -> Addition {
-    Addition {
-        share,
-        quantity,
-        amount,
-    }
-}
+const SUMS: &[Sum] = &[
+    Sum {
+        shows: "shares of one book sum",
+        shares: 2,
+        additions: &[
+            Addition(0, Quantity::Gets, 3),
+            Addition(1, Quantity::Gets, 4),
+        ],
+        refused: 0,
+        totals: Totals {
+            gets: 7,
+            ..NOTHING_COUNTED
+        },
+    },
+    // The share that is refused adds to another quantity afterwards, and the full one takes 0 more.
+    Sum {
+        shows: "a full book refuses one more, and stays",
+        shares: 2,
+        additions: &[
+            Addition(0, Quantity::Gets, 18_446_744_073_709_551_615),
+            Addition(1, Quantity::Gets, 1),
+            Addition(0, Quantity::Gets, 0),
+            Addition(1, Quantity::Puts, 1),
+        ],
+        refused: 1,
+        totals: Totals {
+            gets: 18_446_744_073_709_551_615,
+            puts: 1,
+            ..NOTHING_COUNTED
+        },
+    },
+    Sum {
+        shows: "each quantity is counted apart",
+        shares: 1,
+        additions: &[
+            Addition(0, Quantity::Gets, 1),
+            Addition(0, Quantity::Puts, 2),
+            Addition(0, Quantity::Deletes, 3),
+            Addition(0, Quantity::Refusals, 4),
+            Addition(0, Quantity::Reaps, 5),
+        ],
+        refused: 0,
+        totals: Totals {
+            gets: 1,
+            puts: 2,
+            deletes: 3,
+            refusals: 4,
+            reaps: 5,
+        },
+    },
+    Sum {
+        shows: "a book without shares closes at zero",
+        shares: 0,
+        additions: &[],
+        refused: 0,
+        totals: NOTHING_COUNTED,
+    },
+];
 
 /// How many of the additions were refused.
 fn add_all<W: Wait, G: Ledger, P: Ledger, D: Ledger, E: Ledger, R: Ledger>(
@@ -36,8 +93,9 @@ fn add_all<W: Wait, G: Ledger, P: Ledger, D: Ledger, E: Ledger, R: Ledger>(
 {
     let mut refused = 0u32;
     for addition in additions {
-        if let Some(share) = shares.get_mut(addition.share) {
-            let added = share.add(rt, book, addition.quantity, addition.amount);
+        let Addition(index, quantity, amount) = addition;
+        if let Some(share) = shares.get_mut(*index) {
+            let added = share.add(rt, book, *quantity, *amount);
             if added == Err(BookFault::BookFull) {
                 refused = refused.saturating_add(1);
             }
@@ -82,62 +140,14 @@ fn play<W: Wait>(
     )
 }
 
-/// Nothing but so many gets.
-fn gets(gets: u64) -> Totals {
-    Totals {
-        gets,
-        puts: 0,
-        deletes: 0,
-        refusals: 0,
-        reaps: 0,
+/// Whether a row holds.
+fn sums<W: Wait>(rt: &W, alloc: Global, row: &Sum) -> bool {
+    play(rt, alloc, row.shares, row.additions) == Ok((row.refused, row.totals))
+}
+
+#[test]
+fn additions_are_summed(rt: HostRuntime) {
+    for row in SUMS {
+        assert!(rt; sums(&rt, rt.alloc(), row), "{}", row.shows);
     }
-}
-
-#[test]
-fn shares_of_one_book_sum(rt: HostRuntime) {
-    let additions = [by(0, Quantity::Gets, 3), by(1, Quantity::Gets, 4)];
-    assert_eq!(rt; play(&rt, rt.alloc(), 2, &additions), Ok((0, gets(7))));
-}
-
-/// The share that is refused adds to another quantity afterwards, and the full one takes 0 more.
-#[test]
-fn a_full_book_refuses_one_more_and_stays(rt: HostRuntime) {
-    let additions = [
-        by(0, Quantity::Gets, 18_446_744_073_709_551_615),
-        by(1, Quantity::Gets, 1),
-        by(0, Quantity::Gets, 0),
-        by(1, Quantity::Puts, 1),
-    ];
-    let wanted = Totals {
-        gets: 18_446_744_073_709_551_615,
-        puts: 1,
-        deletes: 0,
-        refusals: 0,
-        reaps: 0,
-    };
-    assert_eq!(rt; play(&rt, rt.alloc(), 2, &additions), Ok((1, wanted)));
-}
-
-#[test]
-fn each_quantity_is_counted_apart(rt: HostRuntime) {
-    let additions = [
-        by(0, Quantity::Gets, 1),
-        by(0, Quantity::Puts, 2),
-        by(0, Quantity::Deletes, 3),
-        by(0, Quantity::Refusals, 4),
-        by(0, Quantity::Reaps, 5),
-    ];
-    let wanted = Totals {
-        gets: 1,
-        puts: 2,
-        deletes: 3,
-        refusals: 4,
-        reaps: 5,
-    };
-    assert_eq!(rt; play(&rt, rt.alloc(), 1, &additions), Ok((0, wanted)));
-}
-
-#[test]
-fn a_book_without_shares_closes_at_zero(rt: HostRuntime) {
-    assert_eq!(rt; play(&rt, rt.alloc(), 0, &[]), Ok((0, gets(0))));
 }

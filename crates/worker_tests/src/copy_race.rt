@@ -5,17 +5,14 @@ mod worker;
 use crate::copy_race::puts::{Put, pair_of, reply_to_get};
 use crate::copy_race::worker::{Done, Part, VNODES, context_in, take};
 use crate::diversions::{PUT_P, divert};
-use crate::exchanges::{GET, new_shared};
-use crate::returns::{Finish, try_finish};
+use crate::exchanges::{GET, GET_J, new_shared};
+use crate::returns::{Finish, copies_all, try_finish};
 use gate_node::Shared;
 use std::alloc::Global;
 use std::process::Abort;
 use std::sync::Wait;
 use std::test::*;
 use std::thread::{Threads, map_indices};
-
-/// A get of b/j.
-const GET_J: &[u8] = b"\0\0\0\x07\x09\x0a\x01b\x12\x01j";
 
 /// Copies one key, again and again.
 fn copy_on<W: Wait>(rt: &W, alloc: Global, shared: &Shared) -> Option<Done> {
@@ -87,14 +84,6 @@ fn race<R: Threads + Wait + Sync>(
     }
 }
 
-/// Whether one more copy back leaves nothing.
-fn copies_rest<W: Wait>(rt: &W, alloc: Global, shared: &Shared) -> bool {
-    match shared.handoff().copy_back(rt, alloc, 0, 10) {
-        Ok(copied) => copied.stuck == 0 && copied.left == 0,
-        Err(_) => false,
-    }
-}
-
 /// Whether a get of a key shows its joint siblings by the list of all puts.
 fn shows_joint<W: Wait>(
     rt: &W,
@@ -152,7 +141,7 @@ fn returns_joined<R: Threads + Wait + Sync>(
         return false;
     }
     race(rt, alloc, shared, context, &mut puts)
-        && copies_rest(rt, alloc, shared)
+        && copies_all(rt, alloc, shared) == Some(true)
         && try_finish(rt, alloc, shared) == Some(Finish::Returned)
         && shows_joint(rt, alloc, shared, puts.as_slice(), b'k', GET)
         && shows_joint(rt, alloc, shared, puts.as_slice(), b'j', GET_J)

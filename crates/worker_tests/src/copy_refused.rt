@@ -1,11 +1,10 @@
 //! Calls of a hand-off for which memory may be refused once, as `scripts/refuse-memory` does at each of their allocations: nothing is lost,
 //! and made again they come to what they would have.
-use crate::diversions::{F_AND_G, PUT_F_AND_G, divert};
-use crate::exchanges::new_shared;
-use crate::playing::{Session, play};
-use crate::returns::PUTS_P;
+use crate::diversions::divert;
+use crate::exchanges::{GET_BOTH, NOTHING_COUNTED, new_shared};
+use crate::playing::{NEW_SESSION, Session, play};
+use crate::returns::{Finish, PUTS_F_AND_G, PUTS_P, copies_all, try_finish};
 use gate_node::{Open, Shared};
-use handoff::HandoffFault;
 use stats_book::Totals;
 use std::alloc::Global;
 use std::process::Abort;
@@ -15,34 +14,15 @@ use std::test::*;
 /// How often a call is made.
 const CALLS: u32 = 2;
 
-/// A get of b/k, which finds nothing; a put of "f" on it by the context of "p", a get, a put of "g" on b/j and a get.
-const PUTS_F_AND_G: &Session = &Session {
-    gets_before: 0,
-    requests: PUT_F_AND_G,
-    replies: F_AND_G,
-    is_book_full: false,
-    totals: Totals {
-        gets: 3,
-        puts: 2,
-        deletes: 0,
-        refusals: 0,
-        reaps: 0,
-    },
-};
-
 /// Gets of b/k and of b/j: "f" and "g", with their contexts.
 const GETS_F_AND_G: &Session = &Session {
-    gets_before: 0,
-    requests: b"\0\0\0\x07\x09\x0a\x01b\x12\x01k\0\0\0\x07\x09\x0a\x01b\x12\x01j",
+    requests: GET_BOTH,
     replies: b"\0\0\0\x31\x0a\x0a\x03\x0a\x01f\x12\x29\x02\0\0\0\0\0\x01\0\0\0\0\0\x01\0\0\0\0\0\0\0\x01\0\0\0\0\0\x01\x80\0\0\0\0\x01\0\0\0\0\0\0\0\x01\0\0\0\x1d\x0a\x0a\x03\x0a\x01g\x12\x15\x02\0\0\0\0\0\x01\x80\0\0\0\0\x02\0\0\0\0\0\0\0\x01",
-    is_book_full: false,
     totals: Totals {
         gets: 2,
-        puts: 0,
-        deletes: 0,
-        refusals: 0,
-        reaps: 0,
+        ..NOTHING_COUNTED
     },
+    ..NEW_SESSION
 };
 
 /// The gates with partition 0 diverted, behind a put of "p" on b/k; its fallback has "f", which had seen "p", and "g" on b/j.
@@ -68,28 +48,31 @@ fn shows_all<W: Wait>(rt: &W, alloc: Global, shared: &Shared) -> bool {
     false
 }
 
-/// Whether a copy back, made again where memory is refused, leaves nothing, and gets show all in between.
-fn copies_all<W: Wait>(rt: &W, alloc: Global, shared: &Shared) -> bool {
-    for _ in 0..CALLS {
-        match shared.handoff().copy_back(rt, alloc, 0, 10) {
-            Ok(copied) => return copied.stuck == 0 && copied.left == 0,
-            Err(HandoffFault::NoMemory) => {}
-            Err(_) => return false,
-        }
-        if !shows_all(rt, alloc, shared) {
-            return false;
-        }
-    }
-    false
+/// A call of a hand-off.
+#[derive(Clone, Copy)]
+enum Call {
+    /// To copy all back.
+    Copy,
+    /// To end the diversion.
+    Finish,
 }
 
-/// Whether the diversion ends, by an end that is made again where memory is refused, and gets show all in between.
-fn finishes<W: Wait>(rt: &W, alloc: Global, shared: &Shared) -> bool {
+/// Whether a call comes to what it should. None where memory is refused to it.
+fn comes<W: Wait>(rt: &W, alloc: Global, shared: &Shared, call: Call) -> Option<bool> {
+    match call {
+        Call::Copy => copies_all(rt, alloc, shared),
+        Call::Finish => match try_finish(rt, alloc, shared) {
+            Some(Finish::NoMemory) => None,
+            finish => Some(finish == Some(Finish::Returned)),
+        },
+    }
+}
+
+/// Whether a call, made again where memory is refused to it, comes to what it should, and gets show all in between.
+fn comes_again<W: Wait>(rt: &W, alloc: Global, shared: &Shared, call: Call) -> bool {
     for _ in 0..CALLS {
-        match shared.handoff().finish_return(rt, alloc, 0) {
-            Ok(_) => return true,
-            Err(HandoffFault::NoMemory) => {}
-            Err(_) => return false,
+        if let Some(is_well) = comes(rt, alloc, shared, call) {
+            return is_well;
         }
         if !shows_all(rt, alloc, shared) {
             return false;
@@ -102,8 +85,8 @@ fn finishes<W: Wait>(rt: &W, alloc: Global, shared: &Shared) -> bool {
 fn comes_back<W: Wait>(rt: &W, alloc: Global) -> bool {
     for _ in 0..CALLS {
         if let Some(shared) = set_up(rt, alloc) {
-            return copies_all(rt, alloc, &shared)
-                && finishes(rt, alloc, &shared)
+            return comes_again(rt, alloc, &shared, Call::Copy)
+                && comes_again(rt, alloc, &shared, Call::Finish)
                 && shows_all(rt, alloc, &shared);
         }
     }

@@ -4,8 +4,10 @@
 ghost use Rattle.std.specs.Prelude.{IfSome};
 ghost use Rattle.gate_node.specs.Passes.{Sights, ArePassesOf};
 
-use crate::exchanges::new_shared;
-use crate::playing::{Session, play_on};
+use crate::exchanges::{
+    GET_BOTH, NOTHING_ACCEPTED, NOTHING_COUNTED, STORED, STORED_TWICE, new_shared,
+};
+use crate::playing::{NEW_SESSION, Session, play_on};
 use gate_node::{Open, Passes, Shared};
 use handoff::HandoffFault;
 use stats_book::Totals;
@@ -30,9 +32,6 @@ struct Diversion {
 /// A put of "p" on b/k.
 pub const PUT_P: &[u8] = b"\0\0\0\x0c\x0b\x0a\x01b\x12\x01k\x22\x03\x0a\x01p";
 
-/// Stored.
-const STORED: &[u8] = b"\0\0\0\x01\x0c";
-
 /// A get of b/k; a put of "f" on it by the context of the primary's first dot, in version 1; a get of it; a put of "g" on b/j, and a get
 /// of that.
 pub const PUT_F_AND_G: &[u8] =
@@ -45,12 +44,6 @@ pub const F_AND_G: &[u8] =
 /// Puts of "p" on b/k and of "u" on b/j.
 const PUT_P_AND_U: &[u8] =
     b"\0\0\0\x0c\x0b\x0a\x01b\x12\x01k\x22\x03\x0a\x01p\0\0\0\x0c\x0b\x0a\x01b\x12\x01j\x22\x03\x0a\x01u";
-
-/// Stored, twice.
-const STORED_TWICE: &[u8] = b"\0\0\0\x01\x0c\0\0\0\x01\x0c";
-
-/// Gets of b/k and of b/j.
-const GET_BOTH: &[u8] = b"\0\0\0\x07\x09\x0a\x01b\x12\x01k\0\0\0\x07\x09\x0a\x01b\x12\x01j";
 
 /// Nothing; "u", with the first dot of the vnode 65,537.
 const NOTHING_U: &[u8] =
@@ -69,35 +62,27 @@ const DIVERSIONS: &[Diversion] = &[
         partitions: 1,
         budget: 0,
         before: Session {
-            gets_before: 0,
             requests: PUT_P,
             replies: STORED,
-            is_book_full: false,
             totals: Totals {
-                gets: 0,
                 puts: 1,
-                deletes: 0,
-                refusals: 0,
-                reaps: 0,
+                ..NOTHING_COUNTED
             },
+            ..NEW_SESSION
         },
         after: Session {
-            gets_before: 0,
             requests: PUT_F_AND_G,
             replies: F_AND_G,
-            is_book_full: false,
             totals: Totals {
                 gets: 3,
                 puts: 2,
-                deletes: 0,
-                refusals: 0,
-                reaps: 0,
+                ..NOTHING_COUNTED
             },
+            ..NEW_SESSION
         },
         tally: Tally {
             writes: 1,
-            tombstones: 0,
-            reaps: 0,
+            ..NOTHING_ACCEPTED
         },
     },
     Diversion {
@@ -105,35 +90,26 @@ const DIVERSIONS: &[Diversion] = &[
         partitions: 2,
         budget: 0,
         before: Session {
-            gets_before: 0,
             requests: PUT_P_AND_U,
             replies: STORED_TWICE,
-            is_book_full: false,
             totals: Totals {
-                gets: 0,
                 puts: 2,
-                deletes: 0,
-                refusals: 0,
-                reaps: 0,
+                ..NOTHING_COUNTED
             },
+            ..NEW_SESSION
         },
         after: Session {
-            gets_before: 0,
             requests: GET_BOTH,
             replies: NOTHING_U,
-            is_book_full: false,
             totals: Totals {
                 gets: 2,
-                puts: 0,
-                deletes: 0,
-                refusals: 0,
-                reaps: 0,
+                ..NOTHING_COUNTED
             },
+            ..NEW_SESSION
         },
         tally: Tally {
             writes: 1,
-            tombstones: 0,
-            reaps: 0,
+            ..NOTHING_ACCEPTED
         },
     },
     Diversion {
@@ -141,35 +117,27 @@ const DIVERSIONS: &[Diversion] = &[
         partitions: 1,
         budget: 1,
         before: Session {
-            gets_before: 0,
             requests: PUT_P,
             replies: STORED,
-            is_book_full: false,
             totals: Totals {
-                gets: 0,
                 puts: 1,
-                deletes: 0,
-                refusals: 0,
-                reaps: 0,
+                ..NOTHING_COUNTED
             },
+            ..NEW_SESSION
         },
         after: Session {
-            gets_before: 0,
             requests: PUT_DELETE,
             replies: STORED_DELETED,
-            is_book_full: false,
             totals: Totals {
-                gets: 0,
                 puts: 1,
                 deletes: 1,
-                refusals: 0,
-                reaps: 0,
+                ..NOTHING_COUNTED
             },
+            ..NEW_SESSION
         },
         tally: Tally {
             writes: 1,
-            tombstones: 0,
-            reaps: 0,
+            ..NOTHING_ACCEPTED
         },
     },
 ];

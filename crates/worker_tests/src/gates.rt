@@ -1,7 +1,7 @@
 //! Sessions over two gates. The key k of the bucket b lies in partition 0 of a ring of two, b/j in partition 1, by the
 //! first bytes 56 and a6 of their digests as Python's `hashlib` gives them.
-use crate::exchanges::{GET, LIVED_TWICE, TWO_LIVES, new_shared};
-use crate::playing::{Session, play};
+use crate::exchanges::{GET, LIVED_TWICE, NOTHING_COUNTED, STORED_TWICE, TWO_LIVES, new_shared};
+use crate::playing::{NEW_SESSION, Session, play};
 use gate_node::{Open, Shared, Turnstile};
 use stats_book::Totals;
 use std::alloc::Global;
@@ -68,43 +68,34 @@ const SESSIONS: &[Sessions] = &[
         budget: 0,
         sessions: &[
             Session {
-                gets_before: 0,
                 requests: ABSENT_PUT_V,
                 replies: NOTHING_STORED,
-                is_book_full: false,
                 totals: Totals {
                     gets: 1,
                     puts: 1,
-                    deletes: 0,
-                    refusals: 0,
-                    reaps: 0,
+                    ..NOTHING_COUNTED
                 },
+                ..NEW_SESSION
             },
             Session {
-                gets_before: 0,
                 requests: GET_PUT_W,
                 replies: V_STORED,
-                is_book_full: false,
                 totals: Totals {
                     gets: 1,
                     puts: 1,
-                    deletes: 0,
-                    refusals: 0,
-                    reaps: 0,
+                    ..NOTHING_COUNTED
                 },
+                ..NEW_SESSION
             },
             Session {
-                gets_before: 0,
                 requests: GET_PUT_X_GET,
                 replies: SIBLINGS,
-                is_book_full: false,
                 totals: Totals {
                     gets: 2,
                     puts: 1,
-                    deletes: 0,
-                    refusals: 0,
-                    reaps: 0,
+                    ..NOTHING_COUNTED
                 },
+                ..NEW_SESSION
             },
         ],
         calls: 1_234_567,
@@ -113,17 +104,14 @@ const SESSIONS: &[Sessions] = &[
         shows: "keys of two vnodes have the first epochs of their own",
         budget: 0,
         sessions: &[Session {
-            gets_before: 0,
             requests: TWO_KEYS,
             replies: TWO_VNODES,
-            is_book_full: false,
             totals: Totals {
                 gets: 2,
                 puts: 2,
-                deletes: 0,
-                refusals: 0,
-                reaps: 0,
+                ..NOTHING_COUNTED
             },
+            ..NEW_SESSION
         }],
         calls: 1_234,
     },
@@ -131,17 +119,16 @@ const SESSIONS: &[Sessions] = &[
         shows: "a budget forgets the dead key, and no reap is a call",
         budget: 1,
         sessions: &[Session {
-            gets_before: 0,
             requests: TWO_LIVES,
             replies: LIVED_TWICE,
-            is_book_full: false,
             totals: Totals {
                 gets: 2,
                 puts: 2,
                 deletes: 1,
-                refusals: 0,
                 reaps: 1,
+                ..NOTHING_COUNTED
             },
+            ..NEW_SESSION
         }],
         calls: 12_345,
     },
@@ -156,9 +143,7 @@ const SESSIONS: &[Sessions] = &[
             totals: Totals {
                 gets: LAST,
                 puts: 1,
-                deletes: 0,
-                refusals: 0,
-                reaps: 0,
+                ..NOTHING_COUNTED
             },
         }],
         calls: 12,
@@ -167,17 +152,13 @@ const SESSIONS: &[Sessions] = &[
         shows: "an idle delete is not counted",
         budget: 1,
         sessions: &[Session {
-            gets_before: 0,
             requests: IDLE_REFUSED,
             replies: DELETED_BAD_CONTEXT,
-            is_book_full: false,
             totals: Totals {
-                gets: 0,
-                puts: 0,
-                deletes: 0,
                 refusals: 1,
-                reaps: 0,
+                ..NOTHING_COUNTED
             },
+            ..NEW_SESSION
         }],
         calls: 12,
     },
@@ -227,32 +208,24 @@ fn sessions_are_answered_and_counted(rt: HostRuntime) {
 
 /// Two puts of "v" on b/k without context; both are stored.
 const PUT_TWICE: Session = Session {
-    gets_before: 0,
     requests: b"\0\0\0\x0c\x0b\x0a\x01b\x12\x01k\x22\x03\x0a\x01v\0\0\0\x0c\x0b\x0a\x01b\x12\x01k\x22\x03\x0a\x01v",
-    replies: b"\0\0\0\x01\x0c\0\0\0\x01\x0c",
-    is_book_full: false,
+    replies: STORED_TWICE,
     totals: Totals {
-        gets: 0,
         puts: 2,
-        deletes: 0,
-        refusals: 0,
-        reaps: 0,
+        ..NOTHING_COUNTED
     },
+    ..NEW_SESSION
 };
 
 /// A get of b/k: eight siblings, and the context of eight dots.
 const GET_EIGHT: Session = Session {
-    gets_before: 0,
     requests: GET,
     replies: b"\0\0\0@\x0a\x0a\x03\x0a\x01v\x0a\x03\x0a\x01v\x0a\x03\x0a\x01v\x0a\x03\x0a\x01v\x0a\x03\x0a\x01v\x0a\x03\x0a\x01v\x0a\x03\x0a\x01v\x0a\x03\x0a\x01v\x12\x15\x02\0\0\0\0\0\x01\0\0\0\0\0\x01\0\0\0\0\0\0\0\x08",
-    is_book_full: false,
     totals: Totals {
         gets: 1,
-        puts: 0,
-        deletes: 0,
-        refusals: 0,
-        reaps: 0,
+        ..NOTHING_COUNTED
     },
+    ..NEW_SESSION
 };
 
 /// Four threads put twice each, by nodes of their own. Whether each put was stored.

@@ -3,6 +3,7 @@ ghost use Rattle.std.specs.Prelude.{◌≡◌, vec_len, IfSome};
 ghost use Rattle.stats_book.specs.Holdings.{AllAre};
 ghost use Rattle.gate_node.specs.Passes.{ArePassesOf};
 
+use crate::exchanges::NOTHING_COUNTED;
 use gate_node::{GateNode, Passes, Shared, Turnstile};
 use node_session::{Node, serve};
 use stats_book::{Blanks, Book, Quantity, Share, Totals, close};
@@ -12,6 +13,7 @@ use std::sync::Wait;
 use std::sync::ledger::Ledger;
 
 /// A session by a node of its own, and what it comes to.
+#[derive(Clone, Copy)]
 pub struct Session {
     /// How many gets the node's share has counted before.
     pub gets_before: u64,
@@ -22,6 +24,15 @@ pub struct Session {
     /// What the book has when it is closed.
     pub totals: Totals,
 }
+
+/// A session without requests, whose share has counted nothing before. Sessions of a test say what is other.
+pub const NEW_SESSION: Session = Session {
+    gets_before: 0,
+    requests: b"",
+    replies: b"",
+    is_book_full: false,
+    totals: NOTHING_COUNTED,
+};
 
 /// The requests of a session get its replies.
 fn answers<W: Wait, T: Turnstile, G: Ledger, P: Ledger, D: Ledger, E: Ledger, R: Ledger>(

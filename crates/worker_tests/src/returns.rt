@@ -4,8 +4,8 @@ ghost use Rattle.std.specs.Prelude.{IfSome};
 ghost use Rattle.gate_node.specs.Passes.{ArePassesOf};
 
 use crate::diversions::{F_AND_G, PUT_F_AND_G, PUT_P, divert};
-use crate::exchanges::{GET, new_shared};
-use crate::playing::{Session, play_on};
+use crate::exchanges::{GET, NOTHING_COUNTED, STORED, new_shared};
+use crate::playing::{NEW_SESSION, Session, play_on};
 use gate_node::{Open, Passes, Shared};
 use handoff::HandoffFault;
 use stats_book::Totals;
@@ -36,7 +36,16 @@ pub enum Finish {
     Returned,
     LeftOver,
     NotDiverted,
+    NoMemory,
 }
+
+/// One that copies one key, and leaves none.
+const LAST_COPIED: Copies = Copies {
+    budget: 10,
+    keys: 1,
+    stuck: 0,
+    left: 0,
+};
 
 /// Turns one after another over new gates.
 struct Course {
@@ -46,152 +55,114 @@ struct Course {
 
 /// A put of "p" on b/k: stored.
 pub const PUTS_P: &Session = &Session {
-    gets_before: 0,
     requests: PUT_P,
-    replies: b"\0\0\0\x01\x0c",
-    is_book_full: false,
+    replies: STORED,
     totals: Totals {
-        gets: 0,
         puts: 1,
-        deletes: 0,
-        refusals: 0,
-        reaps: 0,
+        ..NOTHING_COUNTED
     },
+    ..NEW_SESSION
 };
 
 /// At the fallback a put of "f" on b/k by the context of "p", and one of "g" on b/j, with gets.
-const PUTS_F_AND_G: &Session = &Session {
-    gets_before: 0,
+pub const PUTS_F_AND_G: &Session = &Session {
     requests: PUT_F_AND_G,
     replies: F_AND_G,
-    is_book_full: false,
     totals: Totals {
         gets: 3,
         puts: 2,
-        deletes: 0,
-        refusals: 0,
-        reaps: 0,
+        ..NOTHING_COUNTED
     },
+    ..NEW_SESSION
 };
 
 /// A get of b/k: "f" alone, which had seen "p", with the first dots of both vnodes.
 const GETS_F: &Session = &Session {
-    gets_before: 0,
     requests: GET,
     replies: b"\0\0\01\x0a\x0a\x03\x0a\x01f\x12)\x02\0\0\0\0\0\x01\0\0\0\0\0\x01\0\0\0\0\0\0\0\x01\0\0\0\0\0\x01\x80\0\0\0\0\x01\0\0\0\0\0\0\0\x01",
-    is_book_full: false,
     totals: Totals {
         gets: 1,
-        puts: 0,
-        deletes: 0,
-        refusals: 0,
-        reaps: 0,
+        ..NOTHING_COUNTED
     },
+    ..NEW_SESSION
 };
 
 /// A put of "q" on b/k and a get: the first dot of the third epoch of a vnode 98,304, since the first fallback gave two.
 const PUTS_Q: &Session = &Session {
-    gets_before: 0,
     requests: b"\0\0\0\x0c\x0b\x0a\x01b\x12\x01k\x22\x03\x0a\x01q\0\0\0\x07\x09\x0a\x01b\x12\x01k",
     replies: b"\0\0\0\x01\x0c\0\0\0\x1d\x0a\x0a\x03\x0a\x01q\x12\x15\x02\0\0\0\0\0\x01\x80\0\0\0\0\x03\0\0\0\0\0\0\0\x01",
-    is_book_full: false,
     totals: Totals {
         gets: 1,
         puts: 1,
-        deletes: 0,
-        refusals: 0,
-        reaps: 0,
+        ..NOTHING_COUNTED
     },
+    ..NEW_SESSION
 };
 
 /// A put of "h" on b/k without context: stored.
 const PUTS_H: &Session = &Session {
-    gets_before: 0,
     requests: b"\0\0\0\x0c\x0b\x0a\x01b\x12\x01k\x22\x03\x0a\x01h",
-    replies: b"\0\0\0\x01\x0c",
-    is_book_full: false,
+    replies: STORED,
     totals: Totals {
-        gets: 0,
         puts: 1,
-        deletes: 0,
-        refusals: 0,
-        reaps: 0,
+        ..NOTHING_COUNTED
     },
+    ..NEW_SESSION
 };
 
 /// A get of b/k: "p" and "h", each with the first dot of its vnode.
 const GETS_P_AND_H: &Session = &Session {
-    gets_before: 0,
     requests: GET,
     replies: b"\0\0\06\x0a\x0a\x03\x0a\x01p\x0a\x03\x0a\x01h\x12)\x02\0\0\0\0\0\x01\0\0\0\0\0\x01\0\0\0\0\0\0\0\x01\0\0\0\0\0\x01\x80\0\0\0\0\x01\0\0\0\0\0\0\0\x01",
-    is_book_full: false,
     totals: Totals {
         gets: 1,
-        puts: 0,
-        deletes: 0,
-        refusals: 0,
-        reaps: 0,
+        ..NOTHING_COUNTED
     },
+    ..NEW_SESSION
 };
 
 /// Eight puts of "v" on b/k without context.
 const PUTS_EIGHT: &Session = &Session {
-    gets_before: 0,
     requests: b"\0\0\0\x0c\x0b\x0a\x01b\x12\x01k\x22\x03\x0a\x01v\0\0\0\x0c\x0b\x0a\x01b\x12\x01k\x22\x03\x0a\x01v\0\0\0\x0c\x0b\x0a\x01b\x12\x01k\x22\x03\x0a\x01v\0\0\0\x0c\x0b\x0a\x01b\x12\x01k\x22\x03\x0a\x01v\0\0\0\x0c\x0b\x0a\x01b\x12\x01k\x22\x03\x0a\x01v\0\0\0\x0c\x0b\x0a\x01b\x12\x01k\x22\x03\x0a\x01v\0\0\0\x0c\x0b\x0a\x01b\x12\x01k\x22\x03\x0a\x01v\0\0\0\x0c\x0b\x0a\x01b\x12\x01k\x22\x03\x0a\x01v",
     replies: b"\0\0\0\x01\x0c\0\0\0\x01\x0c\0\0\0\x01\x0c\0\0\0\x01\x0c\0\0\0\x01\x0c\0\0\0\x01\x0c\0\0\0\x01\x0c\0\0\0\x01\x0c",
-    is_book_full: false,
     totals: Totals {
-        gets: 0,
         puts: 8,
-        deletes: 0,
-        refusals: 0,
-        reaps: 0,
+        ..NOTHING_COUNTED
     },
+    ..NEW_SESSION
 };
 
 /// A get of b/k: the 40 siblings of the fallback.
 const GETS_FORTY: &Session = &Session {
-    gets_before: 0,
     requests: GET,
     replies: b"\0\0\0\xe0\x0a\x0a\x03\x0a\x01v\x0a\x03\x0a\x01v\x0a\x03\x0a\x01v\x0a\x03\x0a\x01v\x0a\x03\x0a\x01v\x0a\x03\x0a\x01v\x0a\x03\x0a\x01v\x0a\x03\x0a\x01v\x0a\x03\x0a\x01v\x0a\x03\x0a\x01v\x0a\x03\x0a\x01v\x0a\x03\x0a\x01v\x0a\x03\x0a\x01v\x0a\x03\x0a\x01v\x0a\x03\x0a\x01v\x0a\x03\x0a\x01v\x0a\x03\x0a\x01v\x0a\x03\x0a\x01v\x0a\x03\x0a\x01v\x0a\x03\x0a\x01v\x0a\x03\x0a\x01v\x0a\x03\x0a\x01v\x0a\x03\x0a\x01v\x0a\x03\x0a\x01v\x0a\x03\x0a\x01v\x0a\x03\x0a\x01v\x0a\x03\x0a\x01v\x0a\x03\x0a\x01v\x0a\x03\x0a\x01v\x0a\x03\x0a\x01v\x0a\x03\x0a\x01v\x0a\x03\x0a\x01v\x0a\x03\x0a\x01v\x0a\x03\x0a\x01v\x0a\x03\x0a\x01v\x0a\x03\x0a\x01v\x0a\x03\x0a\x01v\x0a\x03\x0a\x01v\x0a\x03\x0a\x01v\x0a\x03\x0a\x01v\x12\x15\x02\0\0\0\0\0\x01\x80\0\0\0\0\x01\0\0\0\0\0\0\0(",
-    is_book_full: false,
     totals: Totals {
         gets: 1,
-        puts: 0,
-        deletes: 0,
-        refusals: 0,
-        reaps: 0,
+        ..NOTHING_COUNTED
     },
+    ..NEW_SESSION
 };
 
 /// A put of "w" on b/k by the context of these.
 const PUTS_W: &Session = &Session {
-    gets_before: 0,
     requests: b"\0\0\0#\x0b\x0a\x01b\x12\x01k\x1a\x15\x02\0\0\0\0\0\x01\x80\0\0\0\0\x01\0\0\0\0\0\0\0(\x22\x03\x0a\x01w",
-    replies: b"\0\0\0\x01\x0c",
-    is_book_full: false,
+    replies: STORED,
     totals: Totals {
-        gets: 0,
         puts: 1,
-        deletes: 0,
-        refusals: 0,
-        reaps: 0,
+        ..NOTHING_COUNTED
     },
+    ..NEW_SESSION
 };
 
 /// A get of b/k: the 40 siblings of the primary, and "w".
 const GETS_FORTY_ONE: &Session = &Session {
-    gets_before: 0,
     requests: GET,
     replies: b"\0\0\0\xf9\x0a\x0a\x03\x0a\x01v\x0a\x03\x0a\x01v\x0a\x03\x0a\x01v\x0a\x03\x0a\x01v\x0a\x03\x0a\x01v\x0a\x03\x0a\x01v\x0a\x03\x0a\x01v\x0a\x03\x0a\x01v\x0a\x03\x0a\x01v\x0a\x03\x0a\x01v\x0a\x03\x0a\x01v\x0a\x03\x0a\x01v\x0a\x03\x0a\x01v\x0a\x03\x0a\x01v\x0a\x03\x0a\x01v\x0a\x03\x0a\x01v\x0a\x03\x0a\x01v\x0a\x03\x0a\x01v\x0a\x03\x0a\x01v\x0a\x03\x0a\x01v\x0a\x03\x0a\x01v\x0a\x03\x0a\x01v\x0a\x03\x0a\x01v\x0a\x03\x0a\x01v\x0a\x03\x0a\x01v\x0a\x03\x0a\x01v\x0a\x03\x0a\x01v\x0a\x03\x0a\x01v\x0a\x03\x0a\x01v\x0a\x03\x0a\x01v\x0a\x03\x0a\x01v\x0a\x03\x0a\x01v\x0a\x03\x0a\x01v\x0a\x03\x0a\x01v\x0a\x03\x0a\x01v\x0a\x03\x0a\x01v\x0a\x03\x0a\x01v\x0a\x03\x0a\x01v\x0a\x03\x0a\x01v\x0a\x03\x0a\x01v\x0a\x03\x0a\x01w\x12)\x02\0\0\0\0\0\x01\0\0\0\0\0\x01\0\0\0\0\0\0\0(\0\0\0\0\0\x01\x80\0\0\0\0\x01\0\0\0\0\0\0\0)",
-    is_book_full: false,
     totals: Totals {
         gets: 1,
-        puts: 0,
-        deletes: 0,
-        refusals: 0,
-        reaps: 0,
+        ..NOTHING_COUNTED
     },
+    ..NEW_SESSION
 };
 
 const COURSES: &[Course] = &[
@@ -208,12 +179,7 @@ const COURSES: &[Course] = &[
                 left: 1,
             }),
             Turn::Finish(Finish::LeftOver),
-            Turn::Copy(Copies {
-                budget: 10,
-                keys: 1,
-                stuck: 0,
-                left: 0,
-            }),
+            Turn::Copy(LAST_COPIED),
             Turn::Copy(Copies {
                 budget: 10,
                 keys: 0,
@@ -233,12 +199,7 @@ const COURSES: &[Course] = &[
             Turn::Serve(PUTS_P),
             Turn::Divert,
             Turn::Serve(PUTS_H),
-            Turn::Copy(Copies {
-                budget: 10,
-                keys: 1,
-                stuck: 0,
-                left: 0,
-            }),
+            Turn::Copy(LAST_COPIED),
             Turn::Finish(Finish::Returned),
             Turn::Serve(GETS_P_AND_H),
         ],
@@ -267,12 +228,7 @@ const COURSES: &[Course] = &[
             Turn::Finish(Finish::LeftOver),
             Turn::Serve(GETS_FORTY),
             Turn::Serve(PUTS_W),
-            Turn::Copy(Copies {
-                budget: 10,
-                keys: 1,
-                stuck: 0,
-                left: 0,
-            }),
+            Turn::Copy(LAST_COPIED),
             Turn::Finish(Finish::Returned),
             Turn::Serve(GETS_FORTY_ONE),
         ],
@@ -296,12 +252,22 @@ fn copies_as_said<W: Wait>(rt: &W, alloc: Global, shared: &Shared, wanted: &Copi
     }
 }
 
-/// What an attempt to end the diversion comes to. None where memory is refused, or a gate stops it.
+/// Whether a copy back of all keys leaves none. None where memory is refused.
+pub fn copies_all<W: Wait>(rt: &W, alloc: Global, shared: &Shared) -> Option<bool> {
+    match shared.handoff().copy_back(rt, alloc, 0, 10) {
+        Ok(copied) => Some(copied.stuck == 0 && copied.left == 0),
+        Err(HandoffFault::NoMemory) => None,
+        Err(_) => Some(false),
+    }
+}
+
+/// What an attempt to end the diversion comes to. None where a gate stops it.
 pub fn try_finish<W: Wait>(rt: &W, alloc: Global, shared: &Shared) -> Option<Finish> {
     match shared.handoff().finish_return(rt, alloc, 0) {
         Ok(_) => Some(Finish::Returned),
         Err(HandoffFault::LeftOver(_)) => Some(Finish::LeftOver),
         Err(HandoffFault::NotDiverted) => Some(Finish::NotDiverted),
+        Err(HandoffFault::NoMemory) => Some(Finish::NoMemory),
         Err(_) => None,
     }
 }

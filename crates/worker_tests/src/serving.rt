@@ -61,6 +61,14 @@ fn serve<R: Log + Clock + Threads + Wait + Sync>(
     }
 }
 
+/// Whether a text is the line on the port, and then the line of these totals, if there are any.
+fn is_written(alloc: Global, written: &[u8], port: u16, totals: Option<&str>) -> bool {
+    match totals {
+        Some(totals) => is_text(alloc, written, port, totals),
+        None => true,
+    }
+}
+
 /// Whether a text is `listening` with the port, and then this.
 fn is_text(alloc: Global, written: &[u8], port: u16, then: &str) -> bool {
     match format!(in alloc; "listening 127.0.0.1:{port}\n{then}") {

@@ -1,12 +1,14 @@
 //! Sessions that meet the end of their input, however they are cut.
 
 use crate::tests::frames::{
-    ABSENT, BAD_FRAME, EMPTY_NAME, GET, MISSING_FIELD, PING, PONG, PUT_AND_GET, REPLIES, REQUESTS,
-    STORED_AND_SHOWN, UNKNOWN, UNKNOWN_CODE,
+    ABSENT, BAD_FRAME, EMPTY_NAME, GET, MISSING_FIELD, PING, PONG, PUT_AND_GET, PUT_WITHOUT_KEY,
+    REPLIES, REQUESTS, STORED_AND_SHOWN, UNKNOWN, UNKNOWN_CODE,
 };
-use crate::tests::sessions::{Count, Outcome, Part, Session, comes_to_new, ended, goes};
+use crate::tests::sessions::{
+    ANSWERED, Count, EMPTY, Outcome, Part, Session, comes_to_new, ended, goes,
+};
 use crate::tests::streams::{Call, Channel, PLAIN, Trouble};
-use node_session::{Ended, SessionFault};
+use node_session::SessionFault;
 use std::alloc::Global;
 use std::process::Abort;
 
@@ -74,7 +76,7 @@ fn are_answered(alloc: Global, row: &Cuts, first: usize, later: usize, most: usi
         troubles: row.troubles,
     };
     let outcome = Outcome {
-        end: ended(row.replies, 0),
+        end: ended!(row.replies, 0),
         output: row.output,
         counts: &[Count::FlushesOverReads(0)],
     };
@@ -114,63 +116,37 @@ const THIRD_READ_FAILS: Channel<'static> = Channel {
 const ENDS: &[Session] = &[
     Session {
         shows: "an empty input has no rest",
-        input: &[],
-        channel: PLAIN,
-        end: Ok(Ended {
-            replies: 0,
-            rest: 0,
-        }),
-        output: &[],
-        counts: &[],
+        ..EMPTY
     },
     Session {
         shows: "three bytes are a rest",
         input: &[Part::Bytes(b"\0\0\x01")],
-        channel: PLAIN,
-        end: Ok(Ended {
-            replies: 0,
-            rest: 3,
-        }),
-        output: &[],
-        counts: &[],
+        end: ended!(0, 3),
+        ..EMPTY
     },
     Session {
         shows: "a long frame that isn't whole is a rest",
         input: &[Part::Bytes(b"\0\0\x01\0\0\0\x01\0")],
-        channel: PLAIN,
-        end: Ok(Ended {
-            replies: 0,
-            rest: 8,
-        }),
-        output: &[],
-        counts: &[],
+        end: ended!(0, 8),
+        ..EMPTY
     },
     Session {
         shows: "a frame before the rest is answered",
         input: &[Part::Bytes(b"\0\0\0\x02\x07\x01\0\0")],
-        channel: PLAIN,
-        end: Ok(Ended {
-            replies: 1,
-            rest: 2,
-        }),
+        end: ended!(1, 2),
         output: &[Part::Bytes(UNKNOWN_CODE)],
-        counts: &[],
+        ..EMPTY
     },
     // Several frames in the first read, the end in the third.
     Session {
         shows: "the last read may meet the end",
-        input: &[Part::Bytes(&REQUESTS)],
         channel: Channel {
             pieces: (21, 11),
             reads: 3,
             ..PLAIN
         },
-        end: Ok(Ended {
-            replies: 3,
-            rest: 0,
-        }),
-        output: &[Part::Bytes(&REPLIES)],
         counts: &[Count::Status(0)],
+        ..ANSWERED
     },
     Session {
         shows: "a session goes on behind an error",
@@ -180,19 +156,16 @@ const ENDS: &[Session] = &[
             reads: 10,
             ..PLAIN
         },
-        end: Ok(Ended {
-            replies: 2,
-            rest: 0,
-        }),
+        end: ended!(2, 0),
         output: &[Part::Bytes(UNKNOWN_CODE), Part::Bytes(PONG)],
-        counts: &[],
+        ..EMPTY
     },
     // A put without key, one without content, an empty bucket, an unknown code, and a get. Each is answered by its error,
     // and the session goes on.
     Session {
         shows: "what is missing is answered",
         input: &[
-            Part::Bytes(b"\0\0\0\x09\x0b\x0a\x01b\x22\x03\x0a\x01v"),
+            Part::Bytes(PUT_WITHOUT_KEY),
             Part::Bytes(b"\0\0\0\x09\x0b\x0a\x01b\x12\x01k\x22\0"),
             Part::Bytes(b"\0\0\0\x06\x09\x0a\0\x12\x01k"),
             Part::Bytes(UNKNOWN),
@@ -203,10 +176,7 @@ const ENDS: &[Session] = &[
             reads: 10,
             ..PLAIN
         },
-        end: Ok(Ended {
-            replies: 5,
-            rest: 0,
-        }),
+        end: ended!(5, 0),
         output: &[
             Part::Bytes(b"\0\0\0\x11\0\x0a\x0ckey required\x10\x01"),
             Part::Bytes(MISSING_FIELD),
@@ -214,30 +184,22 @@ const ENDS: &[Session] = &[
             Part::Bytes(UNKNOWN_CODE),
             Part::Bytes(ABSENT),
         ],
-        counts: &[],
+        ..EMPTY
     },
     // A rest behind the last frame is no fault; a bad length is one, and so is a read that fails.
     Session {
         shows: "the status of an empty input is 0",
-        input: &[],
         channel: THIRD_READ_FAILS,
-        end: Ok(Ended {
-            replies: 0,
-            rest: 0,
-        }),
-        output: &[],
         counts: &[Count::Status(0)],
+        ..EMPTY
     },
     Session {
         shows: "the status of a rest is 0",
         input: &[Part::Bytes(b"\0\0\x01")],
         channel: THIRD_READ_FAILS,
-        end: Ok(Ended {
-            replies: 0,
-            rest: 3,
-        }),
-        output: &[],
+        end: ended!(0, 3),
         counts: &[Count::Status(0)],
+        ..EMPTY
     },
     Session {
         shows: "the status of a bad length is 1",

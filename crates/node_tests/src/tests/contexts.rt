@@ -1,22 +1,21 @@
 //! Contexts in puts, and how many siblings a key may have.
 
-use crate::tests::exchange::{Asks, Exchange, Plain, Repeats, run_exchange};
+use crate::tests::exchange::{Asks, Exchange, PLAIN_NODE, PUTS_V_AND_W, Repeats, Turn, run_all};
 use crate::tests::frames::{
-    ABSENT, BAD_CONTEXT, CLOCK_FULL, GET, PUT_V, PUT_W, PUT_X_OVER_V, PUT_X_OVER_V_AS_SHOWN,
-    SHOWN_V, SHOWN_W_V, SHOWN_X_W, STORED, TOO_MANY_SIBLINGS,
+    ABSENT, BAD_CONTEXT, CLOCK_FULL, GET, PUT_V, PUT_W, PUT_X_AHEAD, PUT_X_BY_SECOND_EPOCH,
+    PUT_X_FALLING, PUT_X_OVER_V, PUT_X_OVER_V_AS_SHOWN, PUT_X_SHORT, PUT_X_WITHOUT_ENTRY, SHOWN_V,
+    SHOWN_W_V, SHOWN_X_W, STORED, TOO_MANY_SIBLINGS,
 };
-use crate::tests::sessions::{Part, Session, goes};
+use crate::tests::sessions::{EMPTY, Part, Session, ended, goes};
 use crate::tests::streams::{Channel, PLAIN};
 use node_session::Ended;
 
-/// A put of "x" by a context of the second epoch's first dot.
-const PUT_X_BY_SECOND_EPOCH: &[u8] =
-    b"\0\0\0\x1f\x0b\x0a\x01b\x12\x01k\x1a\x11\x01\0\0\0\0\0\x01\0\0\0\0\0\x02\0\0\0\x01\x22\x03\x0a\x01x";
+/// 64 puts fill a key, and one more is refused.
+const FILLS: &[Turn] = &[Repeats(64, PUT_V, STORED), Asks(PUT_V, TOO_MANY_SIBLINGS)];
 
 const CONTEXTS: &[Exchange] = &[
     Exchange {
         shows: "blind puts make siblings",
-        home: Plain,
         turns: &[
             Asks(GET, ABSENT),
             Asks(PUT_V, STORED),
@@ -24,36 +23,27 @@ const CONTEXTS: &[Exchange] = &[
             Asks(PUT_W, STORED),
             Asks(GET, SHOWN_W_V),
         ],
+        ..PLAIN_NODE
     },
     // "v" and "w" are written, and then "x" by one who had seen "v" alone: "v" goes, and "w" stays.
     Exchange {
         shows: "an old context covers what it had seen",
-        home: Plain,
-        turns: &[
-            Asks(PUT_V, STORED),
-            Asks(PUT_W, STORED),
-            Asks(PUT_X_OVER_V, STORED),
-            Asks(GET, SHOWN_X_W),
-        ],
+        begin: PUTS_V_AND_W,
+        turns: &[Asks(PUT_X_OVER_V, STORED), Asks(GET, SHOWN_X_W)],
+        ..PLAIN_NODE
     },
     // The same by the context as it was shown.
     Exchange {
         shows: "a context of version 2 covers what it had seen",
-        home: Plain,
-        turns: &[
-            Asks(PUT_V, STORED),
-            Asks(PUT_W, STORED),
-            Asks(PUT_X_OVER_V_AS_SHOWN, STORED),
-            Asks(GET, SHOWN_X_W),
-        ],
+        begin: PUTS_V_AND_W,
+        turns: &[Asks(PUT_X_OVER_V_AS_SHOWN, STORED), Asks(GET, SHOWN_X_W)],
+        ..PLAIN_NODE
     },
     // "x" over "v" by version 1; "y" over "x" and "w" by version 2; then "w" over "y" by version 1.
     Exchange {
         shows: "one session mixes both versions",
-        home: Plain,
+        begin: PUTS_V_AND_W,
         turns: &[
-            Asks(PUT_V, STORED),
-            Asks(PUT_W, STORED),
             Asks(PUT_X_OVER_V, STORED),
             Asks(GET, SHOWN_X_W),
             Asks(
@@ -73,23 +63,19 @@ const CONTEXTS: &[Exchange] = &[
                 b"\0\0\0\x1d\x0a\x0a\x03\x0a\x01w\x12\x15\x02\0\0\0\0\0\x01\0\0\0\0\0\x01\0\0\0\0\0\0\0\x05",
             ),
         ],
+        ..PLAIN_NODE
     },
     Exchange {
         shows: "a key has at most 64 siblings",
-        home: Plain,
-        turns: &[
-            Repeats(64, PUT_V, STORED),
-            Asks(PUT_V, TOO_MANY_SIBLINGS),
-            Asks(PUT_W, TOO_MANY_SIBLINGS),
-        ],
+        begin: FILLS,
+        turns: &[Asks(PUT_W, TOO_MANY_SIBLINGS)],
+        ..PLAIN_NODE
     },
     // 64 puts without context fill a key; one more is refused, and a put that has seen them all leaves one sibling.
     Exchange {
         shows: "a context of all leaves one",
-        home: Plain,
+        begin: FILLS,
         turns: &[
-            Repeats(64, PUT_V, STORED),
-            Asks(PUT_V, TOO_MANY_SIBLINGS),
             Asks(
                 b"\0\0\0\x1f\x0b\x0a\x01b\x12\x01k\x1a\x11\x01\0\0\0\0\0\x01\0\0\0\0\0\x01\0\0\0@\x22\x03\x0a\x01w",
                 STORED,
@@ -99,35 +85,23 @@ const CONTEXTS: &[Exchange] = &[
                 b"\0\0\0\x1d\x0a\x0a\x03\x0a\x01w\x12\x15\x02\0\0\0\0\0\x01\0\0\0\0\0\x01\0\0\0\0\0\0\0A",
             ),
         ],
+        ..PLAIN_NODE
     },
     // A context that isn't of the form, or names dots that weren't given, is refused, and nothing has changed; and once
     // another key has the second epoch, a context of it covers nothing here.
     Exchange {
         shows: "bad contexts are refused",
-        home: Plain,
         turns: &[
             Asks(PUT_V, STORED),
             // The counter runs ahead.
-            Asks(
-                b"\0\0\0\x1f\x0b\x0a\x01b\x12\x01k\x1a\x11\x01\0\0\0\0\0\x01\0\0\0\0\0\x01\0\0\0\x02\x22\x03\x0a\x01x",
-                BAD_CONTEXT,
-            ),
+            Asks(PUT_X_AHEAD, BAD_CONTEXT),
             // No key has this epoch yet.
             Asks(PUT_X_BY_SECOND_EPOCH, BAD_CONTEXT),
             // The actors don't rise.
-            Asks(
-                b"\0\0\0/\x0b\x0a\x01b\x12\x01k\x1a!\x01\0\0\0\0\0\x01\0\0\0\0\0\x01\0\0\0\x01\0\0\0\0\0\x01\0\0\0\0\0\x01\0\0\0\x01\x22\x03\x0a\x01x",
-                BAD_CONTEXT,
-            ),
+            Asks(PUT_X_FALLING, BAD_CONTEXT),
             // No entry, and an entry of version 1 as one of version 2, which is short by four bytes.
-            Asks(
-                b"\0\0\0\x0f\x0b\x0a\x01b\x12\x01k\x1a\x01\x01\x22\x03\x0a\x01x",
-                BAD_CONTEXT,
-            ),
-            Asks(
-                b"\0\0\0\x1f\x0b\x0a\x01b\x12\x01k\x1a\x11\x02\0\0\0\0\0\x01\0\0\0\0\0\x01\0\0\0\x01\x22\x03\x0a\x01x",
-                BAD_CONTEXT,
-            ),
+            Asks(PUT_X_WITHOUT_ENTRY, BAD_CONTEXT),
+            Asks(PUT_X_SHORT, BAD_CONTEXT),
             // Of version 2 the counter runs ahead: by one, and by 2 to the 32.
             Asks(
                 b"\0\0\0\x23\x0b\x0a\x01b\x12\x01k\x1a\x15\x02\0\0\0\0\0\x01\0\0\0\0\0\x01\0\0\0\0\0\0\0\x02\x22\x03\x0a\x01x",
@@ -153,6 +127,7 @@ const CONTEXTS: &[Exchange] = &[
                 b"\0\0\06\x0a\x0a\x03\x0a\x01x\x0a\x03\x0a\x01v\x12)\x02\0\0\0\0\0\x01\0\0\0\0\0\x01\0\0\0\0\0\0\0\x02\0\0\0\0\0\x01\0\0\0\0\0\x02\0\0\0\0\0\0\0\x01",
             ),
         ],
+        ..PLAIN_NODE
     },
 ];
 
@@ -181,17 +156,14 @@ const CROWDS: &[Session] = &[
             Part::Bytes(GET),
         ],
         channel: LONG_PIECES,
-        end: Ok(Ended {
-            replies: 4,
-            rest: 0,
-        }),
+        end: ended!(4, 0),
         output: &[
             Part::Bytes(CLOCK_FULL),
             Part::Bytes(ABSENT),
             Part::Bytes(STORED),
             Part::Bytes(SHOWN_V),
         ],
-        counts: &[],
+        ..EMPTY
     },
     Session {
         shows: "63 actors of a context and its own are a clock, whose first epoch is 1",
@@ -202,10 +174,7 @@ const CROWDS: &[Session] = &[
             Part::Bytes(GET),
         ],
         channel: LONG_PIECES,
-        end: Ok(Ended {
-            replies: 2,
-            rest: 0,
-        }),
+        end: ended!(2, 0),
         output: &[
             Part::Bytes(STORED),
             Part::Bytes(
@@ -213,7 +182,7 @@ const CROWDS: &[Session] = &[
             ),
             Part::Entries(63, WIDE_ONE),
         ],
-        counts: &[],
+        ..EMPTY
     },
     Session {
         shows: "65 entries are no context",
@@ -226,17 +195,14 @@ const CROWDS: &[Session] = &[
             Part::Bytes(GET),
         ],
         channel: LONG_PIECES,
-        end: Ok(Ended {
-            replies: 4,
-            rest: 0,
-        }),
+        end: ended!(4, 0),
         output: &[
             Part::Bytes(BAD_CONTEXT),
             Part::Bytes(ABSENT),
             Part::Bytes(STORED),
             Part::Bytes(SHOWN_V),
         ],
-        counts: &[],
+        ..EMPTY
     },
     Session {
         shows: "a context of 64 wide entries is one, and leaves no room for the own actor",
@@ -248,16 +214,13 @@ const CROWDS: &[Session] = &[
             Part::Bytes(GET),
         ],
         channel: LONG_PIECES,
-        end: Ok(Ended {
-            replies: 3,
-            rest: 0,
-        }),
+        end: ended!(3, 0),
         output: &[
             Part::Bytes(CLOCK_FULL),
             Part::Bytes(STORED),
             Part::Bytes(SHOWN_V),
         ],
-        counts: &[],
+        ..EMPTY
     },
     Session {
         shows: "65 wide entries are no context",
@@ -269,16 +232,13 @@ const CROWDS: &[Session] = &[
             Part::Bytes(GET),
         ],
         channel: LONG_PIECES,
-        end: Ok(Ended {
-            replies: 3,
-            rest: 0,
-        }),
+        end: ended!(3, 0),
         output: &[
             Part::Bytes(BAD_CONTEXT),
             Part::Bytes(STORED),
             Part::Bytes(SHOWN_V),
         ],
-        counts: &[],
+        ..EMPTY
     },
 ];
 
@@ -291,7 +251,5 @@ fn a_clock_has_64_actors_at_most(rt: HostRuntime) {
 
 #[test]
 fn contexts_cover_what_they_have_seen(rt: HostRuntime) {
-    for row in CONTEXTS {
-        run_exchange(&rt, rt.alloc(), row);
-    }
+    run_all(&rt, rt.alloc(), CONTEXTS);
 }

@@ -1,8 +1,9 @@
 //! Requests to one node, each in a session of its own, and keys over their lives.
 
 use crate::tests::frames::{
-    ABSENT, DELETE, DELETED, GET, GET_DEAD, MATCH_FOUND, MODIFIED, NOT_FOUND, PUT_E_IF_V,
-    PUT_Q_IF_V, PUT_V, PUT_W, PUT_X_OVER_V, PUT_Z_IF_NONE, SHOWN_V, SHOWN_W_V, SHOWN_X_W, STORED,
+    ABSENT, DELETE, DELETED, GET, GET_DEAD, MATCH_FOUND, MODIFIED, NOT_FOUND, PUT_D_OVER_FIRST,
+    PUT_E_IF_V, PUT_Q_IF_V, PUT_V, PUT_W, PUT_X_OVER_V, PUT_Z_IF_NONE, SHOWN_V, SHOWN_W_V,
+    SHOWN_X_W, STORED,
 };
 use crate::tests::sessions::{Outcome, comes_to, ended};
 use crate::tests::streams::Channel;
@@ -12,6 +13,7 @@ use std::alloc::Global;
 use std::process::Abort;
 
 /// The node that is asked.
+#[derive(Clone, Copy)]
 pub enum Home {
     /// Of run 1, and one vnode.
     Plain,
@@ -32,11 +34,25 @@ pub use Home::{OnRing, Plain, Sweeping};
 pub use Turn::{Asks, Repeats};
 
 /// What a node is asked, and how it answers.
+#[derive(Clone, Copy)]
 pub struct Exchange {
     pub shows: &'static str,
     pub home: Home,
+    /// What others begin with too.
+    pub begin: &'static [Turn],
     pub turns: &'static [Turn],
 }
+
+/// A plain node that is asked nothing. Rows say what is other.
+pub const PLAIN_NODE: Exchange = Exchange {
+    shows: "",
+    home: Plain,
+    begin: &[],
+    turns: &[],
+};
+
+/// "v" is put, and "w" beside it.
+pub const PUTS_V_AND_W: &[Turn] = &[Asks(PUT_V, STORED), Asks(PUT_W, STORED)];
 
 /// A put of "b" on b/k.
 pub const PUT_B: &[u8] = b"\0\0\0\x0c\x0b\x0a\x01b\x12\x01k\x22\x03\x0a\x01b";
@@ -68,16 +84,26 @@ const SHOWN_FIRST: &[u8] =
 const SHOWN_SECOND: &[u8] =
     b"\0\0\0\x1d\x0a\x0a\x03\x0a\x01b\x12\x15\x02\0\0\0\0\0\x01\0\0\0\0\0\x02\0\0\0\0\0\0\0\x01";
 
+/// "b" is put, deleted and forgotten, and put again.
+const TWO_LIVES: &[Turn] = &[
+    Asks(PUT_B, STORED),
+    Asks(GET, SHOWN_FIRST),
+    Asks(DELETE, DELETED),
+    Asks(PUT_B, STORED),
+    Asks(GET, SHOWN_SECOND),
+];
+
 const LIVES: &[Exchange] = &[
     Exchange {
         shows: "one key over its life",
-        home: Plain,
         turns: LIFE,
+        ..PLAIN_NODE
     },
     Exchange {
         shows: "a ring of one partition is one vnode",
         home: OnRing(1, 1),
         turns: LIFE,
+        ..PLAIN_NODE
     },
     // By Python's `hashlib` the digest of b/k begins with 56 and that of b/j with a6, so of 16 partitions they lie in 5
     // and in 10. The vnode ids of run 2 are 131072 and on, and the first life in each has epoch 1.
@@ -96,22 +122,16 @@ const LIVES: &[Exchange] = &[
                 b"\0\0\0\x1d\x0a\x0a\x03\x0a\x01w\x12\x15\x02\0\0\0\0\0\x02\0\x0a\0\0\0\x01\0\0\0\0\0\0\0\x01",
             ),
         ],
+        ..PLAIN_NODE
     },
     // The key is forgotten once its delete is answered, and a second life begins, with the next epoch. The first life's
     // context covers nothing: both values stand.
     Exchange {
         shows: "a new life has a new actor",
         home: Sweeping(1),
+        begin: TWO_LIVES,
         turns: &[
-            Asks(PUT_B, STORED),
-            Asks(GET, SHOWN_FIRST),
-            Asks(DELETE, DELETED),
-            Asks(PUT_B, STORED),
-            Asks(GET, SHOWN_SECOND),
-            Asks(
-                b"\0\0\0\x1f\x0b\x0a\x01b\x12\x01k\x1a\x11\x01\0\0\0\0\0\x01\0\0\0\0\0\x01\0\0\0\x01\x22\x03\x0a\x01d",
-                STORED,
-            ),
+            Asks(PUT_D_OVER_FIRST, STORED),
             Asks(
                 GET,
                 b"\0\0\06\x0a\x0a\x03\x0a\x01d\x0a\x03\x0a\x01b\x12)\x02\0\0\0\0\0\x01\0\0\0\0\0\x01\0\0\0\0\0\0\0\x01\0\0\0\0\0\x01\0\0\0\0\0\x02\0\0\0\0\0\0\0\x02",
@@ -122,15 +142,8 @@ const LIVES: &[Exchange] = &[
     Exchange {
         shows: "a context of an earlier life is modified",
         home: Sweeping(1),
-        turns: &[
-            Asks(PUT_B, STORED),
-            Asks(GET, SHOWN_FIRST),
-            Asks(DELETE, DELETED),
-            Asks(PUT_B, STORED),
-            Asks(GET, SHOWN_SECOND),
-            Asks(PUT_E_IF_V, MODIFIED),
-            Asks(PUT_Q_IF_V, NOT_FOUND),
-        ],
+        begin: TWO_LIVES,
+        turns: &[Asks(PUT_E_IF_V, MODIFIED), Asks(PUT_Q_IF_V, NOT_FOUND)],
     },
 ];
 
@@ -152,7 +165,7 @@ pub fn answers(alloc: Global, node: &mut PlainNode, request: &[u8], reply: &[u8]
         troubles: &[],
     };
     let outcome = Outcome {
-        end: ended(1, 0),
+        end: ended!(1, 0),
         output: reply,
         counts: &[],
     };
@@ -183,18 +196,34 @@ fn fails_at(alloc: Global, node: &mut PlainNode, turns: &[Turn]) -> Option<usize
     None
 }
 
+/// The number of the first turn of a row that goes otherwise, with those of its begin.
+fn fails_in(alloc: Global, node: &mut PlainNode, row: &Exchange) -> Option<usize> {
+    match fails_at(alloc, node, row.begin) {
+        Some(number) => Some(number),
+        None => match fails_at(alloc, node, row.turns) {
+            Some(number) => Some(row.begin.len().saturating_add(number)),
+            None => None,
+        },
+    }
+}
+
 /// Asks a new node, and compares each reply.
-pub fn run_exchange(rt: &impl Abort, alloc: Global, row: &Exchange) {
+fn run_exchange(rt: &impl Abort, alloc: Global, row: &Exchange) {
     let failed = match node_of(alloc, &row.home) {
-        Some(mut node) => fails_at(alloc, &mut node, row.turns),
+        Some(mut node) => fails_in(alloc, &mut node, row),
         None => Some(usize::MAX),
     };
     assert_eq!(rt; failed, None, "{}", row.shows);
 }
 
+/// The same for each row.
+pub fn run_all(rt: &impl Abort, alloc: Global, rows: &[Exchange]) {
+    for row in rows {
+        run_exchange(rt, alloc, row);
+    }
+}
+
 #[test]
 fn keys_live_as_they_are_asked(rt: HostRuntime) {
-    for row in LIVES {
-        run_exchange(&rt, rt.alloc(), row);
-    }
+    run_all(&rt, rt.alloc(), LIVES);
 }

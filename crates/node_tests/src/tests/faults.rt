@@ -4,7 +4,7 @@ use crate::tests::exchange::answers;
 use crate::tests::frames::{
     BAD_FRAME, FRAME_TOO_LARGE, GET, PING, PONG, PUT_V, REQUESTS, SHOWN_V, STORED,
 };
-use crate::tests::sessions::{Count, Part, Session, goes, goes_on};
+use crate::tests::sessions::{Count, EMPTY, Part, Session, goes, goes_on};
 use crate::tests::streams::{Call, Channel, PLAIN, Trouble};
 use node_session::{PlainNode, SessionFault};
 use std::alloc::Global;
@@ -30,7 +30,7 @@ const STOPPED: &[Stopped] = &[
             },
             end: Err(SessionFault::ReadFailed(1)),
             output: &[Part::Bytes(STORED)],
-            counts: &[],
+            ..EMPTY
         },
         shown: SHOWN_V,
     },
@@ -45,7 +45,7 @@ const STOPPED: &[Stopped] = &[
             },
             end: Err(SessionFault::TooManyReads(1)),
             output: &[Part::Bytes(STORED)],
-            counts: &[],
+            ..EMPTY
         },
         shown: SHOWN_V,
     },
@@ -61,7 +61,7 @@ const STOPPED: &[Stopped] = &[
             },
             end: Err(SessionFault::WriteFailed(0)),
             output: &[Part::Bytes(b"\0\0\0")],
-            counts: &[],
+            ..EMPTY
         },
         shown: SHOWN_V,
     },
@@ -107,8 +107,7 @@ const FAULTS: &[Session] = &[
             ..PLAIN
         },
         end: Err(SessionFault::WriteFailed(0)),
-        output: &[],
-        counts: &[],
+        ..EMPTY
     },
     Session {
         shows: "a length of 0 is answered once",
@@ -146,7 +145,7 @@ const FAULTS: &[Session] = &[
         channel: FOURTH_WRITE_FAILS,
         end: Err(SessionFault::WriteFailed(0)),
         output: &[Part::Bytes(b"\0\0\0\x0e\0\x0a\x09bad f")],
-        counts: &[],
+        ..EMPTY
     },
     // Five writes.
     Session {
@@ -159,7 +158,7 @@ const FAULTS: &[Session] = &[
         },
         end: Err(SessionFault::WriteFailed(0)),
         output: &[Part::Bytes(b"\0\0\0\x14\0\x0a\x0fframe too lar")],
-        counts: &[],
+        ..EMPTY
     },
     // The ping's reply takes two writes, and two more go out.
     Session {
@@ -176,7 +175,7 @@ const FAULTS: &[Session] = &[
         },
         end: Err(SessionFault::WriteFailed(1)),
         output: &[Part::Bytes(PONG), Part::Bytes(b"\0\0\0\x0e\0\x0a\x09b")],
-        counts: &[],
+        ..EMPTY
     },
 ];
 

@@ -114,3 +114,61 @@ pub const NOT_FOUND: &[u8] = b"\0\0\0\x0d\0\x0a\x08notfound\x10\x01";
 pub const TOO_MANY_SIBLINGS: &[u8] = b"\0\0\0\x16\0\x0a\x11too many siblings\x10\x01";
 
 pub const NO_MEMORY: &[u8] = b"\0\0\0\x0e\0\x0a\x09no memory\x10\x01";
+
+/// A put of "x" by a context of the second epoch's first dot.
+pub const PUT_X_BY_SECOND_EPOCH: &[u8] =
+    b"\0\0\0\x1f\x0b\x0a\x01b\x12\x01k\x1a\x11\x01\0\0\0\0\0\x01\0\0\0\0\0\x02\0\0\0\x01\x22\x03\x0a\x01x";
+
+/// A put of "x" by a context one counter ahead.
+pub const PUT_X_AHEAD: &[u8] =
+    b"\0\0\0\x1f\x0b\x0a\x01b\x12\x01k\x1a\x11\x01\0\0\0\0\0\x01\0\0\0\0\0\x01\0\0\0\x02\x22\x03\x0a\x01x";
+
+/// A put of "x" by a context whose actors don't rise.
+pub const PUT_X_FALLING: &[u8] =
+    b"\0\0\0/\x0b\x0a\x01b\x12\x01k\x1a!\x01\0\0\0\0\0\x01\0\0\0\0\0\x01\0\0\0\x01\0\0\0\0\0\x01\0\0\0\0\0\x01\0\0\0\x01\x22\x03\x0a\x01x";
+
+/// A put of "x" by a context of version 1 without entries.
+pub const PUT_X_WITHOUT_ENTRY: &[u8] =
+    b"\0\0\0\x0f\x0b\x0a\x01b\x12\x01k\x1a\x01\x01\x22\x03\x0a\x01x";
+
+/// A put of "x" by a context of version 2 whose entry is short by four bytes.
+pub const PUT_X_SHORT: &[u8] =
+    b"\0\0\0\x1f\x0b\x0a\x01b\x12\x01k\x1a\x11\x02\0\0\0\0\0\x01\0\0\0\0\0\x01\0\0\0\x01\x22\x03\x0a\x01x";
+
+/// A put of "v" with `return_body`.
+pub const PUT_V_FOR_BODY: &[u8] = b"\0\0\0\x0e\x0b\x0a\x01b\x12\x01k\x22\x03\x0a\x01v8\x01";
+
+/// A delete of b/k by the context of its first dot.
+pub const DELETE_V: &[u8] =
+    b"\0\0\0\x1a\x0d\x0a\x01b\x12\x01k\x22\x11\x01\0\0\0\0\0\x01\0\0\0\0\0\x01\0\0\0\x01";
+
+/// A get of b/k with `if_modified`, by the context of its first dot.
+pub const GET_IF_MODIFIED: &[u8] =
+    b"\0\0\0\x1a\x09\x0a\x01b\x12\x01k:\x11\x01\0\0\0\0\0\x01\0\0\0\0\0\x01\0\0\0\x01";
+
+/// A get of b/k with `head`.
+pub const GET_HEAD: &[u8] = b"\0\0\0\x09\x09\x0a\x01b\x12\x01k@\x01";
+
+/// A get of b/k with a bucket a before.
+pub const GET_BUCKET_TWICE: &[u8] = b"\0\0\0\x0a\x09\x0a\x01a\x0a\x01b\x12\x01k";
+
+/// A get of b/k with an unknown field 99.
+pub const GET_UNKNOWN_FIELD: &[u8] = b"\0\0\0\x0a\x09\x0a\x01b\x12\x01k\x98\x06\x05";
+
+/// A get of b/k with a length in two bytes.
+pub const GET_LONG_LENGTH: &[u8] = b"\0\0\0\x08\x09\x0a\x81\0b\x12\x01k";
+
+/// A get of b/k with a varint of eleven bytes.
+pub const GET_LONG_VARINT: &[u8] =
+    b"\0\0\0\x13\x09\x0a\x01b\x12\x01k\x18\xff\xff\xff\xff\xff\xff\xff\xff\xff\xff\x01";
+
+/// A put of "v" whose content comes in two pieces, the content type in the second.
+pub const PUT_V_TWICE: &[u8] =
+    b"\0\0\0\x11\x0b\x0a\x01b\x12\x01k\x22\x03\x0a\x01v\x22\x03\x12\x01t";
+
+/// A put of "d" by the context of the first dot.
+pub const PUT_D_OVER_FIRST: &[u8] =
+    b"\0\0\0\x1f\x0b\x0a\x01b\x12\x01k\x1a\x11\x01\0\0\0\0\0\x01\0\0\0\0\0\x01\0\0\0\x01\x22\x03\x0a\x01d";
+
+/// A put of "v" without key.
+pub const PUT_WITHOUT_KEY: &[u8] = b"\0\0\0\x09\x0b\x0a\x01b\x22\x03\x0a\x01v";

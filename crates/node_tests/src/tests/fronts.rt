@@ -3,8 +3,10 @@
 
 use crate::tests::exchange::{PUT_B, answers};
 use crate::tests::frames::{
-    ABSENT, DELETE, GET, GET_DEAD, PUT_E_IF_V, PUT_Q_IF_V, PUT_V, PUT_W, PUT_X_OVER_V,
-    PUT_Z_IF_NONE, UNKNOWN,
+    ABSENT, DELETE, DELETE_V, GET, GET_BUCKET_TWICE, GET_DEAD, GET_HEAD, GET_IF_MODIFIED,
+    GET_LONG_LENGTH, GET_LONG_VARINT, GET_UNKNOWN_FIELD, PUT_D_OVER_FIRST, PUT_E_IF_V, PUT_Q_IF_V,
+    PUT_V, PUT_V_FOR_BODY, PUT_V_TWICE, PUT_W, PUT_WITHOUT_KEY, PUT_X_AHEAD, PUT_X_BY_SECOND_EPOCH,
+    PUT_X_FALLING, PUT_X_OVER_V, PUT_X_SHORT, PUT_X_WITHOUT_ENTRY, PUT_Z_IF_NONE, UNKNOWN,
 };
 use crate::tests::sessions::{Outcome, comes_to, ended};
 use crate::tests::streams::PLAIN;
@@ -52,7 +54,7 @@ const FRAMES: &[Frame] = &[
     },
     Frame {
         shows: "a put of d by a context",
-        bytes: b"\0\0\0\x1f\x0b\x0a\x01b\x12\x01k\x1a\x11\x01\0\0\0\0\0\x01\0\0\0\0\0\x01\0\0\0\x01\x22\x03\x0a\x01d",
+        bytes: PUT_D_OVER_FIRST,
     },
     Frame {
         shows: "a put with if_not_modified",
@@ -64,63 +66,63 @@ const FRAMES: &[Frame] = &[
     },
     Frame {
         shows: "a get with its bucket twice",
-        bytes: b"\0\0\0\x0a\x09\x0a\x01a\x0a\x01b\x12\x01k",
+        bytes: GET_BUCKET_TWICE,
     },
     Frame {
         shows: "a get with an unknown field",
-        bytes: b"\0\0\0\x0a\x09\x0a\x01b\x12\x01k\x98\x06\x05",
+        bytes: GET_UNKNOWN_FIELD,
     },
     Frame {
         shows: "a get with a length in two bytes",
-        bytes: b"\0\0\0\x08\x09\x0a\x81\0b\x12\x01k",
+        bytes: GET_LONG_LENGTH,
     },
     Frame {
         shows: "a get with a varint of eleven bytes",
-        bytes: b"\0\0\0\x13\x09\x0a\x01b\x12\x01k\x18\xff\xff\xff\xff\xff\xff\xff\xff\xff\xff\x01",
+        bytes: GET_LONG_VARINT,
     },
     Frame {
         shows: "a put with its content twice",
-        bytes: b"\0\0\0\x11\x0b\x0a\x01b\x12\x01k\x22\x03\x0a\x01v\x22\x03\x12\x01t",
+        bytes: PUT_V_TWICE,
     },
     Frame {
         shows: "a put by a context one counter ahead",
-        bytes: b"\0\0\0\x1f\x0b\x0a\x01b\x12\x01k\x1a\x11\x01\0\0\0\0\0\x01\0\0\0\0\0\x01\0\0\0\x02\x22\x03\x0a\x01x",
+        bytes: PUT_X_AHEAD,
     },
     Frame {
         shows: "a put by a context of the second epoch",
-        bytes: b"\0\0\0\x1f\x0b\x0a\x01b\x12\x01k\x1a\x11\x01\0\0\0\0\0\x01\0\0\0\0\0\x02\0\0\0\x01\x22\x03\x0a\x01x",
+        bytes: PUT_X_BY_SECOND_EPOCH,
     },
     Frame {
         shows: "a put by a context that doesn't rise",
-        bytes: b"\0\0\0/\x0b\x0a\x01b\x12\x01k\x1a!\x01\0\0\0\0\0\x01\0\0\0\0\0\x01\0\0\0\x01\0\0\0\0\0\x01\0\0\0\0\0\x01\0\0\0\x01\x22\x03\x0a\x01x",
+        bytes: PUT_X_FALLING,
     },
     Frame {
         shows: "a put by a context without entries",
-        bytes: b"\0\0\0\x0f\x0b\x0a\x01b\x12\x01k\x1a\x01\x01\x22\x03\x0a\x01x",
+        bytes: PUT_X_WITHOUT_ENTRY,
     },
     Frame {
         shows: "a put by a context of version 2 whose entry is short",
-        bytes: b"\0\0\0\x1f\x0b\x0a\x01b\x12\x01k\x1a\x11\x02\0\0\0\0\0\x01\0\0\0\0\0\x01\0\0\0\x01\x22\x03\x0a\x01x",
+        bytes: PUT_X_SHORT,
     },
     Frame {
         shows: "a put with return_body",
-        bytes: b"\0\0\0\x0e\x0b\x0a\x01b\x12\x01k\x22\x03\x0a\x01v8\x01",
+        bytes: PUT_V_FOR_BODY,
     },
     Frame {
         shows: "a delete by a context",
-        bytes: b"\0\0\0\x1a\x0d\x0a\x01b\x12\x01k\x22\x11\x01\0\0\0\0\0\x01\0\0\0\0\0\x01\0\0\0\x01",
+        bytes: DELETE_V,
     },
     Frame {
         shows: "a get with if_modified",
-        bytes: b"\0\0\0\x1a\x09\x0a\x01b\x12\x01k:\x11\x01\0\0\0\0\0\x01\0\0\0\0\0\x01\0\0\0\x01",
+        bytes: GET_IF_MODIFIED,
     },
     Frame {
         shows: "a get with head",
-        bytes: b"\0\0\0\x09\x09\x0a\x01b\x12\x01k@\x01",
+        bytes: GET_HEAD,
     },
     Frame {
         shows: "a put without key",
-        bytes: b"\0\0\0\x09\x0b\x0a\x01b\x22\x03\x0a\x01v",
+        bytes: PUT_WITHOUT_KEY,
     },
     Frame {
         shows: "a message of no code",
@@ -131,7 +133,7 @@ const FRAMES: &[Frame] = &[
 /// The first so many bytes of a frame are a rest, and a get then finds nothing.
 fn is_rest(alloc: Global, node: &mut PlainNode, frame: &[u8], len: usize) -> bool {
     let outcome = Outcome {
-        end: ended(0, len),
+        end: ended!(0, len),
         output: b"",
         counts: &[],
     };

@@ -1,9 +1,8 @@
 //! Reads, writes and flushes that are interrupted.
 
-use crate::tests::frames::{REPLIES, REQUESTS};
-use crate::tests::sessions::{Count, Part, Session, goes};
+use crate::tests::sessions::{ANSWERED, Count, Session, goes};
 use crate::tests::streams::{Call, Channel, PLAIN, Trouble};
-use node_session::{Ended, SessionFault};
+use node_session::SessionFault;
 
 /// Every second read is interrupted. Five of ten reads are, and each is one of the reads.
 const SECOND_READS: Trouble = Trouble::Interrupts(Call::Read, 2);
@@ -23,23 +22,17 @@ const THOUSAND_FLUSHES: Trouble = Trouble::Begins(Call::Flush, 1000);
 const INTERRUPTIONS: &[Session] = &[
     Session {
         shows: "every second read, write and flush is tried again",
-        input: &[Part::Bytes(&REQUESTS)],
         channel: Channel {
             most: 3,
             reads: 10,
             troubles: &[SECOND_READS, SECOND_WRITES, SECOND_FLUSHES],
             ..PLAIN
         },
-        end: Ok(Ended {
-            replies: 3,
-            rest: 0,
-        }),
-        output: &[Part::Bytes(&REPLIES)],
         counts: &[Count::Reads(10)],
+        ..ANSWERED
     },
     Session {
         shows: "an interrupted read is one of the reads",
-        input: &[Part::Bytes(&REQUESTS)],
         channel: Channel {
             most: 3,
             reads: 9,
@@ -47,44 +40,33 @@ const INTERRUPTIONS: &[Session] = &[
             ..PLAIN
         },
         end: Err(SessionFault::TooManyReads(3)),
-        output: &[Part::Bytes(&REPLIES)],
         counts: &[Count::Reads(9)],
+        ..ANSWERED
     },
     Session {
         shows: "a thousand writes and flushes in a row are tried again",
-        input: &[Part::Bytes(&REQUESTS)],
         channel: Channel {
             most: 3,
             reads: 5,
             troubles: &[THOUSAND_WRITES, THOUSAND_FLUSHES],
             ..PLAIN
         },
-        end: Ok(Ended {
-            replies: 3,
-            rest: 0,
-        }),
-        output: &[Part::Bytes(&REPLIES)],
         counts: &[Count::Reads(5)],
+        ..ANSWERED
     },
     Session {
         shows: "a thousand reads in a row are tried again",
-        input: &[Part::Bytes(&REQUESTS)],
         channel: Channel {
             most: 3,
             reads: 1005,
             troubles: &[THOUSAND_READS],
             ..PLAIN
         },
-        end: Ok(Ended {
-            replies: 3,
-            rest: 0,
-        }),
-        output: &[Part::Bytes(&REPLIES)],
         counts: &[Count::Reads(1005)],
+        ..ANSWERED
     },
     Session {
         shows: "a thousand interrupted reads are among the reads",
-        input: &[Part::Bytes(&REQUESTS)],
         channel: Channel {
             most: 3,
             reads: 1004,
@@ -92,8 +74,8 @@ const INTERRUPTIONS: &[Session] = &[
             ..PLAIN
         },
         end: Err(SessionFault::TooManyReads(3)),
-        output: &[Part::Bytes(&REPLIES)],
         counts: &[Count::Reads(1004)],
+        ..ANSWERED
     },
 ];
 

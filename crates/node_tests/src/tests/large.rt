@@ -65,7 +65,7 @@ fn is_written(alloc: Global, thousands: u32, front: &[u8], len: usize) -> bool {
         &mut Showing { thousands },
         10,
     );
-    end == ended(1, 0) && sink.bytes.len() == len && sink.bytes.starts_with(front)
+    end == ended!(1, 0) && sink.bytes.len() == len && sink.bytes.starts_with(front)
 }
 
 #[test]

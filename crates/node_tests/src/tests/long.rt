@@ -1,9 +1,9 @@
 //! Sessions of thousands of reads and writes, and of the longest frame.
 
 use crate::tests::frames::{GET, PING, PONG, STORED};
-use crate::tests::sessions::{Count, Part, Session, goes};
+use crate::tests::sessions::{Count, EMPTY, Part, Session, ended, goes};
 use crate::tests::streams::{Call, Channel, PLAIN, Trouble};
-use node_session::{Ended, SessionFault};
+use node_session::SessionFault;
 
 /// The field of a reply that shows the first dot.
 const VCLOCK: &[u8] = b"\x12\x15\x02\0\0\0\0\0\x01\0\0\0\0\0\x01\0\0\0\0\0\0\0\x01";
@@ -31,10 +31,7 @@ const LONG: &[Session] = &[
             most: 5000,
             ..PLAIN
         },
-        end: Ok(Ended {
-            replies: 1639,
-            rest: 0,
-        }),
+        end: ended!(1639, 0),
         output: &[Part::Times(1639, PONG)],
         counts: &[Count::Reads(4), Count::Largest(4096)],
     },
@@ -53,10 +50,7 @@ const LONG: &[Session] = &[
             troubles: &[Trouble::Interrupts(Call::Write, 2)],
             ..PLAIN
         },
-        end: Ok(Ended {
-            replies: 2,
-            rest: 0,
-        }),
+        end: ended!(2, 0),
         output: &[
             Part::Bytes(b"\0\0\0\x01\x0c\0\0\x17\x8e\x0a\x0a\xf3\x2e\x0a\xf0\x2e"),
             Part::Times(6000, b"\x07"),
@@ -78,17 +72,14 @@ const LONG: &[Session] = &[
             reads: 1000,
             ..PLAIN
         },
-        end: Ok(Ended {
-            replies: 2,
-            rest: 0,
-        }),
+        end: ended!(2, 0),
         output: &[
             Part::Bytes(STORED),
             Part::Bytes(b"\0\x10\0\x11\x0a\x0a\xf5\xff\x3f\x0a\xf1\xff\x3f"),
             Part::Times(1_048_561, b"\x07"),
             Part::Bytes(VCLOCK),
         ],
-        counts: &[],
+        ..EMPTY
     },
 ];
 

@@ -4,10 +4,10 @@ use crate::tests::frames::{
     BAD_FRAME, FRAME_TOO_LARGE, PING, PONG, PUT_AND_GET, REPLIES, REQUESTS, STORED_AND_SHOWN,
     UNKNOWN, UNKNOWN_CODE,
 };
-use crate::tests::sessions::{Part, Session, goes};
+use crate::tests::sessions::{ANSWERED, EMPTY, Part, Session, ended, goes};
 use crate::tests::streams::{Call, Channel, PLAIN, Trouble};
 use crate::tests::turns::{Carried, comes_so, is_carried};
-use node_session::{Ended, SessionFault};
+use node_session::SessionFault;
 use std::alloc::Global;
 
 /// Streams that wait, or that never have to.
@@ -20,49 +20,29 @@ const EITHER_WAY: &[Session] = &[
             most: 7,
             ..PLAIN
         },
-        end: Ok(Ended {
-            replies: 2,
-            rest: 0,
-        }),
+        end: ended!(2, 0),
         output: &[Part::Bytes(PONG), Part::Bytes(PONG)],
-        counts: &[],
+        ..EMPTY
     },
     Session {
         shows: "an empty input",
-        input: &[],
-        channel: PLAIN,
-        end: Ok(Ended {
-            replies: 0,
-            rest: 0,
-        }),
-        output: &[],
-        counts: &[],
+        ..EMPTY
     },
     Session {
         shows: "a byte a read, and a byte a write",
-        input: &[Part::Bytes(&REQUESTS)],
         channel: Channel {
             pieces: (1, 1),
             most: 1,
             ..PLAIN
         },
-        end: Ok(Ended {
-            replies: 3,
-            rest: 0,
-        }),
-        output: &[Part::Bytes(&REPLIES)],
-        counts: &[],
+        ..ANSWERED
     },
     Session {
         shows: "a message of no code, and the end in the middle of a frame",
         input: &[Part::Bytes(UNKNOWN), Part::Bytes(b"\0\0\0\x0c\x0b")],
-        channel: PLAIN,
-        end: Ok(Ended {
-            replies: 1,
-            rest: 5,
-        }),
+        end: ended!(1, 5),
         output: &[Part::Bytes(UNKNOWN_CODE)],
-        counts: &[],
+        ..EMPTY
     },
     Session {
         shows: "a length of 0 behind replies",
@@ -78,15 +58,14 @@ const EITHER_WAY: &[Session] = &[
         },
         end: Err(SessionFault::BadFrame(2)),
         output: &[Part::Bytes(STORED_AND_SHOWN), Part::Bytes(BAD_FRAME)],
-        counts: &[],
+        ..EMPTY
     },
     Session {
         shows: "too great a length",
         input: &[Part::Bytes(PING), Part::Bytes(b"\0\x10\0\x01")],
-        channel: PLAIN,
         end: Err(SessionFault::BadFrame(1)),
         output: &[Part::Bytes(PONG), Part::Bytes(FRAME_TOO_LARGE)],
-        counts: &[],
+        ..EMPTY
     },
     Session {
         shows: "a read that fails",
@@ -98,11 +77,10 @@ const EITHER_WAY: &[Session] = &[
         },
         end: Err(SessionFault::ReadFailed(1)),
         output: &[Part::Bytes(PONG)],
-        counts: &[],
+        ..EMPTY
     },
     Session {
         shows: "every second call is interrupted",
-        input: &[Part::Bytes(&REQUESTS)],
         channel: Channel {
             most: 3,
             troubles: &[
@@ -111,12 +89,7 @@ const EITHER_WAY: &[Session] = &[
             ],
             ..PLAIN
         },
-        end: Ok(Ended {
-            replies: 3,
-            rest: 0,
-        }),
-        output: &[Part::Bytes(&REPLIES)],
-        counts: &[],
+        ..ANSWERED
     },
 ];
 
@@ -136,7 +109,6 @@ fn a_connection_is_a_session(rt: HostRuntime) {
 const BLOCKED: &[Session] = &[
     Session {
         shows: "a byte a read, and every second call would wait",
-        input: &[Part::Bytes(&REQUESTS)],
         channel: Channel {
             pieces: (1, 1),
             most: 1,
@@ -146,12 +118,7 @@ const BLOCKED: &[Session] = &[
             ],
             ..PLAIN
         },
-        end: Ok(Ended {
-            replies: 3,
-            rest: 0,
-        }),
-        output: &[Part::Bytes(&REPLIES)],
-        counts: &[],
+        ..ANSWERED
     },
     Session {
         shows: "all replies wait for the writer, and the error behind them",
@@ -163,7 +130,7 @@ const BLOCKED: &[Session] = &[
         },
         end: Err(SessionFault::BadFrame(3)),
         output: &[Part::Bytes(&REPLIES), Part::Bytes(BAD_FRAME)],
-        counts: &[],
+        ..EMPTY
     },
 ];
 
@@ -184,12 +151,9 @@ const FLOOD: Session = Session {
         troubles: &[Trouble::Holds(Call::Write, 20_000)],
         ..PLAIN
     },
-    end: Ok(Ended {
-        replies: 20_000,
-        rest: 0,
-    }),
+    end: ended!(20_000, 0),
     output: &[Part::Times(20_000, PONG)],
-    counts: &[],
+    ..EMPTY
 };
 
 #[test]

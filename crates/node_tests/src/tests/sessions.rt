@@ -1,6 +1,7 @@
 //! What a session is given, and what comes of it.
 
-use crate::tests::streams::{Channel, Sink, Source};
+use crate::tests::frames::{REPLIES, REQUESTS};
+use crate::tests::streams::{Channel, PLAIN, Sink, Source};
 use node_session::{Ended, PlainNode, SessionFault, exit_status, serve};
 use std::alloc::{AllocError, Global};
 use std::cell::Cell;
@@ -63,12 +64,20 @@ pub struct Outcome<'o, 'c> {
     pub counts: &'c [Count],
 }
 
-/// A session that met the end of its input.
-pub fn ended(replies: u64, rest: usize) -> Result<Ended, SessionFault> {
-    Ok(Ended { replies, rest })
+// The end of a session that met the end of its input, with so many replies and so many bytes left.
+macro_rules! ended {
+    ($replies:expr, $rest:expr) => {
+        Ok(node_session::Ended {
+            replies: $replies,
+            rest: $rest,
+        })
+    };
 }
 
+pub(crate) use ended;
+
 /// A session on a new node.
+#[derive(Clone, Copy)]
 pub struct Session {
     pub shows: &'static str,
     pub input: &'static [Part],
@@ -77,6 +86,24 @@ pub struct Session {
     pub output: &'static [Part],
     pub counts: &'static [Count],
 }
+
+/// One that is given nothing. Rows say what is other.
+pub const EMPTY: Session = Session {
+    shows: "",
+    input: &[],
+    channel: PLAIN,
+    end: ended!(0, 0),
+    output: &[],
+    counts: &[],
+};
+
+/// One that is given the three requests, and answers them. Rows say what is other.
+pub const ANSWERED: Session = Session {
+    input: &[Part::Bytes(&REQUESTS)],
+    end: ended!(3, 0),
+    output: &[Part::Bytes(&REPLIES)],
+    ..EMPTY
+};
 
 /// Whether each count is as it should be.
 fn are_counted(

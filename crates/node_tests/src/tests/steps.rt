@@ -4,7 +4,7 @@ ghost use Rattle.pb_frame.specs.Limits.{max_request_len};
 ghost use Rattle.pb_frame.specs.Message.{IsPartial};
 ghost use Rattle.node_tests.specs.declared.tests.steps.Pause.TheVariants.{Idle};
 
-use crate::tests::frames::{PING, PONG, PUT_AND_GET, STORED_AND_SHOWN, UNKNOWN};
+use crate::tests::frames::{PING, PONG, PUT_AND_GET, STORED_AND_SHOWN, UNKNOWN, UNKNOWN_CODE};
 use node_session::{Halt, MAX_READ_LEN, Next, PlainNode, Session};
 use std::alloc::Global;
 
@@ -37,9 +37,6 @@ struct Row {
     /// How many bytes of it are sent at a time.
     most: usize,
 }
-
-/// The error `unknown message code`.
-const UNKNOWN_CODE: &[u8] = b"\0\0\0\x19\0\x0a\x14unknown message code\x10\x01";
 
 const ROWS: &[Row] = &[
     Row {

@@ -5,7 +5,7 @@ use crate::tests::frames::GET;
 use crate::tests::scripts::{Line, PING_PUT_GET, THREE_PUTS, replies_of, requests_of, shown_after};
 use crate::tests::sessions::{Count, Outcome, comes_to, ended};
 use crate::tests::streams::{Call, Channel, Trouble};
-use node_session::{PlainNode, SessionFault};
+use node_session::{Ended, PlainNode, SessionFault};
 use std::alloc::Global;
 use std::process::Abort;
 
@@ -104,56 +104,43 @@ struct Progress {
     asked: u64,
 }
 
-/// How far it comes where so many bytes of the requests were read.
-fn after_bytes(script: &[Line], bytes: u64) -> Progress {
-    let mut left = bytes;
-    let mut replies = 0u64;
-    let mut written = 0usize;
-    for line in script {
-        let len = line.request.len() as u64;
-        if left < len {
-            break;
-        }
-        left -= len;
-        replies = replies.saturating_add(1);
-        written = written.saturating_add(line.reply.len());
-    }
-    Progress {
-        replies,
-        written,
-        asked: replies,
-    }
-}
-
-/// How far it comes by so many writes of at most `most` bytes, where a write more fails: the next request was answered too.
-fn after_writes(script: &[Line], most: usize, writes: u64) -> Progress {
-    let most = most.max(1);
-    let mut left = writes;
-    let mut replies = 0u64;
-    let mut written = 0usize;
-    for line in script {
-        let needed = line.reply.len().div_ceil(most) as u64;
-        if left < needed {
-            written = written.saturating_add((left as usize).saturating_mul(most));
-            break;
-        }
-        left -= needed;
-        replies = replies.saturating_add(1);
-        written = written.saturating_add(line.reply.len());
-    }
-    Progress {
-        replies,
-        written,
-        asked: replies.saturating_add(1),
-    }
-}
-
+/// How far it comes by so many calls, where one more fails: by reads and flushes it has read so many pieces; and where a write fails,
+/// the next request was answered too.
 fn progress_at(row: &Stops, size: &Size, number: u64) -> Progress {
-    match row.call {
-        Call::Read | Call::Flush => {
-            after_bytes(row.script, number.saturating_mul(size.0 as u64))
+    let is_write = row.call == Call::Write;
+    let most = size.1.max(1);
+    let mut left = if is_write {
+        number
+    } else {
+        number.saturating_mul(size.0 as u64)
+    };
+    let mut replies = 0u64;
+    let mut written = 0usize;
+    for line in row.script {
+        let needed = if is_write {
+            line.reply.len().div_ceil(most)
+        } else {
+            line.request.len()
+        };
+        if left < needed as u64 {
+            if is_write {
+                written = written.saturating_add((left as usize).saturating_mul(most));
+            }
+            break;
         }
-        Call::Write => after_writes(row.script, size.1, number),
+        left -= needed as u64;
+        replies = replies.saturating_add(1);
+        written = written.saturating_add(line.reply.len());
+    }
+    let asked = if is_write {
+        replies.saturating_add(1)
+    } else {
+        replies
+    };
+    Progress {
+        replies,
+        written,
+        asked,
     }
 }
 
@@ -199,6 +186,40 @@ fn trouble_of(call: Call, failure: &Failure) -> Trouble {
     }
 }
 
+/// What comes of a session of a script.
+#[derive(Drop)]
+struct Ending<'c> {
+    end: Result<Ended, SessionFault>,
+    /// How many bytes of the replies go out.
+    written: usize,
+    counts: &'c [Count],
+}
+
+/// The session comes to this where that call fails.
+fn comes_to_ending(
+    alloc: Global,
+    node: &mut PlainNode,
+    row: &Stops,
+    size: &Size,
+    failure: &Failure,
+    ending: &Ending,
+) -> bool {
+    let (Ok(input), Ok(replies)) = (
+        requests_of(alloc, row.script),
+        replies_of(alloc, row.script),
+    ) else {
+        return false;
+    };
+    let outcome = Outcome {
+        end: ending.end,
+        output: replies.get(..ending.written).unwrap_or(&[]),
+        counts: ending.counts,
+    };
+    let troubles = [trouble_of(row.call, failure)];
+    let channel = channel_of(row, size, failure.number, &troubles);
+    comes_to(alloc, node, &input, &channel, &outcome)
+}
+
 /// A session that stops at this call has answered what came before.
 fn stops_at(
     alloc: Global,
@@ -207,47 +228,31 @@ fn stops_at(
     size: &Size,
     failure: &Failure,
 ) -> bool {
-    let (Ok(input), Ok(replies)) = (
-        requests_of(alloc, row.script),
-        replies_of(alloc, row.script),
-    ) else {
-        return false;
-    };
     let number = u64::from(failure.number);
     let progress = progress_at(row, size, number);
     let (fault, reads) = stop_of(row, number, progress.replies);
     let counts = [Count::Reads(reads), Count::FlushesOverReads(1)];
     let counted = if row.is_bounded { 2 } else { 1 };
-    let outcome = Outcome {
+    let ending = Ending {
         end: Err(fault),
-        output: replies.get(..progress.written).unwrap_or(&[]),
+        written: progress.written,
         counts: &counts[..counted],
     };
-    let troubles = [trouble_of(row.call, failure)];
-    let channel = channel_of(row, size, failure.number, &troubles);
-    comes_to(alloc, node, &input, &channel, &outcome)
+    comes_to_ending(alloc, node, row, size, failure, &ending)
 }
 
 /// The session meets no trouble where the call of the number behind its last fails.
 fn ends_before(alloc: Global, node: &mut PlainNode, row: &Stops, size: &Size) -> bool {
-    let (Ok(input), Ok(replies)) = (
-        requests_of(alloc, row.script),
-        replies_of(alloc, row.script),
-    ) else {
-        return false;
-    };
     let failure = Failure {
         number: size.2,
         lasts: true,
     };
-    let outcome = Outcome {
-        end: ended(row.script.len() as u64, 0),
-        output: &replies,
+    let ending = Ending {
+        end: ended!(row.script.len() as u64, 0),
+        written: progress_at(row, size, u64::MAX).written,
         counts: &[],
     };
-    let troubles = [trouble_of(row.call, &failure)];
-    let channel = channel_of(row, size, size.2, &troubles);
-    comes_to(alloc, node, &input, &channel, &outcome)
+    comes_to_ending(alloc, node, row, size, &failure, &ending)
 }
 
 /// What a get shows in another session says which requests were answered.

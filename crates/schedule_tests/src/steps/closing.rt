@@ -1,7 +1,9 @@
 //! Schedules with closers: what is possible and what isn't, and who finds the fallback closed.
 
-use crate::messages::{ABSENT, DELETE, DELETED, GET, PUT_V, SHOWS_BOTH, SHOWS_V, STORED};
-use crate::steps::handing::{CLOSE, COPY, DIVERT, LEFT_ONE, Schedule, WRITE, WRITE_J, plays};
+use crate::messages::{ABSENT, DELETE, DELETED, GET, PUT_J, PUT_V, SHOWS_BOTH, SHOWS_V, STORED};
+use crate::steps::parts::{
+    CLOSE, COPY, DIVERT, Schedule, WRITE, all_play, finds_left, reads, writes,
+};
 use crate::steps::playing::{Act, Wanted};
 use Act::{Ask, Close, Copy, Divert, Enter, Leave, Look, Mark, Publish, Put, Reap, Take, Unmark};
 use Wanted::{Done, Elsewhere, Left, No, Reply};
@@ -91,13 +93,8 @@ const SCHEDULES: &[Schedule] = &[
             WRITE,
             COPY,
             CLOSE,
-            &[
-                (Ask(1, 0, GET), Done),
-                (Enter(1), Done),
-                (Look(1), Reply(SHOWS_BOTH)),
-                (Leave(1), Done),
-                (Reap(1, 0), Done),
-            ],
+            reads!(SHOWS_BOTH),
+            &[(Reap(1, 0), Done)],
         ],
     },
     // Two keys are left, then one, then b/k again, since it was written after it was copied, and again, since it was deleted.
@@ -108,24 +105,17 @@ const SCHEDULES: &[Schedule] = &[
         parts: &[
             DIVERT,
             WRITE,
-            WRITE_J,
-            &[
-                (Close(2, 0), Done),
-                (Take(2), Done),
-                (Enter(2), Done),
-                (Look(2), Left(2)),
-                (Leave(2), Done),
-                (Put(2), Done),
-            ],
+            writes!(1, PUT_J, STORED),
+            finds_left!(2),
             COPY,
-            LEFT_ONE,
+            finds_left!(1),
         ],
     },
     Schedule {
         shows: "a key that is written after it was copied is left",
         workers: 2,
         vnodes: 1,
-        parts: &[DIVERT, WRITE, COPY, WRITE, LEFT_ONE, COPY, CLOSE],
+        parts: &[DIVERT, WRITE, COPY, WRITE, finds_left!(1), COPY, CLOSE],
     },
     Schedule {
         shows: "a key that is deleted after it was copied is left",
@@ -135,14 +125,8 @@ const SCHEDULES: &[Schedule] = &[
             DIVERT,
             WRITE,
             COPY,
-            &[
-                (Ask(1, 0, DELETE), Done),
-                (Take(1), Done),
-                (Look(1), Done),
-                (Publish(1), Reply(DELETED)),
-                (Put(1), Done),
-            ],
-            LEFT_ONE,
+            writes!(1, DELETE, DELETED),
+            finds_left!(1),
             COPY,
             CLOSE,
         ],
@@ -214,11 +198,8 @@ const SCHEDULES: &[Schedule] = &[
                 (Look(1), Done),
                 (Publish(1), Reply(STORED)),
                 (Put(1), Done),
-                (Ask(1, 0, GET), Done),
-                (Enter(1), Done),
-                (Look(1), Reply(SHOWS_V)),
-                (Leave(1), Done),
             ],
+            reads!(SHOWS_V),
         ],
     },
     Schedule {
@@ -275,7 +256,5 @@ const SCHEDULES: &[Schedule] = &[
 
 #[test]
 fn each_step_of_a_closer_comes_to_its_outcome(rt: HostRuntime) {
-    for row in SCHEDULES {
-        assert!(rt; plays(rt.alloc(), row), "{}", row.shows);
-    }
+    all_play(&rt, rt.alloc(), SCHEDULES);
 }

@@ -1,19 +1,13 @@
 //! Schedules with copiers, and one in which a copy is stuck.
 
 use crate::messages::{GET, PUT_V, STORED};
-use crate::steps::playing::{Act, Wanted, come_to, comes_to, world_of};
+use crate::steps::parts::{DIVERT, Schedule, WRITE, all_play};
+use crate::steps::playing::{Act, Wanted, come_to, world_of};
 use Act::{Ask, Copy, Divert, Enter, Leave, Look, Mark, Publish, Put, Take};
 use Wanted::{Copied, Done, Kept, No, Reply, Stuck};
 use node_steps::World;
 use std::alloc::Global;
 use std::process::Abort;
-
-/// Steps of a world of one partition, each with what comes of it.
-struct Schedule {
-    shows: &'static str,
-    workers: u16,
-    steps: &'static [(Act, Wanted)],
-}
 
 const SCHEDULES: &[Schedule] = &[
     // Nothing is copied before the partition is diverted, nor twice at once by one worker. A copier enters, looks, takes, looks,
@@ -21,7 +15,8 @@ const SCHEDULES: &[Schedule] = &[
     Schedule {
         shows: "each line of a copier, and those that aren't possible",
         workers: 1,
-        steps: &[
+        vnodes: 1,
+        parts: &[&[
             (Copy(1, 0), No),
             (Divert(0), Done),
             (Copy(1, 1), No),
@@ -61,21 +56,24 @@ const SCHEDULES: &[Schedule] = &[
             (Leave(1), Done),
             (Leave(1), No),
             (Ask(1, 0, GET), Done),
-        ],
+        ]],
     },
     Schedule {
         shows: "a key that the fallback doesn't hold is kept",
         workers: 1,
-        steps: &[
-            (Divert(0), Done),
-            (Copy(1, 0), Done),
-            (Enter(1), Done),
-            (Look(1), Kept),
-            (Look(1), No),
-            (Take(1), No),
-            (Put(1), No),
-            (Leave(1), Done),
-            (Leave(1), No),
+        vnodes: 1,
+        parts: &[
+            DIVERT,
+            &[
+                (Copy(1, 0), Done),
+                (Enter(1), Done),
+                (Look(1), Kept),
+                (Look(1), No),
+                (Take(1), No),
+                (Put(1), No),
+                (Leave(1), Done),
+                (Leave(1), No),
+            ],
         ],
     },
     // 1 marks, so that the copier can't enter, and takes; the copier can't enter while it is taken. Then the copier is inside, and
@@ -83,87 +81,70 @@ const SCHEDULES: &[Schedule] = &[
     Schedule {
         shows: "a copier and a writer",
         workers: 2,
-        steps: &[
-            (Divert(0), Done),
-            (Copy(2, 0), Done),
-            (Ask(1, 0, PUT_V), Done),
-            (Mark(1), Done),
-            (Enter(2), No),
-            (Take(1), Done),
-            (Enter(2), No),
-            (Look(1), Done),
-            (Publish(1), Reply(STORED)),
-            (Put(1), Done),
-            (Enter(2), Done),
-            (Ask(1, 0, PUT_V), Done),
-            (Take(1), No),
-            (Look(2), Done),
-            (Take(2), Done),
-            (Take(1), No),
-            (Look(2), Done),
-            (Publish(2), Copied),
-            (Put(2), Done),
-            (Take(1), No),
-            (Leave(2), Done),
-            (Take(1), Done),
+        vnodes: 1,
+        parts: &[
+            DIVERT,
+            &[
+                (Copy(2, 0), Done),
+                (Ask(1, 0, PUT_V), Done),
+                (Mark(1), Done),
+                (Enter(2), No),
+                (Take(1), Done),
+                (Enter(2), No),
+                (Look(1), Done),
+                (Publish(1), Reply(STORED)),
+                (Put(1), Done),
+                (Enter(2), Done),
+                (Ask(1, 0, PUT_V), Done),
+                (Take(1), No),
+                (Look(2), Done),
+                (Take(2), Done),
+                (Take(1), No),
+                (Look(2), Done),
+                (Publish(2), Copied),
+                (Put(2), Done),
+                (Take(1), No),
+                (Leave(2), Done),
+                (Take(1), Done),
+            ],
         ],
     },
     // Both have the key's clock; the second finds the first one's copy at the primary, and its own changes nothing.
     Schedule {
         shows: "two copiers of one key",
         workers: 2,
-        steps: &[
-            (Divert(0), Done),
-            (Ask(1, 0, PUT_V), Done),
-            (Take(1), Done),
-            (Look(1), Done),
-            (Publish(1), Reply(STORED)),
-            (Put(1), Done),
-            (Copy(1, 0), Done),
-            (Copy(2, 0), Done),
-            (Enter(1), Done),
-            (Enter(2), Done),
-            (Look(1), Done),
-            (Look(2), Done),
-            (Take(1), Done),
-            (Take(2), No),
-            (Look(1), Done),
-            (Publish(1), Copied),
-            (Take(2), No),
-            (Put(1), Done),
-            (Take(2), Done),
-            (Look(2), Done),
-            (Publish(2), Copied),
-            (Put(2), Done),
-            (Leave(2), Done),
-            (Leave(1), Done),
+        vnodes: 1,
+        parts: &[
+            DIVERT,
+            WRITE,
+            &[
+                (Copy(1, 0), Done),
+                (Copy(2, 0), Done),
+                (Enter(1), Done),
+                (Enter(2), Done),
+                (Look(1), Done),
+                (Look(2), Done),
+                (Take(1), Done),
+                (Take(2), No),
+                (Look(1), Done),
+                (Publish(1), Copied),
+                (Take(2), No),
+                (Put(1), Done),
+                (Take(2), Done),
+                (Look(2), Done),
+                (Publish(2), Copied),
+                (Put(2), Done),
+                (Leave(2), Done),
+                (Leave(1), Done),
+            ],
         ],
     },
 ];
 
-/// Whether a row holds.
-fn plays(alloc: Global, row: &Schedule) -> bool {
-    match world_of(alloc, row.workers, 1) {
-        Ok(mut world) => come_to(&mut world, alloc, row.steps),
-        Err(_) => false,
-    }
-}
-
 #[test]
 fn each_step_of_a_copier_comes_to_its_outcome(rt: HostRuntime) {
-    for row in SCHEDULES {
-        assert!(rt; plays(rt.alloc(), row), "{}", row.shows);
-    }
+    all_play(&rt, rt.alloc(), SCHEDULES);
 }
-
-/// A put of "v" without context, to where the calls go.
-const WRITE: &[(Act, Wanted)] = &[
-    (Ask(1, 0, PUT_V), Done),
-    (Take(1), Done),
-    (Look(1), Done),
-    (Publish(1), Reply(STORED)),
-    (Put(1), Done),
-];
 
 /// A copier that finds its copy stuck has the primary's state still to put back, and then to leave.
 const STUCK: &[(Act, Wanted)] = &[
@@ -195,7 +176,7 @@ fn sticks(alloc: Global) -> bool {
     match world_of(alloc, 1, 1) {
         Ok(mut world) => {
             writes(&mut world, alloc, 33)
-                && comes_to(&mut world, alloc, &Divert(0), &Done)
+                && come_to(&mut world, alloc, DIVERT)
                 && writes(&mut world, alloc, 32)
                 && come_to(&mut world, alloc, STUCK)
         }

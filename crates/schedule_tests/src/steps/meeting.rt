@@ -3,7 +3,7 @@
 use crate::messages::{
     ABSENT, GET, PUT_V, SHOWS_THREE, SHOWS_V_AT_FALLBACK, SHOWS_V_AT_SECOND, STORED,
 };
-use crate::steps::handing::{CLOSE, COPY, DIVERT, LEFT_ONE, Schedule, WRITE, plays};
+use crate::steps::parts::{CLOSE, COPY, DIVERT, Schedule, WRITE, all_play, finds_left, reads};
 use crate::steps::playing::{Act, Wanted};
 use Act::{Ask, Close, Copy, Divert, Enter, Leave, Look, Mark, Publish, Put, Take, Unmark};
 use Wanted::{Copied, Done, Elsewhere, Left, No, Reply};
@@ -227,29 +227,14 @@ const AGAIN: &[Schedule] = &[
             COPY,
             CLOSE,
             DIVERT,
-            &[
-                (Divert(0), No),
-                (Ask(1, 0, GET), Done),
-                (Enter(1), Done),
-                (Look(1), Reply(ABSENT)),
-                (Leave(1), Done),
-            ],
+            &[(Divert(0), No)],
+            reads!(ABSENT),
             WRITE,
-            &[
-                (Ask(1, 0, GET), Done),
-                (Enter(1), Done),
-                (Look(1), Reply(SHOWS_V_AT_SECOND)),
-                (Leave(1), Done),
-            ],
-            LEFT_ONE,
+            reads!(SHOWS_V_AT_SECOND),
+            finds_left!(1),
             COPY,
             CLOSE,
-            &[
-                (Ask(1, 0, GET), Done),
-                (Enter(1), Done),
-                (Look(1), Reply(SHOWS_THREE)),
-                (Leave(1), Done),
-            ],
+            reads!(SHOWS_THREE),
         ],
     },
     // The first fallback gave no epoch, so that the second begins with 1.
@@ -257,18 +242,7 @@ const AGAIN: &[Schedule] = &[
         shows: "epochs that weren't given are given by the next fallback",
         workers: 2,
         vnodes: 1,
-        parts: &[
-            DIVERT,
-            CLOSE,
-            DIVERT,
-            WRITE,
-            &[
-                (Ask(1, 0, GET), Done),
-                (Enter(1), Done),
-                (Look(1), Reply(SHOWS_V_AT_FALLBACK)),
-                (Leave(1), Done),
-            ],
-        ],
+        parts: &[DIVERT, CLOSE, DIVERT, WRITE, reads!(SHOWS_V_AT_FALLBACK)],
     },
     // Partition 1 is closed and diverted again; partition 0 stays diverted.
     Schedule {
@@ -298,14 +272,10 @@ const AGAIN: &[Schedule] = &[
 
 #[test]
 fn a_closer_and_others_come_to_their_outcomes(rt: HostRuntime) {
-    for row in BESIDE {
-        assert!(rt; plays(rt.alloc(), row), "{}", row.shows);
-    }
+    all_play(&rt, rt.alloc(), BESIDE);
 }
 
 #[test]
 fn diversions_follow_one_another(rt: HostRuntime) {
-    for row in AGAIN {
-        assert!(rt; plays(rt.alloc(), row), "{}", row.shows);
-    }
+    all_play(&rt, rt.alloc(), AGAIN);
 }

@@ -3,6 +3,7 @@
 use crate::messages::{
     ABSENT, DELETE, DELETED, GET, PING, PUT_V, SHOWS_V, SHOWS_V_AT_FALLBACK, STORED,
 };
+use crate::steps::parts::{DIVERT, Schedule, WRITE, all_play, reads, writes};
 use crate::steps::playing::{Act, Wanted, comes_to, world_of};
 use Act::{Ask, Divert, Enter, Leave, Look, Mark, Publish, Put, Reap, Take, Unmark};
 use Wanted::{Done, Kept, No, Reaped, Reply};
@@ -11,14 +12,6 @@ use std::alloc::{AllocError, Global};
 use std::process::Abort;
 use std::test::Fail;
 
-/// Steps of a world, each with what comes of it.
-struct Schedule {
-    shows: &'static str,
-    workers: u16,
-    vnodes: u16,
-    steps: &'static [(Act, Wanted)],
-}
-
 const SCHEDULES: &[Schedule] = &[
     // 1 reads while 2 waits to write and 3 to read: 2 marks the word, so that 3 can't enter, and can't take the state while 1
     // is inside. 1 is shown that the key is absent. Once 2 has written "v" and put the state back, 3 is shown it.
@@ -26,7 +19,7 @@ const SCHEDULES: &[Schedule] = &[
         shows: "readers and a writer",
         workers: 3,
         vnodes: 1,
-        steps: &[
+        parts: &[&[
             (Ask(1, 0, GET), Done),
             (Ask(2, 0, PUT_V), Done),
             (Ask(3, 0, GET), Done),
@@ -44,7 +37,7 @@ const SCHEDULES: &[Schedule] = &[
             (Enter(3), Done),
             (Look(3), Reply(SHOWS_V)),
             (Leave(3), Done),
-        ],
+        ]],
     },
     // A worker holds one vnode while another writes at the other: no vnode is in the other's way, and a key is that of its
     // vnode alone.
@@ -52,19 +45,16 @@ const SCHEDULES: &[Schedule] = &[
         shows: "two vnodes apart",
         workers: 2,
         vnodes: 2,
-        steps: &[
-            (Ask(1, 1, GET), Done),
-            (Take(1), Done),
-            (Ask(2, 0, PUT_V), Done),
-            (Take(2), Done),
-            (Look(2), Done),
-            (Publish(2), Reply(STORED)),
-            (Put(2), Done),
-            (Look(1), Reply(ABSENT)),
-            (Put(1), Done),
-            (Ask(1, 0, GET), Done),
-            (Enter(1), Done),
-            (Look(1), Reply(SHOWS_V)),
+        parts: &[
+            &[(Ask(1, 1, GET), Done), (Take(1), Done)],
+            writes!(2, PUT_V, STORED),
+            &[
+                (Look(1), Reply(ABSENT)),
+                (Put(1), Done),
+                (Ask(1, 0, GET), Done),
+                (Enter(1), Done),
+                (Look(1), Reply(SHOWS_V)),
+            ],
         ],
     },
     // The next holder can't publish it, and its own worker looks again.
@@ -72,7 +62,7 @@ const SCHEDULES: &[Schedule] = &[
         shows: "a plan ends with its put back",
         workers: 2,
         vnodes: 1,
-        steps: &[
+        parts: &[&[
             (Ask(1, 0, PUT_V), Done),
             (Take(1), Done),
             (Look(1), Done),
@@ -86,36 +76,32 @@ const SCHEDULES: &[Schedule] = &[
             (Publish(1), No),
             (Look(1), Done),
             (Publish(1), Reply(STORED)),
-        ],
+        ]],
     },
     // A key that has a value is kept; once it is deleted its tombstone is reaped, and then it is absent.
     Schedule {
         shows: "a dead key is reaped",
         workers: 1,
         vnodes: 1,
-        steps: &[
-            (Ask(1, 0, PUT_V), Done),
-            (Take(1), Done),
-            (Look(1), Done),
-            (Publish(1), Reply(STORED)),
-            (Put(1), Done),
-            (Reap(1, 0), Done),
-            (Take(1), Done),
-            (Look(1), Kept),
-            (Put(1), Done),
-            (Ask(1, 0, DELETE), Done),
-            (Take(1), Done),
-            (Look(1), Done),
-            (Publish(1), Reply(DELETED)),
-            (Put(1), Done),
-            (Reap(1, 0), Done),
-            (Take(1), Done),
-            (Look(1), Done),
-            (Publish(1), Reaped),
-            (Put(1), Done),
-            (Ask(1, 0, GET), Done),
-            (Take(1), Done),
-            (Look(1), Reply(ABSENT)),
+        parts: &[
+            WRITE,
+            &[
+                (Reap(1, 0), Done),
+                (Take(1), Done),
+                (Look(1), Kept),
+                (Put(1), Done),
+            ],
+            writes!(1, DELETE, DELETED),
+            &[
+                (Reap(1, 0), Done),
+                (Take(1), Done),
+                (Look(1), Done),
+                (Publish(1), Reaped),
+                (Put(1), Done),
+                (Ask(1, 0, GET), Done),
+                (Take(1), Done),
+                (Look(1), Reply(ABSENT)),
+            ],
         ],
     },
     // There is no worker 0 and no worker 3 of two, and no vnode 1 of one.
@@ -123,7 +109,7 @@ const SCHEDULES: &[Schedule] = &[
         shows: "nobody is asked a ping; who has a call gets no other",
         workers: 2,
         vnodes: 1,
-        steps: &[
+        parts: &[&[
             (Ask(1, 0, PING), No),
             (Ask(0, 0, GET), No),
             (Ask(3, 0, GET), No),
@@ -133,7 +119,7 @@ const SCHEDULES: &[Schedule] = &[
             (Enter(0), No),
             (Enter(3), No),
             (Look(2), No),
-        ],
+        ]],
     },
     // A put doesn't enter as a reader; nobody leaves, puts back or looks from outside; a word is marked once; and a state
     // that is taken can be neither entered, marked nor taken.
@@ -141,7 +127,7 @@ const SCHEDULES: &[Schedule] = &[
         shows: "what a phase and a word refuse",
         workers: 2,
         vnodes: 1,
-        steps: &[
+        parts: &[&[
             (Ask(1, 0, PUT_V), Done),
             (Enter(1), No),
             (Leave(1), No),
@@ -158,35 +144,20 @@ const SCHEDULES: &[Schedule] = &[
             (Enter(2), No),
             (Mark(2), No),
             (Take(2), No),
-        ],
+        ]],
     },
     // What the primary has isn't shown then; "v" at the fallback has the fallback's first dot. No step ends a diversion.
     Schedule {
         shows: "a partition is diverted once, and its calls go to the fallback",
         workers: 1,
         vnodes: 1,
-        steps: &[
-            (Ask(1, 0, PUT_V), Done),
-            (Take(1), Done),
-            (Look(1), Done),
-            (Publish(1), Reply(STORED)),
-            (Put(1), Done),
-            (Divert(0), Done),
-            (Divert(0), No),
-            (Ask(1, 0, GET), Done),
-            (Enter(1), Done),
-            (Look(1), Reply(ABSENT)),
-            (Leave(1), Done),
-            (Ask(1, 0, PUT_V), Done),
-            (Take(1), Done),
-            (Look(1), Done),
-            (Publish(1), Reply(STORED)),
-            (Put(1), Done),
-            (Ask(1, 0, GET), Done),
-            (Enter(1), Done),
-            (Look(1), Reply(SHOWS_V_AT_FALLBACK)),
-            (Leave(1), Done),
-            (Divert(0), No),
+        parts: &[
+            WRITE,
+            &[(Divert(0), Done), (Divert(0), No)],
+            reads!(ABSENT),
+            WRITE,
+            reads!(SHOWS_V_AT_FALLBACK),
+            &[(Divert(0), No)],
         ],
     },
     // The worker is asked, reading, and answered inside as a reader; then asked, holding without a plan and with one, and
@@ -195,7 +166,7 @@ const SCHEDULES: &[Schedule] = &[
         shows: "a partition isn't diverted while a worker has a call there",
         workers: 1,
         vnodes: 1,
-        steps: &[
+        parts: &[&[
             (Ask(1, 0, GET), Done),
             (Divert(0), No),
             (Enter(1), Done),
@@ -212,14 +183,14 @@ const SCHEDULES: &[Schedule] = &[
             (Divert(0), No),
             (Put(1), Done),
             (Divert(0), Done),
-        ],
+        ]],
     },
     // Worker 1 reads in partition 1 meanwhile. There is no partition 2. The two fallbacks are apart.
     Schedule {
         shows: "the other partitions are as before",
         workers: 2,
         vnodes: 2,
-        steps: &[
+        parts: &[&[
             (Ask(1, 1, GET), Done),
             (Enter(1), Done),
             (Divert(0), Done),
@@ -246,32 +217,13 @@ const SCHEDULES: &[Schedule] = &[
             (Ask(1, 0, GET), Done),
             (Enter(1), Done),
             (Look(1), Reply(SHOWS_V_AT_FALLBACK)),
-        ],
+        ]],
     },
 ];
 
-fn come_to(world: &mut World, alloc: Global, steps: &[(Act, Wanted)]) -> bool {
-    for (act, wanted) in steps {
-        if !comes_to(world, alloc, act, wanted) {
-            return false;
-        }
-    }
-    true
-}
-
-/// Whether a row holds.
-fn plays(alloc: Global, row: &Schedule) -> bool {
-    match world_of(alloc, row.workers, row.vnodes) {
-        Ok(mut world) => come_to(&mut world, alloc, row.steps),
-        Err(_) => false,
-    }
-}
-
 #[test]
 fn each_step_comes_to_its_outcome(rt: HostRuntime) {
-    for row in SCHEDULES {
-        assert!(rt; plays(rt.alloc(), row), "{}", row.shows);
-    }
+    all_play(&rt, rt.alloc(), SCHEDULES);
 }
 
 fn let_go(_outcomes: Result<Vec<Outcome>, StepFault>) {}

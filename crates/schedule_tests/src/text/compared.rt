@@ -32,12 +32,6 @@ pub(crate) const DELETE_V: Message = Message {
     body: b"\x0a\x01b\x12\x01k\x22\x11\x01\0\0\0\0\0\x01\0\0\0\0\0\x01\0\0\0\x01",
 };
 
-/// A put of "v" in the place of b/k that is named j.
-pub(crate) const PUT_V_AT_J: Message = Message {
-    code: 11,
-    body: b"\x0a\x01b\x12\x01j\x22\x03\x0a\x01v",
-};
-
 /// A get of b/j.
 pub(crate) const GET_J: Message = Message {
     code: 9,

@@ -1,7 +1,8 @@
 //! Runs that are compared with a plain register. Where memory was refused in a run, it is made again from its start.
 
 use crate::messages::{
-    ABSENT, DELETE, DELETED, GET, Message, PUT_V, SHOWS_V, STORED, reply_again, request_again,
+    ABSENT, DELETE, DELETED, GET, Message, PUT_J, PUT_V, SHOWS_V, STORED, reply_again,
+    request_again,
 };
 use crate::text::compared::*;
 use riak_msgs::{Key, MsgFault, Reply, Request};
@@ -128,7 +129,7 @@ const RUNS: &[Run] = &[
     Run {
         shows: "a context that was shown for another key isn't known for this one",
         events: &[
-            Answer(1, PUT_V_AT_J, STORED),
+            Answer(1, PUT_J, STORED),
             Answer(2, GET_J, SHOWS_V),
             Answer(3, PUT_V, STORED),
             Is(Verdict::Equal),

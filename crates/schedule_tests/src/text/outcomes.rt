@@ -1,6 +1,7 @@
 //! The lines that outcomes and verdicts are written as.
 
 use crate::messages::{ABSENT, DELETED, Message, SHOWS_V, STORED, reply_again};
+use crate::text::compared::MATCH_FOUND;
 use riak_msgs::{MsgFault, Reply};
 use schedule_text::*;
 use std::alloc::{AllocError, Global};
@@ -105,13 +106,7 @@ const WRITTEN_LINES: &[WrittenLine] = &[
     },
     WrittenLine {
         shows: "the error message of a refusal",
-        of: Written::Reply(
-            2,
-            Message {
-                code: 0,
-                body: b"\x0a\x0bmatch_found\x10\x01",
-            },
-        ),
+        of: Written::Reply(2, MATCH_FOUND),
         line: "2 reply 000a0b6d617463685f666f756e641001\n",
     },
     WrittenLine {
@@ -139,7 +134,7 @@ fn is_line(written: &Result<Vec<u8>, AllocError>, line: &str) -> bool {
 }
 
 /// Writes an outcome, and a second time where memory was refused.
-fn writes_outcome(alloc: Global, number: u64, outcome: StepOutcome<'_>, line: &str) -> bool {
+fn writes_outcome(alloc: Global, number: u64, outcome: LineOutcome<'_>, line: &str) -> bool {
     let mut written = write_outcome(alloc, number, outcome);
     if written.is_err() {
         written = write_outcome(alloc, number, outcome);
@@ -160,7 +155,7 @@ fn let_go(_reply: Result<Reply, MsgFault>) {}
 
 fn writes_read(alloc: Global, number: u64, reply: &Result<Reply, MsgFault>, line: &str) -> bool {
     match reply {
-        Ok(reply) => writes_outcome(alloc, number, StepOutcome::Reply(reply), line),
+        Ok(reply) => writes_outcome(alloc, number, LineOutcome::Reply(reply), line),
         Err(_) => false,
     }
 }
@@ -175,17 +170,17 @@ fn writes_reply(alloc: Global, number: u64, message: &Message, line: &str) -> bo
 /// Whether a row holds.
 fn writes(alloc: Global, row: &WrittenLine) -> bool {
     match &row.of {
-        Written::Done(number) => writes_outcome(alloc, *number, StepOutcome::Done, row.line),
-        Written::No(number) => writes_outcome(alloc, *number, StepOutcome::No, row.line),
-        Written::Reaped(number) => writes_outcome(alloc, *number, StepOutcome::Reaped, row.line),
-        Written::Kept(number) => writes_outcome(alloc, *number, StepOutcome::Kept, row.line),
-        Written::Copied(number) => writes_outcome(alloc, *number, StepOutcome::Copied, row.line),
-        Written::Stuck(number) => writes_outcome(alloc, *number, StepOutcome::Stuck, row.line),
+        Written::Done(number) => writes_outcome(alloc, *number, LineOutcome::Done, row.line),
+        Written::No(number) => writes_outcome(alloc, *number, LineOutcome::No, row.line),
+        Written::Reaped(number) => writes_outcome(alloc, *number, LineOutcome::Reaped, row.line),
+        Written::Kept(number) => writes_outcome(alloc, *number, LineOutcome::Kept, row.line),
+        Written::Copied(number) => writes_outcome(alloc, *number, LineOutcome::Copied, row.line),
+        Written::Stuck(number) => writes_outcome(alloc, *number, LineOutcome::Stuck, row.line),
         Written::Elsewhere(number) => {
-            writes_outcome(alloc, *number, StepOutcome::Elsewhere, row.line)
+            writes_outcome(alloc, *number, LineOutcome::Elsewhere, row.line)
         }
         Written::Left(number, keys) => {
-            writes_outcome(alloc, *number, StepOutcome::Left(*keys), row.line)
+            writes_outcome(alloc, *number, LineOutcome::Left(*keys), row.line)
         }
         Written::Reply(number, message) => writes_reply(alloc, *number, message, row.line),
         Written::Verdict(verdict) => writes_verdict(alloc, *verdict, row.line),

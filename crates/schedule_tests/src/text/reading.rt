@@ -155,11 +155,11 @@ fn is_request(request: &Request, asks: &Asks) -> bool {
     }
 }
 
-fn is_action(action: &Action, asks: &Asks) -> bool {
+fn is_action(action: &LineAction, asks: &Asks) -> bool {
     match (action, asks) {
-        (Action::Ask(request), _) => is_request(request, asks),
-        (Action::Key(found, key), Asks::Key(step)) => *found == *step && is_key(key),
-        (Action::Gate(found), Gate(step)) => *found == *step,
+        (LineAction::Ask(request), _) => is_request(request, asks),
+        (LineAction::Key(found, key), Asks::Key(step)) => *found == *step && is_key(key),
+        (LineAction::Gate(found), Gate(step)) => *found == *step,
         _ => false,
     }
 }

@@ -11,33 +11,46 @@ use std::test::*;
 use std::thread;
 use std::thread::Threads;
 
-// The source gives two jobs and then fails. The run ends by that fault, and the source is as its last call left it.
-#[test]
-fn jobs_fail_at_the_third(rt: HostRuntime) -> Result<(), Fail> {
-    let mut source = Numbers {
-        next: 7,
-        left: 2,
-        fails: true,
-    };
-    let fault = doubled(&rt, rt.alloc(), &mut source, 2).err();
-    assert!(rt; fault == Some(RunFault::JobsFailed));
-    assert_eq!(rt; source.next, 9);
-    assert_eq!(rt; source.left, 0);
-    Ok(())
+/// A source that fails behind so many jobs, of which the first is 7.
+struct Fault {
+    shows: &'static str,
+    jobs: u32,
+    workers: u16,
+    /// The number behind the last job.
+    next: u32,
 }
 
-// The source fails before it gives a job.
-#[test]
-fn jobs_fail_at_once(rt: HostRuntime) -> Result<(), Fail> {
+const FAULTS: &[Fault] = &[
+    Fault {
+        shows: "jobs fail at the third",
+        jobs: 2,
+        workers: 2,
+        next: 9,
+    },
+    Fault {
+        shows: "jobs fail before there is one",
+        jobs: 0,
+        workers: 4,
+        next: 7,
+    },
+];
+
+/// Whether the run ends by the source's fault, and the source is as its last call left it.
+fn fails<T: Threads + Wait + Sync>(rt: &T, alloc: Global, row: &Fault) -> bool {
     let mut source = Numbers {
         next: 7,
-        left: 0,
+        left: row.jobs,
         fails: true,
     };
-    let fault = doubled(&rt, rt.alloc(), &mut source, 4).err();
-    assert!(rt; fault == Some(RunFault::JobsFailed));
-    assert_eq!(rt; source.next, 7);
-    Ok(())
+    let fault = doubled(rt, alloc, &mut source, row.workers).err();
+    fault == Some(RunFault::JobsFailed) && source.next == row.next && source.left == 0
+}
+
+#[test]
+fn a_source_that_fails_ends_the_run(rt: HostRuntime) {
+    for row in FAULTS {
+        assert!(rt; fails(&rt, rt.alloc(), row), "{}", row.shows);
+    }
 }
 
 /// Gives numbers, and says so before it fails.

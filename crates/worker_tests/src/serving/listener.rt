@@ -58,17 +58,19 @@ impl<'a> OpenListener for Failing<'a> {
     }
 }
 
-/// A listener of this machine, if there is one.
-pub fn new_listener<N: Net<Listener = TcpListener, Stream = TcpStream>>(
-    net: &N,
-) -> Option<TcpListener> {
-    TcpListener::bind(net, "127.0.0.1:0").ok()
-}
-
 /// The port that a listener listens on.
-pub fn port_of(listener: &TcpListener) -> Option<u16> {
+fn port_of(listener: &TcpListener) -> Option<u16> {
     match listener.local_addr() {
         Ok(address) => Some(address.port()),
         Err(_) => None,
     }
+}
+
+/// A listener of this machine, and its port.
+pub fn listen<N: Net<Listener = TcpListener, Stream = TcpStream>>(
+    net: &N,
+) -> Option<(TcpListener, u16)> {
+    let listener = TcpListener::bind(net, "127.0.0.1:0").ok()?;
+    let port = port_of(&listener)?;
+    Some((listener, port))
 }

@@ -1,10 +1,11 @@
 //! Runs that serve all their connections, and their clients beside them.
+use crate::exchanges::{GET, NOTHING_ACCEPTED, PUT_V, STORED};
 use crate::serving::clients::{Action, Step, take_all};
 use crate::serving::listener::{
     ABORTED, Failing, Failures, NO_BUFFER, NO_FAILURES, NO_MEMORY, NO_PROCESS_DESCRIPTOR,
-    NO_ROUTE_TO_HOST, NO_SYSTEM_DESCRIPTOR, new_listener, port_of,
+    NO_ROUTE_TO_HOST, NO_SYSTEM_DESCRIPTOR, listen,
 };
-use crate::serving::{Outcome, is_text, serve};
+use crate::serving::{Outcome, is_written, serve};
 use log::sink::Console;
 use log::{LevelFilter, Log, Logged};
 use node_commands::{ReplyHalf, RequestHalf, Served};
@@ -22,6 +23,7 @@ use vnode_core::Tally;
 use worker_pool::End;
 
 /// A run, what its clients do, and what it comes to.
+#[derive(Clone, Copy)]
 struct Run {
     shows: &'static str,
     failures: Failures,
@@ -52,19 +54,18 @@ pub const STORED_V: &[u8] =
 pub const STORED_W: &[u8] =
     b"\0\0\0\x01\x0c\0\0\0\x1d\x0a\x0a\x03\x0a\x01w\x12\x15\x02\0\0\0\0\0\x01\0\0";
 
-/// A put of "v" on b/k, a put of "w" on it, and a get of it.
-const PUT_V: &[u8] = b"\0\0\0\x0c\x0b\x0a\x01b\x12\x01k\x22\x03\x0a\x01v";
-
+/// A put of "w" on b/k.
 const PUT_W: &[u8] = b"\0\0\0\x0c\x0b\x0a\x01b\x12\x01k\x22\x03\x0a\x01w";
-
-const GET: &[u8] = b"\0\0\0\x07\x09\x0a\x01b\x12\x01k";
-
-/// Stored.
-const STORED: &[u8] = b"\0\0\0\x01\x0c";
 
 /// "w" and "v" as siblings, the later one first, with a context of one pair for both.
 const W_AND_V: &[u8] =
     b"\0\0\0\x22\x0a\x0a\x03\x0a\x01w\x0a\x03\x0a\x01v\x12\x15\x02\0\0\0\0\0\x01\0\0";
+
+/// A ping, and a length of 0.
+pub const BAD_LENGTH: &[u8] = b"\0\0\0\x01\x01\0\0\0\0";
+
+/// A pong; "bad frame".
+pub const BAD_FRAME: &[u8] = b"\0\0\0\x01\x02\0\0\0\x0e\0\x0a\x09bad frame\x10\x01";
 
 /// Two clients that are connected at once: each puts a value of its own and gets it.
 pub const TWO_CLIENTS: &[Step] = &[
@@ -110,11 +111,8 @@ const HALF_A_LENGTH: &[Step] = &[
 /// without waiting for the reply, and one that waits for its own.
 const THREE_CLIENTS: &[Step] = &[
     Step::Connects,
-    Step::Acts(0, Action::Sends(b"\0\0\0\x01\x01\0\0\0\0")),
-    Step::Acts(
-        0,
-        Action::Gets(b"\0\0\0\x01\x02\0\0\0\x0e\0\x0a\x09bad frame\x10\x01", 0),
-    ),
+    Step::Acts(0, Action::Sends(BAD_LENGTH)),
+    Step::Acts(0, Action::Gets(BAD_FRAME, 0)),
     Step::Acts(0, Action::IsEnded),
     Step::Leaves,
     Step::Connects,
@@ -138,33 +136,33 @@ const TWO_PUT_AND_GOT: &[Option<Result<Ended, SessionFault>>] = &[PUT_AND_GOT, P
 /// What the vnode accepts of two puts.
 const TWO_PUTS: Tally = Tally {
     writes: 2,
-    tombstones: 0,
-    reaps: 0,
+    ..NOTHING_ACCEPTED
 };
 
+/// The line of the totals where nothing was counted.
+pub const NONE_OF_EACH: Option<&str> = Some("gets 0 puts 0 deletes 0 refusals 0 reaps 0\n");
+
 /// The line of the totals of two puts and two gets.
-const TWO_GETS_AND_PUTS: Option<&str> = Some("gets 2 puts 2 deletes 0 refusals 0 reaps 0\n");
+pub const TWO_OF_EACH: Option<&str> = Some("gets 2 puts 2 deletes 0 refusals 0 reaps 0\n");
+
+/// Two clients that put and get. Runs of a row say what is other.
+const TWO_AT_ONCE: Run = Run {
+    shows: "two clients are served at once",
+    failures: NO_FAILURES,
+    connections: 2,
+    workers: 2,
+    steps: TWO_CLIENTS,
+    ends: TWO_PUT_AND_GOT,
+    tally: TWO_PUTS,
+    totals: TWO_OF_EACH,
+};
 
 const RUNS: &[Run] = &[
-    Run {
-        shows: "two clients are served at once",
-        failures: NO_FAILURES,
-        connections: 2,
-        workers: 2,
-        steps: TWO_CLIENTS,
-        ends: TWO_PUT_AND_GOT,
-        tally: TWO_PUTS,
-        totals: TWO_GETS_AND_PUTS,
-    },
+    TWO_AT_ONCE,
     Run {
         shows: "two clients of one key see one history of it",
-        failures: NO_FAILURES,
-        connections: 2,
-        workers: 2,
         steps: ONE_KEY,
-        ends: TWO_PUT_AND_GOT,
-        tally: TWO_PUTS,
-        totals: TWO_GETS_AND_PUTS,
+        ..TWO_AT_ONCE
     },
     Run {
         shows: "half a frame is a rest",
@@ -176,12 +174,8 @@ const RUNS: &[Run] = &[
             replies: 0,
             rest: 3,
         }))],
-        tally: Tally {
-            writes: 0,
-            tombstones: 0,
-            reaps: 0,
-        },
-        totals: Some("gets 0 puts 0 deletes 0 refusals 0 reaps 0\n"),
+        tally: NOTHING_ACCEPTED,
+        totals: NONE_OF_EACH,
     },
     Run {
         shows: "each fault ends its connection alone",
@@ -199,12 +193,7 @@ const RUNS: &[Run] = &[
             count: 1,
             code: NO_MEMORY,
         },
-        connections: 2,
-        workers: 2,
-        steps: TWO_CLIENTS,
-        ends: TWO_PUT_AND_GOT,
-        tally: TWO_PUTS,
-        totals: TWO_GETS_AND_PUTS,
+        ..TWO_AT_ONCE
     },
     Run {
         shows: "want of a descriptor of the system is waited out",
@@ -212,12 +201,7 @@ const RUNS: &[Run] = &[
             count: 2,
             code: NO_SYSTEM_DESCRIPTOR,
         },
-        connections: 2,
-        workers: 2,
-        steps: TWO_CLIENTS,
-        ends: TWO_PUT_AND_GOT,
-        tally: TWO_PUTS,
-        totals: TWO_GETS_AND_PUTS,
+        ..TWO_AT_ONCE
     },
     Run {
         shows: "want of a descriptor of the process is waited out",
@@ -225,12 +209,7 @@ const RUNS: &[Run] = &[
             count: 3,
             code: NO_PROCESS_DESCRIPTOR,
         },
-        connections: 2,
-        workers: 2,
-        steps: TWO_CLIENTS,
-        ends: TWO_PUT_AND_GOT,
-        tally: TWO_PUTS,
-        totals: TWO_GETS_AND_PUTS,
+        ..TWO_AT_ONCE
     },
     Run {
         shows: "want of a buffer is waited out",
@@ -238,12 +217,7 @@ const RUNS: &[Run] = &[
             count: 4,
             code: NO_BUFFER,
         },
-        connections: 2,
-        workers: 2,
-        steps: TWO_CLIENTS,
-        ends: TWO_PUT_AND_GOT,
-        tally: TWO_PUTS,
-        totals: TWO_GETS_AND_PUTS,
+        ..TWO_AT_ONCE
     },
     Run {
         shows: "connections that were aborted before they were accepted are passed over, and don't count",
@@ -251,12 +225,7 @@ const RUNS: &[Run] = &[
             count: 5,
             code: ABORTED,
         },
-        connections: 2,
-        workers: 2,
-        steps: TWO_CLIENTS,
-        ends: TWO_PUT_AND_GOT,
-        tally: TWO_PUTS,
-        totals: TWO_GETS_AND_PUTS,
+        ..TWO_AT_ONCE
     },
     Run {
         shows: "so is one whose host is out of reach",
@@ -264,12 +233,7 @@ const RUNS: &[Run] = &[
             count: 1,
             code: NO_ROUTE_TO_HOST,
         },
-        connections: 2,
-        workers: 2,
-        steps: TWO_CLIENTS,
-        ends: TWO_PUT_AND_GOT,
-        tally: TWO_PUTS,
-        totals: TWO_GETS_AND_PUTS,
+        ..TWO_AT_ONCE
     },
 ];
 
@@ -298,12 +262,11 @@ fn is_as_said(served: &Served, run: &Run) -> bool {
 
 /// Whether serving left and wrote what a run says.
 fn is_served(alloc: Global, outcome: &Outcome, port: u16, run: &Run) -> bool {
-    let is_written = match run.totals {
-        Some(totals) => is_text(alloc, outcome.written.as_slice(), port, totals),
-        None => true,
-    };
     match &outcome.served {
-        Ok(served) => is_written && is_as_said(served, run),
+        Ok(served) => {
+            is_written(alloc, outcome.written.as_slice(), port, run.totals)
+                && is_as_said(served, run)
+        }
         Err(_) => false,
     }
 }
@@ -349,11 +312,8 @@ fn goes_anew<R>(rt: &R, alloc: Global, run: &Run) -> bool
 where
     R: Log + Clock + Net<Listener = TcpListener, Stream = TcpStream> + Threads + Wait + Sync,
 {
-    match new_listener(rt) {
-        Some(listener) => match port_of(&listener) {
-            Some(port) => goes(rt, alloc, listener, port, run),
-            None => false,
-        },
+    match listen(rt) {
+        Some((listener, port)) => goes(rt, alloc, listener, port, run),
         None => false,
     }
 }

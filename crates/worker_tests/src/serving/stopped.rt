@@ -1,7 +1,6 @@
 //! Runs that stop since no further connection is to be had.
 use crate::serving::listener::{
-    ABORTED, BAD_DESCRIPTOR, Failing, Failures, NO_FAILURES, NO_PROCESS_DESCRIPTOR, new_listener,
-    port_of,
+    ABORTED, BAD_DESCRIPTOR, Failing, Failures, NO_FAILURES, NO_PROCESS_DESCRIPTOR, listen,
 };
 use crate::serving::{Outcome, is_text, serve};
 use log::sink::Console;
@@ -120,16 +119,13 @@ where
     N: Net<Listener = TcpListener, Stream = TcpStream>,
     R: Log + Clock + Threads + Wait + Sync,
 {
-    let Some(listener) = new_listener(net) else {
+    let Some((listener, port)) = listen(net) else {
         return false;
     };
     if listener.set_nonblocking(stop.is_nonblocking).is_err() {
         return false;
     }
-    match port_of(&listener) {
-        Some(port) => stops(rt, alloc, listener, port, stop),
-        None => false,
-    }
+    stops(rt, alloc, listener, port, stop)
 }
 
 #[test]

@@ -1,14 +1,17 @@
 //! Servers for as many clients as come, until an input ends or so many have come, and their clients beside them.
+use crate::exchanges::accepted_of;
 use crate::serving::clients::{Action, Step, take_all};
-use crate::serving::is_text;
-use crate::serving::listener::{new_listener, port_of};
-use crate::serving::served::{ONE_KEY, PUT_V_GET, PUT_W_GET, STORED_V, STORED_W, TWO_CLIENTS};
+use crate::serving::is_written;
+use crate::serving::listener::listen;
+use crate::serving::served::{
+    BAD_FRAME, BAD_LENGTH, NONE_OF_EACH, ONE_KEY, PUT_V_GET, PUT_W_GET, STORED_V, STORED_W,
+    TWO_CLIENTS, TWO_OF_EACH,
+};
 use crate::serving::sinks::{has_one_of_each, new_sinks};
 use log::sink::Console;
 use log::{LevelFilter, Log, Logged};
 use node_commands::{UntilSettings, serve_on_until};
 use ring_map::Ring;
-use stats_book::Totals;
 use std::alloc::Global;
 use std::io::{ErrorKind, Read};
 use std::net::{Net, TcpListener, TcpStream};
@@ -20,7 +23,6 @@ use std::test::*;
 use std::thread::Threads;
 use std::time::Duration;
 use std::{io, thread};
-use vnode_core::Tally;
 
 /// An input that ends once that is said, and until then says that it has nothing yet.
 #[derive(Drop)]
@@ -40,6 +42,7 @@ impl<'a, R: Clock> Read for Awaited<'a, R> {
 }
 
 /// A server, what its clients do, and what it comes to.
+#[derive(Clone, Copy)]
 struct Server {
     shows: &'static str,
     workers: u16,
@@ -89,14 +92,11 @@ const HALF_CLOSED: &[Step] = &[
 ];
 
 /// A client whose second length is bad gets the reply to its first request, and an error. The other one is served on.
-const BAD_LENGTH: &[Step] = &[
+const ONE_BAD_LENGTH: &[Step] = &[
     Step::Connects,
     Step::Connects,
-    Step::Acts(0, Action::Sends(b"\0\0\0\x01\x01\0\0\0\0")),
-    Step::Acts(
-        0,
-        Action::Gets(b"\0\0\0\x01\x02\0\0\0\x0e\0\x0a\x09bad frame\x10\x01", 0),
-    ),
+    Step::Acts(0, Action::Sends(BAD_LENGTH)),
+    Step::Acts(0, Action::Gets(BAD_FRAME, 0)),
     Step::Acts(0, Action::IsEnded),
     Step::Acts(1, Action::Sends(PUT_V_GET)),
     Step::Acts(1, Action::Gets(STORED_V, 12)),
@@ -149,172 +149,137 @@ const ONE_TOO_MANY: &[Step] = &[
     Step::Acts(1, Action::IsEnded),
 ];
 
+/// The line of the totals of a put and a get.
 const ONE_OF_EACH: Option<&str> = Some("gets 1 puts 1 deletes 0 refusals 0 reaps 0\n");
 
-const TWO_OF_EACH: Option<&str> = Some("gets 2 puts 2 deletes 0 refusals 0 reaps 0\n");
+/// One worker that serves until its input ends, and whom no client comes to. Rows say what is other.
+const ONE_WORKER: Server = Server {
+    shows: "",
+    workers: 1,
+    limit: None,
+    has_input: true,
+    idle_seconds: None,
+    steps: &[],
+    connections: 0,
+    totals: NONE_OF_EACH,
+};
 
 const SERVERS: &[Server] = &[
     Server {
         shows: "one worker serves two clients at once",
-        workers: 1,
-        limit: None,
-        has_input: true,
-        idle_seconds: None,
         steps: TWO_CLIENTS,
         connections: 2,
         totals: TWO_OF_EACH,
+        ..ONE_WORKER
     },
     Server {
         shows: "two clients of one key see one history of it, whichever workers serve them",
         workers: 3,
-        limit: None,
-        has_input: true,
-        idle_seconds: None,
         steps: ONE_KEY,
         connections: 2,
         totals: TWO_OF_EACH,
+        ..ONE_WORKER
     },
     Server {
         shows: "clients that wait hold nobody up, and are ended with the input",
-        workers: 1,
-        limit: None,
-        has_input: true,
-        idle_seconds: None,
         steps: TWO_WAIT,
         connections: 3,
         totals: ONE_OF_EACH,
+        ..ONE_WORKER
     },
     Server {
         shows: "bytes may come one by one",
-        workers: 1,
-        limit: None,
-        has_input: true,
-        idle_seconds: None,
         steps: ONE_BY_ONE,
         connections: 2,
         totals: TWO_OF_EACH,
+        ..ONE_WORKER
     },
     Server {
         shows: "who sends no more gets its replies",
         workers: 2,
-        limit: None,
-        has_input: true,
-        idle_seconds: None,
         steps: HALF_CLOSED,
         connections: 1,
         totals: ONE_OF_EACH,
+        ..ONE_WORKER
     },
     Server {
         shows: "a bad length ends its connection alone",
-        workers: 1,
-        limit: None,
-        has_input: true,
-        idle_seconds: None,
-        steps: BAD_LENGTH,
+        steps: ONE_BAD_LENGTH,
         connections: 2,
         totals: ONE_OF_EACH,
+        ..ONE_WORKER
     },
     Server {
         shows: "who still sends when its connection ends gets the error that says why",
-        workers: 1,
-        limit: None,
-        has_input: true,
-        idle_seconds: None,
         steps: LARGE_FRAME,
         connections: 1,
-        totals: Some("gets 0 puts 0 deletes 0 refusals 0 reaps 0\n"),
+        ..ONE_WORKER
     },
     Server {
         shows: "who goes without replies ends its connection alone",
-        workers: 1,
-        limit: None,
-        has_input: true,
-        idle_seconds: None,
         steps: ONE_GOES,
         connections: 2,
         totals: None,
+        ..ONE_WORKER
     },
     Server {
         shows: "who is silent for too long is closed",
-        workers: 1,
-        limit: None,
-        has_input: true,
         idle_seconds: Some(1),
         steps: SILENT,
         connections: 2,
         totals: ONE_OF_EACH,
+        ..ONE_WORKER
     },
     Server {
         shows: "it ends once so many connections have ended, and accepts no more",
         workers: 2,
         limit: Some(2),
         has_input: false,
-        idle_seconds: None,
         steps: ONE_TOO_MANY,
         connections: 2,
         totals: ONE_OF_EACH,
+        ..ONE_WORKER
     },
     Server {
         shows: "it accepts no more than so many while its input goes on",
-        workers: 1,
         limit: Some(2),
-        has_input: true,
-        idle_seconds: None,
         steps: ONE_TOO_MANY,
         connections: 2,
         totals: ONE_OF_EACH,
+        ..ONE_WORKER
     },
     Server {
         shows: "the last of so many may end by its silence",
-        workers: 1,
         limit: Some(1),
         has_input: false,
         idle_seconds: Some(1),
         steps: ONE_SILENT,
         connections: 1,
-        totals: Some("gets 0 puts 0 deletes 0 refusals 0 reaps 0\n"),
+        ..ONE_WORKER
     },
     Server {
         shows: "the input may end before so many have come",
-        workers: 1,
         limit: Some(5),
-        has_input: true,
-        idle_seconds: None,
         steps: TWO_WAIT,
         connections: 3,
         totals: ONE_OF_EACH,
+        ..ONE_WORKER
     },
     Server {
         shows: "the input may end while the last of so many wait",
         workers: 2,
         limit: Some(3),
-        has_input: true,
-        idle_seconds: None,
         steps: TWO_WAIT,
         connections: 3,
         totals: ONE_OF_EACH,
+        ..ONE_WORKER
     },
     Server {
         shows: "without a client it ends with the input",
         workers: 2,
-        limit: None,
-        has_input: true,
-        idle_seconds: None,
-        steps: &[],
-        connections: 0,
-        totals: Some("gets 0 puts 0 deletes 0 refusals 0 reaps 0\n"),
+        ..ONE_WORKER
     },
 ];
-
-/// Whether the one primary accepted just what was counted.
-fn is_tallied(tallies: &[Tally], totals: Totals) -> bool {
-    let counted = Tally {
-        writes: totals.puts,
-        tombstones: totals.deletes,
-        reaps: totals.reaps,
-    };
-    tallies == [counted].as_slice()
-}
 
 /// Whether a server of this listener comes to what it should.
 fn serves<R: Log + Clock + Net + Threads + Wait + Sync>(
@@ -345,26 +310,13 @@ fn serves<R: Log + Clock + Net + Threads + Wait + Sync>(
         None
     };
     let outcome = serve_on_until(rt, alloc, listener, &settings, sinks, input, &mut written);
-    let is_written = match server.totals {
-        Some(totals) => is_text(alloc, written.as_slice(), port, totals),
-        None => true,
-    };
     match outcome {
-        Ok(outcome) => is_written
+        Ok(outcome) => is_written(alloc, written.as_slice(), port, server.totals)
             && outcome.connections == server.connections
             && has_one_of_each(outcome.sinks.as_slice(), server.connections)
-            && is_tallied(outcome.tallies.as_slice(), outcome.totals),
+            && outcome.tallies.as_slice() == [accepted_of(outcome.totals)].as_slice(),
         Err(_) => false,
     }
-}
-
-/// A listener of this machine, and its port.
-fn listen<N: Net<Listener = TcpListener, Stream = TcpStream>>(
-    net: &N,
-) -> Option<(TcpListener, u16)> {
-    let listener = new_listener(net)?;
-    let port = port_of(&listener)?;
-    Some((listener, port))
 }
 
 // The threads are started in the test itself: both use the network, and of any runtime it isn't known that another thread may.

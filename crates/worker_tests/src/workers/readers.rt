@@ -1,5 +1,5 @@
 //! Two gets of one key are inside at once.
-use crate::exchanges::{GET, NOTHING};
+use crate::exchanges::{GET, NOTHING, NOTHING_ACCEPTED, NOTHING_COUNTED};
 use crate::workers::runs::{Run, play_anew};
 use crate::workers::script::Line;
 use node_session::Ended;
@@ -11,7 +11,6 @@ use std::sync::atomic::{AtomicU64, Ordering};
 use std::test::*;
 use std::thread;
 use std::thread::Threads;
-use vnode_core::Tally;
 use worker_pool::Turnstile;
 
 /// How many turns the first call waits at most.
@@ -58,16 +57,9 @@ const TWO_GETS: Run = Run {
     fails: false,
     totals: Ok(Totals {
         gets: 2,
-        puts: 0,
-        deletes: 0,
-        refusals: 0,
-        reaps: 0,
+        ..NOTHING_COUNTED
     }),
-    accepted: Tally {
-        writes: 0,
-        tombstones: 0,
-        reaps: 0,
-    },
+    accepted: NOTHING_ACCEPTED,
 };
 
 /// Whether the second get was answered while the first was inside.

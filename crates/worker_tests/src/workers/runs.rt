@@ -1,6 +1,6 @@
 //! Runs of two workers: a key's two lives; three jobs, of which one is cut and one has a writer that fails; and a source that
 //! fails behind them.
-use crate::exchanges::{LIVED_TWICE, TWO_LIVES, new_shared};
+use crate::exchanges::{LIVED_TWICE, NOTHING_ACCEPTED, TWO_LIVES, accepted_of, new_shared};
 use crate::workers::script::{Line, Script, play};
 use crate::workers::streams::{Input, Output};
 use node_session::{Ended, SessionFault};
@@ -143,11 +143,7 @@ fn are_ends(ends: &[End<Input, Output<'_>>], lines: &[Line]) -> bool {
 
 /// The events of all vnodes together.
 fn sum_of(tallies: &[Tally]) -> Tally {
-    let mut sum = Tally {
-        writes: 0,
-        tombstones: 0,
-        reaps: 0,
-    };
+    let mut sum = NOTHING_ACCEPTED;
     for tally in tallies {
         sum = Tally {
             writes: sum.writes.saturating_add(tally.writes),
@@ -160,11 +156,7 @@ fn sum_of(tallies: &[Tally]) -> Tally {
 
 /// Whether the vnodes, so many, accepted what was counted, and what they are to accept.
 fn are_tallies(tallies: &[Tally], totals: Totals, run: &Run) -> bool {
-    let counted = Tally {
-        writes: totals.puts,
-        tombstones: totals.deletes,
-        reaps: totals.reaps,
-    };
+    let counted = accepted_of(totals);
     tallies.len() == usize::from(run.partitions)
         && sum_of(tallies) == counted
         && counted == run.accepted
