@@ -1,5 +1,6 @@
 -- The turns of the workers, and the places of their ends.
 use Rattle.std.proofs.Common.{◌≡◌, ◌∙◌, ◌<◌, ◌≤◌, ◌⊎◌, ℕ, zero, suc, List, [], ◌∷◌, ◌++◌, length, length-append, map, arith, ap, sym, refl, subst, inl, inr}
+use Rattle.std.proofs.lemmas.List.{append-nil, append_assoc, length-set}
 use Rattle.std.proofs.lemmas.List.Sorted.{IsPermutation-refl, IsPermutation-trans, IsPermutation-sym, IsPermutation-cons, IsPermutation-middle, IsPermutation-push_more, length_permutation}
 use Rattle.std.specs.List.Sorted.{IsPermutation}
 use Rattle.std.specs.Prelude.{Option, Some, None, slice_get, slice_set}
@@ -9,20 +10,13 @@ use Rattle.job_pool.specs.declared.queue.NumberedJob.{NumberedJob}
 use Rattle.job_pool.specs.declared.worker.NumberedEnd.{NumberedEnd}
 use Rattle.job_pool.specs.Queue.{IsNumbered}
 use Rattle.job_pool.specs.Ends.{IsTurnOfTaken, IsTurnOfGiven, AreFilled, AreCollected, HasServed, placed}
-use Rattle.job_pool.proofs.Lists.{get_more, get_last, all_at, set_length, pairs_more, pairs_snoc}
+use Rattle.job_pool.proofs.Lists.{get_more, get_last, all_at, pairs_more, pairs_snoc}
 use Rattle.std.proofs.lemmas.Option.{none-some as none_some}
 
 module _ {E : Type 0} where
-  -- a place that isn't there
-  pub no_place : (places : List (Option E)) (n : ℕ) (end : Option E) → length places ≤ n → slice_set places n end ≡ places
-  no_place [] zero end h = refl
-  no_place [] (suc n) end h = refl
-  no_place (place ∷ places) zero end h = absurd (omega (arith, h))
-  no_place (place ∷ places) (suc n) end h = ap (λ ps. place ∷ ps) (no_place places n end (omega (arith, h)))
-
   pub placed_length : (places : List (Option E)) (ends : List (NumberedEnd E)) → length (placed places ends) ≡ length places
   placed_length places [] = refl
-  placed_length places (one ∷ rest) = placed_length (slice_set places one.number (Some one.end)) rest ∙ set_length places one.number (Some one.end)
+  placed_length places (one ∷ rest) = placed_length (slice_set places one.number (Some one.end)) rest ∙ length-set places one.number (Some one.end)
 
 -- empty places, at most one a job
 filled_none : {J E : Type 0} (W : Type 0) (jobs : List J) (places : List (Option E)) → Every (λ place. place ≡ None) places → length places ≤ length jobs → AreFilled {W = W} jobs places []
@@ -109,21 +103,13 @@ module _ {W J E : Type 0} where
       subst (λ (end : E). AreCollected jobs (done ++ turn ∷ []) (slice_set places one.number (Some end))) is.end
       (record { turns = now.0; filled = now.1; once = counted done h.turns now.0 turn h.once now.2 })
 
-  snoc_more : (done : List (ServedTurn W J E)) (turn : ServedTurn W J E) (turns : List (ServedTurn W J E)) → (done ++ turn ∷ []) ++ turns ≡ done ++ turn ∷ turns
-  snoc_more [] turn turns = refl
-  snoc_more (other ∷ done) turn turns = ap (λ l. other ∷ l) (snoc_more done turn turns)
-
-  and_none : (done : List (ServedTurn W J E)) → done ++ [] ≡ done
-  and_none [] = refl
-  and_none (turn ∷ done) = ap (λ l. turn ∷ l) (and_none done)
-
   pub all_placed : (jobs : List J) (turns : List (ServedTurn W J E)) (ends : List (NumberedEnd E)) (places : List (Option E)) → Pairwise (IsTurnOfGiven jobs) turns ends
       → (done : List (ServedTurn W J E)) → AreCollected jobs done places → AreCollected jobs (done ++ turns) (placed places ends)
-  all_placed jobs [] [] places each done h = subst (λ l. AreCollected jobs l places) (sym (and_none done)) h
+  all_placed jobs [] [] places each done h = subst (λ l. AreCollected jobs l places) (sym (append-nil done)) h
   all_placed jobs [] (one ∷ ends) places each done h = absurd each
   all_placed jobs (turn ∷ turns) [] places each done h = absurd each
   all_placed jobs (turn ∷ turns) (one ∷ ends) places each done h =
-      subst (λ l. AreCollected jobs l (placed places (one ∷ ends))) (snoc_more done turn turns)
+      subst (λ l. AreCollected jobs l (placed places (one ∷ ends))) (append_assoc done (turn ∷ []) turns)
       (all_placed jobs turns ends (slice_set places one.number (Some one.end)) each.1 (done ++ turn ∷ []) (one_placed jobs done places turn one each.0 h))
 
   -- where each place has an end, each job was served

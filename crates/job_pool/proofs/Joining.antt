@@ -1,6 +1,6 @@
 -- The workers are joined one after another.
 use Rattle.std.proofs.Common.{◌≡◌, ◌∙◌, ◌<◌, ◌≤◌, List, [], ◌∷◌, ◌++◌, length, length-append, map, arith, ap, sym, refl, subst, inl, inr}
-use Rattle.std.proofs.lemmas.List.{length-map, append-nil as and_none}
+use Rattle.std.proofs.lemmas.List.{length-map, append-nil, append_assoc}
 use Rattle.std.specs.List.Sorted.{IsPermutation}
 use Rattle.std.specs.Prelude.{Option, Some, ◌⊎◌}
 use Rattle.job_pool.specs.Turns.{ServedTurn, WorkerTurns, IsChain, ServedOnce, firsts_of, lasts_of, turns_of, ends_of}
@@ -12,11 +12,8 @@ use Rattle.job_pool.proofs.Starting.{map_snoc}
 
 module _ {W J E : Type 0} where
   turns_snoc : (shares : List (WorkerTurns W J E)) (share : WorkerTurns W J E) → turns_of (shares ++ share ∷ []) ≡ turns_of shares ++ share.turns
-  turns_snoc [] share = and_none share.turns
-  turns_snoc (other ∷ shares) share = ap (λ l. other.turns ++ l) (turns_snoc shares share) ∙ sym (apart other.turns (turns_of shares) share.turns) where
-    apart : (xs ys zs : List (ServedTurn W J E)) → (xs ++ ys) ++ zs ≡ xs ++ (ys ++ zs)
-    apart [] ys zs = refl
-    apart (x ∷ xs) ys zs = ap (λ l. x ∷ l) (apart xs ys zs)
+  turns_snoc [] share = append-nil share.turns
+  turns_snoc (other ∷ shares) share = ap (λ l. other.turns ++ l) (turns_snoc shares share) ∙ sym (append_assoc other.turns (turns_of shares) share.turns)
 
   module _ (Serves : W → J → W → E → Type 0) (jobs : List J) where
     pub none_joined : (taken : List (NumberedJob J)) (firsts rest : List W) (places : List (Option E)) → rest ≡ firsts → AreCollected {W = W} jobs [] places → AreJoined Serves jobs taken firsts rest [] places
@@ -35,7 +32,7 @@ module _ {W J E : Type 0} where
         record {
           shares = shares;
           began = map_snoc (λ (s : WorkerTurns W J E). s.first) h.shares share left ∙ ap (λ l. firsts_of h.shares ++ l) (sym cut) ∙ h.began;
-          left = sym (and_none (lasts_of shares)) ∙ map_snoc (λ (s : WorkerTurns W J E). s.last) h.shares share [] ∙ ap (λ l. l ++ last ∷ []) h.left ∙ sym add;
+          left = sym (append-nil (lasts_of shares)) ∙ map_snoc (λ (s : WorkerTurns W J E). s.last) h.shares share [] ∙ ap (λ l. l ++ last ∷ []) h.left ∙ sym add;
           chained = all_snoc (IsChain Serves) h.shares share h.chained one.chained;
           count = omega (arith, all, long, was, took);
           collected = subst (λ l. AreCollected jobs l new) (sym more) (one.places (turns_of h.shares) h.collected);
@@ -61,7 +58,7 @@ module _ {W J E : Type 0} where
           shares = h.shares;
           served = filled_jobs jobs ends h.collected.turns full filled;
           ended = ended;
-          began = sym (and_none (firsts_of h.shares)) ∙ ap (λ l. firsts_of h.shares ++ l) (sym none) ∙ h.began;
+          began = sym (append-nil (firsts_of h.shares)) ∙ ap (λ l. firsts_of h.shares ++ l) (sym none) ∙ h.began;
           left = h.left;
           chained = h.chained;
           once = only_once (turns_of h.shares) h.collected.turns ends ended (omega (arith, count, fits, full)) h.collected.once;

@@ -7,4 +7,3 @@ pub mod Lending
 pub mod Starting
 pub mod Joining
 pub mod Once
-pub mod Results

@@ -1,7 +1,7 @@
 -- Lists: what each element has, and what stands at an index.
-use Rattle.std.proofs.Common.{◌≡◌, ℕ, zero, suc, List, [], ◌∷◌, ◌++◌, length, arith, refl, subst}
+use Rattle.std.proofs.Common.{◌≡◌, ℕ, zero, suc, List, [], ◌∷◌, ◌++◌, length, refl, subst}
 use Rattle.job_pool.specs.Lists.{Every, Pairwise}
-use Rattle.std.specs.Prelude.{Some, None, slice_get, slice_set}
+use Rattle.std.specs.Prelude.{Some, slice_get}
 use Rattle.std.proofs.lemmas.Option.{none-some as none_some}
 
 module _ {A : Type 0} where
@@ -13,12 +13,6 @@ module _ {A : Type 0} where
   pub get_last : (xs : List A) (x : A) → slice_get (xs ++ x ∷ []) (length xs) ≡ Some x
   get_last [] x = refl
   get_last (y ∷ xs) x = get_last xs x
-
-  pub set_length : (xs : List A) (n : ℕ) (x : A) → length (slice_set xs n x) ≡ length xs
-  set_length [] zero x = refl
-  set_length [] (suc n) x = refl
-  set_length (y ∷ xs) zero x = refl
-  set_length (y ∷ xs) (suc n) x = let h = set_length xs n x in omega (arith, h)
 
   module _ {P Q : A → Type 0} where
     pub all_more : ((x : A) → P x → Q x) → (xs : List A) → Every P xs → Every Q xs

@@ -1,26 +1,17 @@
 -- What a run comes to in which each job was served once.
-use Rattle.std.proofs.Common.{◌≡◌, ◌∙◌, ◌+◌, ℕ, zero, suc, List, [], ◌∷◌, length, arith, ap, sym, refl, subst}
+use Rattle.std.proofs.Common.{◌≡◌, ◌∙◌, ◌+◌, ℕ, List, [], ◌∷◌, length, arith, ap, sym, refl, subst}
 use Rattle.std.proofs.lemmas.List.{length-map}
+use Rattle.std.proofs.lemmas.List.Elements.{All-from_recursion, recursion_from_All}
 use Rattle.std.proofs.lemmas.List.Sums.{sum_by-cons, sum_by-append}
 use Rattle.std.proofs.lemmas.List.Sorted.{All-permutation, sum_by-IsPermutation}
-use Rattle.std.specs.List.{All, sum_by}
+use Rattle.std.specs.List.{sum_by}
 use Rattle.std.specs.List.Sorted.{IsPermutation}
 use Rattle.job_pool.specs.Lists.{Every, Pairwise}
 use Rattle.job_pool.specs.Turns.{ServedTurn, WorkerTurns, TurnChain, IsChain, ServedOnce, jobs_of, ends_of, firsts_of, lasts_of, turns_of}
 use Rattle.job_pool.proofs.Lists.{all_join}
 
-module _ {A : Type 0} (P : A → Type 0) where
-  by_index : (xs : List A) → Every P xs → All P xs
-  by_index [] h k d below = absurd (omega (arith, below))
-  by_index (x ∷ xs) h zero d below = h.0
-  by_index (x ∷ xs) h (suc k) d below = by_index xs h.1 k d (omega (arith, below))
-
-  of_each : (xs : List A) → All P xs → Every P xs
-  of_each [] h = tt
-  of_each (x ∷ xs) h = (h 0 x (omega arith), of_each xs (λ k d below. h (suc k) d (omega (arith, below))))
-
-  every_permuted : (xs ys : List A) → IsPermutation xs ys → Every P xs → Every P ys
-  every_permuted xs ys is h = of_each ys (All-permutation P xs ys is (by_index xs h))
+every_permuted : {A : Type 0} (P : A → Type 0) (xs ys : List A) → IsPermutation xs ys → Every P xs → Every P ys
+every_permuted P xs ys is h = recursion_from_All P ys (All-permutation P xs ys is (All-from_recursion P xs h))
 
 module _ {W J E : Type 0} (Serves : W → J → W → E → Type 0) where
   abbrev pub IsCall : ServedTurn W J E → Type 0

@@ -1,7 +1,6 @@
 -- One step more in one slot.
 use Rattle.std.proofs.Common.{◌≡◌, ◌≢◌, ◌==◌, ◌+◌, if◌then◌else◌, Bool, true, false, ℕ, zero, suc, List, [], ◌∷◌, ◌++◌, length, set, get_or, cond, count_by, is_some, Option, Some, None, refl, sym, ap, subst, ◌∙◌, append-nil, inl, inr, arith}
-use Rattle.std.proofs.lemmas.Bool.{cases_eq, ne_eqb}
-use Rattle.std.proofs.lemmas.Bool.Decides.{nat_tests}
+use Rattle.std.proofs.lemmas.Bool.{cases_eq, eq-eqb, ne_eqb}
 use Rattle.std.proofs.lemmas.List.{length-append, get_or-set_other}
 use Rattle.std.proofs.lemmas.List.Sums.{sum_by-cons}
 use Rattle.slab.specs.Slab.{Slab, get, slab_len, with_value, Updates}
@@ -10,9 +9,6 @@ use Rattle.open_jobs.specs.declared.step.JobEvent.TheVariants.{Began, Continued,
 use Rattle.open_jobs.specs.declared.step.JobStep.{JobStep}
 use Rattle.open_jobs.specs.Events.{began, ended, InTurn}
 use Rattle.open_jobs.specs.Interleaving.{at_slot, events_of, Moves, Chain, Interleaved}
-
-eqb-refl : (n : ℕ) → (n == n) ≡ true
-eqb-refl n = grind (arith, nat_tests)
 
 counted-more : (b e b1 e1 n n1 : ℕ) → b ≡ e + n → b1 + n ≡ e1 + n1 → b + b1 ≡ e + e1 + n1
 counted-more b e b1 e1 n n1 p q = omega (arith, p, q)
@@ -65,7 +61,7 @@ module _ {W J O E : Type 0} where
   at_slot-append slot (x ∷ steps) s = if-append (x.slot == slot) x.event (at_slot slot (steps ++ s ∷ [])) (at_slot slot steps) (at_slot slot (s ∷ [])) (at_slot-append slot steps s)
 
   at_slot-same : (slot : ℕ) (s : JobStep W J O E) → slot ≡ s.slot → at_slot slot (s ∷ []) ≡ s.event ∷ []
-  at_slot-same slot s e = ap (λ (b : Bool). if b then s.event ∷ [] else []) (ap (λ (n : ℕ). s.slot == n) e ∙ eqb-refl s.slot)
+  at_slot-same slot s e = ap (λ (b : Bool). if b then s.event ∷ [] else []) (ap (λ (n : ℕ). s.slot == n) e ∙ eq-eqb s.slot s.slot refl)
 
   at_slot-other : (slot : ℕ) (s : JobStep W J O E) → slot ≢ s.slot → at_slot slot (s ∷ []) ≡ []
   at_slot-other slot s other = ap (λ (b : Bool). if b then s.event ∷ [] else []) (ne_eqb s.slot slot (λ e. other (sym e)))
@@ -80,11 +76,12 @@ module _ {W J O E : Type 0} where
       ∙ ap (λ (l : List J). length l) (began-append (events_of steps) (s.event ∷ []))
       ∙ length-append (began (events_of steps)) (began (s.event ∷ []))
 
+  -- the ends of one step more
+  pub ended-step : (steps : List (JobStep W J O E)) (s : JobStep W J O E) → ended (events_of (steps ++ s ∷ [])) ≡ ended (events_of steps) ++ ended (s.event ∷ [])
+  ended-step steps s = ap (λ (l : List (JobEvent J O E)). ended l) (events_of-append steps s) ∙ ended-append (events_of steps) (s.event ∷ [])
+
   length-ended : (steps : List (JobStep W J O E)) (s : JobStep W J O E) → length (ended (events_of (steps ++ s ∷ []))) ≡ length (ended (events_of steps)) + length (ended (s.event ∷ []))
-  length-ended steps s =
-      ap (λ (l : List (JobEvent J O E)). length (ended l)) (events_of-append steps s)
-      ∙ ap (λ (l : List E). length l) (ended-append (events_of steps) (s.event ∷ []))
-      ∙ length-append (ended (events_of steps)) (ended (s.event ∷ []))
+  length-ended steps s = ap (λ (l : List E). length l) (ended-step steps s) ∙ length-append (ended (events_of steps)) (ended (s.event ∷ []))
 
   module _ (Begins : J → O → Type 0) (Continues : W → O → W → O → Type 0) (Ends : W → O → W → E → Type 0) where
     Chain-append : (first last : W) (steps : List (JobStep W J O E)) (s : JobStep W J O E) → Chain Continues Ends first steps last → s.before ≡ last → Moves Continues Ends s.before s.event s.after → Chain Continues Ends first (steps ++ s ∷ []) s.after

@@ -1,7 +1,7 @@
 use Rattle.std.proofs.Common.{◌∙◌, [], ap, inl, length, refl, sym}
+use Rattle.std.proofs.lemmas.Result.{IfErr-weaker}
 use Rattle.stats_book.specs.Counting.{zeros}
 use Rattle.job_pool.proofs.Once.{once_length}
-use Rattle.job_pool.proofs.Results.{if_err}
 use Rattle.worker_pool.specs.Serving.{CountsInSession}
 use Rattle.worker_pool.proofs.Ends.{replicate_length}
 use Rattle.worker_pool.proofs.Faults.{leaves_after}
@@ -32,7 +32,7 @@ returns-in-Ok-run-clause-served g c =
 pub returns-in-Ok-run-clause-fault : goal.returns-in-Ok-run-clause-fault
 returns-in-Ok-run-clause-fault g c =
     let all = source_served g.J.Jobs.gives g.I.Read.remaining g.O.Write.contents c.args.shared.now _ _ _ _ _ c.in-Ok-run.ensures.served in
-    if_err _ _ c.finish.result (λ fault is. leaves_after g.J.Jobs.gives g.I.Read.remaining g.O.Write.contents c.args.shared.now _ _ _ all fault is) c.finish.ensures.fault
+    IfErr-weaker c.finish.result _ _ (λ fault is. leaves_after g.J.Jobs.gives g.I.Read.remaining g.O.Write.contents c.args.shared.now _ _ _ all fault is) c.finish.ensures.fault
 
 pub returns-in_default-clause-fault : goal.returns-in_default-clause-fault
 returns-in_default-clause-fault g c = ([], inl (inl refl))
