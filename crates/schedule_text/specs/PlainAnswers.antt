@@ -90,5 +90,5 @@ is_due history key told (replies.Put reply) = are_due history key told reply.con
 is_due history key told replies.Del = are_due history key told []
 
 -- the register answers a command so, and goes from one history to another
-abbrev pub RegisterStep : PlainHistory → Command Content → Told ℕ → PlainHistory → Type 0
-RegisterStep old command told new = (told ≡ told_in (plain_of old command)) × (new ≡ history_after old (plain_of old command))
+abbrev pub PlainRegisterAnswers : PlainHistory → Command Content → Told ℕ → PlainHistory → Type 0
+PlainRegisterAnswers old command told new = (told ≡ told_in (plain_of old command)) × (new ≡ history_after old (plain_of old command))

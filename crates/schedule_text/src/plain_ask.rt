@@ -7,7 +7,7 @@ ghost use Rattle.sibling_register.specs.Answers.{RegisterAsk, AskDel, AskGet, As
 ghost use Rattle.sibling_register.specs.Plain.{GivesPositions, IsPosition, answer_of};
 ghost use Rattle.sibling_register.specs.declared.command.Command.TheVariants.{Reap};
 ghost use Rattle.vnode_machine.specs.Asks.{del_command, get_command, put_command, request_ask};
-ghost use Rattle.schedule_text.specs.PlainAnswers.{RegisterStep, command_by, history_after, plain_of};
+ghost use Rattle.schedule_text.specs.PlainAnswers.{PlainRegisterAnswers, command_by, history_after, plain_of};
 ghost use Rattle.schedule_text.specs.Compared.{within};
 
 use riak_msgs::{Content, DelAsk, GetAsk, Key, PutAsk, Request};
@@ -32,7 +32,7 @@ fn ask_command(
     command: Command<Content>,
 ) -> Result<Told, AllocError>
     requires { GivesPositions register.old command }
-    ensures { IfOk result (λ told. RegisterStep register.old command (answer_of told) register.new) }
+    ensures { IfOk result (λ told. PlainRegisterAnswers register.old command (answer_of told) register.new) }
 {
     match register.ask(alloc, command) {
         Ok(told) => Ok(told),
@@ -49,7 +49,7 @@ fn ask_get(
 ) -> Result<Told, AllocError>
     requires { IsPosition register.old if_modified }
     ensures { IfOk result (λ told.
-        RegisterStep register.old (command_by (AskGet (get_command ask.now)) if_modified)
+        PlainRegisterAnswers register.old (command_by (AskGet (get_command ask.now)) if_modified)
         (answer_of told) register.new) }
 {
     let key = ask.key.clone(alloc)?;
@@ -71,7 +71,7 @@ fn ask_put(
 ) -> Result<Told, AllocError>
     requires { IsPosition register.old context }
     ensures { IfOk result (λ told.
-        RegisterStep register.old (command_by (AskPut (put_command ask.now)) context)
+        PlainRegisterAnswers register.old (command_by (AskPut (put_command ask.now)) context)
         (answer_of told) register.new) }
 {
     let key = ask.key.clone(alloc)?;
@@ -97,7 +97,7 @@ fn ask_del(
 ) -> Result<Told, AllocError>
     requires { IsPosition register.old context }
     ensures { IfOk result (λ told.
-        RegisterStep register.old (command_by (AskDel (del_command ask.now)) context)
+        PlainRegisterAnswers register.old (command_by (AskDel (del_command ask.now)) context)
         (answer_of told) register.new) }
 {
     let key = ask.key.clone(alloc)?;
@@ -113,7 +113,7 @@ pub(crate) fn ask_register(
 ) -> Result<Told, AllocError>
     requires { IsPosition register.old position }
     ensures { (ask : RegisterAsk Content Context) → request_ask request.now ≡ Some ask → IfOk result (λ told.
-        RegisterStep register.old (command_by ask position) (answer_of told) register.new) }
+        PlainRegisterAnswers register.old (command_by ask position) (answer_of told) register.new) }
 {
     match request {
         Request::Ping => Ok(Told::Done),
