@@ -5,7 +5,6 @@ use Rattle.std.specs.FinMap.Entries.{find}
 use Rattle.std.specs.Option.{option_map_or}
 use Rattle.std.specs.Ordering.{eq_by_cmp}
 use Rattle.std.proofs.lemmas.Bool.{cases_lt}
-use Rattle.std.proofs.lemmas.Bool.Decides.{nat_tests}
 use Rattle.riak_msgs.specs.declared.Key.{Key}
 use Rattle.riak_msgs.specs.Contents.{Content}
 use Rattle.riak_msgs.specs.KeyOrder.{key_cmp}
@@ -33,6 +32,7 @@ use Rattle.vnode_core.specs.Left.{has_last_dot, is_copied}
 use Rattle.vnode_core.specs.Events.{Makes, all_commands, commands_of, event_command, history_after}
 use Rattle.vnode_core.specs.Plans.{View}
 use Rattle.vnode_core.proofs.Entries.{commands_of-all_commands}
+use Rattle.vnode_core.proofs.Lefts.{equal-within}
 use Rattle.handoff.specs.Joined.{IsHandedOff, IsJoinedIn, IsOfLastFallback, IsOfPrimary, ReturnJoinsKeys, log_after, log_entry}
 use Rattle.handoff.specs.Left.{AreCopied}
 use Rattle.handoff.specs.Returning.{EndsDiversion}
@@ -111,9 +111,6 @@ module _ {X : Type 0} where
       λ i. first i ∷ rest i
 
 -- where all keys of a fallback are copied, the primary has its last dot of each key
-equal-within : (a b : ℕ) → (a == b) ≡ true → nat_le b a ≡ true
-equal-within a b h = grind (arith, nat_tests)
-
 copied-at : (primary : State Content) (keys : Keys) (key : Key) (there : Stored Content) → AreCopied primary keys → find key_cmp key keys ≡ Some there → is_copied primary (key, there) ≡ true
 copied-at primary [] key there all found = cc
 copied-at primary (entry ∷ keys) key there all found = by (eq_by_cmp key_cmp key entry.0) refl found (copied-at primary keys key there all.1)

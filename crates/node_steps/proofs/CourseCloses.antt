@@ -1,7 +1,6 @@
 -- A closer's look leaves each partition's course as it is; by its publish the fallback returns: all was brought back.
 use Rattle.std.proofs.Common.{◌≡◌, ◌≢◌, inl, inr, ℕ, ◌+◌, ◌<◌, Bool, true, false, cond, [], ◌∷◌, length, refl, sym, ◌∙◌, ap, arith, subst}
 use Rattle.std.proofs.lemmas.Option.{none-some}
-use Rattle.std.proofs.lemmas.Bool.Decides.{nat_tests}
 use Rattle.std.specs.Prelude.{pred, Option, Some, nat_le, option_and_then, slice_get, ◌==◌, None}
 use Rattle.std.specs.Option.{option_map_or}
 use Rattle.std.specs.FinMap.Entries.{find}
@@ -37,6 +36,7 @@ use Rattle.node_steps.proofs.Judged.{AreJudged}
 use Rattle.node_steps.proofs.CallsApart.{route_own}
 use Rattle.node_steps.proofs.Coursing.{IsVnode, vnode-state, home_id, away_id, Agrees, IsAway, WasFallback, WasGiven, given-later, IsLawful, IsRun, shown-later, ids, primary-state, away-state, was-later}
 use Rattle.vnode_core.specs.Left.{has_last_dot, is_copied as is_copied_in, one_unless, count_left}
+use Rattle.vnode_core.proofs.Lefts.{equal-within}
 use Rattle.clock_store.specs.Keys.{Keys}
 
 -- the primary has as much of a fallback's actor of the key
@@ -46,9 +46,6 @@ has_all primary key s =
     (λ (own : Actor). nat_le (counter_in (option_map_or (λ (x : Stored Content). x.clock) s (record { known = []; live = [] })).known own) (counter_in (clock_of primary key).known own))
     (option_and_then (λ (x : Stored Content). x.own) s) true
 
-enough : (here there : ℕ) → (here == there) ≡ true → nat_le there here ≡ true
-enough here there h = grind (arith, nat_tests)
-
 -- so it has of a key that is copied as it is there
 copied-has : (primary : State Content) (key : Key) (there : Stored Content) → is_copied_in primary (key, there) ≡ true → has_all primary key (Some there) ≡ true
 copied-has primary key there copied = by (stored primary key) copied
@@ -56,7 +53,7 @@ copied-has primary key there copied = by (stored primary key) copied
     last : (here : Stored Content) (own : Option Actor) → option_map_or (λ (a : Actor). counter_in here.clock.known a == counter_in there.clock.known a) own false ≡ true
         → option_map_or (λ (a : Actor). nat_le (counter_in there.clock.known a) (counter_in here.clock.known a)) own true ≡ true
     last here None h = cc
-    last here (Some own) h = enough (counter_in here.clock.known own) (counter_in there.clock.known own) h
+    last here (Some own) h = equal-within (counter_in here.clock.known own) (counter_in there.clock.known own) h
 
     by : (o : Option (Stored Content)) → option_map_or (λ (here : Stored Content). has_last_dot here there) o false ≡ true
         → option_map_or (λ (own : Actor). nat_le (counter_in there.clock.known own) (counter_in (option_map_or (λ (x : Stored Content). x.clock) o (record { known = []; live = [] })).known own)) there.own true ≡ true

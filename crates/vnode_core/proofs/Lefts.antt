@@ -1,12 +1,13 @@
 -- A walk over the keys of a vnode, one behind another, and what it counts as left.
 use Rattle.std.proofs.Common.{◌≡◌, ◌∙◌, ◌+◌, ◌<◌, ◌≤◌, ℕ, min, Bool, true, List, [], ◌∷◌, length, refl, sym, ap, arith}
 use Rattle.std.proofs.Math.Nat.{zero-add}
-use Rattle.std.specs.Prelude.{Option, Some, None, filter}
+use Rattle.std.specs.Prelude.{◌==◌, nat_le, Option, Some, None, filter}
 use Rattle.std.specs.List.{AllByRecursion}
 use Rattle.std.specs.List.Sorted.{IsStrictlySortedBy}
 use Rattle.std.specs.Map.{keys_of}
 use Rattle.std.specs.declared.cmp.Ordering.TheVariants.{Less}
 use Rattle.std.specs.FinMap.Entries.{is_sorted, below_all}
+use Rattle.std.proofs.lemmas.Bool.Decides.{nat_tests}
 use Rattle.riak_msgs.specs.declared.Key.{Key}
 use Rattle.riak_msgs.specs.Contents.{Content}
 use Rattle.riak_msgs.specs.KeyOrder.{key_cmp}
@@ -75,3 +76,7 @@ pub count-last : (primary fallback : State Content) (count most whole : ℕ) (at
 count-last primary fallback count most whole at few is next =
     let none : min (count + 0) most ≡ whole = sym (ap (λ (es : Keys). min (count + count_left primary es) most) (behind-last fallback at next)) ∙ is in
     omega (arith, few, none)
+
+-- a primary with the fallback's counter knows all that the fallback counted
+pub equal-within : (here there : ℕ) → (here == there) ≡ true → nat_le there here ≡ true
+equal-within here there h = grind (arith, nat_tests)
