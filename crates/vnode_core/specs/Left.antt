@@ -1,5 +1,5 @@
 -- The keys of a vnode, a fallback, that another, its primary, hasn't as they are there now.
-use Rattle.std.specs.Prelude.{◌==◌, ◌+◌, if◌then◌else◌, Bool, true, false, ℕ, [], ◌∷◌, Option}
+use Rattle.std.specs.Prelude.{◌==◌, ◌+◌, if◌then◌else◌, Bool, false, ℕ, [], ◌∷◌, Option}
 use Rattle.std.specs.Option.{option_map_or}
 use Rattle.riak_msgs.specs.declared.Key.{Key}
 use Rattle.riak_msgs.specs.Contents.{Content}
