@@ -98,16 +98,7 @@ run-judged run index w number action r j course opened Shown run_is =
           updates = λ place worker h call asked at. let old = calm.calls place worker h call asked in away.updates place old.0 old.1 call (ap call_of old.2 ∙ asked) at;
         })
       ];
-      fallbacks = λ n one most last. let f = run_is.fallbacks n one most last in record {
-        site = f.site;
-        vnode = f.vnode;
-        there = f.there;
-        own_is = f.own_is;
-        id_is = f.id_is;
-        epoch_is = f.epoch_is;
-        history_is = f.history_is;
-        closed = f.closed;
-      };
+      fallbacks = λ n one most last. let f = run_is.fallbacks n one most last in was-later run index w _ course course opened n refl f f.there;
       lawful = λ partition agrees. let law = run_is.lawful partition agrees in record {
         may_happen = law.may_happen;
         vnode = let v = law.vnode in record { vnode = v.vnode; there = v.there; id_is = v.id_is; epoch_is = v.epoch_is; log_is = v.log_is };
