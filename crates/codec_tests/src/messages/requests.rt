@@ -6,16 +6,10 @@ use crate::messages::reading::{DEFAULT, Read, reads};
 use crate::messages::*;
 
 /// The value x alone.
-const X: ContentRow = ContentRow {
-    value: b"x",
-    ..V
-};
+const X: ContentRow = ContentRow { value: b"x", ..V };
 
 /// The value z alone.
-const Z: ContentRow = ContentRow {
-    value: b"z",
-    ..V
-};
+const Z: ContentRow = ContentRow { value: b"z", ..V };
 
 /// The value v of the content type t.
 const V_OF_TYPE: ContentRow = ContentRow {
