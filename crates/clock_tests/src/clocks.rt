@@ -3,32 +3,11 @@
 mod answers;
 mod steps;
 
+use crate::actors::{A, B};
 use crate::clocks::steps::Step::{Event, Overwrite, Put};
 use crate::clocks::steps::{Step, takes_all};
-use actor_epoch::Actor;
 use dvv_set::Clock;
 use std::alloc::Global;
-
-/// Actors in their order.
-const A: Actor = Actor {
-    vnode: 65_536,
-    epoch: 1,
-};
-
-const B: Actor = Actor {
-    vnode: 65_536,
-    epoch: 2,
-};
-
-const C: Actor = Actor {
-    vnode: 65_537,
-    epoch: 1,
-};
-
-const D: Actor = Actor {
-    vnode: 65_537,
-    epoch: 2,
-};
 
 /// The bytes of the context (A, 1), of version 1 as all but those that name another.
 const SEEN_1: &[u8] = b"\x01\0\0\0\0\0\x01\0\0\0\0\0\x01\0\0\0\x01";

@@ -1,19 +1,8 @@
 //! Contexts as their bytes, and the epochs of a vnode.
 
+use crate::actors::{A, B, OTHER};
 use actor_epoch::{Actor, Context, Counter, Dot, EpochSource, MAX_EPOCH, MalformedContext};
 use std::alloc::{AllocError, Global};
-
-const FIRST: Actor = Actor {
-    vnode: 65_536,
-    epoch: 1,
-};
-
-const SECOND: Actor = Actor {
-    vnode: 65_536,
-    epoch: 2,
-};
-
-const OTHER: Actor = Actor { vnode: 0, epoch: 1 };
 
 /// What a context has seen of an actor.
 enum Seen {
@@ -26,6 +15,7 @@ enum Seen {
 use Seen::{Covers, Last};
 
 /// Bytes, and the context that they are: its pairs (none: they are no context), and what it has seen of actors.
+#[derive(Clone, Copy)]
 struct Case {
     shows: &'static str,
     bytes: &'static [u8],
@@ -34,7 +24,7 @@ struct Case {
 }
 
 /// Two pairs, and the bytes of their context: of version 2, and of version 1.
-const PAIRS: &[(Actor, Counter)] = &[(FIRST, 1), (SECOND, 258)];
+const PAIRS: &[(Actor, Counter)] = &[(A, 1), (B, 258)];
 
 const ENCODED: &[u8] =
     b"\x02\0\0\0\0\0\x01\0\0\0\0\0\x01\0\0\0\0\0\0\0\x01\0\0\0\0\0\x01\0\0\0\0\0\x02\0\0\0\0\0\0\x01\x02";
@@ -42,120 +32,114 @@ const ENCODED: &[u8] =
 const NARROW: &[u8] =
     b"\x01\0\0\0\0\0\x01\0\0\0\0\0\x01\0\0\0\x01\0\0\0\0\0\x01\0\0\0\0\0\x02\0\0\x01\x02";
 
+/// Bytes that are no context. Cases say what is other.
+const NO_CONTEXT: Case = Case {
+    shows: "",
+    bytes: b"",
+    pairs: &[],
+    seen: &[],
+};
+
 const CASES: &[Case] = &[
     Case {
         shows: "no bytes are no context",
         bytes: b"",
-        pairs: &[],
-        seen: &[],
+        ..NO_CONTEXT
     },
     Case {
         shows: "the version alone is malformed",
         bytes: b"\x01",
-        pairs: &[],
-        seen: &[],
+        ..NO_CONTEXT
     },
     Case {
         shows: "version 2 alone is malformed",
         bytes: b"\x02",
-        pairs: &[],
-        seen: &[],
+        ..NO_CONTEXT
     },
     Case {
         shows: "another version is malformed",
         bytes: b"\x03\0\0\0\0\0\x01\0\0\0\0\0\x01\0\0\0\0\0\0\0\x01",
-        pairs: &[],
-        seen: &[],
+        ..NO_CONTEXT
     },
     Case {
         shows: "an entry of version 1 is too short for version 2",
         bytes: b"\x02\0\0\0\0\0\x01\0\0\0\0\0\x01\0\0\0\x01",
-        pairs: &[],
-        seen: &[],
+        ..NO_CONTEXT
     },
     Case {
         shows: "epoch 0 is malformed",
         bytes: b"\x01\0\0\0\0\0\x01\0\0\0\0\0\0\0\0\0\x01",
-        pairs: &[],
-        seen: &[],
+        ..NO_CONTEXT
     },
     Case {
         shows: "counter 0 is malformed",
         bytes: b"\x01\0\0\0\0\0\x01\0\0\0\0\0\x01\0\0\0\0",
-        pairs: &[],
-        seen: &[],
+        ..NO_CONTEXT
     },
     Case {
         shows: "the same actor twice is malformed",
         bytes: b"\x01\0\0\0\0\0\x01\0\0\0\0\0\x01\0\0\0\x01\0\0\0\0\0\x01\0\0\0\0\0\x01\0\0\0\x01",
-        pairs: &[],
-        seen: &[],
+        ..NO_CONTEXT
     },
     Case {
         shows: "a byte too few is malformed",
         bytes: b"\x01\0\0\0\0\0\x01\0\0\0\0\0\x01\0\0\0",
-        pairs: &[],
-        seen: &[],
+        ..NO_CONTEXT
     },
     Case {
         shows: "an entry of version 2 is too long for version 1",
         bytes: b"\x01\0\0\0\0\0\x01\0\0\0\0\0\x01\0\0\0\0\0\0\0\x01",
-        pairs: &[],
-        seen: &[],
+        ..NO_CONTEXT
     },
     Case {
         shows: "epoch 0 of version 2 is malformed",
         bytes: b"\x02\0\0\0\0\0\x01\0\0\0\0\0\0\0\0\0\0\0\0\0\x01",
-        pairs: &[],
-        seen: &[],
+        ..NO_CONTEXT
     },
     Case {
         shows: "counter 0 of version 2 is malformed",
         bytes: b"\x02\0\0\0\0\0\x01\0\0\0\0\0\x01\0\0\0\0\0\0\0\0",
-        pairs: &[],
-        seen: &[],
+        ..NO_CONTEXT
     },
     Case {
         shows: "the same actor twice in version 2 is malformed",
         bytes: b"\x02\0\0\0\0\0\x01\0\0\0\0\0\x01\0\0\0\0\0\0\0\x01\0\0\0\0\0\x01\0\0\0\0\0\x01\0\0\0\0\0\0\0\x01",
-        pairs: &[],
-        seen: &[],
+        ..NO_CONTEXT
     },
     Case {
         shows: "a byte too few of version 2 is malformed",
         bytes: b"\x02\0\0\0\0\0\x01\0\0\0\0\0\x01\0\0\0\0\0\0\0",
-        pairs: &[],
-        seen: &[],
+        ..NO_CONTEXT
     },
     Case {
         shows: "a context of one pair",
         bytes: b"\x01\0\0\0\0\0\x01\0\0\0\0\0\x01\0\0\0\x01",
-        pairs: &[(FIRST, 1)],
-        seen: &[],
+        pairs: &[(A, 1)],
+        ..NO_CONTEXT
     },
     Case {
         shows: "a context of one pair of version 2",
         bytes: b"\x02\0\0\0\0\0\x01\0\0\0\0\0\x01\0\0\0\0\0\0\0\x01",
-        pairs: &[(FIRST, 1)],
-        seen: &[],
+        pairs: &[(A, 1)],
+        ..NO_CONTEXT
     },
     // In version 1 the counter ends at 2 to the 32, in version 2 at 2 to the 64.
     Case {
         shows: "the greatest counter of version 1",
         bytes: b"\x01\0\0\0\0\0\x01\0\0\0\0\0\x01\xff\xff\xff\xff",
-        pairs: &[(FIRST, 4_294_967_295)],
+        pairs: &[(A, 4_294_967_295)],
         seen: &[
-            (FIRST, Covers(4_294_967_295, true)),
-            (FIRST, Covers(4_294_967_296, false)),
+            (A, Covers(4_294_967_295, true)),
+            (A, Covers(4_294_967_296, false)),
         ],
     },
     Case {
         shows: "the greatest counter of version 2",
         bytes: b"\x02\0\0\0\0\0\x01\0\0\0\0\0\x01\xff\xff\xff\xff\xff\xff\xff\xff",
-        pairs: &[(FIRST, 18_446_744_073_709_551_615)],
+        pairs: &[(A, 18_446_744_073_709_551_615)],
         seen: &[
-            (FIRST, Covers(18_446_744_073_709_551_615, true)),
-            (FIRST, Last(18_446_744_073_709_551_615)),
+            (A, Covers(18_446_744_073_709_551_615, true)),
+            (A, Last(18_446_744_073_709_551_615)),
         ],
     },
     Case {
@@ -163,10 +147,10 @@ const CASES: &[Case] = &[
         bytes: NARROW,
         pairs: PAIRS,
         seen: &[
-            (FIRST, Covers(1, true)),
-            (FIRST, Covers(2, false)),
-            (SECOND, Covers(258, true)),
-            (SECOND, Covers(259, false)),
+            (A, Covers(1, true)),
+            (A, Covers(2, false)),
+            (B, Covers(258, true)),
+            (B, Covers(259, false)),
             (OTHER, Last(0)),
         ],
     },
@@ -176,12 +160,12 @@ const CASES: &[Case] = &[
         bytes: ENCODED,
         pairs: PAIRS,
         seen: &[
-            (FIRST, Covers(1, true)),
-            (FIRST, Covers(2, false)),
-            (SECOND, Covers(258, true)),
-            (SECOND, Covers(259, false)),
-            (SECOND, Covers(0, false)),
-            (SECOND, Last(258)),
+            (A, Covers(1, true)),
+            (A, Covers(2, false)),
+            (B, Covers(258, true)),
+            (B, Covers(259, false)),
+            (B, Covers(0, false)),
+            (B, Last(258)),
             (OTHER, Last(0)),
         ],
     },

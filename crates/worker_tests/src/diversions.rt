@@ -4,10 +4,9 @@
 ghost use Rattle.std.specs.Prelude.{IfSome};
 ghost use Rattle.gate_node.specs.Passes.{Sights, ArePassesOf};
 
-use crate::exchanges::{
-    GET_BOTH, NOTHING_ACCEPTED, NOTHING_COUNTED, STORED, STORED_TWICE, new_shared,
-};
+use crate::exchanges::{GET_BOTH, NOTHING_ACCEPTED, NOTHING_COUNTED, STORED_TWICE, new_shared};
 use crate::playing::{NEW_SESSION, Session, play_on};
+use crate::returns::{PUTS_F_AND_G, PUTS_P};
 use gate_node::{Open, Passes, Shared};
 use handoff::HandoffFault;
 use stats_book::Totals;
@@ -23,8 +22,8 @@ struct Diversion {
     partitions: u16,
     /// How many dead keys a vnode forgets after an answer.
     budget: u32,
-    before: Session,
-    after: Session,
+    before: &'static Session,
+    after: &'static Session,
     /// What the primary of partition 0 has accepted in all.
     tally: Tally,
 }
@@ -56,40 +55,26 @@ const PUT_DELETE: &[u8] =
 /// Stored; deleted.
 const STORED_DELETED: &[u8] = b"\0\0\0\x01\x0c\0\0\0\x01\x0e";
 
+/// What the primary has accepted of the session before.
+const ONE_WRITE: Tally = Tally {
+    writes: 1,
+    ..NOTHING_ACCEPTED
+};
+
 const DIVERSIONS: &[Diversion] = &[
     Diversion {
         shows: "a fallback answers over a history of its own, and keeps what a context covers",
         partitions: 1,
         budget: 0,
-        before: Session {
-            requests: PUT_P,
-            replies: STORED,
-            totals: Totals {
-                puts: 1,
-                ..NOTHING_COUNTED
-            },
-            ..NEW_SESSION
-        },
-        after: Session {
-            requests: PUT_F_AND_G,
-            replies: F_AND_G,
-            totals: Totals {
-                gets: 3,
-                puts: 2,
-                ..NOTHING_COUNTED
-            },
-            ..NEW_SESSION
-        },
-        tally: Tally {
-            writes: 1,
-            ..NOTHING_ACCEPTED
-        },
+        before: PUTS_P,
+        after: PUTS_F_AND_G,
+        tally: ONE_WRITE,
     },
     Diversion {
         shows: "another partition is answered at its primary still",
         partitions: 2,
         budget: 0,
-        before: Session {
+        before: &Session {
             requests: PUT_P_AND_U,
             replies: STORED_TWICE,
             totals: Totals {
@@ -98,7 +83,7 @@ const DIVERSIONS: &[Diversion] = &[
             },
             ..NEW_SESSION
         },
-        after: Session {
+        after: &Session {
             requests: GET_BOTH,
             replies: NOTHING_U,
             totals: Totals {
@@ -107,25 +92,14 @@ const DIVERSIONS: &[Diversion] = &[
             },
             ..NEW_SESSION
         },
-        tally: Tally {
-            writes: 1,
-            ..NOTHING_ACCEPTED
-        },
+        tally: ONE_WRITE,
     },
     Diversion {
         shows: "no dead key is forgotten at a fallback",
         partitions: 1,
         budget: 1,
-        before: Session {
-            requests: PUT_P,
-            replies: STORED,
-            totals: Totals {
-                puts: 1,
-                ..NOTHING_COUNTED
-            },
-            ..NEW_SESSION
-        },
-        after: Session {
+        before: PUTS_P,
+        after: &Session {
             requests: PUT_DELETE,
             replies: STORED_DELETED,
             totals: Totals {
@@ -135,10 +109,7 @@ const DIVERSIONS: &[Diversion] = &[
             },
             ..NEW_SESSION
         },
-        tally: Tally {
-            writes: 1,
-            ..NOTHING_ACCEPTED
-        },
+        tally: ONE_WRITE,
     },
 ];
 
@@ -182,7 +153,7 @@ fn play_after<W: Wait>(
 ) -> bool
     requires { ArePassesOf shared.now passes }
 {
-    play_on(rt, alloc, shared, &Open, &row.after, passes).is_some()
+    play_on(rt, alloc, shared, &Open, row.after, passes).is_some()
         && first_tally(rt, shared) == Some(row.tally)
 }
 
@@ -196,7 +167,7 @@ fn play_both<W: Wait>(
 ) -> bool
     requires { ArePassesOf shared passes }
 {
-    let Some(passes) = play_on(rt, alloc, &shared, &Open, &row.before, passes) else {
+    let Some(passes) = play_on(rt, alloc, &shared, &Open, row.before, passes) else {
         return false;
     };
     match divert(alloc, shared, row.budget) {

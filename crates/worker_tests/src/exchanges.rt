@@ -14,6 +14,25 @@ pub const NOTHING_COUNTED: Totals = Totals {
     reaps: 0,
 };
 
+/// A get.
+pub const ONE_GET: Totals = Totals {
+    gets: 1,
+    ..NOTHING_COUNTED
+};
+
+/// A put.
+pub const ONE_PUT: Totals = Totals {
+    puts: 1,
+    ..NOTHING_COUNTED
+};
+
+/// A get and a put.
+pub const GET_AND_PUT: Totals = Totals {
+    gets: 1,
+    puts: 1,
+    ..NOTHING_COUNTED
+};
+
 /// What a vnode has that accepted nothing. Tallies of a test say what is other.
 pub const NOTHING_ACCEPTED: Tally = Tally {
     writes: 0,

@@ -1,6 +1,8 @@
 //! Sessions over two gates. The key k of the bucket b lies in partition 0 of a ring of two, b/j in partition 1, by the
 //! first bytes 56 and a6 of their digests as Python's `hashlib` gives them.
-use crate::exchanges::{GET, LIVED_TWICE, NOTHING_COUNTED, STORED_TWICE, TWO_LIVES, new_shared};
+use crate::exchanges::{
+    GET, GET_AND_PUT, LIVED_TWICE, NOTHING_COUNTED, ONE_GET, STORED_TWICE, TWO_LIVES, new_shared,
+};
 use crate::playing::{NEW_SESSION, Session, play};
 use gate_node::{Open, Shared, Turnstile};
 use stats_book::Totals;
@@ -70,21 +72,13 @@ const SESSIONS: &[Sessions] = &[
             Session {
                 requests: ABSENT_PUT_V,
                 replies: NOTHING_STORED,
-                totals: Totals {
-                    gets: 1,
-                    puts: 1,
-                    ..NOTHING_COUNTED
-                },
+                totals: GET_AND_PUT,
                 ..NEW_SESSION
             },
             Session {
                 requests: GET_PUT_W,
                 replies: V_STORED,
-                totals: Totals {
-                    gets: 1,
-                    puts: 1,
-                    ..NOTHING_COUNTED
-                },
+                totals: GET_AND_PUT,
                 ..NEW_SESSION
             },
             Session {
@@ -221,10 +215,7 @@ const PUT_TWICE: Session = Session {
 const GET_EIGHT: Session = Session {
     requests: GET,
     replies: b"\0\0\0@\x0a\x0a\x03\x0a\x01v\x0a\x03\x0a\x01v\x0a\x03\x0a\x01v\x0a\x03\x0a\x01v\x0a\x03\x0a\x01v\x0a\x03\x0a\x01v\x0a\x03\x0a\x01v\x0a\x03\x0a\x01v\x12\x15\x02\0\0\0\0\0\x01\0\0\0\0\0\x01\0\0\0\0\0\0\0\x08",
-    totals: Totals {
-        gets: 1,
-        ..NOTHING_COUNTED
-    },
+    totals: ONE_GET,
     ..NEW_SESSION
 };
 

@@ -4,7 +4,7 @@ ghost use Rattle.std.specs.Prelude.{IfSome};
 ghost use Rattle.gate_node.specs.Passes.{ArePassesOf};
 
 use crate::diversions::{F_AND_G, PUT_F_AND_G, PUT_P, divert};
-use crate::exchanges::{GET, NOTHING_COUNTED, STORED, new_shared};
+use crate::exchanges::{GET, GET_AND_PUT, NOTHING_COUNTED, ONE_GET, ONE_PUT, STORED, new_shared};
 use crate::playing::{NEW_SESSION, Session, play_on};
 use gate_node::{Open, Passes, Shared};
 use handoff::HandoffFault;
@@ -57,10 +57,7 @@ struct Course {
 pub const PUTS_P: &Session = &Session {
     requests: PUT_P,
     replies: STORED,
-    totals: Totals {
-        puts: 1,
-        ..NOTHING_COUNTED
-    },
+    totals: ONE_PUT,
     ..NEW_SESSION
 };
 
@@ -80,10 +77,7 @@ pub const PUTS_F_AND_G: &Session = &Session {
 const GETS_F: &Session = &Session {
     requests: GET,
     replies: b"\0\0\01\x0a\x0a\x03\x0a\x01f\x12)\x02\0\0\0\0\0\x01\0\0\0\0\0\x01\0\0\0\0\0\0\0\x01\0\0\0\0\0\x01\x80\0\0\0\0\x01\0\0\0\0\0\0\0\x01",
-    totals: Totals {
-        gets: 1,
-        ..NOTHING_COUNTED
-    },
+    totals: ONE_GET,
     ..NEW_SESSION
 };
 
@@ -91,11 +85,7 @@ const GETS_F: &Session = &Session {
 const PUTS_Q: &Session = &Session {
     requests: b"\0\0\0\x0c\x0b\x0a\x01b\x12\x01k\x22\x03\x0a\x01q\0\0\0\x07\x09\x0a\x01b\x12\x01k",
     replies: b"\0\0\0\x01\x0c\0\0\0\x1d\x0a\x0a\x03\x0a\x01q\x12\x15\x02\0\0\0\0\0\x01\x80\0\0\0\0\x03\0\0\0\0\0\0\0\x01",
-    totals: Totals {
-        gets: 1,
-        puts: 1,
-        ..NOTHING_COUNTED
-    },
+    totals: GET_AND_PUT,
     ..NEW_SESSION
 };
 
@@ -103,10 +93,7 @@ const PUTS_Q: &Session = &Session {
 const PUTS_H: &Session = &Session {
     requests: b"\0\0\0\x0c\x0b\x0a\x01b\x12\x01k\x22\x03\x0a\x01h",
     replies: STORED,
-    totals: Totals {
-        puts: 1,
-        ..NOTHING_COUNTED
-    },
+    totals: ONE_PUT,
     ..NEW_SESSION
 };
 
@@ -114,10 +101,7 @@ const PUTS_H: &Session = &Session {
 const GETS_P_AND_H: &Session = &Session {
     requests: GET,
     replies: b"\0\0\06\x0a\x0a\x03\x0a\x01p\x0a\x03\x0a\x01h\x12)\x02\0\0\0\0\0\x01\0\0\0\0\0\x01\0\0\0\0\0\0\0\x01\0\0\0\0\0\x01\x80\0\0\0\0\x01\0\0\0\0\0\0\0\x01",
-    totals: Totals {
-        gets: 1,
-        ..NOTHING_COUNTED
-    },
+    totals: ONE_GET,
     ..NEW_SESSION
 };
 
@@ -136,10 +120,7 @@ const PUTS_EIGHT: &Session = &Session {
 const GETS_FORTY: &Session = &Session {
     requests: GET,
     replies: b"\0\0\0\xe0\x0a\x0a\x03\x0a\x01v\x0a\x03\x0a\x01v\x0a\x03\x0a\x01v\x0a\x03\x0a\x01v\x0a\x03\x0a\x01v\x0a\x03\x0a\x01v\x0a\x03\x0a\x01v\x0a\x03\x0a\x01v\x0a\x03\x0a\x01v\x0a\x03\x0a\x01v\x0a\x03\x0a\x01v\x0a\x03\x0a\x01v\x0a\x03\x0a\x01v\x0a\x03\x0a\x01v\x0a\x03\x0a\x01v\x0a\x03\x0a\x01v\x0a\x03\x0a\x01v\x0a\x03\x0a\x01v\x0a\x03\x0a\x01v\x0a\x03\x0a\x01v\x0a\x03\x0a\x01v\x0a\x03\x0a\x01v\x0a\x03\x0a\x01v\x0a\x03\x0a\x01v\x0a\x03\x0a\x01v\x0a\x03\x0a\x01v\x0a\x03\x0a\x01v\x0a\x03\x0a\x01v\x0a\x03\x0a\x01v\x0a\x03\x0a\x01v\x0a\x03\x0a\x01v\x0a\x03\x0a\x01v\x0a\x03\x0a\x01v\x0a\x03\x0a\x01v\x0a\x03\x0a\x01v\x0a\x03\x0a\x01v\x0a\x03\x0a\x01v\x0a\x03\x0a\x01v\x0a\x03\x0a\x01v\x0a\x03\x0a\x01v\x12\x15\x02\0\0\0\0\0\x01\x80\0\0\0\0\x01\0\0\0\0\0\0\0(",
-    totals: Totals {
-        gets: 1,
-        ..NOTHING_COUNTED
-    },
+    totals: ONE_GET,
     ..NEW_SESSION
 };
 
@@ -147,10 +128,7 @@ const GETS_FORTY: &Session = &Session {
 const PUTS_W: &Session = &Session {
     requests: b"\0\0\0#\x0b\x0a\x01b\x12\x01k\x1a\x15\x02\0\0\0\0\0\x01\x80\0\0\0\0\x01\0\0\0\0\0\0\0(\x22\x03\x0a\x01w",
     replies: STORED,
-    totals: Totals {
-        puts: 1,
-        ..NOTHING_COUNTED
-    },
+    totals: ONE_PUT,
     ..NEW_SESSION
 };
 
@@ -158,10 +136,7 @@ const PUTS_W: &Session = &Session {
 const GETS_FORTY_ONE: &Session = &Session {
     requests: GET,
     replies: b"\0\0\0\xf9\x0a\x0a\x03\x0a\x01v\x0a\x03\x0a\x01v\x0a\x03\x0a\x01v\x0a\x03\x0a\x01v\x0a\x03\x0a\x01v\x0a\x03\x0a\x01v\x0a\x03\x0a\x01v\x0a\x03\x0a\x01v\x0a\x03\x0a\x01v\x0a\x03\x0a\x01v\x0a\x03\x0a\x01v\x0a\x03\x0a\x01v\x0a\x03\x0a\x01v\x0a\x03\x0a\x01v\x0a\x03\x0a\x01v\x0a\x03\x0a\x01v\x0a\x03\x0a\x01v\x0a\x03\x0a\x01v\x0a\x03\x0a\x01v\x0a\x03\x0a\x01v\x0a\x03\x0a\x01v\x0a\x03\x0a\x01v\x0a\x03\x0a\x01v\x0a\x03\x0a\x01v\x0a\x03\x0a\x01v\x0a\x03\x0a\x01v\x0a\x03\x0a\x01v\x0a\x03\x0a\x01v\x0a\x03\x0a\x01v\x0a\x03\x0a\x01v\x0a\x03\x0a\x01v\x0a\x03\x0a\x01v\x0a\x03\x0a\x01v\x0a\x03\x0a\x01v\x0a\x03\x0a\x01v\x0a\x03\x0a\x01v\x0a\x03\x0a\x01v\x0a\x03\x0a\x01v\x0a\x03\x0a\x01v\x0a\x03\x0a\x01v\x0a\x03\x0a\x01w\x12)\x02\0\0\0\0\0\x01\0\0\0\0\0\x01\0\0\0\0\0\0\0(\0\0\0\0\0\x01\x80\0\0\0\0\x01\0\0\0\0\0\0\0)",
-    totals: Totals {
-        gets: 1,
-        ..NOTHING_COUNTED
-    },
+    totals: ONE_GET,
     ..NEW_SESSION
 };
 

@@ -1,16 +1,12 @@
 //! What clocks answer, at their limits too, and what they take in.
 
+use crate::actors::{A, B, C, D, OTHER};
 use crate::clocks::steps::Step::{Discard, Event, Overwrite, Put};
 use crate::clocks::steps::{Step, count, event, holds, takes_all, takes_crowd, takes_in};
-use crate::clocks::{
-    A, B, C, D, SEEN_1, SEEN_2, SEEN_3, SEEN_A_C_D, SEEN_ALL, SEEN_ALL_BUT_ONE, SEEN_MANY,
-};
+use crate::clocks::{SEEN_1, SEEN_2, SEEN_3, SEEN_A_C_D, SEEN_ALL, SEEN_ALL_BUT_ONE, SEEN_MANY};
 use actor_epoch::{Actor, Context, Counter, Dot};
 use dvv_set::{Clock, ClockFault, Needed};
 use std::alloc::Global;
-
-/// An actor that no step knows.
-const OTHER: Actor = Actor { vnode: 0, epoch: 1 };
 
 /// The first actor of a crowd, and its last ones.
 const CROWD_1: Actor = Actor { vnode: 9, epoch: 1 };
@@ -49,11 +45,13 @@ enum Answer {
 
 use Answer::{Count, Covers, Holds, IsFull, Last, Needs, Refuses, TakesIn, Uncovered};
 
-/// A clock of so many actors of one vnode, each with a value, and what steps add; and what it answers behind a context (no
-/// bytes: none).
+/// A clock of so many actors of one vnode, each with a value, and what steps add, first those that others begin with too; and what it
+/// answers behind a context (no bytes: none).
+#[derive(Clone, Copy)]
 struct Case {
     shows: &'static str,
     crowd: u32,
+    first: &'static [Step],
     steps: &'static [Step],
     context: &'static [u8],
     answers: &'static [Answer],
@@ -67,6 +65,24 @@ const THREE: &[Step] = &[
     Event(A, b'b'),
 ];
 
+/// The steps of a clock (A, 5, [e, d, c, b, a]).
+const FIVE: &[Step] = &[
+    Event(A, b'a'),
+    Event(A, b'b'),
+    Event(A, b'c'),
+    Event(A, b'd'),
+    Event(A, b'e'),
+];
+
+/// The steps of a clock (A, 4, [d]).
+const FOURTH_ALONE: &[Step] = &[
+    Event(A, b'a'),
+    Event(A, b'b'),
+    Event(A, b'c'),
+    Event(A, b'd'),
+    Discard(SEEN_3),
+];
+
 /// The steps of a clock (A, 2, [b]) and (B, 1, [p]).
 const FIRST_SIDE: &[Step] = &[
     Event(A, b'a'),
@@ -78,27 +94,29 @@ const FIRST_SIDE: &[Step] = &[
 /// The steps of a clock (A, 1, [a]) and (C, 1, [x]).
 const SECOND_SIDE: &[Step] = &[Event(A, b'a'), Event(C, b'x')];
 
+/// A clock that knows nothing. Cases say what is other.
+const NEW_CLOCK: Case = Case {
+    shows: "",
+    crowd: 0,
+    first: &[],
+    steps: &[],
+    context: b"",
+    answers: &[],
+};
+
 const CASES: &[Case] = &[
     // a and x go, and D becomes known.
     Case {
         shows: "a discard covers several actors",
-        crowd: 0,
-        steps: &[
-            Event(C, b'x'),
-            Event(A, b'a'),
-            Event(B, b'p'),
-            Event(A, b'b'),
-            Discard(SEEN_A_C_D),
-        ],
-        context: b"",
+        first: THREE,
+        steps: &[Discard(SEEN_A_C_D)],
         answers: &[Holds(&[(A, 2), (B, 1), (C, 1), (D, 3)], b"bp")],
+        ..NEW_CLOCK
     },
     // An event of A knows the three actors, and any other its own too.
     Case {
         shows: "what an event needs without a context",
-        crowd: 0,
-        steps: THREE,
-        context: b"",
+        first: THREE,
         answers: &[
             Uncovered(4),
             Needs(
@@ -119,12 +137,12 @@ const CASES: &[Case] = &[
             Last(C, 1),
             Last(D, 0),
         ],
+        ..NEW_CLOCK
     },
     // The context doesn't cover b and p, and makes D known.
     Case {
         shows: "what an event needs behind a context",
-        crowd: 0,
-        steps: THREE,
+        first: THREE,
         context: SEEN_A_C_D,
         answers: &[
             Uncovered(2),
@@ -150,63 +168,46 @@ const CASES: &[Case] = &[
                 },
             ),
         ],
+        ..NEW_CLOCK
     },
     Case {
         shows: "an overwrite at an actor that is known leaves one value",
-        crowd: 0,
-        steps: &[
-            Event(C, b'x'),
-            Event(A, b'a'),
-            Event(B, b'p'),
-            Event(A, b'b'),
-            Put(b"", A, None),
-            Overwrite(A, b't'),
-        ],
-        context: b"",
+        first: THREE,
+        steps: &[Put(b"", A, None), Overwrite(A, b't')],
         answers: &[Holds(&[(A, 3), (B, 1), (C, 1)], b"t")],
+        ..NEW_CLOCK
     },
     Case {
         shows: "an overwrite at a new actor leaves one value",
-        crowd: 0,
-        steps: &[
-            Event(C, b'x'),
-            Event(A, b'a'),
-            Event(B, b'p'),
-            Event(A, b'b'),
-            Put(b"", D, None),
-            Overwrite(D, b't'),
-        ],
-        context: b"",
+        first: THREE,
+        steps: &[Put(b"", D, None), Overwrite(D, b't')],
         answers: &[Holds(&[(A, 2), (B, 1), (C, 1), (D, 1)], b"t")],
+        ..NEW_CLOCK
     },
     Case {
         shows: "a put that is ready replaces what its context saw",
-        crowd: 0,
         steps: &[
             Event(A, b'v'),
             Event(A, b'w'),
             Put(SEEN_1, A, None),
             Put(SEEN_1, A, Some(b'x')),
         ],
-        context: b"",
         answers: &[Holds(&[(A, 3)], b"xw")],
+        ..NEW_CLOCK
     },
     // All dots of A are known, and none has a value.
     Case {
         shows: "no dot is left",
-        crowd: 0,
         steps: &[Event(A, b'v'), Discard(SEEN_ALL)],
-        context: b"",
         answers: &[
             Refuses(A, ClockFault::CounterFull),
             Holds(&[(A, 18_446_744_073_709_551_615)], b""),
         ],
+        ..NEW_CLOCK
     },
     Case {
         shows: "the last dot is given",
-        crowd: 0,
         steps: &[Event(A, b'v'), Discard(SEEN_ALL_BUT_ONE), Event(A, b'w')],
-        context: b"",
         answers: &[
             Holds(&[(A, 18_446_744_073_709_551_615)], b"w"),
             Covers(Dot {
@@ -214,121 +215,84 @@ const CASES: &[Case] = &[
                 counter: 18_446_744_073_709_551_615,
             }),
         ],
+        ..NEW_CLOCK
     },
     Case {
         shows: "a counter goes past 2 to the 32",
-        crowd: 0,
         steps: &[Event(A, b'v'), Discard(SEEN_MANY), Event(A, b'w')],
-        context: b"",
         answers: &[Holds(&[(A, 4_294_967_296)], b"w")],
+        ..NEW_CLOCK
     },
     Case {
         shows: "one actor fits beside sixty-three",
         crowd: 63,
-        steps: &[],
-        context: b"",
         answers: &[IsFull(A, false), IsFull(CROWD_63, false)],
+        ..NEW_CLOCK
     },
     Case {
         shows: "none fits beside sixty-three behind a context of others",
         crowd: 63,
-        steps: &[],
         context: SEEN_A_C_D,
         answers: &[IsFull(CROWD_1, true)],
+        ..NEW_CLOCK
     },
     // An event of one of them fits, and one of another is refused: the 64 stay.
     Case {
         shows: "no actor fits beside sixty-four",
         crowd: 64,
-        steps: &[],
-        context: b"",
         answers: &[
             IsFull(A, true),
             IsFull(CROWD_64, false),
             Refuses(C, ClockFault::ActorsFull),
             Count(64),
         ],
+        ..NEW_CLOCK
     },
     // (5, [e, d, c]) with (4, [d]), whose other side has seen and dropped c, is (5, [e, d]).
     Case {
         shows: "a sync drops what the other dropped",
-        crowd: 0,
-        steps: &[
-            Event(A, b'a'),
-            Event(A, b'b'),
-            Event(A, b'c'),
-            Event(A, b'd'),
-            Event(A, b'e'),
-            Discard(SEEN_2),
-        ],
-        context: b"",
-        answers: &[
-            TakesIn(&[
-                Event(A, b'a'),
-                Event(A, b'b'),
-                Event(A, b'c'),
-                Event(A, b'd'),
-                Discard(SEEN_3),
-            ]),
-            Holds(&[(A, 5)], b"ed"),
-        ],
+        first: FIVE,
+        steps: &[Discard(SEEN_2)],
+        answers: &[TakesIn(FOURTH_ALONE), Holds(&[(A, 5)], b"ed")],
+        ..NEW_CLOCK
     },
     // (5, [e, d]) with (4, [d]) is (5, [e, d]).
     Case {
         shows: "a sync keeps what the other has not seen",
-        crowd: 0,
-        steps: &[
-            Event(A, b'a'),
-            Event(A, b'b'),
-            Event(A, b'c'),
-            Event(A, b'd'),
-            Event(A, b'e'),
-            Discard(SEEN_3),
-        ],
-        context: b"",
-        answers: &[
-            TakesIn(&[
-                Event(A, b'a'),
-                Event(A, b'b'),
-                Event(A, b'c'),
-                Event(A, b'd'),
-                Discard(SEEN_3),
-            ]),
-            Holds(&[(A, 5)], b"ed"),
-        ],
+        first: FIVE,
+        steps: &[Discard(SEEN_3)],
+        answers: &[TakesIn(FOURTH_ALONE), Holds(&[(A, 5)], b"ed")],
+        ..NEW_CLOCK
     },
     // (2, [b, a]) with (2, []) is (2, []).
     Case {
         shows: "a sync with all dropped has none",
-        crowd: 0,
         steps: &[Event(A, b'a'), Event(A, b'b')],
-        context: b"",
         answers: &[
             TakesIn(&[Event(A, b'a'), Event(A, b'b'), Discard(SEEN_2)]),
             Holds(&[(A, 2)], b""),
         ],
+        ..NEW_CLOCK
     },
     // Of A the first side has seen a and dropped it, and b is new to the second; B is known to the first side alone, C to
     // the second. So b, p and x stay, whichever side takes in the other.
     Case {
         shows: "the first side takes in the second of several actors",
-        crowd: 0,
-        steps: FIRST_SIDE,
-        context: b"",
+        first: FIRST_SIDE,
         answers: &[
             TakesIn(SECOND_SIDE),
             Holds(&[(A, 2), (B, 1), (C, 1)], b"bpx"),
         ],
+        ..NEW_CLOCK
     },
     Case {
         shows: "the second side takes in the first of several actors",
-        crowd: 0,
-        steps: SECOND_SIDE,
-        context: b"",
+        first: SECOND_SIDE,
         answers: &[
             TakesIn(FIRST_SIDE),
             Holds(&[(A, 2), (B, 1), (C, 1)], b"bpx"),
         ],
+        ..NEW_CLOCK
     },
 ];
 
@@ -371,6 +335,7 @@ fn is_case(alloc: Global, row: &Case) -> bool {
     };
     let mut clock = Clock::new(alloc);
     takes_crowd(&mut clock, row.crowd)
+        && takes_all(&mut clock, row.first)
         && takes_all(&mut clock, row.steps)
         && answers_all(alloc, &mut clock, context.as_ref(), row.answers)
 }

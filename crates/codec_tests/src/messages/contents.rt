@@ -13,6 +13,7 @@ type LinkRow = (Label, Label, Label);
 type PairRow = (&'static [u8], Label);
 
 /// A content with all its fields.
+#[derive(Clone, Copy)]
 pub(crate) struct ContentRow {
     pub(crate) value: &'static [u8],
     pub(crate) content_type: Label,
@@ -23,7 +24,7 @@ pub(crate) struct ContentRow {
     pub(crate) indexes: &'static [PairRow],
 }
 
-/// The value v alone.
+/// The value v alone. Others say what is other.
 pub(crate) const V: ContentRow = ContentRow {
     value: b"v",
     content_type: None,

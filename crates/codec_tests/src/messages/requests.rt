@@ -6,47 +6,23 @@ use crate::messages::reading::{DEFAULT, Read, reads};
 use crate::messages::*;
 
 /// The value x alone.
-const X: ContentRow = ContentRow {
-    value: b"x",
-    content_type: None,
-    charset: None,
-    content_encoding: None,
-    links: &[],
-    usermeta: &[],
-    indexes: &[],
-};
+const X: ContentRow = ContentRow { value: b"x", ..V };
 
 /// The value z alone.
-const Z: ContentRow = ContentRow {
-    value: b"z",
-    content_type: None,
-    charset: None,
-    content_encoding: None,
-    links: &[],
-    usermeta: &[],
-    indexes: &[],
-};
+const Z: ContentRow = ContentRow { value: b"z", ..V };
 
 /// The value v of the content type t.
 const V_OF_TYPE: ContentRow = ContentRow {
-    value: b"v",
     content_type: Some(b"t"),
-    charset: None,
-    content_encoding: None,
-    links: &[],
-    usermeta: &[],
-    indexes: &[],
+    ..V
 };
 
 /// The value w, a link to the key j, and the pairs m and n, of which only the first has a value.
 const MERGED: ContentRow = ContentRow {
     value: b"w",
-    content_type: None,
-    charset: None,
-    content_encoding: None,
     links: &[(None, Some(b"j"), None)],
     usermeta: &[(b"m", Some(b"")), (b"n", None)],
-    indexes: &[],
+    ..V
 };
 
 /// Content first, an empty context, quorum and timeout fields, the type behind a key of two bytes, and the bucket.

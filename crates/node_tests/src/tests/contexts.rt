@@ -8,7 +8,6 @@ use crate::tests::frames::{
 };
 use crate::tests::sessions::{EMPTY, Part, Session, ended, goes};
 use crate::tests::streams::{Channel, PLAIN};
-use node_session::Ended;
 
 /// 64 puts fill a key, and one more is refused.
 const FILLS: &[Turn] = &[Repeats(64, PUT_V, STORED), Asks(PUT_V, TOO_MANY_SIBLINGS)];

@@ -3,7 +3,7 @@
 use crate::tests::exchange::{Asks, Exchange, PLAIN_NODE, PUTS_V_AND_W, run_all};
 use crate::tests::frames::{
     BAD_CONTEXT, DELETE, DELETE_V, DELETED, GET, GET_HEAD, GET_IF_MODIFIED, MATCH_FOUND, MODIFIED,
-    NOT_FOUND, PUT_E_IF_V, PUT_Q_IF_V, PUT_V, PUT_V_FOR_BODY, PUT_W, SHOWN_V, STORED,
+    NOT_FOUND, PUT_E_IF_V, PUT_Q_IF_V, PUT_V, PUT_V_FOR_BODY, SHOWN_V, STORED,
 };
 
 /// A put's reply that shows "v" with its own dot.

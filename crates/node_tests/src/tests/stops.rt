@@ -118,17 +118,17 @@ fn progress_at(row: &Stops, size: &Size, number: u64) -> Progress {
     let mut written = 0usize;
     for line in row.script {
         let needed = if is_write {
-            line.reply.len().div_ceil(most)
+            line.reply.len().div_ceil(most) as u64
         } else {
-            line.request.len()
+            line.request.len() as u64
         };
-        if left < needed as u64 {
+        if left < needed {
             if is_write {
                 written = written.saturating_add((left as usize).saturating_mul(most));
             }
             break;
         }
-        left -= needed as u64;
+        left -= needed;
         replies = replies.saturating_add(1);
         written = written.saturating_add(line.reply.len());
     }

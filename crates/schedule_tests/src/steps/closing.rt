@@ -7,7 +7,6 @@ use crate::steps::parts::{
 use crate::steps::playing::{Act, Wanted};
 use Act::{Ask, Close, Copy, Divert, Enter, Leave, Look, Mark, Publish, Put, Reap, Take, Unmark};
 use Wanted::{Done, Elsewhere, Left, No, Reply};
-use std::process::Abort;
 
 const SCHEDULES: &[Schedule] = &[
     // Nothing is closed before the partition is diverted. A closer takes, enters, looks, leaves and puts, in this order alone;

@@ -7,7 +7,6 @@ use crate::steps::parts::{CLOSE, COPY, DIVERT, Schedule, WRITE, all_play, finds_
 use crate::steps::playing::{Act, Wanted};
 use Act::{Ask, Close, Copy, Divert, Enter, Leave, Look, Mark, Publish, Put, Take, Unmark};
 use Wanted::{Copied, Done, Elsewhere, Left, No, Reply};
-use std::process::Abort;
 
 /// A closer beside another worker.
 const BESIDE: &[Schedule] = &[

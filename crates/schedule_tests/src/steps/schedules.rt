@@ -3,7 +3,7 @@
 use crate::messages::{
     ABSENT, DELETE, DELETED, GET, PING, PUT_V, SHOWS_V, SHOWS_V_AT_FALLBACK, STORED,
 };
-use crate::steps::parts::{DIVERT, Schedule, WRITE, all_play, reads, writes};
+use crate::steps::parts::{Schedule, WRITE, all_play, reads, writes};
 use crate::steps::playing::{Act, Wanted, comes_to, world_of};
 use Act::{Ask, Divert, Enter, Leave, Look, Mark, Publish, Put, Reap, Take, Unmark};
 use Wanted::{Done, Kept, No, Reaped, Reply};

@@ -366,21 +366,22 @@ pub(crate) fn taken(vnode: &mut Vnode, alloc: Global, steps: &[Step]) -> usize {
     count
 }
 
-/// The same with a new vnode, whose first life gets this epoch.
-pub(crate) fn taken_from(alloc: Global, first_epoch: u32, steps: &[Step]) -> usize
+/// The same with a new vnode, whose first life gets this epoch, of the steps of a begin and of those behind it.
+pub(crate) fn taken_from(alloc: Global, first_epoch: u32, begin: &[Step], steps: &[Step]) -> usize
     requires { 1 ≤ first_epoch }
 {
     let mut vnode = Vnode::new(alloc, ID, first_epoch);
+    let begun = taken(&mut vnode, alloc, begin);
     let taken = taken(&mut vnode, alloc, steps);
     drop(vnode);
-    taken
+    begun.saturating_add(taken)
 }
 
 /// Each exchange goes as expected, with a vnode whose first epoch is 1.
 pub(crate) fn go_as_expected(rt: &(impl Abort + AllocGlobal), exchanges: &[Exchange]) {
     for exchange in exchanges {
-        let taken = taken_from(rt.alloc(), 1, exchange.steps);
-        let is_so = taken == exchange.steps.len();
+        let taken = taken_from(rt.alloc(), 1, exchange.begin, exchange.steps);
+        let is_so = taken == exchange.begin.len().saturating_add(exchange.steps.len());
         assert!(rt; is_so, "{}: not so after {} steps", exchange.shows, taken);
     }
 }

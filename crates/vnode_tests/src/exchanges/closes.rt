@@ -3,8 +3,8 @@
 use crate::exchanges::asking::{go_as_expected, taken};
 use crate::exchanges::steps::{
     Ask, Close, Closed, ClosedAt, Closes, Command, Counted, Del, Done, Exchange, FIRST, Get,
-    HasDead, ID, IF_NOT_MODIFIED, LastEpoch, LetGo, NONE, NOTHING, Put, PutWith, Reap, ReapFirst,
-    Shows, Step, V,
+    HasDead, ID, IF_NOT_MODIFIED, LastEpoch, LetGo, NEW_VNODE, NONE, NOTHING, Put, PutWith, Reap,
+    ReapFirst, Shows, Step, V,
 };
 use vnode_core::{Reaped, Tally, Vnode};
 
@@ -45,6 +45,7 @@ const EXCHANGES: &[Exchange] = &[
             Counted(COUNTED),
             Get(b"k", NOTHING),
         ],
+        ..NEW_VNODE
     },
     Exchange {
         shows: "a close that isn't made closes nothing",
@@ -55,6 +56,7 @@ const EXCHANGES: &[Exchange] = &[
             Get(b"k", Shows(&[V], FIRST)),
             Ask(Del(b"k", NONE), Done),
         ],
+        ..NEW_VNODE
     },
     Exchange {
         shows: "a close ends the plan before it, and may have the number 0",
@@ -65,6 +67,7 @@ const EXCHANGES: &[Exchange] = &[
             Get(b"k", NOTHING),
             LastEpoch(0),
         ],
+        ..NEW_VNODE
     },
 ];
 

@@ -2,8 +2,8 @@
 
 use crate::exchanges::asking::go_as_expected;
 use crate::exchanges::steps::{
-    Ask, Done, Exchange, FIRST, FIRST_OF_SECOND, Get, NARROW_FIRST, NONE, Put, Refused, Reply,
-    SECOND, Shows, THIRD, V, W, X,
+    Ask, Done, Exchange, FIRST, FIRST_OF_SECOND, Get, NARROW_FIRST, NEW_VNODE, NONE, PUTS_V_AND_W,
+    Put, Refused, Reply, SECOND, Shows, THIRD, V, W, X,
 };
 use vnode_core::Refusal;
 
@@ -16,22 +16,22 @@ const EXCHANGES: &[Exchange] = &[
     // what was there.
     Exchange {
         shows: "a context covers what it saw",
+        begin: PUTS_V_AND_W,
         steps: &[
-            Ask(Put(b"k", b"v", NONE), Done),
-            Ask(Put(b"k", b"w", NONE), Done),
             Get(b"k", Shows(&[W, V], SECOND)),
             Ask(Put(b"k", b"x", FIRST), Done),
             Get(b"k", Shows(&[X, W], THIRD)),
         ],
+        ..NEW_VNODE
     },
     Exchange {
         shows: "a context of version 1 covers what it covered",
+        begin: PUTS_V_AND_W,
         steps: &[
-            Ask(Put(b"k", b"v", NONE), Done),
-            Ask(Put(b"k", b"w", NONE), Done),
             Ask(Put(b"k", b"x", NARROW_FIRST), Done),
             Get(b"k", Shows(&[X, W], THIRD)),
         ],
+        ..NEW_VNODE
     },
     // A context that is refused changes nothing.
     Exchange {
@@ -62,6 +62,7 @@ const EXCHANGES: &[Exchange] = &[
             Ask(Put(b"k", b"w", ONE_ACTOR_TWICE), BAD),
             Get(b"k", ONLY_V),
         ],
+        ..NEW_VNODE
     },
     Exchange {
         shows: "the context of another key's life covers nothing; it is known from then on",
@@ -72,6 +73,7 @@ const EXCHANGES: &[Exchange] = &[
             Ask(Put(b"k", b"w", FIRST_OF_SECOND), Done),
             Get(b"k", Shows(&[W, V], SECOND_AND_THAT_OF_J)),
         ],
+        ..NEW_VNODE
     },
 ];
 

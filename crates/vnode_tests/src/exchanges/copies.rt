@@ -81,13 +81,19 @@ struct Row {
     turns: &'static [Turn],
 }
 
+/// "v" is put at the primary.
+const PUTS_V: Turn = Primary(&[Ask(Put(b"k", b"v", NONE), Done)]);
+
+/// "f" is put at the fallback.
+const PUTS_F: Turn = Fallback(&[Ask(Put(b"k", b"f", NONE), Done)]);
+
 const ROWS: &[Row] = &[
     Row {
         shows: "an absent key comes without an actor, and the next write gives it one",
         last_epoch: 0,
         turns: &[
             Copy(First, NoKey),
-            Fallback(&[Ask(Put(b"k", b"f", NONE), Done)]),
+            PUTS_F,
             Copy(First, Copied),
             Primary(&[Get(b"k", Shows(&[F], F1)), LastEpoch(0)]),
             Own(None),
@@ -109,8 +115,8 @@ const ROWS: &[Row] = &[
         shows: "a present key gets the siblings of both, each actor's in its place",
         last_epoch: 0,
         turns: &[
-            Primary(&[Ask(Put(b"k", b"v", NONE), Done)]),
-            Fallback(&[Ask(Put(b"k", b"f", NONE), Done)]),
+            PUTS_V,
+            PUTS_F,
             Copy(First, Copied),
             Primary(&[Get(b"k", Shows(&[V, F], P1_F1))]),
             Own(Some((1, 1))),
@@ -120,7 +126,7 @@ const ROWS: &[Row] = &[
         shows: "what the fallback's write saw is gone, and a later write may have seen both",
         last_epoch: 0,
         turns: &[
-            Primary(&[Ask(Put(b"k", b"v", NONE), Done)]),
+            PUTS_V,
             Fallback(&[Ask(Put(b"k", b"f", FIRST), Done)]),
             Copy(First, Copied),
             Primary(&[
@@ -141,7 +147,7 @@ const ROWS: &[Row] = &[
                 Ask(Del(b"k", NONE), Done),
                 HasDead(None, true),
             ]),
-            Fallback(&[Ask(Put(b"k", b"f", NONE), Done)]),
+            PUTS_F,
             Copy(First, Copied),
             Primary(&[
                 HasDead(None, false),
@@ -172,7 +178,7 @@ const ROWS: &[Row] = &[
         shows: "a present key becomes dead, where the fallback's delete saw its value",
         last_epoch: 0,
         turns: &[
-            Primary(&[Ask(Put(b"k", b"v", NONE), Done)]),
+            PUTS_V,
             Fallback(&[Ask(Del(b"k", FIRST), Done)]),
             Copy(First, Copied),
             Primary(&[
@@ -186,7 +192,7 @@ const ROWS: &[Row] = &[
         shows: "a delete of a key without an actor takes an epoch, and saw what the copy brought",
         last_epoch: 0,
         turns: &[
-            Fallback(&[Ask(Put(b"k", b"f", NONE), Done)]),
+            PUTS_F,
             Copy(First, Copied),
             Primary(&[
                 Ask(Del(b"k", NONE), Done),
@@ -235,7 +241,7 @@ const ROWS: &[Row] = &[
         last_epoch: 0,
         turns: &[
             Primary(&[Ask(PutAfterOthers(63), Done), Get(b"k", Counts(1, 1281))]),
-            Fallback(&[Ask(Put(b"k", b"f", NONE), Done)]),
+            PUTS_F,
             Copy(First, Stuck),
             Primary(&[Get(b"k", Counts(1, 1281))]),
         ],
@@ -245,7 +251,7 @@ const ROWS: &[Row] = &[
         last_epoch: 4_294_967_294,
         turns: &[
             Primary(&[Ask(Put(b"j", b"v", NONE), Done)]),
-            Fallback(&[Ask(Put(b"k", b"f", NONE), Done)]),
+            PUTS_F,
             Copy(First, Copied),
             Primary(&[
                 Ask(Put(b"k", b"v", NONE), Refused(Refusal::EpochsUsedUp)),
@@ -260,7 +266,7 @@ const ROWS: &[Row] = &[
         shows: "a closed vnode takes no copy",
         last_epoch: 0,
         turns: &[
-            Fallback(&[Ask(Put(b"k", b"f", NONE), Done)]),
+            PUTS_F,
             Primary(&[Ask(Close(1), Closes)]),
             Copy(First, Closed),
             Primary(&[Get(b"k", NOTHING), ClosedAt(Some(1))]),

@@ -2,8 +2,8 @@
 
 use crate::exchanges::asking::go_as_expected;
 use crate::exchanges::steps::{
-    Ask, Del, Done, Exchange, FIRST, FIRST_OF_SECOND, FOURTH, Get, GetWith, Idle, NONE, NOTHING,
-    OF_DEAD, Put, Refused, SECOND, Shows, THIRD, Tombstone, V, W,
+    Ask, Del, Done, Exchange, FIRST, FIRST_OF_SECOND, FOURTH, Get, GetWith, Idle, NEW_VNODE, NONE,
+    NOTHING, OF_DEAD, PUTS_V_AND_W, Put, Refused, SECOND, Shows, THIRD, Tombstone, V, W,
 };
 use vnode_core::Refusal;
 
@@ -12,23 +12,23 @@ const EXCHANGES: &[Exchange] = &[
     // the context with the tombstone's dot.
     Exchange {
         shows: "a delete without context has seen them all",
+        begin: PUTS_V_AND_W,
         steps: &[
-            Ask(Put(b"k", b"v", NONE), Done),
-            Ask(Put(b"k", b"w", NONE), Done),
             Ask(Put(b"k", b"x", FIRST), Done),
             Ask(Del(b"k", NONE), Done),
             GetWith(b"k", NONE, OF_DEAD, Shows(&[], FOURTH)),
             Get(b"k", NOTHING),
         ],
+        ..NEW_VNODE
     },
     Exchange {
         shows: "the tombstone of a delete that has seen v alone stays beside w",
+        begin: PUTS_V_AND_W,
         steps: &[
-            Ask(Put(b"k", b"v", NONE), Done),
-            Ask(Put(b"k", b"w", NONE), Done),
             Ask(Del(b"k", FIRST), Done),
             Get(b"k", Shows(&[Tombstone, W], THIRD)),
         ],
+        ..NEW_VNODE
     },
     // The put after it begins the first life.
     Exchange {
@@ -39,6 +39,7 @@ const EXCHANGES: &[Exchange] = &[
             Ask(Put(b"k", b"v", NONE), Done),
             Get(b"k", Shows(&[V], FIRST)),
         ],
+        ..NEW_VNODE
     },
     // One by a context that names an epoch which wasn't given is refused, and takes none.
     Exchange {
@@ -50,6 +51,7 @@ const EXCHANGES: &[Exchange] = &[
             Ask(Del(b"k", FIRST), Done),
             GetWith(b"k", NONE, OF_DEAD, Shows(&[], THAT_OF_J_AND_ITS_OWN)),
         ],
+        ..NEW_VNODE
     },
     // The second is at its life's next dot; a put then is a sibling beside it.
     Exchange {
@@ -65,6 +67,7 @@ const EXCHANGES: &[Exchange] = &[
             Ask(Put(b"j", b"v", NONE), Done),
             Get(b"j", Shows(&[V], FIRST_OF_SECOND)),
         ],
+        ..NEW_VNODE
     },
 ];
 

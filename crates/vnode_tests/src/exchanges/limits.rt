@@ -2,8 +2,8 @@
 
 use crate::exchanges::asking::{go_as_expected, taken_from};
 use crate::exchanges::steps::{
-    Ask, AskTimes, Counts, Done, Exchange, FIRST, Get, NONE, NOTHING, Put, PutAfterOthers, Refused,
-    Reply, Shows, Step, V, W,
+    Ask, AskTimes, Counts, Done, Exchange, FIRST, Get, NEW_VNODE, NONE, NOTHING, Put,
+    PutAfterOthers, Refused, Reply, Shows, Step, V, W,
 };
 use std::process::Abort;
 use vnode_core::Refusal;
@@ -29,6 +29,7 @@ const EXCHANGES: &[Exchange] = &[
             Ask(Put(b"k", b"w", SIXTY_FOURTH), Done),
             Get(b"k", Shows(&[W], SIXTY_FIFTH)),
         ],
+        ..NEW_VNODE
     },
     // 64 entries of another vnode leave no room for the key's own actor, and take no epoch; 65 are out of the form; 63 and
     // the own one fill the clock.
@@ -44,6 +45,7 @@ const EXCHANGES: &[Exchange] = &[
             Ask(PutAfterOthers(63), Done),
             Get(b"k", Counts(2, 1_281)),
         ],
+        ..NEW_VNODE
     },
 ];
 
@@ -63,7 +65,7 @@ const WITH_THE_LAST_EPOCH: &[Step] = &[
 /// The last epoch begins one life. Another key is then refused, and the first goes on.
 #[test]
 fn the_last_epoch_begins_one_life(rt: HostRuntime) {
-    let taken = taken_from(rt.alloc(), 4_294_967_295, WITH_THE_LAST_EPOCH);
+    let taken = taken_from(rt.alloc(), 4_294_967_295, &[], WITH_THE_LAST_EPOCH);
     assert!(rt;
         taken == WITH_THE_LAST_EPOCH.len(),
         "not so after {} steps",

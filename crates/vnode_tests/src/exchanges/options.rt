@@ -3,9 +3,9 @@
 use crate::exchanges::asking::go_as_expected;
 use crate::exchanges::steps::{
     Ask, BARE, BOTH_CONDITIONS, Del, Done, Exchange, FIRST, FOURTH, Get, GetWith, HEAD,
-    IF_NONE_MATCH, IF_NOT_MODIFIED, NARROW_FIRST, NARROW_SECOND, NONE, NOTHING, OF_DEAD, PLAIN_GET,
-    Put, PutWith, RETURN_BODY, RETURN_BOTH, RETURN_HEAD, Reap, Refused, Reply, SECOND, Shows,
-    THIRD, Tombstone, Unchanged, V, W, X,
+    IF_NONE_MATCH, IF_NOT_MODIFIED, NARROW_FIRST, NARROW_SECOND, NEW_VNODE, NONE, NOTHING, OF_DEAD,
+    PLAIN_GET, Put, PutWith, RETURN_BODY, RETURN_BOTH, RETURN_HEAD, Reap, Refused, Reply, SECOND,
+    Shows, THIRD, Tombstone, Unchanged, V, W, X,
 };
 use vnode_core::{Reaped, Refusal};
 
@@ -33,6 +33,7 @@ const CONDITIONS: &[Exchange] = &[
             Ask(PutWith(b"k", b"w", SECOND, IF_NONE_MATCH), Done),
             Get(b"k", Shows(&[W], THIRD)),
         ],
+        ..NEW_VNODE
     },
     // An absent key isn't found, nor is a dead one; with an old context, or none, the key is modified; with its own it is
     // written, whichever version it is of.
@@ -55,6 +56,7 @@ const CONDITIONS: &[Exchange] = &[
             Ask(Del(b"k", NONE), Done),
             Ask(PutWith(b"k", b"y", NONE, IF_NOT_MODIFIED), NOT_FOUND),
         ],
+        ..NEW_VNODE
     },
     // A context that runs ahead is refused before either.
     Exchange {
@@ -66,6 +68,7 @@ const CONDITIONS: &[Exchange] = &[
             Ask(PutWith(b"k", b"z", SECOND, BOTH_CONDITIONS), BAD),
             Get(b"k", Shows(&[V], FIRST)),
         ],
+        ..NEW_VNODE
     },
 ];
 
@@ -87,6 +90,7 @@ const REPLIES: &[Exchange] = &[
             Ask(PutWith(b"k", b"x", FIRST, RETURN_BODY), X_AND_W),
             Get(b"k", X_AND_W),
         ],
+        ..NEW_VNODE
     },
     // With both return_body decides; a put that asks for nothing is shown nothing.
     Exchange {
@@ -100,6 +104,7 @@ const REPLIES: &[Exchange] = &[
             Ask(Put(b"k", b"x", SECOND), NOTHING),
             Get(b"k", Shows(&[X], THIRD)),
         ],
+        ..NEW_VNODE
     },
     Exchange {
         shows: "a tombstone that a put has not seen is among the siblings after it",
@@ -111,6 +116,7 @@ const REPLIES: &[Exchange] = &[
                 Shows(&[W, Tombstone], THIRD),
             ),
         ],
+        ..NEW_VNODE
     },
     Exchange {
         shows: "a key of a long name lives as any other",
@@ -125,6 +131,7 @@ const REPLIES: &[Exchange] = &[
             Reap(LONG_NAME, Reaped::Gone),
             GetWith(LONG_NAME, NONE, OF_DEAD, NOTHING),
         ],
+        ..NEW_VNODE
     },
     // An older one, one that isn't of the form, or that of an absent key is as none. head shows empty values.
     Exchange {
@@ -140,6 +147,7 @@ const REPLIES: &[Exchange] = &[
             GetWith(b"k", FIRST, PLAIN_GET, W_AND_V),
             GetWith(b"k", NONE, HEAD, Shows(&[BARE, BARE], SECOND)),
         ],
+        ..NEW_VNODE
     },
 ];
 

@@ -2,8 +2,8 @@
 
 use crate::exchanges::asking::go_as_expected;
 use crate::exchanges::steps::{
-    Ask, Done, Exchange, FIRST, FIRST_OF_SECOND, Get, LetGo, NONE, NOTHING, Put, Refused, SECOND,
-    Shows, V, W,
+    Ask, Done, Exchange, FIRST, FIRST_OF_SECOND, Get, LetGo, NEW_VNODE, NONE, NOTHING, Put,
+    Refused, SECOND, Shows, V, W,
 };
 use vnode_core::Refusal;
 
@@ -19,6 +19,7 @@ const EXCHANGES: &[Exchange] = &[
             Get(b"k", Shows(&[W, V], SECOND)),
             Get(b"j", NOTHING),
         ],
+        ..NEW_VNODE
     },
     // Whether its key is held or not; and the next one goes on.
     Exchange {
@@ -33,6 +34,7 @@ const EXCHANGES: &[Exchange] = &[
             Ask(Put(b"k", b"w", NONE), Done),
             Get(b"k", Shows(&[W, V], SECOND)),
         ],
+        ..NEW_VNODE
     },
     // A put is planned, and ended by one whose context is malformed. What follows goes on as if neither had been asked for,
     // on the same key and on another.
@@ -50,6 +52,7 @@ const EXCHANGES: &[Exchange] = &[
             Get(b"k", Shows(&[V], FIRST_OF_SECOND)),
             Get(b"j", Shows(&[V], FIRST)),
         ],
+        ..NEW_VNODE
     },
 ];
 
@@ -68,6 +71,7 @@ const VALUES_ARE_THERE: &[Exchange] = &[Exchange {
         Ask(Put(b"j", b"v", NONE), Done),
         Get(b"j", Shows(&[V], FIRST_OF_SECOND)),
     ],
+    ..NEW_VNODE
 }];
 
 /// Plans a put, once more where memory was refused, and makes it. Whichever one growth is refused (the tests run with

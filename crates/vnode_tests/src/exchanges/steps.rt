@@ -199,9 +199,24 @@ pub(crate) use Step::{
     Ask, AskTimes, ClosedAt, Counted, Get, GetWith, HasDead, LastEpoch, Reap, ReapFirst, Sweep,
 };
 
-/// Steps, taken one after the other with a new vnode.
+/// An exchange with a new vnode.
+#[derive(Clone, Copy)]
 pub(crate) struct Exchange {
-    /// What it shows, in words.
     pub(crate) shows: &'static str,
+    /// What others begin with too.
+    pub(crate) begin: &'static [Step],
     pub(crate) steps: &'static [Step],
 }
+
+/// One in which nothing is asked. Rows say what is other.
+pub(crate) const NEW_VNODE: Exchange = Exchange {
+    shows: "",
+    begin: &[],
+    steps: &[],
+};
+
+/// "v" is put under k, and "w" beside it.
+pub(crate) const PUTS_V_AND_W: &[Step] = &[
+    Ask(Put(b"k", b"v", NONE), Done),
+    Ask(Put(b"k", b"w", NONE), Done),
+];

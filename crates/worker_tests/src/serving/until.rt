@@ -14,7 +14,7 @@ use node_commands::{UntilSettings, serve_on_until};
 use ring_map::Ring;
 use std::alloc::Global;
 use std::io::{ErrorKind, Read};
-use std::net::{Net, TcpListener, TcpStream};
+use std::net::{Net, TcpListener};
 use std::process::Abort;
 use std::rt::Clock;
 use std::sync::Wait;
