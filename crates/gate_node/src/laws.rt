@@ -23,7 +23,7 @@ ghost use Rattle.std.specs.Prelude.{Option};
 /// Each position at which a [`GateNode`](crate::GateNode) answers, and before which commands alone stand, is a legal history of the
 /// sibling register, and the state there is its replay. For the node's step names the position and its run (`leads` of `IsMade` and `IsSaid` in
 /// `specs/Asking` of `rw_gate`), that the gate was made round a new vnode, and that the id of this vnode is one that a vnode can have: for that of
-/// the key's partition `made_new` and `limits` of `AtIndex` in `specs/GateNodeStep`, for the partition's fallback those of `IsFallback`
+/// the key's partition `made_new` and `limits` of `AtIndex` in `specs/GateStep`, for the partition's fallback those of `IsFallback`
 /// (`is_new` of `AtFallback` and of `AtClosed`).
 pub fn positions_are_legal()
     ensures { (vnode last_epoch : ℕ) (gate : GateId View) (events : List VnodeEvent) (state : State Content)
@@ -80,7 +80,7 @@ pub fn gate_node_is_register()
 
 /// Each reply of a node whose passes have seen beginnings of one list of histories is at a position of the history of its key's vnode. For
 /// where a step in these histories answers a get, a put or a delete, the events of which the reply is (`answered` of `steps` of `AtIndex` in
-/// `specs/GateNodeStep`) are a beginning of that history. These are the histories of the primaries: where a fallback answers, the law says
+/// `specs/GateStep`) are a beginning of that history. These are the histories of the primaries: where a fallback answers, the law says
 /// nothing. Whoever serves several connections over the gates of a run, and takes the tallies of the run behind them
 /// ([`tallies_of`](crate::tallies_of)), can say of each of their steps that it is one in the same histories (`StepIn` of `specs/OneHistory`).
 pub fn replies_are_at_positions()

@@ -1,5 +1,5 @@
 -- Copies that a pass published stay what they are.
-use Rattle.std.proofs.Common.{◌≡◌, ◌∙◌, ◌+◌, ℕ, zero, suc, List, [], ◌∷◌, ◌++◌, length, length-append, refl, sym, ap, subst}
+use Rattle.std.proofs.Common.{◌≡◌, ◌∙◌, ◌+◌, ℕ, zero, suc, List, [], ◌∷◌, ◌++◌, length, length-append, sym, ap, subst}
 use Rattle.std.specs.Prelude.{Option, Some, None, IfNone, IfOk, IfSome, Result, Ok, Err, slice_get}
 use Rattle.std.proofs.lemmas.List.Elements.{All-weaker, All-push}
 use mathlib.Core.List.{IsPrefix}
@@ -13,6 +13,7 @@ use Rattle.vnode_core.specs.declared.event.VnodeEvent.TheVariants as events
 use Rattle.vnode_core.specs.Events.{EntryAsks}
 use Rattle.vnode_core.specs.KeyCopies.{KeyCopyView}
 use Rattle.vnode_core.specs.Plans.{View}
+use Rattle.vnode_core.proofs.Lists.{get-last}
 use Rattle.handoff.specs.declared.copying.Step.{Step}
 use Rattle.handoff.specs.declared.fault.Stop.{Stop}
 use Rattle.handoff.specs.declared.copying.Step.TheVariants.{End, Passed, Made, Stuck}
@@ -25,10 +26,6 @@ get_more : {A : Type 0} (xs ys : List A) (k : ℕ) (x : A) → slice_get xs k �
 get_more [] ys k x at = absurd (none_some x at)
 get_more (y ∷ xs) ys zero x at = at
 get_more (y ∷ xs) ys (suc k) x at = get_more xs ys k x at
-
-get_last : {A : Type 0} (xs : List A) (x : A) → slice_get (xs ++ x ∷ []) (length xs) ≡ Some x
-get_last [] x = refl
-get_last (y ∷ xs) x = get_last xs x
 
 get_prefix : {A : Type 0} (xs ys : List A) (k : ℕ) (x : A) → IsPrefix xs ys → slice_get xs k ≡ Some x → slice_get ys k ≡ Some x
 get_prefix xs ys k x p at = subst (λ zs. slice_get zs k ≡ Some x) p.1 (get_more xs p.0 k x at)
@@ -63,7 +60,7 @@ copies-push n old mine theirs theirs' gate there all one =
     let grown : IsPrefix old.prefix mine.prefix = prefix_trans old.prefix one.position mine.prefix one.begins (one.entry ∷ [], sym one.seen) in
     let last : HasCopyAt n mine theirs' (length one.position) = record {
       entry = one.entry;
-      stands = subst (λ zs. slice_get zs (length one.position) ≡ Some one.entry) (sym one.seen) (get_last one.position one.entry);
+      stands = subst (λ zs. slice_get zs (length one.position) ≡ Some one.entry) (sym one.seen) (get-last one.position one.entry);
       copy = one.copy;
     } in
     subst (λ (ks : List ℕ). AreCopies n mine theirs' ks) (sym one.own)

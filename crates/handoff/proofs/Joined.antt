@@ -29,11 +29,12 @@ use Rattle.copy_laws.proofs.LastBrought.{last_dot_brings_all}
 use Rattle.rw_gate.specs.Machines.{MachineRun}
 use Rattle.vnode_core.specs.declared.entry.Entry.{Entry}
 use Rattle.vnode_core.specs.declared.entry.Entry.TheVariants.{Command, Copied, Closed}
+use Rattle.vnode_core.specs.Left.{has_last_dot, is_copied}
 use Rattle.vnode_core.specs.Events.{Makes, all_commands, commands_of, event_command, history_after}
 use Rattle.vnode_core.specs.Plans.{View}
 use Rattle.vnode_core.proofs.Entries.{commands_of-all_commands}
 use Rattle.handoff.specs.Joined.{IsHandedOff, IsJoinedIn, IsOfLastFallback, IsOfPrimary, ReturnJoinsKeys, log_after, log_entry}
-use Rattle.handoff.specs.Left.{AreCopied, has_last_dot, is_copied}
+use Rattle.handoff.specs.Left.{AreCopied}
 use Rattle.handoff.specs.Returning.{EndsDiversion}
 use Rattle.handoff.specs.Sights.{Sight, LeadsVnodeTo, ShowsState}
 use Rattle.handoff.proofs.Meeting.{prefix-replays}

@@ -8,12 +8,12 @@ use Rattle.vnode_core.specs.KeyCopies.{KeyCopyView}
 use Rattle.vnode_core.specs.declared.entry.Entry.{Entry}
 use Rattle.vnode_core.specs.declared.entry.Entry.TheVariants as entries
 use Rattle.vnode_core.specs.Events.{commands_of}
+use Rattle.vnode_core.specs.Left.{count_left}
 use Rattle.vnode_core.specs.Plans.{View}
 use Rattle.handoff.specs.declared.copying.Copied.{Copied}
 use Rattle.handoff.specs.declared.fault.HandoffFault.{HandoffFault}
 use Rattle.handoff.specs.declared.fault.HandoffFault.TheVariants as faults
 use Rattle.handoff.specs.declared.gates.Fallback.{Fallback}
-use Rattle.handoff.specs.Left.{count_left}
 use Rattle.handoff.specs.Partitions.{HandoffView}
 use Rattle.handoff.specs.Sights.{Sight, LeadsVnodeTo, ShowsState, ShowsClosed}
 

@@ -14,14 +14,14 @@ ghost use Rattle.handoff.specs.Steps.{IsStopOf, CopiesOrStays};
 use crate::counting::look_left;
 use crate::fault::Stop;
 use crate::gates::Fallback;
-use crate::left::{Found, Left, is_copied, next_left};
+use crate::left::{Found, Left, next_left};
 use clock_store::KeyRef;
 use ghost_state::{GhostList, Listing};
 use riak_msgs::Key;
 use rw_gate::{AskOutcome, Gate, Pass, ReadRight, WriteRight, ask_shown};
 use std::alloc::Global;
 use std::sync::Wait;
-use vnode_core::{Ask, KeyCopy, Vnode, VnodeEvent};
+use vnode_core::{Ask, KeyCopy, Vnode, VnodeEvent, is_copied};
 
 /// How many keys are looked at under the same rights, but for one: so long puts at the fallback wait for a look that finds all copied.
 const STRETCH: u32 = 15;

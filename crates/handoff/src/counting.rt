@@ -1,5 +1,5 @@
 //! How many keys of a fallback are left, by a look at both gates.
-ghost use Rattle.std.specs.Prelude.{◌≡◌, IfOk, IfErr};
+ghost use Rattle.std.specs.Prelude.{◌≡◌, ◌-◌, ◌^◌, min, IfOk, IfErr};
 ghost use mathlib.Core.List.{IsPrefix};
 ghost use Rattle.handoff.specs.Copying.{CountsLeft};
 ghost use Rattle.handoff.specs.Sights.{IsOfVnode};
@@ -7,11 +7,20 @@ ghost use Rattle.handoff.specs.Steps.{IsStopOf};
 
 use crate::copying::Diverted;
 use crate::fault::Stop;
-use crate::left::count_left;
 use rw_gate::{Pass, ReadRight};
 use std::alloc::Global;
 use std::sync::Wait;
-use vnode_core::Vnode;
+use vnode_core::{Vnode, count_left};
+
+/// A count of keys, as a copy back says it: 4,294,967,295 where there are more.
+fn as_told(count: u64) -> u32
+    ensures { result ≡ min count (2 ^ 32 - 1) }
+{
+    match u32::try_from(count) {
+        Ok(count) => count,
+        Err(_) => u32::MAX,
+    }
+}
 
 /// How many keys aren't copied as they are now, by a look at both.
 pub(crate) fn look_left<R: Wait>(
@@ -67,5 +76,5 @@ fn left_under(
     }
     let to = here.look(mine)?;
     let left = count_left(alloc, to, from)?;
-    Ok(left)
+    Ok(as_told(left))
 }

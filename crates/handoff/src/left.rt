@@ -1,16 +1,15 @@
 //! The keys of a fallback that aren't copied as they are now.
-ghost use Rattle.std.specs.Prelude.{◌≡◌, ◌+◌, ◌-◌, ◌^◌, min, IfOk, IfNone, IfSome, None};
+ghost use Rattle.std.specs.Prelude.{◌≡◌, IfOk, IfNone, IfSome, None};
 ghost use Rattle.std.specs.Option.{option_map};
 ghost use Rattle.clock_store.specs.KeyRefs.{key_after};
 ghost use Rattle.clock_store.specs.Keys.{stored_of};
 ghost use Rattle.vnode_machine.specs.Sound.{IsSound};
-ghost use Rattle.handoff.specs.Left.{AreCopied, FindsLeft, IsNextLeft, count_left, is_copied, one_unless};
+ghost use Rattle.handoff.specs.Left.{AreCopied, FindsLeft, IsNextLeft};
 
 use clock_store::{KeyRef, StoredClock};
-use dvv_set::Clock;
-use riak_msgs::{Content, Key};
+use riak_msgs::Key;
 use std::alloc::{AllocError, Global};
-use vnode_core::Vnode;
+use vnode_core::{Vnode, is_copied};
 
 /// A key of a fallback that isn't copied as it is now, and what the fallback stores of it.
 #[derive(Drop)]
@@ -37,19 +36,6 @@ fn refs_of(key: Option<&Key>) -> Option<KeyRef<'_>>
     match key {
         None => None,
         Some(key) => Some(KeyRef::of(key)),
-    }
-}
-
-/// Whether the primary has a key as the fallback has it now: the fallback's own actor of the key, with the fallback's counter.
-pub(crate) fn is_copied(primary: &Vnode, key: &Key, there: &StoredClock) -> bool
-    ensures { result ≡ is_copied primary.now.state (key.now, stored_of there.now) }
-{
-    let Some(own) = there.actor.get() else {
-        return false;
-    };
-    match primary.clock(key) {
-        None => false,
-        Some(clock) => clock.counter_of(own) == there.clock.counter_of(own),
     }
 }
 
@@ -103,38 +89,5 @@ pub(crate) fn first_left<'a>(
             Found::Next(left) => return Ok(Some(left)),
             Found::Passed(key) => at = Some(key),
         }
-    }
-}
-
-/// How many keys are left with one more that is copied or isn't; at most 4,294,967,295.
-fn add_left(count: u32, is_copied: bool) -> u32
-    ensures { result ≡ min (count + one_unless is_copied) (2 ^ 32 - 1) }
-{
-    if is_copied {
-        return count;
-    }
-    count.saturating_add(1)
-}
-
-/// How many keys of the fallback's vnode the primary's hasn't as they are there now; 4,294,967,295 where there are more. Each key is
-/// copied, to be found at the primary: refused where memory is.
-pub(crate) fn count_left(
-    alloc: Global,
-    primary: &Vnode,
-    fallback: &Vnode,
-) -> Result<u32, AllocError>
-    requires { IsSound fallback.now.state }
-    ensures { IfOk result (λ count. count
-        ≡ min (count_left primary.now.state fallback.now.state.keys) (2 ^ 32 - 1)) }
-{
-    let mut count: u32 = 0;
-    let mut at = None;
-    loop {
-        let Some((parts, stored)) = fallback.next_key(at) else {
-            return Ok(count);
-        };
-        let key = parts.to_key(alloc)?;
-        count = add_left(count, is_copied(primary, &key, stored));
-        at = Some(parts);
     }
 }

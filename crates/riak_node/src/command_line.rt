@@ -76,8 +76,8 @@ pub struct StepsOptions {
 }
 
 /// The command that serves standard input.
-fn pipe<'a>(alloc: Global) -> Result<clap::Subcommand<'a>, AllocError> {
-    clap::Subcommand::new(alloc, "pipe")
+fn pipe<'a>(alloc: Global) -> Result<clap::Command<'a>, AllocError> {
+    clap::Command::new(alloc, "pipe")
         .about(
             "Serves requests from standard input, and writes their replies to standard output, by a new node whose keys are lost with it",
         )
@@ -93,8 +93,8 @@ fn pipe<'a>(alloc: Global) -> Result<clap::Subcommand<'a>, AllocError> {
 }
 
 /// The command that serves connections, without its options.
-fn bare_serve<'a>(alloc: Global) -> clap::Subcommand<'a> {
-    clap::Subcommand::new(alloc, "serve")
+fn bare_serve<'a>(alloc: Global) -> clap::Command<'a> {
+    clap::Command::new(alloc, "serve")
         .about(
             "Serves connections to a port, by a new node whose keys are lost with it, until it is ended or has served as many as are asked for",
         )
@@ -110,7 +110,7 @@ fn bare_serve<'a>(alloc: Global) -> clap::Subcommand<'a> {
 }
 
 /// The command that serves connections.
-fn serve<'a>(alloc: Global) -> Result<clap::Subcommand<'a>, AllocError> {
+fn serve<'a>(alloc: Global) -> Result<clap::Command<'a>, AllocError> {
     bare_serve(alloc)
         .arg(options::address(alloc))?
         .arg(options::port(alloc))?
@@ -124,8 +124,8 @@ fn serve<'a>(alloc: Global) -> Result<clap::Subcommand<'a>, AllocError> {
 }
 
 /// The command that plays a schedule.
-fn steps<'a>(alloc: Global) -> Result<clap::Subcommand<'a>, AllocError> {
-    clap::Subcommand::new(alloc, "steps")
+fn steps<'a>(alloc: Global) -> Result<clap::Command<'a>, AllocError> {
+    clap::Command::new(alloc, "steps")
         .about(
             "Plays a schedule: reads steps of workers over new vnodes from standard input, and writes what came of each",
         )
@@ -144,8 +144,8 @@ fn steps<'a>(alloc: Global) -> Result<clap::Subcommand<'a>, AllocError> {
 }
 
 /// The program without its commands.
-fn bare_program<'a>(alloc: Global) -> clap::Subcommand<'a> {
-    clap::Subcommand::new(alloc, "riak_node")
+fn bare_program<'a>(alloc: Global) -> clap::Command<'a> {
+    clap::Command::new(alloc, "riak_node")
         .version("0.1.0")
         .about("A key-value node that keeps siblings and speaks Riak's Protocol Buffers client API")
         .after_help(
@@ -158,9 +158,9 @@ fn bare_program<'a>(alloc: Global) -> clap::Subcommand<'a> {
 
 /// A program with one command more, where that could be made.
 fn with_command<'a>(
-    program: clap::Subcommand<'a>,
-    command: Result<clap::Subcommand<'a>, AllocError>,
-) -> Result<clap::Subcommand<'a>, AllocError> {
+    program: clap::Command<'a>,
+    command: Result<clap::Command<'a>, AllocError>,
+) -> Result<clap::Command<'a>, AllocError> {
     match command {
         Ok(command) => program.subcommand(command),
         Err(refused) => Err(refused),
@@ -168,7 +168,7 @@ fn with_command<'a>(
 }
 
 /// The program.
-fn program<'a>(alloc: Global) -> Result<clap::Subcommand<'a>, AllocError> {
+fn program<'a>(alloc: Global) -> Result<clap::Command<'a>, AllocError> {
     let program = with_command(bare_program(alloc), serve(alloc))?;
     let program = with_command(program, pipe(alloc))?;
     with_command(program, steps(alloc))

@@ -24,7 +24,7 @@ mod watch;
 mod watched_input;
 
 use clap::error::ErrorKind;
-use command_line::{Command, PipeOptions, ServeOptions, StepsOptions};
+use command_line::{PipeOptions, ServeOptions, StepsOptions, Subcommand};
 use drained_console::DrainedConsole;
 use log::{Level, Log, Logged, warn};
 use node_commands::{ServeFault, UntilSettings, pipe, serve_on_until};
@@ -209,9 +209,9 @@ fn main(rt: HostRuntime) -> io::Result<ExitCode> {
     let alloc = rt.alloc();
     let args: Vec<String> = std::env::args(&rt)?.collect(alloc)?;
     match command_line::read(alloc, args.as_slice()) {
-        Ok(Command::Pipe(options)) => serve_streams(&rt, options),
-        Ok(Command::Steps(options)) => play_steps(&rt, options),
-        Ok(Command::Serve(options)) => {
+        Ok(Subcommand::Pipe(options)) => serve_streams(&rt, options),
+        Ok(Subcommand::Steps(options)) => play_steps(&rt, options),
+        Ok(Subcommand::Serve(options)) => {
             let logged = Logged::new(rt, Level::Info, DrainedConsole::new(rt, alloc));
             serve_all(&logged, alloc, options, rt.stdin(), &mut rt.stdout())
         }

@@ -72,7 +72,7 @@ fn compare(
         (option_and_then call_of (option_copied call.entry)) comparison.old) }
 {
     match call {
-        Some(Step::RegisterAsk(_, _, request)) => comparison.reply(alloc, line, request, reply),
+        Some(Step::Ask(_, _, request)) => comparison.reply(alloc, line, request, reply),
         _ => Ok(()),
     }
 }
@@ -96,7 +96,7 @@ fn tell(comparison: &mut Comparison, call: &Step)
         ≡ option_map_or (λ ask. after_call ask comparison.old) (call_of call.now) comparison.old }
 {
     match call {
-        Step::RegisterAsk(_, _, request) => comparison.call(request),
+        Step::Ask(_, _, request) => comparison.call(request),
         Step::Reap(_, _, _)
         | Step::Enter(_)
         | Step::Leave(_)

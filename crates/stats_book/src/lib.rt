@@ -6,7 +6,7 @@
 //! them, in whatever order. No count is lost and none is made up.
 //!
 //! A [`ReplyCounter`] is what one worker counts by: its share, its book, and whether the book had no room for some of it
-//! (`specs/ReplyCounter`).
+//! (`specs/Counter`).
 //!
 //! What it costs: an addition is one lock and one sum with a test for overflow. Only [`Book::new`] takes memory, for the
 //! vector of shares.

@@ -13,7 +13,7 @@ use Rattle.riak_msgs.specs.KeyOrder.{key_cmp}
 use Rattle.actor_epoch.specs.declared.Actor.{Actor}
 use Rattle.vnode_machine.specs.Machine.{State, Stored, stored, clock_of}
 use Rattle.clock_store.specs.Keys.{Keys, synced}
-use Rattle.vnode_machine.specs.Copying.{IsClock, is_stuck, apply_copy}
+use Rattle.vnode_machine.specs.Copying.{IsStoredClock, is_stuck, apply_copy}
 use Rattle.vnode_machine.specs.Sound.{IsSound}
 use Rattle.vnode_core.specs.declared.ask.Ask.TheVariants.{Copy}
 use Rattle.vnode_core.specs.declared.ask.Answer.TheVariants.{Copied}
@@ -35,7 +35,7 @@ not-stuck false h = refl
 
 -- it is taken, by what its key and its clock were lent as, and by a vnode with the same keys
 pub takes-copy : (state : State Content) (keys : Keys) (copy : KeyCopyView) (key : Key) (clock : DotState (Option Content))
-    → key ≡ copy.key → clock ≡ copy.clock → IsClock copy.clock → state.closed ≡ None → is_stuck state key clock ≡ false → keys ≡ state.keys
+    → key ≡ copy.key → clock ≡ copy.clock → IsStoredClock copy.clock → state.closed ≡ None → is_stuck state key clock ≡ false → keys ≡ state.keys
     → AcceptsAsk (record state { keys = keys }) (Copy copy)
 takes-copy state keys copy key clock of-key of-clock form opened unstuck same =
     let free : is_stuck state copy.key copy.clock ≡ false = (λ i. is_stuck state (sym of-key i) (sym of-clock i)) ∙ unstuck in

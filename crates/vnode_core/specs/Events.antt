@@ -8,7 +8,7 @@ use Rattle.sibling_register.specs.Answers.{RegisterAsk as Command, AskPut, AskDe
 use Rattle.sibling_register.specs.Legal.{IsLegal}
 use Rattle.actor_epoch.specs.Given.{Context, context_of}
 use Rattle.vnode_machine.specs.Asks.{put_command, del_command}
-use Rattle.vnode_machine.specs.Copying.{IsClock, is_stuck, apply_copy, apply_close}
+use Rattle.vnode_machine.specs.Copying.{IsStoredClock, is_stuck, apply_copy, apply_close}
 use Rattle.vnode_machine.specs.Dead.{is_from, first_dead}
 use Rattle.vnode_machine.specs.Machine.{State, opening, apply_operation}
 use Rattle.vnode_machine.specs.Registers.{next_event, IsNext}
@@ -65,7 +65,7 @@ AreCommands entries = (events : List VnodeEvent) × (entries ≡ all_commands ev
 abbrev pub MakesOpen : State Content → Entry → State Content → Type 0
 MakesOpen state (Commanded event) next = outcome state (event_command event) ≡ Accepted (event_deed event) (event_response event) next
 MakesOpen state (Copied copy) next =
-    IsClock copy.clock × IsTrue (not (is_stuck state copy.key copy.clock)) × (next ≡ apply_copy state copy.key copy.clock)
+    IsStoredClock copy.clock × IsTrue (not (is_stuck state copy.key copy.clock)) × (next ≡ apply_copy state copy.key copy.clock)
 MakesOpen state (Closed number) next = next ≡ apply_close state number
 
 -- a closed one takes none

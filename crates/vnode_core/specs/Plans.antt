@@ -8,7 +8,7 @@ use Rattle.sibling_register.specs.History.{Write, Tombstone, Reap as Forget}
 use Rattle.sibling_register.specs.Answers.{RegisterAsk as Command, AskPut, AskDel, AskReap}
 use Rattle.actor_epoch.specs.Given.{Context}
 use Rattle.vnode_machine.specs.Asks.{put_command, del_command}
-use Rattle.vnode_machine.specs.Copying.{IsClock, is_stuck, apply_copy, apply_close}
+use Rattle.vnode_machine.specs.Copying.{IsStoredClock, is_stuck, apply_copy, apply_close}
 use Rattle.vnode_machine.specs.Dead.{first_dead}
 use Rattle.vnode_machine.specs.Machine.{State}
 use Rattle.vnode_machine.specs.Replay.{AtEachHistory}
@@ -56,7 +56,7 @@ AcceptsOpen state (Put put) = IsAcceptedStep (outcome state (AskPut (put_command
 AcceptsOpen state (Del del) = IsAcceptedStep (outcome state (AskDel (del_command del)))
 AcceptsOpen state (Reap key) = IsAcceptedStep (outcome state (AskReap key))
 AcceptsOpen state (ReapFirst from) = IsAcceptedStep (first_reap state from)
-AcceptsOpen state (Copy copy) = IsClock copy.clock × IsTrue (not (is_stuck state copy.key copy.clock))
+AcceptsOpen state (Copy copy) = IsStoredClock copy.clock × IsTrue (not (is_stuck state copy.key copy.clock))
 AcceptsOpen state (Close number) = Unit {0}
 
 -- a closed one takes none

@@ -1,7 +1,7 @@
 //! A key with its clock, as one vnode hands it to another.
 
 ghost use Rattle.std.specs.Prelude.{◌≡◌, IfOk};
-ghost use Rattle.vnode_machine.specs.Copying.{IsClock};
+ghost use Rattle.vnode_machine.specs.Copying.{IsStoredClock};
 ghost use Rattle.clock_store.specs.KeyRefs.{key_in};
 
 use crate::event::VnodeEvent;
@@ -38,7 +38,7 @@ impl Drop for KeyCopy {
 }
 
 impl Model for KeyCopy {
-    ghost use Rattle.vnode_machine.specs.Copying.{IsClock};
+    ghost use Rattle.vnode_machine.specs.Copying.{IsStoredClock};
     ghost use Rattle.vnode_core.specs.KeyCopies.{KeyCopyView};
 
     ghost Value = { KeyCopyView };
@@ -50,13 +50,13 @@ impl Model for KeyCopy {
       prefix = c.prefix;
     } };
 
-    ghost invariant = { λ c. IsClock c.parts.value.clock.meaning };
+    ghost invariant = { λ c. IsStoredClock c.parts.value.clock.meaning };
 }
 
-/// Copies of siblings.
-struct CopySibling;
+/// Clones the siblings of a clock (`Clock::try_clone`): each clone is one owner more of its content's bytes.
+pub struct CloneSibling;
 
-impl CloneValue<Option<Content>> for CopySibling {
+impl CloneValue<Option<Content>> for CloneSibling {
     fn clone_value(
         sibling: &Option<Content>,
         _alloc: Global,
@@ -77,13 +77,13 @@ impl KeyCopy {
         diversion: u32,
         prefix: GhostList<VnodeEvent>,
     ) -> Result<KeyCopy, AllocError>
-        requires { IsClock stored.now.clock.meaning }
+        requires { IsStoredClock stored.now.clock.meaning }
         ensures key { IfOk result (λ copy. copy.key ≡ key_in key.entry) }
         ensures clock { IfOk result (λ copy. copy.clock ≡ stored.now.clock.meaning) }
         ensures diversion { IfOk result (λ copy. copy.diversion ≡ diversion) }
         ensures prefix { IfOk result (λ copy. copy.prefix ≡ prefix) }
     {
-        let clock = stored.clock.try_clone::<CopySibling>(alloc)?;
+        let clock = stored.clock.try_clone::<CloneSibling>(alloc)?;
         let key = key.to_key(alloc)?;
         let parts = Box::new(
             alloc,
@@ -106,7 +106,7 @@ impl KeyCopy {
     /// The clock that it had.
     pub fn clock(&self) -> &Clock<Option<Content>>
         ensures meaning { result.now.meaning ≡ self.now.clock }
-        ensures form { IsClock self.now.clock }
+        ensures form { IsStoredClock self.now.clock }
     {
         &self.parts.clock
     }

@@ -13,13 +13,17 @@
 //!
 //! What is prepared is in the vnode's model, the whole command with its options and its context as given, and a
 //! [`Change`] is that command and nothing else. Room, the actor and the answer that were made for it lie in the vnode, so
-//! nothing that callers see is a place, an index or a number of actors; the next `prepare` or `finish` ends it.
+//! nothing that callers see is a place, an index or a number of actors. The next `prepare` or `finish` ends the command; the room of a
+//! copy that was given up stays until room is made again, or a reap or a close ends it.
 //!
-//! Behind a gate (`rw_gate`) a vnode is a [`Kept`] state, and an [`Entry`] is what its history consists of: an [`VnodeEvent`], which is a
+//! Behind a gate (`rw_gate`) a vnode is a [`Kept`] state, and an [`Entry`] is what its history consists of: a [`VnodeEvent`], which is a
 //! command that was accepted with its answer, a copy of a key from another vnode, or the close of a vnode, after which it takes nothing
 //! more. Its change there, a [`LoggedChange`], carries for clauses alone the
 //! vnode that it was prepared from, and the two name the [`VnodeEvent`] that it makes in the gate's history, with its answer.
 //! [`histories_are_legal`] is the law of such a history.
+//!
+//! A vnode may stand beside another, as the fallback of a primary: [`is_copied`] says whether the primary has a key as the fallback has it
+//! now, and [`count_left`] how many keys it hasn't so.
 //!
 //! Its storage is any [`ClockStore`](clock_store::ClockStore): a [`VnodeOver`] is proved from that trait's contract
 //! alone, so each form of storage gives the same vnode, and [`Vnode`] is the one over the ordered map. What a key costs
@@ -57,6 +61,7 @@ mod event;
 mod kept;
 mod key_copy;
 mod laws;
+mod left;
 mod ready;
 mod refusal;
 mod replies;
@@ -69,12 +74,13 @@ pub use copy_laws::copy_joins;
 pub use entry::Entry;
 pub use event::{VnodeEvent, histories_are_legal};
 pub use kept::LoggedChange;
-pub use key_copy::KeyCopy;
+pub use key_copy::{CloneSibling, KeyCopy};
 pub use laws::{
     dots_are_of_lives, first_dead_is_least, machine_is_register, no_dot_is_issued_twice,
     runs_are_histories, shown_context_is_the_name, shown_contexts_name_positions,
     values_leave_only_covered,
 };
+pub use left::{count_left, is_copied};
 pub use refusal::Refusal;
 pub use rw_gate::Kept;
 pub use vnode::{Tally, Vnode, VnodeOver};

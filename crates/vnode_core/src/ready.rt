@@ -1,12 +1,7 @@
 //! What lies ready for the command that is prepared.
 
 ghost use Rattle.std.specs.Prelude.{◌≡◌, Some};
-ghost use Rattle.riak_msgs.specs.declared.Key.{Key};
-ghost use Rattle.riak_msgs.specs.Contents.{Content};
 ghost use Rattle.rw_gate.specs.declared.kept.Plan.TheVariants.{Nothing};
-ghost use Rattle.vnode_machine.specs.Machine.{State, stored};
-ghost use Rattle.vnode_core.specs.Checks.{found_in};
-ghost use Rattle.vnode_core.specs.Reaping.{reap_result};
 ghost use Rattle.vnode_core.specs.Vnodes.{writes_after, tombstones_after};
 ghost use Rattle.vnode_core.specs.Readiness.{plan_in};
 
@@ -14,7 +9,6 @@ use crate::ask::{Answer, Ask, Plan, Reaped};
 use crate::change::Change;
 use crate::checks::Writer;
 use crate::refusal::Refusal;
-use clock_store::StoredClock;
 
 /// Who makes the write that is prepared, and its answer.
 #[derive(Drop)]
@@ -65,23 +59,6 @@ pub(crate) fn refuse(ask: Ask, refusal: Refusal) -> Refusal
 {
     drop(ask);
     refusal
-}
-
-/// The result of a reap of a key, by what was found of it.
-pub(crate) fn reap_result(found: Option<&StoredClock>) -> Reaped
-    ensures { (state : State Content) (key : Key) →
-        found_in found.entry ≡ stored state key → result ≡ reap_result state key }
-{
-    match found {
-        None => Reaped::Absent,
-        Some(stored) => {
-            if stored.has_value() {
-                Reaped::Kept
-            } else {
-                Reaped::Gone
-            }
-        }
-    }
 }
 
 /// How many writes there are after a command.

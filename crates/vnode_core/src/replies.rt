@@ -201,7 +201,7 @@ fn show_filled(
     ensures { IfOk result (λ s. s ≡ shown is_bare (filled content.now sibling.entry)) }
 {
     match sibling {
-        None => show_content(alloc, content, is_bare),
+        None => Shown::of_content(alloc, content, is_bare),
         Some(sibling) => show(alloc, sibling, is_bare),
     }
 }

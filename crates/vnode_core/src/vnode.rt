@@ -294,8 +294,9 @@ impl<S: ClockStore> VnodeOver<S> {
 
     /// Plans a command: checks it, makes all the room that it needs, and its answer. Nothing changes until the change is
     /// finished; a change that isn't finished is as if never asked for, and the next `prepare` ends it, also one that is
-    /// refused. A delete without context of an absent key does nothing: it is `Plan::Nothing`, whatever memory there is. So is a copy
-    /// that is `Stuck`, and whatever is asked of a vnode that is closed: the answer is `Closed`.
+    /// refused. The room of a copy that was given up stays until room is made again, or a reap or a close ends it. A delete without
+    /// context of an absent key does nothing: it is `Plan::Nothing`, whatever memory there is. So is a copy that is `Stuck`, and
+    /// whatever is asked of a vnode that is closed: the answer is `Closed`.
     ///
     /// The answer to a put shows nothing, or with `return_body` all siblings after it, the newest first, and the context;
     /// with `return_head` alone the same with empty values.

@@ -6,7 +6,7 @@ ghost use Rattle.riak_msgs.specs.KeyOrder.{key_cmp};
 ghost use Rattle.clock_store.specs.Behind.{next_entry};
 ghost use Rattle.clock_store.specs.KeyRefs.{key_in, key_after};
 ghost use Rattle.clock_store.specs.Keys.{stored_of};
-ghost use Rattle.vnode_machine.specs.Copying.{IsClock};
+ghost use Rattle.vnode_machine.specs.Copying.{IsStoredClock};
 ghost use Rattle.vnode_machine.specs.Machine.{opening, stored};
 ghost use Rattle.vnode_machine.specs.Replay.{IsAfter};
 ghost use Rattle.vnode_core.specs.Checks.{last_dot};
@@ -60,7 +60,7 @@ impl<S: ClockStore> VnodeOver<S> {
     pub fn next_key(&self, after: Option<KeyRef<'_>>) -> Option<(KeyRef<'_>, &StoredClock)>
         ensures next { option_map (λ entry. (key_in entry.0, stored_of entry.1.now)) result
             ≡ next_entry key_cmp (key_after after.entry) self.now.state.keys }
-        ensures form { IfSome result (λ entry. IsClock entry.1.now.clock.meaning) }
+        ensures form { IfSome result (λ entry. IsStoredClock entry.1.now.clock.meaning) }
     {
         self.store.next(after)
     }

@@ -8,7 +8,7 @@ ghost use Rattle.vnode_core.specs.Readiness.{plan_in};
 ghost use Rattle.vnode_core.specs.Reaping.{key_given, reap_result, after_reap, after_first_reap, LosesFirstDead};
 
 use crate::ask::{Answer, Ask, Reaped};
-use crate::ready::{Readiness, reap_result};
+use crate::ready::Readiness;
 use crate::vnode::VnodeOver;
 use clock_store::ClockStore;
 use ghost_state::GhostValue;
@@ -64,7 +64,7 @@ impl<S: ClockStore> VnodeOver<S> {
         ensures same { self.new.state ≡ self.old.state }
         ensures plans { Plans self.new (Reap key.now) (plan_in result (Reap key.now)) }
     {
-        match reap_result(self.store.get(key)) {
+        match Reaped::of(self.store.get(key)) {
             Reaped::Gone => {
                 self.prepared = GhostValue::some(ask);
                 Readiness::Ready

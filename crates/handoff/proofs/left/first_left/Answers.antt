@@ -2,9 +2,11 @@ use Rattle.std.proofs.Common.{sym, subst}
 use Rattle.std.specs.Prelude.{Option, Some}
 use Rattle.clock_store.specs.Keys.{Keys}
 use Rattle.riak_msgs.specs.declared.Key.{Key}
-use Rattle.handoff.specs.Left.{FindsLeft, GoesOnInRest, keys_behind}
+use Rattle.vnode_core.specs.Left.{keys_behind}
+use Rattle.vnode_core.proofs.Lefts.{behind-none}
+use Rattle.handoff.specs.Left.{FindsLeft, GoesOnInRest}
 use Rattle.handoff.specs.declared.left.Found.{Found}
-use Rattle.handoff.proofs.Lefts.{behind-none, first-found, goes-on, goes-through}
+use Rattle.handoff.proofs.Lefts.{first-found, goes-on, goes-through}
 use Rattle.handoff.proofs.left.first_left.Goals as goal
 
 pub loop-at-init : goal.loop-at-init

@@ -1,5 +1,6 @@
 use Rattle.std.proofs.Common.{length}
-use Rattle.handoff.specs.Left.{GoesOnInRest, keys_behind}
+use Rattle.vnode_core.specs.Left.{keys_behind}
+use Rattle.handoff.specs.Left.{GoesOnInRest}
 use Rattle.handoff.proofs.left.first_left.Given as goal
 
 abbrev pub invariant-loop-at : goal.invariant-loop-at

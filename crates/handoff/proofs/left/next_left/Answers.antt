@@ -4,8 +4,10 @@ use Rattle.std.specs.Option.{option_map}
 use Rattle.clock_store.specs.KeyRefs.{key_after, key_in}
 use Rattle.clock_store.specs.Keys.{stored_of}
 use Rattle.riak_msgs.specs.declared.Key.{Key}
-use Rattle.handoff.specs.Left.{GoesOnInRest, keys_behind}
-use Rattle.handoff.proofs.Lefts.{behind-last, copied-none, goes-on, next-copied, next-fewer, next-left, next-passed}
+use Rattle.vnode_core.specs.Left.{keys_behind}
+use Rattle.vnode_core.proofs.Lefts.{behind-last, next-fewer}
+use Rattle.handoff.specs.Left.{GoesOnInRest}
+use Rattle.handoff.proofs.Lefts.{copied-none, goes-on, next-copied, next-left, next-passed}
 use Rattle.handoff.proofs.left.next_left.Goals as goal
 
 pub loop-parts-init : goal.loop-parts-init

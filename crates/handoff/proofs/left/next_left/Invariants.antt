@@ -1,7 +1,8 @@
 use Rattle.std.proofs.Common.{◌≤◌, length}
 use Rattle.std.specs.Option.{option_map}
 use Rattle.clock_store.specs.KeyRefs.{key_after}
-use Rattle.handoff.specs.Left.{GoesOnInRest, keys_behind}
+use Rattle.vnode_core.specs.Left.{keys_behind}
+use Rattle.handoff.specs.Left.{GoesOnInRest}
 use Rattle.handoff.proofs.left.next_left.Given as goal
 
 abbrev pub invariant-loop-parts : goal.invariant-loop-parts

@@ -4,11 +4,11 @@ use Rattle.clock_store.specs.Keys.{Keys, stored_of}
 use Rattle.rw_gate.specs.Views.{GateId}
 use Rattle.vnode_core.specs.declared.entry.Entry.TheVariants.{Closed}
 use Rattle.vnode_core.specs.Plans.{View}
+use Rattle.vnode_core.proofs.Lefts.{behind-none}
 use Rattle.handoff.specs.declared.left.Left.{Left}
 use Rattle.handoff.specs.Left.{IsFirstLeft, IsNextLeft}
 use Rattle.handoff.specs.Sights.{LeadsVnodeTo}
 use Rattle.handoff.proofs.Copies.{if-none, if-some}
-use Rattle.handoff.proofs.Lefts.{behind-none}
 use Rattle.handoff.proofs.Showing.{shown, shown-sound}
 use Rattle.handoff.proofs.returning.close_shown.Goals as goal
 

@@ -11,7 +11,7 @@ pub invariant_of-self : goal.invariant_of-self
 invariant_of-self g c =
     let v = fields c.self.inside.id c.self.inside.epochs c.self.inside.writes c.self.inside.tombstones c.self.inside.reaps (g.S.ClockStore.shows c.self.inside.store) c.self.inside.ready c.self.inside.prepared c.self.inside.closed in
     let opened = ap (λ (w : View). w.state.closed) c.self.view_is ∙ c.requires.opened in
-    let gone : Gone ≡ reap_result (state_of v) c.args.key.now = sym c.in-Gone.is ∙ c.reap_result.ensures (state_of v) c.args.key.now c.get.ensures in
+    let gone : Gone ≡ reap_result (state_of v) c.args.key.now = sym c.in-Gone.is ∙ c.of.ensures (state_of v) c.args.key.now c.get.ensures in
     record {
       sound = c.self.invariant.sound;
       ready = subst (IsReadyFor (state_of v) v.store v.ready) (sym (c.some.ensures ∙ ap Some c.requires.is)) (opened, is-accepted (state_of v) c.args.key.now gone);
@@ -21,5 +21,5 @@ pub returns-in-Gone-clause-plans : goal.returns-in-Gone-clause-plans
 returns-in-Gone-clause-plans g c =
     let v = fields c.self.inside.id c.self.inside.epochs c.self.inside.writes c.self.inside.tombstones c.self.inside.reaps (g.S.ClockStore.shows c.self.inside.store) c.self.inside.ready c.self.inside.prepared c.self.inside.closed in
     let opened = ap (λ (w : View). w.state.closed) c.self.view_is ∙ c.requires.opened in
-    let gone : Gone ≡ reap_result (state_of v) c.args.key.now = sym c.in-Gone.is ∙ c.reap_result.ensures (state_of v) c.args.key.now c.get.ensures in
+    let gone : Gone ≡ reap_result (state_of v) c.args.key.now = sym c.in-Gone.is ∙ c.of.ensures (state_of v) c.args.key.now c.get.ensures in
     record { is = refl; prepared = c.some.ensures ∙ ap Some c.requires.is; accepted = (opened, is-accepted (state_of v) c.args.key.now gone) }
