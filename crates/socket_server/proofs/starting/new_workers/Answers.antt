@@ -1,4 +1,4 @@
-use Rattle.std.proofs.Common.{◌≡◌, ◌∙◌, ◌+◌, ◌∷◌, List, [], ap, sym, subst, length, arith}
+use Rattle.std.proofs.Common.{◌≡◌, ◌∙◌, ◌+◌, ◌∷◌, [], ap, sym, subst, length, arith}
 use Rattle.std.proofs.lemmas.List.{length-append}
 use Rattle.std.proofs.lemmas.List.Elements.{All-append, All-cons, All-nil, All-head, All-tail}
 use Rattle.std.specs.List.{All}
@@ -20,7 +20,7 @@ loop-sink-preserved g c =
     let longer = ap length added.1 ∙ length-append c.loop-sink.stations.items (added.0 ∷ []) in
     let counted = was.2 in (
       All-tail IsUnused c.in-Some.sink rest all,
-      subst (λ items. All HasUnused items) (sym {A = List (Station g.row.S.Denot)} added.1) (All-append HasUnused c.loop-sink.stations.items (added.0 ∷ []) was.1 (All-cons HasUnused added.0 [] unused (All-nil HasUnused))),
+      subst (λ items. All HasUnused items) (sym added.1) (All-append HasUnused c.loop-sink.stations.items (added.0 ∷ []) was.1 (All-cons HasUnused added.0 [] unused (All-nil HasUnused))),
       omega (arith, longer, shorter, counted),
       c.in_ok-add_worker.ensures.inbox ∙ ap (λ n. n + 1) was.3 ∙ sym longer,
     )
