@@ -11,6 +11,7 @@ use Rattle.rw_gate.specs.Views.{GateId}
 use Rattle.vnode_machine.specs.Replay.{IsWithinLimits}
 use Rattle.vnode_core.specs.Plans.{View}
 use Rattle.vnode_core.specs.Events.{IsMadeNew}
+use Rattle.vnode_core.proofs.Lists.{set-here}
 use Rattle.stats_book.specs.declared.quantity.Quantity.{Quantity}
 use Rattle.stats_book.specs.Counter.{Count, CountsAnswer}
 use Rattle.handoff.specs.declared.gates.Fallback.{Fallback}
@@ -20,7 +21,6 @@ use Rattle.gate_node.specs.declared.passes.FallbackPass.{FallbackPass}
 use Rattle.gate_node.specs.Asked.{Sight, AnswersAndReaps}
 use Rattle.gate_node.specs.GateStep.{NodeOverGates, AtIndex, AtFallback, AtClosed, LooksAtPrimary, events_seen}
 use Rattle.gate_node.specs.Passes.{AnswersAtFallback, FindsClosed}
-use Rattle.gate_node.proofs.Seeing.{set_here}
 
 made_new_at : (run index i : ℕ) (gates : List (GateId View)) (gate : GateId View) → AreMadeNew run index gates → slice_get gates i ≡ Some gate → IsMadeNew (id_of run (index + i)) 0 gate
 made_new_at run index i [] gate all at = absurd (none_some gate at)
@@ -125,4 +125,4 @@ looks_at node i p q within is gate more own =
 pub seen_there : (node : NodeOverGates) (i : ℕ) (p q : Sight) → i < length node.passes.primaries → p ≡ get_or node.passes.primaries i p
     → length q.prefix ≡ events_seen (record node { passes = record node.passes { primaries = slice_set node.passes.primaries i q } }) i
 seen_there node i p q within is =
-    ap (λ (o : Option Sight). option_map_or (λ (pass : Sight). length pass.prefix) o 0) (sym (set_here node.passes.primaries i p q (got node.passes.primaries i p within is)))
+    ap (λ (o : Option Sight). option_map_or (λ (pass : Sight). length pass.prefix) o 0) (sym (set-here node.passes.primaries i p q (got node.passes.primaries i p within is)))

@@ -20,6 +20,7 @@ use Rattle.vnode_core.specs.declared.ask.Ask.TheVariants as asks
 use Rattle.vnode_core.specs.Events.{AreCommands, IsMadeNew, commands_of, all_commands}
 use Rattle.vnode_core.specs.Plans.{View}
 use Rattle.vnode_core.proofs.Entries.{all_commands-commands_of, commands_before}
+use Rattle.vnode_core.proofs.Lists.{set-here}
 use Rattle.handoff.specs.Partitions.{fallback_id}
 use Rattle.node_session.specs.Answers.{AnswersInTurn}
 use Rattle.node_session.specs.Answered.{AnsweredInput as Output}
@@ -37,7 +38,7 @@ use Rattle.gate_node.proofs.Keeping.{step-keeps}
 use Rattle.node_session.proofs.HandingBack.{Held, run_in, end_in, stops_in}
 use Rattle.gate_node.proofs.Answering.{put_answers, del_answers, get_answers}
 use Rattle.gate_node.proofs.Unclosed.{commands_close_nothing, gets_open}
-use Rattle.gate_node.proofs.Seeing.{all_reaps_more, from_adds, set_here, set_there, undiverted_seen, diverted_seen, kept_seen, resumed_seen, step_commands}
+use Rattle.gate_node.proofs.Seeing.{all_reaps_more, from_adds, set_there, undiverted_seen, diverted_seen, kept_seen, resumed_seen, step_commands}
 
 -- the last epoch behind which a gate's vnode began
 epoch_of : (vnode last_epoch : ℕ) (gate : GateId View) → IsMadeNew vnode last_epoch gate → last_epoch ≡ first_epoch gate
@@ -62,7 +63,7 @@ module _ (index : ℕ) (command : Command Content Context) (old new : NodeOverGa
       let node = λ (i : ℕ). ap (λ (n : NodeOverGates). entries_by n i) at.node in
       let had : at.before.prefix ≡ entries_by old index = sym (undiverted_seen _ _ (slice_get old.passes.fallbacks index) at.before none at.stands) in
       let has : at.after.prefix ≡ entries_by new index
-      = sym (node index ∙ undiverted_seen _ _ (slice_get old.passes.fallbacks index) at.after none (set_here old.passes.primaries index at.before at.after at.stands)) in
+      = sym (node index ∙ undiverted_seen _ _ (slice_get old.passes.fallbacks index) at.after none (set-here old.passes.primaries index at.before at.after at.stands)) in
       let id : VnodeId = record { vnode = id_of old.shared.run index; last_epoch = 0 } in
       let is : id ≡ vnode_at old.shared index = ap (id_at old.shared.run index) (sym none) in
       let more = all_reaps_more old.shared.budget at.reaps at.steps.answered at.after at.steps.reaps in
@@ -80,7 +81,7 @@ module _ (index : ℕ) (command : Command Content Context) (old new : NodeOverGa
       let had : at.before.prefix ≡ entries_by old index
       = sym (diverted_seen _ (slice_get old.passes.primaries index) _ at.fallback at.kept at.diverted at.stood ∙ resumed_seen at.fallback at.kept at.before None at.resumes) in
       let has : at.after.prefix ≡ entries_by new index
-      = sym (node index ∙ (diverted_seen _ (slice_get old.passes.primaries index) _ at.fallback kept at.diverted (set_here old.passes.fallbacks index at.kept kept at.stood) ∙ kept_seen at.fallback at.after None)) in
+      = sym (node index ∙ (diverted_seen _ (slice_get old.passes.primaries index) _ at.fallback kept at.diverted (set-here old.passes.fallbacks index at.kept kept at.stood) ∙ kept_seen at.fallback at.after None)) in
       let first : VnodeId = record { vnode = fallback_id old.shared.run index; last_epoch = at.is_new.last_epoch } in
       let is : first ≡ vnode_at old.shared index
       = ap (λ e. record { vnode = fallback_id old.shared.run index; last_epoch = e }) (epoch_of first.vnode first.last_epoch at.fallback.gate at.is_new.made_new) ∙ ap (id_at old.shared.run index) (sym at.diverted) in
@@ -98,7 +99,7 @@ no_close index number old found new reply Answers are c from =
     let kept = kept_of c.fallback c.after (Some number) in
     let has : entries_by found index ≡ c.after.prefix
     = ap (λ (n : NodeOverGates). entries_by n index) c.node
-    ∙ (diverted_seen _ (slice_get old.passes.primaries index) _ c.fallback kept c.diverted (set_here old.passes.fallbacks index c.kept kept c.stood) ∙ kept_seen c.fallback c.after (Some number)) in
+    ∙ (diverted_seen _ (slice_get old.passes.primaries index) _ c.fallback kept c.diverted (set-here old.passes.fallbacks index c.kept kept c.stood) ∙ kept_seen c.fallback c.after (Some number)) in
     let commands = commands_before (entries_by found index) (entries_by new index) (from_adds index index number found reply new Answers from) (are index) in
     let made = subst (λ (g : GateId View). IsMadeNew (fallback_id old.shared.run index) c.is_new.last_epoch g) (sym (c.closed.gate ∙ c.of_gate)) c.is_new.made_new in
     commands_close_nothing (fallback_id old.shared.run index) c.is_new.last_epoch number c.after c.is_new.limits made (subst AreCommands has commands) c.closed.closed

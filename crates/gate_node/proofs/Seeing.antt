@@ -39,12 +39,7 @@ all_reaps_more budget count old new r = elim r.rest [
   | inr ends ↦ prefix_trans old.prefix r.reaped.prefix new.prefix (reaps_more count old r.reaped r.made) ends.more
 ]
 
--- a list at an index that was set, and at another
-pub set_here : {A : Type 0} (xs : List A) (i : ℕ) (x y : A) → slice_get xs i ≡ Some x → slice_get (slice_set xs i y) i ≡ Some y
-set_here [] i x y h = cc (h)
-set_here (z ∷ xs) zero x y h = refl
-set_here (z ∷ xs) (suc i) x y h = set_here xs i x y h
-
+-- a list at an index beside one that was set
 pub set_there : {A : Type 0} (xs : List A) (i j : ℕ) (y : A) → j ≢ i → slice_get (slice_set xs i y) j ≡ slice_get xs j
 set_there [] i j y ne = refl
 set_there (z ∷ xs) zero zero y ne = absurd (ne refl)

@@ -3,16 +3,14 @@ use Rattle.std.proofs.Common.{◌≡◌, ◌∙◌, ℕ, List, [], ◌∷◌, re
 use Rattle.std.specs.Prelude.{Option, Some, None, IsSome}
 use Rattle.riak_msgs.specs.Contents.{Content}
 use Rattle.riak_msgs.specs.declared.GetAsk.{GetAsk}
-use Rattle.riak_msgs.specs.declared.Key.{Key}
 use Rattle.riak_msgs.specs.declared.Reply.{Reply}
 use Rattle.rw_gate.specs.Histories.{RunFrom}
 use Rattle.rw_gate.specs.Machines.{MachineRun}
 use Rattle.rw_gate.specs.Views.{GateId}
-use Rattle.sibling_register.specs.History.{Operation, Write, Tombstone, Reap}
-use Rattle.actor_epoch.specs.Given.{Context}
-use Rattle.vnode_machine.specs.Machine.{State, opening, apply_operation, state_after}
+use Rattle.vnode_machine.specs.Machine.{State, opening, state_after}
 use Rattle.vnode_machine.specs.Replay.{History, IsWithinLimits}
 use Rattle.vnode_machine.specs.Step.{Accepted}
+use Rattle.vnode_machine.proofs.Updates.{closed-kept}
 use Rattle.vnode_core.specs.declared.ask.Ask.{Ask}
 use Rattle.vnode_core.specs.declared.ask.Ask.TheVariants as asks
 use Rattle.vnode_core.specs.declared.ask.Answer.{Answer}
@@ -85,15 +83,10 @@ comes_open ask old new history state (Outcomes.Refused refusal) comes leads open
 comes_open ask old new history state Outcomes.Moved comes leads opened under = tt
 comes_open ask old new history state Outcomes.Full comes leads opened under = tt
 
--- a command closes nothing
-operation_closes : (state : State Content) (key : Key) (context : Option Context) (operation : Operation Content) → (apply_operation state key context operation).closed ≡ state.closed
-operation_closes state key context (Write content) = refl
-operation_closes state key context Tombstone = refl
-operation_closes state key context Reap = refl
-
+-- a history closes nothing
 history_closes : (first : State Content) (history : History) → (state_after first history).closed ≡ first.closed
 history_closes first [] = refl
-history_closes first (event ∷ before) = operation_closes (state_after first before) event.key event.context event.operation ∙ history_closes first before
+history_closes first (event ∷ before) = closed-kept (state_after first before) event.key event.context event.operation ∙ history_closes first before
 
 -- so of a new vnode no close was seen where commands alone were
 pub commands_close_nothing : (vnode last_epoch number : ℕ) (pass : Sight) → IsWithinLimits vnode last_epoch → IsMadeNew vnode last_epoch pass.gate → AreCommands pass.prefix → HasSeenClose pass number → ⊥

@@ -7,7 +7,7 @@ ghost use Rattle.gate_node.specs.Passes.{AnswersAtFallback, AnswersBy, FindsClos
 
 use crate::gated_vnode::show;
 use crate::passes::{FallbackPass, renew};
-use crate::replies::{get_quantity, outcome_quantity, outcome_reply};
+use crate::replies::{counted_reply, get_quantity};
 use crate::shared::Shared;
 use crate::turnstile::Turnstile;
 use handoff::Fallback;
@@ -107,10 +107,7 @@ fn answer_change_open<W: Wait, T: Turnstile>(
     let found = ask_open_under(&mut right, alloc, pass, change);
     right.release();
     match found {
-        Ok(outcome) => {
-            let quantity = outcome_quantity(&outcome);
-            Ok((outcome_reply(outcome), quantity))
-        }
+        Ok(outcome) => Ok(counted_reply(outcome)),
         Err(back) => Err(back),
     }
 }

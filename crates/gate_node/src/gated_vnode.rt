@@ -3,7 +3,7 @@ ghost use Rattle.std.specs.Prelude.{◌≡◌, nat_le, length};
 ghost use mathlib.Core.List.{IsPrefix};
 ghost use Rattle.gate_node.specs.Asked.{RepliesToGet, IsShownGet, Gets, Changes, ReapsUpTo, AnswersAndReaps};
 
-use crate::replies::{get_quantity, outcome_quantity, outcome_reply};
+use crate::replies::{counted_reply, get_quantity};
 use crate::shared::Shared;
 use crate::turnstile::Turnstile;
 use riak_msgs::{GetAsk, Reply, Text};
@@ -81,8 +81,7 @@ fn answer_change<W: Wait, T: Turnstile>(
     shared.enter(turnstile);
     let outcome = ask_under(&mut right, alloc, pass, change);
     right.release();
-    let quantity = outcome_quantity(&outcome);
-    (outcome_reply(outcome), quantity)
+    counted_reply(outcome)
 }
 
 /// Forgets the vnode's first dead keys, so many at most, each under a right to write of its own, until no further one is

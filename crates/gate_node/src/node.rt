@@ -8,7 +8,7 @@ ghost use Rattle.gate_node.specs.GateStep.{AnswersMoved, AtDiverted, AnswersAtPa
 ghost use Rattle.gate_node.specs.Passes.{ArePassesOf};
 
 use crate::diverted::{change_diverted, get_diverted};
-use crate::gated_vnode::{Answered, catch_up, change_and_reap, get_and_reap};
+use crate::gated_vnode::{catch_up, change_and_reap, get_and_reap};
 use crate::passes::{FallbackPass, Passes};
 use crate::shared::Shared;
 use crate::turnstile::Turnstile;
@@ -154,13 +154,9 @@ impl<'a, W: Wait, T: Turnstile, G: Ledger, P: Ledger, D: Ledger, E: Ledger, R: L
         let gate = &gates[index];
         let pass = &mut self.primaries[index];
         let answered = get_and_reap(self.rt, alloc, shared, self.turnstile, gate, pass, get);
-        let Answered {
-            reply,
-            quantity,
-            reaps,
-        } = answered;
-        self.counter.count_answer(self.rt, quantity, reaps);
-        reply
+        self.counter
+            .count_answer(self.rt, answered.quantity, answered.reaps);
+        answered.reply
     }
 
     /// Answers what may change a vnode at the primary of a partition.
@@ -173,13 +169,9 @@ impl<'a, W: Wait, T: Turnstile, G: Ledger, P: Ledger, D: Ledger, E: Ledger, R: L
         let gate = &gates[index];
         let pass = &mut self.primaries[index];
         let answered = change_and_reap(self.rt, alloc, shared, self.turnstile, gate, pass, change);
-        let Answered {
-            reply,
-            quantity,
-            reaps,
-        } = answered;
-        self.counter.count_answer(self.rt, quantity, reaps);
-        reply
+        self.counter
+            .count_answer(self.rt, answered.quantity, answered.reaps);
+        answered.reply
     }
 
     /// Answers a get at the fallback of a partition, or gives the number of its close.

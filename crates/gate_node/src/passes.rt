@@ -59,8 +59,7 @@ fn empty_places(alloc: Global, size: usize) -> Result<Vec<Option<FallbackPass>>,
     ensures size { IfOk result (λ places. length places.items ≡ size) }
 {
     let mut places = Vec::with_capacity(alloc, size)?;
-    for index in 0..size {
-        let _ = index;
+    for _ in 0..size {
         places.push(None)?;
     }
     Ok(places)

@@ -9,7 +9,7 @@ use stats_book::Quantity;
 use vnode_core::{Answer, Refusal};
 
 /// The reply for what came of an ask: its answer, or an error.
-pub(crate) fn outcome_reply(outcome: AskOutcome<Answer, Refusal>) -> Reply
+fn outcome_reply(outcome: AskOutcome<Answer, Refusal>) -> Reply
     ensures { result ≡ outcome_reply outcome }
 {
     match outcome {
@@ -53,7 +53,7 @@ fn told_quantity(answer: &Answer) -> Option<Quantity>
 }
 
 /// What is counted of what came of an ask. A delete that changes nothing isn't, but the error that its vnode is closed is.
-pub(crate) fn outcome_quantity(outcome: &AskOutcome<Answer, Refusal>) -> Option<Quantity>
+fn outcome_quantity(outcome: &AskOutcome<Answer, Refusal>) -> Option<Quantity>
     ensures { result ≡ outcome_quantity outcome.now }
 {
     match outcome {
@@ -61,4 +61,14 @@ pub(crate) fn outcome_quantity(outcome: &AskOutcome<Answer, Refusal>) -> Option<
         AskOutcome::Told(answer) => told_quantity(answer),
         AskOutcome::Refused(_) | AskOutcome::Moved | AskOutcome::Full => Some(Quantity::Refusals),
     }
+}
+
+/// The reply for what came of an ask, and what is counted of it.
+#[inline(always)]
+pub(crate) fn counted_reply(outcome: AskOutcome<Answer, Refusal>) -> (Reply, Option<Quantity>)
+    ensures reply { result.0 ≡ outcome_reply outcome }
+    ensures quantity { result.1 ≡ outcome_quantity outcome }
+{
+    let quantity = outcome_quantity(&outcome);
+    (outcome_reply(outcome), quantity)
 }

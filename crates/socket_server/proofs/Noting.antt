@@ -1,45 +1,32 @@
 -- The ends of a worker's steps, and of one step more.
-use Rattle.std.proofs.Common.{◌≡◌, ◌++◌, ℕ, List, [], ◌∷◌, Option, Some, None, Result, Ok, Err, refl, ap, ◌∙◌, append-nil}
+use Rattle.std.proofs.Common.{◌≡◌, ◌++◌, ℕ, List, [], ◌∷◌, Option, Some, None, Result, Ok, Err, ap, ◌∙◌, append-nil}
 use Rattle.std.specs.Prelude.{IfOk, OnErr}
 use Rattle.slab.specs.Slab.{Slab}
-use Rattle.open_jobs.specs.declared.step.JobEvent.{JobEvent}
-use Rattle.open_jobs.specs.declared.step.JobEvent.TheVariants.{Began, Continued, Ended}
 use Rattle.open_jobs.specs.declared.step.JobStep.{JobStep}
 use Rattle.open_jobs.specs.Events.{ended}
 use Rattle.open_jobs.specs.Interleaving.{events_of}
 use Rattle.open_jobs.specs.Jobs.{OpenJobsView, Opens, TakesStep}
-
-module _ {J O E : Type 0} where
-  -- one event in front
-  after_one : (event : JobEvent J O E) (more less : List (JobEvent J O E)) (ends : List E) → ended more ≡ ended less ++ ends → ended (event ∷ more) ≡ ended (event ∷ less) ++ ends
-  after_one (Began job opened) more less ends p = p
-  after_one (Continued from to) more less ends p = p
-  after_one (Ended from end) more less ends p = ap (λ (es : List E). end ∷ es) p
+use Rattle.open_jobs.proofs.OneMore.{ended-step}
 
 module _ {W J O E : Type 0} where
-  -- one step behind
-  pub ended-append : (steps : List (JobStep W J O E)) (step : JobStep W J O E) → ended (events_of (steps ++ step ∷ [])) ≡ ended (events_of steps) ++ ended (step.event ∷ [])
-  ended-append [] step = refl
-  ended-append (one ∷ steps) step = after_one one.event (events_of (steps ++ step ∷ [])) (events_of steps) (ended (step.event ∷ [])) (ended-append steps step)
-
   module _ (Begins : J → O → Type 0) where
     -- a beginning is no end, nor is one that was refused
     pub ends-begin : {X : Type 0} (job : J) (old new : OpenJobsView W J O E) (slots : Slab O) (result : Result ℕ X)
         → IfOk result (λ slot. Opens Begins slot job old new) → OnErr result (new ≡ record old { slots = slots })
         → ended (events_of new.steps) ≡ ended (events_of old.steps)
-    ends-begin job old new slots (Ok slot) opens same = ap (λ (steps : List (JobStep W J O E)). ended (events_of steps)) opens.adds.steps ∙ ended-append old.steps _ ∙ append-nil _
+    ends-begin job old new slots (Ok slot) opens same = ap (λ (steps : List (JobStep W J O E)). ended (events_of steps)) opens.adds.steps ∙ ended-step old.steps _ ∙ append-nil _
     ends-begin job old new slots (Err refused) opens same = ap (λ (view : OpenJobsView W J O E). ended (events_of view.steps)) same
 
   module _ (Continues : W → O → W → O → Type 0) (Ends : W → O → W → E → Type 0) where
     -- a step to an end adds it
     pub ends-Finishes : (slot : ℕ) (opened : Option O) (old new : OpenJobsView W J O E) (end : E) → TakesStep Continues Ends slot opened old (Some end) new → ended (events_of new.steps) ≡ ended (events_of old.steps) ++ end ∷ []
     ends-Finishes slot None old new end takes = absurd takes
-    ends-Finishes slot (Some from) old new end takes = ap (λ (steps : List (JobStep W J O E)). ended (events_of steps)) takes.adds.steps ∙ ended-append old.steps _
+    ends-Finishes slot (Some from) old new end takes = ap (λ (steps : List (JobStep W J O E)). ended (events_of steps)) takes.adds.steps ∙ ended-step old.steps _
 
     -- any other leaves the ends
     pub ends-KeepsOpen : (slot : ℕ) (opened : Option O) (old new : OpenJobsView W J O E) → TakesStep Continues Ends slot opened old None new → ended (events_of new.steps) ≡ ended (events_of old.steps)
     ends-KeepsOpen slot None old new takes = ap (λ (view : OpenJobsView W J O E). ended (events_of view.steps)) takes
-    ends-KeepsOpen slot (Some from) old new takes = ap (λ (steps : List (JobStep W J O E)). ended (events_of steps)) takes.adds.steps ∙ ended-append old.steps _ ∙ append-nil _
+    ends-KeepsOpen slot (Some from) old new takes = ap (λ (steps : List (JobStep W J O E)). ended (events_of steps)) takes.adds.steps ∙ ended-step old.steps _ ∙ append-nil _
 
     -- a step leaves the worker's first state
     pub first-TakesStep : (slot : ℕ) (opened : Option O) (old new : OpenJobsView W J O E) (end : Option E) → TakesStep Continues Ends slot opened old end new → new.first ≡ old.first

@@ -1,5 +1,5 @@
 //! A worker's life: a node over the gates with a book of its own.
-ghost use Rattle.std.specs.Prelude.{◌≡◌, [], ◌∷◌, ◌++◌, false, true, IfOk, IfSome};
+ghost use Rattle.std.specs.Prelude.{◌≡◌, [], ◌∷◌, false, IfOk};
 ghost use Rattle.stats_book.specs.Counting.{zeros};
 ghost use Rattle.stats_book.specs.Holdings.{AllAre};
 ghost use Rattle.stats_book.specs.declared.totals.Totals.{Totals};
@@ -51,7 +51,8 @@ fn serve_by<X, S, G, P, D, E, R>(
     book: &Book<G, P, D, E, R>,
     share: Share<G, P, D, E, R>,
     passes: Passes,
-    station: Station<S>,
+    sink: S,
+    waits: &mut Waits,
     inbox: &Inbox,
     idle_seconds: Option<u32>,
 ) -> (Share<G, P, D, E, R>, WorkerParts<S>)
@@ -66,11 +67,10 @@ where
     requires share { share ≡ zeros }
     requires passes { ArePassesOf shared.now passes }
     requires unused { AreUnused passes }
-    requires sink { S.given station.sink ≡ [] }
+    requires sink { S.given sink ≡ [] }
     ensures { result.1.book_full ≡ false →
         WorkerCounts GateNodeStep shared.now (S.given result.1.sink) result.1.passes result.0 }
 {
-    let Station { waits, sink } = station;
     let node = GateNode::new(rt, shared, book, share, passes, &Open);
     let (node, sink) = attend(rt, alloc, node, sink, waits, inbox, idle_seconds);
     let (share, passes, book_full) = node.parts();
@@ -84,75 +84,19 @@ where
     )
 }
 
-/// Puts a share back. False where memory is refused; it is let go then.
-fn put_back<G: Ledger, P: Ledger, D: Ledger, E: Ledger, R: Ledger>(
-    shares: &mut Vec<Share<G, P, D, E, R>>,
-    share: Share<G, P, D, E, R>,
-) -> bool
-    ensures { result ≡ true → shares.new.items ≡ shares.old.items ++ share ∷ [] }
-{
-    shares.push(share).is_ok()
-}
-
-/// The same by a share that is put back where it was taken. None where memory is refused.
+/// The same by the one share that there is, which is put back.
 fn serve_by_one<X, S, G, P, D, E, R>(
     rt: &X,
     alloc: Global,
     shared: &Shared,
     book: &Book<G, P, D, E, R>,
-    share: Share<G, P, D, E, R>,
     shares: &mut Vec<Share<G, P, D, E, R>>,
-    station: Station<S>,
+    passes: Passes,
+    sink: S,
+    waits: &mut Waits,
     inbox: &Inbox,
     idle_seconds: Option<u32>,
-) -> Option<WorkerParts<S>>
-where
-    X: Log + Clock + Wait,
-    S: EndSink + Drop,
-    G: Ledger,
-    P: Ledger,
-    D: Ledger,
-    E: Ledger,
-    R: Ledger,
-    requires share { share ≡ zeros }
-    requires none { shares.old.items ≡ [] }
-    requires sink { S.given station.sink ≡ [] }
-    ensures { IfSome result (λ left. (counted : Totals) × (shares.new.items ≡ counted ∷ [])
-        × (left.book_full ≡ false →
-        WorkerCounts GateNodeStep shared.now (S.given left.sink) left.passes counted)) }
-{
-    let Ok(passes) = Passes::new(alloc, shared) else {
-        return None;
-    };
-    let (share, left) = serve_by(
-        rt,
-        alloc,
-        shared,
-        book,
-        share,
-        passes,
-        station,
-        inbox,
-        idle_seconds,
-    );
-    if put_back(shares, share) {
-        Some(left)
-    } else {
-        None
-    }
-}
-
-/// The same by the one share that there is, which is put back. None where there is none, or where memory is refused.
-fn serve_by_all<X, S, G, P, D, E, R>(
-    rt: &X,
-    alloc: Global,
-    shared: &Shared,
-    book: &Book<G, P, D, E, R>,
-    shares: &mut Vec<Share<G, P, D, E, R>>,
-    station: Station<S>,
-    inbox: &Inbox,
-    idle_seconds: Option<u32>,
-) -> Option<WorkerParts<S>>
+) -> WorkerParts<S>
 where
     X: Log + Clock + Wait,
     S: EndSink + Drop,
@@ -162,25 +106,30 @@ where
     E: Ledger,
     R: Ledger,
     requires shares { shares.old.items ≡ zeros ∷ [] }
-    requires sink { S.given station.sink ≡ [] }
-    ensures { IfSome result (λ left. (counted : Totals) × (shares.new.items ≡ counted ∷ [])
-        × (left.book_full ≡ false →
-        WorkerCounts GateNodeStep shared.now (S.given left.sink) left.passes counted)) }
+    requires passes { ArePassesOf shared.now passes }
+    requires unused { AreUnused passes }
+    requires sink { S.given sink ≡ [] }
+    ensures { (counted : Totals) × (shares.new.items ≡ counted ∷ [])
+        × (result.book_full ≡ false →
+        WorkerCounts GateNodeStep shared.now (S.given result.sink) result.passes counted) }
 {
-    match shares.pop() {
-        Some(share) => serve_by_one(
-            rt,
-            alloc,
-            shared,
-            book,
-            share,
-            shares,
-            station,
-            inbox,
-            idle_seconds,
-        ),
-        None => None,
-    }
+    let Some(share) = shares.pop() else {
+        unreachable!()
+    };
+    let (share, left) = serve_by(
+        rt,
+        alloc,
+        shared,
+        book,
+        share,
+        passes,
+        sink,
+        waits,
+        inbox,
+        idle_seconds,
+    );
+    shares.push_reserved(share);
+    left
 }
 
 /// What a worker counted, with what it left, where its book was never full.
@@ -211,7 +160,9 @@ fn count_by<X, S, G, P, D, E, R>(
     rt: &X,
     alloc: Global,
     shared: &Shared,
-    station: Station<S>,
+    passes: Passes,
+    sink: S,
+    waits: &mut Waits,
     inbox: &Inbox,
     idle_seconds: Option<u32>,
     blanks: Blanks,
@@ -230,27 +181,58 @@ where
     requires refusals { (blanks.refusals.name ≡ E.name) × (blanks.refusals.parts ≡ E.parts) }
     requires reaps { (blanks.reaps.name ≡ R.name) × (blanks.reaps.parts ≡ R.parts) }
     requires parts { AllAre 1 G.parts P.parts D.parts E.parts R.parts }
-    requires sink { S.given station.sink ≡ [] }
+    requires passes { ArePassesOf shared.now passes }
+    requires unused { AreUnused passes }
+    requires sink { S.given sink ≡ [] }
     ensures { IfOk result (λ outcome.
         WorkerCounts GateNodeStep shared.now (S.given outcome.sink) outcome.passes outcome.totals) }
 {
     let Ok((book, mut shares)) = Book::<G, P, D, E, R>::new(alloc, 1, blanks) else {
         return Err(ServerFault::NoMemory);
     };
-    let left = serve_by_all(
+    let left = serve_by_one(
         rt,
         alloc,
         shared,
         &book,
         &mut shares,
-        station,
+        passes,
+        sink,
+        waits,
         inbox,
         idle_seconds,
     );
-    match left {
-        Some(left) => outcome_of(close(book, shares), left),
-        None => Err(ServerFault::NoMemory),
-    }
+    outcome_of(close(book, shares), left)
+}
+
+/// The same by new passes and a book of its own. Returns what it counted.
+fn count<X: Log + Clock + Wait, S: EndSink + Drop>(
+    rt: &X,
+    alloc: Global,
+    shared: &Shared,
+    station: Station<S>,
+    inbox: &Inbox,
+    idle_seconds: Option<u32>,
+) -> Result<WorkerOutcome<S>, ServerFault>
+    requires { S.given station.sink ≡ [] }
+    ensures { IfOk result (λ outcome.
+        WorkerCounts GateNodeStep shared.now (S.given outcome.sink) outcome.passes outcome.totals) }
+{
+    let Ok(passes) = Passes::new(alloc, shared) else {
+        return Err(ServerFault::NoMemory);
+    };
+    let Station { mut waits, sink } = station;
+    count_by::<X, S, Brand, Brand, Brand, Brand, Brand>(
+        rt,
+        alloc,
+        shared,
+        passes,
+        sink,
+        &mut waits,
+        inbox,
+        idle_seconds,
+        Blanks::new(1),
+    )
 }
 
 /// A worker's life: it serves the connections that come to its inbox, until no more come or that is told to stop, and all of them
@@ -267,15 +249,7 @@ pub(crate) fn work<X: Log + Clock + Wait, S: EndSink + Drop>(
     ensures { IfOk result (λ outcome.
         WorkerCounts GateNodeStep shared.now (S.given outcome.sink) outcome.passes outcome.totals) }
 {
-    let counted = count_by::<X, S, Brand, Brand, Brand, Brand, Brand>(
-        rt,
-        alloc,
-        shared,
-        station,
-        inbox,
-        idle_seconds,
-        Blanks::new(1),
-    );
+    let counted = count(rt, alloc, shared, station, inbox, idle_seconds);
     if counted.is_err() {
         inbox.close(rt, alloc);
     }

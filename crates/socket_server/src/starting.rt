@@ -123,12 +123,12 @@ where
 {
     let mut left = stations.into_iter();
     for at in 0..inboxes.len() {
-        let Some(station) = left.next() else {
-            return Err(ServerFault::NoThread);
-        };
         if children.reserve(1).is_err() {
             return Err(ServerFault::NoMemory);
         }
+        let Some(station) = left.next() else {
+            return Err(ServerFault::NoThread);
+        };
         let inbox = &inboxes[at];
         match start_worker(scope, rt, alloc, shared, station, inbox, idle_seconds) {
             Ok(child) => children.push_reserved(child),

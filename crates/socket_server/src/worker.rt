@@ -311,7 +311,7 @@ pub(crate) fn attend<X: Log + Clock + Wait, N: Node + Drop, S: EndSink + Drop>(
     alloc: Global,
     node: N,
     sink: S,
-    mut waits: Waits,
+    waits: &mut Waits,
     inbox: &Inbox,
     idle_seconds: Option<u32>,
 ) -> (N, S)
@@ -327,7 +327,7 @@ pub(crate) fn attend<X: Log + Clock + Wait, N: Node + Drop, S: EndSink + Drop>(
         lingering: Lingering::new(alloc),
         clock: WorkerClock::new(rt, idle_seconds),
     };
-    desk.work(&mut waits);
+    desk.work(waits);
     let Desk { jobs, .. } = desk;
     jobs.into_parts()
 }

@@ -1,4 +1,4 @@
-use Rattle.socket_server.proofs.counting.work.Given as goal
+use Rattle.socket_server.proofs.counting.count.Given as goal
 
 abbrev pub ghosts-count_by-G-Ledger : goal.ghosts-count_by-G-Ledger
 ghosts-count_by-G-Ledger g a = record { name = a.blanks.gets.name; parts = a.blanks.gets.parts }
