@@ -10,7 +10,7 @@ use Rattle.gate_node.specs.Asked.{Sight}
 use Rattle.gate_node.specs.Gates.{Gates}
 use Rattle.gate_node.specs.Passes.{Sights}
 use Rattle.gate_node.specs.Tallies.{GateHistory, IsTally}
-use Rattle.gate_node.specs.OneHistory.{IsSeen, AreOfGates, PassIsOfGate, HasSeen, HaveSeen, CallersAreOfRun, CallersAreOfGate, AllHaveSeen, SharesHistory, ShareHistories}
+use Rattle.gate_node.specs.OneHistory.{IsSeen, AreOfGates, PassIsOfGate, HasSeen, HaveSeen, CallersAreOfRun, CallersAreOfGate, SharesHistory, ShareHistories}
 
 -- the pass of a gate stands in the gate's place
 of_gate : (passes : List Sight) (gates : List (GateId View)) → map (λ (pass : Sight). pass.gate) passes ≡ gates → (index : ℕ) (gate : GateId View) → slice_get gates index ≡ Some gate → PassIsOfGate index gate passes

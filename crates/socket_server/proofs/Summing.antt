@@ -3,7 +3,7 @@ use Rattle.std.proofs.Common.{◌≡◌, ◌+◌, ◌++◌, ℕ, suc, List, [], 
 use Rattle.std.specs.Prelude.{IfOk}
 use Rattle.std.proofs.lemmas.List.{length-append, map-append}
 use Rattle.stats_book.specs.declared.totals.Totals.{Totals}
-use Rattle.stats_book.specs.Counting.{both, numbers}
+use Rattle.stats_book.specs.Counting.{both}
 use Rattle.gate_node.specs.Gates.{Gates}
 use Rattle.gate_node.specs.GateStep.{GateNodeStep}
 use Rattle.gate_node.specs.Passes.{Sights}

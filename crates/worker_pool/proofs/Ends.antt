@@ -1,6 +1,6 @@
 -- Ends of which none met a full book, and lists in pairs.
-use Rattle.std.proofs.Common.{◌≡◌, ℕ, zero, suc, List, [], ◌∷◌, ◌++◌, length, map, arith, ap, sym, refl, inl, inr}
-use Rattle.std.specs.Prelude.{true, false, replicate}
+use Rattle.std.proofs.Common.{◌≡◌, List, [], ◌∷◌, ◌++◌, map, ap, sym, inl, inr}
+use Rattle.std.specs.Prelude.{true, false}
 use Rattle.job_pool.specs.Lists.{Pairwise}
 use Rattle.worker_pool.specs.declared.job.Job.{Job}
 use Rattle.worker_pool.specs.declared.job.End.{End}
