@@ -11,10 +11,11 @@ use Rattle.actor_epoch.specs.declared.Dot.{Dot}
 use Rattle.actor_epoch.specs.Dots.{dot_eq, covers}
 use Rattle.actor_epoch.specs.Given.{Context}
 use Rattle.dvv_set.proofs.Live.{dot_eq-same}
-use Rattle.vnode_machine.specs.Machine.{State, clock_of, pairs_of, apply_operation}
+use Rattle.vnode_machine.specs.Machine.{clock_of, pairs_of}
 use Rattle.vnode_machine.specs.Lives.{dot_of, lives_begun}
 use Rattle.vnode_machine.specs.Replay.{replay, HasReplay}
 use Rattle.vnode_machine.proofs.Keys.{key_eq-same}
+use Rattle.vnode_machine.proofs.Updates.{closed-kept}
 use Rattle.copy_laws.specs.Copies.{Copy, Command, Copied, Closed, commands_of, brought, count_brought as brought_count}
 use Rattle.copy_laws.specs.Sides.{Partition, Number}
 use Rattle.copy_laws.specs.CopyReplay.{primary_after, HasEntries}
@@ -24,7 +25,7 @@ use Rattle.copy_laws.proofs.Tests.{not_zero, one_of_three, one_of_two}
 use Rattle.copy_laws.proofs.Clocks.{knows, knows-sync, taken_pairs, clock-other, clock-reap, clock-uncopied}
 use Rattle.copy_laws.proofs.Since.{state_at, clock_at, pairs_at, dot_given, IsUpdate, knows-at, sync-at}
 use Rattle.copy_laws.proofs.LifeDots.{IsOf, begun-more, dot-of, latest-of, one-number}
-use Rattle.copy_laws.proofs.Later.{H, replay-before}
+use Rattle.copy_laws.proofs.Later.{H, legal-before, replay-before}
 use Rattle.copy_laws.proofs.Numbered.{number-known, unknown-to-come}
 use Rattle.copy_laws.proofs.Brought.{count_brought, brought-more, brought-here}
 use Rattle.copy_laws.proofs.Tracked.{exact-at}
@@ -35,17 +36,6 @@ use Rattle.copy_laws.proofs.LastDots.{last-known}
 begun-later : (later before : H) → lives_begun before ≤ lives_begun (later ++ before)
 begun-later [] before = omega arith
 begun-later (event ∷ later) before = let a = begun-later later before in let b = begun-more 0 0 event (later ++ before) in omega (arith, a, b)
-
--- entries that are accepted were so earlier
-entries-before : (partition : Partition) (later log : Log) → HasEntries partition (later ++ log) → HasEntries partition log
-entries-before partition [] log h = h
-entries-before partition (entry ∷ later) log h = entries-before partition later log h.0
-
--- a command closes nothing
-open-after : (state : State Content) (key : Key) (context : Option Context) (operation : Operation Content) → state.closed ≡ None → (apply_operation state key context operation).closed ≡ None
-open-after state key context (Write content) e = e
-open-after state key context Tombstone e = e
-open-after state key context Reap e = e
 
 module _ (partition : Partition) (primary : Log) (fallbacks : Fallbacks) (key : Key) (off : IsHandOff partition primary fallbacks key) (rise : SidesRise partition fallbacks)
     (came : NamesWhatCame partition primary fallbacks key) (some : 1 ≤ partition.diversions) where
@@ -74,8 +64,8 @@ module _ (partition : Partition) (primary : Log) (fallbacks : Fallbacks) (key : 
     -- no command of the primary has the dot
     not-own : (gap : Log) (event : Event Content Context) (before : Log) → gap ++ Command event ∷ before ≡ primary → IsUpdate v l key event → dot_eq (dot_given v l key before event) dot ≡ true → ⊥
     not-own gap event before e u given =
-        let legal : HasEntries partition (Command event ∷ before) = entries-before partition gap (Command event ∷ before) (subst (HasEntries partition) (sym e) off.primary_legal) in
-        let open_then = open-after (primary_after partition before) event.key event.context event.operation legal.1 in
+        let legal : HasEntries partition (Command event ∷ before) = legal-before partition gap (Command event ∷ before) (subst (HasEntries partition) (sym e) off.primary_legal) in
+        let open_then = closed-kept (primary_after partition before) event.key event.context event.operation ∙ legal.1 in
         let joined = joined-then partition primary fallbacks key off gap (Command event ∷ before) e open_then in
         let latest = exact-at partition (Command event ∷ before) (brought (Command event ∷ before) key) key joined [] event before refl u in
         let vnode = (latest-of v l (event ∷ commands_of before) key (dot_given v l key before event) latest).vnode_is in
