@@ -1,4 +1,4 @@
-mod Cutting
+pub mod Cutting
 mod Hexadecimal
 mod Messages
 mod Words

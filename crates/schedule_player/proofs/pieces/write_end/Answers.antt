@@ -10,5 +10,5 @@ returns-in_err-flush g c =
     let held = g.W.Write.contents c.args.writer.now in
     let held' = g.W.Write.contents c.flush.new.writer in
     rw (p.1, p.2)
-    (subst (λ (line : List ℕ). (len : ℕ) × Appends held held' (take len line)) (c.as_slice.ensures.value ∙ c.in_ok-line.ensures)
+    (subst (λ (line : List ℕ). (len : ℕ) × Appends held held' (take len line)) (c.as_slice.ensures.value ∙ c.in_ok-line.ensures.line)
     (flushed_whole held (g.W.Write.contents c.send.new.writer) held' c.as_slice.result.now c.in_ok-send.ensures c.flush.ensures.kept))
