@@ -10,7 +10,7 @@ use Rattle.handoff.specs.Partitions.{AreNone, number_in, number_of}
 use Rattle.gate_node.specs.declared.passes.FallbackPass.{FallbackPass}
 use Rattle.gate_node.specs.Asked.{Sight}
 use Rattle.gate_node.specs.Gates.{Gates}
-use Rattle.gate_node.specs.Passes.{Sights, FitsPartition, AllFit, OutliveDiversion, AnswersAtFallback, AnswersBy, FindsClosed, IsClosedBy, IsRenewed, Resumes, is_of, kept_of}
+use Rattle.gate_node.specs.Passes.{Sights, FitsPartition, AllFit, OutliveDiversion, AnswersAtFallback, AnswersBy, FindsClosed, IsClosedBy, IsRenewed, Resumes, is_pass_of, kept_of}
 use Rattle.handoff.proofs.Opened.{none_some}
 
 -- where nothing is kept, that fits
@@ -90,10 +90,10 @@ outlive_diversion index old new passes diverted are =
     }
 
 -- a pass that is kept of this fallback
-none_kept : {A : Type 0} (fallback : Fallback) → is_of fallback None ≡ true → A
+none_kept : {A : Type 0} (fallback : Fallback) → is_pass_of fallback None ≡ true → A
 none_kept fallback h = cc
 
-pub kept_is : (fallback : Fallback) (kept : Option FallbackPass) → FitsPartition (Some fallback) kept → is_of fallback kept ≡ true → IsRenewed fallback kept kept
+pub kept_is : (fallback : Fallback) (kept : Option FallbackPass) → FitsPartition (Some fallback) kept → is_pass_of fallback kept ≡ true → IsRenewed fallback kept kept
 kept_is fallback None fit is = absurd (none_kept fallback is)
 kept_is fallback (Some kept) fit is =
     let same = eqb-true kept.diversion fallback.diversion is in

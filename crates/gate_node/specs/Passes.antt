@@ -49,8 +49,8 @@ abbrev pub OutliveDiversion : (index : ℕ) (old new : Gates) → Sights → Typ
 OutliveDiversion index old new passes = IsDiverted index (handoff_of old) (handoff_of new) → ArePassesOf old passes → ArePassesOf new passes
 
 -- the pass that is kept is of this fallback
-abbrev pub is_of : Fallback → Option FallbackPass → Bool
-is_of fallback kept = option_map_or (λ (pass : FallbackPass). pass.diversion == fallback.diversion) kept false
+abbrev pub is_pass_of : Fallback → Option FallbackPass → Bool
+is_pass_of fallback kept = option_map_or (λ (pass : FallbackPass). pass.diversion == fallback.diversion) kept false
 
 -- this pass of a fallback is kept, with the number of the close that it has seen
 abbrev pub kept_of : Fallback → Sight → Option ℕ → Option FallbackPass
@@ -61,7 +61,7 @@ kept_of fallback pass closed = Some (record { diversion = fallback.diversion; pa
 abbrev pub Resumes : Fallback → Option FallbackPass → Sight → Option ℕ → Type 0
 Resumes fallback kept pass closed =
     (kept ≡ kept_of fallback pass closed)
-    ⊎ ((is_of fallback kept ≡ false) × (pass.gate ≡ fallback.gate) × IsUnused pass × (closed ≡ None))
+    ⊎ ((is_pass_of fallback kept ≡ false) × (pass.gate ≡ fallback.gate) × IsUnused pass × (closed ≡ None))
 
 -- a pass of this fallback is kept now
 pub record IsRenewed (fallback : Fallback) (old new : Option FallbackPass) : Type 0 where

@@ -34,7 +34,7 @@ use Rattle.handoff.specs.Partitions.{fallback_id}
 use Rattle.gate_node.specs.declared.passes.FallbackPass.{FallbackPass}
 use Rattle.gate_node.specs.Asked.{Sight}
 use Rattle.gate_node.specs.Gates.{Gates}
-use Rattle.gate_node.specs.Passes.{is_of}
+use Rattle.gate_node.specs.Passes.{is_pass_of}
 use Rattle.gate_node.specs.GateStep.{NodeOverGates, GateNodeStep}
 
 -- the commands that a vnode accepted, oldest first, each with its answer
@@ -47,7 +47,7 @@ Seen = ℕ → Commands
 
 -- what a pass of this fallback has seen that is kept; nothing, where none is
 abbrev pub seen_at_fallback : Fallback → Option FallbackPass → List Entry
-seen_at_fallback fallback kept = if is_of fallback kept then option_map_or (λ (pass : FallbackPass). pass.pass.prefix) kept [] else []
+seen_at_fallback fallback kept = if is_pass_of fallback kept then option_map_or (λ (pass : FallbackPass). pass.pass.prefix) kept [] else []
 
 -- what is seen of a partition by a pass of its primary, or of its fallback where one stands
 abbrev pub seen_at : Option (Option Fallback) → Option Sight → Option (Option FallbackPass) → List Entry

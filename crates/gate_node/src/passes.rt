@@ -1,7 +1,7 @@
 //! A caller's passes of the gates of a run, and of the fallbacks that it met.
 ghost use Rattle.std.specs.Prelude.{◌≡◌, IfOk, IsOkUnless, All, length, map};
 ghost use Rattle.handoff.specs.Partitions.{AreNone};
-ghost use Rattle.gate_node.specs.Passes.{ArePassesOf, AreUnused, IsUnused, FitsPartition, IsRenewed, is_of};
+ghost use Rattle.gate_node.specs.Passes.{ArePassesOf, AreUnused, IsUnused, FitsPartition, IsRenewed, is_pass_of};
 
 use crate::fault::PoolFault;
 use crate::shared::Shared;
@@ -66,8 +66,8 @@ fn empty_places(alloc: Global, size: usize) -> Result<Vec<Option<FallbackPass>>,
 }
 
 /// Whether the pass that is kept is of this fallback.
-fn is_of(fallback: &Fallback, kept: &Option<FallbackPass>) -> bool
-    ensures { result ≡ is_of fallback.now kept.now }
+fn is_pass_of(fallback: &Fallback, kept: &Option<FallbackPass>) -> bool
+    ensures { result ≡ is_pass_of fallback.now kept.now }
 {
     match kept {
         Some(kept) => kept.diversion == fallback.diversion,
@@ -80,7 +80,7 @@ pub(crate) fn renew(kept: &mut Option<FallbackPass>, fallback: &Fallback)
     requires { FitsPartition (Some fallback.now) kept.old }
     ensures { IsRenewed fallback.now kept.old kept.new }
 {
-    if is_of(fallback, kept) {
+    if is_pass_of(fallback, kept) {
         return;
     }
     *kept = Some(FallbackPass {
