@@ -10,7 +10,7 @@ ghost use Rattle.job_pool.specs.declared.fault.RunFault.TheVariants.{JobsFailed}
 use crate::collect::{Child, Finished, collect_all, join_all};
 use crate::fault::RunFault;
 use crate::jobs::Jobs;
-use crate::lent::{Lent, take_back};
+use crate::lent::Lent;
 use crate::queue::{Accepts, JobQueue, QueuePass};
 use crate::service::Service;
 use crate::sleepers::Sleepers;
@@ -226,6 +226,5 @@ where
     let (Lent { jobs }, done) = run_owned::<Brand, S, Lent<G>, T>(
         rt, alloc, service, lent, workers,
     );
-    take_back(jobs);
     done
 }
