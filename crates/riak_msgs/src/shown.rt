@@ -36,6 +36,7 @@ impl Shown {
     }
 
     /// A content, as a reply shows it, without its value where it is to be bare.
+    #[inline(always)]
     pub fn of_content(alloc: Global, content: &Content, is_bare: bool) -> Result<Shown, AllocError>
         ensures { IfOk result (λ s. s ≡ shown is_bare (Some content.now)) }
     {
