@@ -33,7 +33,6 @@ use Rattle.clock_store.specs.Keys.{Keys, stored_of, empty, clock_at, own_at, wri
 use Rattle.std.specs.Ordering.{eq_by_cmp}
 use Rattle.clock_list.specs.Rows.{entry_of, nothing, place_entry, first_place, RowFits, ReadyAt, SyncFitsAt, SyncReadyAt, reservation_of, contents_in, IsRowRoom, IsList}
 use Rattle.clock_list.proofs.Finding.{at_place, new_place}
-pub use Rattle.clock_store.proofs.Nested.{on_ok}
 use Rattle.vnode_machine.proofs.Tests.{unmapped}
 
 -- a key stands at its place

@@ -24,7 +24,8 @@ use Rattle.copy_laws.specs.CopyReplay.{primary_after}
 use Rattle.copy_laws.specs.Joining.{Log, IsJoined}
 use Rattle.copy_laws.specs.Diversions.{Course, diversions_of, fallback_of, fallback_state, primary_of, WasShownInCourse, Happens}
 use Rattle.copy_laws.specs.JointAnswers.{AreWithinLimits}
-use Rattle.copy_laws.proofs.Tests.{or_none, or_second, test-within, within-test}
+use Rattle.std.proofs.lemmas.Bool.{or_from}
+use Rattle.copy_laws.proofs.Tests.{or_second, test-within, within-test}
 use Rattle.copy_laws.proofs.Since.{clock_at}
 use Rattle.copy_laws.proofs.LifeDots.{IsPast, some-same, latest-of, dot-of, issued-past}
 use Rattle.copy_laws.proofs.PrimaryDots.{latest-alive, IsTracked}
@@ -115,7 +116,7 @@ module _ (partition : Partition) (ids : partition.primary < partition.fallback) 
 
     issued-pair : (dot : Dot) → Came partition key ids course dot → names_unissued_dot state key dot ≡ false
     issued-pair dot came =
-        or_none ((dot.actor.vnode == state.vnode) && nat_lt state.last_epoch dot.actor.epoch) (option_map_or ahead (own_of state key) false)
+        or_from ((dot.actor.vnode == state.vnode) && nat_lt state.last_epoch dot.actor.epoch) (option_map_or ahead (own_of state key) false)
         (early (dot.actor.vnode == state.vnode) refl) (later (own_of state key) refl)
       where
         ahead : Actor → Bool
@@ -140,7 +141,7 @@ module _ (partition : Partition) (ids : partition.primary < partition.fallback) 
     issued-pairs : (pairs : List Dot) → IsTrue (list_all is_within_limits pairs) → ((dot : Dot) → covers pairs dot ≡ true → Came partition key ids course dot) → list_any (names_unissued_dot state key) pairs ≡ false
     issued-pairs [] h came = refl
     issued-pairs (pair ∷ pairs) h came =
-        or_none (names_unissued_dot state key pair) (list_any (names_unissued_dot state key) pairs)
+        or_from (names_unissued_dot state key pair) (list_any (names_unissued_dot state key) pairs)
         (issued-pair pair (came pair (here (and_left (is_within_limits pair) (list_all is_within_limits pairs) h))))
         (issued-pairs pairs (and_right (is_within_limits pair) (list_all is_within_limits pairs) h) (λ dot k. came dot (or_second (actor_eq pair.actor dot.actor && (nat_le 1 dot.counter && nat_le dot.counter pair.counter)) (covers pairs dot) k)))
       where

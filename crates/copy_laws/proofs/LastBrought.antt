@@ -20,7 +20,7 @@ use Rattle.copy_laws.specs.Copies.{Copy, Command, Copied, Closed, commands_of, b
 use Rattle.copy_laws.specs.Sides.{Partition, Number}
 use Rattle.copy_laws.specs.CopyReplay.{primary_after, HasEntries}
 use Rattle.copy_laws.specs.Joining.{Log, Fallbacks, IsHandOff, IsTrueCopy, HasDot, HasCome, NamesWhatCame, SidesRise}
-use Rattle.copy_laws.specs.LastDots.{has_last_dot, LastDotBringsAll}
+use Rattle.copy_laws.specs.LastDots.{knows_last_dot, last_fallback, LastDotBringsAll}
 use Rattle.copy_laws.proofs.Tests.{not_zero, one_of_three, one_of_two}
 use Rattle.copy_laws.proofs.Clocks.{knows, knows-sync, taken_pairs, clock-other, clock-reap, clock-uncopied}
 use Rattle.copy_laws.proofs.Since.{state_at, clock_at, pairs_at, dot_given, IsUpdate, knows-at, sync-at}
@@ -173,7 +173,7 @@ module _ (partition : Partition) (primary : Log) (fallbacks : Fallbacks) (key : 
   all-brought : count_of (fallbacks n) key ≤ count_brought key primary n → count_brought key primary n ≡ count_of (fallbacks n) key
   all-brought le = let most = brought-most partition primary fallbacks key off n in omega (arith, le, most)
 
-  settled : has_last_dot partition primary fallbacks key ≡ true → count_brought key primary n ≡ count_of (fallbacks n) key
+  settled : knows_last_dot (clock_of (primary_after partition primary) key) (last_fallback partition primary fallbacks key) key ≡ true → count_brought key primary n ≡ count_of (fallbacks n) key
   settled h =
       let diversion : (1 ≤ n) × (n ≤ n) = (some, omega arith) in
       elim (last-known w (partition.opened n) key (fallbacks n) (off.fallbacks_legal n diversion) (off.unreaped n diversion) (clock_of (primary_after partition primary) key) h) [

@@ -21,6 +21,7 @@ use Rattle.vnode_machine.proofs.Numbers.{dot_of-own}
 use Rattle.vnode_machine.proofs.Bases.{not-alive}
 use Rattle.vnode_machine.proofs.Steps.{known}
 use Rattle.vnode_machine.proofs.Tests.{and_left}
+use Rattle.copy_laws.specs.LastDots.{knows_last_dot}
 use Rattle.copy_laws.proofs.Clocks.{Clock, knows}
 use Rattle.copy_laws.proofs.Later.{H, are_updates}
 use Rattle.copy_laws.proofs.Fallback.{knows-number}
@@ -46,7 +47,7 @@ last-dot v l key (event ∷ before) updates dot e = by (last-dot v l key before)
     by rest false p u q all = other p rest all
 
 module _ (v l : ℕ) (key : Key) (history : H) (replays : HasReplay v l history) (updates : are_updates key history ≡ true) (here : Clock) where
-  -- a clock has the own actor, where there is one, with its counter
+  -- a clock has the last dot of a key that is stored so
   abbrev has_own : Option (Stored Content) → Bool
   has_own o =
       option_map_or
@@ -80,7 +81,7 @@ module _ (v l : ℕ) (key : Key) (history : H) (replays : HasReplay v l history)
       )
 
   -- so there was no event of the key, or the clock knows the last one's dot
-  pub last-known : has_own (stored (replay v l history) key) ≡ true → (count_of history key ≡ 0) ⊎ IsLastKnown
+  pub last-known : knows_last_dot here (replay v l history) key ≡ true → (count_of history key ≡ 0) ⊎ IsLastKnown
   last-known h = by (stored (replay v l history) key) refl ((known v l history replays).keys key) h
     where
       by : (o : Option (Stored Content)) → stored (replay v l history) key ≡ o → IsKept v l (replay v l history).last_epoch history key o → has_own o ≡ true

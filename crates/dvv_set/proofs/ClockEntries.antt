@@ -62,7 +62,7 @@ module _ {V : Type 0} where
       by true f = refl
       by false f = refl
 
-  option_or-none : (o : Option V) → option_or o None ≡ o
+  pub option_or-none : (o : Option V) → option_or o None ≡ o
   option_or-none None = refl
   option_or-none (Some v) = refl
 

@@ -6,6 +6,8 @@ use Rattle.std.specs.List.{slice_get}
 use Rattle.std.proofs.lemmas.Bool.Decides.{nat_tests}
 use Rattle.dvv_set.specs.ClockEntries.{merged}
 use Rattle.dvv_set.proofs.ClockEntries.{nothing, value_at}
+use Rattle.std.proofs.lemmas.Iterator.Adapters.{option_map_id}
+use Rattle.std.proofs.lemmas.Option.{slice_get_past}
 
 module _ {V : Type 0} where
   slice_get-take : (k i : ℕ) (l : List V) → slice_get (take k l) i ≡ cond (nat_lt i k) (slice_get l i) None
@@ -24,17 +26,6 @@ module _ {V : Type 0} where
   is_some-slice_get [] i = let t : nat_lt i 0 ≡ false = grind (arith, nat_tests) in sym t
   is_some-slice_get (v ∷ l) zero = let t : nat_lt 0 (suc (length l)) ≡ true = grind (arith, nat_tests) in sym t
   is_some-slice_get (v ∷ l) (suc i) = let t : nat_lt (suc i) (suc (length l)) ≡ nat_lt i (length l) = grind (arith, nat_tests) in is_some-slice_get l i ∙ sym t
-
-  slice_get-past : (l : List V) (i : ℕ) → length l ≤ i → slice_get l i ≡ None
-  slice_get-past l i h = by (slice_get l i) (is_some-slice_get l i ∙ (let t : nat_lt i (length l) ≡ false = grind (arith, nat_tests) in t))
-    where
-      by : (o : Option V) → is_some o ≡ false → o ≡ None
-      by None e = refl
-      by (Some v) e = cc
-
-  option_map-itself : (o : Option V) → option_map (λ v. v) o ≡ o
-  option_map-itself None = refl
-  option_map-itself (Some v) = refl
 
   -- a dot's value after a sync, by its values on both sides and what both sides know
   abbrev pub synced_value : ℕ × List V → ℕ × List V → ℕ → Option V
@@ -58,7 +49,7 @@ module _ {V : Type 0} where
       other = slice_get l2 (n2 - c)
 
       kept : (b k : Bool) → b ≡ k → cond k own None ≡ option_map (λ v. v) (cond b own None)
-      kept b k e = ap (λ t. cond t own None) (sym e) ∙ sym (option_map-itself (cond b own None))
+      kept b k e = ap (λ t. cond t own None) (sym e) ∙ sym (option_map_id (cond b own None))
 
       nones : (p1 p2 : Bool) → let none : Option V = None in cond p1 none none ≡ option_or (cond (not (false && p1)) (cond p2 none none) none)
           (option_map (λ v. v) (cond (is_some (cond p2 none none) || not (false && p2)) (cond p1 none none) none))
@@ -73,8 +64,8 @@ module _ {V : Type 0} where
           (option_map (λ v. v) (cond (is_some (cond p2 other None) || not (q && p2)) (cond p1 own None) None))
       by false p1 p2 e e1 e2 =
           let zero : c ≡ 0 = grind (arith, nat_tests) in
-          let o1 : own ≡ None = slice_get-past l1 (n1 - c) (omega arith) in
-          let o2 : other ≡ None = slice_get-past l2 (n2 - c) (omega arith) in
+          let o1 : own ≡ None = slice_get_past l1 (n1 - c) (omega arith) in
+          let o2 : other ≡ None = slice_get_past l2 (n2 - c) (omega arith) in
           let gone : slice_get (take (n1 - n2 + length l2) l1) (n1 - c) ≡ None =
           slice_get-take (n1 - n2 + length l2) (n1 - c) l1 ∙ ap (λ o. cond (nat_lt (n1 - c) (n1 - n2 + length l2)) o None) o1 ∙ nothing (nat_lt (n1 - c) (n1 - n2 + length l2)) in
           ap (λ o. cond p1 o None) gone
@@ -133,8 +124,8 @@ module _ {V : Type 0} where
           (option_map (λ v. unwrap_or (cond p2 other None) v) (cond (is_some (cond p2 other None) || not (q && p2)) (cond p1 own None) None))
       by false p1 p2 e e1 e2 =
           let zero : c ≡ 0 = grind (arith, nat_tests) in
-          let o1 : own ≡ None = slice_get-past l1 (n1 - c) (omega arith) in
-          let o2 : other ≡ None = slice_get-past l2 (n2 - c) (omega arith) in
+          let o1 : own ≡ None = slice_get_past l1 (n1 - c) (omega arith) in
+          let o2 : other ≡ None = slice_get_past l2 (n2 - c) (omega arith) in
           let gone : slice_get (take kept l2) (n2 - c) ≡ None =
           slice_get-take kept (n2 - c) l2 ∙ ap (λ o. cond (nat_lt (n2 - c) kept) o None) o2 ∙ nothing (nat_lt (n2 - c) kept) in
           ap (λ o. cond p2 o None) gone

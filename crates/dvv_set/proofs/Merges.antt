@@ -54,9 +54,6 @@ module _ {V : Type 0} where
       by true rest = is_entry-within entry.1.0 (length entry.1.1) (and_first (is_entry entry) (list_all is_entry entries) h)
       by false rest = rest
 
-  take_within : (k : ℕ) (l : List V) → length (take k l) ≤ length l
-  take_within k l = omega (arith, length-take k l)
-
   -- a merge of two entries is one
   pub is_entry-merged : (a : Actor) (own other : ℕ × List V) → length own.1 ≤ own.0 → IsTrue (is_entry (a, other)) → IsTrue (is_entry (a, merged own other))
   is_entry-merged a own other h r = by (nat_le other.0 own.0) refl
@@ -71,9 +68,9 @@ module _ {V : Type 0} where
           → IsTrue (is_entry (a, cond b (own.0, take (own.0 - other.0 + length other.1) own.1) (other.0, take (other.0 - own.0 + length own.1) other.1)))
       by true e =
           let above : other.0 ≤ own.0 = grind (arith, nat_tests) in
-          is_entry-of own.0 (length (take (own.0 - other.0 + length other.1) own.1)) (omega (arith, positive)) (omega (arith, take_within (own.0 - other.0 + length other.1) own.1))
+          is_entry-of own.0 (length (take (own.0 - other.0 + length other.1) own.1)) (omega (arith, positive)) (omega (arith, length-take (own.0 - other.0 + length other.1) own.1))
       by false e =
-          is_entry-of other.0 (length (take (other.0 - own.0 + length own.1) other.1)) positive (omega (arith, within, take_within (other.0 - own.0 + length own.1) other.1))
+          is_entry-of other.0 (length (take (other.0 - own.0 + length own.1) other.1)) positive (omega (arith, within, length-take (other.0 - own.0 + length own.1) other.1))
 
   merged-none : (own : ℕ × List V) → length own.1 ≤ own.0 → merged own (0, []) ≡ own
   merged-none own h =

@@ -20,7 +20,7 @@ use Rattle.vnode_core.specs.declared.ask.Ask.TheVariants as asks
 use Rattle.vnode_core.specs.Events.{AreCommands, IsMadeNew, commands_of, all_commands}
 use Rattle.vnode_core.specs.Plans.{View}
 use Rattle.vnode_core.proofs.Entries.{all_commands-commands_of, commands_before}
-use Rattle.vnode_core.proofs.Lists.{set-here}
+use Rattle.ghost_state.proofs.Lists.{set-here}
 use Rattle.handoff.specs.Partitions.{fallback_id}
 use Rattle.node_session.specs.Answers.{AnswersInTurn}
 use Rattle.node_session.specs.Answered.{AnsweredInput as Output}

@@ -1,6 +1,7 @@
 -- A vnode that isn't closed, by what was seen of it.
 use Rattle.std.proofs.Common.{◌≡◌, ◌∙◌, ℕ, List, [], ◌∷◌, refl, sym, ap, subst, inl, inr}
-use Rattle.std.specs.Prelude.{Option, Some, None, IsSome}
+use Rattle.std.specs.Prelude.{Option, Some, None, is_some}
+use Rattle.std.proofs.lemmas.Bool.{true≢false}
 use Rattle.riak_msgs.specs.Contents.{Content}
 use Rattle.riak_msgs.specs.declared.GetAsk.{GetAsk}
 use Rattle.riak_msgs.specs.declared.Reply.{Reply}
@@ -51,10 +52,6 @@ leads_to_one gate entries s t a b = by gate.opening a b where
   by None a b = absurd a
   by (Some first) a b = run_one entries first.state s t a b
 
-none_closed : (closed : Option ℕ) → closed ≡ None → IsSome closed → ⊥
-none_closed None is some = cc (some)
-none_closed (Some number) is some = cc (is)
-
 -- an open vnode doesn't answer that it is closed
 never_closed : (state : State Content) (ask : Ask) → AnswersOpen state ask answers.Closed → ⊥
 never_closed state (asks.Put put) h = h
@@ -71,7 +68,8 @@ comes_open ask old new history state (Outcomes.Told answers.Closed) comes leads 
   | inl says ↦ never_closed comes.state ask says.1
   | inr closed ↦
       let here : RunFrom state_of Makes old.gate.opening history comes.state = subst (λ es. RunFrom state_of Makes old.gate.opening es comes.state) under comes.leads in
-      none_closed comes.state.closed (ap (λ (s : State Content). s.closed) (leads_to_one old.gate history comes.state state here leads) ∙ opened) closed.0
+      let unclosed : comes.state.closed ≡ None = ap (λ (s : State Content). s.closed) (leads_to_one old.gate history comes.state state here leads) ∙ opened in
+      true≢false (sym closed.0 ∙ ap is_some unclosed)
 ]
 comes_open ask old new history state (Outcomes.Told (answers.Put reply)) comes leads opened under = tt
 comes_open ask old new history state (Outcomes.Told answers.Del) comes leads opened under = tt

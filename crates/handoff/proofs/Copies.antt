@@ -1,5 +1,5 @@
 -- Copies that a pass published stay what they are.
-use Rattle.std.proofs.Common.{◌≡◌, ◌∙◌, ◌+◌, ℕ, zero, suc, List, [], ◌∷◌, ◌++◌, length, length-append, sym, ap, subst}
+use Rattle.std.proofs.Common.{◌≡◌, ◌∙◌, ◌+◌, ℕ, List, [], ◌∷◌, ◌++◌, length, length-append, sym, ap, subst}
 use Rattle.std.specs.Prelude.{Option, Some, None, IfNone, IfOk, IfSome, Result, Ok, Err, slice_get}
 use Rattle.std.proofs.lemmas.List.Elements.{All-weaker, All-push}
 use mathlib.Core.List.{IsPrefix}
@@ -13,22 +13,16 @@ use Rattle.vnode_core.specs.declared.event.VnodeEvent.TheVariants as events
 use Rattle.vnode_core.specs.Events.{EntryAsks}
 use Rattle.vnode_core.specs.KeyCopies.{KeyCopyView}
 use Rattle.vnode_core.specs.Plans.{View}
-use Rattle.vnode_core.proofs.Lists.{get-last}
+use Rattle.ghost_state.proofs.Lists.{get-before, get-last}
 use Rattle.handoff.specs.declared.copying.Step.{Step}
 use Rattle.handoff.specs.declared.fault.Stop.{Stop}
 use Rattle.handoff.specs.declared.copying.Step.TheVariants.{End, Passed, Made, Stuck}
 use Rattle.handoff.specs.Copying.{IsCopyOf, HasCopyAt, AreCopies, CopiesOne}
 use Rattle.handoff.specs.Sights.{Sight, LeadsVnodeTo}
 use Rattle.handoff.specs.Steps.{CopiesOrStays}
-use Rattle.handoff.proofs.Opened.{none_some}
-
-get_more : {A : Type 0} (xs ys : List A) (k : ℕ) (x : A) → slice_get xs k ≡ Some x → slice_get (xs ++ ys) k ≡ Some x
-get_more [] ys k x at = absurd (none_some x at)
-get_more (y ∷ xs) ys zero x at = at
-get_more (y ∷ xs) ys (suc k) x at = get_more xs ys k x at
 
 get_prefix : {A : Type 0} (xs ys : List A) (k : ℕ) (x : A) → IsPrefix xs ys → slice_get xs k ≡ Some x → slice_get ys k ≡ Some x
-get_prefix xs ys k x p at = subst (λ zs. slice_get zs k ≡ Some x) p.1 (get_more xs p.0 k x at)
+get_prefix xs ys k x p at = subst (λ zs. slice_get zs k ≡ Some x) p.1 (get-before xs p.0 k x at)
 
 copy-more : (n : ℕ) (theirs theirs' : Sight) (entry : Entry) → theirs'.gate ≡ theirs.gate → IsPrefix theirs.prefix theirs'.prefix → IsCopyOf n theirs entry → IsCopyOf n theirs' entry
 copy-more n theirs theirs' entry gate more copy = record {

@@ -1,40 +1,31 @@
 -- Where a diversion has ended, copies brought all that its fallback accepted.
-use Rattle.std.proofs.Common.{◌≡◌, ◌∙◌, ◌++◌, ◌≤◌, ℕ, Bool, true, false, not, ◌&&◌, cond, List, [], ◌∷◌, length, refl, sym, ap, subst, arith, inl, inr}
-use Rattle.std.specs.Prelude.{◌==◌, if◌then◌else◌, nat_le, is_none, Option, Some, None, option_and_then}
-use Rattle.std.specs.FinMap.Entries.{find}
-use Rattle.std.specs.Option.{option_map_or}
-use Rattle.std.specs.Ordering.{eq_by_cmp}
+use Rattle.std.proofs.Common.{◌≡◌, ◌∙◌, ◌++◌, ◌≤◌, ℕ, Bool, true, false, not, ◌&&◌, List, [], ◌∷◌, length, refl, sym, ap, subst, arith, inl, inr}
+use Rattle.std.specs.Prelude.{if◌then◌else◌, is_none, Option, Some, None}
 use Rattle.std.proofs.lemmas.Bool.{cases_lt}
 use Rattle.riak_msgs.specs.declared.Key.{Key}
 use Rattle.riak_msgs.specs.Contents.{Content}
-use Rattle.riak_msgs.specs.KeyOrder.{key_cmp}
 use Rattle.sibling_register.specs.Answers.{RegisterAsk, AskGet, AskPut, AskDel, AskReap}
 use Rattle.sibling_register.specs.History.{Operation, Write, Tombstone, Reap, count_of}
-use Rattle.actor_epoch.specs.declared.Actor.{Actor}
-use Rattle.actor_epoch.specs.Dots.{counter_in}
 use Rattle.actor_epoch.specs.Given.{Context}
-use Rattle.clock_store.specs.Keys.{Keys}
-use Rattle.vnode_machine.specs.Machine.{State, Stored, stored, clock_of, own_of, is_held, holds_dead, put_check, del_check, apply_operation}
+use Rattle.vnode_machine.specs.Machine.{State, clock_of, is_held, holds_dead, put_check, del_check, apply_operation}
 use Rattle.vnode_machine.specs.Registers.{key_of, context_in_ask}
 use Rattle.vnode_machine.specs.Replay.{replay}
 use Rattle.vnode_machine.specs.Step.{Response, DelDone, ReapDone, ReapKept, MachineOutcome, Answered, Accepted, outcome, unless_refused}
-use Rattle.vnode_machine.proofs.Keys.{eq_by_key_cmp, key_eq-same}
 use Rattle.copy_laws.specs.Copies.{count_brought}
 use Rattle.copy_laws.specs.CopyReplay.{apply_entry, primary_after}
 use Rattle.copy_laws.specs.Joining.{Log, Fallbacks, IsDiversion, IsJoined}
+use Rattle.copy_laws.specs.LastDots.{knows_last_dot}
 use Rattle.copy_laws.specs.Sides.{Partition}
 use Rattle.copy_laws.proofs.JoinLaw.{copies_join}
 use Rattle.copy_laws.proofs.LastBrought.{last_dot_brings_all}
 use Rattle.rw_gate.specs.Machines.{MachineRun}
 use Rattle.vnode_core.specs.declared.entry.Entry.{Entry}
 use Rattle.vnode_core.specs.declared.entry.Entry.TheVariants.{Command, Copied, Closed}
-use Rattle.vnode_core.specs.Left.{has_last_dot, is_copied}
 use Rattle.vnode_core.specs.Events.{Makes, all_commands, commands_of, event_command, history_after}
 use Rattle.vnode_core.specs.Plans.{View}
 use Rattle.vnode_core.proofs.Entries.{commands_of-all_commands}
-use Rattle.vnode_core.proofs.Lefts.{equal-within}
+use Rattle.vnode_core.proofs.Lefts.{none-left-known}
 use Rattle.handoff.specs.Joined.{IsHandedOff, IsJoinedIn, IsOfLastFallback, IsOfPrimary, ReturnJoinsKeys, log_after, log_entry}
-use Rattle.handoff.specs.Left.{AreCopied}
 use Rattle.handoff.specs.Returning.{EndsDiversion}
 use Rattle.handoff.specs.Sights.{Sight, LeadsVnodeTo, ShowsState}
 use Rattle.handoff.proofs.Meeting.{prefix-replays}
@@ -110,43 +101,6 @@ module _ {X : Type 0} where
       let rest = before-last xs ys x y (cc e) in
       λ i. first i ∷ rest i
 
--- where all keys of a fallback are copied, the primary has its last dot of each key
-copied-at : (primary : State Content) (keys : Keys) (key : Key) (there : Stored Content) → AreCopied primary keys → find key_cmp key keys ≡ Some there → is_copied primary (key, there) ≡ true
-copied-at primary [] key there all found = cc
-copied-at primary (entry ∷ keys) key there all found = by (eq_by_cmp key_cmp key entry.0) refl found (copied-at primary keys key there all.1)
-  where
-    by : (b : Bool) → eq_by_cmp key_cmp key entry.0 ≡ b → cond b (Some entry.1) (find key_cmp key keys) ≡ Some there
-        → (find key_cmp key keys ≡ Some there → is_copied primary (key, there) ≡ true) → is_copied primary (key, there) ≡ true
-    by true q found rest =
-        let same = key_eq-same key entry.0 (sym (eq_by_key_cmp key entry.0) ∙ q) in
-        let is : entry.1 ≡ there = cc in
-        ap (λ k. is_copied primary (k, there)) same ∙ ap (λ (s : Stored Content). is_copied primary (entry.0, s)) (sym is) ∙ all.0
-    by false q found rest = rest found
-
-module _ (here there : State Content) (key : Key) (all : AreCopied here there.keys) where
-  abbrev has_dot_of : Option (Stored Content) → Option (Stored Content) → Bool
-  has_dot_of o t =
-      option_map_or
-      (λ own. nat_le (counter_in (option_map_or (λ (s : Stored Content). s.clock) o (record { known = []; live = [] })).known own)
-      (counter_in (option_map_or (λ (s : Stored Content). s.clock) t (record { known = []; live = [] })).known own))
-      (option_and_then (λ (s : Stored Content). s.own) o) true
-
-  dot-there : has_dot_of (stored there key) (stored here key) ≡ true
-  dot-there = by (stored there key) refl
-    where
-      found : (s : Stored Content) (t : Option (Stored Content)) → option_map_or (λ h. has_last_dot h s) t false ≡ true → has_dot_of (Some s) t ≡ true
-      found s None h = cc
-      found s (Some t) h = own s.own h
-        where
-          own : (o : Option Actor) → option_map_or (λ own. counter_in t.clock.known own == counter_in s.clock.known own) o false ≡ true
-              → option_map_or (λ own. nat_le (counter_in s.clock.known own) (counter_in t.clock.known own)) o true ≡ true
-          own None h = cc
-          own (Some a) h = equal-within (counter_in t.clock.known a) (counter_in s.clock.known a) h
-
-      by : (o : Option (Stored Content)) → stored there key ≡ o → has_dot_of o (stored here key) ≡ true
-      by None q = refl
-      by (Some s) q = found s (stored here key) (copied-at here there.keys key s all q)
-
 module _ (partition : Partition) (primary : Log) (fallbacks : Fallbacks) (mine theirs : Sight) (ended : EndsDiversion mine theirs)
     (of_primary : IsOfPrimary partition primary mine) (of_fallback : IsOfLastFallback partition fallbacks theirs) where
   before-is : ended.before ≡ all_commands of_fallback.events
@@ -170,9 +124,9 @@ module _ (partition : Partition) (primary : Log) (fallbacks : Fallbacks) (mine t
     last-brought : count_brought primary key partition.diversions ≡ count_of (fallbacks partition.diversions) key
     last-brought =
         last_dot_brings_all partition primary fallbacks key handed.hand_off handed.rise handed.came of_fallback.diverted
-        (subst (λ (f : State Content). option_map_or (λ own. nat_le (counter_in (clock_of f key).known own) (counter_in (clock_of (primary_after partition primary) key).known own)) (own_of f key) true ≡ true) there
-        (subst (λ (p : State Content). option_map_or (λ own. nat_le (counter_in (clock_of ended.fallback key).known own) (counter_in (clock_of p key).known own)) (own_of ended.fallback key) true ≡ true) here
-        (dot-there ended.primary ended.fallback key ended.copied)))
+        (subst (λ (f : State Content). knows_last_dot (clock_of (primary_after partition primary) key) f key ≡ true) there
+        (subst (λ (p : State Content). knows_last_dot (clock_of p key) ended.fallback key ≡ true) here
+        (none-left-known ended.primary ended.fallback ended.copied key)))
 
     settled : (n : ℕ) → IsDiversion partition primary fallbacks key n → count_brought primary key n ≡ count_of (fallbacks n) key
     settled n diversion = elim (cases_lt n partition.diversions) [ inl lt ↦ handed.earlier n diversion lt | inr ge ↦ last ge ]

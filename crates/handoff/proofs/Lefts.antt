@@ -1,5 +1,5 @@
 -- The first key that isn't copied as it is now, over keys one behind another.
-use Rattle.std.proofs.Common.{◌≡◌, ◌∙◌, ◌<◌, ◌≤◌, true, false, [], ◌∷◌, length, sym, ap, subst, arith}
+use Rattle.std.proofs.Common.{◌≡◌, ◌∙◌, ◌<◌, ◌≤◌, true, false, [], ◌∷◌, length, refl, sym, ap, subst, arith}
 use Rattle.std.specs.Prelude.{Option, Some, None}
 use Rattle.riak_msgs.specs.declared.Key.{Key}
 use Rattle.riak_msgs.specs.Contents.{Content}
@@ -9,7 +9,7 @@ use Rattle.clock_store.specs.Keys.{Keys, stored_of}
 use Rattle.vnode_machine.specs.Machine.{State, Stored}
 use Rattle.vnode_machine.specs.Sound.{IsStoredClock, IsSound}
 use Rattle.vnode_core.specs.Left.{is_copied, keys_behind}
-use Rattle.vnode_core.proofs.Lefts.{behind-next, behind-none, next-fewer}
+use Rattle.vnode_core.proofs.Lefts.{behind-next, behind-none, next-fewer, none-more}
 use Rattle.vnode_core.proofs.Walking.{next-found}
 use Rattle.handoff.specs.Left.{AreCopied, FindsLeft, GoesOnInRest, IsFirstLeft, IsHeldAt, IsNextLeft}
 use Rattle.handoff.specs.declared.left.Found.{Found}
@@ -17,11 +17,11 @@ use Rattle.handoff.specs.declared.left.Left.{Left}
 use Rattle.handoff.specs.declared.left.Found.TheVariants.{End, Passed, Next}
 
 pub copied-none : (primary : State Content) (keys : Keys) → keys ≡ [] → AreCopied primary keys
-copied-none primary keys is = subst (AreCopied primary) (sym is) tt
+copied-none primary keys is = subst (AreCopied primary) (sym is) refl
 
 -- with one more that is copied before them
 pub copied-more : (primary : State Content) (keys rest : Keys) (entry : Key × Stored Content) → keys ≡ entry ∷ rest → is_copied primary entry ≡ true → AreCopied primary rest → AreCopied primary keys
-copied-more primary keys rest entry is here all = subst (AreCopied primary) (sym is) (here, all)
+copied-more primary keys rest entry is here all = subst (AreCopied primary) (sym is) (none-more primary entry rest here all)
 
 pub left-more : (primary : State Content) (keys rest : Keys) (entry first : Key × Stored Content) → keys ≡ entry ∷ rest → is_copied primary entry ≡ true → IsFirstLeft primary rest first
     → IsFirstLeft primary keys first
@@ -29,12 +29,12 @@ left-more primary keys rest entry first is here left = record {
   passed = entry ∷ left.passed;
   rest = left.rest;
   is = is ∙ ap (λ (es : Keys). entry ∷ es) left.is;
-  copied = (here, left.copied);
+  copied = none-more primary entry left.passed here left.copied;
   left = left.left;
 }
 
 pub left-here : (primary : State Content) (keys rest : Keys) (entry : Key × Stored Content) → keys ≡ entry ∷ rest → is_copied primary entry ≡ false → IsFirstLeft primary keys entry
-left-here primary keys rest entry is left = record { passed = []; rest = rest; is = is; copied = tt; left = left }
+left-here primary keys rest entry is left = record { passed = []; rest = rest; is = is; copied = refl; left = left }
 
 -- of themselves
 pub goes-on : (primary : State Content) (keys : Keys) → GoesOnInRest primary keys keys

@@ -1,18 +1,17 @@
 -- The first key of a fallback that its primary hasn't as it is there now.
-use Rattle.std.specs.Prelude.{◌≡◌, ◌<◌, ◌++◌, true, false, [], ◌∷◌, length, Option, Some}
+use Rattle.std.specs.Prelude.{◌≡◌, ◌<◌, ◌++◌, false, ◌∷◌, length, Option, Some}
 use Rattle.riak_msgs.specs.declared.Key.{Key}
 use Rattle.riak_msgs.specs.Contents.{Content}
 use Rattle.clock_store.specs.Keys.{Keys, stored_of}
 use Rattle.vnode_machine.specs.Machine.{State, Stored, stored}
 use Rattle.vnode_machine.specs.Sound.{IsStoredClock}
-use Rattle.vnode_core.specs.Left.{is_copied, keys_behind}
+use Rattle.vnode_core.specs.Left.{count_left, is_copied, keys_behind}
 use Rattle.handoff.specs.declared.left.Found.{Found}
 use Rattle.handoff.specs.declared.left.Found.TheVariants.{End, Passed, Next}
 
 -- all of these are copied as they are now
 abbrev pub AreCopied : State Content → Keys → Type 0
-AreCopied primary [] = Unit {0}
-AreCopied primary (entry ∷ entries) = (is_copied primary entry ≡ true) × AreCopied primary entries
+AreCopied primary keys = count_left primary keys ≡ 0
 
 -- of these it is the first that isn't
 pub record IsFirstLeft (primary : State Content) (entries : Keys) (entry : Key × Stored Content) : Type 0 where

@@ -61,8 +61,7 @@ pub(crate) fn no_fallbacks(alloc: Global, size: u16) -> Result<Vec<Option<Fallba
     ensures size { IfOk result (λ fallbacks. length fallbacks.items ≡ size) }
 {
     let mut fallbacks = Vec::with_capacity(alloc, usize::from(size))?;
-    for index in 0..size {
-        let _ = index;
+    for _ in 0..size {
         fallbacks.push(None)?;
     }
     Ok(fallbacks)

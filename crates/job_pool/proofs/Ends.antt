@@ -10,7 +10,8 @@ use Rattle.job_pool.specs.declared.queue.NumberedJob.{NumberedJob}
 use Rattle.job_pool.specs.declared.worker.NumberedEnd.{NumberedEnd}
 use Rattle.job_pool.specs.Queue.{IsNumbered}
 use Rattle.job_pool.specs.Ends.{IsTurnOfTaken, IsTurnOfGiven, AreFilled, AreCollected, HasServed, placed}
-use Rattle.job_pool.proofs.Lists.{get_more, get_last, all_at, pairs_more, pairs_snoc}
+use Rattle.ghost_state.proofs.Lists.{get-before, get-last}
+use Rattle.job_pool.proofs.Lists.{all_at, pairs_more, pairs_snoc}
 use Rattle.std.proofs.lemmas.Option.{none-some as none_some}
 
 module _ {E : Type 0} where
@@ -27,7 +28,7 @@ filled_none W (job ∷ jobs) (Some end ∷ places) h fit = absurd (none_some end
 
 module _ {W J E : Type 0} where
   taken_more : (taken more : List (NumberedJob J)) (turn : ServedTurn W J E) (done : NumberedEnd E) → IsTurnOfTaken taken turn done → IsTurnOfTaken (taken ++ more) turn done
-  taken_more taken more turn done d = record { place = d.place; next = d.next; at = get_more taken more d.place d.next d.at; number = d.number; job = d.job; end = d.end }
+  taken_more taken more turn done d = record { place = d.place; next = d.next; at = get-before taken more d.place d.next d.at; number = d.number; job = d.job; end = d.end }
 
   -- what was taken was given
   given_of_taken : (jobs : List J) (taken : List (NumberedJob J)) → Every (IsNumbered jobs) taken → (turn : ServedTurn W J E) (done : NumberedEnd E) → IsTurnOfTaken taken turn done → IsTurnOfGiven jobs turn done
@@ -60,7 +61,7 @@ module _ {W J E : Type 0} where
           turns = h.turns ++ turn ∷ [];
           chained = chain_more first h.turns mid next.job last done.end h.chained serves;
           each = pairs_snoc (IsTurnOfTaken (taken ++ next ∷ [])) h.turns ends turn done (pairs_more (taken_more taken (next ∷ [])) h.turns ends h.each)
-              (record { place = length taken; next = next; at = get_last taken next; number = number; job = refl; end = refl });
+              (record { place = length taken; next = next; at = get-last taken next; number = number; job = refl; end = refl });
           count = omega (arith, long, longer, count);
         }
 

@@ -1,19 +1,10 @@
 -- Lists: what each element has, and what stands at an index.
-use Rattle.std.proofs.Common.{◌≡◌, ℕ, zero, suc, List, [], ◌∷◌, ◌++◌, length, refl, subst}
+use Rattle.std.proofs.Common.{◌≡◌, ℕ, zero, suc, List, [], ◌∷◌, ◌++◌, subst}
 use Rattle.job_pool.specs.Lists.{Every, Pairwise}
 use Rattle.std.specs.Prelude.{Some, slice_get}
 use Rattle.std.proofs.lemmas.Option.{none-some as none_some}
 
 module _ {A : Type 0} where
-  pub get_more : (xs ys : List A) (k : ℕ) (x : A) → slice_get xs k ≡ Some x → slice_get (xs ++ ys) k ≡ Some x
-  get_more [] ys k x at = absurd (none_some x at)
-  get_more (y ∷ xs) ys zero x at = at
-  get_more (y ∷ xs) ys (suc k) x at = get_more xs ys k x at
-
-  pub get_last : (xs : List A) (x : A) → slice_get (xs ++ x ∷ []) (length xs) ≡ Some x
-  get_last [] x = refl
-  get_last (y ∷ xs) x = get_last xs x
-
   module _ {P Q : A → Type 0} where
     pub all_more : ((x : A) → P x → Q x) → (xs : List A) → Every P xs → Every Q xs
     all_more f [] h = tt

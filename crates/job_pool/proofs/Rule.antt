@@ -11,7 +11,8 @@ use Rattle.job_pool.specs.declared.queue.Task.{Task}
 use Rattle.job_pool.specs.declared.queue.Task.TheVariants.{Serve, Stop}
 use Rattle.job_pool.specs.declared.queue.Knowledge.{Knowledge}
 use Rattle.job_pool.specs.Queue.{leader, newcomer, after_push, after_pop, together, IsNumbered, IsAcceptedTask, IsNextTask, WasGiven, Agrees, AllGiven, AreOfGiven, waiting, taken_by}
-use Rattle.job_pool.proofs.Lists.{get_more, get_last, all_more, all_join, all_snoc}
+use Rattle.ghost_state.proofs.Lists.{get-before, get-last}
+use Rattle.job_pool.proofs.Lists.{all_more, all_join, all_snoc}
 
 module _ {J : Type 0} where
   abbrev Each : (ℕ → Knowledge J → Type 0) → List (Knowledge J) → Type 0
@@ -26,7 +27,7 @@ module _ {J : Type 0} where
   new_agrees lead jobs j = ((λ p. absurd (true≢false (sym p))), tt)
 
   more_of : (jobs : List J) (job : J) (next : NumberedJob J) → IsNumbered jobs next → IsNumbered (jobs ++ job ∷ []) next
-  more_of jobs job next at = get_more jobs (job ∷ []) next.number next.job at
+  more_of jobs job next at = get-before jobs (job ∷ []) next.number next.job at
 
   more_given : (Accepts : J → Type 0) (jobs : List J) (job : J) (x : Task J) → WasGiven Accepts jobs x → WasGiven Accepts (jobs ++ job ∷ []) x
   more_given Accepts jobs job (Serve next) h = (more_of jobs job next h.0, h.1)
@@ -79,7 +80,7 @@ module _ {J : Type 0} where
         let jobs : List J = h.1 ++ next.job ∷ [] in
         let w : Knowledge J = after_push v (Serve next) in
         let number : next.number ≡ length h.1 = come ∙ ap length (mine.0 leads).1 in
-        let here : IsNumbered jobs next = subst (λ (k : ℕ). slice_get jobs k ≡ Some next.job) (sym number) (get_last h.1 next.job) in (
+        let here : IsNumbered jobs next = subst (λ (k : ℕ). slice_get jobs k ≡ Some next.job) (sym number) (get-last h.1 next.job) in (
           w,
           (
             h.0,

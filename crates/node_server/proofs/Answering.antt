@@ -1,9 +1,10 @@
 -- A step of a connection is an answer of the node, or leaves it.
-use Rattle.std.proofs.Common.{◌≡◌, ◌∙◌, ◌++◌, ◌∷◌, [], List, ℕ, length, Option, Some, None, Result, Ok, Err, refl, sym, ap, subst, inl, inr, arith}
+use Rattle.std.proofs.Common.{◌≡◌, ◌∙◌, ◌++◌, ◌∷◌, [], List, ℕ, length, Option, Some, None, Result, Ok, Err, sym, ap, subst, inl, inr, arith}
 use Rattle.std.specs.List.{slice_get}
 use Rattle.std.proofs.lemmas.Option.{slice_get_past}
 use Rattle.riak_msgs.specs.declared.request.Request.{Request}
 use Rattle.riak_msgs.specs.declared.reply.Reply.{Reply}
+use Rattle.ghost_state.proofs.Lists.{get-last}
 use Rattle.open_jobs.specs.declared.step.JobEvent.{JobEvent}
 use Rattle.open_jobs.specs.declared.step.JobEvent.TheVariants.{Began, Continued, Ended}
 use Rattle.open_jobs.specs.Interleaving.{Moves}
@@ -26,15 +27,11 @@ use Rattle.node_server.specs.declared.end.ConnectionEnd.{ConnectionEnd}
 use Rattle.node_server.specs.Steps.{Continues, EndsConnection, TakesConnectionStep}
 use Rattle.node_server.specs.Exchanges.{exchange_of, AnswersExchange}
 
-pub last_of : (es : List Exchange) (e : Exchange) → slice_get (es ++ e ∷ []) (length es) ≡ Some e
-last_of [] e = refl
-last_of (x ∷ es) e = last_of es e
-
 pub none_more : (es es' : List Exchange) → es' ≡ es → slice_get es' (length es) ≡ None
 none_more es es' same = ap (λ (l : List Exchange). slice_get l (length es)) same ∙ slice_get_past es (length es) (omega arith)
 
 pub one_more : (es es' : List Exchange) (e : Exchange) → es' ≡ es ++ e ∷ [] → slice_get es' (length es) ≡ Some e
-one_more es es' e more = ap (λ (l : List Exchange). slice_get l (length es)) more ∙ last_of es e
+one_more es es' e more = ap (λ (l : List Exchange). slice_get l (length es)) more ∙ get-last es e
 
 module _ {N : Type 0} (Step : N → Request → Reply → N → Type 0) where
   stays : (node node' : N) (es es' : List Exchange) → es' ≡ es → node' ≡ node → MovesBy (AnswersExchange Step) node (slice_get es' (length es)) node'

@@ -9,7 +9,7 @@ use Rattle.open_jobs.specs.declared.step.JobEvent.TheVariants.{Began, Continued,
 use Rattle.open_jobs.specs.declared.step.JobStep.{JobStep}
 use Rattle.open_jobs.specs.Interleaving.{Moves, Chain, at_slot}
 use Rattle.open_jobs.specs.Lives.{Life, StaysOpen}
-use Rattle.open_jobs.specs.Runs.{with_first}
+use Rattle.std.specs.List.{cons_option}
 use Rattle.node_session.specs.declared.exchange.Exchange.{Exchange}
 use Rattle.node_session.specs.declared.session.Next.{Next}
 use Rattle.node_session.specs.declared.session.Next.TheVariants.{Answered, Idle, Full}
@@ -28,12 +28,12 @@ use Rattle.node_server.proofs.Answering.{none_more, one_more, moved}
 abbrev Grows : List Exchange → List Exchange → Type 0
 Grows es es' = ((e : Exchange) × (es' ≡ es ++ e ∷ [])) ⊎ (es' ≡ es)
 
-grown : (es es' more : List Exchange) → Grows es es' → es' ++ more ≡ es ++ with_first (slice_get es' (length es)) more
+grown : (es es' more : List Exchange) → Grows es es' → es' ++ more ≡ es ++ cons_option (slice_get es' (length es)) more
 grown es es' more (inl p) =
     ap (λ (l : List Exchange). l ++ more) p.1 ∙ append_assoc es (p.0 ∷ []) more
-    ∙ ap (λ (x : Option Exchange). es ++ with_first x more) (sym (one_more es es' p.0 p.1))
+    ∙ ap (λ (x : Option Exchange). es ++ cons_option x more) (sym (one_more es es' p.0 p.1))
 grown es es' more (inr p) =
-    ap (λ (l : List Exchange). l ++ more) p ∙ ap (λ (x : Option Exchange). es ++ with_first x more) (sym (none_more es es' p))
+    ap (λ (l : List Exchange). l ++ more) p ∙ ap (λ (x : Option Exchange). es ++ cons_option x more) (sym (none_more es es' p))
 
 module _ {N : Type 0} (Step : N → Request → Reply → N → Type 0) where
   by_next : (node node' : N) (s t : SessionView) (result : Result Next Halt) → AnswersNext Step node node' s t result → Grows s.exchanges t.exchanges
@@ -54,7 +54,7 @@ module _ {N : Type 0} (Step : N → Request → Reply → N → Type 0) where
     own first last (Continued from to ∷ events) stays steps =
         own to last events stays.1 steps.1
         ∙ grown from.session.exchanges to.session.exchanges (exchanges_at events) (by_step steps.0.0 steps.0.1 from to steps.0.2)
-        ∙ ap (λ (v : ConnectionView R W). v.session.exchanges ++ with_first (slice_get to.session.exchanges (length from.session.exchanges)) (exchanges_at events)) stays.0
+        ∙ ap (λ (v : ConnectionView R W). v.session.exchanges ++ cons_option (slice_get to.session.exchanges (length from.session.exchanges)) (exchanges_at events)) stays.0
     own first last (Ended from end ∷ events) stays steps = absurd stays
 
     pub has_its_exchanges : (life : Life (Streams R W) (ConnectionView R W) ConnectionEnd) → HasItsExchanges Step remaining contents life

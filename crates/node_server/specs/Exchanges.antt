@@ -1,10 +1,10 @@
 -- Which messages a worker's steps answered.
-use Rattle.std.specs.Prelude.{◌≡◌, ℕ, List, [], ◌∷◌, Option, None, length, slice_get}
+use Rattle.std.specs.Prelude.{◌≡◌, ℕ, List, [], ◌∷◌, Option, None, filter_map, length, slice_get}
 use Rattle.open_jobs.specs.declared.step.JobEvent.{JobEvent}
 use Rattle.open_jobs.specs.declared.step.JobEvent.TheVariants.{Began, Continued, Ended}
 use Rattle.open_jobs.specs.Interleaving.{Moves}
 use Rattle.open_jobs.specs.Lives.{Life, StaysOpen}
-use Rattle.open_jobs.specs.Runs.{Run, with_first}
+use Rattle.open_jobs.specs.Runs.{Run}
 use Rattle.riak_msgs.specs.declared.request.Request.{Request}
 use Rattle.riak_msgs.specs.declared.reply.Reply.{Reply}
 use Rattle.node_session.specs.declared.exchange.Exchange.{Exchange}
@@ -24,8 +24,7 @@ module _ {R W : Type 0} where
 
   -- those of a slot's events, in order
   abbrev pub exchanges_at : List (JobEvent (Streams R W) (ConnectionView R W) ConnectionEnd) → List Exchange
-  exchanges_at [] = []
-  exchanges_at (event ∷ events) = with_first (exchange_of event) (exchanges_at events)
+  exchanges_at events = filter_map exchange_of events
 
 -- by a step of the node, or by its error where it is no request
 abbrev pub AnswersExchange : {N : Type 0} (Step : N → Request → Reply → N → Type 0) → N → Exchange → N → Type 0

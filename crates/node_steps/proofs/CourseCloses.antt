@@ -1,26 +1,21 @@
 -- A closer's look leaves each partition's course as it is; by its publish the fallback returns: all was brought back.
-use Rattle.std.proofs.Common.{◌≡◌, ◌≢◌, inl, inr, ℕ, ◌+◌, ◌<◌, Bool, true, false, cond, [], ◌∷◌, length, refl, sym, ◌∙◌, ap, arith, subst}
+use Rattle.std.proofs.Common.{◌≡◌, ◌≢◌, inl, inr, ℕ, ◌+◌, ◌<◌, true, ◌∷◌, length, refl, sym, ◌∙◌, ap, subst}
 use Rattle.std.proofs.lemmas.Option.{none-some}
-use Rattle.std.specs.Prelude.{pred, Option, Some, nat_le, option_and_then, slice_get, ◌==◌, None}
-use Rattle.std.specs.Option.{option_map_or}
-use Rattle.std.specs.FinMap.Entries.{find}
+use Rattle.std.specs.Prelude.{pred, Some, slice_get}
 use Rattle.riak_msgs.specs.declared.Key.{Key}
 use Rattle.riak_msgs.specs.Contents.{Content}
-use Rattle.riak_msgs.specs.KeyOrder.{key_cmp, key_eq}
-use Rattle.actor_epoch.specs.declared.Actor.{Actor}
-use Rattle.actor_epoch.specs.Dots.{counter_in}
 use Rattle.actor_epoch.specs.Given.{Context}
-use Rattle.vnode_machine.specs.Machine.{Stored, State, clock_of, stored}
+use Rattle.vnode_machine.specs.Machine.{State, clock_of}
 use Rattle.vnode_machine.specs.Lives.{lives_begun}
 use Rattle.vnode_machine.specs.Replay.{replay, HasReplay}
 use Rattle.vnode_machine.specs.Registers.{key_of, context_in_ask}
-use Rattle.vnode_machine.proofs.Keys.{eq_by_key_cmp, key_eq-same}
 use Rattle.vnode_machine.proofs.Steps.{known}
 use Rattle.copy_laws.specs.Copies.{all_commands, commands_of}
 use Rattle.copy_laws.specs.Joining.{Log}
 use Rattle.copy_laws.specs.Sides.{Partition}
 use Rattle.copy_laws.specs.CopyReplay.{primary_after}
-use Rattle.copy_laws.specs.Diversions.{Course, Return, diversions_of, fallback_of, fallback_state, primary_of, WasShownInCourse, is_copied, MayHappen}
+use Rattle.copy_laws.specs.Diversions.{Course, Return, diversions_of, fallback_of, fallback_state, primary_of, WasShownInCourse, MayHappen}
+use Rattle.copy_laws.specs.LastDots.{knows_last_dot}
 use Rattle.copy_laws.proofs.CourseCopied.{copied_is_brought}
 use Rattle.copy_laws.proofs.Fallback.{log-replay}
 use Rattle.node_steps.specs.World.{SiteVnode, Worker, World, CommandsAlone, Call, call_of}
@@ -35,48 +30,7 @@ use Rattle.node_steps.proofs.Quiet.{IsQuiet, quiet-judged, quiet-closed}
 use Rattle.node_steps.proofs.Judged.{AreJudged}
 use Rattle.node_steps.proofs.CallsApart.{route_own}
 use Rattle.node_steps.proofs.Coursing.{IsVnode, vnode-state, home_id, away_id, Agrees, IsAway, WasFallback, WasGiven, given-later, IsLawful, IsRun, shown-later, ids, primary-state, away-state, was-later}
-use Rattle.vnode_core.specs.Left.{has_last_dot, is_copied as is_copied_in, one_unless, count_left}
-use Rattle.vnode_core.proofs.Lefts.{equal-within}
-use Rattle.clock_store.specs.Keys.{Keys}
-
--- the primary has as much of a fallback's actor of the key
-abbrev has_all : (primary : State Content) → Key → Option (Stored Content) → Bool
-has_all primary key s =
-    option_map_or
-    (λ (own : Actor). nat_le (counter_in (option_map_or (λ (x : Stored Content). x.clock) s (record { known = []; live = [] })).known own) (counter_in (clock_of primary key).known own))
-    (option_and_then (λ (x : Stored Content). x.own) s) true
-
--- so it has of a key that is copied as it is there
-copied-has : (primary : State Content) (key : Key) (there : Stored Content) → is_copied_in primary (key, there) ≡ true → has_all primary key (Some there) ≡ true
-copied-has primary key there copied = by (stored primary key) copied
-  where
-    last : (here : Stored Content) (own : Option Actor) → option_map_or (λ (a : Actor). counter_in here.clock.known a == counter_in there.clock.known a) own false ≡ true
-        → option_map_or (λ (a : Actor). nat_le (counter_in there.clock.known a) (counter_in here.clock.known a)) own true ≡ true
-    last here None h = cc
-    last here (Some own) h = equal-within (counter_in here.clock.known own) (counter_in there.clock.known own) h
-
-    by : (o : Option (Stored Content)) → option_map_or (λ (here : Stored Content). has_last_dot here there) o false ≡ true
-        → option_map_or (λ (own : Actor). nat_le (counter_in there.clock.known own) (counter_in (option_map_or (λ (x : Stored Content). x.clock) o (record { known = []; live = [] })).known own)) there.own true ≡ true
-    by None h = cc
-    by (Some here) h = last here there.own h
-
--- where none is left, it is so of each key
-none-left : (primary : State Content) (keys : Keys) → count_left primary keys ≡ 0 → (key : Key) → has_all primary key (find key_cmp key keys) ≡ true
-none-left primary [] h key = refl
-none-left primary (entry ∷ keys) h key = by (key_eq key entry.0) refl (passes (is_copied_in primary entry) refl h) (λ g. none-left primary keys g key)
-  where
-    passes : (b : Bool) → is_copied_in primary entry ≡ b → one_unless b + count_left primary keys ≡ 0 → (is_copied_in primary entry ≡ true) × (count_left primary keys ≡ 0)
-    passes true e h = (e, omega (arith, h))
-    passes false e h = absurd (omega (arith, h))
-
-    by : (b : Bool) → key_eq key entry.0 ≡ b → (is_copied_in primary entry ≡ true) × (count_left primary keys ≡ 0)
-        → (count_left primary keys ≡ 0 → has_all primary key (find key_cmp key keys) ≡ true) → has_all primary key (find key_cmp key (entry ∷ keys)) ≡ true
-    by true e copied rest =
-        ap (λ b. has_all primary key (cond b (Some entry.1) (find key_cmp key keys))) (eq_by_key_cmp key entry.0 ∙ e)
-        ∙ ap (λ k. has_all primary k (Some entry.1)) (key_eq-same key entry.0 e) ∙ copied-has primary entry.0 entry.1 copied.0
-    by false e copied rest =
-        ap (λ b. has_all primary key (cond b (Some entry.1) (find key_cmp key keys))) (eq_by_key_cmp key entry.0 ∙ e)
-        ∙ rest copied.1
+use Rattle.vnode_core.proofs.Lefts.{none-left-known}
 
 -- a closer's look
 pub run-judged : (run index : ℕ) (w : World) (number : ℕ) (action : Action) (r : World × Outcome) → IsJudgement w number action r
@@ -231,19 +185,19 @@ module _ (run index : ℕ) (w : World) (orderly : IsOrderly w) (number : ℕ) (a
           (close_hand w orderly number action r c).0 ∙ ap (λ (v : SiteVnode). state_of v.id v.last_epoch v.log) (sym fallback_is)
           ∙ away-state run index opened course partition agrees w away
 
-      all-copied : (key : Key) → is_copied partition course key ≡ true
-      all-copied key =
+      all-known : (key : Key) → knows_last_dot (clock_of (primary_after partition (primary_of partition course)) key) (fallback_state partition course) key ≡ true
+      all-known key =
           let f = judged_all (pred number) c.worker (close_here w orderly number action r c) c.own c.site c.hand c.count c.phase_is in
           let same = some_back f.primary law.vnode.vnode (sym f.there ∙ ap (λ k. slice_get w.vnodes k) e ∙ law.vnode.there) in
           let primary : state_of f.primary.id f.primary.last_epoch f.primary.log ≡ primary_after partition (primary_of partition course) =
           ap (λ (v : SiteVnode). state_of v.id v.last_epoch v.log) same ∙ vnode-state w index (home_id run index) 0 (primary_of partition course) law.vnode
           ∙ primary-state run index opened count partition agrees (primary_of partition course) in
-          none-left (primary_after partition (primary_of partition course)) (fallback_state partition course).keys ((λ i. left_in (sym primary i) (sym hand-state i)) ∙ f.none_left) key
+          none-left-known (primary_after partition (primary_of partition course)) (fallback_state partition course) ((λ i. left_in (sym primary i) (sym hand-state i)) ∙ f.none_left) key
 
       may-return : MayHappen partition course Return
       may-return = (
         away.diverted,
-        λ key. copied_is_brought partition course (ids run index opened count partition agrees) law.may_happen away.diverted key (all-copied key),
+        λ key. copied_is_brought partition course (ids run index opened count partition agrees) law.may_happen away.diverted key (all-known key),
       )
 
     returned-fallback : WasFallback run index next later opened count

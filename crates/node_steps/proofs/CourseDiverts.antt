@@ -1,5 +1,5 @@
 -- Where a partition is diverted its course goes on with a diversion, behind the epochs of the last fallback; other courses stay.
-use Rattle.std.proofs.Common.{◌≡◌, ◌≢◌, inl, inr, ℕ, ◌+◌, ◌<◌, ◌≤◌, cond, ◌∷◌, length, refl, sym, ◌∙◌, ap, arith, subst}
+use Rattle.std.proofs.Common.{◌≡◌, ◌≢◌, inl, inr, ℕ, ◌+◌, ◌<◌, ◌≤◌, cond, [], ◌∷◌, length, refl, sym, ◌∙◌, ap, arith, subst}
 use Rattle.std.specs.Prelude.{◌==◌, Some, slice_get}
 use Rattle.std.specs.Option.{option_map_or}
 use Rattle.riak_msgs.specs.declared.Key.{Key}
@@ -14,7 +14,7 @@ use Rattle.copy_laws.specs.Diversions.{Course, Divert, diversions_of, is_diverte
 use Rattle.copy_laws.proofs.Courses.{none-yet}
 use Rattle.node_steps.specs.World.{SiteVnode, Worker, World, Call, fresh_vnode, diversions_at, call_of}
 use Rattle.node_steps.specs.Steps.{fallback_ids, diverted_by}
-use Rattle.node_steps.proofs.Lists.{set-here, set-there, same_or_other, get-first, get-last, get-more, length-set}
+use Rattle.node_steps.proofs.Lists.{set-here, set-there, same_or_other, get-before, get-last, get-more, length-set}
 use Rattle.node_steps.proofs.Inside.{about_there, other_test, same_test, false_true}
 use Rattle.node_steps.proofs.Kept.{IsOrderly}
 use Rattle.node_steps.proofs.CloseSteps.{some_back}
@@ -62,7 +62,7 @@ module _ (run index : ℕ) (w : World) (orderly : IsOrderly w) (other : ℕ) (af
 
   vnode-stays : (site id epoch : ℕ) (log : Log) → IsVnode w site id epoch log → IsVnode later site id epoch log
   vnode-stays site id epoch log v =
-      record { vnode = v.vnode; there = get-first w.vnodes fresh site v.vnode v.there; id_is = v.id_is; epoch_is = v.epoch_is; log_is = v.log_is }
+      record { vnode = v.vnode; there = get-before w.vnodes (fresh ∷ []) site v.vnode v.there; id_is = v.id_is; epoch_is = v.epoch_is; log_is = v.log_is }
 
   -- a worker's call is at a site that was there
   old_vnode : (place : ℕ) (worker : Worker) → slice_get w.workers place ≡ Some worker → (call : Call) → call_of worker.phase ≡ Some call → (v : SiteVnode) → slice_get later.vnodes call.site ≡ Some v
@@ -102,7 +102,7 @@ module _ (run index : ℕ) (w : World) (orderly : IsOrderly w) (other : ℕ) (af
       })
     ];
     fallbacks = λ m one most last.
-        let f = run_is.fallbacks m one most last in was-later run index w later course course opened m refl f (get-first w.vnodes fresh f.site f.vnode f.there);
+        let f = run_is.fallbacks m one most last in was-later run index w later course course opened m refl f (get-before w.vnodes (fresh ∷ []) f.site f.vnode f.there);
     lawful = λ partition agrees. let law = run_is.lawful partition agrees in record {
       may_happen = law.may_happen;
       vnode = vnode-stays index (home_id run index) 0 (primary_of partition course) law.vnode;
@@ -188,7 +188,7 @@ module _ (run index : ℕ) (w : World) (orderly : IsOrderly w) (other : ℕ) (af
           let f = run_is.fallbacks n one (at_most n count most not_last) (λ diverted. absurd (false_true (is_diverted course) own.not_diverted diverted)) in record {
             site = f.site;
             vnode = f.vnode;
-            there = get-first w.vnodes fresh f.site f.vnode f.there;
+            there = get-before w.vnodes (fresh ∷ []) f.site f.vnode f.there;
             own_is = f.own_is;
             id_is = f.id_is;
             epoch_is = f.epoch_is ∙ sym (opened_there opened (count + 1) d.epoch n not_last);

@@ -1,5 +1,5 @@
 -- A partition that is diverted: what is always true stays so, with a site more.
-use Rattle.std.proofs.Common.{◌≡◌, inl, inr, ℕ, zero, suc, List, ◌+◌, ◌^◌, ◌<◌, ◌≤◌, Bool, true, false, cond, not, ◌&&◌, ◌||◌, [], ◌∷◌, ◌++◌, length, refl, sym, ◌∙◌, ap, arith, subst}
+use Rattle.std.proofs.Common.{◌≡◌, inl, inr, ℕ, zero, suc, List, ◌+◌, ◌^◌, ◌<◌, ◌≤◌, Bool, true, false, cond, not, ◌&&◌, [], ◌∷◌, ◌++◌, length, refl, sym, ◌∙◌, ap, arith, subst}
 use Rattle.std.specs.Prelude.{◌==◌, Some, None, slice_get}
 use Rattle.std.specs.List.{list_all}
 use Rattle.riak_msgs.specs.Contents.{Content}
@@ -10,7 +10,7 @@ use Rattle.copy_laws.specs.Joining.{Log}
 use Rattle.node_steps.specs.World.{Word, Open, Taken, CopyStage, CopyAsked, CopyInside, CopyLooked, CopyTaken, CopyDone, CloseStage, CloseAsked, CloseTaken, CloseInside, CloseLooked, CloseDone, Phase, Idle, Asked, Reading, Holding, Done, Turned, Copying, Closing, SiteVnode, Worker, World, CommandsAlone, fresh_vnode, seen_at}
 use Rattle.node_steps.specs.Steps.{is_about, is_for, fallback_ids, diverted_by, diverted}
 use Rattle.node_steps.specs.Erased.{erase_place}
-use Rattle.node_steps.proofs.Lists.{set-here, set-there, same_or_other, how_many, get-below, get-first, get-last, get-more, length-set, length-more, none_counted, each_passes}
+use Rattle.node_steps.proofs.Lists.{set-here, set-there, same_or_other, how_many, get-below, get-before, get-last, get-more, length-set, length-more, none_counted, each_passes}
 use Rattle.node_steps.proofs.Beginnings.{begins-itself}
 use Rattle.node_steps.specs.Schedules.{Begins}
 use Rattle.node_steps.proofs.Inside.{is_reader, is_holder, reads, holds, FitsWord, state_of, state-vnode, IsInPlace, no_hand, no_whole, IsSound, sound-fresh, IsPlain, plain-fresh, IsAware, same_test}
@@ -20,6 +20,7 @@ pub use Rattle.std.proofs.lemmas.Bool.{eqb-true as same_number}
 use Rattle.std.proofs.lemmas.Bool.{not-true as not_true}
 use Rattle.std.proofs.lemmas.Option.{same_Some as some_same}
 use Rattle.std.proofs.Math.Nat.{zero-add, add-zero, add-suc, suc-add}
+use Rattle.std.proofs.lemmas.Bool.{or_parts}
 
 -- no worker has to do with the partition
 abbrev pub is_alone : World → (index : ℕ) → Bool
@@ -56,17 +57,13 @@ diversion w index next h =
       gives = c.2;
     }
 
-neither : (a b : Bool) → (a || b) ≡ false → (a ≡ false) × (b ≡ false)
-neither true b h = cc
-neither false b h = (refl, h)
-
 -- who has nothing to do with a partition is about no site of it
 for_about : (vnodes : List SiteVnode) (index from : ℕ) (phase : Phase) → is_for vnodes index from phase ≡ false → (site : ℕ) (v : SiteVnode) → slice_get vnodes site ≡ Some v → v.own ≡ index
     → is_about (from + site) phase ≡ false
 for_about [] index from phase h site v there own = cc
 for_about (vnode ∷ vnodes) index from phase h zero v there own =
     let same : vnode ≡ v = cc in
-    let both = neither ((vnode.own == index) && is_about from phase) (is_for vnodes index (suc from) phase) h in
+    let both = or_parts ((vnode.own == index) && is_about from phase) (is_for vnodes index (suc from) phase) h in
     ap (λ n. is_about n phase) (add-zero from) ∙ second (vnode.own == index) (is_about from phase) (same_test vnode.own index (ap (λ (u : SiteVnode). u.own) same ∙ own)) both.0
   where
     second : (a b : Bool) → a ≡ true → (a && b) ≡ false → b ≡ false
@@ -74,7 +71,7 @@ for_about (vnode ∷ vnodes) index from phase h zero v there own =
     second false b e h = cc
 for_about (vnode ∷ vnodes) index from phase h (suc site) v there own =
     ap (λ n. is_about n phase) (add-suc from site ∙ sym (suc-add from site))
-    ∙ for_about vnodes index (suc from) phase (neither ((vnode.own == index) && is_about from phase) (is_for vnodes index (suc from) phase) h).1 site v there own
+    ∙ for_about vnodes index (suc from) phase (or_parts ((vnode.own == index) && is_about from phase) (is_for vnodes index (suc from) phase) h).1 site v there own
 
 pub alone_about : (w : World) (index : ℕ) → is_alone w index ≡ true → (place : ℕ) (worker : Worker) → slice_get w.workers place ≡ Some worker
     → (site : ℕ) (v : SiteVnode) → slice_get w.vnodes site ≡ Some v → v.own ≡ index → is_about site worker.phase ≡ false
@@ -91,9 +88,9 @@ not_inside index (Reading other get) h = (h, refl)
 not_inside index (Holding other ask hand plan) h = (refl, h)
 not_inside index (Done other None) h = (h, refl)
 not_inside index (Done other (Some hand)) h = (refl, h)
-not_inside index (Turned own other ask None) h = ((neither (own == index) (other == index) h).1, refl)
-not_inside index (Turned own other ask (Some hand)) h = (refl, (neither (own == index) (other == index) h).1)
-not_inside index (Closing own other stage) h = by stage (neither (own == index) (other == index) h).0 (neither (own == index) (other == index) h).1
+not_inside index (Turned own other ask None) h = ((or_parts (own == index) (other == index) h).1, refl)
+not_inside index (Turned own other ask (Some hand)) h = (refl, (or_parts (own == index) (other == index) h).1)
+not_inside index (Closing own other stage) h = by stage (or_parts (own == index) (other == index) h).0 (or_parts (own == index) (other == index) h).1
   where
     by : (s : CloseStage) → (own == index) ≡ false → (other == index) ≡ false
         → (is_reader index (Closing own other s) ≡ false) × (is_holder index (Closing own other s) ≡ false)
@@ -103,7 +100,7 @@ not_inside index (Closing own other stage) h = by stage (neither (own == index) 
     by (CloseLooked hand number) a b = (a, b)
     by (CloseDone hand true) a b = (a, b)
     by (CloseDone hand false) a b = (refl, b)
-not_inside index (Copying own other key stage) h = by stage (neither (own == index) (other == index) h).0 (neither (own == index) (other == index) h).1
+not_inside index (Copying own other key stage) h = by stage (or_parts (own == index) (other == index) h).0 (or_parts (own == index) (other == index) h).1
   where
     by : (s : CopyStage) → (own == index) ≡ false → (other == index) ≡ false
         → (is_reader index (Copying own other key s) ≡ false) × (is_holder index (Copying own other key s) ≡ false)
@@ -186,7 +183,7 @@ module _ (w : World) (orderly : IsOrderly w) (index epoch : ℕ) (primary : Site
 
   -- a fallback stays one
   fallback-more : (o s : ℕ) → IsFallback w o s → IsFallback next o s
-  fallback-more o s f = record { apart = f.apart; vnode = f.vnode; there = get-first w.vnodes fallback s f.vnode f.there; own_is = f.own_is }
+  fallback-more o s f = record { apart = f.apart; vnode = f.vnode; there = get-before w.vnodes (fallback ∷ []) s f.vnode f.there; own_is = f.own_is }
 
   new_fallback : IsFallback next index new_site
   new_fallback = record {

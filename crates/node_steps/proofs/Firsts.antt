@@ -6,7 +6,7 @@ use Rattle.node_steps.specs.World.{SiteVnode, World, CommandsAlone, fresh_vnode,
 use Rattle.node_steps.specs.Steps.{Action, Step, By, Diverts, Outcome, NotPossible, Happened, Replied, NotHeld, StuckThere, CopiedBack, Elsewhere, LeftThere, fallback_ids, routed, turned, acts, diverted_by, diverted}
 use Rattle.node_steps.specs.Schedules.{Start, IsStart, world_after}
 use Rattle.node_steps.specs.Claims.{CommandsFirst, HadClose, CallsMeetNoCopies}
-use Rattle.node_steps.proofs.Lists.{same_or_other, get-first}
+use Rattle.node_steps.proofs.Lists.{same_or_other, get-before}
 use Rattle.node_steps.proofs.Coming.{Comes}
 use Rattle.node_steps.proofs.Kept.{IsPossible, possible}
 use Rattle.node_steps.proofs.FirstWorld.{opened}
@@ -50,9 +50,9 @@ first-diverted w other after d was site = subst (λ (x : World). First x site) d
     had-more : HadClose w site → (v : SiteVnode) → slice_get w.vnodes site ≡ Some v → HadClose later site
     had-more (at, own, closed) v there =
         let u = closed_vnode w at closed in
-        let more = get-first w.vnodes fresh at u.0 u.1 in (
+        let more = get-before w.vnodes (fresh ∷ []) at u.0 u.1 in (
           at,
-          ap (λ o. option_map_or (λ (x : SiteVnode). x.own) o 0) (more ∙ sym u.1) ∙ own ∙ ap (λ o. option_map_or (λ (x : SiteVnode). x.own) o 0) (there ∙ sym (get-first w.vnodes fresh site v there)),
+          ap (λ o. option_map_or (λ (x : SiteVnode). x.own) o 0) (more ∙ sym u.1) ∙ own ∙ ap (λ o. option_map_or (λ (x : SiteVnode). x.own) o 0) (there ∙ sym (get-before w.vnodes (fresh ∷ []) site v there)),
           λ none. closed (ap closed_in (u.1 ∙ sym more) ∙ none),
         )
 

@@ -8,7 +8,7 @@ use Rattle.vnode_machine.specs.Machine.{State}
 use Rattle.node_steps.specs.World.{CloseLooked, Phase, Idle, Closing, SiteVnode, Worker, World, fresh_vnode, fresh_worker, opening_world, route}
 use Rattle.node_steps.specs.Steps.{accepted_in, Action, Step, By, Diverts, Outcome, Happened, fallback_ids, left_in, judged, judged_by, routed, turned, acts, diverted}
 use Rattle.node_steps.specs.Schedules.{Start, IsStart, world_after}
-use Rattle.node_steps.proofs.Lists.{how_many, set-here, set-there, same_or_other, get-first, get-replicate, counted_one}
+use Rattle.node_steps.proofs.Lists.{how_many, set-here, set-there, same_or_other, get-before, get-replicate, counted_one}
 use Rattle.node_steps.proofs.Inside.{is_reader, is_holder, reads, holds, same_test, false_true, state_of}
 use Rattle.node_steps.proofs.Coming.{between_in, is_looked}
 use Rattle.node_steps.proofs.Turns.{place_read}
@@ -145,7 +145,7 @@ judged-diverted w other after d was = subst AreJudged d.gives (λ place worker h
     let f = was place worker h own site hand count e in
     record {
       primary = f.primary;
-      there = get-first w.vnodes (fresh_vnode (d.primary.place.vnode + fallback_ids) other d.epoch) own f.primary f.there;
+      there = get-before w.vnodes (fresh_vnode (d.primary.place.vnode + fallback_ids) other d.epoch ∷ []) own f.primary f.there;
       none_left = f.none_left;
       number_is = f.number_is;
     })

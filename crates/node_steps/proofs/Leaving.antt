@@ -19,11 +19,7 @@ use Rattle.vnode_machine.proofs.LeavingLaw.{leaves_only_covered}
 use Rattle.node_steps.specs.World.{World, id_at, last_epoch_at, history_at}
 use Rattle.node_steps.specs.Claims.{IsSiblingNoMore, ValuesLeaveOnlyCovered}
 use Rattle.node_steps.proofs.Lifting.{HaveReplays}
-use Rattle.std.proofs.lemmas.Bool.{eqb-true as same_number}
-
-not_both : (b : Bool) → b ≡ true → not b ≡ true → ⊥
-not_both true h k = cc
-not_both false h k = cc
+use Rattle.std.proofs.lemmas.Bool.{eqb-true as same_number, true≢false}
 
 abbrev Shape : Type 0
 Shape = Option Dot × Option Content
@@ -55,14 +51,14 @@ module _ (id epoch : ℕ) (history between position : History) (key : Key) (numb
         d.0,
         d.1,
         elim (leaves_only_covered id epoch position between replays_there key number d.0 leaves.sibling leaves.value d.1) [
-          | inl stays ↦ absurd (not_both (is_among (siblings (between ++ position) key) number) stays leaves.no_more)
+          | inl stays ↦ absurd (true≢false (sym leaves.no_more ∙ ap not stays))
           | inr taken ↦ taken
         ],
       )
 
   pub seen : IsTrue (is_seen_in between key number)
   seen = elim (leaves_only_seen (naming id epoch) between position (replay_is_legal id epoch (between ++ position) replays_there).accepted key number leaves.sibling leaves.value) [
-    | inl stays ↦ absurd (not_both (is_among (siblings (between ++ position) key) number) stays leaves.no_more)
+    | inl stays ↦ absurd (true≢false (sym leaves.no_more ∙ ap not stays))
     | inr saw ↦ saw
   ]
 

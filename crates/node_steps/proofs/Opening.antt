@@ -16,10 +16,6 @@ pub idle_workers : (n : ℕ) → map worker_of (replicate n phases.Idle) ≡ map
 idle_workers zero = refl
 idle_workers (suc n) = ap (λ rest. worker_of phases.Idle ∷ rest) (idle_workers n)
 
-pub replicate-more : {X : Type 0} (n : ℕ) (x : X) → replicate n x ++ x ∷ [] ≡ replicate (suc n) x
-replicate-more zero x = refl
-replicate-more (suc n) x = ap (λ rest. x ∷ rest) (replicate-more n x)
-
 opening-more : (run from n : ℕ) → opening_vnodes run from n ++ fresh_vnode (id_of run (from + n)) (from + n) 0 ∷ [] ≡ opening_vnodes run from (suc n)
 opening-more run from zero = ap (λ i. fresh_vnode (id_of run i) i 0 ∷ []) (add-zero from)
 opening-more run from (suc n) =

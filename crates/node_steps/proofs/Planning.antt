@@ -1,6 +1,7 @@
 -- What an ask comes to that is prepared, answered, refused or finished, by the command that it makes of a vnode.
 use Rattle.std.proofs.Common.{◌≡◌, ℕ, Bool, true, false, cond, not, ◌&&◌, refl, sym, ◌∙◌, ap, subst, inl, inr}
-use Rattle.std.specs.Prelude.{Option, Some, None, IsSome, IfSome, is_none, option_map}
+use Rattle.std.specs.Prelude.{Option, Some, None, IfSome, IsSome, is_none, is_some, option_map}
+use Rattle.std.proofs.lemmas.Bool.{true≢false}
 use Rattle.riak_msgs.specs.Contents.{Content}
 use Rattle.riak_msgs.specs.declared.Key.{Key}
 use Rattle.sibling_register.specs.History.{Operation, Write, Tombstone, Reap as Forget}
@@ -52,14 +53,10 @@ reap-kept true value next h = cc
 reap-kept false true next h = refl
 reap-kept false false next h = refl
 
-pub not_closed : (closed : Option ℕ) → closed ≡ None → IsSome closed → ⊥
-not_closed None e s = cc
-not_closed (Some number) e s = cc
-
 -- what an open vnode answers to a command is the machine's
 pub answers_command : (state : State Content) (ask : Ask) (answer : Answer) → state.closed ≡ None → IsAnsweredUnchanged state ask answer
     → IfSome (command_of ask) (λ command. ComesTo (outcome state command) answer)
-answers_command state ask answer opened (inr closed) = absurd (not_closed state.closed opened closed.0)
+answers_command state ask answer opened (inr closed) = absurd (true≢false (sym closed.0 ∙ ap is_some opened))
 answers_command state (Put put) answer opened (inl open_one) = absurd open_one.1
 answers_command state (Del del) answer opened (inl open_one) =
     record { response = DelDone; comes = open_one.1.1; is = ap response_of open_one.1.0 }

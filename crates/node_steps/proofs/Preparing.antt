@@ -22,7 +22,8 @@ use Rattle.vnode_core.specs.declared.ask.Answer.{Answer}
 use Rattle.vnode_core.specs.Plans.{View, IsAcceptedStep, AcceptsOpen, IsPrepared, IsAnsweredUnchanged, StepsOpen}
 use Rattle.node_steps.specs.Hands.{command_of, plan_by, plan_of}
 use Rattle.node_steps.specs.CopyHands.{copied_by, IsCopy, PlansCopy}
-use Rattle.node_steps.proofs.Planning.{Finishes, not_closed}
+use Rattle.std.proofs.lemmas.Bool.{true≢false}
+use Rattle.node_steps.proofs.Planning.{Finishes}
 use Rattle.std.proofs.lemmas.Bool.{not-true as unstuck}
 
 module _ (key : Key) (clock : DotState (Option Content)) (copy : KeyCopyView) (key_is : copy.key ≡ key) (clock_is : copy.clock ≡ clock) where
@@ -40,7 +41,7 @@ module _ (key : Key) (clock : DotState (Option Content)) (copy : KeyCopyView) (k
   -- or none, where it is stuck
   pub is_stuck_then : (state : State Content) (answer : Answer) → state.closed ≡ None → IsAnsweredUnchanged state (Copy copy) answer → is_stuck state key clock ≡ true
   is_stuck_then state answer opened (inl h) = (λ i. is_stuck state (sym key_is i) (sym clock_is i)) ∙ h.1.1
-  is_stuck_then state answer opened (inr h) = absurd (not_closed state.closed opened h.0)
+  is_stuck_then state answer opened (inr h) = absurd (true≢false (sym h.0 ∙ ap is_some opened))
 
 -- what the copy makes
 pub makes_copy : (old : State Content) (change : Ask) (answer : Answer) (new : State Content) → IsCopy change → StepsOpen old change answer new → new ≡ copied_by old change

@@ -19,7 +19,7 @@ use Rattle.node_steps.specs.Steps.{Action, Step, By, Diverts, Outcome, NotPossib
 use Rattle.node_steps.specs.Schedules.{Start, IsStart, world_after, Begins}
 use Rattle.node_steps.specs.Contexts.{context_bytes, call_by, given_in, WasShownInRun, GivesShownInRun}
 use Rattle.node_steps.specs.Claims.{CommandsFirst, ValuesLeaveOnlySeen}
-use Rattle.node_steps.proofs.Lists.{set-here, set-there, same_or_other, get-first, get-replicate}
+use Rattle.node_steps.proofs.Lists.{set-here, set-there, same_or_other, get-before, get-replicate}
 use Rattle.node_steps.proofs.Beginnings.{begins-itself}
 use Rattle.node_steps.proofs.Inside.{same_test}
 use Rattle.node_steps.proofs.Shown.{IsName, name-later, held_is_name, saw_position}
@@ -264,7 +264,7 @@ module _ (start : Start) (is : IsStart start) (index : ℕ) (key : Key) where
       log_same site = log-more w.vnodes fresh refl site
 
       by : (o : Option SiteVnode) → slice_get w.vnodes index ≡ o → IsNamed index key later Shown
-      by (Some v) h = let same : slice_get later.vnodes index ≡ slice_get w.vnodes index = get-first w.vnodes fresh index v h ∙ sym h in record {
+      by (Some v) h = let same : slice_get later.vnodes index ≡ slice_get w.vnodes index = get-before w.vnodes (fresh ∷ []) index v h ∙ sym h in record {
         shown = λ only context s. subst (λ o. IsName (id_in o) (epoch_in o) (history_in o) key context) (sym same) (named.shown (subst CommandsAlone (log_same index) only) context s);
         calls = λ only place worker k. subst (λ o. NamesCall index key (id_in o) (epoch_in o) (history_in o) (call_of worker.phase)) (sym same)
             (named.calls (subst CommandsAlone (log_same index) only) place worker k);

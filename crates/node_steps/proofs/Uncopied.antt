@@ -7,7 +7,7 @@ use Rattle.node_steps.specs.World.{Phase, SiteVnode, Worker, World, CommandsAlon
 use Rattle.node_steps.specs.Steps.{Action, Step, By, Diverts, Outcome, Happened, routed, fallback_ids, is_about, acts, diverted, diverted_by}
 use Rattle.node_steps.specs.Schedules.{Start, IsStart, world_after}
 use Rattle.node_steps.specs.Claims.{HadClose}
-use Rattle.node_steps.proofs.Lists.{set-here, set-there, same_or_other, get-below, get-first, get-more, found_below}
+use Rattle.node_steps.proofs.Lists.{set-here, set-there, same_or_other, get-below, get-before, get-more, found_below}
 use Rattle.node_steps.proofs.Inside.{about_there, state_of, IsOpenAt, false_true}
 use Rattle.node_steps.proofs.Coming.{between_in, is_turned}
 use Rattle.node_steps.proofs.Kept.{IsOrderly, possible}
@@ -147,9 +147,9 @@ module _ (w : World) (orderly : IsOrderly w) (other : ℕ) (after : World) (d : 
       had-more : HadClose w site → (v : SiteVnode) → slice_get w.vnodes site ≡ Some v → HadClose later site
       had-more (at, own, closed) v there =
           let u = closed_vnode w at closed in
-          let more = get-first w.vnodes fresh at u.0 u.1 in (
+          let more = get-before w.vnodes (fresh ∷ []) at u.0 u.1 in (
             at,
-            ap (λ o. option_map_or (λ (x : SiteVnode). x.own) o 0) (more ∙ sym u.1) ∙ own ∙ ap (λ o. option_map_or (λ (x : SiteVnode). x.own) o 0) (there ∙ sym (get-first w.vnodes fresh site v there)),
+            ap (λ o. option_map_or (λ (x : SiteVnode). x.own) o 0) (more ∙ sym u.1) ∙ own ∙ ap (λ o. option_map_or (λ (x : SiteVnode). x.own) o 0) (there ∙ sym (get-before w.vnodes (fresh ∷ []) site v there)),
             λ none. closed (ap closed_in (u.1 ∙ sym more) ∙ none),
           )
 
@@ -189,7 +189,7 @@ module _ (w : World) (orderly : IsOrderly w) (other : ℕ) (after : World) (d : 
     turned_there = λ place worker h own site turned between v there clear.
         let f = orderly.between place worker h own site between in
         is.turned_there place worker h own site turned between f.vnode f.there
-        (subst (λ (u : SiteVnode). IsOpenAt u.id u.last_epoch u.log) (some_back v f.vnode (sym there ∙ get-first w.vnodes fresh site f.vnode f.there)) clear);
+        (subst (λ (u : SiteVnode). IsOpenAt u.id u.last_epoch u.log) (some_back v f.vnode (sym there ∙ get-before w.vnodes (fresh ∷ []) site f.vnode f.there)) clear);
     logs = logs-diverted;
   })
 

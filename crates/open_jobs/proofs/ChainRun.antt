@@ -3,10 +3,11 @@ use Rattle.std.proofs.Common.{List, [], ◌∷◌, Option, Some, None, subst}
 use Rattle.open_jobs.specs.declared.step.JobEvent.{JobEvent}
 use Rattle.open_jobs.specs.declared.step.JobStep.{JobStep}
 use Rattle.open_jobs.specs.Interleaving.{Moves, Chain}
-use Rattle.open_jobs.specs.Runs.{Run, with_first, exchanges_of, MovesBy}
+use Rattle.std.specs.List.{cons_option}
+use Rattle.open_jobs.specs.Runs.{Run, exchanges_of, MovesBy}
 
 module _ {W X : Type 0} (Answers : W → X → W → Type 0) where
-  run-cons : (a b last : W) (x : Option X) (xs : List X) → MovesBy Answers a x b → Run Answers b xs last → Run Answers a (with_first x xs) last
+  run-cons : (a b last : W) (x : Option X) (xs : List X) → MovesBy Answers a x b → Run Answers b xs last → Run Answers a (cons_option x xs) last
   run-cons a b last None xs p q = subst (λ (w : W). Run Answers w xs last) p q
   run-cons a b last (Some x) xs p q = (b, p, q)
 

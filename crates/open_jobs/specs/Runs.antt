@@ -1,5 +1,5 @@
 -- A worker's steps as a run of exchanges with its state.
-use Rattle.std.specs.Prelude.{◌≡◌, List, [], ◌∷◌, Option, Some, None}
+use Rattle.std.specs.Prelude.{◌≡◌, List, [], ◌∷◌, Option, Some, None, filter_map}
 use Rattle.open_jobs.specs.declared.step.JobEvent.{JobEvent}
 use Rattle.open_jobs.specs.declared.step.JobStep.{JobStep}
 
@@ -8,15 +8,9 @@ abbrev pub Run : {W X : Type 0} → (W → X → W → Type 0) → W → List X 
 Run Answers first [] last = last ≡ first
 Run {W} Answers first (exchange ∷ exchanges) last = (mid : W) × Answers first exchange mid × Run Answers mid exchanges last
 
--- with one more in front, if there is one
-abbrev pub with_first : {X : Type 0} → Option X → List X → List X
-with_first None exchanges = exchanges
-with_first (Some exchange) exchanges = exchange ∷ exchanges
-
 -- the exchanges that the steps made, in order
 abbrev pub exchanges_of : {W J O E X : Type 0} → (JobEvent J O E → Option X) → List (JobStep W J O E) → List X
-exchanges_of exchange [] = []
-exchanges_of exchange (step ∷ steps) = with_first (exchange step.event) (exchanges_of exchange steps)
+exchanges_of exchange steps = filter_map (λ step. exchange step.event) steps
 
 -- an event without an exchange leaves the worker's state, any other answers it
 abbrev pub MovesBy : {W X : Type 0} → (W → X → W → Type 0) → W → Option X → W → Type 0

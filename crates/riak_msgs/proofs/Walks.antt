@@ -135,10 +135,6 @@ pub IfErr-each : {T E C : Type 0} (r : Result T E) (P : C → Type 0) (Q : E →
 IfErr-each (Ok x) P Q f = tt
 IfErr-each (Err e) P Q f = f
 
-pub IfErr-weaker : {T E : Type 0} (r : Result T E) (P Q : E → Type 0) → ((e : E) → P e → Q e) → IfErr r P → IfErr r Q
-IfErr-weaker (Ok x) P Q f p = tt
-IfErr-weaker (Err e) P Q f p = f e p
-
 pub IfErr-from_OnErr : {T E : Type 0} (r : Result T E) (P : Type 0) (Q : E → Type 0) → (P → (e : E) → Q e) → OnErr r P → IfErr r Q
 IfErr-from_OnErr (Ok x) P Q f p = tt
 IfErr-from_OnErr (Err e) P Q f p = f p e

@@ -13,7 +13,7 @@ use Rattle.sibling_register.specs.Answers.{Told, Reaped, Kept, Done, RegisterAsk
 use Rattle.sibling_register.specs.Legal.{IsAccepted}
 use Rattle.sibling_register.specs.Leaving.{is_seen_in, LeavesOnlySeen}
 use Rattle.sibling_register.proofs.Following.{left_by, siblings-own, siblings-other, numbered-later}
-use Rattle.std.proofs.lemmas.Bool.{eqb-true as nat_eq-same, and_parts, or_right, or_cases}
+use Rattle.std.proofs.lemmas.Bool.{eqb-true as nat_eq-same, and_parts, or_right, or_cases, not_from_false, true≢false}
 
 bytes_eq-same : (a b : List ℕ) → bytes_eq a b ≡ true → a ≡ b
 bytes_eq-same [] [] h = refl
@@ -53,12 +53,6 @@ any-among p (x ∷ xs) n h t =
 some_of : {X : Type 0} (o : Option X) → o ≢ None → is_some o ≡ true
 some_of None h = absurd (h refl)
 some_of (Some x) h = refl
-
-not_false : (b : Bool) → b ≡ false → not b ≡ true
-not_false b h = rw h refl
-
-clash : (b : Bool) → b ≡ true → not b ≡ true → ⊥
-clash b h k = cc
 
 module _ {V C : Type 0} where
   -- a sibling is the number of an event
@@ -112,7 +106,7 @@ module _ {V C : Type 0} where
       dead e u =
           let is : is_dead before key ≡ true = ap (is_dead before) (sym (key_eq-same event.key key e)) ∙ found_dead naming before accepted.ask event accepted.told accepted.given u in
           let here : is_present before key ≡ true = any-among (λ n. is_some (content_of before key n)) (siblings before key) number sibling (some_of (content_of before key number) content) in
-          clash (is_present before key) here (and_parts (is_defined before key) _ is).1
+          true≢false (sym (and_parts (is_defined before key) _ is).1 ∙ ap not here)
 
       seen : (u : Bool) → is_update event.operation ≡ u → key_eq event.key key ≡ true → is_among event.saw number ≡ true
           → ((key_eq event.key key && is_update event.operation) && is_among event.saw number) ≡ true
@@ -124,7 +118,7 @@ module _ {V C : Type 0} where
       sight true s e = inr (seen (is_update event.operation) refl e s)
       sight false s e = inl (ap (λ xs. is_among xs number) (siblings-own event before key e)
           ∙ kept (is_update event.operation) (suc (count_of before key)) (left_by event.saw (siblings before key))
-          (among-filter (λ n. not (is_among event.saw n)) (siblings before key) number sibling (not_false (is_among event.saw number) s)))
+          (among-filter (λ n. not (is_among event.saw n)) (siblings before key) number sibling (not_from_false (is_among event.saw number) s)))
 
       own : (b : Bool) → key_eq event.key key ≡ b
           → (is_among (siblings (event ∷ before) key) number ≡ true) ⊎ (((key_eq event.key key && is_update event.operation) && is_among event.saw number) ≡ true)

@@ -5,7 +5,7 @@ use Rattle.std.specs.declared.cmp.Ordering.{Ordering}
 use Rattle.std.specs.declared.cmp.Ordering.TheVariants.{Less, Equal, Greater}
 use Rattle.std.specs.Cmp.Lexicographic.{slice_cmp}
 use Rattle.std.specs.Str.{bytes_eq}
-use Rattle.std.specs.Prelude.{Option, Some, None, Result, Ok, Err, OnOk, OnErr, is_some, map, reverse}
+use Rattle.std.specs.Prelude.{Option, Some, None, is_some, map, reverse}
 use Rattle.std.proofs.lemmas.List.{map-append, reverse-append}
 use Rattle.std.specs.Option.{option_map_or}
 use Rattle.std.specs.List.Sorted.{IsNonDecreasingBy}
@@ -177,15 +177,6 @@ module _ (key : Key) (old mid new : BTreeMap Key KeyIndex) (was is : KeyIndex) w
         places = ap (λ o. option_map_or (λ i. i.places.items) o []) up ∙ (same q).places
             ∙ ap (λ b. cond b (places_at old q ++ place ∷ []) (places_at old q)) (sym (test e));
       }
-
-module _ {A E : Type 0} where
-  pub on_ok : {P Q : Type 0} (result : Result A E) → (P → Q) → OnOk result P → OnOk result Q
-  on_ok (Ok a) f p = f p
-  on_ok (Err e) f p = p
-
-  pub on_err : {P Q : Type 0} (result : Result A E) → (P → Q) → OnErr result P → OnErr result Q
-  on_err (Ok a) f p = p
-  on_err (Err e) f p = f p
 
 -- an entry more is one event more
 pub history_of-push : {V : Type 0} (entries : List (Entry V)) (entry : Entry V) → history_of (entries ++ entry ∷ []) ≡ event_of entry ∷ history_of entries

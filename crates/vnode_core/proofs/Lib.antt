@@ -5,7 +5,6 @@ pub mod Entries
 pub mod Events
 pub mod Finishing
 pub mod Lefts
-pub mod Lists
 pub mod Options
 pub mod Previews
 pub mod Putting

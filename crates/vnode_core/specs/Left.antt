@@ -1,5 +1,5 @@
 -- The keys of a vnode, a fallback, that another, its primary, hasn't as they are there now.
-use Rattle.std.specs.Prelude.{◌==◌, ◌+◌, if◌then◌else◌, Bool, false, ℕ, [], ◌∷◌, Option}
+use Rattle.std.specs.Prelude.{◌==◌, if◌then◌else◌, Bool, false, not, ℕ, length, filter, Option}
 use Rattle.std.specs.Option.{option_map_or}
 use Rattle.riak_msgs.specs.declared.Key.{Key}
 use Rattle.riak_msgs.specs.Contents.{Content}
@@ -19,12 +19,12 @@ abbrev pub is_copied : State Content → Key × Stored Content → Bool
 is_copied primary entry = option_map_or (λ here. has_last_dot here entry.1) (stored primary entry.0) false
 
 -- how many of these aren't
+abbrev pub count_left : State Content → Keys → ℕ
+count_left primary keys = length (filter (λ entry. not (is_copied primary entry)) keys)
+
+-- what a key adds to it
 abbrev pub one_unless : Bool → ℕ
 one_unless copied = if copied then 0 else 1
-
-abbrev pub count_left : State Content → Keys → ℕ
-count_left primary [] = 0
-count_left primary (entry ∷ entries) = one_unless (is_copied primary entry) + count_left primary entries
 
 -- the keys that a vnode holds behind one, or all where none is given
 abbrev pub keys_behind : Option Key → State Content → Keys

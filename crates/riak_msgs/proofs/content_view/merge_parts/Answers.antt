@@ -1,6 +1,6 @@
 use Rattle.std.proofs.lemmas.Result.{on_ok_weaker}
 use Rattle.riak_msgs.specs.SeenContents.{content_in}
-use Rattle.riak_msgs.proofs.Walks.{IfErr-weaker}
+use Rattle.std.proofs.lemmas.Result.{IfErr-weaker}
 use Rattle.riak_msgs.proofs.ContentsWalked.{HoldContent-one, StandForContent-one}
 use Rattle.riak_msgs.proofs.Scans.{parts_copied, parts_not_copied}
 use Rattle.riak_msgs.proofs.content_view.merge_parts.Goals as goal

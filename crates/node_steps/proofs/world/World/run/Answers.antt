@@ -2,14 +2,15 @@ use Rattle.std.proofs.Common.{refl, sym, subst, drop, ◌+◌, ◌∙◌, ap, �
 use Rattle.std.proofs.lemmas.List.{drop_more, drop_all}
 use Rattle.node_steps.specs.Asked.{step_of}
 use Rattle.node_steps.specs.Kept.{FollowsInRun, FollowsSome}
-use Rattle.node_steps.proofs.RunsOn.{HasTaken, none_taken, one_taken, all_taken, some_taken, on_err}
+use Rattle.node_steps.proofs.RunsOn.{HasTaken, none_taken, one_taken, all_taken, some_taken}
+use Rattle.riak_msgs.proofs.Walks.{OnErr-always}
 use Rattle.node_steps.proofs.world.World.run.Goals as goal
 
 pub returns-in_err-outcomes-clause-err : goal.returns-in_err-outcomes-clause-err
 returns-in_err-outcomes-clause-err c =
     let old = c.args.self.now in
     let steps = c.args.steps.now in
-    on_err c.from_residual.result (some_taken old steps steps _ old (none_taken old steps steps refl))
+    OnErr-always c.from_residual.result (some_taken old steps steps _ old (none_taken old steps steps refl))
 
 pub loop-step-init : goal.loop-step-init
 loop-step-init c =
@@ -21,14 +22,14 @@ pub returns-in_err-copy-clause-err : goal.returns-in_err-copy-clause-err
 returns-in_err-copy-clause-err c =
     let old = c.args.self.now in
     let steps = c.args.steps.now in
-    on_err c.from_residual-in_err-copy.result
+    OnErr-always c.from_residual-in_err-copy.result
     (some_taken old steps (drop c.loop-step.step-index steps) c.loop-step.outcomes.items c.loop-step.self c.loop-step.invariant)
 
 pub returns-in_err-outcome-clause-err : goal.returns-in_err-outcome-clause-err
 returns-in_err-outcome-clause-err c =
     let old = c.args.self.now in
     let steps = c.args.steps.now in
-    on_err c.from_residual-in_err-outcome.result
+    OnErr-always c.from_residual-in_err-outcome.result
     (subst (λ w. FollowsSome old steps w) (sym c.in_err-outcome.ensures.err)
     (some_taken old steps (drop c.loop-step.step-index steps) c.loop-step.outcomes.items c.loop-step.self c.loop-step.invariant))
 

@@ -4,7 +4,8 @@ use Rattle.riak_msgs.specs.Embedded.{StandForContent}
 use Rattle.riak_msgs.specs.Seen.{no_fields}
 use Rattle.riak_msgs.specs.SeenContents.{content_in}
 use Rattle.riak_msgs.proofs.Contents.{StandForContent-nil, with_parts-no_fields}
-use Rattle.riak_msgs.proofs.Walks.{IfErr-each, IfErr-weaker}
+use Rattle.std.proofs.lemmas.Result.{IfErr-weaker}
+use Rattle.riak_msgs.proofs.Walks.{IfErr-each}
 use Rattle.riak_msgs.proofs.read_put.PutPartsMerge.merge_field.Goals as goal
 
 pub returns-in-Some-clause-err : goal.returns-in-Some-clause-err

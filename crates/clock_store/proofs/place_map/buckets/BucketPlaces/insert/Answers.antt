@@ -1,7 +1,8 @@
 use Rattle.std.proofs.Common.{◌∙◌, sym, ap}
 use Rattle.std.specs.Option.{option_copied_mut}
 use Rattle.std.specs.Prelude.{Some}
-use Rattle.clock_store.proofs.Nested.{buckets_order, nested_sorted, nested_written, found_written, same_written, filled_insert, nested_added, found_added, on_ok, on_err}
+use Rattle.clock_store.proofs.Nested.{buckets_order, nested_sorted, nested_written, found_written, same_written, filled_insert, nested_added, found_added}
+use Rattle.std.proofs.lemmas.Result.{on_ok_weaker, on_err_weaker}
 use Rattle.clock_store.proofs.place_map.buckets.BucketPlaces.insert.Goals as goal
 
 pub invariant_of-self : goal.invariant_of-self
@@ -19,7 +20,7 @@ invariant_of-self c =
 pub returns-in-Some-clause-inserted : goal.returns-in-Some-clause-inserted
 returns-in-Some-clause-inserted c =
     rw (← c.self.view_is)
-    (on_ok c.insert_key.result
+    (on_ok_weaker c.insert_key.result
     (λ changed other. found_written buckets_order c.self.inside.buckets (c.get_mut.follows.lender c.insert_key.new.keys) c.args.bucket.now c.in-Some.keys.now c.insert_key.new.keys
     (sym c.get_mut.ensures.value ∙ ap option_copied_mut c.in-Some.is) (c.get_mut.follows.holds c.insert_key.new.keys) c.self.invariant c.args.key.now (Some c.args.place) changed other.0 other.1)
     c.insert_key.ensures.inserted)
@@ -27,7 +28,7 @@ returns-in-Some-clause-inserted c =
 pub returns-in-Some-clause-refused : goal.returns-in-Some-clause-refused
 returns-in-Some-clause-refused c =
     rw (← c.self.view_is)
-    (on_err c.insert_key.result
+    (on_err_weaker c.insert_key.result
     (same_written buckets_order c.self.inside.buckets (c.get_mut.follows.lender c.insert_key.new.keys) c.args.bucket.now c.in-Some.keys.now c.insert_key.new.keys
     (sym c.get_mut.ensures.value ∙ ap option_copied_mut c.in-Some.is) (c.get_mut.follows.holds c.insert_key.new.keys))
     c.insert_key.ensures.refused)
