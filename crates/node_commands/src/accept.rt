@@ -1,6 +1,6 @@
 //! Accepting a connection for which the system may have no descriptor yet.
 use log::{Log, warn};
-use socket_server::AcceptFault;
+use socket_server::{AcceptFault, PAUSE_MILLIS};
 use std::net::{OpenListener, SocketAddr};
 use std::rt::Clock;
 use std::time::Duration;
@@ -8,9 +8,6 @@ use std::{io, thread};
 
 /// How often a connection is accepted at most, where the system has no descriptor or no memory for it: for an hour.
 pub const MAX_ACCEPT_TRIES: u32 = 360_000;
-
-/// The pause between two tries, in milliseconds.
-const PAUSE_MILLIS: u64 = 10;
 
 /// Waits for the next connection. One that failed before it was accepted is passed over. Where the system has no descriptor or no memory
 /// for one, that is logged once, and it is accepted again every 10 ms. After [`MAX_ACCEPT_TRIES`] of both the last fault is returned, and any

@@ -17,7 +17,8 @@ use std::io::{Read, Write};
 /// All messages of all connections that a worker's steps answered, in the order of the steps, were answered by one run of its node, from its
 /// first state to its last.
 pub fn steps_are_run<N: Node, R: Read, W: Write>()
-    ensures { (first last : N) (steps : List (JobStep N (Streams R W) (ConnectionView R W) ConnectionEnd))
+    ensures { (first last : N)
+        (steps : List (JobStep N (Streams R W) (ConnectionView R W) ConnectionEnd))
         → Chain (Continues N.step R.remaining W.contents) (EndsConnection R.remaining W.contents)
         first steps last
         → Run (AnswersExchange N.step) first (exchanges_of exchange_of steps) last }
@@ -26,7 +27,8 @@ pub fn steps_are_run<N: Node, R: Read, W: Write>()
 /// Each event of a slot is a step of the worker's node, or the beginning of a connection; and in the life of a connection the messages that it
 /// answered, with their replies, are those of its own steps, in their order.
 pub fn connections_have_their_exchanges<N: Node, R: Read, W: Write>()
-    ensures slots { (first last : N) (steps : List (JobStep N (Streams R W) (ConnectionView R W) ConnectionEnd))
+    ensures slots { (first last : N)
+        (steps : List (JobStep N (Streams R W) (ConnectionView R W) ConnectionEnd))
         → Chain (Continues N.step R.remaining W.contents) (EndsConnection R.remaining W.contents)
         first steps last
         → (slot : ℕ) → AreSteps N.step R.remaining W.contents (at_slot slot steps) }

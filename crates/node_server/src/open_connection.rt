@@ -8,13 +8,10 @@ ghost use Rattle.node_session.specs.declared.connection.Input.TheVariants.{Open}
 ghost use Rattle.node_server.specs.Steps.{IsConnectionEnd};
 
 use crate::end::ConnectionEnd;
-use node_session::{Connection, Halt, Input, Next, Node, Received, Sent};
+use node_session::{Connection, Halt, Input, MAX_READ_LEN, Next, Node, Received, Sent};
 use std::alloc::Global;
 use std::io::{Read, Write};
 use std::marker::Model;
-
-/// How many bytes are read at once.
-const MAX_READ_LEN: usize = 4096;
 
 /// A connection that is open, which clauses see as the [`Connection`] in it.
 #[derive(Drop)]
@@ -91,7 +88,8 @@ impl<R: Read, W: Write> OpenConnection<R, W> {
     /// Answers the next message that has come whole.
     pub(crate) fn answer<N: Node>(&mut self, alloc: Global, node: &mut N) -> Result<Next, Halt>
         requires { self.old.input ≡ Open }
-        ensures next { AnswersNext N.step node.old node.new self.old.session self.new.session result }
+        ensures next { AnswersNext N.step node.old node.new
+            self.old.session self.new.session result }
         ensures same { AnswersOnce self.old self.new result }
     {
         self.is_blocked = false;

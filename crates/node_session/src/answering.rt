@@ -28,7 +28,8 @@ struct Told;
 impl<'a, 'b> Listing<(&'a GhostList<Exchange>, Frame<'b>, &'a Reply), Exchange> for Told {
     ghost use Rattle.std.specs.Prelude.{[], ◌∷◌, ◌++◌};
 
-    ghost list = { λ it. it.0.now ++ record { code = it.1.code; body = it.1.body.now; reply = it.2.now } ∷ [] };
+    ghost list = { λ it. it.0.now
+        ++ record { code = it.1.code; body = it.1.body.now; reply = it.2.now } ∷ [] };
 }
 
 /// Takes the next whole message, and answers it.
@@ -39,7 +40,8 @@ pub(crate) fn answer_next<N: Node>(
     node: &mut N,
 ) -> Result<Option<Reply>, FrameFault>
     requires no_fault { framer.old.fault ≡ None }
-    ensures { TakesNext N.step node.old node.new framer.old framer.new exchanges.old exchanges.new result }
+    ensures { TakesNext N.step node.old node.new
+        framer.old framer.new exchanges.old exchanges.new result }
 {
     match framer.take() {
         Ok(Some(frame)) => {

@@ -116,7 +116,8 @@ impl<R: Read, W: Write> Model for Connection<R, W> {
       failed = c.writer_failed;
     } };
 
-    ghost invariant = { λ c. ConnectionStands (R.remaining c.first_reader.value) (R.remaining c.reader)
+    ghost invariant = { λ c. ConnectionStands
+        (R.remaining c.first_reader.value) (R.remaining c.reader)
         (W.contents c.first_writer.value) (W.contents c.writer) c.session c.unfed c.input
         c.answered c.progress c.writer_failed };
 }
@@ -155,7 +156,8 @@ impl<R: Read, W: Write> Connection<R, W> {
         ensures carried { Carried (R.remaining self.now.first_reader) (R.remaining self.now.reader)
             (W.contents self.now.first_writer) (W.contents self.now.writer)
             self.now.session self.now.unfed self.now.input }
-        ensures read { IsRead self.now.session.input self.now.session.exchanges self.now.session.rest }
+        ensures read { IsRead self.now.session.input
+            self.now.session.exchanges self.now.session.rest }
     {
         self.session.is_read();
     }
@@ -171,7 +173,8 @@ impl<R: Read, W: Write> Connection<R, W> {
     /// halt no more is answered or read.
     pub fn answer<N: Node>(&mut self, alloc: Global, node: &mut N) -> Result<Next, Halt>
         requires { self.old.input ≡ Open }
-        ensures next { AnswersNext N.step node.old node.new self.old.session self.new.session result }
+        ensures next { AnswersNext N.step node.old node.new
+            self.old.session self.new.session result }
         ensures same { AnswersOnce self.old self.new result }
     {
         self.session.is_read();
@@ -267,7 +270,8 @@ impl<R: Read, W: Write> Connection<R, W> {
     /// replies and a beginning of the next frame. The node may have answered more messages, whose replies are lost.
     pub fn outcome(&self) -> Option<Result<Ended, SessionFault>>
         requires { self.now.failed ≡ false → self.now.session.unsent ≡ [] }
-        ensures over { IfSome result (λ outcome. IsConnectionOutcome R.remaining W.contents self.now outcome) }
+        ensures over { IfSome result (λ outcome.
+            IsConnectionOutcome R.remaining W.contents self.now outcome) }
         ensures none { IfNone result (self.now.input ≡ Open) }
         ensures goes { IfNone result (self.now.failed ≡ false) }
     {

@@ -21,7 +21,8 @@ use crate::serving::MAX_READ_LEN;
 ///
 /// A context counts as having seen what it names, whoever sends it; a delete without context saw all of its key.
 pub fn plain_node_is_register()
-    ensures run { (run index_bits budget : ℕ) → IsRunNumber run → RunsAreRegisters run index_bits budget }
+    ensures run { (run index_bits budget : ℕ) → IsRunNumber run
+        → RunsAreRegisters run index_bits budget }
     ensures ended { (run index_bits budget : ℕ) → IsRunNumber run
         → EndsAreRegisters run index_bits budget }
     ensures stopped { (run index_bits budget : ℕ) → IsRunNumber run

@@ -8,25 +8,13 @@ ghost use Rattle.node_session.specs.Unsent.{PutsReply, whole, IsFront};
 
 use crate::error_frame::error_frame;
 use crate::reply::fill_frame;
-use pb_frame::FrameFault;
+use pb_frame::{FrameFault, shrink_empty};
 use riak_msgs::{Reply, Text};
 use std::alloc::Global;
 use std::marker::Model;
 
 /// How many bytes that wait keep a further message from being answered.
 const GATHERED: usize = 65_536;
-
-/// How much of a buffer in which nothing waits is kept for the replies to come.
-const MAX_IDLE_CAPACITY: usize = 256;
-
-/// Lets go of what a large reply took.
-fn shrink_empty(bytes: &mut Vec<u8>)
-    ensures { bytes.new.items ≡ bytes.old.items }
-{
-    if bytes.is_empty() && bytes.capacity() > MAX_IDLE_CAPACITY {
-        bytes.shrink_to_fit();
-    }
-}
 
 /// So many more bytes of a buffer were sent. Where no fewer were than wait, these are moved to its front.
 fn drop_front(bytes: &mut Vec<u8>, sent: &mut usize, more: usize)

@@ -30,7 +30,8 @@ impl From<WriteFailed> for Stop {
 
 /// Writes all that a session has to send, or fails with a beginning of it written.
 pub(crate) fn send_all<W: Write>(writer: &mut W, session: &mut Session) -> Result<(), Stop>
-    ensures { SendsAll (W.contents writer.old) (W.contents writer.new) session.old session.new result }
+    ensures { SendsAll (W.contents writer.old) (W.contents writer.new)
+        session.old session.new result }
 {
     while !session.pending().is_empty() {
         let n = write_some(writer, session.pending())?;

@@ -5,21 +5,9 @@ ghost use Rattle.std.specs.Prelude.{◌≡◌, ◌≤◌, ◌++◌, [], length, 
 use crate::decode::{Header, decode_header};
 use crate::fault::FrameFault;
 use crate::frame::Frame;
+use crate::idle::shrink_empty;
 use std::alloc::Global;
 use std::marker::Model;
-
-/// The most memory that a framer keeps for bytes to come where nothing is left in it, in bytes.
-const MAX_IDLE_CAPACITY: usize = 256;
-
-/// Gives the memory of an empty buffer back where that is more than [`MAX_IDLE_CAPACITY`]. Takes none.
-fn shrink_empty(bytes: &mut Vec<u8>)
-    ensures items { bytes.new.items ≡ bytes.old.items }
-    ensures capacity { bytes.old.items ≡ [] → vec_capacity bytes.new ≤ 256 }
-{
-    if bytes.is_empty() && bytes.capacity() > MAX_IDLE_CAPACITY {
-        bytes.shrink_to_fit();
-    }
-}
 
 /// The bytes of a stream that were fed and not yet taken in frames.
 ///

@@ -31,6 +31,7 @@ mod encode;
 mod fault;
 mod frame;
 mod framer;
+mod idle;
 mod laws;
 mod limits;
 
@@ -38,6 +39,7 @@ pub use encode::{HEADER_LEN, frame_of, header};
 pub use fault::FrameFault;
 pub use frame::Frame;
 pub use framer::Framer;
+pub use idle::shrink_empty;
 pub use laws::{
     any_pieces, bad_length, every_stream, first_messages, none_left, one_split, request_limit,
 };

@@ -4,6 +4,7 @@ ghost use Rattle.std.specs.Prelude.{◌≡◌, ◌<◌, ◌≤◌, Some, true, f
 use crate::accept_fault::AcceptFault;
 use crate::fault::ServerFault;
 use crate::inbox::{Arrival, Inbox};
+use crate::pause::PAUSE_MILLIS;
 use crate::stop::{Stop, stop_all};
 use crate::worker::Waits;
 use log::{Log, info, warn};
@@ -11,9 +12,6 @@ use std::net::{SocketAddr, TcpListener, TcpStream};
 use std::rt::Clock;
 use std::sync::Wait;
 use std::time::Duration;
-
-/// The pause before a connection is accepted again for which there was no descriptor or no memory, in milliseconds.
-const PAUSE_MILLIS: u64 = 10;
 
 /// A listener whose connections go to inboxes.
 #[derive(Drop)]

@@ -1,6 +1,7 @@
 //! Sockets of connections that have ended while their clients may still be sending.
 
 use crate::sockets::Socket;
+use node_session::MAX_READ_LEN;
 use std::alloc::Global;
 use std::io::{Error, ErrorKind, Read};
 use std::net::{Shutdown, TcpStream};
@@ -16,9 +17,6 @@ pub(crate) const LOOK_MILLIS: u64 = 20;
 
 /// How many reads of a socket are made at a look at most.
 const MAX_LINGER_READS: u32 = 32;
-
-/// How many bytes are read at once.
-const MAX_READ_LEN: usize = 4096;
 
 /// A socket whose side to the client is shut down.
 #[derive(Drop)]

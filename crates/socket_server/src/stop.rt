@@ -1,6 +1,7 @@
 //! How serving is ended.
 
 use crate::inbox::Inbox;
+use crate::pause::PAUSE_MILLIS;
 use mio::Waker;
 use std::io::{ErrorKind, Read};
 use std::rt::Clock;
@@ -8,9 +9,6 @@ use std::sync::Wait;
 use std::sync::atomic::{AtomicBool, Ordering};
 use std::thread;
 use std::time::Duration;
-
-/// The pause before an input is read again that had nothing yet, in milliseconds.
-const PAUSE_MILLIS: u64 = 10;
 
 /// Ends serving once it is raised: the accepting thread accepts no more, and then the workers end their connections.
 #[derive(Drop)]

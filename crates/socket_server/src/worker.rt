@@ -8,6 +8,7 @@ use crate::end_sink::EndSink;
 use crate::inbox::{Arrival, Inbox};
 use crate::lingering::{LOOK_MILLIS, Lingering};
 use crate::noted_jobs::NotedJobs;
+use crate::pause::PAUSE_MILLIS;
 use crate::seats::Seats;
 use crate::sockets::{ReplySocket, RequestSocket, Socket, new_streams};
 use crate::worker_clock::WorkerClock;
@@ -29,9 +30,6 @@ pub(crate) const WAKER: usize = 18_446_744_073_709_551_615;
 
 /// How many steps a connection takes at most before the others that are ready have their turn.
 const MAX_STEPS_PER_TURN: u32 = 64;
-
-/// The pause after a wait that failed, in milliseconds.
-const PAUSE_MILLIS: u64 = 10;
 
 /// What a worker waits with.
 #[derive(Drop)]

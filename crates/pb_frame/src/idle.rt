@@ -1,0 +1,17 @@
+//! The memory of a buffer in which nothing waits.
+
+ghost use Rattle.std.specs.Prelude.{◌≡◌, ◌≤◌, [], vec_capacity};
+
+/// The most memory that an empty buffer keeps, in bytes.
+const MAX_IDLE_CAPACITY: usize = 256;
+
+/// Gives the memory of an empty buffer back where it is more than 256 bytes, so that what a large frame took isn't kept. Takes none. The
+/// bytes of a buffer that isn't empty stay where they are.
+pub fn shrink_empty(bytes: &mut Vec<u8>)
+    ensures items { bytes.new.items ≡ bytes.old.items }
+    ensures capacity { bytes.old.items ≡ [] → vec_capacity bytes.new ≤ 256 }
+{
+    if bytes.is_empty() && bytes.capacity() > MAX_IDLE_CAPACITY {
+        bytes.shrink_to_fit();
+    }
+}
