@@ -26,14 +26,16 @@ ghost use Rattle.std.specs.Prelude.{Option};
 /// the key's partition `made_new` and `limits` of `AtIndex` in `specs/GateStep`, for the partition's fallback those of `IsFallback`
 /// (`is_new` of `AtFallback` and of `AtClosed`).
 pub fn positions_are_legal()
-    ensures { (vnode last_epoch : ℕ) (gate : GateId View) (events : List VnodeEvent) (state : State Content)
+    ensures { (vnode last_epoch : ℕ) (gate : GateId View)
+        (events : List VnodeEvent) (state : State Content)
         → PositionIsLegal vnode last_epoch gate events state }
 {}
 
 /// A session over a [`GateNode`](crate::GateNode) keeps its gates: after the messages that `serve` has answered, by a run of
 /// the node's step, the node is over the gates that it was made over.
 pub fn sessions_keep_their_gates()
-    ensures { (old : NodeOverGates) (messages : List CodedMessage) (replies : List Reply) (new : NodeOverGates)
+    ensures { (old : NodeOverGates) (messages : List CodedMessage)
+        (replies : List Reply) (new : NodeOverGates)
         → AnswersInTurn GateNodeStep old messages replies new → new.shared ≡ old.shared }
 {}
 
@@ -49,7 +51,8 @@ pub fn passes_outlive_diversions()
 /// at most each to a delete as a delete and each error as a refusal, and for each of them at most as many dead keys as the
 /// budget allows. It counts nothing else, and where the book had no room for something, less.
 pub fn sessions_count_their_replies()
-    ensures { (old : NodeOverGates) (messages : List CodedMessage) (replies : List Reply) (new : NodeOverGates)
+    ensures { (old : NodeOverGates) (messages : List CodedMessage)
+        (replies : List Reply) (new : NodeOverGates)
         → AnswersInTurn GateNodeStep old messages replies new
         → CountsUpTo (most_of old.shared.budget replies) old.count new.count }
 {}
@@ -72,9 +75,11 @@ pub fn sessions_count_their_replies()
 pub fn gate_node_is_register()
     ensures run { (old new : NodeOverGates) (messages : List CodedMessage) (replies : List Reply)
         → RunIsRegister old new messages replies }
-    ensures ended { (old new : NodeOverGates) (input : List ℕ) (held held' : Option (List ℕ)) (count len : ℕ)
+    ensures ended { (old new : NodeOverGates) (input : List ℕ)
+        (held held' : Option (List ℕ)) (count len : ℕ)
         → EndIsRegister old new input held held' count len }
-    ensures stopped { (old new : NodeOverGates) (input : List ℕ) (held held' : Option (List ℕ)) (fault : SessionFault)
+    ensures stopped { (old new : NodeOverGates) (input : List ℕ)
+        (held held' : Option (List ℕ)) (fault : SessionFault)
         → StopIsRegister old new input held held' fault }
 {}
 
@@ -84,7 +89,8 @@ pub fn gate_node_is_register()
 /// nothing. Whoever serves several connections over the gates of a run, and takes the tallies of the run behind them
 /// ([`tallies_of`](crate::tallies_of)), can say of each of their steps that it is one in the same histories (`StepIn` of `specs/OneHistory`).
 pub fn replies_are_at_positions()
-    ensures { (histories : List GateHistory) (old : NodeOverGates) (request : Request) (reply : Reply)
+    ensures { (histories : List GateHistory)
+        (old : NodeOverGates) (request : Request) (reply : Reply)
         (new : NodeOverGates) (step : StepIn histories old request reply new)
         → AnswersIn histories old request reply new step }
 {}

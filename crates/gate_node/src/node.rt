@@ -325,7 +325,8 @@ impl<'a, W: Wait, T: Turnstile, G: Ledger, P: Ledger, D: Ledger, E: Ledger, R: L
     /// Answers a get, at the primary of a partition that has no fallback.
     fn get(&mut self, alloc: Global, index: usize, get: &GetAsk) -> Reply
         requires { index < 2 ^ self.old.shared.index_bits }
-        ensures { AnswersAtPartition index self.old result self.new (Gets get.now) (GetsOpen get.now) }
+        ensures { AnswersAtPartition index self.old result self.new
+            (Gets get.now) (GetsOpen get.now) }
     {
         let shared = self.shared;
         match shared.handoff.fallback(index) {
@@ -337,7 +338,8 @@ impl<'a, W: Wait, T: Turnstile, G: Ledger, P: Ledger, D: Ledger, E: Ledger, R: L
     /// Answers what may change a vnode, at the primary of a partition that has no fallback.
     fn change(&mut self, alloc: Global, index: usize, change: Ask) -> Reply
         requires { index < 2 ^ self.old.shared.index_bits }
-        ensures { AnswersAtPartition index self.old result self.new (Changes change) (ChangesOpen change) }
+        ensures { AnswersAtPartition index self.old result self.new
+            (Changes change) (ChangesOpen change) }
     {
         let shared = self.shared;
         match shared.handoff.fallback(index) {

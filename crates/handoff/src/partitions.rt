@@ -216,7 +216,8 @@ impl Handoff {
     #[inline(always)]
     pub fn fallback(&self, index: usize) -> Option<&Fallback>
         requires { index < 2 ^ self.now.index_bits }
-        ensures stands { slice_get self.now.fallbacks index ≡ Some (option_map (λ f. f.now) result) }
+        ensures stands { slice_get self.now.fallbacks index
+            ≡ Some (option_map (λ f. f.now) result) }
         ensures new { IfSome result (λ f. IsFallback self.now.run index f.now) }
     {
         match &self.fallbacks[index] {

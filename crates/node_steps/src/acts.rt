@@ -118,7 +118,8 @@ pub(crate) fn take(site: &mut Site, phase: Phase) -> (Phase, Outcome)
 
 /// Lays a state in place.
 pub(crate) fn lay(site: &mut Site, hand: Box<Hand>)
-    ensures { site.new ≡ record { own = site.old.own; readers = 0; marked = false; place = Some hand } }
+    ensures { site.new
+        ≡ record { own = site.old.own; readers = 0; marked = false; place = Some hand } }
 {
     let own = site.own;
     *site = Site {

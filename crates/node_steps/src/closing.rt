@@ -120,7 +120,8 @@ impl Parts {
         stage: CloseStage,
     ) -> Looked
         requires { index < length self.old.sites.items }
-        ensures ok { IfOk result (λ r. WorkerMoves (Closing own from (close_stage_of stage)) act index
+        ensures ok { IfOk result (λ r.
+            WorkerMoves (Closing own from (close_stage_of stage)) act index
             (ground_of self.old) (ground_of self.new) (phase_of r.0) r.1) }
         ensures err { IfErr result (λ p. (phase_of p ≡ Closing own from (close_stage_of stage))
             × (world_in self.new ≡ world_in self.old)) }

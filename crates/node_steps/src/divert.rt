@@ -32,7 +32,8 @@ fn is_for(sites: &[Site], index: usize, phase: &Phase) -> bool
 
 /// Whether no worker has to do with the partition of this index.
 fn is_free(sites: &[Site], workers: &[Phase], index: usize) -> bool
-    ensures { result ≡ list_all (λ worker. not (is_for (map vnode_of sites.now) index 0 worker.phase))
+    ensures { result ≡ list_all
+        (λ worker. not (is_for (map vnode_of sites.now) index 0 worker.phase))
         (map worker_of workers.now) }
 {
     for phase in workers {
@@ -66,7 +67,8 @@ impl Parts {
 
     /// A partition is diverted: its calls go to a fallback at a new site from then on. Where memory is refused nothing changes.
     pub(crate) fn divert(&mut self, alloc: Global, index: u16) -> Result<Outcome, StepFault>
-        ensures ok { IfOk result (λ outcome. TakesFitStep self.old (Diverts index) outcome self.new) }
+        ensures ok { IfOk result (λ outcome.
+            TakesFitStep self.old (Diverts index) outcome self.new) }
         ensures err { OnErr result (world_in self.new ≡ world_in self.old) }
     {
         let own = usize::from(index);

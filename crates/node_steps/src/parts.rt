@@ -88,7 +88,8 @@ impl Parts {
     ) -> Looked
         requires { index < length self.old.sites.items }
         ensures ok { IfOk result (λ r.
-            MovesAt act index (ground_of self.old) (phase_of phase) (ground_of self.new) (phase_of r.0) r.1) }
+            MovesAt act index (ground_of self.old) (phase_of phase)
+            (ground_of self.new) (phase_of r.0) r.1) }
         ensures err { IfErr result (λ p. (phase_of p ≡ phase_of phase)
             × (world_in self.new ≡ world_in self.old)) }
         ensures workers { self.new.workers ≡ self.old.workers }
@@ -103,7 +104,8 @@ impl Parts {
     fn move_on(&mut self, alloc: Global, act: Act, index: usize, phase: Phase) -> Looked
         requires { index < length self.old.sites.items }
         ensures ok { IfOk result (λ r.
-            WorkerMoves (phase_of phase) act index (ground_of self.old) (ground_of self.new) (phase_of r.0) r.1) }
+            WorkerMoves (phase_of phase) act index
+            (ground_of self.old) (ground_of self.new) (phase_of r.0) r.1) }
         ensures err { IfErr result (λ p. (phase_of p ≡ phase_of phase)
             × (world_in self.new ≡ world_in self.old)) }
         ensures workers { self.new.workers ≡ self.old.workers }

@@ -117,7 +117,8 @@ impl World {
     /// A look copies what it shows, and what it plans, a copier's the key's clock, a closer's one key after another; a call, and a copier's key, is kept on the heap; a
     /// fallback takes a place. All else takes no memory.
     pub fn step(&mut self, alloc: Global, step: Step) -> Result<Outcome, StepFault>
-        ensures step { IfOk result (λ outcome. TakesRunStep self.old (step_of step) outcome self.new) }
+        ensures step { IfOk result (λ outcome.
+            TakesRunStep self.old (step_of step) outcome self.new) }
         ensures schedule { IfOk result (λ outcome.
             FollowsInRun self.old (step_of step) outcome self.new) }
         ensures err { OnErr result (self.new ≡ self.old) }

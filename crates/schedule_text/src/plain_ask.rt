@@ -32,7 +32,8 @@ fn ask_command(
     command: Command<Content>,
 ) -> Result<Told, AllocError>
     requires { GivesPositions register.old command }
-    ensures { IfOk result (λ told. PlainRegisterAnswers register.old command (answer_of told) register.new) }
+    ensures { IfOk result (λ told.
+        PlainRegisterAnswers register.old command (answer_of told) register.new) }
 {
     match register.ask(alloc, command) {
         Ok(told) => Ok(told),
@@ -112,7 +113,8 @@ pub(crate) fn ask_register(
     position: Option<u64>,
 ) -> Result<Told, AllocError>
     requires { IsPosition register.old position }
-    ensures { (ask : RegisterAsk Content Context) → request_ask request.now ≡ Some ask → IfOk result (λ told.
+    ensures { (ask : RegisterAsk Content Context) → request_ask request.now ≡ Some ask
+        → IfOk result (λ told.
         PlainRegisterAnswers register.old (command_by ask position) (answer_of told) register.new) }
 {
     match request {

@@ -27,6 +27,7 @@ pub enum VnodeEvent {
 pub fn histories_are_legal()
     ensures run { (vnode last_epoch : ℕ) (events : List VnodeEvent) (state : State Content)
         → RunIsLegal vnode last_epoch events state }
-    ensures gate { (vnode last_epoch : ℕ) (gate : GateId View) (events : List VnodeEvent) (state : View)
+    ensures gate { (vnode last_epoch : ℕ) (gate : GateId View)
+        (events : List VnodeEvent) (state : View)
         → GateHistoryIsLegal vnode last_epoch gate events state }
 {}
