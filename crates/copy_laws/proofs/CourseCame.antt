@@ -1,6 +1,6 @@
 -- In each course contexts name what was there: of the other side just what had come.
 use Rattle.std.proofs.Common.{◌≡◌, ℕ, ◌<◌, ◌≤◌, Bool, true, false, cond, [], ◌∷◌, ◌++◌, refl, sym, ◌∙◌, ap, arith, subst, inr}
-use Rattle.std.specs.Prelude.{◌==◌, Some, MatchBool}
+use Rattle.std.specs.Prelude.{◌==◌, Option, Some, MatchBool}
 use Rattle.std.proofs.lemmas.List.{append_assoc}
 use Rattle.riak_msgs.specs.declared.Key.{Key}
 use Rattle.riak_msgs.specs.Contents.{Content}
@@ -11,10 +11,11 @@ use Rattle.actor_epoch.specs.Dots.{covers}
 use Rattle.actor_epoch.specs.Given.{Context}
 use Rattle.vnode_machine.specs.Machine.{pairs_of}
 use Rattle.vnode_machine.specs.Lives.{dot_of}
+use Rattle.vnode_machine.proofs.Keys.{key_eq-refl}
 use Rattle.copy_laws.specs.Copies.{Copy, Command, Copied, commands_of, count_brought}
 use Rattle.copy_laws.specs.Sides.{Partition, Number, is_covered_by}
 use Rattle.copy_laws.specs.Joining.{Log, HasDot, HasCome}
-use Rattle.copy_laws.specs.Diversions.{Course, AtPrimary, CopyBack, diversions_of, is_diverted, fallback_of, primary_of, Happens, CoursesNameWhatCame}
+use Rattle.copy_laws.specs.Diversions.{Course, AtPrimary, CopyBack, diversions_of, is_diverted, fallback_of, primary_of, WasShownInCourse, Happens, CoursesNameWhatCame}
 use Rattle.copy_laws.proofs.Tests.{differs}
 use Rattle.copy_laws.proofs.LifeDots.{dot-of}
 use Rattle.copy_laws.proofs.Numbered.{number-within}
@@ -68,6 +69,13 @@ module _ (partition : Partition) (ids : partition.primary < partition.fallback) 
   -- what came by a moment came at it
   at-moment : (moment : Course) (dot : Dot) → CameBy partition key ids moment dot → (number : Number) × DotIn partition key ids moment number dot
   at-moment moment dot w = subst (λ c. (number : Number) × DotIn partition key ids c number dot) w.is (came-later partition key ids w.later w.moment dot w.came)
+
+  -- so does what a context covers that was shown, while the primary isn't diverted
+  pub covers-brought : (given : Option Context) → is_diverted course ≡ false → ((context : Context) → given ≡ Some context → WasShownInCourse partition course key context)
+      → (dot : Dot) → dot.actor.vnode ≡ partition.fallback → covers (pairs_of given) dot ≡ true → ComesBy log dot
+  covers-brought given undiverted shown dot vnode h =
+      let one = at-moment course dot (context-came partition key ids course key given (key_eq-refl key) (all-came partition key ids course happens) shown dot h) in
+      (one.0, one.1, of-fallback course happens one.0 dot one.1 vnode undiverted)
 
   given : (later before : Log) (event : Event Content Context) → later ++ Command event ∷ before ≡ log → key_eq event.key key ≡ true
       → (dot : Dot) → dot.actor.vnode ≡ partition.fallback → covers (pairs_of event.context) dot ≡ true → ComesBy before dot

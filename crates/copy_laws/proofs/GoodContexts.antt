@@ -1,8 +1,7 @@
 -- A context that was shown for a key is never a bad one at the primary.
-use Rattle.std.proofs.Common.{◌≡◌, ◌≢◌, ℕ, ◌<◌, ◌≤◌, Bool, true, false, not, ◌&&◌, ◌||◌, cond, List, [], ◌∷◌, refl, sym, ◌∙◌, ap, arith, subst, inl, inr}
-use Rattle.std.specs.Prelude.{◌==◌, ◌⊎◌, nat_le, nat_lt, Option, Some, None, IsTrue, is_some}
+use Rattle.std.proofs.Common.{◌≡◌, ◌≢◌, ℕ, ◌<◌, ◌≤◌, Bool, true, false, not, ◌&&◌, ◌||◌, cond, List, [], refl, sym, ◌∙◌, ap, arith, subst, inl, inr}
+use Rattle.std.specs.Prelude.{◌==◌, ◌⊎◌, nat_lt, Option, Some, None, is_some}
 use Rattle.std.specs.Option.{option_map_or}
-use Rattle.std.specs.List.{list_any, list_all}
 use Rattle.std.proofs.lemmas.Bool.{cases_lt}
 use Rattle.std.proofs.lemmas.Bool.Decides.{nat_tests}
 use Rattle.riak_msgs.specs.declared.Key.{Key}
@@ -10,14 +9,14 @@ use Rattle.riak_msgs.specs.Contents.{Content}
 use Rattle.actor_epoch.specs.declared.Actor.{Actor}
 use Rattle.actor_epoch.specs.declared.Dot.{Dot}
 use Rattle.actor_epoch.specs.Dots.{actor_eq, covers, counter_in}
-use Rattle.actor_epoch.specs.Contexts.{is_within_limits, is_well_formed}
+use Rattle.actor_epoch.specs.Contexts.{is_well_formed}
 use Rattle.actor_epoch.specs.Given.{Context, Pairs}
 use Rattle.vnode_machine.specs.Machine.{State, clock_of, own_of, pairs_of, names_unissued_dot, is_bad_context}
 use Rattle.vnode_machine.specs.Lives.{is_alive, dot_of}
 use Rattle.vnode_machine.proofs.Keys.{key_eq-refl}
-use Rattle.vnode_machine.proofs.Tests.{and_left, and_right, nat_eq-same}
+use Rattle.vnode_machine.proofs.Tests.{nat_eq-same}
 use Rattle.vnode_machine.proofs.Forms.{form-parts}
-use Rattle.vnode_machine.proofs.Counters.{actor_eq-same, actor_eq-refl, covers-counter}
+use Rattle.vnode_machine.proofs.Counters.{actor_eq-same, covers-counter}
 use Rattle.copy_laws.specs.Copies.{commands_of, brought}
 use Rattle.copy_laws.specs.Sides.{Partition}
 use Rattle.copy_laws.specs.CopyReplay.{primary_after}
@@ -25,7 +24,7 @@ use Rattle.copy_laws.specs.Joining.{Log, IsJoined}
 use Rattle.copy_laws.specs.Diversions.{Course, diversions_of, fallback_of, fallback_state, primary_of, WasShownInCourse, Happens}
 use Rattle.copy_laws.specs.JointAnswers.{AreWithinLimits}
 use Rattle.std.proofs.lemmas.Bool.{or_from}
-use Rattle.copy_laws.proofs.Tests.{or_second, test-within, within-test}
+use Rattle.copy_laws.proofs.Tests.{within-test}
 use Rattle.copy_laws.proofs.Since.{clock_at}
 use Rattle.copy_laws.proofs.LifeDots.{IsPast, some-same, latest-of, dot-of, issued-past}
 use Rattle.copy_laws.proofs.PrimaryDots.{latest-alive, IsTracked}
@@ -34,6 +33,7 @@ use Rattle.copy_laws.proofs.Positions.{joined-then}
 use Rattle.copy_laws.proofs.Courses.{within, open_always, legal-fallback, happens-before}
 use Rattle.copy_laws.proofs.CourseDots.{Came, came-later, CameBy, context-came}
 use Rattle.copy_laws.proofs.CourseLaw.{all-came, courses_are_hand_offs}
+use Rattle.copy_laws.proofs.NamedContexts.{each-issued}
 use Rattle.copy_laws.proofs.Formed.{formed-whole, fallback-formed, log-formed}
 
 module _ (partition : Partition) (ids : partition.primary < partition.fallback) (key : Key) where
@@ -137,30 +137,13 @@ module _ (partition : Partition) (ids : partition.primary < partition.fallback) 
         later None e = refl
         later (Some own) e = at_own own e (actor_eq dot.actor own) refl
 
-    -- each pair of a list is a dot that the list covers
-    issued-pairs : (pairs : List Dot) → IsTrue (list_all is_within_limits pairs) → ((dot : Dot) → covers pairs dot ≡ true → Came partition key ids course dot) → list_any (names_unissued_dot state key) pairs ≡ false
-    issued-pairs [] h came = refl
-    issued-pairs (pair ∷ pairs) h came =
-        or_from (names_unissued_dot state key pair) (list_any (names_unissued_dot state key) pairs)
-        (issued-pair pair (came pair (here (and_left (is_within_limits pair) (list_all is_within_limits pairs) h))))
-        (issued-pairs pairs (and_right (is_within_limits pair) (list_all is_within_limits pairs) h) (λ dot k. came dot (or_second (actor_eq pair.actor dot.actor && (nat_le 1 dot.counter && nat_le dot.counter pair.counter)) (covers pairs dot) k)))
-      where
-        third : (a b c d : Bool) → (a && (b && (c && d))) ≡ true → c ≡ true
-        third true true true d h = refl
-        third true true false d h = cc
-        third true false c d h = cc
-        third false b c d h = cc
-
-        here : is_within_limits pair ≡ true → covers (pair ∷ pairs) pair ≡ true
-        here w = λ i. (actor_eq-refl pair.actor i && test-within pair.counter (third _ _ (nat_le 1 pair.counter) _ w) i) || covers pairs pair
-
     -- so no context that was shown is bad
     pub good-context : AreWithinLimits partition → (given : Option Context) → ((context : Context) → given ≡ Some context → WasShownInCourse partition course key context)
         → ((context : Context) → given ≡ Some context → context ≢ Pairs []) → is_bad_context state key given ≡ false
     good-context limits None shown some = refl
     good-context limits (Some context) shown some =
         let form = shown-form limits course happens context (shown context refl) (some context refl) in
-        let issued = issued-pairs form.0 (form-parts form.0 form.2).within (λ dot h. came dot (ap (λ c. covers (pairs_of (Some c)) dot) form.1 ∙ h)) in
+        let issued = each-issued state key form.0 (form-parts form.0 form.2).within (λ dot h. issued-pair dot (came dot (ap (λ c. covers (pairs_of (Some c)) dot) form.1 ∙ h))) in
         ap (λ c. is_bad_context state key (Some c)) form.1 ∙ (λ i. not (form.2 i) || issued i)
       where
         came : (dot : Dot) → covers (pairs_of (Some context)) dot ≡ true → Came partition key ids course dot

@@ -7,7 +7,7 @@ use Rattle.std.proofs.lemmas.List.{append_assoc}
 use Rattle.riak_msgs.specs.declared.Key.{Key}
 use Rattle.riak_msgs.specs.Contents.{Content}
 use Rattle.riak_msgs.specs.KeyOrder.{key_eq}
-use Rattle.sibling_register.specs.History.{Event, Operation, Write, Tombstone, Reap, count_of, is_update}
+use Rattle.sibling_register.specs.History.{Event, count_of, is_update}
 use Rattle.actor_epoch.specs.declared.Dot.{Dot}
 use Rattle.actor_epoch.specs.Dots.{covers, counter_in, union}
 use Rattle.actor_epoch.specs.Given.{Context}
@@ -15,22 +15,22 @@ use Rattle.dvv_set.specs.Clocks.{show_cmp, sync, value_in}
 use Rattle.dvv_set.proofs.Orders.{show_cmp_total}
 use Rattle.dvv_set.proofs.Live.{show_cmp-same, dot_eq-same, is_sorted-sync}
 use Rattle.vnode_machine.specs.Machine.{clock_of, pairs_of}
-use Rattle.vnode_machine.specs.Replay.{replay, AcceptsEvent}
+use Rattle.vnode_machine.specs.Replay.{replay}
 use Rattle.vnode_machine.proofs.Keys.{key_eq-same}
 use Rattle.vnode_machine.proofs.Tests.{and_right}
 use Rattle.copy_laws.specs.Copies.{Copy, LogEntry, Command, Copied, Closed, count_brought as brought_count}
 use Rattle.copy_laws.specs.Sides.{Partition, takes_all}
 use Rattle.copy_laws.specs.CopyReplay.{PassesBy, IsUntouchedBy}
-use Rattle.copy_laws.specs.Joining.{Log, Fallbacks, IsJoined, value_at}
+use Rattle.copy_laws.specs.Joining.{Log, Fallbacks, IsJoined, IsDiversion, HasDot, value_at}
 use Rattle.copy_laws.proofs.Tests.{le-test, test-le}
 use Rattle.copy_laws.proofs.Splits.{none-left, none-right}
-use Rattle.copy_laws.proofs.Clocks.{Clock, knows, synced, value-synced, taken_pairs}
-use Rattle.copy_laws.proofs.Since.{Since, forgets, is_forgotten_in, state_at, clock_at, dot_given, IsUpdate, TakesAway, GivesValue, knows-through, knows-since, gone-since, value-since, sync-at}
+use Rattle.copy_laws.proofs.Clocks.{Clock, knows, synced, value-synced}
+use Rattle.copy_laws.proofs.Since.{Since, forgets, is_forgotten_in, clock_at, dot_given, IsUpdate, TakesAway, GivesValue, knows-through, knows-since, gone-since, value-since, sync-at}
 use Rattle.copy_laws.proofs.Later.{H, are_updates, count-later}
 use Rattle.copy_laws.proofs.Fallback.{dot_eq-refl}
 use Rattle.copy_laws.proofs.Numbered.{number-within}
-use Rattle.copy_laws.proofs.Brought.{BroughtBy, count_brought, brought-by, brought-later, brought-here, brought-at, is_seen, SeenBy, seen-by, seen-here}
-use Rattle.copy_laws.proofs.PrimaryDots.{no-close, accepted}
+use Rattle.copy_laws.proofs.Brought.{BroughtBy, count_brought, brought-by, brought-later, brought-here, brought-at, is_seen, SeenBy, seen-by}
+use Rattle.copy_laws.proofs.PrimaryDots.{no-close}
 use Rattle.copy_laws.proofs.Tracked.{unknown-before}
 use Rattle.copy_laws.proofs.OwnCommands.{part-at}
 use Rattle.copy_laws.proofs.JoinedFacts.{Dotted, IsOfFallback, of-fallback, dotted-prefix, copy-knows, copy-sibling, quiet-since}
@@ -39,12 +39,12 @@ use Rattle.copy_laws.proofs.KnownPairs.{copy-pairs, log-pairs, union-known, coun
 use Rattle.copy_laws.proofs.KnownCome.{copy-value-known, value-known, known-come}
 use Rattle.copy_laws.proofs.Takers.{Taker, taker, taker_dot, taker_number, taker-dot, taker-within, gone-taken}
 
--- a context that covers the dot of a fallback's command covers what that command took away
-abbrev pub CoversTaken : Partition → Log → Fallbacks → Key → Type 0
-CoversTaken partition primary fallbacks key =
-    (dot : Dot) (n : ℕ) (t : Taker partition.fallback (partition.opened n) key (fallbacks n) dot)
+-- a command's context covers the dot of a fallback's number only where copies had brought the number
+abbrev pub NamesBrought : Partition → Log → Fallbacks → Key → Type 0
+NamesBrought partition primary fallbacks key =
+    (n j : ℕ) (dot : Dot) → IsDiversion partition primary fallbacks key n → HasDot partition primary fallbacks key (record { side = n; number = j }) dot
     → (later : Log) (event : Event Content Context) (before : Log) → later ++ Command event ∷ before ≡ primary → key_eq event.key key ≡ true
-    → covers (pairs_of event.context) (taker_dot partition.fallback (partition.opened n) key (fallbacks n) dot t) ≡ true → covers (pairs_of event.context) dot ≡ true
+    → covers (pairs_of event.context) dot ≡ true → j ≤ count_brought key before n
 
 module _ (partition : Partition) (primary : Log) (fallbacks : Fallbacks) (key : Key) (joined : IsJoined partition primary fallbacks key) where
   abbrev v : ℕ
@@ -64,7 +64,7 @@ module _ (partition : Partition) (primary : Log) (fallbacks : Fallbacks) (key : 
 
   -- a copy that changes no known dot takes no value away
   module _ (later : Log) (copy : Copy Content) (before : Log) (is : later ++ Copied copy ∷ before ≡ primary) (itself : key_eq copy.key key ≡ true) (quiet : is_forgotten_in key later ≡ false)
-      (known_all : (dot : Dot) → knows copy.clock dot ≡ true → knows (clock before) dot ≡ true) (covers_taken : CoversTaken partition primary fallbacks key) where
+      (known_all : (dot : Dot) → knows copy.clock dot ≡ true → knows (clock before) dot ≡ true) (names : NamesBrought partition primary fallbacks key) where
     facts : IsOfFallback partition primary fallbacks key joined copy
     facts = of-fallback partition primary fallbacks key joined later copy before is itself
 
@@ -143,57 +143,25 @@ module _ (partition : Partition) (primary : Log) (fallbacks : Fallbacks) (key : 
                       f.clock_is ∙ ap (λ s. clock_of (replay partition.fallback (partition.opened s) c.prefix) key) side ∙ ap (λ h. clock_of (replay partition.fallback (partition.opened n) h) key) p in
                       (ap (λ x. knows x dot) clock_is ∙ gone_there.0, ap (λ x. value_at x dot) clock_is ∙ gone_there.1)
 
-      -- and so did a command whose context covers its dot
+      -- and it had come before a command whose context covers its dot
       by_command : SeenBy key (record { side = n; number = j }) own before → ⊥
-      by_command s = at s.event.context refl s.event.operation refl (accepted partition primary fallbacks key joined (later ++ Copied copy ∷ s.later) s.before (Command s.event) whole).0 s.saw
+      by_command s = at s.event.context refl s.saw
         where
           whole : (later ++ Copied copy ∷ s.later) ++ Command s.event ∷ s.before ≡ primary
           whole = shift s.later (Command s.event) s.before s.is
 
-          full : Taker partition.fallback (partition.opened n) key (fallbacks n) dot
-          full = record {
-            event = t.event;
-            later = facts.gap ++ t.later;
-            before = t.before;
-            is = append_assoc facts.gap t.later (t.event ∷ t.before) ∙ ap (λ h. facts.gap ++ h) t.is ∙ facts.begins;
-            itself = t.itself;
-            update = t.update;
-            takes = t.takes;
-          }
-
-          quiet_s : is_forgotten_in key s.later ≡ false
-          quiet_s =
-              none-right (forgets key) (Copied copy ∷ []) s.later (none-right (forgets key) later (Copied copy ∷ s.later)
-              (quiet_from (later ++ Copied copy ∷ s.later) (Command s.event ∷ s.before) whole (inr (seen-here key (record { side = n; number = j }) own s.event s.before s.itself s.saw))))
-
-          taken : (context : Context) → s.event.context ≡ Some context → covers (pairs_of (Some context)) own ≡ true → covers (pairs_of (Some context)) dot ≡ true
-          taken context e h =
-              sym (ap (λ g. covers (pairs_of g) dot) e)
-              ∙ covers_taken dot n full (later ++ Copied copy ∷ s.later) s.event s.before whole s.itself (ap (λ g. covers (pairs_of g) own) e ∙ h)
-
-          holds : (update : is_update s.event.operation ≡ true) → covers (taken_pairs (state_at v l key s.before) s.event.key s.event.context s.event.operation) dot ≡ true → ⊥
-          holds update h = gone (record { entry = Command s.event; later = s.later; before = s.before; is = s.is; quiet = quiet_s; holds = ((s.itself, update), h) })
-
-          brought : j ≤ brought_count s.before s.event.key n → ⊥
-          brought h =
-              let here : j ≤ count_brought key s.before n = subst (λ k. j ≤ brought_count s.before k n) (key_eq-same s.event.key key s.itself) h in
+          here : j ≤ count_brought key s.before n → ⊥
+          here h =
               let up : count_brought key s.before n ≤ count_brought key before n =
               subst (λ t. count_brought key s.before n ≤ count_brought key t n) (append_assoc s.later (Command s.event ∷ []) s.before ∙ s.is) (brought-later key (s.later ++ Command s.event ∷ []) s.before n) in
-              by_copy (omega (arith, here, up))
+              by_copy (omega (arith, h, up))
 
-          at : (context : Option Context) → s.event.context ≡ context → (operation : Operation Content) → s.event.operation ≡ operation → AcceptsEvent (state_at v l key s.before) s.event.key s.event.context s.event.operation
-              → option_map_or (λ (x : Context). covers (pairs_of (Some x)) own) s.event.context (takes_all s.event.operation && nat_le j (brought_count s.before s.event.key n)) ≡ true → ⊥
-          at (Some context) p (Write content) q a h =
-              holds (ap is_update q) ((λ i. covers (taken_pairs (state_at v l key s.before) s.event.key (p i) (q i)) dot) ∙ taken context p (sym (ap (λ o. option_map_or (λ (x : Context). covers (pairs_of (Some x)) own) o (takes_all s.event.operation && nat_le j (brought_count s.before s.event.key n))) p) ∙ h))
-          at (Some context) p Tombstone q a h =
-              holds (ap is_update q) ((λ i. covers (taken_pairs (state_at v l key s.before) s.event.key (p i) (q i)) dot) ∙ taken context p (sym (ap (λ o. option_map_or (λ (x : Context). covers (pairs_of (Some x)) own) o (takes_all s.event.operation && nat_le j (brought_count s.before s.event.key n))) p) ∙ h))
-          at (Some context) p Reap q a h = no_reap (subst (λ o. AcceptsEvent (state_at v l key s.before) s.event.key o s.event.operation) p a)
-            where
-              no_reap : AcceptsEvent (state_at v l key s.before) s.event.key (Some context) s.event.operation → ⊥
-              no_reap a = let P : Operation Content → Type 0 = λ o. AcceptsEvent (state_at v l key s.before) s.event.key (Some context) o in absurd (subst P q a)
-          at None p operation q a h =
-              brought (test-le j (brought_count s.before s.event.key n) (and_right (takes_all s.event.operation) (nat_le j (brought_count s.before s.event.key n))
-              (sym (ap (λ o. option_map_or (λ (x : Context). covers (pairs_of (Some x)) own) o (takes_all s.event.operation && nat_le j (brought_count s.before s.event.key n))) p) ∙ h)))
+          at : (context : Option Context) → s.event.context ≡ context
+              → option_map_or (λ (x : Context). covers (pairs_of (Some x)) own) context (takes_all s.event.operation && nat_le j (brought_count s.before s.event.key n)) ≡ true → ⊥
+          at (Some context) p h = here (names n j own facts.diversion dotted (later ++ Copied copy ∷ s.later) s.event s.before whole s.itself (ap (λ g. covers (pairs_of g) own) p ∙ h))
+          at None p h =
+              let few : j ≤ brought_count s.before s.event.key n = test-le j (brought_count s.before s.event.key n) (and_right (takes_all s.event.operation) (nat_le j (brought_count s.before s.event.key n)) h) in
+              here (subst (λ k. j ≤ brought_count s.before k n) (key_eq-same s.event.key key s.itself) few)
 
       pub untaken : ⊥
       untaken = elim come [ inl h ↦ by_copy h | inr h ↦ by_command (seen-by key (record { side = n; number = j }) own before h) ]
@@ -247,7 +215,7 @@ module _ (partition : Partition) (primary : Log) (fallbacks : Fallbacks) (key : 
 
   -- the key isn't forgotten between, no command changes it, and no copy does
   module _ (between position : Log) (is : between ++ position ≡ primary) (same : (clock position).known ≡ (clock primary).known)
-      (dot : Dot) (value : Option Content) (live : value_at (clock primary) dot ≡ Some value) (covers_taken : CoversTaken partition primary fallbacks key) where
+      (dot : Dot) (value : Option Content) (live : value_at (clock primary) dot ≡ Some value) (names : NamesBrought partition primary fallbacks key) where
     known-there : (d : Dot) → knows (clock primary) d ≡ true → knows (clock position) d ≡ true
     known-there d h = ap (λ ps. covers ps d) same ∙ h
 
@@ -317,7 +285,7 @@ module _ (partition : Partition) (primary : Log) (fallbacks : Fallbacks) (key : 
           is = whole a (Copied copy) b parts;
           quiet = quiet_a a (Copied copy) b parts;
           holds = (e, k);
-        })))) covers_taken
+        })))) names
 
     passes : (a : Log) (entry : LogEntry Content) (b : Log) → a ++ entry ∷ b ≡ between → PassesBy partition (b ++ position) key entry
     passes a (Command event) b parts = by (key_eq event.key key) refl (is_update event.operation) refl

@@ -9,7 +9,7 @@ use Rattle.copy_laws.specs.Joining.{Log, IsHandOff, ShowsSiblings, AreJointSibli
 use Rattle.copy_laws.specs.JointAnswers.{AreWithinLimits}
 use Rattle.copy_laws.proofs.Apart.{dots_stand_apart}
 use Rattle.copy_laws.proofs.CourseLaw.{courses_are_hand_offs, courses_show, returns_join}
-use Rattle.copy_laws.proofs.CourseNames.{courses_name_positions}
+use Rattle.copy_laws.proofs.LegalCourses.{courses_name_positions}
 use Rattle.copy_laws.proofs.JointAnswers.{courses_answer_gets, courses_reap_dead}
 use Rattle.copy_laws.proofs.JointUpdates.{courses_answer_puts, courses_answer_dels}
 use Rattle.copy_laws.proofs.Leaving.{courses_leave_only_seen, fallbacks_leave_only_seen}

@@ -24,7 +24,7 @@ use Rattle.copy_laws.specs.CopyReplay.{state_with, name_at, named_at, seen_at}
 use Rattle.copy_laws.specs.Diversions.{Course, AtPrimary, Divert, AtFallback, CopyBack, Return, copy_of, primary_of, Happens}
 use Rattle.copy_laws.specs.Copies.{Command, Copied}
 use Rattle.copy_laws.proofs.Fallback.{log-replay}
-use Rattle.copy_laws.proofs.CourseHeld.{courses_hold_defined}
+use Rattle.copy_laws.proofs.LegalCourses.{courses_hold_defined}
 use Rattle.node_steps.specs.World.{CommandsAlone}
 use Rattle.node_steps.specs.HeldNames.{named_held, saw_held}
 use Rattle.node_steps.specs.Steps.{event_at}

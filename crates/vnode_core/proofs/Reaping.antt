@@ -100,6 +100,12 @@ pub record IsFirstGone (state : State Content) (from : Option Key) (after : Stat
   pub first : first_dead state from ≡ Some key
   pub is : after ≡ reaped state key
 
+-- where none was found there is none
+pub none-found : (v : VnodeFields) (from : Option Key) → false ≡ has_dead (holding v.store.keys) from → (seen : State Content) → state_of v ≡ seen → (key : Key) → first_dead seen from ≡ Some key → ⊥
+none-found v from none seen sees key h =
+    let some : is_some (first_dead (state_of v) from) ≡ true = ap (λ o. is_some o) (ap (λ state. first_dead state from) sees ∙ h) in
+    let no : false ≡ true = none ∙ some in cc
+
 pub first-gone : (v : VnodeFields) (from : Option Key) (reaps : ℕ) (keys : Keys) → reaps ≡ counted v.reaps → true ≡ has_dead (holding v.store.keys) from
     → keys ≡ (after_first_reap (holding v.store.keys) from).keys → IsFirstGone (state_of v) from (record (state_of v) { reaps = reaps; keys = keys })
 first-gone v from reaps keys n found k = by (first_dead (state_of v) from) refl found k

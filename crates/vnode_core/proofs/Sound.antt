@@ -23,6 +23,7 @@ use Rattle.vnode_core.specs.declared.ask.Ask.{Ask}
 use Rattle.vnode_core.specs.declared.ask.Ask.TheVariants.{Put, Del, Reap, ReapFirst, Copy, Close}
 use Rattle.vnode_core.specs.declared.ask.Answer.TheVariants as answers
 use Rattle.vnode_core.specs.declared.ask.Answer.{Answer}
+use Rattle.copy_laws.proofs.JointUpdates.{step_is_of_logs}
 use Rattle.vnode_core.specs.Plans.{Registers, RegistersPlan, RegistersStep, Steps}
 
 same_reply : (reply other : PutReply) → answers.Put reply ≡ answers.Put other → reply ≡ other
@@ -43,7 +44,8 @@ module _ (state : State Content) (is : IsSound state) where
 
   -- what comes of a command is the register's
   pub registers : (command : Command Content Context) (result : MachineOutcome) → outcome state command ≡ result → Registers state command result
-  registers command result h = subst (λ r. Registers state command r) h (step_is_registers state command is.limits)
+  registers command result h =
+      subst (λ r. Registers state command r) h (record { at_history = step_is_registers state command is.limits; at_log = step_is_of_logs state command })
 
   -- of what the vnode is asked, where it isn't refused
   pub registers-plan : (X : Type 0) (ask : Ask) (plan : X) → RegistersPlan {X = X} state ask (Ok plan)

@@ -14,6 +14,7 @@ use Rattle.vnode_machine.specs.Machine.{State}
 use Rattle.vnode_machine.specs.Replay.{AtEachHistory}
 use Rattle.vnode_machine.specs.Step.{PutDone, DelDone, ReapDone, ReapKept, MachineOutcome, Refused, Answered, Accepted, outcome}
 use Rattle.vnode_machine.specs.Registers.{IsRegisters}
+use Rattle.copy_laws.specs.LegalLogs.{AtEachLog, IsOfLog}
 use Rattle.vnode_core.specs.declared.ask.Ask.{Ask}
 use Rattle.vnode_core.specs.declared.ask.Ask.TheVariants.{Put, Del, Reap, ReapFirst, Copy, Close}
 use Rattle.vnode_core.specs.declared.ask.Answer.{Answer}
@@ -130,9 +131,11 @@ abbrev pub planned : {X : Type 0} → MachineOutcome → Result X Refusal → Ma
 planned result (Ok plan) = result
 planned result (Err refusal) = Refused (number_of refusal)
 
--- the register may do so with its command, at each history that the vnode may have had
-abbrev pub Registers : State Content → Command Content Context → MachineOutcome → Type 0
-Registers state command result = AtEachHistory state (λ vnode last_epoch history. IsRegisters vnode last_epoch history command result)
+-- the register may do so with its command: at each history that the vnode may have had; and at each legal log with copies, over
+-- the numbers of all sides
+pub record Registers (state : State Content) (command : Command Content Context) (result : MachineOutcome) : Type 0 where
+  pub at_history : AtEachHistory state (λ vnode last_epoch history. IsRegisters vnode last_epoch history command result)
+  pub at_log : AtEachLog state command (λ partition log fallbacks. IsOfLog partition log fallbacks command result)
 
 -- the register may do so with the command that is asked for, and so with each key that the reap of the least dead one may be of. Of a
 -- copy and a close the register says nothing

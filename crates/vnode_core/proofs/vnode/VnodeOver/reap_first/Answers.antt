@@ -5,7 +5,7 @@ use Rattle.vnode_machine.specs.Machine.{State}
 use Rattle.vnode_core.specs.Reaping.{key_given}
 use Rattle.vnode_core.specs.Vnodes.{fields, IsReadyFor, state_of}
 use Rattle.vnode_machine.specs.Sound.{IsSound}
-use Rattle.vnode_core.proofs.Reaping.{first-gone, sound-first, left-first, register-first}
+use Rattle.vnode_core.proofs.Reaping.{first-gone, sound-first, left-first, register-first, none-found}
 use Rattle.vnode_core.proofs.vnode.VnodeOver.reap_first.Goals as goal
 
 pub invariant_of-self : goal.invariant_of-self
@@ -37,3 +37,8 @@ returns-then-found-clause-register g c =
     let gone = first-gone v from c.saturating_add-self-inside.result (g.S.ClockStore.shows forgot.new.self).keys c.saturating_add-self-inside.ensures (sym c.if-found.true ∙ forgot.ensures.found) forgot.ensures.keys in
     register-first (state_of v) c.self.invariant.sound from gone.key gone.first _ gone.is c.args.self.now.state
     (ap (λ w. w.state) c.self.view_is ∙ c.drop_prepared.ensures.same)
+
+pub returns-else-found-clause-register : goal.returns-else-found-clause-register
+returns-else-found-clause-register g c = λ key first.
+    let v = fields c.self.inside.id c.self.inside.epochs c.self.inside.writes c.self.inside.tombstones c.self.inside.reaps (g.S.ClockStore.shows c.self.inside.store) c.self.inside.ready c.self.inside.prepared c.self.inside.closed in
+    absurd (none-found v (key_given c.args.from) (sym c.if-found.false ∙ c.forget_first_dead-found.ensures.found) c.args.self.now.state (ap (λ w. w.state) c.self.view_is ∙ c.drop_prepared.ensures.same) key first)
