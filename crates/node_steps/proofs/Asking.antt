@@ -7,8 +7,8 @@ use Rattle.riak_msgs.specs.Contents.{Content}
 use Rattle.riak_msgs.specs.declared.Request.{Request}
 use Rattle.sibling_register.specs.Answers.{RegisterAsk}
 use Rattle.actor_epoch.specs.Given.{Context}
-use Rattle.vnode_machine.specs.Replay.{History}
 use Rattle.vnode_machine.specs.Asks.{request_ask}
+use Rattle.copy_laws.specs.Joining.{Log}
 use Rattle.node_steps.specs.declared.call.Call.{Call}
 use Rattle.node_steps.specs.declared.outcome.Outcome.TheVariants as outcomes
 use Rattle.node_steps.specs.declared.phase.Phase.{Phase as RunPhase}
@@ -50,7 +50,7 @@ asks_nowhere world (suc place) = by (slice_get world.workers place) refl
 past_turn : (world : World) (site : ℕ) (ask : RegisterAsk Content Context) → slice_get world.vnodes site ≡ None → (place : ℕ) (worker : Worker) → Steps world (Asks site ask) place worker ≡ None
 past_turn world site ask none place worker = by worker.phase refl
   where
-    busy : (phase : Phase) → worker.phase ≡ phase → ((vnode : SiteVnode) (seen : History) (brought : Brought) → turn_of seen brought vnode (Asks site ask) phase ≡ None)
+    busy : (phase : Phase) → worker.phase ≡ phase → ((vnode : SiteVnode) (seen : Log) (brought : Brought) → turn_of seen brought vnode (Asks site ask) phase ≡ None)
         → NoTurn world (Asks site ask) worker
     busy phase e h = λ index vnode.
         ap (λ p. turn_of (seen_at worker.seen index) (brought_by world worker) vnode (Asks site ask) p) e ∙ h vnode (seen_at worker.seen index) (brought_by world worker)

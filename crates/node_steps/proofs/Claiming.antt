@@ -4,12 +4,13 @@ use Rattle.std.specs.Prelude.{pred, [], Option, Some, None, is_some, Result}
 use Rattle.std.specs.Option.{option_map_or}
 use Rattle.riak_msgs.specs.Contents.{Content}
 use Rattle.vnode_machine.specs.Machine.{State}
-use Rattle.vnode_machine.specs.Step.{Response}
-use Rattle.vnode_machine.specs.Runs.{IsAnswer}
+use Rattle.vnode_machine.specs.Step.{Response, outcome as outcome_of_ask}
+use Rattle.vnode_machine.specs.Runs.{IsAnswer, reply_of}
 use Rattle.node_steps.specs.World.{SiteVnode, World, CommandsAlone, Call, route, id_at, last_epoch_at, log_at, history_at, front_at, call_at}
 use Rattle.node_steps.specs.Steps.{accepted_in, Action, Step, By, Diverts, Outcome, NotPossible, Happened, Replied, accepted_in, left_in, judged, routed, acts, diverted}
 use Rattle.node_steps.specs.Schedules.{Begins}
-use Rattle.node_steps.specs.Claims.{state_at, RepliesAreRegisters, CopiesIn, ClosesIn, NothingElseHappens, RepliesHaveSeen}
+use Rattle.node_steps.specs.Told.{log_by}
+use Rattle.node_steps.specs.Claims.{state_at, FallbacksTakeCommands, RepliesAreRegisters, CopiesIn, ClosesIn, NothingElseHappens, RepliesHaveSeen}
 use Rattle.node_steps.proofs.Lists.{set-here, set-there, same_or_other}
 use Rattle.node_steps.proofs.Inside.{state_of}
 use Rattle.node_steps.proofs.Kept.{IsOrderly, possible}
@@ -38,6 +39,8 @@ module _ (w : World) (number : ℕ) where
   AnswersBy q =
       (reply : Result Response ℕ) → q.1 ≡ Replied reply
       → (call : Call) × (call_at w number ≡ Some call) × ((state_at w call.site).closed ≡ None)
+      × ((reply ≡ reply_of (outcome_of_ask (state_at w call.site) call.ask))
+      × (log_at q.0 call.site ≡ log_by (id_at w call.site) (last_epoch_at w call.site) (log_at w call.site) call.ask (outcome_of_ask (state_at w call.site) call.ask)))
       × (CommandsAlone (log_at w call.site)
       → IsAnswer (id_at w call.site) (last_epoch_at w call.site) (history_at w call.site) (record { ask = call.ask; reply = reply }) (history_at q.0 call.site))
 
@@ -49,7 +52,7 @@ module _ (w : World) (number : ℕ) where
   abbrev SeenBy : World × Outcome → Type 0
   SeenBy q =
       (index : ℕ) (call : Call) → call_at w number ≡ Some call → call.site ≡ index → (reply : Result Response ℕ) → q.1 ≡ Replied reply
-      → Begins (front_at w number index) (history_at w index) × (front_at q.0 number index ≡ history_at q.0 index)
+      → Begins (front_at w number index) (log_at w index) × (front_at q.0 number index ≡ log_at q.0 index)
 
   module _ (orderly : IsOrderly w) (action : Action) where
     -- what answers nothing has nothing to show for it
@@ -120,11 +123,18 @@ module _ (w : World) (number : ℕ) where
       ]
     ]
 
-pub replies_are_registers : (w : World) → IsOrderly w → (step : Step) → RepliesAreRegisters w step
-replies_are_registers w orderly (By number action) reply replied =
+pub replies_are_registers : (w : World) → IsOrderly w → FallbacksTakeCommands w → (step : Step) → RepliesAreRegisters w step
+replies_are_registers w orderly fallbacks (By number action) reply replied =
     let sent = routed (route w) action in
-    let a = answers_by w number orderly sent (acts w number sent) refl reply replied in record { call = a.0; asked = a.1; opened = a.2; answer = a.3 }
-replies_are_registers w orderly (Diverts index) reply replied = absurd (no_reply (diverted w index) reply replied)
+    let a = answers_by w number orderly sent (acts w number sent) refl reply replied in record {
+      call = a.0;
+      asked = a.1;
+      opened = a.2;
+      reply_is = a.3.0;
+      log_is = a.3.1;
+      answer = λ plain. elim plain [ inl only ↦ a.4 only | inr away ↦ a.4 ((fallbacks a.0.site away).1 a.2) ];
+    }
+replies_are_registers w orderly fallbacks (Diverts index) reply replied = absurd (no_reply (diverted w index) reply replied)
 
 pub nothing_else_happens : (w : World) → IsOrderly w → AreJudged w → (step : Step) → NothingElseHappens w step
 nothing_else_happens w orderly judged_all (By number action) index =

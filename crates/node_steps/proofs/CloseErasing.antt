@@ -6,13 +6,12 @@ use Rattle.riak_msgs.specs.Contents.{Content}
 use Rattle.sibling_register.specs.Answers.{RegisterAsk}
 use Rattle.actor_epoch.specs.Given.{Context}
 use Rattle.vnode_machine.specs.Machine.{State}
-use Rattle.vnode_machine.specs.Replay.{History}
 use Rattle.copy_laws.specs.Joining.{Log}
 use Rattle.node_steps.specs.World.{Word, Open, Taken, CloseStage, CloseAsked, CloseTaken, CloseInside, CloseLooked, CloseDone, Phase, Idle, Turned, Closing, Brought}
 use Rattle.node_steps.specs.Steps.{Action, ClosesFrom, Enters, Leaves, Takes, Puts}
 use Rattle.node_steps.proofs.CopyErasing.{IsErased}
 
-module _ (id home epoch : ℕ) (seen : History) (brought : Brought) (log : Log) (place : State Content) where
+module _ (id home epoch : ℕ) (seen : Log) (brought : Brought) (log : Log) (place : State Content) where
   abbrev Same : Word → Action → Phase → Type 0
   Same word action phase = IsErased id home epoch seen brought log place word action phase
 

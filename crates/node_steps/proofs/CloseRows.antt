@@ -26,13 +26,13 @@ shows_second = Replied (Ok (GetDone (record {
 })))
 
 -- the second worker copies the key back, and closes
-abbrev copies : List Step
+abbrev pub copies : List Step
 copies = does 2 (Copies 0 k) ∷ does 2 Enters ∷ does 2 Looks ∷ does 2 Takes ∷ does 2 Looks ∷ does 2 Publishes ∷ does 2 Puts ∷ does 2 Leaves ∷ []
 
 abbrev copied : List Outcome
 copied = Happened ∷ Happened ∷ Happened ∷ Happened ∷ Happened ∷ CopiedBack ∷ Happened ∷ Happened ∷ []
 
-abbrev closes : List Step
+abbrev pub closes : List Step
 closes = does 2 (Closes 0) ∷ does 2 Takes ∷ does 2 Enters ∷ does 2 Looks ∷ does 2 Publishes ∷ does 2 Leaves ∷ does 2 Puts ∷ []
 
 abbrev closed : List Outcome

@@ -4,9 +4,9 @@ use Rattle.std.specs.Prelude.{pred, Option, Some, None, is_some, slice_get, slic
 use Rattle.std.specs.Option.{option_map_or}
 use Rattle.riak_msgs.specs.Contents.{Content}
 use Rattle.vnode_machine.specs.Machine.{State}
-use Rattle.vnode_machine.specs.Replay.{History}
 use Rattle.vnode_machine.proofs.Tests.{none-from, unmapped}
-use Rattle.node_steps.specs.World.{CloseInside, CloseLooked, CloseDone, Phase, Closing, SiteVnode, Worker, World, worker_at, seen_at, history_of}
+use Rattle.copy_laws.specs.Joining.{Log}
+use Rattle.node_steps.specs.World.{CloseInside, CloseLooked, CloseDone, Phase, Closing, SiteVnode, Worker, World, worker_at, seen_at}
 use Rattle.node_steps.specs.Steps.{Action, Looks, Publishes, Outcome, Happened, left_in, judged, judged_by, closed_by, closes, seeing, is_about, does, acts}
 use Rattle.node_steps.specs.Schedules.{Begins}
 use Rattle.node_steps.proofs.Lists.{one, how_many, set-here, set-there, same_or_other, how_many-set, get-below}
@@ -180,29 +180,29 @@ module _ (w : World) (orderly : IsOrderly w) (number : ℕ) (action : Action) (r
   here = at_place w number j.worker j.worker_is
 
   -- what it has seen at a site: all there, or what it had
-  abbrev seen : List History
-  seen = seeing (seeing j.worker.seen j.site (history_of j.fallback)) j.own (history_of j.primary)
+  abbrev seen : List Log
+  seen = seeing (seeing j.worker.seen j.site j.fallback.log) j.own j.primary.log
 
-  seen_begins : (index : ℕ) (vnode : SiteVnode) → slice_get w.vnodes index ≡ Some vnode → Begins (seen_at seen index) (history_of vnode)
+  seen_begins : (index : ℕ) (vnode : SiteVnode) → slice_get w.vnodes index ≡ Some vnode → Begins (seen_at seen index) vnode.log
   seen_begins index vnode there = elim (same_or_other j.own index) [
-    | inl e ↦ subst (λ (v : SiteVnode). Begins (seen_at seen index) (history_of v)) (some_back j.primary vnode (sym j.primary_is ∙ ap (λ k. slice_get w.vnodes k) e ∙ there))
-        (subst (λ front. Begins front (history_of j.primary))
-        (sym (ap (λ k. seen_at seen k) (sym e) ∙ seeing-here (seeing j.worker.seen j.site (history_of j.fallback)) j.own (history_of j.primary))) (begins-itself (history_of j.primary)))
-    | inr n ↦ subst (λ front. Begins front (history_of vnode)) (sym (seeing-there (seeing j.worker.seen j.site (history_of j.fallback)) j.own index (history_of j.primary) n))
+    | inl e ↦ subst (λ (v : SiteVnode). Begins (seen_at seen index) v.log) (some_back j.primary vnode (sym j.primary_is ∙ ap (λ k. slice_get w.vnodes k) e ∙ there))
+        (subst (λ front. Begins front j.primary.log)
+        (sym (ap (λ k. seen_at seen k) (sym e) ∙ seeing-here (seeing j.worker.seen j.site j.fallback.log) j.own j.primary.log)) (begins-itself j.primary.log))
+    | inr n ↦ subst (λ front. Begins front vnode.log) (sym (seeing-there (seeing j.worker.seen j.site j.fallback.log) j.own index j.primary.log n))
         (elim (same_or_other j.site index) [
-          | inl e ↦ subst (λ (v : SiteVnode). Begins (seen_at (seeing j.worker.seen j.site (history_of j.fallback)) index) (history_of v))
+          | inl e ↦ subst (λ (v : SiteVnode). Begins (seen_at (seeing j.worker.seen j.site j.fallback.log) index) v.log)
               (some_back j.fallback vnode (sym j.fallback_is ∙ ap (λ k. slice_get w.vnodes k) e ∙ there))
-              (subst (λ front. Begins front (history_of j.fallback))
-              (sym (ap (λ k. seen_at (seeing j.worker.seen j.site (history_of j.fallback)) k) (sym e) ∙ seeing-here j.worker.seen j.site (history_of j.fallback))) (begins-itself (history_of j.fallback)))
-          | inr m ↦ subst (λ front. Begins front (history_of vnode)) (sym (seeing-there j.worker.seen j.site index (history_of j.fallback) m))
+              (subst (λ front. Begins front j.fallback.log)
+              (sym (ap (λ k. seen_at (seeing j.worker.seen j.site j.fallback.log) k) (sym e) ∙ seeing-here j.worker.seen j.site j.fallback.log)) (begins-itself j.fallback.log))
+          | inr m ↦ subst (λ front. Begins front vnode.log) (sym (seeing-there j.worker.seen j.site index j.fallback.log m))
               (orderly.workers place j.worker here index vnode there).seen
         ])
   ]
 
   unseen : (site : ℕ) → length w.vnodes ≤ site → seen_at seen site ≡ []
   unseen site past =
-      seeing-there (seeing j.worker.seen j.site (history_of j.fallback)) j.own site (history_of j.primary) (not_past j.own (length w.vnodes) site (get-below w.vnodes j.own j.primary j.primary_is) past)
-      ∙ seeing-there j.worker.seen j.site site (history_of j.fallback) (not_past j.site (length w.vnodes) site (get-below w.vnodes j.site j.fallback j.fallback_is) past)
+      seeing-there (seeing j.worker.seen j.site j.fallback.log) j.own site j.primary.log (not_past j.own (length w.vnodes) site (get-below w.vnodes j.own j.primary j.primary_is) past)
+      ∙ seeing-there j.worker.seen j.site site j.fallback.log (not_past j.site (length w.vnodes) site (get-below w.vnodes j.site j.fallback j.fallback_is) past)
       ∙ orderly.unseen place j.worker here site past
 
   abbrev over : Phase → World

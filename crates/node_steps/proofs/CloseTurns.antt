@@ -5,8 +5,7 @@ use Rattle.riak_msgs.specs.Contents.{Content}
 use Rattle.sibling_register.specs.Answers.{RegisterAsk}
 use Rattle.actor_epoch.specs.Given.{Context}
 use Rattle.vnode_machine.specs.Machine.{State}
-use Rattle.vnode_machine.specs.Replay.{History, IsWithinLimits}
-use Rattle.copy_laws.specs.Copies.{commands_of}
+use Rattle.vnode_machine.specs.Replay.{IsWithinLimits}
 use Rattle.copy_laws.specs.Joining.{Log}
 use Rattle.node_steps.specs.World.{Word, Open, Taken, CloseStage, CloseAsked, CloseTaken, CloseInside, CloseDone, Phase, Idle, Asked, Turned, Closing, Brought}
 use Rattle.node_steps.specs.Steps.{Action, ClosesFrom, Enters, Leaves, Takes, Puts, WorkerTurn, left}
@@ -28,7 +27,7 @@ module _ (id epoch home index readers holders : ℕ) where
       → BetweenIs action index home closed (Closing own site was) (Closing own site next)
   stays_between action closed own site was next n = λ own2 site2 h. (n, inl (h, refl))
 
-  module _ (limits : IsWithinLimits id epoch) (log : Log) (seen : History) (brought : Brought) (place : State Content) (has : Begins seen (commands_of log))
+  module _ (limits : IsWithinLimits id epoch) (log : Log) (seen : Log) (brought : Brought) (place : State Content) (has : Begins seen log)
       (own site : ℕ) where
     abbrev TurnsTo : Word → Action → Phase → WorkerTurn → Type 0
     TurnsTo word action phase t = turns id epoch home index readers holders limits log seen brought place has word action phase ≡ Some t

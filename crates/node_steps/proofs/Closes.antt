@@ -11,11 +11,13 @@ use Rattle.vnode_machine.specs.Sound.{IsSound as IsSoundState}
 use Rattle.vnode_machine.proofs.Copying.{sound-close}
 use Rattle.copy_laws.specs.Copies.{Closed}
 use Rattle.node_steps.specs.World.{Word, Open, Taken, CloseDone, Closing, SiteVnode, Worker, World, CommandsAlone, seen_at}
-use Rattle.node_steps.specs.Steps.{Action, Outcome, closed_by, is_about}
-use Rattle.node_steps.proofs.Lists.{how_many, set-here, set-there, same_or_other, length-set, counted_one}
-use Rattle.node_steps.proofs.Inside.{is_reader, is_holder, reads, holds, IsInHand, same_test, no_hand, state_of, IsOpenAt, IsSound, IsPlain, IsAware, IsInPlace, FitsWord, closed-mixed}
+use Rattle.node_steps.specs.Steps.{Action, Outcome, closed_by, is_about, seeing}
+use Rattle.node_steps.specs.Schedules.{Begins}
+use Rattle.node_steps.proofs.Lists.{how_many, set-here, set-there, same_or_other, length-set, counted_one, get-below}
+use Rattle.node_steps.proofs.Beginnings.{begins-itself, begins-longer}
+use Rattle.node_steps.proofs.Inside.{is_reader, is_holder, reads, holds, IsInHand, same_test, no_hand, no_whole, state_of, IsOpenAt, IsSound, IsPlain, IsAware, IsInPlace, FitsWord, closed-mixed}
 use Rattle.node_steps.proofs.Coming.{between_in}
-use Rattle.node_steps.proofs.Kept.{IsFallback, IsOrderly, at_place, outside}
+use Rattle.node_steps.proofs.Kept.{IsFallback, IsOrderly, at_place, outside, seeing-here, seeing-there}
 use Rattle.node_steps.proofs.CloseSteps.{IsClose, some_back, count_same, set_is, set_cases}
 use Rattle.node_steps.proofs.Numbers.{not_past}
 
@@ -48,7 +50,7 @@ module _ (w : World) (orderly : IsOrderly w) (number : ℕ) (action : Action) (r
   close_vnode = record c.fallback { log = Closed c.count ∷ c.fallback.log }
 
   abbrev pub close_worker : Worker
-  close_worker = record c.worker { phase = Closing c.own c.site (CloseDone (apply_close c.hand c.count) true) }
+  close_worker = record { phase = Closing c.own c.site (CloseDone (apply_close c.hand c.count) true); seen = seeing c.worker.seen c.site (Closed c.count ∷ c.fallback.log) }
 
   abbrev pub close_world : World
   close_world = closed_by w place c.own c.site c.worker c.fallback c.hand c.count
@@ -113,14 +115,14 @@ module _ (w : World) (orderly : IsOrderly w) (number : ℕ) (action : Action) (r
   next_site : IsAware c.fallback.id c.fallback.last_epoch c.site close_vnode.log close_worker
   next_site = record {
     hand = λ e. ap (λ s. apply_close s c.count) close_hand.0;
-    seen = (orderly.workers place c.worker close_here c.site c.fallback c.fallback_is).seen;
+    seen = subst (λ f. Begins f close_vnode.log) (sym (seeing-here c.worker.seen c.site close_vnode.log)) (begins-itself close_vnode.log);
     whole = tt;
   }
 
   next_other : (index : ℕ) (v : SiteVnode) → c.site ≢ index → slice_get w.vnodes index ≡ Some v → IsAware v.id v.last_epoch index v.log close_worker
   next_other index v n h = record {
     hand = λ e. absurd (n e);
-    seen = (orderly.workers place c.worker close_here index v h).seen;
+    seen = subst (λ f. Begins f v.log) (sym (seeing-there c.worker.seen c.site index close_vnode.log n)) (orderly.workers place c.worker close_here index v h).seen;
     whole = tt;
   }
 
@@ -129,7 +131,11 @@ module _ (w : World) (orderly : IsOrderly w) (number : ℕ) (action : Action) (r
   other_site at x n h =
       let was = orderly.workers at x h c.site c.fallback c.fallback_is in
       let out = outside w orderly place c.site c.worker c.fallback close_here c.fallback_is at x n h mine in
-      record { hand = no_hand c.fallback.id c.fallback.last_epoch c.site close_vnode.log x.phase out.0 out.1; seen = was.seen; whole = was.whole }
+      record {
+        hand = no_hand c.fallback.id c.fallback.last_epoch c.site close_vnode.log x.phase out.0 out.1;
+        seen = begins-longer (Closed c.count) (seen_at x.seen c.site) c.fallback.log was.seen;
+        whole = no_whole c.site x.phase (seen_at x.seen c.site) close_vnode.log out.0;
+      }
 
   orderly-closed-world : IsOrderly close_world
   orderly-closed-world = record {
@@ -204,7 +210,9 @@ module _ (w : World) (orderly : IsOrderly w) (number : ℕ) (action : Action) (r
     unseen = λ at x k site far.
         let old_far : length w.vnodes ≤ site = subst (λ n. n ≤ site) (length-set w.vnodes c.site close_vnode) far in
         elim (set_cases w place c.worker close_worker close_here at x k) [
-          | inl d ↦ ap (λ (y : Worker). seen_at y.seen site) (sym d.1) ∙ orderly.unseen place c.worker close_here site old_far
+          | inl d ↦ ap (λ (y : Worker). seen_at y.seen site) (sym d.1)
+              ∙ seeing-there c.worker.seen c.site site close_vnode.log (not_past c.site (length w.vnodes) site (get-below w.vnodes c.site c.fallback c.fallback_is) old_far)
+              ∙ orderly.unseen place c.worker close_here site old_far
           | inr d ↦ orderly.unseen at x d.1 site old_far
         ];
   }

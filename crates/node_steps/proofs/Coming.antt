@@ -10,15 +10,16 @@ use Rattle.vnode_machine.specs.Machine.{State}
 use Rattle.dvv_set.specs.Clocks.{DotState}
 use Rattle.vnode_machine.specs.Copying.{is_stuck}
 use Rattle.vnode_machine.specs.Replay.{replay, AcceptsEvent}
-use Rattle.vnode_machine.specs.Step.{Response}
+use Rattle.vnode_machine.specs.Step.{Response, outcome as outcome_of_ask}
 use Rattle.vnode_machine.specs.Registers.{key_of, context_in_ask}
-use Rattle.vnode_machine.specs.Runs.{IsAnswer}
+use Rattle.vnode_machine.specs.Runs.{IsAnswer, reply_of}
 use Rattle.copy_laws.specs.Copies.{Command, Copied, commands_of}
 use Rattle.copy_laws.specs.Joining.{Log}
 use Rattle.node_steps.specs.HeldNames.{saw_held}
 use Rattle.node_steps.specs.World.{CopyTaken, CloseLooked, Phase, Turned, Copying, Closing, Brought, Call, call_of, history_of}
 use Rattle.node_steps.specs.Steps.{Action, CopiesFrom, ClosesFrom, is_reap, is_about, Outcome, NotPossible, Happened, Replied, NotHeld, StuckThere, CopiedBack, Elsewhere, LeftThere, WorkerTurn}
 use Rattle.node_steps.specs.Contexts.{context_bytes, call_by}
+use Rattle.node_steps.specs.Told.{log_by}
 use Rattle.node_steps.proofs.Shown.{AreHeld}
 use Rattle.node_steps.proofs.Inside.{state_of, IsOpenAt, IsPlain}
 
@@ -78,12 +79,13 @@ abbrev pub ReplyShows : State Content → RegisterAsk Content Context → Result
 ReplyShows state ask (Ok response) = AreHeld state (key_of ask) (context_bytes response)
 ReplyShows state ask (Err number) = Unit {0}
 
--- the turn answers a call as the register may; its worker has then seen the history
+-- the turn answers a call as the machine does, and as the register may; its worker has then seen the log
 pub record IsReplyTo (id epoch index : ℕ) (log : Log) (t : WorkerTurn) (reply : Result Response ℕ) (call : Call) : Type 0 where
   pub at : call.site ≡ index
   pub opened : IsOpenAt id epoch log
-  pub seen : t.seen ≡ history_of t.vnode
+  pub seen : t.seen ≡ t.vnode.log
   pub event : EventIs id epoch call.ask log t.vnode.log
+  pub machine : (reply ≡ reply_of (outcome_of_ask (state_of id epoch log) call.ask)) × (t.vnode.log ≡ log_by id epoch log call.ask (outcome_of_ask (state_of id epoch log) call.ask))
   pub answer : IsPlain id epoch log → IsAnswer id epoch (commands_of log) (record { ask = call.ask; reply = reply }) (history_of t.vnode)
   pub shown : ReplyShows (state_of id epoch t.vnode.log) call.ask reply
   pub shows : IsPlain id epoch log → ReplyShows (replay id epoch (history_of t.vnode)) call.ask reply

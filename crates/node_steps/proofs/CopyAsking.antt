@@ -5,7 +5,7 @@ use Rattle.std.specs.Option.{option_map_or}
 use Rattle.std.specs.Global.{Box}
 use Rattle.std.proofs.lemmas.Option.{slice_get_past}
 use Rattle.riak_msgs.specs.declared.Key.{Key}
-use Rattle.vnode_machine.specs.Replay.{History}
+use Rattle.copy_laws.specs.Joining.{Log}
 use Rattle.node_steps.specs.declared.outcome.Outcome.TheVariants as outcomes
 use Rattle.node_steps.specs.declared.phase.Phase.{Phase as RunPhase}
 use Rattle.node_steps.specs.declared.phase.Phase.TheVariants as phases
@@ -27,7 +27,7 @@ use Rattle.node_steps.proofs.Asking.{asks_nowhere}
 copies_turn : (world : World) (own site : ℕ) (key : Key) → slice_get world.vnodes site ≡ None → (place : ℕ) (worker : Worker) → Steps world (CopiesFrom own site key) place worker ≡ None
 copies_turn world own site key none place worker = by worker.phase refl
   where
-    busy : (phase : Phase) → worker.phase ≡ phase → ((vnode : SiteVnode) (seen : History) (brought : Brought) → turn_of seen brought vnode (CopiesFrom own site key) phase ≡ None)
+    busy : (phase : Phase) → worker.phase ≡ phase → ((vnode : SiteVnode) (seen : Log) (brought : Brought) → turn_of seen brought vnode (CopiesFrom own site key) phase ≡ None)
         → NoTurn world (CopiesFrom own site key) worker
     busy phase e h = λ index vnode.
         ap (λ p. turn_of (seen_at worker.seen index) (brought_by world worker) vnode (CopiesFrom own site key) p) e ∙ h vnode (seen_at worker.seen index) (brought_by world worker)
@@ -58,7 +58,7 @@ copies_past world own site key none (suc place) = by (slice_get world.workers pl
 closes_turn : (world : World) (own site : ℕ) → slice_get world.vnodes site ≡ None → (place : ℕ) (worker : Worker) → Steps world (ClosesFrom own site) place worker ≡ None
 closes_turn world own site none place worker = by worker.phase refl
   where
-    busy : (phase : Phase) → worker.phase ≡ phase → ((vnode : SiteVnode) (seen : History) (brought : Brought) → turn_of seen brought vnode (ClosesFrom own site) phase ≡ None)
+    busy : (phase : Phase) → worker.phase ≡ phase → ((vnode : SiteVnode) (seen : Log) (brought : Brought) → turn_of seen brought vnode (ClosesFrom own site) phase ≡ None)
         → NoTurn world (ClosesFrom own site) worker
     busy phase e h = λ index vnode.
         ap (λ p. turn_of (seen_at worker.seen index) (brought_by world worker) vnode (ClosesFrom own site) p) e ∙ h vnode (seen_at worker.seen index) (brought_by world worker)

@@ -6,7 +6,6 @@ use Rattle.riak_msgs.specs.Contents.{Content}
 use Rattle.dvv_set.specs.Clocks.{DotState}
 use Rattle.vnode_machine.specs.Copying.{is_stuck}
 use Rattle.vnode_machine.specs.Machine.{State, is_held}
-use Rattle.vnode_machine.specs.Replay.{History}
 use Rattle.copy_laws.specs.Joining.{Log}
 use Rattle.node_steps.specs.World.{Word, Open, Taken, CopyStage, CopyAsked, CopyInside, CopyLooked, CopyTaken, CopyDone, Phase, Idle, Copying, Brought, nothing_brought}
 use Rattle.node_steps.specs.Steps.{Action, CopiesFrom, Enters, Leaves, Takes, Puts, Looks, Publishes, WorkerTurn, finds_by, finds_open, syncs_by, turn_of}
@@ -16,7 +15,7 @@ use Rattle.node_steps.proofs.Inside.{vnode_in}
 abbrev pub erase_turn : WorkerTurn → WorkerTurn
 erase_turn turn = record { phase = turn.phase; seen = []; vnode = erase_vnode turn.vnode; outcome = turn.outcome }
 
-module _ (id home epoch : ℕ) (seen : History) (brought : Brought) (log : Log) (place : State Content) where
+module _ (id home epoch : ℕ) (seen : Log) (brought : Brought) (log : Log) (place : State Content) where
   -- the turn in the erased world is the erased turn
   abbrev pub IsErased : Word → Action → Phase → Type 0
   IsErased word action phase =

@@ -6,16 +6,16 @@ use Rattle.riak_msgs.specs.Contents.{Content}
 use Rattle.dvv_set.specs.Clocks.{DotState}
 use Rattle.vnode_machine.specs.Copying.{is_stuck, apply_copy}
 use Rattle.vnode_machine.specs.Machine.{State, clock_of, is_held}
-use Rattle.vnode_machine.specs.Replay.{History, IsWithinLimits}
+use Rattle.vnode_machine.specs.Replay.{IsWithinLimits}
 use Rattle.vnode_machine.proofs.Tests.{none-from}
-use Rattle.copy_laws.specs.Copies.{Copy, Copied, commands_of}
+use Rattle.copy_laws.specs.Copies.{Copy, Copied}
 use Rattle.copy_laws.specs.Joining.{Log}
 use Rattle.node_steps.specs.World.{Word, Open, Taken, CopyStage, CopyAsked, CopyInside, CopyLooked, CopyTaken, CopyDone, Phase, Idle, Copying, Brought}
 use Rattle.node_steps.specs.Steps.{Action, CopiesFrom, Enters, Leaves, Takes, Puts, Looks, Publishes, Outcome, Happened, NotHeld, StuckThere, Elsewhere, WorkerTurn, left, sees, finds_by, finds_open, syncs_by, copies_by}
 use Rattle.node_steps.specs.Schedules.{Begins}
 use Rattle.node_steps.proofs.Coming.{BetweenIs, Comes}
 use Rattle.node_steps.proofs.Lists.{one, no_more, cancel}
-use Rattle.node_steps.proofs.Beginnings.{begins-itself}
+use Rattle.node_steps.proofs.Beginnings.{begins-itself, begins-longer}
 use Rattle.node_steps.proofs.Inside.{is_reader, is_holder, FitsWord, state_of, IsInPlace, IsInHand, HasSeen, same_test, other_test, StaysAt, copied-mixed, vnode_in}
 use Rattle.node_steps.proofs.Turns.{same_number, one_of, Goes, IsTurn, one_same, fits_same, place_read, turns, moved, laid, leave_fits, left_place, held_place}
 use Rattle.node_steps.proofs.Numbers.{apart}
@@ -34,7 +34,7 @@ module _ (id epoch home index readers holders : ℕ) where
     about = λ other h. inl h;
   }
 
-  module _ (limits : IsWithinLimits id epoch) (log : Log) (seen : History) (brought : Brought) (place : State Content) (has : Begins seen (commands_of log))
+  module _ (limits : IsWithinLimits id epoch) (log : Log) (seen : Log) (brought : Brought) (place : State Content) (has : Begins seen log)
       (own site : ℕ) (key : Key) where
     abbrev copying : CopyStage → Phase
     copying stage = Copying own site key stage
@@ -80,7 +80,7 @@ module _ (id epoch home index readers holders : ℕ) where
     -- a look: nothing but the copier changes
     looked : (was next : CopyStage) (word : Word) (came : Outcome) → FitsWord word readers holders → IsInPlace id epoch word log place
         → is_reader index (copying was) ≡ is_reader index (copying next) → is_holder index (copying was) ≡ is_holder index (copying next)
-        → IsInHand id epoch index log (copying next) → HasSeen index (copying next) (commands_of log) (commands_of log)
+        → IsInHand id epoch index log (copying next) → HasSeen index (copying next) log log
         → ((other : ℕ) → index ≢ other → stay other was next)
         → Comes id epoch index (copying was) brought log (sees seen brought (vnode_in id home epoch log place word) (copying next) came) came
         → Is Looks (copying was) (sees seen brought (vnode_in id home epoch log place word) (copying next) came)
@@ -91,13 +91,13 @@ module _ (id epoch home index readers holders : ℕ) where
       same_closed = refl;
       between = stays_between Looks (state_of id epoch log).closed own site key was next;
       same = inl refl;
-      grows = begins-itself (commands_of log);
+      grows = begins-itself log;
       word = λ r h x y.
           fits_same id epoch home index readers holders word f r h (cancel r readers (is_reader index (copying was)) (x ∙ ap (λ c. readers + one c) (sym a)))
           (cancel h holders (is_holder index (copying was)) (y ∙ ap (λ c. holders + one c) (sym b)));
       place = p;
       hand = in_hand;
-      seen = begins-itself (commands_of log);
+      seen = begins-itself log;
       whole = whole;
       goes = goes_on Looks own site key was next keeps;
       call = inl refl;
@@ -203,12 +203,12 @@ module _ (id epoch home index readers holders : ℕ) where
           same_closed = refl;
           between = stays_between Publishes (state_of id epoch log).closed own site key (CopyTaken clock hand (Some next)) (CopyDone (Some next));
           same = inr (same_test own index e);
-          grows = begins-itself (commands_of log);
+          grows = begins-longer (Copied copy) log log (begins-itself log);
           word = λ r h x y. fits_same id epoch home index readers holders word f r h (cancel r readers (site == index) x) (cancel h holders (own == index) y);
           place = held_place id epoch home index readers holders limits log seen brought place has word f
               (omega (arith, held, one_same id epoch home index readers holders own e)) (Copied copy ∷ log);
           hand = λ _. was.1.0 ∙ ap (λ s. apply_copy s key clock) was.0;
-          seen = begins-itself (commands_of log);
+          seen = begins-itself (Copied copy ∷ log);
           whole = tt;
           goes = goes_on Publishes own site key (CopyTaken clock hand (Some next)) (CopyDone (Some next)) (λ other n. record {
             reader = refl;

@@ -1,5 +1,5 @@
 -- A closer's look leaves each partition's course as it is; by its publish the fallback returns: all was brought back.
-use Rattle.std.proofs.Common.{◌≡◌, ◌≢◌, inl, inr, ℕ, ◌+◌, ◌<◌, true, ◌∷◌, length, refl, sym, ◌∙◌, ap, subst}
+use Rattle.std.proofs.Common.{◌≡◌, ◌≢◌, inl, inr, ℕ, ◌+◌, ◌<◌, true, [], ◌∷◌, ◌++◌, length, refl, sym, ◌∙◌, ap, subst}
 use Rattle.std.proofs.lemmas.Option.{none-some}
 use Rattle.std.specs.Prelude.{pred, Some, slice_get}
 use Rattle.riak_msgs.specs.declared.Key.{Key}
@@ -237,14 +237,14 @@ module _ (run index : ℕ) (w : World) (orderly : IsOrderly w) (number : ℕ) (a
       };
     }
 
-  closes-on : IsQuiet w next → (later : Course) × IsRun run index next later opened Shown
+  closes-on : IsQuiet w next → (happened : Course) × IsRun run index next (happened ++ course) opened Shown
   closes-on calm = elim (same_or_other c.own index) [
     | inl e ↦ elim run_is.side [
       | inl own ↦ absurd (not_home (some_back c.site index (sym (close_route w orderly number action r c) ∙ ap (λ k. slice_get w.routes k) e ∙ own.route_is)))
-      | inr away ↦ (Return ∷ course, returned e away calm)
+      | inr away ↦ (Return ∷ [], returned e away calm)
     ]
-    | inr n ↦ (course, elsewhere n calm)
+    | inr n ↦ ([], elsewhere n calm)
   ]
 
-  pub run-closed : (later : Course) × IsRun run index r.0 later opened Shown
-  run-closed = subst (λ (q : World × Outcome). IsQuiet w q.0 → (later : Course) × IsRun run index q.0 later opened Shown) c.gives closes-on (quiet-closed w orderly number action r c)
+  pub run-closed : (happened : Course) × IsRun run index r.0 (happened ++ course) opened Shown
+  run-closed = subst (λ (q : World × Outcome). IsQuiet w q.0 → (happened : Course) × IsRun run index q.0 (happened ++ course) opened Shown) c.gives closes-on (quiet-closed w orderly number action r c)

@@ -1,5 +1,5 @@
 -- Where a partition is diverted its course goes on with a diversion, behind the epochs of the last fallback; other courses stay.
-use Rattle.std.proofs.Common.{◌≡◌, ◌≢◌, inl, inr, ℕ, ◌+◌, ◌<◌, ◌≤◌, cond, [], ◌∷◌, length, refl, sym, ◌∙◌, ap, arith, subst}
+use Rattle.std.proofs.Common.{◌≡◌, ◌≢◌, inl, inr, ℕ, ◌+◌, ◌<◌, ◌≤◌, cond, [], ◌∷◌, ◌++◌, length, refl, sym, ◌∙◌, ap, arith, subst}
 use Rattle.std.specs.Prelude.{◌==◌, Some, slice_get}
 use Rattle.std.specs.Option.{option_map_or}
 use Rattle.riak_msgs.specs.declared.Key.{Key}
@@ -203,14 +203,20 @@ module _ (run index : ℕ) (w : World) (orderly : IsOrderly w) (other : ℕ) (af
       };
     }
 
-  diverts-on : (next : Course) × (more : ℕ → ℕ) × IsRun run index later next more Shown
+  diverts-on : (happened : Course) × (more : ℕ → ℕ) × ((n : ℕ) → n ≤ diversions_of course → more n ≡ opened n) × IsRun run index later (happened ++ course) more Shown
   diverts-on = elim (same_or_other other index) [
     | inl e ↦ elim run_is.side [
-      | inl own ↦ (Divert ∷ course, opened_more opened (diversions_of course + 1) d.epoch, own-diverted e own)
+      | inl own ↦ (
+        Divert ∷ [],
+        opened_more opened (diversions_of course + 1) d.epoch,
+        λ n most. opened_there opened (diversions_of course + 1) d.epoch n (below_more n (diversions_of course) most),
+        own-diverted e own,
+      )
       | inr away ↦ absurd (away.other (some_back index away.site (sym (d.own ∙ ap (λ s. Some s) e) ∙ ap (λ k. slice_get w.routes k) e ∙ away.route_is)))
     ]
-    | inr n ↦ (course, opened, elsewhere-diverted n)
+    | inr n ↦ ([], opened, (λ n most. refl), elsewhere-diverted n)
   ]
 
-  pub run-diverted : (next : Course) × (more : ℕ → ℕ) × IsRun run index after next more Shown
-  run-diverted = subst (λ (q : World). (next : Course) × (more : ℕ → ℕ) × IsRun run index q next more Shown) d.gives diverts-on
+  pub run-diverted : (happened : Course) × (more : ℕ → ℕ) × ((n : ℕ) → n ≤ diversions_of course → more n ≡ opened n) × IsRun run index after (happened ++ course) more Shown
+  run-diverted =
+      subst (λ (q : World). (happened : Course) × (more : ℕ → ℕ) × ((n : ℕ) → n ≤ diversions_of course → more n ≡ opened n) × IsRun run index q (happened ++ course) more Shown) d.gives diverts-on

@@ -1,7 +1,8 @@
 -- Each run of a partition is a course: before any step, and so after every schedule.
-use Rattle.std.proofs.Common.{◌≡◌, inl, inr, ℕ, zero, suc, ◌<◌, ◌≤◌, List, [], ◌∷◌, refl, sym, ◌∙◌, ap, arith, subst}
+use Rattle.std.proofs.Common.{◌≡◌, inl, inr, ℕ, zero, suc, ◌<◌, ◌≤◌, List, [], ◌∷◌, ◌++◌, refl, sym, ◌∙◌, ap, arith, subst}
 use Rattle.std.proofs.Math.Nat.{zero-add}
 use Rattle.std.proofs.lemmas.Option.{none-some}
+use Rattle.std.proofs.lemmas.List.{append_assoc}
 use Rattle.std.specs.Prelude.{Option, Some, None, Ok, option_map, slice_get}
 use Rattle.std.specs.Option.{option_map_or}
 use Rattle.riak_msgs.specs.declared.Key.{Key}
@@ -12,7 +13,7 @@ use Rattle.copy_laws.specs.Copies.{Command, all_commands, commands_of}
 use Rattle.copy_laws.specs.Joining.{Log}
 use Rattle.copy_laws.specs.Sides.{Partition}
 use Rattle.copy_laws.specs.Diversions.{Course, AtPrimary, Divert, AtFallback, CopyBack, Return, diversions_of, is_diverted, fallback_of, primary_of, Happens, WasShownInCourse}
-use Rattle.copy_laws.proofs.Courses.{diverted-some}
+use Rattle.copy_laws.proofs.Courses.{diverted-some, diversions-grow}
 use Rattle.node_steps.specs.World.{SiteVnode, Worker, World, CommandsAlone, fresh_vnode, fresh_worker, id_of, opening_world, route, log_at, call_of, history_of}
 use Rattle.node_steps.specs.Steps.{Action, Step, By, Diverts, routed, Outcome, NotPossible, Happened, Replied, acts, diverted}
 use Rattle.node_steps.specs.Schedules.{Start, IsStart, world_after}
@@ -87,14 +88,37 @@ run-shown run index w course opened Shown Later back run_is = record {
   };
 }
 
+-- a run goes on: its course does, and the fallbacks so far stay where they were opened
+pub record RunGoesOn (course later : Course) (opened more : ℕ → ℕ) : Type 0 where
+  pub happened : Course
+  pub is : happened ++ course ≡ later
+  pub same : (n : ℕ) → n ≤ diversions_of course → more n ≡ opened n
+
+goes-itself : (course : Course) (opened : ℕ → ℕ) → RunGoesOn course course opened opened
+goes-itself course opened = record { happened = []; is = refl; same = λ n most. refl }
+
+goes-trans : (a b c : Course) (opened more most : ℕ → ℕ) → RunGoesOn a b opened more → RunGoesOn b c more most → RunGoesOn a c opened most
+goes-trans a b c opened more most first second = record {
+  happened = second.happened ++ first.happened;
+  is = append_assoc second.happened first.happened a ∙ ap (λ (t : Course). second.happened ++ t) first.is ∙ second.is;
+  same = λ n below. second.same n (still n below) ∙ first.same n below;
+}
+  where
+    still : (n : ℕ) → n ≤ diversions_of a → n ≤ diversions_of b
+    still n below = let grow = subst (λ (t : Course). diversions_of a ≤ diversions_of t) first.is (diversions-grow first.happened a) in omega (arith, below, grow)
+
 module _ (start : Start) (is : IsStart start) (index : ℕ) (known : index < start.vnodes) where
   -- the run of a partition after a schedule
-  abbrev Run : List Step → World → Type 0
+  abbrev pub Run : List Step → World → Type 0
   Run schedule w = (course : Course) × (opened : ℕ → ℕ) × IsRun start.run index w course opened (WasShownThere start index schedule)
 
-  runs : (schedule : List Step) → GivesShownThere start index schedule → Run schedule (world_after start schedule)
-  runs [] gives = ([], (λ n. 0), run-opening start index known)
-  runs (By number action ∷ earlier) gives = by (acts w number to) refl (runs earlier gives.0)
+  -- and after one step more
+  abbrev Next : List Step → (course : Course) (opened : ℕ → ℕ) → World → Type 0
+  Next schedule course opened w = (next : Run schedule w) × RunGoesOn course next.0 opened next.1
+
+  runs-on : (step : Step) (earlier : List Step) → GivesShownThere start index (step ∷ earlier) → (before : Run earlier (world_after start earlier))
+      → Next (step ∷ earlier) before.0 before.1 (world_after start (step ∷ earlier))
+  runs-on (By number action) earlier gives run = by (acts w number to) refl run
     where
       w : World
       w = world_after start earlier
@@ -113,15 +137,19 @@ module _ (start : Start) (is : IsStart start) (index : ℕ) (known : index < sta
         | inr was ↦ was
       ]
 
-      by : (o : Option (World × Outcome)) → acts w number to ≡ o → Run earlier w → Run (By number action ∷ earlier) (option_map_or (λ (r : World × Outcome). r.0) o w)
+      by : (o : Option (World × Outcome)) → acts w number to ≡ o → (before : Run earlier w)
+          → Next (By number action ∷ earlier) before.0 before.1 (option_map_or (λ (r : World × Outcome). r.0) o w)
       by None h before = (
-        before.0,
-        before.1,
-        run-shown start.run index w before.0 before.1 (WasShownThere start index earlier) (WasShownThere start index (By number action ∷ earlier))
-            (λ key context s. elim s [
-              | inl now ↦ absurd (not_replied (Ok now.2.response) (sym (ap (λ o. option_map_or (λ (r : World × Outcome). r.1) o NotPossible) h) ∙ now.2.replied))
-              | inr was ↦ was
-            ]) before.2,
+        (
+          before.0,
+          before.1,
+          run-shown start.run index w before.0 before.1 (WasShownThere start index earlier) (WasShownThere start index (By number action ∷ earlier))
+              (λ key context s. elim s [
+                | inl now ↦ absurd (not_replied (Ok now.2.response) (sym (ap (λ o. option_map_or (λ (r : World × Outcome). r.1) o NotPossible) h) ∙ now.2.replied))
+                | inr was ↦ was
+              ]) before.2,
+        ),
+        goes-itself before.0 before.1,
       )
       by (Some r) h before = elim (acts_cases w number to r h) [
         | inl does ↦
@@ -130,46 +158,55 @@ module _ (start : Start) (is : IsStart start) (index : ℕ) (known : index < sta
             let apart = stays_apart start is earlier in
             let sends = sent-by w action in
             let n = course-next start.run index w ordered apart number to r p sends before.0 before.1 (WasShownThere start index earlier) before.2 in (
-              n.0,
-              before.1,
-              subst (λ (q : World × Outcome). IsRun start.run index q.0 n.0 before.1 (WasShownThere start index (By number action ∷ earlier))) p.gives
-                  (run-next start.run index w ordered apart number to r p sends before.0 before.1 (WasShownThere start index earlier) before.2 (sends-well w action)
-                  (λ site there key context g. gives.1 (λ none. none-some r (sym none ∙ h)) site there key context
-                  (ap (λ o. option_map_or (λ (x : Worker). given_in (call_by to x.phase) site key) o None) p.worker_is ∙ g)) n.0 n.1
-                  (WasShownThere start index (By number action ∷ earlier))
-                  (λ key context s. elim s [
-                    | inl now ↦ inl (record {
-                      site = now.0;
-                      there = now.1;
-                      call = now.2.call;
-                      asked = now.2.asked;
-                      at = now.2.at;
-                      of_key = now.2.of_key;
-                      response = now.2.response;
-                      replied = ap (λ (q : World × Outcome). q.1) p.gives ∙ sym (came r h) ∙ now.2.replied;
-                      decodes = now.2.decodes;
-                    })
-                    | inr was ↦ inr was
-                  ])),
+              (
+                n.0 ++ before.0,
+                before.1,
+                subst (λ (q : World × Outcome). IsRun start.run index q.0 (n.0 ++ before.0) before.1 (WasShownThere start index (By number action ∷ earlier))) p.gives
+                    (run-next start.run index w ordered apart number to r p sends before.0 before.1 (WasShownThere start index earlier) before.2 (sends-well w action)
+                    (λ site there key context g. gives.1 (λ none. none-some r (sym none ∙ h)) site there key context
+                    (ap (λ o. option_map_or (λ (x : Worker). given_in (call_by to x.phase) site key) o None) p.worker_is ∙ g)) (n.0 ++ before.0) n.1
+                    (WasShownThere start index (By number action ∷ earlier))
+                    (λ key context s. elim s [
+                      | inl now ↦ inl (record {
+                        site = now.0;
+                        there = now.1;
+                        call = now.2.call;
+                        asked = now.2.asked;
+                        at = now.2.at;
+                        of_key = now.2.of_key;
+                        response = now.2.response;
+                        replied = ap (λ (q : World × Outcome). q.1) p.gives ∙ sym (came r h) ∙ now.2.replied;
+                        decodes = now.2.decodes;
+                      })
+                      | inr was ↦ inr was
+                    ])),
+              ),
+              record { happened = n.0; is = refl; same = λ m most. refl },
             )
         | inr two ↦ elim two [
           | inl j ↦ (
-            before.0,
-            before.1,
-            run-shown start.run index r.0 before.0 before.1 (WasShownThere start index earlier) (WasShownThere start index (By number action ∷ earlier))
-                (before-shown r h (λ response e. silent_judged w number (orderly start is earlier) to r j (Ok response) e))
-                (run-judged start.run index w number to r j before.0 before.1 (WasShownThere start index earlier) before.2),
+            (
+              before.0,
+              before.1,
+              run-shown start.run index r.0 before.0 before.1 (WasShownThere start index earlier) (WasShownThere start index (By number action ∷ earlier))
+                  (before-shown r h (λ response e. silent_judged w number (orderly start is earlier) to r j (Ok response) e))
+                  (run-judged start.run index w number to r j before.0 before.1 (WasShownThere start index earlier) before.2),
+            ),
+            goes-itself before.0 before.1,
           )
           | inr c ↦
               let n = run-closed start.run index w (orderly start is earlier) number to r c (judged_after start is earlier) before.0 before.1 (WasShownThere start index earlier) before.2 in (
-                n.0,
-                before.1,
-                run-shown start.run index r.0 n.0 before.1 (WasShownThere start index earlier) (WasShownThere start index (By number action ∷ earlier))
-                    (before-shown r h (λ response e. silent_closed w number (orderly start is earlier) to r c (Ok response) e)) n.1,
+                (
+                  n.0 ++ before.0,
+                  before.1,
+                  run-shown start.run index r.0 (n.0 ++ before.0) before.1 (WasShownThere start index earlier) (WasShownThere start index (By number action ∷ earlier))
+                      (before-shown r h (λ response e. silent_closed w number (orderly start is earlier) to r c (Ok response) e)) n.1,
+                ),
+                record { happened = n.0; is = refl; same = λ m most. refl },
               )
         ]
       ]
-  runs (Diverts other ∷ earlier) gives = by (diverted w other) refl (runs earlier gives.0)
+  runs-on (Diverts other) earlier gives run = by (diverted w other) refl run
     where
       w : World
       w = world_after start earlier
@@ -185,12 +222,32 @@ module _ (start : Start) (is : IsStart start) (index : ℕ) (known : index < sta
       as_shown x course opened run =
           run-shown start.run index x course opened (WasShownThere start index earlier) (WasShownThere start index (Diverts other ∷ earlier)) before-shown run
 
-      by : (o : Option World) → diverted w other ≡ o → Run earlier w
-          → Run (Diverts other ∷ earlier) (option_map_or (λ (r : World × Outcome). r.0) (option_map (λ (next : World). (next, Happened)) o) w)
-      by None h before = (before.0, before.1, as_shown w before.0 before.1 before.2)
+      by : (o : Option World) → diverted w other ≡ o → (before : Run earlier w)
+          → Next (Diverts other ∷ earlier) before.0 before.1 (option_map_or (λ (r : World × Outcome). r.0) (option_map (λ (next : World). (next, Happened)) o) w)
+      by None h before = ((before.0, before.1, as_shown w before.0 before.1 before.2), goes-itself before.0 before.1)
       by (Some next) h before =
           let n = run-diverted start.run index w (orderly start is earlier) other next (diversion w other next h) before.0 before.1 (WasShownThere start index earlier) before.2 in
-          (n.0, n.1, as_shown next n.0 n.1 n.2)
+          ((n.0 ++ before.0, n.1, as_shown next (n.0 ++ before.0) n.1 n.3), record { happened = n.0; is = refl; same = n.2 })
+
+  pub runs : (schedule : List Step) → GivesShownThere start index schedule → Run schedule (world_after start schedule)
+  runs [] gives = ([], (λ n. 0), run-opening start index known)
+  runs (step ∷ earlier) gives = (runs-on step earlier gives (runs earlier gives.0)).0
+
+  -- what is given until a moment
+  pub gives-before : (later earlier : List Step) → GivesShownThere start index (later ++ earlier) → GivesShownThere start index earlier
+  gives-before [] earlier gives = gives
+  gives-before (step ∷ later) earlier gives = gives-before later earlier gives.0
+
+  -- from a moment to a later one the run goes on
+  pub runs-later : (later earlier : List Step) (gives : GivesShownThere start index (later ++ earlier))
+      → RunGoesOn (runs earlier (gives-before later earlier gives)).0 (runs (later ++ earlier) gives).0 (runs earlier (gives-before later earlier gives)).1 (runs (later ++ earlier) gives).1
+  unfolding gives-before runs
+  runs-later [] earlier gives = goes-itself (runs earlier gives).0 (runs earlier gives).1
+  runs-later (step ∷ later) earlier gives =
+      let was = runs earlier (gives-before later earlier gives.0) in
+      let mid = runs (later ++ earlier) gives.0 in
+      let now = runs-on step (later ++ earlier) gives mid in
+      goes-trans was.0 mid.0 now.0.0 was.1 mid.1 now.0.1 (runs-later later earlier gives.0) now.1
 
 -- until it is diverted nothing comes to a primary but commands
 undiverted-alone : (partition : Partition) (course : Course) → Happens partition course → diversions_of course ≡ 0 → CommandsAlone (primary_of partition course)
@@ -260,6 +317,8 @@ module _ (run index : ℕ) (w : World) (orderly : IsOrderly w) (course : Course)
         primary_id = refl;
         fallback_id = refl;
         first_epoch = refl;
+        id = ap (λ o. option_map_or (λ (x : SiteVnode). x.id) o 0) law.vnode.there ∙ law.vnode.id_is;
+        epoch = ap (λ o. option_map_or (λ (x : SiteVnode). x.last_epoch) o 0) law.vnode.there ∙ law.vnode.epoch_is;
         diversions = refl;
         limits = limit;
         primary = sym log;
@@ -284,7 +343,7 @@ module _ (run index : ℕ) (w : World) (orderly : IsOrderly w) (course : Course)
       }
 
 -- and what is asked at its own site may be asked
-calls_may_be_asked : (run index : ℕ) (w : World) → IsOrderly w → IsApart w → (course : Course) (opened : ℕ → ℕ) (Shown : Key → Context → Type 0) → IsRun run index w course opened Shown
+pub calls_may_be_asked : (run index : ℕ) (w : World) → IsOrderly w → IsApart w → (course : Course) (opened : ℕ → ℕ) (Shown : Key → Context → Type 0) → IsRun run index w course opened Shown
     → CallsMayBeAsked (some_partition run index opened (diversions_of course)) w index course
 calls_may_be_asked run index w orderly apart course opened Shown run_is number call asked at event key_is context_is =
     let x = call_worker w number call asked in

@@ -1,5 +1,5 @@
 -- A worker's step at one site goes on with a partition's course, by one happening at most.
-use Rattle.std.proofs.Common.{◌≡◌, ◌≢◌, ◌⊎◌, inl, inr, ℕ, ◌+◌, ◌<◌, ◌≤◌, true, false, not, ◌&&◌, cond, ◌∷◌, length, refl, sym, ◌∙◌, ap, subst}
+use Rattle.std.proofs.Common.{◌≡◌, ◌≢◌, ◌⊎◌, inl, inr, ℕ, ◌+◌, ◌<◌, ◌≤◌, true, false, not, ◌&&◌, cond, [], ◌∷◌, ◌++◌, length, refl, sym, ◌∙◌, ap, subst}
 use Rattle.std.proofs.lemmas.Option.{none-some}
 use Rattle.std.specs.Prelude.{◌==◌, pred, Some, None, slice_get}
 use Rattle.std.specs.Option.{option_map_or}
@@ -292,40 +292,40 @@ module _ (run index : ℕ) (w : World) (orderly : IsOrderly w) (apart : IsApart 
   }
 
   -- by an event
-  grown-next : (g : Grows w orderly number action r p) → (later : Course) × IsNext later
+  grown-next : (g : Grows w orderly number action r p) → (happened : Course) × IsNext (happened ++ course)
   grown-next g = elim (same_or_other p.index index) [
     | inl at ↦ elim run_is.side [
-      | inl own ↦ (AtPrimary g.event ∷ course, primary-next g at own)
+      | inl own ↦ (AtPrimary g.event ∷ [], primary-next g at own)
       | inr away ↦ absurd (away.other (sym (g.at ∙ at)
           ∙ apart.away index away.site away.route_is (λ e. away.other (sym e)) (pred number) p.worker (here w orderly number action r p) g.call g.asked p.vnode (ap (λ k. slice_get w.vnodes k) g.at ∙ p.vnode_is) (own-home at)))
     ]
     | inr n ↦ elim run_is.side [
-      | inl own ↦ (course, remains (λ e. absurd (n e)) (λ away e. absurd (away.other (some_back index away.site (sym own.route_is ∙ away.route_is)))))
+      | inl own ↦ ([], remains (λ e. absurd (n e)) (λ away e. absurd (away.other (some_back index away.site (sym own.route_is ∙ away.route_is)))))
       | inr away ↦ elim (same_or_other p.index away.site) [
-        | inl at ↦ (AtFallback g.event ∷ course, fallback-next g away at n)
-        | inr m ↦ (course, remains (λ e. absurd (n e)) (λ other e. absurd (m (e ∙ some_back other.site away.site (sym other.route_is ∙ away.route_is)))))
+        | inl at ↦ (AtFallback g.event ∷ [], fallback-next g away at n)
+        | inr m ↦ ([], remains (λ e. absurd (n e)) (λ other e. absurd (m (e ∙ some_back other.site away.site (sym other.route_is ∙ away.route_is)))))
       ]
     ]
   ]
 
   -- by a copy
-  copied-next : (c : Copies w orderly number action r p) → (later : Course) × IsNext later
+  copied-next : (c : Copies w orderly number action r p) → (happened : Course) × IsNext (happened ++ course)
   copied-next c = elim (same_or_other p.index index) [
     | inl at ↦ elim run_is.side [
       | inl own ↦ absurd ((copied_fallback w orderly number action r p c).apart
           (c.at ∙ at ∙ some_back index c.site (sym own.route_is ∙ ap (λ k. slice_get w.routes k) (sym (c.at ∙ at)) ∙ copied_route w orderly number action r p c)))
-      | inr away ↦ (CopyBack c.key ∷ course, copy-next c away at)
+      | inr away ↦ (CopyBack c.key ∷ [], copy-next c away at)
     ]
     | inr n ↦ (
-      course,
+      [],
       remains (λ e. absurd (n e)) (λ away e.
           absurd (n (sym (orderly.homes p.index p.vnode (copied-home w orderly number action r p c) p.vnode_is).0 ∙ own-away away e))),
     )
   ]
 
-  pub course-next : (later : Course) × IsNext later
+  pub course-next : (happened : Course) × IsNext (happened ++ course)
   course-next = elim (grown w orderly number action r p) [
-    | inl same ↦ (course, remains (λ e. same) (λ away e. same))
+    | inl same ↦ ([], remains (λ e. same) (λ away e. same))
     | inr more ↦ elim more [
       | inl g ↦ grown-next g
       | inr c ↦ copied-next c

@@ -2,8 +2,8 @@
 use Rattle.std.proofs.Common.{◌≡◌, ℕ, ◌≤◌, true, false, subst}
 use Rattle.std.specs.Prelude.{Some, None}
 use Rattle.sibling_register.specs.Answers.{AskGet}
-use Rattle.vnode_machine.specs.Replay.{History}
-use Rattle.node_steps.specs.World.{CopyAsked, CopyInside, CopyLooked, CopyTaken, CopyDone, CloseAsked, CloseTaken, CloseDone, Phase, Idle, Asked, Reading, Holding, Done, Turned, Copying, Closing, Brought, SiteVnode, history_of}
+use Rattle.copy_laws.specs.Joining.{Log}
+use Rattle.node_steps.specs.World.{CopyAsked, CopyInside, CopyLooked, CopyTaken, CopyDone, CloseAsked, CloseTaken, CloseDone, Phase, Idle, Asked, Reading, Holding, Done, Turned, Copying, Closing, Brought, SiteVnode}
 use Rattle.node_steps.specs.Steps.{Action, Asks, CopiesFrom, ClosesFrom, Enters, Leaves, Marks, Unmarks, Takes, Puts, Looks, Publishes, WorkerTurn, turn_of, site_of}
 use Rattle.node_steps.specs.Schedules.{Begins}
 use Rattle.node_steps.proofs.Lists.{one}
@@ -24,7 +24,7 @@ module _ (id epoch home index readers holders : ℕ) where
   about_is action (Copying own site key stage) h = cc
   about_is action (Closing own site stage) h = cc
 
-  pub turn_is : (seen : History) (brought : Brought) (vnode : SiteVnode) (same_id : vnode.id ≡ id) (same_own : vnode.own ≡ home) (same_epoch : vnode.last_epoch ≡ epoch) → IsSoundAs id epoch readers holders vnode → Begins seen (history_of vnode)
+  pub turn_is : (seen : Log) (brought : Brought) (vnode : SiteVnode) (same_id : vnode.id ≡ id) (same_own : vnode.own ≡ home) (same_epoch : vnode.last_epoch ≡ epoch) → IsSoundAs id epoch readers holders vnode → Begins seen vnode.log
       → (action : Action) (phase : Phase) → one (is_reader index phase) ≤ readers → one (is_holder index phase) ≤ holders
       → IsInHand id epoch index vnode.log phase → site_of action phase ≡ Some index → (t : WorkerTurn) → turn_of seen brought vnode action phase ≡ Some t
       → IsTurn id epoch home index readers holders action phase brought vnode.log t

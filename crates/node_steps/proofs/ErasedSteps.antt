@@ -7,10 +7,10 @@ use Rattle.std.proofs.lemmas.List.{length-map, map-append}
 use Rattle.std.specs.List.{list_all}
 use Rattle.riak_msgs.specs.Contents.{Content}
 use Rattle.vnode_machine.specs.Machine.{State}
-use Rattle.vnode_machine.specs.Replay.{History}
 use Rattle.copy_laws.specs.Copies.{Closed}
 use Rattle.vnode_machine.specs.Copying.{apply_close}
-use Rattle.node_steps.specs.World.{Word, Open, Taken, CloseInside, CloseLooked, CloseDone, Phase, Closing, SiteVnode, Worker, World, fresh_vnode, worker_at, route, history_of}
+use Rattle.copy_laws.specs.Joining.{Log}
+use Rattle.node_steps.specs.World.{Word, Open, Taken, CloseInside, CloseLooked, CloseDone, Phase, Closing, SiteVnode, Worker, World, fresh_vnode, worker_at, route}
 use Rattle.node_steps.specs.Steps.{Action, Looks, Publishes, Step, By, Diverts, Outcome, NotPossible, Happened, routed, site_of, seeing, does, left_in, judged, judged_by, closed_by, closes, acts, is_about, is_for, fallback_ids, diverted_by, diverted, happens, after, outcome}
 use Rattle.node_steps.proofs.Kept.{IsOrderly}
 use Rattle.node_steps.proofs.Diverting.{in_place_still, same_number}
@@ -18,7 +18,7 @@ use Rattle.node_steps.specs.Erased.{IsShown, erase_place, erase_vnode, erase_wor
 use Rattle.node_steps.proofs.Erasing.{map-set, vnode_twice, vnodes_twice, workers_twice, world_twice, Result, erase_result, worker_erased, shown_at, does_erased}
 
 -- one that is set
-worker_set : (w : World) (place : ℕ) (phase : Phase) (seen other : List History)
+worker_set : (w : World) (place : ℕ) (phase : Phase) (seen other : List Log)
     → map erase_worker (slice_set w.workers place (record { phase = phase; seen = seen })) ≡ map erase_worker (slice_set (map erase_worker w.workers) place (record { phase = phase; seen = other }))
 worker_set w place phase seen other =
     map-set erase_worker w.workers place (record { phase = phase; seen = seen })
@@ -40,7 +40,7 @@ module _ (w : World) (orderly : IsOrderly w) (number : ℕ) where
       ≡ erase (judged_by (erase w) (pred number) own site (erase_worker worker) (erase_vnode primary) (erase_vnode fallback) phase)
   same_judged own site worker primary fallback phase =
       let vnodes = sym (vnodes_twice w.vnodes) in
-      let workers = worker_set w (pred number) phase (seeing (seeing worker.seen site (history_of fallback)) own (history_of primary)) (seeing (seeing [] site []) own []) in
+      let workers = worker_set w (pred number) phase (seeing (seeing worker.seen site fallback.log) own primary.log) (seeing (seeing [] site []) own []) in
       λ i. record { vnodes = vnodes i; routes = w.routes; epochs = w.epochs; diversions = []; workers = workers i }
 
   open_place : (word : Word) (place : State Content) (own site : ℕ) (hand : State Content) → IsShown word (Closing own site (CloseInside hand)) → erase_place word place ≡ place
@@ -67,7 +67,7 @@ module _ (w : World) (orderly : IsOrderly w) (number : ℕ) where
       → erase (closed_by w (pred number) own site worker fallback hand count) ≡ erase (closed_by (erase w) (pred number) own site (erase_worker worker) (erase_vnode fallback) hand count)
   same_closed own site worker fallback hand count =
       let vnodes = vnode_set w site (record fallback { log = Closed count ∷ fallback.log }) (record (erase_vnode fallback) { log = Closed count ∷ [] }) (sym (vnode_twice fallback)) in
-      let workers = worker_set w (pred number) (Closing own site (CloseDone (apply_close hand count) true)) worker.seen [] in
+      let workers = worker_set w (pred number) (Closing own site (CloseDone (apply_close hand count) true)) (seeing worker.seen site (Closed count ∷ fallback.log)) (seeing [] site (Closed count ∷ [])) in
       λ i. record { vnodes = vnodes i; routes = slice_set w.routes own own; epochs = slice_set w.epochs own hand.last_epoch; diversions = []; workers = workers i }
 
   by_closed : (own site : ℕ) (hand : State Content) (count : ℕ) (worker : Worker) (o : Option SiteVnode)

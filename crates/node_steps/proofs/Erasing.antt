@@ -6,7 +6,6 @@ use Rattle.riak_msgs.specs.Contents.{Content}
 use Rattle.sibling_register.specs.Answers.{RegisterAsk, AskGet, AskPut, AskDel, AskReap, GetCommand}
 use Rattle.actor_epoch.specs.Given.{Context}
 use Rattle.vnode_machine.specs.Machine.{State}
-use Rattle.vnode_machine.specs.Replay.{History}
 use Rattle.copy_laws.specs.Joining.{Log}
 use Rattle.vnode_machine.specs.Step.{MachineOutcome, Refused, Answered, Accepted, outcome as outcome_of_ask}
 pub use Rattle.std.proofs.lemmas.List.{map-set}
@@ -28,7 +27,7 @@ place_twice Taken place = refl
 pub vnode_twice : (vnode : SiteVnode) → erase_vnode (erase_vnode vnode) ≡ erase_vnode vnode
 vnode_twice vnode = ap (λ p. record { id = 0; own = vnode.own; last_epoch = 0; word = vnode.word; log = []; place = p }) (place_twice vnode.word vnode.place)
 
-module _ (id home epoch : ℕ) (seen : History) (brought : Brought) (log : Log) (place : State Content) where
+module _ (id home epoch : ℕ) (seen : Log) (brought : Brought) (log : Log) (place : State Content) where
   abbrev Same : Word → Action → Phase → Type 0
   Same word action phase = IsErased id home epoch seen brought log place word action phase
 

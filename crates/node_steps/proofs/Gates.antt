@@ -7,7 +7,7 @@ use Rattle.riak_msgs.specs.Contents.{Content}
 use Rattle.sibling_register.specs.Answers.{RegisterAsk}
 use Rattle.actor_epoch.specs.Given.{Context}
 use Rattle.vnode_machine.specs.Machine.{State, opening, apply_operation}
-use Rattle.vnode_machine.specs.Replay.{History, AcceptsEvent, IsAfter}
+use Rattle.vnode_machine.specs.Replay.{AcceptsEvent, IsAfter}
 use Rattle.vnode_machine.specs.Registers.{key_of, context_in_ask}
 use Rattle.rw_gate.specs.Machines.{MachineRun}
 use Rattle.vnode_core.specs.declared.event.VnodeEvent.{VnodeEvent}
@@ -38,7 +38,7 @@ step_of_first action = By 1 action
 -- a turn of the first worker
 moved : (w : World) (asked action : Action) (index : ℕ) (phase : Phase) (vnode : SiteVnode) (next : Phase) (new : SiteVnode) → routed (route w) asked ≡ action → site_of action phase ≡ Some index
     → ((worker : Worker) → worker.phase ≡ phase → closes w 1 worker action worker.phase ≡ None)
-    → ((seen : History) (brought : Brought) → (turn : WorkerTurn) × (turn_of seen brought vnode action phase ≡ Some turn) × (turn.phase ≡ next) × (turn.vnode ≡ new))
+    → ((seen : Log) (brought : Brought) → (turn : WorkerTurn) × (turn_of seen brought vnode action phase ≡ Some turn) × (turn.phase ≡ next) × (turn.vnode ≡ new))
     → IsThere w index phase vnode → IsThere (after w (step_of_first asked)) index next new
 moved w asked action index phase vnode next new sent site one turns (worker, here, is, there, own) =
     let t = turns (seen_at worker.seen index) (brought_by w worker) in

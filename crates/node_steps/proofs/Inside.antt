@@ -152,11 +152,11 @@ IsInHand id epoch index log (Closing own other (CloseInside hand)) = other ≡ i
 IsInHand id epoch index log (Closing own other (CloseLooked hand number)) = other ≡ index → (hand ≡ state_of id epoch log) × (hand.closed ≡ None)
 IsInHand id epoch index log (Closing own other (CloseDone hand inside)) = other ≡ index → hand ≡ state_of id epoch log
 
--- a copier that has a clock has seen the history of the vnode that it is of
-abbrev pub HasSeen : (index : ℕ) → Phase → (front history : History) → Type 0
-HasSeen index (Copying own other key (CopyLooked clock)) front history = other ≡ index → front ≡ history
-HasSeen index (Copying own other key (CopyTaken clock hand plan)) front history = other ≡ index → front ≡ history
-HasSeen index phase front history = Unit {0}
+-- a copier that has a clock has seen the log of the vnode that it is of
+abbrev pub HasSeen : (index : ℕ) → Phase → (front log : Log) → Type 0
+HasSeen index (Copying own other key (CopyLooked clock)) front log = other ≡ index → front ≡ log
+HasSeen index (Copying own other key (CopyTaken clock hand plan)) front log = other ≡ index → front ≡ log
+HasSeen index phase front log = Unit {0}
 
 -- the phase's next step is at this vnode
 abbrev pub IsAbout : ℕ → Phase → Type 0
@@ -214,8 +214,8 @@ no_hand id epoch index log (Closing own other (CloseInside hand)) r h = λ e. ab
 no_hand id epoch index log (Closing own other (CloseLooked hand number)) r h = λ e. absurd (false_true (other == index) h (same_test other index e))
 no_hand id epoch index log (Closing own other (CloseDone hand inside)) r h = λ e. absurd (false_true (other == index) h (same_test other index e))
 
--- nor need have seen its history
-pub no_whole : (index : ℕ) (phase : Phase) (front history : History) → is_reader index phase ≡ false → HasSeen index phase front history
+-- nor need have seen its log
+pub no_whole : (index : ℕ) (phase : Phase) (front history : Log) → is_reader index phase ≡ false → HasSeen index phase front history
 no_whole index Idle front history r = tt
 no_whole index (Asked other ask) front history r = tt
 no_whole index (Reading other get) front history r = tt
@@ -235,7 +235,7 @@ pub record StaysAt (site : ℕ) (before after : Phase) : Type 0 where
   pub reader : is_reader site after ≡ is_reader site before
   pub holder : is_holder site after ≡ is_holder site before
   pub hand : (id epoch : ℕ) (log : Log) → IsInHand id epoch site log before → IsInHand id epoch site log after
-  pub whole : (front history : History) → HasSeen site before front history → HasSeen site after front history
+  pub whole : (front history : Log) → HasSeen site before front history → HasSeen site after front history
 
 -- a phase that was about one site, and is about no other, has elsewhere what it had
 pub stays : (index other : ℕ) (before after : Phase) → IsOfOne before → IsOfOne after → IsAbout index before → IsAbout index after → index ≢ other → StaysAt other before after
@@ -318,8 +318,8 @@ plain-fresh id epoch = record { commands = refl; replays = tt }
 -- what is true of a worker and a vnode
 pub record IsAware (id epoch index : ℕ) (log : Log) (worker : Worker) : Type 0 where
   pub hand : IsInHand id epoch index log worker.phase
-  pub seen : Begins (seen_at worker.seen index) (commands_of log)
-  pub whole : HasSeen index worker.phase (seen_at worker.seen index) (commands_of log)
+  pub seen : Begins (seen_at worker.seen index) log
+  pub whole : HasSeen index worker.phase (seen_at worker.seen index) log
 
 -- before a command a log of commands alone was one
 pub alone-before : (event : Event Content Context) (log : Log) → CommandsAlone (Command event ∷ log) → CommandsAlone log

@@ -1,13 +1,14 @@
 -- What the laws of copies say of a run's course, at its logs.
 use Rattle.std.proofs.Common.{◌≡◌, ℕ, ◌+◌, ◌*◌, ◌^◌, ◌<◌, ◌≤◌, [], sym, ◌∙◌, arith, subst}
 use Rattle.riak_msgs.specs.declared.Key.{Key}
+use Rattle.sibling_register.specs.History.{count_of}
 use Rattle.actor_epoch.specs.Limits.{max_epoch}
 use Rattle.copy_laws.specs.Sides.{Partition}
 use Rattle.copy_laws.specs.CopyReplay.{NamesPositions}
-use Rattle.copy_laws.specs.Diversions.{Course, fallback_of, primary_of}
+use Rattle.copy_laws.specs.Copies.{count_brought}
+use Rattle.copy_laws.specs.Diversions.{Course, diversions_of, fallback_of, primary_of}
 use Rattle.copy_laws.specs.Joining.{Log, IsHandOff, ShowsSiblings, AreJointSiblings}
 use Rattle.copy_laws.specs.JointAnswers.{AreWithinLimits}
-use Rattle.copy_laws.proofs.Apart.{dots_stand_apart}
 use Rattle.copy_laws.proofs.CourseLaw.{courses_are_hand_offs, courses_show, returns_join}
 use Rattle.copy_laws.proofs.LegalCourses.{courses_name_positions}
 use Rattle.copy_laws.proofs.JointAnswers.{courses_answer_gets, courses_reap_dead}
@@ -17,9 +18,18 @@ use Rattle.node_steps.specs.World.{World, id_of, log_at}
 use Rattle.node_steps.specs.Steps.{fallback_ids}
 use Rattle.node_steps.specs.Schedules.{Start, IsStart, world_after}
 use Rattle.node_steps.specs.Courses.{IsCourseOf, CallsMayBeAsked}
+use Rattle.node_steps.specs.Claims.{FallbacksTakeCommands}
+use Rattle.node_steps.specs.Told.{IsLegalOver}
 use Rattle.node_steps.specs.HandOffs.{AnswersAsRegister, HandsOff, PartitionsHandOff}
 use Rattle.node_steps.proofs.CourseLaw.{runs_are_courses}
 use Rattle.node_steps.proofs.Coursing.{above}
+use Rattle.node_steps.proofs.Kept.{IsOrderly}
+use Rattle.node_steps.proofs.Scheduled.{orderly}
+use Rattle.node_steps.proofs.FallbackLogs.{fallbacks_take_commands}
+use Rattle.node_steps.proofs.CourseJoins.{earlier-brought, joins, joins-copied}
+use Rattle.node_steps.proofs.OneDot.{one-dot}
+use Rattle.node_steps.proofs.Telling.{replies-tell}
+use Rattle.node_steps.proofs.Lawful.{legal-over}
 
 low : (run index vnodes : ℕ) → run < 2 ^ 32 → vnodes < 2 ^ 16 → index < vnodes → run * 65536 + index + fallback_ids < 2 ^ 64
 low run index vnodes r v i = omega (arith, r, v, i)
@@ -33,7 +43,7 @@ same_low n m k e h = omega (arith, e, h)
 zero_epoch : (n : ℕ) → n ≡ 0 → n ≤ max_epoch
 zero_epoch n e = omega (arith, e)
 
-module _ (start : Start) (is : IsStart start) (index : ℕ) (known : index < start.vnodes) (partition : Partition) (course : Course) (w : World)
+module _ (start : Start) (is : IsStart start) (index : ℕ) (known : index < start.vnodes) (partition : Partition) (course : Course) (w : World) (orderly : IsOrderly w) (fallbacks : FallbacksTakeCommands w)
     (of : IsCourseOf partition start.run w index course) (asked : CallsMayBeAsked partition w index course) where
   within : AreWithinLimits partition
   within =
@@ -58,26 +68,32 @@ module _ (start : Start) (is : IsStart start) (index : ℕ) (known : index < sta
     reaps = courses_reap_dead partition course ids of.may_happen;
   }
 
-  hands_off : HandsOff partition start.run w index
+  pub hands_off : HandsOff partition start.run w index course
   hands_off =
       let by_key = courses_are_hand_offs partition course ids of.may_happen in
       let any : Key = record { bucket_type = []; bucket = []; key = [] } in
       record {
-        course = course;
         is = of;
         hand_off = λ key. subst (λ l. IsHandOff partition l (fallback_of course) key) of.primary (by_key key).0;
         rise = (by_key any).1;
+        legal = subst (IsLegalOver partition) of.primary (legal-over partition ids course of.may_happen);
         names = subst (NamesPositions partition) of.primary (courses_name_positions partition course ids of.may_happen);
         shows = λ key. subst (λ l. ShowsSiblings partition l (fallback_of course) key l) of.primary (courses_show partition course ids of.may_happen key);
         answers = subst (λ l. AnswersAsRegister partition course l) of.primary answers;
         asked = asked;
-        apart = λ key. dots_stand_apart partition (log_at w index) (fallback_of course) key (by_key key).1;
+        replies = replies-tell partition course ids of.may_happen answers start.run w index orderly fallbacks of asked;
+        dots = λ key other a b dot. one-dot partition (log_at w index) (fallback_of course) (by_key any).1 key other dot a b;
         leaves = λ key later between position e. courses_leave_only_seen partition course ids of.may_happen key later between position (e ∙ sym of.primary);
         leaves_there = fallbacks_leave_only_seen partition course;
+        earlier = λ n less key. subst (λ (l : Log). count_brought l key n ≡ count_of (fallback_of course n) key) of.primary (earlier-brought partition course ids of.may_happen key n less);
+        joins = λ key all. subst (λ l. AreJointSiblings partition l (fallback_of course) key) of.primary (joins partition course ids of.may_happen key
+            (subst (λ (l : Log). count_brought l key (diversions_of course) ≡ count_of (fallback_of course (diversions_of course)) key) (sym of.primary) all));
+        copied = λ key later before copy e itself side whole. subst (λ l. AreJointSiblings partition l (fallback_of course) key) of.primary
+            (joins-copied partition course ids of.may_happen key later before copy (e ∙ sym of.primary) itself side whole);
         returns = λ back key. subst (λ l. AreJointSiblings partition l (fallback_of course) key) of.primary (returns_join partition course ids of.may_happen back key);
       }
 
 pub partitions_hand_off : PartitionsHandOff
 partitions_hand_off start is schedule index known gives =
     let run = runs_are_courses start is schedule index known gives in
-    (run.0, hands_off start is index known run.0 run.1 (world_after start schedule) run.2 run.3)
+    (run.0, run.1, hands_off start is index known run.0 run.1 (world_after start schedule) (orderly start is schedule) (fallbacks_take_commands start is schedule) run.2 run.3)

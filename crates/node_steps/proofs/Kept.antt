@@ -7,9 +7,9 @@ use Rattle.riak_msgs.specs.Contents.{Content}
 use Rattle.sibling_register.specs.Answers.{RegisterAsk}
 use Rattle.actor_epoch.specs.Given.{Context}
 use Rattle.actor_epoch.specs.Limits.{max_epoch}
-use Rattle.vnode_machine.specs.Replay.{History}
 use Rattle.vnode_machine.specs.Sound.{IsSound as IsSoundState}
 use Rattle.vnode_machine.proofs.Tests.{unmapped}
+use Rattle.copy_laws.specs.Joining.{Log}
 use Rattle.node_steps.specs.World.{Word, Open, Taken, SiteVnode, Worker, World, CommandsAlone, worker_at, seen_at, brought_by}
 use Rattle.node_steps.specs.Steps.{Action, Asks, AsksNowhere, is_reap, sent, routed, Outcome, WorkerTurn, turn_of, site_of, is_about, seeing, turned, fallback_ids, does}
 use Rattle.node_steps.proofs.Lists.{how_many, counted_one, counted_two}
@@ -94,13 +94,13 @@ pub routed_own : (route : ℕ → Option ℕ) (index : ℕ) (ask : RegisterAsk C
 routed_own route index ask h = ap (λ o. option_map_or (λ site. sent index site ask) o AsksNowhere) h ∙ sent_own index ask
 
 -- what a worker has seen where it looked, and elsewhere
-pub seeing-here : (seen : List History) (site : ℕ) (front : History) → seen_at (seeing seen site front) site ≡ front
+pub seeing-here : (seen : List Log) (site : ℕ) (front : Log) → seen_at (seeing seen site front) site ≡ front
 seeing-here [] zero front = refl
 seeing-here [] (suc site) front = seeing-here [] site front
 seeing-here (other ∷ seen) zero front = refl
 seeing-here (other ∷ seen) (suc site) front = seeing-here seen site front
 
-pub seeing-there : (seen : List History) (site other : ℕ) (front : History) → site ≢ other → seen_at (seeing seen site front) other ≡ seen_at seen other
+pub seeing-there : (seen : List Log) (site other : ℕ) (front : Log) → site ≢ other → seen_at (seeing seen site front) other ≡ seen_at seen other
 seeing-there [] zero zero front n = absurd (n refl)
 seeing-there [] zero (suc other) front n = refl
 seeing-there [] (suc site) zero front n = refl

@@ -10,9 +10,8 @@ use Rattle.vnode_machine.specs.Machine.{Stored, State, stored}
 use Rattle.vnode_machine.specs.Sound.{IsStoredClock, IsFormed, IsSound as IsSoundState}
 use Rattle.vnode_machine.proofs.Formed.{sound-step}
 use Rattle.vnode_machine.proofs.Copying.{sound-copy}
-use Rattle.copy_laws.specs.Copies.{commands_of}
 use Rattle.copy_laws.specs.Joining.{Log}
-use Rattle.node_steps.specs.World.{SiteVnode, Worker, World, CommandsAlone, seen_at, brought_by, history_of}
+use Rattle.node_steps.specs.World.{SiteVnode, Worker, World, CommandsAlone, seen_at, brought_by}
 use Rattle.node_steps.specs.Steps.{Action, sent, Outcome, NotPossible, Happened, Replied, NotHeld, StuckThere, CopiedBack, Elsewhere, LeftThere, WorkerTurn, is_about, seeing, turned, fallback_ids, does}
 use Rattle.node_steps.specs.Schedules.{Begins}
 use Rattle.node_steps.proofs.Lists.{one, how_many, set-here, set-there, same_or_other, how_many-set, counted_one, get-below, length-set}
@@ -87,17 +86,17 @@ module _ (w : World) (orderly : IsOrderly w) (action : Action) (sends : SendsWel
     next_here : IsAware vnode.id vnode.last_epoch index turn.vnode.log next
     next_here = record {
       hand = is.hand;
-      seen = subst (λ f. Begins f (history_of turn.vnode)) (sym (seeing-here worker.seen index turn.seen)) is.seen;
-      whole = subst (λ f. HasSeen index turn.phase f (history_of turn.vnode)) (sym (seeing-here worker.seen index turn.seen)) is.whole;
+      seen = subst (λ f. Begins f turn.vnode.log) (sym (seeing-here worker.seen index turn.seen)) is.seen;
+      whole = subst (λ f. HasSeen index turn.phase f turn.vnode.log) (sym (seeing-here worker.seen index turn.seen)) is.whole;
     }
 
     next_there : (other : ℕ) (v : SiteVnode) → index ≢ other → slice_get w.vnodes other ≡ Some v → IsAware v.id v.last_epoch other v.log next
     next_there other v n h =
         record {
           hand = (keeps other n).hand v.id v.last_epoch v.log (orderly.workers place worker here other v h).hand;
-          seen = subst (λ f. Begins f (history_of v)) (sym (seeing-there worker.seen index other turn.seen n)) (orderly.workers place worker here other v h).seen;
-          whole = subst (λ f. HasSeen other turn.phase f (history_of v)) (sym (seeing-there worker.seen index other turn.seen n))
-              ((keeps other n).whole (seen_at worker.seen other) (history_of v) (orderly.workers place worker here other v h).whole);
+          seen = subst (λ f. Begins f v.log) (sym (seeing-there worker.seen index other turn.seen n)) (orderly.workers place worker here other v h).seen;
+          whole = subst (λ f. HasSeen other turn.phase f v.log) (sym (seeing-there worker.seen index other turn.seen n))
+              ((keeps other n).whole (seen_at worker.seen other) v.log (orderly.workers place worker here other v h).whole);
         }
 
     -- another worker at the vnode
@@ -109,10 +108,10 @@ module _ (w : World) (orderly : IsOrderly w) (action : Action) (sends : SendsWel
             | inl e ↦ subst (λ log. IsInHand vnode.id vnode.last_epoch index log x.phase) (sym e) was.hand
             | inr mine ↦ let out = outside w orderly place index worker vnode here there at x n h mine in no_hand vnode.id vnode.last_epoch index turn.vnode.log x.phase out.0 out.1
           ];
-          seen = begins-trans (seen_at x.seen index) (history_of vnode) (history_of turn.vnode) was.seen is.grows;
+          seen = begins-trans (seen_at x.seen index) vnode.log turn.vnode.log was.seen is.grows;
           whole = elim is.same [
-            | inl e ↦ subst (λ (log : Log). HasSeen index x.phase (seen_at x.seen index) (commands_of log)) (sym e) was.whole
-            | inr mine ↦ no_whole index x.phase (seen_at x.seen index) (history_of turn.vnode) (outside w orderly place index worker vnode here there at x n h mine).0
+            | inl e ↦ subst (λ (log : Log). HasSeen index x.phase (seen_at x.seen index) log) (sym e) was.whole
+            | inr mine ↦ no_whole index x.phase (seen_at x.seen index) turn.vnode.log (outside w orderly place index worker vnode here there at x n h mine).0
           ];
         }
 

@@ -39,13 +39,22 @@ pub mod Quiet
 pub mod Coursing
 pub mod CourseSteps
 pub mod CourseLaw
+pub mod FallbackLogs
+pub mod CourseJoins
+pub mod OneKey
+pub mod OneDot
+pub mod Telling
+pub mod Lawful
 pub mod Joined
+pub mod MoreSides
+pub mod Moments
 pub mod Uncopied
 pub mod Firsts
 pub mod Replaying
 pub mod Rows
 pub mod CopyRows
-mod CloseRows
+pub mod CloseRows
+pub mod ToldRows
 mod Fitting
 mod Following
 mod Looking

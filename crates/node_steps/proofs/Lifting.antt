@@ -6,18 +6,19 @@ use Rattle.std.proofs.lemmas.Option.{some_pair_parts, same_Some as same_call}
 use Rattle.riak_msgs.specs.Contents.{Content}
 use Rattle.vnode_machine.specs.Machine.{State, opening, clock_of, stored}
 use Rattle.vnode_machine.specs.Replay.{replay, HasReplay}
-use Rattle.vnode_machine.specs.Step.{Response}
-use Rattle.vnode_machine.specs.Runs.{IsAnswer}
+use Rattle.vnode_machine.specs.Step.{Response, outcome as outcome_of_ask}
+use Rattle.vnode_machine.specs.Runs.{IsAnswer, reply_of}
 use Rattle.vnode_machine.proofs.Legals.{replay_is_legal}
 use Rattle.vnode_machine.proofs.DifferentDots.{no_dot_twice}
 use Rattle.vnode_machine.proofs.LiveDots.{dots_are_of_lives}
 use Rattle.vnode_machine.proofs.Steps.{known, alive, held_by}
-use Rattle.copy_laws.specs.Copies.{Command, Copied, Closed}
+use Rattle.copy_laws.specs.Copies.{Command, Copied, Closed, commands_of}
 use Rattle.copy_laws.specs.CopyReplay.{state_with}
 use Rattle.copy_laws.specs.Joining.{Log}
 use Rattle.node_steps.specs.World.{CopyAsked, CopyInside, CopyLooked, CopyTaken, CopyDone, CloseAsked, CloseTaken, CloseInside, CloseLooked, CloseDone, Phase, Idle, Asked, Reading, Holding, Done, Turned, Copying, Closing, SiteVnode, Worker, World, CommandsAlone, Call, fresh_vnode, worker_at, id_at, last_epoch_at, log_at, history_at, front_at, call_of, call_at, seen_at, copied_from, brought_by, history_of}
 use Rattle.node_steps.specs.Steps.{Action, Diverts, Outcome, NotPossible, Happened, Replied, NotHeld, StuckThere, CopiedBack, Elsewhere, LeftThere, WorkerTurn, seeing, turned, fallback_ids, diverted, after}
 use Rattle.node_steps.specs.Schedules.{Begins}
+use Rattle.node_steps.specs.Told.{log_by}
 use Rattle.node_steps.specs.Claims.{CommandsFirst, HistoriesAreLegal, IsReplayOf, LooksShowReplays, state_at, state_shown, hand_shown, CopiesIn, NoDotIsIssuedTwice, LivesAreOfDefinedKeys}
 use Rattle.node_steps.proofs.Lists.{how_many, set-here, set-there, same_or_other, counted_one}
 use Rattle.node_steps.proofs.Inside.{is_reader, reads, holds, state_of, replayed, IsInHand, IsClockAt, HasSeen, same_test, IsPlain, IsAware, alone-before, copied-mixed, closed-mixed}
@@ -208,10 +209,10 @@ module _ (w : World) (orderly : IsOrderly w) (number : ℕ) (action : Action) (r
       ap (λ o. option_map_or (λ worker. seen_at worker.seen p.index) o []) (worker_next w number p.index p.worker p.turn p.worker_is)
       ∙ seeing-here p.worker.seen p.index p.turn.seen
 
-  seen_before : Begins (front_at w number p.index) (history_at w p.index)
+  seen_before : Begins (front_at w number p.index) (log_at w p.index)
   seen_before =
-      subst (λ s. Begins s (history_at w p.index)) (sym (ap (λ o. option_map_or (λ worker. seen_at worker.seen p.index) o []) p.worker_is))
-      (subst (λ h. Begins (seen_at p.worker.seen p.index) h) (sym before_is) aware.seen)
+      subst (λ s. Begins s (log_at w p.index)) (sym (ap (λ o. option_map_or (λ worker. seen_at worker.seen p.index) o []) p.worker_is))
+      (subst (λ l. Begins (seen_at p.worker.seen p.index) l) (sym log_before) aware.seen)
 
   -- a reply answers the call
   pub reply_is : (reply : Result Response ℕ) → p.turn.outcome ≡ Replied reply → (call : Call) × (call_at w number ≡ Some call) × IsReplyTo p.vnode.id p.vnode.last_epoch p.index p.vnode.log p.turn reply call
@@ -262,8 +263,8 @@ module _ (w : World) (orderly : IsOrderly w) (number : ℕ) (action : Action) (r
   from_there c vnode there =
       let has = orderly.workers (pred number) p.worker here c.site vnode there in
       let hand = subst (λ phase. IsInHand vnode.id vnode.last_epoch c.site vnode.log phase) c.phase_is has.hand in
-      let seen = subst (λ phase. HasSeen c.site phase (seen_at p.worker.seen c.site) (history_of vnode)) c.phase_is has.whole in
-      (hand.0 refl, ap (λ phase. seen_at p.worker.seen (copied_from phase)) c.phase_is ∙ seen refl)
+      let seen = subst (λ phase. HasSeen c.site phase (seen_at p.worker.seen c.site) vnode.log) c.phase_is has.whole in
+      (hand.0 refl, ap (λ (l : Log). commands_of l) (ap (λ phase. seen_at p.worker.seen (copied_from phase)) c.phase_is ∙ seen refl))
 
   -- it is one of the copier's partition, to which its calls go
   pub copied_fallback : (c : CopyIs p.vnode.id p.vnode.last_epoch p.index p.worker.phase (brought_by w p.worker) p.vnode.log p.turn.vnode.log) → IsFallback w c.own c.site
@@ -313,11 +314,26 @@ module _ (w : World) (orderly : IsOrderly w) (number : ℕ) (action : Action) (r
       ap (λ k. (state_at w k).closed) is.at
       ∙ (λ i. (state_with (opening (id_before i) (epoch_before i)) (log_before i)).closed) ∙ is.opened
 
+  -- the machine's reply, and the log after it
+  machine_at : (reply : Result Response ℕ) (call : Call) → IsReplyTo p.vnode.id p.vnode.last_epoch p.index p.vnode.log p.turn reply call
+      → (reply ≡ reply_of (outcome_of_ask (state_at w call.site) call.ask))
+      × (log_at next call.site ≡ log_by (id_at w call.site) (last_epoch_at w call.site) (log_at w call.site) call.ask (outcome_of_ask (state_at w call.site) call.ask))
+  machine_at reply call is =
+      let id : id_at w call.site ≡ p.vnode.id = ap (id_at w) is.at ∙ id_before in
+      let epoch : last_epoch_at w call.site ≡ p.vnode.last_epoch = ap (last_epoch_at w) is.at ∙ epoch_before in
+      let log : log_at w call.site ≡ p.vnode.log = ap (log_at w) is.at ∙ log_before in
+      let state : state_at w call.site ≡ state_of p.vnode.id p.vnode.last_epoch p.vnode.log = λ i. state_with (opening (id i) (epoch i)) (log i) in (
+        is.machine.0 ∙ ap (λ s. reply_of (outcome_of_ask s call.ask)) (sym state),
+        ap (log_at next) is.at ∙ log_after ∙ is.machine.1 ∙ sym (λ i. log_by (id i) (epoch i) (log i) call.ask (outcome_of_ask (state i) call.ask)),
+      )
+
   pub step_answers : (reply : Result Response ℕ) → p.turn.outcome ≡ Replied reply
       → (call : Call) × (call_at w number ≡ Some call) × ((state_at w call.site).closed ≡ None)
+      × ((reply ≡ reply_of (outcome_of_ask (state_at w call.site) call.ask))
+      × (log_at next call.site ≡ log_by (id_at w call.site) (last_epoch_at w call.site) (log_at w call.site) call.ask (outcome_of_ask (state_at w call.site) call.ask)))
       × (CommandsAlone (log_at w call.site)
       → IsAnswer (id_at w call.site) (last_epoch_at w call.site) (history_at w call.site) (record { ask = call.ask; reply = reply }) (history_at next call.site))
-  step_answers reply o = let c = reply_is reply o in (c.0, c.1, opened_at reply c.0 c.2, answer_at reply c.0 c.2)
+  step_answers reply o = let c = reply_is reply o in (c.0, c.1, opened_at reply c.0 c.2, machine_at reply c.0 c.2, answer_at reply c.0 c.2)
 
   pub step_nothing_else : (index : ℕ) → (log_at next index ≡ log_at w index) ⊎ (RepliesBy index ⊎ CopiesBy index)
   step_nothing_else index = elim (same_or_other p.index index) [
@@ -326,13 +342,13 @@ module _ (w : World) (orderly : IsOrderly w) (number : ℕ) (action : Action) (r
   ]
 
   pub step_seen : (index : ℕ) (call : Call) → call_at w number ≡ Some call → call.site ≡ index → (reply : Result Response ℕ) → p.turn.outcome ≡ Replied reply
-      → Begins (front_at w number index) (history_at w index) × (front_at next number index ≡ history_at next index)
+      → Begins (front_at w number index) (log_at w index) × (front_at next number index ≡ log_at next index)
   step_seen index call asked at reply o =
       let c = reply_is reply o in
       let same : c.0 ≡ call = same_call c.0 call (sym c.1 ∙ asked) in
       let e : p.index ≡ index = sym c.2.at ∙ ap (λ (x : Call). x.site) same ∙ at in
-      subst (λ k. Begins (front_at w number k) (history_at w k) × (front_at next number k ≡ history_at next k)) e
-      (seen_before, seen_next ∙ c.2.seen ∙ sym after_is)
+      subst (λ k. Begins (front_at w number k) (log_at w k) × (front_at next number k ≡ log_at next k)) e
+      (seen_before, seen_next ∙ c.2.seen ∙ sym log_after)
 
 pub not_replied : (reply : Result Response ℕ) → NotPossible ≡ Replied reply → ⊥
 not_replied reply h = cc

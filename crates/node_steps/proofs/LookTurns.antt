@@ -7,11 +7,11 @@ use Rattle.sibling_register.specs.History.{Event}
 use Rattle.sibling_register.specs.Answers.{RegisterAsk, AskGet, GetCommand, Refused as ToldRefused, Answers, Accepts as ToldAccepts}
 use Rattle.actor_epoch.specs.Given.{Context}
 use Rattle.vnode_machine.specs.Machine.{State, apply_operation}
-use Rattle.vnode_machine.specs.Replay.{History, HasReplay, AcceptsEvent, IsWithinLimits}
+use Rattle.vnode_machine.specs.Replay.{HasReplay, AcceptsEvent, IsWithinLimits}
 use Rattle.vnode_machine.specs.Replies.{get_reply}
 use Rattle.vnode_machine.specs.Step.{Response, GetDone, MachineOutcome, Refused, Answered, Accepted, outcome as outcome_of_ask}
 use Rattle.vnode_machine.specs.Registers.{key_of, context_in_ask, next_event, IsRegisters, IsNext}
-use Rattle.vnode_machine.specs.Runs.{IsAnswer}
+use Rattle.vnode_machine.specs.Runs.{IsAnswer, reply_of}
 use Rattle.vnode_machine.proofs.StepLaw.{registers-after}
 use Rattle.vnode_machine.proofs.Tests.{none-from}
 use Rattle.vnode_machine.proofs.Updates.{closed-kept}
@@ -21,6 +21,7 @@ use Rattle.node_steps.specs.World.{Word, Phase, Idle, Asked, Reading, Holding, D
 use Rattle.node_steps.specs.Steps.{Looks, Publishes, Elsewhere, WorkerTurn, event_at, answers, sees, reads_by, holds_by, looks_by, publishes_by}
 use Rattle.node_steps.specs.Schedules.{Begins}
 use Rattle.node_steps.specs.Contexts.{context_bytes}
+use Rattle.node_steps.specs.Told.{log_by}
 use Rattle.node_steps.proofs.Accepting.{accepted_is, was_accepted}
 use Rattle.node_steps.proofs.Coming.{BetweenIs, AboutIs, IsReplyTo}
 use Rattle.node_steps.proofs.Lists.{one, no_more, cancel}
@@ -31,7 +32,7 @@ use Rattle.node_steps.proofs.Inside.{is_reader, is_holder, FitsWord, state_of, r
 use Rattle.node_steps.proofs.Turns.{same_number, one_of, some_none, Goes, IsTurn, not_between, one_goes, one_same, fits_same, place_read, turns, held_place}
 
 module _ (id epoch home index readers holders : ℕ) where
-  module _ (limits : IsWithinLimits id epoch) (log : Log) (seen : History) (brought : Brought) (place : State Content) (has : Begins seen (commands_of log)) where
+  module _ (limits : IsWithinLimits id epoch) (log : Log) (seen : Log) (brought : Brought) (place : State Content) (has : Begins seen log) where
     -- what comes of an ask in the replay is the register's
     registers : IsPlain id epoch log → (ask : RegisterAsk Content Context) (hand : State Content) (came : MachineOutcome) → hand ≡ state_of id epoch log → outcome_of_ask hand ask ≡ came → IsRegisters id epoch (commands_of log) ask came
     registers plain ask hand came is h =
@@ -41,9 +42,15 @@ module _ (id epoch home index readers holders : ℕ) where
     shows : (ask : RegisterAsk Content Context) (hand : State Content) (came : MachineOutcome) → outcome_of_ask hand ask ≡ came → ShowsHeld hand ask came
     shows ask hand came h = subst (λ c. ShowsHeld hand ask c) h (outcome_shows hand ask)
 
+    -- what comes of an ask in the state in hand comes of it in the one after the log
+    machines : (ask : RegisterAsk Content Context) (hand : State Content) (came : MachineOutcome) → hand ≡ state_of id epoch log → outcome_of_ask hand ask ≡ came
+        → (reply_of came ≡ reply_of (outcome_of_ask (state_of id epoch log) ask)) × (log_by id epoch log ask came ≡ log_by id epoch log ask (outcome_of_ask (state_of id epoch log) ask))
+    machines ask hand came is h =
+        let same : came ≡ outcome_of_ask (state_of id epoch log) ask = sym h ∙ ap (λ s. outcome_of_ask s ask) is in (ap reply_of same, ap (log_by id epoch log ask) same)
+
     -- a look that answers: nothing but the worker changes
     answered : (phase next : Phase) (word : Word) → FitsWord word readers holders → IsInPlace id epoch word log place → is_reader index phase ≡ is_reader index next
-        → is_holder index phase ≡ is_holder index next → IsInHand id epoch index log next → HasSeen index next (commands_of log) (commands_of log) → Goes id epoch home index readers holders Looks phase next
+        → is_holder index phase ≡ is_holder index next → IsInHand id epoch index log next → HasSeen index next log log → Goes id epoch home index readers holders Looks phase next
         → BetweenIs Looks index home (state_of id epoch log).closed phase next → call_of next ≡ None
         → (reply : Result Response ℕ) (call : Call) → call_of phase ≡ Some call
         → IsReplyTo id epoch index log (answers seen brought (vnode_in id home epoch log place word) next reply) reply call
@@ -55,13 +62,13 @@ module _ (id epoch home index readers holders : ℕ) where
       same_closed = refl;
       between = between;
       same = inl refl;
-      grows = begins-itself (commands_of log);
+      grows = begins-itself log;
       word = λ r h x y.
           fits_same id epoch home index readers holders word f r h (cancel r readers (is_reader index phase) (x ∙ ap (λ c. readers + one c) (sym a)))
           (cancel h holders (is_holder index phase) (y ∙ ap (λ c. holders + one c) (sym b)));
       place = p;
       hand = in_hand;
-      seen = begins-itself (commands_of log);
+      seen = begins-itself log;
       whole = whole;
       goes = goes;
       call = inr (inl none);
@@ -82,6 +89,7 @@ module _ (id epoch home index readers holders : ℕ) where
           answer = λ plain. record { given = Answers (ToldRefused number); may = registers plain ask hand (Refused number) is h; leads = refl; shown = refl };
           seen = refl;
           event = inl refl;
+          machine = machines ask hand (Refused number) is h;
           shown = tt;
           shows = λ plain. tt;
         })
@@ -96,6 +104,7 @@ module _ (id epoch home index readers holders : ℕ) where
               record { given = Answers gives.told; may = gives.given; leads = refl; shown = gives.shown };
           seen = refl;
           event = inl refl;
+          machine = machines ask hand (Answered response) is h;
           shown = subst (λ s. AreHeld s (key_of ask) (context_bytes response)) is (shows ask hand (Answered response) h);
           shows = λ plain. subst (λ s. AreHeld s (key_of ask) (context_bytes response)) (is ∙ replayed id epoch log plain.commands) (shows ask hand (Answered response) h);
         })
@@ -106,11 +115,11 @@ module _ (id epoch home index readers holders : ℕ) where
       same_closed = refl;
       between = not_between id epoch home index readers holders Looks (state_of id epoch log).closed (Holding other ask hand None) (Holding other ask hand (Some (record { operation = operation; response = response; next = next }))) tt;
       same = inl refl;
-      grows = begins-itself (commands_of log);
+      grows = begins-itself log;
       word = λ r h x y. fits_same id epoch home index readers holders word f r h (no_more r readers x) (cancel h holders (other == index) y);
       place = p;
       hand = λ _. (is, (h, clear));
-      seen = begins-itself (commands_of log);
+      seen = begins-itself log;
       whole = tt;
       goes = one_goes id epoch home index readers holders Looks (Holding other ask hand None) (Holding other ask hand (Some (record { operation = operation; response = response; next = next }))) tt tt e e;
       call = inl refl;
@@ -121,7 +130,7 @@ module _ (id epoch home index readers holders : ℕ) where
 
     -- a look at a closed fallback, by a worker that is inside as before
     turned : (phase next : Phase) (word : Word) → FitsWord word readers holders → IsInPlace id epoch word log place → is_reader index phase ≡ is_reader index next
-        → is_holder index phase ≡ is_holder index next → IsInHand id epoch index log next → HasSeen index next (commands_of log) (commands_of log)
+        → is_holder index phase ≡ is_holder index next → IsInHand id epoch index log next → HasSeen index next log log
         → ((other : ℕ) → index ≢ other → StaysAt other phase next) → AboutIs Looks index home phase next
         → BetweenIs Looks index home (state_of id epoch log).closed phase next → call_of next ≡ call_of phase
         → IsTurn id epoch home index readers holders Looks phase brought log (sees seen brought (vnode_in id home epoch log place word) next Elsewhere)
@@ -131,13 +140,13 @@ module _ (id epoch home index readers holders : ℕ) where
       same_epoch = refl;
       same_closed = refl;
       same = inl refl;
-      grows = begins-itself (commands_of log);
+      grows = begins-itself log;
       word = λ r h x y.
           fits_same id epoch home index readers holders word f r h (cancel r readers (is_reader index phase) (x ∙ ap (λ c. readers + one c) (sym a)))
           (cancel h holders (is_holder index phase) (y ∙ ap (λ c. holders + one c) (sym b)));
       place = p;
       hand = in_hand;
-      seen = begins-itself (commands_of log);
+      seen = begins-itself log;
       whole = whole;
       goes = record { keeps = keeps; about = about };
       between = between;
@@ -178,6 +187,7 @@ module _ (id epoch home index readers holders : ℕ) where
               record { given = Answers gives.told; may = gives.given; leads = refl; shown = gives.shown };
           seen = refl;
           event = inl refl;
+          machine = machines (AskGet get) place (Answered (GetDone (get_reply place get))) is refl;
           shown = subst (λ s. AreHeld s get.key (get_reply place get).context) is (outcome_shows place (AskGet get));
           shows = λ plain. subst (λ s. AreHeld s get.key (get_reply place get).context) (is ∙ replayed id epoch log plain.commands) (outcome_shows place (AskGet get));
         })
@@ -230,11 +240,11 @@ module _ (id epoch home index readers holders : ℕ) where
           same_closed = closed-kept (state_of id epoch log) (key_of ask) (context_in_ask ask) plan.operation;
           between = not_between id epoch home index readers holders Publishes (state_of id epoch log).closed (Holding other ask hand (Some plan)) (Done other (Some plan.next)) tt;
           same = inr (same_test other index at);
-          grows = begins-longer event (commands_of log) (commands_of log) (begins-itself (commands_of log));
+          grows = begins-longer (Command event) log log (begins-itself log);
           word = λ r h x y. fits_same id epoch home index readers holders word f r h (no_more r readers x) (cancel h holders (other == index) y);
           place = held_place id epoch home index readers holders limits log seen brought place has word f (omega (arith, held, one_same id epoch home index readers holders other at)) (Command event ∷ log);
           hand = λ _. next_is;
-          seen = begins-itself (event ∷ (commands_of log));
+          seen = begins-itself (Command event ∷ log);
           whole = tt;
           goes = one_goes id epoch home index readers holders Publishes (Holding other ask hand (Some plan)) (Done other (Some plan.next)) tt tt at at;
           call = inr (inl refl);
@@ -262,6 +272,7 @@ module _ (id epoch home index readers holders : ℕ) where
                 subst (λ s. AcceptsEvent s (key_of ask) (context_in_ask ask) plan.operation) (mine at).0 (was_accepted hand ask plan.operation plan.response plan.next (mine at).1.0),
                 refl,
               );
+              machine = machines ask hand came (mine at).0 (mine at).1.0;
               shown = subst (λ s. AreHeld s (key_of ask) (context_bytes plan.response)) next_is (shows ask hand came (mine at).1.0);
               shows = λ plain. subst (λ s. AreHeld s (key_of ask) (context_bytes plan.response)) (next plain).leads.is (shows ask hand came (mine at).1.0);
             },

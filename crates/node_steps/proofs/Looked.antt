@@ -6,8 +6,8 @@ use Rattle.riak_msgs.specs.Contents.{Content}
 use Rattle.sibling_register.specs.Answers.{RegisterAsk, AskGet, GetCommand}
 use Rattle.actor_epoch.specs.Given.{Context}
 use Rattle.vnode_machine.specs.Machine.{State}
-use Rattle.vnode_machine.specs.Replay.{History}
 use Rattle.vnode_machine.specs.Step.{MachineOutcome, Refused, Answered, Accepted, outcome as outcome_of_ask}
+use Rattle.copy_laws.specs.Joining.{Log}
 use Rattle.node_steps.specs.World.{Phase, Idle, Asked, Reading, Holding, Done, Turned, Copying, Closing, Brought, SiteVnode, Worker, World, Call, worker_at, call_of, call_at, id_at, last_epoch_at, log_at, seen_at, brought_by}
 use Rattle.node_steps.specs.Steps.{Looks, Step, By, Outcome, WorkerTurn, reads_by, holds_by, looks_by, turn_of, site_of, happens}
 use Rattle.node_steps.specs.Claims.{IsReplayOf, state_shown, comes_of, comes_unless, SeesReplay, LooksSeeReplays}
@@ -17,25 +17,25 @@ use Rattle.node_steps.proofs.Lifting.{looks_show_replays}
 use Rattle.std.proofs.lemmas.Option.{same_Some as some_same}
 
 -- a holder's look comes to what the machine does
-holder_comes : (seen : History) (brought : Brought) (vnode : SiteVnode) (index : ℕ) (ask : RegisterAsk Content Context) (hand : State Content) (o : MachineOutcome)
+holder_comes : (seen : Log) (brought : Brought) (vnode : SiteVnode) (index : ℕ) (ask : RegisterAsk Content Context) (hand : State Content) (o : MachineOutcome)
     → (looks_by seen brought vnode index ask hand o).outcome ≡ comes_of o
 holder_comes seen brought vnode index ask hand (Refused number) = refl
 holder_comes seen brought vnode index ask hand (Answered response) = refl
 holder_comes seen brought vnode index ask hand (Accepted operation response next) = refl
 
 -- a reader's look, and a holder's, where the state is closed or not
-read_comes : (seen : History) (brought : Brought) (vnode : SiteVnode) (index : ℕ) (get : GetCommand Context) (closed : Bool)
+read_comes : (seen : Log) (brought : Brought) (vnode : SiteVnode) (index : ℕ) (get : GetCommand Context) (closed : Bool)
     → (reads_by seen brought vnode index get closed).outcome ≡ comes_unless closed (outcome_of_ask vnode.place (AskGet get))
 read_comes seen brought vnode index get true = refl
 read_comes seen brought vnode index get false = refl
 
-hold_comes : (seen : History) (brought : Brought) (vnode : SiteVnode) (index : ℕ) (ask : RegisterAsk Content Context) (hand : State Content) (closed : Bool)
+hold_comes : (seen : Log) (brought : Brought) (vnode : SiteVnode) (index : ℕ) (ask : RegisterAsk Content Context) (hand : State Content) (closed : Bool)
     → (holds_by seen brought vnode index ask hand closed).outcome ≡ comes_unless closed (outcome_of_ask hand ask)
 hold_comes seen brought vnode index ask hand true = refl
 hold_comes seen brought vnode index ask hand false = holder_comes seen brought vnode index ask hand (outcome_of_ask hand ask)
 
 module _ (w : World) (orderly : IsOrderly w) (number : ℕ) (came : World × Outcome) (p : IsPossible w number Looks came) where
-  seen : History
+  seen : Log
   seen = seen_at p.worker.seen p.index
 
   sees : (call : Call) → call_of p.worker.phase ≡ Some call → call.site ≡ p.index → (state : State Content)

@@ -13,7 +13,7 @@ use Rattle.node_steps.specs.declared.phase.Phase.{Phase as RunPhase}
 use Rattle.node_steps.specs.declared.site.Site.{Site}
 use Rattle.node_steps.specs.declared.step.Act.{Act}
 use Rattle.node_steps.specs.declared.step.Act.TheVariants as acts
-use Rattle.node_steps.specs.World.{CloseInside, CloseLooked, CloseDone, Phase, Idle, Asked, Reading, Holding, Done, Turned, Copying, Closing, SiteVnode, Worker, World, history_of}
+use Rattle.node_steps.specs.World.{CloseInside, CloseLooked, CloseDone, Phase, Idle, Asked, Reading, Holding, Done, Turned, Copying, Closing, SiteVnode, Worker, World}
 use Rattle.node_steps.specs.Steps.{Enters, Looks, Publishes, By, Outcome, NotPossible, Happened, left_in, judged, judged_by, closed_by, closes, seeing, site_of, happens}
 use Rattle.node_steps.specs.Erased.{erase, erase_vnode, erase_worker}
 use Rattle.node_steps.specs.Asked.{action_of}
@@ -160,7 +160,7 @@ module _ (sites : List Site) (routes epochs : List ℕ) (workers : List RunPhase
       where
         erased : (primary fallback : SiteVnode) (p : Phase) → erase (judged_by w place own site me primary fallback p) ≡ with_phase p
         erased primary fallback p =
-            let seen = seeing (seeing me.seen site (history_of fallback)) own (history_of primary) in
+            let seen = seeing (seeing me.seen site fallback.log) own primary.log in
             let phases = map-set erase_worker w.workers place (record { phase = p; seen = seen }) in
             λ i. record { vnodes = map erase_vnode w.vnodes; routes = routes; epochs = epochs; diversions = []; workers = phases i }
 
@@ -225,5 +225,5 @@ module _ (sites : List Site) (routes epochs : List ℕ) (workers : List RunPhase
               ≡ both (map erase_vnode w.vnodes) (slice_set (map erase_worker w.workers) place (record { phase = closed; seen = [] }))
           erased =
               let vnodes = same_vnodes in
-              let phases = map-set erase_worker w.workers place (record me { phase = closed }) in
+              let phases = map-set erase_worker w.workers place (record { phase = closed; seen = seeing me.seen site (Closed count ∷ (vnode_of fallback).log) }) in
               λ i. both (vnodes i) (phases i)

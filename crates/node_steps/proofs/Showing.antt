@@ -20,7 +20,7 @@ use Rattle.node_steps.specs.Schedules.{Start, IsStart, world_after, Begins}
 use Rattle.node_steps.specs.Contexts.{context_bytes, call_by, given_in, WasShownInRun, GivesShownInRun}
 use Rattle.node_steps.specs.Claims.{CommandsFirst, ValuesLeaveOnlySeen}
 use Rattle.node_steps.proofs.Lists.{set-here, set-there, same_or_other, get-before, get-replicate}
-use Rattle.node_steps.proofs.Beginnings.{begins-itself}
+use Rattle.node_steps.proofs.Beginnings.{begins-itself, begins-commands}
 use Rattle.node_steps.proofs.Inside.{same_test}
 use Rattle.node_steps.proofs.Shown.{IsName, name-later, held_is_name, saw_position}
 use Rattle.node_steps.proofs.Coming.{CallIs, EventIs, Comes}
@@ -88,7 +88,7 @@ module _ (index : ℕ) (key : Key) where
     grows = elim (same_or_other p.index index) [
       | inl e ↦ subst (λ k. Begins (history_at w k) (history_at next k)) e
           (subst (λ h. Begins h (history_at next p.index)) (sym (before_is w orderly number action r p))
-          (subst (λ h. Begins (history_of p.vnode) h) (sym (after_is w orderly number action r p)) (turn w orderly number action r p).grows))
+          (subst (λ h. Begins (history_of p.vnode) h) (sym (after_is w orderly number action r p)) (begins-commands p.vnode.log p.turn.vnode.log (turn w orderly number action r p).grows)))
       | inr n ↦ subst (λ h. Begins (history_at w index) h) (sym (elsewhere_is w orderly number action r p index n)) (begins-itself (history_at w index))
     ]
 

@@ -5,10 +5,9 @@ use Rattle.riak_msgs.specs.Contents.{Content}
 use Rattle.sibling_register.specs.Answers.{RegisterAsk, AskGet, GetCommand}
 use Rattle.actor_epoch.specs.Given.{Context}
 use Rattle.vnode_machine.specs.Machine.{State}
-use Rattle.vnode_machine.specs.Replay.{History, IsWithinLimits}
-use Rattle.copy_laws.specs.Copies.{commands_of}
+use Rattle.vnode_machine.specs.Replay.{IsWithinLimits}
 use Rattle.copy_laws.specs.Joining.{Log}
-use Rattle.node_steps.specs.World.{Word, Open, Taken, Phase, Idle, Asked, Reading, Holding, Done, Turned, Copying, Closing, Brought, CommandsAlone, history_of}
+use Rattle.node_steps.specs.World.{Word, Open, Taken, Phase, Idle, Asked, Reading, Holding, Done, Turned, Copying, Closing, Brought, CommandsAlone}
 use Rattle.node_steps.specs.Steps.{Action, Asks, Enters, Leaves, Marks, Unmarks, Takes, Puts, WorkerTurn, left, moves, lays, turn_of}
 use Rattle.node_steps.specs.Schedules.{Begins}
 use Rattle.node_steps.proofs.Coming.{BetweenIs, AboutIs, CallIs, Comes}
@@ -34,13 +33,13 @@ module _ (id epoch home index readers holders : ℕ) where
     pub same_epoch : t.vnode.last_epoch ≡ epoch
     pub same_closed : (state_of id epoch t.vnode.log).closed ≡ (state_of id epoch log).closed
     pub same : (t.vnode.log ≡ log) ⊎ (is_holder index phase ≡ true)
-    pub grows : Begins (commands_of log) (history_of t.vnode)
+    pub grows : Begins log t.vnode.log
     pub word : (r h : ℕ) → r + one (is_reader index phase) ≡ readers + one (is_reader index t.phase)
         → h + one (is_holder index phase) ≡ holders + one (is_holder index t.phase) → FitsWord t.vnode.word r h
     pub place : IsInPlace id epoch t.vnode.word t.vnode.log t.vnode.place
     pub hand : IsInHand id epoch index t.vnode.log t.phase
-    pub seen : Begins t.seen (history_of t.vnode)
-    pub whole : HasSeen index t.phase t.seen (history_of t.vnode)
+    pub seen : Begins t.seen t.vnode.log
+    pub whole : HasSeen index t.phase t.seen t.vnode.log
     pub goes : Goes action phase t.phase
     pub between : BetweenIs action index home (state_of id epoch log).closed phase t.phase
     pub call : CallIs action phase t.phase
@@ -82,10 +81,7 @@ module _ (id epoch home index readers holders : ℕ) where
   place_read (Open n mark) log place f h p = p
   place_read Taken log place f h p = absurd (omega (arith, f.0, h))
 
-  module _ (limits : IsWithinLimits id epoch) (log : Log) (seen : History) (brought : Brought) (place : State Content) (has : Begins seen (commands_of log)) where
-    abbrev pub history : History
-    history = commands_of log
-
+  module _ (limits : IsWithinLimits id epoch) (log : Log) (seen : Log) (brought : Brought) (place : State Content) (has : Begins seen log) where
     abbrev pub turns : Word → Action → Phase → Option WorkerTurn
     turns word action phase = turn_of seen brought (vnode_in id home epoch log place word) action phase
 
@@ -96,7 +92,7 @@ module _ (id epoch home index readers holders : ℕ) where
 
     -- a turn that moves its worker, and the word
     pub moved : (action : Action) (phase next : Phase) (word : Word) → Fits phase next word → IsInPlace id epoch word log place → IsInHand id epoch index log next
-        → HasSeen index next seen history → Goes action phase next → BetweenIs action index home (state_of id epoch log).closed phase next → CallIs action phase next → (old : Word)
+        → HasSeen index next seen log → Goes action phase next → BetweenIs action index home (state_of id epoch log).closed phase next → CallIs action phase next → (old : Word)
         → IsTurn action phase brought log (moves seen brought (vnode_in id home epoch log place old) next word)
     moved action phase next word fits in_place in_hand whole goes between call old = record {
       same_id = refl;
@@ -105,7 +101,7 @@ module _ (id epoch home index readers holders : ℕ) where
       same_closed = refl;
       between = between;
       same = inl refl;
-      grows = begins-itself history;
+      grows = begins-itself log;
       word = fits;
       place = in_place;
       hand = in_hand;
@@ -198,7 +194,7 @@ module _ (id epoch home index readers holders : ℕ) where
     lay_fits Taken f phase next a b c d = λ r h p q. (omega (arith, p, ap one c, ap one d, f.0), omega (arith, q, a, ap one b, f.1))
 
     pub laid : (phase next : Phase) (word : Word) (hand : State Content) → Fits phase next (Open 0 false) → hand ≡ state_of id epoch log
-        → IsInHand id epoch index log next → HasSeen index next seen history → Goes Puts phase next → BetweenIs Puts index home (state_of id epoch log).closed phase next → CallIs Puts phase next
+        → IsInHand id epoch index log next → HasSeen index next seen log → Goes Puts phase next → BetweenIs Puts index home (state_of id epoch log).closed phase next → CallIs Puts phase next
         → IsTurn Puts phase brought log (lays seen brought (vnode_in id home epoch log place word) next hand)
     laid phase next word hand fits is in_hand whole goes between call = record {
       same_id = refl;
@@ -207,7 +203,7 @@ module _ (id epoch home index readers holders : ℕ) where
       same_closed = refl;
       between = between;
       same = inl refl;
-      grows = begins-itself history;
+      grows = begins-itself log;
       word = fits;
       place = is;
       hand = in_hand;

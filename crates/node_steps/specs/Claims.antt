@@ -14,7 +14,7 @@ use Rattle.vnode_machine.specs.Lives.{dot_of, is_alive}
 use Rattle.vnode_machine.specs.Replay.{History, naming, HasReplay, IsAfter}
 use Rattle.vnode_machine.specs.Step.{Response, MachineOutcome, Refused, Answered, Accepted, outcome as outcome_of_ask}
 use Rattle.vnode_machine.specs.Contexts.{SawPosition}
-use Rattle.vnode_machine.specs.Runs.{IsAnswer}
+use Rattle.vnode_machine.specs.Runs.{IsAnswer, reply_of}
 use Rattle.vnode_machine.specs.Laws.{NoDotTwice, DotsAreOfLives}
 use Rattle.vnode_machine.specs.Leaving.{is_taken_in}
 use Rattle.copy_laws.specs.Copies.{Command, Copied, Closed, Copy, commands_of}
@@ -24,6 +24,7 @@ use Rattle.node_steps.specs.World.{CopyInside, CopyTaken, CloseInside, Phase, Re
 use Rattle.node_steps.specs.Steps.{accepted_in, Looks, Step, By, number_of, Outcome, Happened, Replied, CopiedBack, Elsewhere, left_in, happens, after, outcome}
 use Rattle.node_steps.specs.Schedules.{Start, IsStart, world_after, Begins}
 use Rattle.node_steps.specs.Contexts.{GivesShownInRun}
+use Rattle.node_steps.specs.Told.{log_by}
 
 -- what holds of the world after every schedule
 abbrev pub AfterEvery : (World → Type 0) → Type 0
@@ -87,6 +88,11 @@ CallsMeetNoCopies w =
     ((number : ℕ) (call : Call) → call_at w number ≡ Some call → CommandsAlone (log_at w call.site) ⊎ HadClose w call.site)
     × ((site : ℕ) → CommandsFirst (log_at w site) ⊎ HadClose w site)
 
+-- to a fallback nothing is copied: no command follows its close, and until then its log is of commands alone
+abbrev pub FallbacksTakeCommands : World → Type 0
+FallbacksTakeCommands w =
+    (site : ℕ) → own_at w site ≢ site → CommandsFirst (log_at w site) × ((state_at w site).closed ≡ None → CommandsAlone (log_at w site))
+
 -- what comes of a look, by what the machine does with the call in the state that is shown
 abbrev pub comes_of : MachineOutcome → Outcome
 comes_of (Refused number) = Replied (Err number)
@@ -112,13 +118,17 @@ abbrev pub LooksSeeReplays : World → Step → Type 0
 LooksSeeReplays w step =
     (number : ℕ) → step ≡ By number Looks → call_at w number ≢ None → (came : World × Outcome) → happens w step ≡ Some came → SeesReplay w step came.1
 
--- a reply answers the worker's call, where nothing is closed; where nothing was copied, as the register may at the end of the history
--- there, which then is the one after
+-- a reply answers the worker's call, where nothing is closed, as the machine does in the state after the log there, which has just the
+-- command more that was accepted; where nothing was copied, so at each fallback, as the register may at the end of the history there, which
+-- then is the one after
 pub record IsRegistersReply (w : World) (step : Step) (reply : Result Response ℕ) : Type 0 where
   pub call : Call
   pub asked : call_at w (number_of step) ≡ Some call
   pub opened : (state_at w call.site).closed ≡ None
-  pub answer : CommandsAlone (log_at w call.site) → IsAnswer (id_at w call.site) (last_epoch_at w call.site) (history_at w call.site) (record { ask = call.ask; reply = reply })
+  pub reply_is : reply ≡ reply_of (outcome_of_ask (state_at w call.site) call.ask)
+  pub log_is : log_at (after w step) call.site
+      ≡ log_by (id_at w call.site) (last_epoch_at w call.site) (log_at w call.site) call.ask (outcome_of_ask (state_at w call.site) call.ask)
+  pub answer : CommandsAlone (log_at w call.site) ⊎ (own_at w call.site ≢ call.site) → IsAnswer (id_at w call.site) (last_epoch_at w call.site) (history_at w call.site) (record { ask = call.ask; reply = reply })
       (history_at (after w step) call.site)
 
 -- every reply, refusals too, is the register's, at the position of the look, or, of an accepted command, of the publish
@@ -165,13 +175,13 @@ ClosesAt w step site = ClosesIn w (after w step, outcome w step) site
 abbrev pub NothingElseHappens : World → Step → Type 0
 NothingElseHappens w step = (site : ℕ) → (log_at (after w step) site ≡ log_at w site) ⊎ (RepliesAt w step site ⊎ (CopiesTo w step site ⊎ ClosesAt w step site))
 
--- a reply's position isn't before the front that its worker had seen there; afterwards the worker has seen the whole history,
--- its own event included
+-- a reply's position isn't before the front that its worker had seen there, copies and closes too; afterwards the worker has seen the
+-- whole log, its own event included
 abbrev pub RepliesHaveSeen : World → Step → Type 0
 RepliesHaveSeen w step =
     (site : ℕ) → RepliesAt w step site
-    → Begins (front_at w (number_of step) site) (history_at w site)
-    × (front_at (after w step) (number_of step) site ≡ history_at (after w step) site)
+    → Begins (front_at w (number_of step) site) (log_at w site)
+    × (front_at (after w step) (number_of step) site ≡ log_at (after w step) site)
 
 -- two writes or tombstones of one vnode have different dots, whatever their keys and lives; the dots are the lives'
 abbrev pub NoDotIsIssuedTwice : World → Type 0

@@ -43,13 +43,16 @@ pub record IsFallbackOf (partition : Partition) (w : World) (index : ℕ) (cours
   pub epoch : last_epoch_at w site ≡ partition.opened n
   pub history : history_at w site ≡ fallback_of course n
 
--- a course whose primary has the log at the partition's own site, of commands alone until it is diverted, and each of whose fallbacks has the
--- history at a site: the last one, where it didn't return yet, at the site that the calls go to, with a log of commands alone
+-- a course whose primary has the id, the epoch and the log at the partition's own site, a log of commands alone until it is diverted, and
+-- each of whose fallbacks has the history at a site: the last one, where it didn't return yet, at the site that the calls go to, with a
+-- log of commands alone
 pub record IsCourseOf (partition : Partition) (run : ℕ) (w : World) (index : ℕ) (course : Course) : Type 0 where
   pub may_happen : Happens partition course
   pub primary_id : partition.primary ≡ id_of run index
   pub fallback_id : partition.fallback ≡ id_of run index + fallback_ids
   pub first_epoch : partition.last_epoch ≡ 0
+  pub id : id_at w index ≡ partition.primary
+  pub epoch : last_epoch_at w index ≡ partition.last_epoch
   pub diversions : partition.diversions ≡ diversions_of course
   pub limits : (n : ℕ) → n ≤ diversions_of course → partition.opened n ≤ max_epoch
   pub primary : primary_of partition course ≡ log_at w index

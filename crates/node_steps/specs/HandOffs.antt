@@ -1,24 +1,28 @@
 -- What is claimed of a partition that may be diverted, where each context that was given had been shown: its fallback's events and
 -- its primary's, with the copies between, are a hand-off by the law of copies.
-use Rattle.std.specs.Prelude.{◌≡◌, ◌<◌, ◌++◌, List, ℕ, false}
+use Rattle.std.specs.Prelude.{◌≡◌, ◌<◌, ◌++◌, List, ◌∷◌, ℕ, false, Some, Result, IsTrue}
 use Rattle.riak_msgs.specs.declared.Key.{Key}
 use Rattle.riak_msgs.specs.Contents.{Content}
+use Rattle.riak_msgs.specs.KeyOrder.{key_eq}
+use Rattle.sibling_register.specs.History.{count_of}
 use Rattle.sibling_register.specs.Answers.{GetCommand, PutCommand, DelCommand, AskPut, AskDel}
 use Rattle.actor_epoch.specs.declared.Dot.{Dot}
 use Rattle.actor_epoch.specs.Given.{Context}
 use Rattle.vnode_machine.specs.Machine.{holds_dead}
 use Rattle.vnode_machine.specs.Replies.{get_reply}
-use Rattle.vnode_machine.specs.Step.{outcome as outcome_of_ask}
+use Rattle.vnode_machine.specs.Step.{Response, outcome as outcome_of_ask}
+use Rattle.copy_laws.specs.Copies.{Copy, Copied, count_brought}
 use Rattle.copy_laws.specs.Sides.{Partition, Number, is_dead_at}
 use Rattle.copy_laws.specs.CopyReplay.{primary_after, NamesPositions}
-use Rattle.copy_laws.specs.Diversions.{Course, is_diverted, fallback_of}
+use Rattle.copy_laws.specs.Diversions.{Course, diversions_of, is_diverted, fallback_of}
 use Rattle.copy_laws.specs.Joining.{Log, HasDot, IsHandOff, SidesRise, ShowsSiblings, AreJointSiblings}
 use Rattle.copy_laws.specs.JointAnswers.{get_told_at, get_shown_at, put_event_at, del_event_at, MayAsk, PutGivesAt, DelGivesAt}
 use Rattle.copy_laws.specs.Leaving.{IsSeenWhereItLeft, FallbacksLeaveOnlySeen}
-use Rattle.node_steps.specs.World.{World, log_at}
-use Rattle.node_steps.specs.Steps.{Step}
+use Rattle.node_steps.specs.World.{World, Call, call_at, log_at}
+use Rattle.node_steps.specs.Steps.{Step, number_of, Replied, after, outcome}
 use Rattle.node_steps.specs.Schedules.{Start, IsStart, world_after}
 use Rattle.node_steps.specs.Courses.{GivesShownThere, IsCourseOf, CallsMayBeAsked}
+use Rattle.node_steps.specs.Told.{IsToldAt, IsLegalOver}
 
 -- what the register answers at the primary at a moment, over the siblings of both sides, is what the machine does there
 pub record AnswersAsRegister (partition : Partition) (course : Course) (log : Log) : Type 0 where
@@ -30,30 +34,42 @@ pub record AnswersAsRegister (partition : Partition) (course : Course) (log : Lo
   pub reaps : (key : Key) → holds_dead (primary_after partition log) key ≡ is_dead_at partition log key
 
 -- a partition's logs, by its course
-pub record HandsOff (partition : Partition) (run : ℕ) (w : World) (index : ℕ) : Type 0 where
-  pub course : Course
+pub record HandsOff (partition : Partition) (run : ℕ) (w : World) (index : ℕ) (course : Course) : Type 0 where
   pub is : IsCourseOf partition run w index course
   -- the machine accepted each entry, on both sides, and each command saw what it had to see; each copy is one of the fallback at
   -- some time
   pub hand_off : (key : Key) → IsHandOff partition (log_at w index) (fallback_of course) key
   pub rise : SidesRise partition (fallback_of course)
+  -- the primary's log is legal over the numbers of all sides
+  pub legal : IsLegalOver partition (log_at w index)
   -- the primary's contexts name its positions, and it shows the siblings of both sides that came, in their order
   pub names : NamesPositions partition (log_at w index)
   pub shows : (key : Key) → ShowsSiblings partition (log_at w index) (fallback_of course) key (log_at w index)
   pub answers : AnswersAsRegister partition course (log_at w index)
   -- what is asked at the primary may be asked there
   pub asked : CallsMayBeAsked partition w index course
-  -- no dot stands on two sides
-  pub apart : (key : Key) (a b : Number) (dot : Dot) → HasDot partition (log_at w index) (fallback_of course) key a dot
-      → HasDot partition (log_at w index) (fallback_of course) key b dot → a.side ≡ b.side
+  -- by each reply there, an accepted command's too, at its publish, a call is told what the register may tell over the numbers of all
+  -- sides at the end of the log, which has just the accepted command more
+  pub replies : (step : Step) (call : Call) (reply : Result Response ℕ) → call_at w (number_of step) ≡ Some call → call.site ≡ index
+      → outcome w step ≡ Replied reply → IsToldAt partition (log_at w index) call.ask reply (log_at (after w step) index)
+  -- no dot twice: two writes or deletes that have the same, of whatever keys and on whichever sides, are one
+  pub dots : (key other : Key) (a b : Number) (dot : Dot) → HasDot partition (log_at w index) (fallback_of course) key a dot
+      → HasDot partition (log_at w index) (fallback_of course) other b dot → (key ≡ other) × (a.side ≡ b.side) × (a.number ≡ b.number)
   -- a value leaves the primary's siblings, or the fallback's, only where a write or delete that had seen it was accepted, or brought
   pub leaves : (key : Key) (later between position : Log) → later ++ (between ++ position) ≡ log_at w index → IsSeenWhereItLeft partition between position key
   pub leaves_there : FallbacksLeaveOnlySeen partition course
-  -- while it isn't diverted, the primary's siblings are the joint ones
+  -- of each earlier diversion all was brought back; where all of the last one was for a key, the primary's siblings are the joint ones
+  pub earlier : (n : ℕ) → n < diversions_of course → (key : Key) → count_brought (log_at w index) key n ≡ count_of (fallback_of course n) key
+  pub joins : (key : Key) → count_brought (log_at w index) key (diversions_of course) ≡ count_of (fallback_of course (diversions_of course)) key
+      → AreJointSiblings partition (log_at w index) (fallback_of course) key
+  -- so after each copy of a key for which its fallback accepted nothing since; and while the partition isn't diverted
+  pub copied : (key : Key) (later before : Log) (copy : Copy Content) → later ++ Copied copy ∷ before ≡ log_at w index → IsTrue (key_eq copy.key key)
+      → copy.diversion ≡ diversions_of course → count_of copy.prefix key ≡ count_of (fallback_of course (diversions_of course)) key
+      → AreJointSiblings partition (log_at w index) (fallback_of course) key
   pub returns : is_diverted course ≡ false → (key : Key) → AreJointSiblings partition (log_at w index) (fallback_of course) key
 
 -- so is each partition of a run
 abbrev pub PartitionsHandOff : Type 0
 PartitionsHandOff =
     (start : Start) → IsStart start → (schedule : List Step) (index : ℕ) → index < start.vnodes → GivesShownThere start index schedule
-    → (partition : Partition) × HandsOff partition start.run (world_after start schedule) index
+    → (partition : Partition) × (course : Course) × HandsOff partition start.run (world_after start schedule) index course

@@ -6,7 +6,9 @@ pub mod Steps
 pub mod Schedules
 pub mod Contexts
 pub mod Courses
+pub mod Told
 pub mod HandOffs
+pub mod Moments
 pub mod Claims
 pub mod Erased
 pub mod Returned

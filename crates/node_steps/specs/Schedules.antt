@@ -1,6 +1,5 @@
 -- Schedules: which worker does what, in any order.
 use Rattle.std.specs.Prelude.{◌≡◌, ◌++◌, ◌^◌, ◌<◌, List, [], ◌∷◌, ℕ}
-use Rattle.vnode_machine.specs.Replay.{History}
 use Rattle.node_steps.specs.World.{World, opening_world}
 use Rattle.node_steps.specs.Steps.{Step, after}
 
@@ -20,6 +19,7 @@ abbrev pub world_after : Start → List Step → World
 world_after start [] = opening_world start.run start.workers start.vnodes
 world_after start (step ∷ earlier) = after (world_after start earlier) step
 
--- a front begins a history: it is what is left of it, newest event first, without some later events
-abbrev pub Begins : (front history : History) → Type 0
-Begins front history = (later : History) × (later ++ front ≡ history)
+-- a front begins a log, or a history: it is what is left of it, newest entry first, without some later entries
+module _ {X : Type 0} where
+  abbrev pub Begins : (front log : List X) → Type 0
+  Begins front log = (later : List X) × (later ++ front ≡ log)

@@ -37,7 +37,6 @@ use Rattle.actor_epoch.specs.Given.{Context}
 use Rattle.dvv_set.specs.Clocks.{DotState}
 use Rattle.vnode_machine.specs.Copying.{is_stuck, apply_copy, apply_close}
 use Rattle.vnode_machine.specs.Machine.{State, clock_of, is_held}
-use Rattle.vnode_machine.specs.Replay.{History}
 use Rattle.vnode_machine.specs.Replies.{get_reply}
 use Rattle.vnode_machine.specs.Step.{Response, GetDone, MachineOutcome, Refused, Answered, Accepted, outcome as outcome_of_ask}
 use Rattle.vnode_machine.specs.Registers.{key_of, context_in_ask}
@@ -47,14 +46,14 @@ use Rattle.copy_laws.specs.Joining.{Log}
 pub use Rattle.node_steps.specs.Partitions.{fallback_ids}
 pub use Rattle.node_steps.specs.Actions.{Action, Asks, AsksNowhere, Copies, CopiesFrom, Closes, ClosesFrom, Enters, Leaves, Marks, Unmarks, Takes, Puts, Looks, Publishes, Step, By, Diverts, number_of, Outcome, NotPossible, Happened, Replied, NotHeld, StuckThere, CopiedBack, Elsewhere, LeftThere}
 use Rattle.node_steps.specs.HeldNames.{saw_held}
-use Rattle.node_steps.specs.World.{Word, Open, Taken, PlannedCommand, CopyStage, CopyAsked, CopyInside, CopyLooked, CopyTaken, CopyDone, CloseStage, CloseAsked, CloseTaken, CloseInside, CloseLooked, CloseDone, Phase, Idle, Asked, Reading, Holding, Done, Turned, Copying, Closing, Brought, SiteVnode, Worker, World, fresh_vnode, history_of, seen_at, diversions_at, brought_by, worker_at, route}
+use Rattle.node_steps.specs.World.{Word, Open, Taken, PlannedCommand, CopyStage, CopyAsked, CopyInside, CopyLooked, CopyTaken, CopyDone, CloseStage, CloseAsked, CloseTaken, CloseInside, CloseLooked, CloseDone, Phase, Idle, Asked, Reading, Holding, Done, Turned, Copying, Closing, Brought, SiteVnode, Worker, World, fresh_vnode, seen_at, diversions_at, brought_by, worker_at, route}
 use Rattle.vnode_core.specs.Left.{count_left}
 
--- what a step makes of its worker and of the vnode, the front of the vnode's history that the worker has then seen, and what comes
+-- what a step makes of its worker and of the vnode, the front of the vnode's log that the worker has then seen, and what comes
 -- of the step
 pub record WorkerTurn : Type 0 where
   pub phase : Phase
-  pub seen : History
+  pub seen : Log
   pub vnode : SiteVnode
   pub outcome : Outcome
 
@@ -96,7 +95,7 @@ event_at id last_epoch log ask operation = record {
   saw = saw_held id last_epoch log (key_of ask) (context_in_ask ask) operation;
 }
 
-module _ (seen : History) (brought : Brought) (vnode : SiteVnode) where
+module _ (seen : Log) (brought : Brought) (vnode : SiteVnode) where
   -- the worker goes to a phase, and the vnode's word is this
   abbrev pub moves : Phase → Word → WorkerTurn
   moves phase word = record { phase = phase; seen = seen; vnode = record vnode { word = word }; outcome = Happened }
@@ -106,9 +105,9 @@ module _ (seen : History) (brought : Brought) (vnode : SiteVnode) where
   lays phase hand =
       record { phase = phase; seen = seen; vnode = record vnode { word = Open 0 false; place = hand }; outcome = Happened }
 
-  -- the worker has seen the vnode's whole history, and its call is answered
+  -- the worker has seen the vnode's whole log, and its call is answered
   abbrev pub answers : Phase → Result Response ℕ → WorkerTurn
-  answers phase reply = record { phase = phase; seen = history_of vnode; vnode = vnode; outcome = Replied reply }
+  answers phase reply = record { phase = phase; seen = vnode.log; vnode = vnode; outcome = Replied reply }
 
   -- a holder's look, by what comes of its call in the state in its hand: it is answered, or keeps the plan
   abbrev pub looks_by : ℕ → RegisterAsk Content Context → State Content → MachineOutcome → WorkerTurn
@@ -116,7 +115,7 @@ module _ (seen : History) (brought : Brought) (vnode : SiteVnode) where
   looks_by site ask hand (Answered response) = answers (Done site (Some hand)) (Ok response)
   looks_by site ask hand (Accepted operation response next) =
       let plan : PlannedCommand = record { operation = operation; response = response; next = next } in
-      record { phase = Holding site ask hand (Some plan); seen = history_of vnode; vnode = vnode; outcome = Happened }
+      record { phase = Holding site ask hand (Some plan); seen = vnode.log; vnode = vnode; outcome = Happened }
 
   -- the planned operation is the log's next entry, and so the history's next event, the state in hand is the one after it, and the call is answered
   abbrev pub publishes_by : ℕ → RegisterAsk Content Context → PlannedCommand → WorkerTurn
@@ -124,14 +123,14 @@ module _ (seen : History) (brought : Brought) (vnode : SiteVnode) where
       let event : Event Content Context = event_at vnode.id vnode.last_epoch vnode.log ask plan.operation in
       record {
         phase = Done site (Some plan.next);
-        seen = event ∷ history_of vnode;
+        seen = Command event ∷ vnode.log;
         vnode = record vnode { log = Command event ∷ vnode.log };
         outcome = Replied (Ok plan.response);
       }
 
-  -- a worker has seen the vnode's whole history, and goes on, is turned away or is done
+  -- a worker has seen the vnode's whole log, and goes on, is turned away or is done
   abbrev pub sees : Phase → Outcome → WorkerTurn
-  sees phase came = record { phase = phase; seen = history_of vnode; vnode = vnode; outcome = came }
+  sees phase came = record { phase = phase; seen = vnode.log; vnode = vnode; outcome = came }
 
   -- a reader's look: where the fallback is closed it is turned away
   abbrev pub reads_by : (site : ℕ) (get : GetCommand Context) (closed : Bool) → WorkerTurn
@@ -164,7 +163,7 @@ module _ (seen : History) (brought : Brought) (vnode : SiteVnode) where
       let copy : Copy Content = record { key = key; clock = clock; diversion = brought.diversion; prefix = brought.prefix } in
       record {
         phase = Copying own site key (CopyDone (Some next));
-        seen = history_of vnode;
+        seen = Copied copy ∷ vnode.log;
         vnode = record vnode { log = Copied copy ∷ vnode.log };
         outcome = CopiedBack;
       }
@@ -259,7 +258,7 @@ site_of action (Copying own site key stage) = Some (copy_site own site stage)
 site_of action (Closing own site stage) = Some (close_site own site stage)
 
 -- a worker has seen this front at a site, and elsewhere what it had seen
-abbrev pub seeing : List History → (site : ℕ) → History → List History
+abbrev pub seeing : List Log → (site : ℕ) → Log → List Log
 seeing [] zero front = front ∷ []
 seeing [] (suc site) front = [] ∷ seeing [] site front
 seeing (other ∷ seen) zero front = front ∷ seen
@@ -299,19 +298,20 @@ judged own site hand primary true left = (Closing own site (CloseDone hand true)
 judged own site hand primary false zero = (Closing own site (CloseLooked hand (accepted_in primary)), Happened)
 judged own site hand primary false (suc left) = (Closing own site (CloseDone hand true), LeftThere (suc left))
 
--- the world after a closer's look, by which it has seen both histories
+-- the world after a closer's look, by which it has seen both logs
 abbrev pub judged_by : World → (place own site : ℕ) → Worker → (primary fallback : SiteVnode) → Phase → World
 judged_by w place own site worker primary fallback phase = record w {
-  workers = slice_set w.workers place (record { phase = phase; seen = seeing (seeing worker.seen site (history_of fallback)) own (history_of primary) });
+  workers = slice_set w.workers place (record { phase = phase; seen = seeing (seeing worker.seen site fallback.log) own primary.log });
 }
 
--- and after its publish: the close is the last entry of the fallback's log, and the calls go to the partition's own site again
+-- and after its publish: the close is the last entry of the fallback's log, and its closer has seen it; the calls go to the partition's own
+-- site again
 abbrev pub closed_by : World → (place own site : ℕ) → Worker → (fallback : SiteVnode) (hand : State Content) (number : ℕ) → World
 closed_by w place own site worker fallback hand number = record w {
   vnodes = slice_set w.vnodes site (record fallback { log = Closed number ∷ fallback.log });
   routes = slice_set w.routes own own;
   epochs = slice_set w.epochs own hand.last_epoch;
-  workers = slice_set w.workers place (record worker { phase = Closing own site (CloseDone (apply_close hand number) true) });
+  workers = slice_set w.workers place (record { phase = Closing own site (CloseDone (apply_close hand number) true); seen = seeing worker.seen site (Closed number ∷ fallback.log) });
 }
 
 -- a closer's look and its publish: the two steps that are about two sites

@@ -91,10 +91,10 @@ history_of vnode = commands_of vnode.log
 abbrev pub CommandsAlone : Log → Type 0
 CommandsAlone log = log ≡ all_commands (commands_of log)
 
--- a worker: its phase, and site by site the front of the history there that it has seen; of a site that it doesn't know, nothing
+-- a worker: its phase, and site by site the front of the log there that it has seen; of a site that it doesn't know, nothing
 pub record Worker : Type 0 where
   pub phase : Phase
-  pub seen : List History
+  pub seen : List Log
 
 pub record World : Type 0 where
   pub vnodes : List SiteVnode
@@ -166,7 +166,7 @@ abbrev pub history_at : World → ℕ → History
 history_at w site = option_map_or (λ vnode. history_of vnode) (slice_get w.vnodes site) []
 
 -- the front that was seen at a site; past the end of the list nothing was
-abbrev pub seen_at : List History → (site : ℕ) → History
+abbrev pub seen_at : List Log → (site : ℕ) → Log
 seen_at [] site = []
 seen_at (front ∷ seen) zero = front
 seen_at (front ∷ seen) (suc site) = seen_at seen site
@@ -181,7 +181,7 @@ abbrev pub copied_to : Phase → ℕ
 copied_to (Copying own site key stage) = own
 copied_to phase = zero
 
--- what a copy brings beside a key's clock: the number of the diversion, and what its worker has seen of the fallback
+-- what a copy brings beside a key's clock: the number of the diversion, and the commands that its worker has seen of the fallback
 pub record Brought : Type 0 where
   pub diversion : ℕ
   pub prefix : History
@@ -195,10 +195,10 @@ abbrev pub diversions_at : World → (index : ℕ) → ℕ
 diversions_at w index = option_map_or (λ n. n) (slice_get w.diversions index) 0
 
 abbrev pub brought_by : World → Worker → Brought
-brought_by w worker = record { diversion = diversions_at w (copied_to worker.phase); prefix = seen_at worker.seen (copied_from worker.phase) }
+brought_by w worker = record { diversion = diversions_at w (copied_to worker.phase); prefix = commands_of (seen_at worker.seen (copied_from worker.phase)) }
 
--- the front of a site's history that the worker of a number has seen
-abbrev pub front_at : World → (number site : ℕ) → History
+-- the front of a site's log that the worker of a number has seen
+abbrev pub front_at : World → (number site : ℕ) → Log
 front_at w number site = option_map_or (λ worker. seen_at worker.seen site) (worker_at w number) []
 
 -- a call: the site that it goes to, and what is asked there

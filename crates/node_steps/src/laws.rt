@@ -1,10 +1,11 @@
 //! The theorems, as functions that have nothing to run.
 
-ghost use Rattle.node_steps.specs.Claims.{AfterEvery, AtEveryStep, CallsMeetNoCopies, HistoriesAreLegal, LooksSeeReplays, LooksShowReplays};
+ghost use Rattle.node_steps.specs.Claims.{AfterEvery, AtEveryStep, CallsMeetNoCopies, FallbacksTakeCommands, HistoriesAreLegal, LooksSeeReplays, LooksShowReplays};
 ghost use Rattle.node_steps.specs.Claims.{RepliesAreRegisters, NothingElseHappens, RepliesHaveSeen, NoDotIsIssuedTwice};
 ghost use Rattle.node_steps.specs.Claims.{LivesAreOfDefinedKeys, ValuesLeaveOnlyCovered, ValuesLeaveOnlySeen};
 ghost use Rattle.node_steps.specs.Courses.{RunsAreCourses};
 ghost use Rattle.node_steps.specs.HandOffs.{PartitionsHandOff};
+ghost use Rattle.node_steps.specs.Moments.{LogsGrow, PartitionsGoOn};
 ghost use Rattle.node_steps.specs.Erased.{NeedsNoHistory};
 ghost use Rattle.node_steps.specs.Gates.{RunsAreScheduled};
 
@@ -20,21 +21,25 @@ ghost use Rattle.node_steps.specs.Gates.{RunsAreScheduled};
 /// copied (`looks`), as it is where a worker has a call, unless a fallback of its partition was closed, and until then no command
 /// follows a copy (`uncopied`); what comes of a look for a call is what the vnode machine does with it in that state, and where that is
 /// closed the call is turned away to the primary (`looked`). *Is answered*: nothing is answered where the state is closed, and each
-/// reply, a refusal too, the register may give at the end of the history at its look, or, of an accepted command, at its publish, by
-/// which the history has just that event more, where nothing was copied (`answers`); no other step changes a log, but a copy, which
-/// carries the clock that its key has at the fallback then, and the fallback's history, and a close, before which each key that the
-/// fallback holds is copied as it is there, and which carries the number of commands that the primary accepted (`nothing_else`). *Had
-/// seen*: the worker had seen no more than that history, and has seen all of it afterwards, its own event too (`seen`). *No second
-/// time*: whatever the keys and lives (`dots`); a key is in a life exactly where it is defined (`lives`). *Unless .. had seen it*: a
-/// value leaves only by a write or delete whose context covers its dot, or by a delete without context (`covered`); and where each
-/// context that was given for its key at a site had been shown for it there, such a write or delete had seen the value (`left`).
+/// reply, a refusal too, is the machine's in the state after the log at its look, or, of an accepted command, at its publish, by which
+/// the log has just that command more; where nothing was copied, so at each fallback (`fallbacks`), it is what the register may give at
+/// the end of that history (`answers`). No other step changes a log, but a copy, which carries the clock that its key has at the
+/// fallback then, and the fallback's history, and a close, before which each key that the fallback holds is copied as it is there, and
+/// which carries the number of commands that the primary accepted (`nothing_else`). *Had seen*: the worker had seen no more than that
+/// log, copies and closes too, and has seen all of it afterwards, its own event too (`seen`); the log at a site only grows (`grown`).
+/// *No second time*: whatever the keys and lives (`dots`); a key is in a life exactly where it is defined (`lives`). *Unless .. had seen
+/// it*: a value leaves only by a write or delete whose context covers its dot, or by a delete without context (`covered`); and where
+/// each context that was given for its key at a site had been shown for it there, such a write or delete had seen the value (`left`).
 ///
 /// Where each context that was given for a key at a site of a partition had been shown for it at one of them, its primary and its
-/// fallbacks, with the copies between, are a hand-off (`handed_off`, `specs/HandOffs`), also behind copies: each command saw what it
-/// had to see of all sides, each get, put, delete and reap is answered as the register does over (side, number), and what a worker is
-/// asked at the primary may be asked there, the primary shows the siblings that are its own or came, in their order, no dot stands on
-/// two sides, a value leaves the primary's siblings only by a write or delete of some side that had seen it, and once the fallback is
-/// closed they are the joint ones.
+/// fallbacks, with the copies between, are a hand-off (`handed_off`, `specs/HandOffs`), and all this holds behind copies too, over the
+/// numbers of all sides: the primary's log is legal, each command having seen what it had to see; by each reply there, an accepted
+/// command's too, at its publish, a call is told what the register gives there, and the log has just that command more; the primary
+/// shows the siblings that are its own or came, in their order; two writes or deletes that have the same dot are one, whatever their
+/// keys and sides; and after each copy of a key for which its fallback accepted nothing since, as once the fallback is closed, the
+/// primary's siblings are the joint ones. And what happened to the partition is one course, of which at each moment of the schedule a
+/// beginning had happened (`moments`, `specs/Moments`): from there on a value leaves the siblings at a site, own or brought, only where a
+/// write or delete that had seen it, of whichever side, was accepted, or brought, since.
 pub fn always()
     ensures histories { AfterEvery HistoriesAreLegal }
     ensures looks { AfterEvery LooksShowReplays }
@@ -47,7 +52,10 @@ pub fn always()
     ensures covered { AfterEvery ValuesLeaveOnlyCovered }
     ensures left { ValuesLeaveOnlySeen }
     ensures handed_off { PartitionsHandOff }
+    ensures grown { LogsGrow }
+    ensures moments { PartitionsGoOn }
     ensures uncopied { AfterEvery CallsMeetNoCopies }
+    ensures fallbacks { AfterEvery FallbacksTakeCommands }
 {}
 
 /// Where each context that was given for a key at a site of a partition had been shown for it at one of them, each run of the

@@ -2,7 +2,7 @@
 //!
 //! A world (`specs/World`) has for each site a vnode: a word (how many readers are inside and whether it is marked, or that it is
 //! taken), the log of what it accepted, whose commands are its history, and the state in place; for each worker a phase with its
-//! call, the state in its hand and its plan, and for each site the front of the history that it has seen. A call is for a
+//! call, the state in its hand and its plan, and for each site the front of the log that it has seen. A call is for a
 //! partition, and one function (`route`) says to which site it goes: to that of the partition's own vnode, its primary, or, where
 //! the partition is diverted, to that of a fallback. A step is one partition's, which is diverted, or one worker's, at one site
 //! (`specs/Steps`): it gets a call, enters as a reader or leaves, marks the word or takes the mark away, takes the state into its
@@ -11,7 +11,7 @@
 //!
 //! A worker may also be a copier, of a key of a partition that is diverted: as a reader at the fallback it keeps the key's clock, and
 //! stays inside; it takes the primary's state, looks, and publishes the copy, which is an entry of the primary's log and no event of
-//! its history; then it puts the state back and leaves. What the copy brings is the history that it has seen at the fallback
+//! its history; then it puts the state back and leaves. What the copy brings is the commands that it has seen at the fallback
 //! (`brought_by`), which nobody changes while it is inside.
 //!
 //! Or it is a closer of a partition's fallback: it takes the fallback's state, enters the primary as a reader, looks at both, and
@@ -32,8 +32,10 @@
 //! has seen until it publishes. `proofs/Coursing` and those behind it make each run of a partition a course of `copy_laws`
 //! ([`runs_are_courses`], `specs/Courses`): by a step at one site in `proofs/CourseSteps`, by a close in `proofs/CourseCloses`, by a
 //! diversion in `proofs/CourseDiverts`; the law's partition isn't known until the run is over, so all is said of each partition that
-//! agrees so far. `proofs/Joined` draws from the laws what holds of it. `proofs/CallsApart` and `proofs/Uncopied` keep calls and copies
-//! apart: a partition that is diverted is asked nothing but at its fallback.
+//! agrees so far. `proofs/Joined` draws from the laws what holds of it: what replies tell at the primary in `proofs/Telling`, that its log
+//! is legal in `proofs/Lawful`, joint siblings in `proofs/CourseJoins`, dots in `proofs/OneDot`; `proofs/Moments` goes from one moment
+//! to a later one. `proofs/CallsApart` and `proofs/Uncopied` keep calls and copies apart: a partition that is diverted is asked nothing
+//! but at its fallback, to which nothing is copied (`proofs/FallbackLogs`).
 //!
 //! One exchange, of three workers over one vnode (`proofs/Rows` evaluates it):
 //!

@@ -5,10 +5,12 @@ use Rattle.node_steps.proofs.Claiming.{replies_are_registers, nothing_else_happe
 use Rattle.node_steps.proofs.Looked.{looks_see_replays}
 use Rattle.node_steps.proofs.Judged.{judged_after}
 use Rattle.node_steps.proofs.Firsts.{calls_meet_no_copies}
+use Rattle.node_steps.proofs.FallbackLogs.{fallbacks_take_commands}
 use Rattle.node_steps.proofs.Replaying.{replays_after}
 use Rattle.node_steps.proofs.Leaving.{values_leave_only_covered}
 use Rattle.node_steps.proofs.Showing.{values_leave_only_seen}
 use Rattle.node_steps.proofs.Joined.{partitions_hand_off}
+use Rattle.node_steps.proofs.Moments.{logs_grow, partitions_go_on}
 use Rattle.node_steps.proofs.laws.always.Goals as goal
 
 pub returns-clause-histories : goal.returns-clause-histories
@@ -21,7 +23,7 @@ pub returns-clause-looked : goal.returns-clause-looked
 returns-clause-looked c = λ start is schedule step. looks_see_replays (world_after start schedule) (orderly start is schedule) step
 
 pub returns-clause-answers : goal.returns-clause-answers
-returns-clause-answers c = λ start is schedule step. replies_are_registers (world_after start schedule) (orderly start is schedule) step
+returns-clause-answers c = λ start is schedule step. replies_are_registers (world_after start schedule) (orderly start is schedule) (fallbacks_take_commands start is schedule) step
 
 pub returns-clause-nothing_else : goal.returns-clause-nothing_else
 returns-clause-nothing_else c = λ start is schedule step. nothing_else_happens (world_after start schedule) (orderly start is schedule) (judged_after start is schedule) step
@@ -44,5 +46,14 @@ returns-clause-left c = values_leave_only_seen
 pub returns-clause-handed_off : goal.returns-clause-handed_off
 returns-clause-handed_off c = partitions_hand_off
 
+pub returns-clause-grown : goal.returns-clause-grown
+returns-clause-grown c = logs_grow
+
+pub returns-clause-moments : goal.returns-clause-moments
+returns-clause-moments c = partitions_go_on
+
 pub returns-clause-uncopied : goal.returns-clause-uncopied
 returns-clause-uncopied c = calls_meet_no_copies
+
+pub returns-clause-fallbacks : goal.returns-clause-fallbacks
+returns-clause-fallbacks c = fallbacks_take_commands
