@@ -1,6 +1,6 @@
 -- Gates that were made round new vnodes, and fallbacks by their index.
 use Rattle.std.proofs.Common.{◌≡◌, ◌∙◌, ◌+◌, ◌<◌, ℕ, List, [], ◌∷◌, ◌++◌, length, refl, sym, ap, subst, arith}
-use Rattle.std.specs.Prelude.{Option, Some, None, IfSome, IsSome, slice_get, slice_set, get_or, zero, suc}
+use Rattle.std.specs.Prelude.{Option, Some, None, IfSome, IsSome, MatchOption, slice_get, slice_set, get_or, zero, suc}
 use Rattle.std.proofs.lemmas.Option.{slice_get-get_or}
 use Rattle.ring_map.specs.Ring.{id_of}
 use Rattle.rw_gate.specs.Views.{GateId}
@@ -9,7 +9,7 @@ use Rattle.vnode_core.specs.Plans.{View}
 use Rattle.vnode_core.specs.Events.{IsMadeNew}
 use Rattle.handoff.specs.declared.gates.Fallback.{Fallback}
 use Rattle.handoff.specs.Partitions.{HandoffView, AreMadeNew, AreNone, BeginsBehind, IsDiverted, IsFallback, AreFallbacks, fallback_id, number_in, number_of}
-use Rattle.handoff.specs.Sights.{IsOfVnode}
+use Rattle.handoff.specs.Sights.{Sight, ClosedBehind, IsOfVnode}
 pub use Rattle.std.proofs.lemmas.Option.{none-some as none_some}
 
 -- one gate more
@@ -56,26 +56,37 @@ fallback_there run i all fallback are at =
     subst (λ n. IfSome fallback (IsFallback run n)) here (fallbacks_get run 0 i all fallback are at)
 
 -- the first diversion begins behind no epoch
-first-epoch : (run index number last_epoch : ℕ) (before : Option Fallback) → IfSome before (IsFallback run index) → number ≡ number_of before + 1 → BeginsBehind before last_epoch → number ≡ 1 → last_epoch ≡ 0
-first-epoch run index number last_epoch None was next begins is = begins
-first-epoch run index number last_epoch (Some before) was next begins is = let numbered = was.numbered in absurd (omega (arith, next, numbered, is))
+first-epoch : (run index number last_epoch : ℕ) (before : Option Fallback) (seen : Option Sight) → IfSome before (IsFallback run index) → number ≡ number_of before + 1 → BeginsBehind before seen last_epoch → number ≡ 1
+    → last_epoch ≡ 0
+first-epoch run index number last_epoch None seen was next begins is = begins.1
+first-epoch run index number last_epoch (Some before) seen was next begins is = let numbered = was.numbered in absurd (omega (arith, next, numbered, is))
+
+-- a later one behind the last epoch of a vnode that was seen closed
+abbrev BeginsBy : (last_epoch : ℕ) → Option Sight → Type 0
+BeginsBy last_epoch seen = MatchOption seen (last_epoch ≡ 0) (λ pass. ClosedBehind pass last_epoch)
+
+begins-by : (last_epoch : ℕ) (before : Option Fallback) (seen : Option Sight) → BeginsBehind before seen last_epoch → BeginsBy last_epoch seen
+begins-by last_epoch None seen begins = subst (BeginsBy last_epoch) (sym begins.0) begins.1
+begins-by last_epoch (Some before) seen begins = subst (BeginsBy last_epoch) (sym begins.1) begins.3
 
 -- the fallback of a partition's next diversion
-pub next-fallback : (run index number last_epoch : ℕ) (before : Option Fallback) (fallback : Fallback) → IfSome before (IsFallback run index) → number ≡ number_of before + 1 → BeginsBehind before last_epoch
-    → fallback.diversion ≡ number → IsMadeNew (fallback_id run index) last_epoch fallback.gate → IsWithinLimits (fallback_id run index) last_epoch → IsFallback run index fallback
-next-fallback run index number last_epoch before fallback was next begins same made limits = record {
+pub next-fallback : (run index number last_epoch : ℕ) (before : Option Fallback) (seen : Option Sight) (fallback : Fallback) → IfSome before (IsFallback run index) → number ≡ number_of before + 1
+    → BeginsBehind before seen last_epoch → fallback.diversion ≡ number → fallback.before ≡ seen → IsMadeNew (fallback_id run index) last_epoch fallback.gate → IsWithinLimits (fallback_id run index) last_epoch
+    → IsFallback run index fallback
+next-fallback run index number last_epoch before seen fallback was next begins same kept made limits = record {
   numbered = omega (arith, next, same);
   last_epoch = last_epoch;
-  first = λ is. first-epoch run index number last_epoch before was next begins (sym same ∙ is);
+  first = λ is. first-epoch run index number last_epoch before seen was next begins (sym same ∙ is);
+  begins = subst (BeginsBy last_epoch) (sym kept) (begins-by last_epoch before seen begins);
   made_new = made;
   limits = limits;
 }
 
 -- so the partition is diverted
-pub next-diverted : (index number last_epoch : ℕ) (old new : HandoffView) (before : Option Fallback) (fallback : Fallback) → IfSome before (IsFallback old.run index) → number ≡ number_of before + 1
-    → BeginsBehind before last_epoch → fallback.diversion ≡ number → IsMadeNew (fallback_id old.run index) last_epoch fallback.gate → IsWithinLimits (fallback_id old.run index) last_epoch
+pub next-diverted : (index number last_epoch : ℕ) (old new : HandoffView) (before : Option Fallback) (seen : Option Sight) (fallback : Fallback) → IfSome before (IsFallback old.run index) → number ≡ number_of before + 1
+    → BeginsBehind before seen last_epoch → fallback.diversion ≡ number → fallback.before ≡ seen → IsMadeNew (fallback_id old.run index) last_epoch fallback.gate → IsWithinLimits (fallback_id old.run index) last_epoch
     → slice_get old.fallbacks index ≡ Some before → new ≡ record old { fallbacks = slice_set old.fallbacks index (Some fallback) } → IsDiverted index old new
-next-diverted index number last_epoch old new before fallback was next begins same made limits stood is = record {
+next-diverted index number last_epoch old new before seen fallback was next begins same kept made limits stood is = record {
   before = before;
   stood = stood;
   fallback = fallback;
@@ -83,11 +94,12 @@ next-diverted index number last_epoch old new before fallback was next begins sa
   is_new = record {
     numbered = omega (arith, next, same);
     last_epoch = last_epoch;
-    first = λ is. first-epoch old.run index number last_epoch before was next begins (sym same ∙ is);
+    first = λ is. first-epoch old.run index number last_epoch before seen was next begins (sym same ∙ is);
+    begins = subst (BeginsBy last_epoch) (sym kept) (begins-by last_epoch before seen begins);
     made_new = made;
     limits = limits;
   };
-  begins = begins;
+  begins = subst (λ (o : Option Sight). BeginsBehind before o last_epoch) (sym kept) begins;
   is = is;
 }
 

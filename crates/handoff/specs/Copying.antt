@@ -1,5 +1,5 @@
 -- What a copy back says across two gates.
-use Rattle.std.specs.Prelude.{◌≡◌, ◌⊎◌, ◌≤◌, ◌+◌, ◌-◌, ◌^◌, ℕ, min, List, [], ◌∷◌, ◌++◌, length, All, Some, None, slice_get}
+use Rattle.std.specs.Prelude.{◌≡◌, ◌≤◌, ◌+◌, ◌-◌, ◌^◌, ℕ, min, List, [], ◌∷◌, ◌++◌, length, All, Option, Some, None, MatchOption, slice_get}
 use mathlib.Core.List.{IsPrefix}
 use Rattle.riak_msgs.specs.Contents.{Content}
 use Rattle.rw_gate.specs.Views.{GateId}
@@ -80,11 +80,15 @@ pub record IsCopiedBack (handoff : HandoffView) (index budget : ℕ) (copied : C
   pub diverted : slice_get handoff.fallbacks index ≡ Some (Some fallback)
   pub copies : CopiesBack primary fallback budget copied
 
--- no fallback stands at an index, or some history of it leads to its close
-abbrev pub IsUndiverted : HandoffView → (index : ℕ) → Type 0
-IsUndiverted handoff index =
-    (slice_get handoff.fallbacks index ≡ Some None)
-    ⊎ ((fallback : Fallback) × (slice_get handoff.fallbacks index ≡ Some (Some fallback)) × ShowsClosed fallback.gate)
+-- a pass of this fallback has seen it closed
+abbrev pub SawClosed : Fallback → Sight → Type 0
+SawClosed fallback pass = (pass.gate ≡ fallback.gate) × ShowsClosed pass
+
+-- no fallback stands at an index; or this pass of it has seen it closed
+abbrev pub IsUndiverted : HandoffView → (index : ℕ) → Option Sight → Type 0
+IsUndiverted handoff index seen =
+    MatchOption seen (slice_get handoff.fallbacks index ≡ Some None)
+    (λ pass. (fallback : Fallback) × (slice_get handoff.fallbacks index ≡ Some (Some fallback)) × SawClosed fallback pass)
 
 -- a fallback stands there
 abbrev pub HasFallback : HandoffView → (index : ℕ) → Type 0
@@ -93,7 +97,7 @@ HasFallback handoff index = (fallback : Fallback) × (slice_get handoff.fallback
 -- why keys weren't copied back, or no further ones
 abbrev pub IsCopyFault : HandoffView → (index : ℕ) → HandoffFault → Type 0
 IsCopyFault handoff index faults.AlreadyDiverted = ⊥
-IsCopyFault handoff index faults.NotDiverted = IsUndiverted handoff index
+IsCopyFault handoff index (faults.NotDiverted seen) = IsUndiverted handoff index seen
 IsCopyFault handoff index (faults.LeftOver passes) = ⊥
 IsCopyFault handoff index faults.NoMemory = HasFallback handoff index
 IsCopyFault handoff index faults.GateStopped = HasFallback handoff index

@@ -1,5 +1,5 @@
 -- The partitions of a run: the gate of each, and the fallbacks of those that are diverted.
-use Rattle.std.specs.Prelude.{◌≡◌, ◌<◌, ◌≤◌, ◌+◌, ◌^◌, ◌⊎◌, ℕ, List, [], ◌∷◌, length, Option, Some, None, IfSome, slice_get, slice_set}
+use Rattle.std.specs.Prelude.{◌≡◌, ◌<◌, ◌≤◌, ◌+◌, ◌^◌, ◌⊎◌, ℕ, List, [], ◌∷◌, length, Option, Some, None, IfSome, MatchOption, slice_get, slice_set}
 use Rattle.ring_map.specs.Ring.{id_of}
 use Rattle.rw_gate.specs.Views.{GateId}
 use Rattle.vnode_machine.specs.Replay.{IsWithinLimits}
@@ -8,7 +8,7 @@ use Rattle.vnode_core.specs.Events.{IsMadeNew}
 use Rattle.handoff.specs.declared.fault.HandoffFault.{HandoffFault}
 use Rattle.handoff.specs.declared.fault.HandoffFault.TheVariants.{AlreadyDiverted, NoMemory}
 use Rattle.handoff.specs.declared.gates.Fallback.{Fallback}
-use Rattle.handoff.specs.Sights.{ClosedBehind}
+use Rattle.handoff.specs.Sights.{Sight, ClosedBehind}
 
 -- how many bits number the partitions, which run it is, the primaries' gates in the partitions' order, and the fallback of
 -- each partition that is diverted
@@ -35,11 +35,12 @@ abbrev pub fallback_id : (run index : ℕ) → ℕ
 fallback_id run index = id_of run index + 32768
 
 -- A fallback's gate was made round a new vnode with that id, one that a vnode can have, behind some last epoch: behind none, where
--- the diversion is the partition's first.
+-- the diversion is the partition's first; else behind the last one of the fallback before it, as the pass that is kept has seen that closed.
 pub record IsFallback (run index : ℕ) (fallback : Fallback) : Type 0 where
   pub numbered : 1 ≤ fallback.diversion
   pub last_epoch : ℕ
   pub first : fallback.diversion ≡ 1 → last_epoch ≡ 0
+  pub begins : MatchOption fallback.before (last_epoch ≡ 0) (λ pass. ClosedBehind pass last_epoch)
   pub made_new : IsMadeNew (fallback_id run index) last_epoch fallback.gate
   pub limits : IsWithinLimits (fallback_id run index) last_epoch
 
@@ -65,10 +66,11 @@ number_in (Some fallback) = number_of fallback
 abbrev pub diversion_at : HandoffView → (index : ℕ) → ℕ
 diversion_at handoff index = number_in (slice_get handoff.fallbacks index)
 
--- a partition's next fallback begins its epochs behind the last one that the closed fallback before it gave; the first begins at none
-abbrev pub BeginsBehind : Option Fallback → (last_epoch : ℕ) → Type 0
-BeginsBehind None last_epoch = last_epoch ≡ 0
-BeginsBehind (Some before) last_epoch = ClosedBehind before.gate last_epoch
+-- a partition's next fallback begins its epochs behind the last one that the fallback before it gave, as a pass of that one has seen it closed;
+-- the first begins at none, and there is no such pass
+abbrev pub BeginsBehind : (before : Option Fallback) (seen : Option Sight) (last_epoch : ℕ) → Type 0
+BeginsBehind None seen last_epoch = (seen ≡ None) × (last_epoch ≡ 0)
+BeginsBehind (Some before) seen last_epoch = (pass : Sight) × (seen ≡ Some pass) × (pass.gate ≡ before.gate) × ClosedBehind pass last_epoch
 
 -- a partition that had no fallback, or a closed one, has a new one of the next number, and all else is as it was
 pub record IsDiverted (index : ℕ) (old new : HandoffView) : Type 0 where
@@ -77,7 +79,7 @@ pub record IsDiverted (index : ℕ) (old new : HandoffView) : Type 0 where
   pub fallback : Fallback
   pub next : fallback.diversion ≡ diversion_at old index + 1
   pub is_new : IsFallback old.run index fallback
-  pub begins : BeginsBehind before is_new.last_epoch
+  pub begins : BeginsBehind before fallback.before is_new.last_epoch
   pub is : new ≡ record old { fallbacks = slice_set old.fallbacks index (Some fallback) }
 
 -- why a partition isn't diverted: memory was refused, or it has a fallback

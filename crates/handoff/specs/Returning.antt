@@ -65,7 +65,7 @@ HasReturned handoff index passes = GatesAtPartition handoff index passes EndsDiv
 -- why it hasn't
 abbrev pub IsReturnFault : HandoffView → (index : ℕ) → HandoffFault → Type 0
 IsReturnFault handoff index faults.AlreadyDiverted = ⊥
-IsReturnFault handoff index faults.NotDiverted = IsUndiverted handoff index
+IsReturnFault handoff index (faults.NotDiverted seen) = IsUndiverted handoff index seen
 IsReturnFault handoff index (faults.LeftOver passes) = GatesAtPartition handoff index passes HasLeft
 IsReturnFault handoff index faults.NoMemory = HasFallback handoff index
 IsReturnFault handoff index faults.GateStopped = HasFallback handoff index

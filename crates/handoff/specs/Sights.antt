@@ -25,16 +25,15 @@ LeadsVnodeTo gate history state = RunFrom state_of Makes gate.opening history st
 abbrev pub ShowsState : Sight → State Content → Type 0
 ShowsState pass state = LeadsVnodeTo pass.gate pass.prefix state
 
--- some history of the gate leads its vnode to a state in which it is closed
-pub record ShowsClosed (gate : GateId View) : Type 0 where
-  pub history : List Entry
+-- at the end of what a pass has seen its vnode is closed
+pub record ShowsClosed (pass : Sight) : Type 0 where
   pub state : State Content
-  pub leads : LeadsVnodeTo gate history state
+  pub shows : ShowsState pass state
   pub closed : IsSome state.closed
 
 -- it had given this epoch last then
-abbrev pub ClosedBehind : GateId View → (last_epoch : ℕ) → Type 0
-ClosedBehind gate last_epoch = (shown : ShowsClosed gate) × (last_epoch ≡ shown.state.last_epoch)
+abbrev pub ClosedBehind : Sight → (last_epoch : ℕ) → Type 0
+ClosedBehind pass last_epoch = (shown : ShowsClosed pass) × (last_epoch ≡ shown.state.last_epoch)
 
 -- the gate was made round a new vnode, of an id and behind a last epoch that a vnode can have
 pub record IsOfVnode (gate : GateId View) : Type 0 where

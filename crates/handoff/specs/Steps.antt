@@ -1,7 +1,5 @@
 -- What became of one key more, and why no further one could be tried.
-use Rattle.std.specs.Prelude.{◌≡◌, ℕ}
-use Rattle.rw_gate.specs.Views.{GateId}
-use Rattle.vnode_core.specs.Plans.{View}
+use Rattle.std.specs.Prelude.{◌≡◌, ℕ, Some}
 use Rattle.handoff.specs.declared.copying.Step.{Step}
 use Rattle.handoff.specs.declared.copying.Step.TheVariants.{End, Passed, Made, Stuck}
 use Rattle.handoff.specs.declared.fault.Stop.{Stop}
@@ -18,14 +16,14 @@ CopiesOrStays diversion old mine theirs (Passed key) = mine.own ≡ old.own
 CopiesOrStays diversion old mine theirs (Made key) = CopiesOne diversion old mine theirs
 CopiesOrStays diversion old mine theirs (Stuck key) = mine.own ≡ old.own
 
--- where the fallback was found closed, some history of it leads there
-abbrev pub IsStopOf : (fallback : GateId View) → Stop → Type 0
-IsStopOf fallback stops.NotDiverted = ShowsClosed fallback
-IsStopOf fallback stops.NoMemory = Unit {0}
-IsStopOf fallback stops.GateStopped = Unit {0}
+-- where the fallback was found closed, its pass has seen it so
+abbrev pub IsStopOf : (theirs : Sight) → Stop → Type 0
+IsStopOf theirs stops.NotDiverted = ShowsClosed theirs
+IsStopOf theirs stops.NoMemory = Unit {0}
+IsStopOf theirs stops.GateStopped = Unit {0}
 
--- the fault that a stop is told as
-abbrev pub fault_of : Stop → HandoffFault
-fault_of stops.NotDiverted = faults.NotDiverted
-fault_of stops.NoMemory = faults.NoMemory
-fault_of stops.GateStopped = faults.GateStopped
+-- the fault that a stop is told as, with the pass of the fallback
+abbrev pub fault_of : Stop → Sight → HandoffFault
+fault_of stops.NotDiverted theirs = faults.NotDiverted (Some theirs)
+fault_of stops.NoMemory theirs = faults.NoMemory
+fault_of stops.GateStopped theirs = faults.GateStopped

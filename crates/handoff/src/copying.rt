@@ -2,17 +2,16 @@
 ghost use Rattle.std.specs.Prelude.{◌≡◌, ◌+◌, ◌<◌, ◌≤◌, ◌^◌, IfOk, IfErr, OnOk, IfNone, IfSome, [], length};
 ghost use mathlib.Core.List.{IsPrefix};
 ghost use Rattle.clock_store.specs.Keys.{stored_of};
-ghost use Rattle.rw_gate.specs.Views.{GateId};
 ghost use Rattle.vnode_core.specs.Events.{commands_of};
-ghost use Rattle.vnode_core.specs.Plans.{View};
 ghost use Rattle.vnode_machine.specs.Sound.{IsSound};
 ghost use Rattle.handoff.specs.Copying.{AreCopies, CopiesBack, CopiesOne, CountsLeft};
-ghost use Rattle.handoff.specs.Sights.{IsOfVnode, ShowsState};
+ghost use Rattle.handoff.specs.Endings.{IsCopyStop};
+ghost use Rattle.handoff.specs.Sights.{IsOfVnode, ShowsState, Sight};
 ghost use Rattle.handoff.specs.Left.{IsHeld, IsHeldAt};
 ghost use Rattle.handoff.specs.Steps.{IsStopOf, CopiesOrStays};
 
 use crate::counting::look_left;
-use crate::fault::Stop;
+use crate::fault::{HandoffFault, Stop, fault_of};
 use crate::gates::Fallback;
 use crate::left::{Found, Left, next_left};
 use clock_store::KeyRef;
@@ -85,29 +84,68 @@ struct Tried {
     last: Key,
 }
 
+/// How many keys were copied, how many were tried, and how many are left.
+#[derive(Clone, Copy, Drop)]
+struct Counts {
+    keys: u32,
+    tried: u32,
+    left: u32,
+}
+
 /// Copies the first `budget` keys that aren't copied as they are now, in their order, and counts what is left then.
 pub(crate) fn copy_keys<R: Wait>(
     rt: &R,
     alloc: Global,
     partition: &Diverted<'_>,
     budget: u32,
-) -> Result<Copied, Stop>
+) -> Result<Copied, HandoffFault>
     requires { IsOfVnode partition.now.fallback.now.gate }
     ensures ok { IfOk result (CopiesBack partition.now.primary.now partition.now.fallback.now
         budget) }
-    ensures stop { IfErr result (IsStopOf partition.now.fallback.now.gate) }
+    ensures fault { IfErr result (IsCopyStop partition.now.fallback.now) }
 {
     let mut mine = partition.primary.pass();
     let mut theirs = partition.fallback.gate.pass();
-    let (keys, tried) = copy_some(rt, alloc, partition, budget, &mut mine, &mut theirs)?;
-    let left = look_left(rt, alloc, partition, &mut mine, &mut theirs)?;
-    Ok(Copied {
-        keys,
-        stuck: tried - keys,
-        left,
-        primary: mine,
-        fallback: theirs,
-    })
+    match copy_and_count(rt, alloc, partition, budget, &mut mine, &mut theirs) {
+        Ok(counts) => Ok(Copied {
+            keys: counts.keys,
+            stuck: counts.tried - counts.keys,
+            left: counts.left,
+            primary: mine,
+            fallback: theirs,
+        }),
+        Err(stop) => Err(fault_of(stop, theirs)),
+    }
+}
+
+/// The same by these passes; how many keys were copied, how many it tried, and how many are left.
+fn copy_and_count<R: Wait>(
+    rt: &R,
+    alloc: Global,
+    partition: &Diverted<'_>,
+    budget: u32,
+    mine: &mut Pass<Vnode>,
+    theirs: &mut Pass<Vnode>,
+) -> Result<Counts, Stop>
+    requires mine { mine.old.gate ≡ partition.now.primary.now }
+    requires theirs { theirs.old.gate ≡ partition.now.fallback.now.gate }
+    requires vnode { IsOfVnode partition.now.fallback.now.gate }
+    requires new { mine.old.own ≡ [] }
+    requires new_there { theirs.old.own ≡ [] }
+    ensures mine { mine.new.gate ≡ partition.now.primary.now }
+    ensures theirs { theirs.new.gate ≡ partition.now.fallback.now.gate }
+    ensures copies { IfOk result (λ counts. AreCopies partition.now.fallback.now.diversion
+        mine.new theirs.new mine.new.own) }
+    ensures keys { IfOk result (λ counts. counts.keys ≡ length mine.new.own) }
+    ensures few { IfOk result (λ counts. counts.keys ≤ counts.tried) }
+    ensures budget { IfOk result (λ counts. counts.tried ≤ budget) }
+    ensures none { IfOk result (λ counts. theirs.new.own ≡ []) }
+    ensures left { IfOk result (λ counts. CountsLeft mine.new theirs.new counts.left) }
+    ensures stop { IfErr result (IsStopOf theirs.new) }
+{
+    let (keys, tried) = copy_some(rt, alloc, partition, budget, mine, theirs)?;
+    let left = look_left(rt, alloc, partition, mine, theirs)?;
+    Ok(Counts { keys, tried, left })
 }
 
 /// Copies at most `budget` keys; how many were copied, and how many it tried.
@@ -132,7 +170,7 @@ fn copy_some<R: Wait>(
     ensures few { IfOk result (λ made. made.0 ≤ made.1) }
     ensures budget { IfOk result (λ made. made.1 ≤ budget) }
     ensures none { IfOk result (λ made. theirs.new.own ≡ []) }
-    ensures stop { IfErr result (IsStopOf partition.now.fallback.now.gate) }
+    ensures stop { IfErr result (IsStopOf theirs.new) }
 {
     let mut keys: u32 = 0;
     let mut tried: u32 = 0;
@@ -191,7 +229,7 @@ fn copy_counted<R: Wait>(
     ensures end { IfOk result (λ next. IfNone next (keys ≡ length mine.new.own)) }
     ensures more { IfOk result (λ next. IfSome next (λ one.
         (one.keys ≡ length mine.new.own) × (one.keys ≤ one.tried) × (one.tried ≤ tried + 1))) }
-    ensures stop { IfErr result (IsStopOf partition.now.fallback.now.gate) }
+    ensures stop { IfErr result (IsStopOf theirs.new) }
 {
     let step = copy_next(rt, alloc, partition, mine, theirs, after)?;
     match step {
@@ -229,7 +267,7 @@ fn copy_next<R: Wait>(
     ensures own_there { theirs.new.own ≡ theirs.old.own }
     ensures step { IfOk result (CopiesOrStays partition.now.fallback.now.diversion
         mine.old mine.new theirs.new) }
-    ensures stop { IfErr result (IsStopOf partition.now.fallback.now.gate) }
+    ensures stop { IfErr result (IsStopOf theirs.new) }
 {
     let reader = partition.fallback.gate.read(rt);
     let step = copy_under(rt, alloc, partition, &reader, mine, theirs, after);
@@ -258,7 +296,7 @@ fn copy_under<R: Wait>(
     ensures own_there { theirs.new.own ≡ theirs.old.own }
     ensures step { IfOk result (CopiesOrStays partition.now.fallback.now.diversion
         mine.old mine.new theirs.new) }
-    ensures stop { IfErr result (IsStopOf partition.now.fallback.now.gate) }
+    ensures stop { IfErr result (IsStopOf theirs.new) }
 {
     let from = reader.look(theirs)?;
     if from.closed_at().is_some() {
@@ -291,7 +329,7 @@ fn look_for<'a, R: Wait>(
     ensures more { IsPrefix mine.old.prefix mine.new.prefix }
     ensures own { mine.new.own ≡ mine.old.own }
     ensures held { IfOk result (IsHeldAt from.now.state) }
-    ensures stop { IfErr result (IsStopOf partition.now.fallback.now.gate) }
+    ensures stop { (theirs : Sight) → IfErr result (IsStopOf theirs) }
 {
     let here = partition.primary.read(rt);
     let found = look_under(alloc, &here, from, mine, after);
@@ -313,7 +351,7 @@ fn look_under<'a>(
     ensures more { IsPrefix mine.old.prefix mine.new.prefix }
     ensures own { mine.new.own ≡ mine.old.own }
     ensures held { IfOk result (IsHeldAt from.now.state) }
-    ensures stop { (gate : GateId View) → IfErr result (IsStopOf gate) }
+    ensures stop { (theirs : Sight) → IfErr result (IsStopOf theirs) }
 {
     let to = here.look(mine)?;
     let found = next_left(alloc, to, from, after, STRETCH)?;
@@ -338,7 +376,7 @@ fn copy_to(
     ensures mine { mine.new.gate ≡ mine.old.gate }
     ensures more { IsPrefix mine.old.prefix mine.new.prefix }
     ensures step { IfOk result (CopiesOrStays diversion mine.old mine.new theirs.now) }
-    ensures stop { IfErr result (IsStopOf theirs.now.gate) }
+    ensures stop { IfErr result (IsStopOf theirs.now) }
 {
     let to = writer.look(mine)?;
     if is_copied(to, &left.key, left.stored) {

@@ -40,7 +40,7 @@ pub(crate) fn look_left<R: Wait>(
     ensures own { mine.new.own ≡ mine.old.own }
     ensures own_there { theirs.new.own ≡ theirs.old.own }
     ensures left { IfOk result (CountsLeft mine.new theirs.new) }
-    ensures stop { IfErr result (IsStopOf partition.now.fallback.now.gate) }
+    ensures stop { IfErr result (IsStopOf theirs.new) }
 {
     let there = partition.fallback.gate.read(rt);
     let here = partition.primary.read(rt);
@@ -68,7 +68,7 @@ fn left_under(
     ensures own { mine.new.own ≡ mine.old.own }
     ensures own_there { theirs.new.own ≡ theirs.old.own }
     ensures left { IfOk result (CountsLeft mine.new theirs.new) }
-    ensures stop { IfErr result (IsStopOf there.now.gate) }
+    ensures stop { IfErr result (IsStopOf theirs.new) }
 {
     let from = there.look(theirs)?;
     if from.closed_at().is_some() {

@@ -19,8 +19,8 @@ pub struct Returned {
 pub enum HandoffFault {
     /// The partition has a fallback that one attempt didn't show closed, or it had 4,294,967,295 diversions.
     AlreadyDiverted,
-    /// The partition has no fallback, or a look shows it closed.
-    NotDiverted,
+    /// The partition has no fallback; or it has one that is closed, as this pass of it has seen.
+    NotDiverted(Option<Pass<Vnode>>),
     /// A key of the fallback isn't copied as it is now, by these passes.
     LeftOver(Returned),
     /// Memory was refused.
@@ -48,15 +48,14 @@ pub(crate) enum Stop {
     GateStopped,
 }
 
-impl From<Stop> for HandoffFault {
-    ghost from_gives = { λ stop fault. fault ≡ fault_of stop };
-
-    fn from(stop: Stop) -> HandoffFault {
-        match stop {
-            Stop::NotDiverted => HandoffFault::NotDiverted,
-            Stop::NoMemory => HandoffFault::NoMemory,
-            Stop::GateStopped => HandoffFault::GateStopped,
-        }
+/// The fault that a stop is told as, with the pass of the fallback.
+pub(crate) fn fault_of(stop: Stop, theirs: Pass<Vnode>) -> HandoffFault
+    ensures { result ≡ fault_of stop theirs }
+{
+    match stop {
+        Stop::NotDiverted => HandoffFault::NotDiverted(Some(theirs)),
+        Stop::NoMemory => HandoffFault::NoMemory,
+        Stop::GateStopped => HandoffFault::GateStopped,
     }
 }
 

@@ -18,6 +18,8 @@ pub struct Fallback {
     pub gate: Gate<Vnode>,
     /// 1 for the partition's first diversion.
     pub diversion: u32,
+    /// The pass by which the fallback before this one was seen closed: of all that it ever took. None for the first diversion.
+    pub before: Option<Pass<Vnode>>,
 }
 
 /// One call at each place where one is let go.
@@ -26,6 +28,7 @@ impl Drop for Fallback {
         let Fallback {
             gate: _gate,
             diversion: _diversion,
+            before: _before,
         } = self;
     }
 }
@@ -67,17 +70,27 @@ pub(crate) fn no_fallbacks(alloc: Global, size: u16) -> Result<Vec<Option<Fallba
     Ok(fallbacks)
 }
 
-/// What a partition's next diversion begins with: its number, and the epoch behind which its fallback's first life begins.
-#[derive(Clone, Copy, Drop)]
+/// What a partition's next diversion begins with: its number, the epoch behind which its fallback's first life begins, and the pass that has
+/// seen the fallback before it closed with that epoch.
+#[derive(Drop)]
 pub(crate) struct NextDiversion {
     pub(crate) number: u32,
     pub(crate) last_epoch: u32,
+    pub(crate) before: Option<Pass<Vnode>>,
+}
+
+/// A pass that has seen a vnode closed, and the last epoch that the vnode had given then.
+#[derive(Drop)]
+struct SeenClosed {
+    pass: Pass<Vnode>,
+    last_epoch: u32,
 }
 
 /// The last epoch that a vnode gave, where a look shows it closed.
 fn last_if_shown(right: &ReadRight<'_, Vnode>, pass: &mut Pass<Vnode>) -> Option<u32>
     requires { pass.old.gate ≡ right.now.gate }
-    ensures { IfSome result (ClosedBehind right.now.gate) }
+    ensures gate { pass.new.gate ≡ pass.old.gate }
+    ensures closed { IfSome result (ClosedBehind pass.new) }
 {
     let Ok(vnode) = right.look(pass) else {
         return None;
@@ -88,33 +101,44 @@ fn last_if_shown(right: &ReadRight<'_, Vnode>, pass: &mut Pass<Vnode>) -> Option
     }
 }
 
-/// The same by one attempt to read it.
-fn last_if_closed(gate: &Gate<Vnode>) -> Option<u32>
-    ensures { IfSome result (ClosedBehind gate.now) }
+/// The same by one attempt to read it, with the pass.
+fn last_if_closed(gate: &Gate<Vnode>) -> Option<SeenClosed>
+    ensures gate { IfSome result (λ seen. seen.pass.gate ≡ gate.now) }
+    ensures closed { IfSome result (λ seen. ClosedBehind seen.pass seen.last_epoch) }
 {
     let right = gate.try_read()?;
     let mut pass = gate.pass();
-    let last_epoch = last_if_shown(&right, &mut pass);
+    let shown = last_if_shown(&right, &mut pass);
     right.release();
-    last_epoch
+    match shown {
+        None => None,
+        Some(last_epoch) => Some(SeenClosed { pass, last_epoch }),
+    }
 }
 
 /// What the next diversion of a partition begins with, by the fallback that stands there: the first begins behind no epoch, a later one behind
-/// the last epoch of the closed one. None where one attempt doesn't show it closed, or it was the last that can be numbered.
+/// the last epoch of the closed one, as a pass of that has seen it. None where one attempt doesn't show it closed, or it was the last that
+/// can be numbered.
 pub(crate) fn next_diversion(fallback: &Option<Fallback>) -> Option<NextDiversion>
     ensures number { IfSome result (λ next. next.number ≡ number_of fallback.now + 1) }
-    ensures begins { IfSome result (λ next. BeginsBehind fallback.now next.last_epoch) }
+    ensures begins { IfSome result (λ next.
+        BeginsBehind fallback.now next.before next.last_epoch) }
     ensures none { IfNone result (IsSome fallback.now) }
 {
     match fallback {
         None => Some(NextDiversion {
             number: 1,
             last_epoch: 0,
+            before: None,
         }),
         Some(fallback) => {
             let number = fallback.diversion.checked_add(1)?;
-            let last_epoch = last_if_closed(&fallback.gate)?;
-            Some(NextDiversion { number, last_epoch })
+            let SeenClosed { pass, last_epoch } = last_if_closed(&fallback.gate)?;
+            Some(NextDiversion {
+                number,
+                last_epoch,
+                before: Some(pass),
+            })
         }
     }
 }
@@ -129,10 +153,14 @@ pub(crate) fn new_fallback(
     ensures made { IfOk result (λ fallback.
         IsMadeNew (fallback_id run index) next.last_epoch fallback.gate) }
     ensures number { IfOk result (λ fallback. fallback.diversion ≡ next.number) }
+    ensures before { IfOk result (λ fallback. fallback.before ≡ next.before) }
     ensures limits { IsWithinLimits (fallback_id run index) next.last_epoch }
 {
     let id = vnode_id(run, index) + FALLBACK_IDS;
     let gate = new_gate(alloc, id, next.last_epoch)?;
-    let diversion = next.number;
-    Ok(Fallback { gate, diversion })
+    Ok(Fallback {
+        gate,
+        diversion: next.number,
+        before: next.before,
+    })
 }

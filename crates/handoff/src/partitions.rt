@@ -136,7 +136,7 @@ impl Handoff {
     /// calls wait for each other. At last it looks at both once more, and counts what is left; writes at the fallback wait for that.
     ///
     /// Refused, with what was copied until then copied, by `NotDiverted` where no fallback stands there, or a look shows it
-    /// closed; by `NoMemory`; by `GateStopped`. The call can be made again.
+    /// closed, with the pass that has seen that; by `NoMemory`; by `GateStopped`. The call can be made again.
     pub fn copy_back<R: Wait>(
         &self,
         rt: &R,
@@ -149,12 +149,9 @@ impl Handoff {
         ensures fault { IfErr result (IsCopyFault self.now index) }
     {
         let Some(partition) = self.diverted(index) else {
-            return Err(HandoffFault::NotDiverted);
+            return Err(HandoffFault::NotDiverted(None));
         };
-        match copy_keys(rt, alloc, &partition, budget) {
-            Ok(copied) => Ok(copied),
-            Err(stop) => Err(HandoffFault::from(stop)),
-        }
+        copy_keys(rt, alloc, &partition, budget)
     }
 
     /// Ends a partition's diversion, where each key of its fallback is copied as it is now: it closes the fallback, which drops its keys,
@@ -164,8 +161,8 @@ impl Handoff {
     /// It takes the right to write at the fallback, and then a right to read at the primary; so no two calls wait for each
     /// other, as with `copy_back`.
     ///
-    /// Refused, and all stays as it was, by `NotDiverted` where no fallback stands there, or a look shows it closed; by
-    /// `LeftOver`, with the passes that show it, where a key isn't copied; by `NoMemory`; by `GateStopped`.
+    /// Refused, and all stays as it was, by `NotDiverted` where no fallback stands there, or a look shows it closed, with the pass that
+    /// has seen that; by `LeftOver`, with the passes that show it, where a key isn't copied; by `NoMemory`; by `GateStopped`.
     pub fn finish_return<R: Wait>(
         &self,
         rt: &R,
@@ -177,7 +174,7 @@ impl Handoff {
         ensures fault { IfErr result (IsReturnFault self.now index) }
     {
         let Some(partition) = self.diverted(index) else {
-            return Err(HandoffFault::NotDiverted);
+            return Err(HandoffFault::NotDiverted(None));
         };
         end_diversion(rt, alloc, &partition)
     }

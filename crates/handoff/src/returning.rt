@@ -8,7 +8,7 @@ ghost use Rattle.handoff.specs.Sights.{IsOfVnode, state_of};
 ghost use Rattle.handoff.specs.Steps.{IsStopOf};
 
 use crate::copying::Diverted;
-use crate::fault::{HandoffFault, Returned, Stop};
+use crate::fault::{HandoffFault, Returned, Stop, fault_of};
 use crate::left::first_left;
 use rw_gate::{AskOutcome, Gate, Pass, ReadRight, WriteRight, ask_shown};
 use std::alloc::Global;
@@ -41,14 +41,16 @@ pub(crate) fn end_diversion<R: Wait>(
     let primary = partition.primary;
     let ending = close_under(rt, alloc, primary, &mut writer, &mut mine, &mut theirs);
     writer.release();
-    let passes = Returned {
-        primary: mine,
-        fallback: theirs,
-    };
     match ending {
-        Ok(Ending::Closed) => Ok(passes),
-        Ok(Ending::LeftOver) => Err(HandoffFault::LeftOver(passes)),
-        Err(stop) => Err(HandoffFault::from(stop)),
+        Ok(Ending::Closed) => Ok(Returned {
+            primary: mine,
+            fallback: theirs,
+        }),
+        Ok(Ending::LeftOver) => Err(HandoffFault::LeftOver(Returned {
+            primary: mine,
+            fallback: theirs,
+        })),
+        Err(stop) => Err(fault_of(stop, theirs)),
     }
 }
 
@@ -69,7 +71,7 @@ fn close_under<R: Wait>(
     ensures mine { mine.new.gate ≡ mine.old.gate }
     ensures theirs { theirs.new.gate ≡ theirs.old.gate }
     ensures ending { IfOk result (EndsSo mine.new theirs.new) }
-    ensures stop { IfErr result (IsStopOf theirs.new.gate) }
+    ensures stop { IfErr result (IsStopOf theirs.new) }
 {
     let reader = primary.read(rt);
     let ending = close_shown(alloc, &reader, writer, mine, theirs);
@@ -93,7 +95,7 @@ fn close_shown(
     ensures mine { mine.new.gate ≡ mine.old.gate }
     ensures theirs { theirs.new.gate ≡ theirs.old.gate }
     ensures ending { IfOk result (EndsSo mine.new theirs.new) }
-    ensures stop { IfErr result (IsStopOf theirs.new.gate) }
+    ensures stop { IfErr result (IsStopOf theirs.new) }
 {
     let to = reader.look(mine)?;
     let from = writer.look(theirs)?;
@@ -122,7 +124,7 @@ fn close(
     requires replay { IsReplayed state_of Makes writer.old }
     ensures gate { theirs.new.gate ≡ theirs.old.gate }
     ensures closed { OnOk result (ClosesWith number theirs.old theirs.new) }
-    ensures stop { IfErr result (IsStopOf theirs.new.gate) }
+    ensures stop { IfErr result (IsStopOf theirs.new) }
 {
     match ask_shown(writer, alloc, theirs, Ask::Close(number)) {
         AskOutcome::Made(_) => Ok(()),

@@ -241,7 +241,7 @@ pub fn try_finish<W: Wait>(rt: &W, alloc: Global, shared: &Shared) -> Option<Fin
     match shared.handoff().finish_return(rt, alloc, 0) {
         Ok(_) => Some(Finish::Returned),
         Err(HandoffFault::LeftOver(_)) => Some(Finish::LeftOver),
-        Err(HandoffFault::NotDiverted) => Some(Finish::NotDiverted),
+        Err(HandoffFault::NotDiverted(_)) => Some(Finish::NotDiverted),
         Err(HandoffFault::NoMemory) => Some(Finish::NoMemory),
         Err(_) => None,
     }

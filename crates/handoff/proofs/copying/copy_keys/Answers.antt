@@ -1,23 +1,16 @@
-use Rattle.std.proofs.Common.{◌∙◌, List, ℕ, ap, sym, subst, length, arith}
-use Rattle.handoff.specs.Copying.{AreCopies}
-use Rattle.handoff.proofs.Copies.{copies-more}
+use Rattle.std.proofs.Common.{arith}
 use Rattle.handoff.proofs.copying.copy_keys.Goals as goal
 
-pub returns-clause-ok : goal.returns-clause-ok
-returns-clause-ok g c =
-    let diversion = c.args.partition.now.fallback.now.diversion in
-    let mine = c.copy_some.new.mine in
-    let theirs = c.copy_some.new.theirs in
-    let few = c.in_ok-keys.ensures.few in
-    let budget = c.in_ok-keys.ensures.budget in
+pub returns-in-Ok-clause-ok : goal.returns-in-Ok-clause-ok
+returns-in-Ok-clause-ok g c =
+    let few = c.in-Ok.ensures.few in
+    let budget = c.in-Ok.ensures.budget in
     record {
-      gate = c.look_left.ensures.mine;
-      gate_there = c.look_left.ensures.theirs;
-      copies = subst (λ (ks : List ℕ). AreCopies diversion c.look_left.new.mine c.look_left.new.theirs ks) (sym c.look_left.ensures.own)
-          (copies-more diversion mine c.look_left.new.mine theirs c.look_left.new.theirs mine.own c.look_left.ensures.more
-          (c.look_left.ensures.theirs ∙ sym c.copy_some.ensures.theirs) c.look_left.ensures.more_there c.in_ok-keys.ensures.copies);
-      none = c.look_left.ensures.own_there ∙ c.in_ok-keys.ensures.none;
-      keys = c.in_ok-keys.ensures.keys ∙ ap length (sym c.look_left.ensures.own);
+      gate = c.copy_and_count.ensures.mine;
+      gate_there = c.copy_and_count.ensures.theirs;
+      copies = c.in-Ok.ensures.copies;
+      none = c.in-Ok.ensures.none;
+      keys = c.in-Ok.ensures.keys;
       tried = omega (arith, few, budget);
-      left = c.in_ok-left.ensures.left;
+      left = c.in-Ok.ensures.left;
     }

@@ -16,9 +16,9 @@ invariant_of-self c =
     let here : c.args.index ≡ 0 + c.from-at.result = omega (arith, at) in
     let next = c.in-Some.next in
     let one = subst (λ n. IsFallback c.self.inside.run n c.in_ok-fallback.fallback) here
-    (next-fallback c.self.inside.run c.args.index next.number next.last_epoch c.index.result.now c.in_ok-fallback.fallback
+    (next-fallback c.self.inside.run c.args.index next.number next.last_epoch c.index.result.now next.before c.in_ok-fallback.fallback
     (subst (λ n. IfSome c.index.result.now (IsFallback c.self.inside.run n)) (sym here) was)
-    c.in-Some.ensures.number c.in-Some.ensures.begins c.in_ok-fallback.ensures.number c.in_ok-fallback.ensures.made c.in_ok-fallback.ensures.limits) in (
+    c.in-Some.ensures.number c.in-Some.ensures.begins c.in_ok-fallback.ensures.number c.in_ok-fallback.ensures.before c.in_ok-fallback.ensures.made c.in_ok-fallback.ensures.limits) in (
       c.self.invariant.0,
       c.self.invariant.1,
       fallbacks_set c.self.inside.run 0 c.from-at.result all (Some c.in_ok-fallback.fallback) c.self.invariant.2 one,
@@ -49,7 +49,7 @@ returns-clause-ok c =
     let old : HandoffView = record { index_bits = c.self.inside.ring; run = c.self.inside.run; gates = c.self.inside.gates.items; fallbacks = all } in
     let new : HandoffView = record { index_bits = c.self.inside.ring; run = c.self.inside.run; gates = c.self.inside.gates.items; fallbacks = slice_set all c.from-at.result (Some c.in_ok-fallback.fallback) } in
     rw (← c.self.view_is)
-    (next-diverted c.args.index next.number next.last_epoch old new c.index.result.now c.in_ok-fallback.fallback
+    (next-diverted c.args.index next.number next.last_epoch old new c.index.result.now next.before c.in_ok-fallback.fallback
     (subst (λ n. IfSome c.index.result.now (IsFallback c.self.inside.run n)) here was)
-    c.in-Some.ensures.number c.in-Some.ensures.begins c.in_ok-fallback.ensures.number c.in_ok-fallback.ensures.made c.in_ok-fallback.ensures.limits stood
+    c.in-Some.ensures.number c.in-Some.ensures.begins c.in_ok-fallback.ensures.number c.in_ok-fallback.ensures.before c.in_ok-fallback.ensures.made c.in_ok-fallback.ensures.limits stood
     (ap (λ n. record old { fallbacks = slice_set all n (Some c.in_ok-fallback.fallback) }) at))
