@@ -1,7 +1,7 @@
 -- What the passes of callers have seen of histories, as they come one after another.
 use Rattle.std.proofs.Common.{◌≡◌, ◌∙◌, ℕ, zero, suc, List, [], ◌∷◌, ◌++◌, length, map, ap, sym, refl, arith}
 use Rattle.std.proofs.lemmas.List.{length-map, map-append}
-use Rattle.std.specs.Prelude.{Some, slice_get}
+use Rattle.std.specs.Prelude.{Bool, true, Some, slice_get}
 use Rattle.std.specs.List.{All, AllZip}
 use Rattle.rw_gate.specs.Views.{GateId}
 use Rattle.vnode_core.specs.declared.vnode.tally.Tally.{Tally}
@@ -9,7 +9,7 @@ use Rattle.vnode_core.specs.Plans.{View}
 use Rattle.gate_node.specs.Asked.{Sight}
 use Rattle.gate_node.specs.Gates.{Gates}
 use Rattle.gate_node.specs.Passes.{Sights}
-use Rattle.gate_node.specs.Tallies.{GateHistory, IsTally}
+use Rattle.gate_node.specs.Tallies.{GateHistory, IsTally, CountsAll}
 use Rattle.gate_node.specs.OneHistory.{IsSeen, AreOfGates, PassIsOfGate, HasSeen, HaveSeen, CallersAreOfRun, CallersAreOfGate, SharesHistory, ShareHistories}
 
 -- the pass of a gate stands in the gate's place
@@ -55,23 +55,24 @@ module _ {T : Type 0} (sights : T → Sights) where
   all_of_gate shared callers all index gate at k d lt = let one = all k d lt in of_gate _ shared.gates one.primaries index gate at
 
   -- before the first gate
-  pub no_history : (callers : List T) → ShareHistories sights [] callers []
-  no_history callers = record { histories = []; of_gates = refl; tallied = tt; seen = λ k d lt. tt }
+  pub no_history : (callers : List T) (count_all : Bool) → ShareHistories sights [] callers [] count_all
+  no_history callers count_all = record { histories = []; of_gates = refl; tallied = tt; counted = λ all. tt; seen = λ k d lt. tt }
 
   -- the tallies stand in the gates' places
-  pub shared_length : (gates : List (GateId View)) (callers : List T) (tallies : List Tally) → ShareHistories sights gates callers tallies → length tallies ≡ length gates
-  shared_length gates callers tallies h = sym (zip_length IsTally h.histories tallies h.tallied) ∙ sym (length-map h.histories (λ (history : GateHistory). history.gate)) ∙ ap length h.of_gates
+  pub shared_length : (gates : List (GateId View)) (callers : List T) (tallies : List Tally) (count_all : Bool) → ShareHistories sights gates callers tallies count_all → length tallies ≡ length gates
+  shared_length gates callers tallies count_all h = sym (zip_length IsTally h.histories tallies h.tallied) ∙ sym (length-map h.histories (λ (history : GateHistory). history.gate)) ∙ ap length h.of_gates
 
   -- the next gate, with its tally
-  pub one_more : (gates : List (GateId View)) (gate : GateId View) (callers : List T) (tallies : List Tally) (tally : Tally) (index : ℕ) → index ≡ length tallies → ShareHistories sights gates callers tallies → SharesHistory sights index gate callers tally
-      → ShareHistories sights (gates ++ gate ∷ []) callers (tallies ++ tally ∷ [])
-  one_more gates gate callers tallies tally index is h one =
+  pub one_more : (gates : List (GateId View)) (gate : GateId View) (callers : List T) (tallies : List Tally) (tally : Tally) (index : ℕ) (before here both : Bool) → index ≡ length tallies → (both ≡ true → (before ≡ true) × (here ≡ true))
+      → ShareHistories sights gates callers tallies before → SharesHistory sights index gate callers tally here → ShareHistories sights (gates ++ gate ∷ []) callers (tallies ++ tally ∷ []) both
+  one_more gates gate callers tallies tally index before here both is each h one =
       let history : GateHistory = record { gate = gate; events = one.events } in
       let place = is ∙ sym (zip_length IsTally h.histories tallies h.tallied) in
       record {
         histories = h.histories ++ history ∷ [];
         of_gates = map-append (λ (next : GateHistory). next.gate) h.histories (history ∷ []) ∙ ap (λ gs. gs ++ gate ∷ []) h.of_gates;
         tallied = zip_more IsTally h.histories tallies history tally h.tallied one.tallied;
+        counted = λ all. zip_more CountsAll h.histories tallies history tally (h.counted (each all).0) (one.counted (each all).1);
         seen = λ k d lt. seen_more h.histories history _ index place (h.seen k d lt) (one.seen k d lt);
       }
 

@@ -11,3 +11,5 @@ pub mod Seeing
 pub mod Unclosed
 pub mod Histories
 pub mod InHistories
+pub mod Tallying
+pub mod Plain

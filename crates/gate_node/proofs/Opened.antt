@@ -16,6 +16,7 @@ use Rattle.stats_book.specs.declared.quantity.Quantity.{Quantity}
 use Rattle.stats_book.specs.Counter.{Count, CountsAnswer}
 use Rattle.handoff.specs.declared.gates.Fallback.{Fallback}
 use Rattle.handoff.specs.Partitions.{AreMadeNew, AreOfNewRun, IsFallback}
+use Rattle.handoff.specs.Sights.{IsOfVnode}
 use Rattle.handoff.proofs.Opened.{got, none_some}
 use Rattle.gate_node.specs.declared.passes.FallbackPass.{FallbackPass}
 use Rattle.gate_node.specs.Asked.{Sight, AnswersAndReaps}
@@ -42,6 +43,10 @@ new_at run gates new index gate at =
       subst (λ n. IsMadeNew (id_of run n) 0 gate) here (made_new_at run 0 index gates gate new.made_new at),
       limits_at run (length gates) index new.fits new.few (slice_get_within gates index gate at),
     )
+
+-- so it was made round a vnode
+pub new_vnode_at : (run : ℕ) (gates : List (GateId View)) → AreOfNewRun run gates → (index : ℕ) (gate : GateId View) → slice_get gates index ≡ Some gate → IsOfVnode gate
+new_vnode_at run gates new index gate at = let here = new_at run gates new index gate at in record { id = id_of run index; last_epoch = 0; made_new = here.0; limits = here.1 }
 
 abbrev gate_of : Sight → GateId View
 gate_of pass = pass.gate

@@ -120,7 +120,7 @@ at_is index command old reply new Answers AnswersOpen answers opened are (inr (i
     (λ id before after last quantity limits made begins more says. answers id before after last quantity limits made begins more (opened before after quantity says)) are at
 at_is index command old reply new Answers AnswersOpen answers opened are (inr (inr at)) = absurd (no_close index at.number old at.found new reply Answers are at.closed at.answers)
 
-step_is : (old : NodeOverGates) (request : Request) (reply : Reply) (new : NodeOverGates) → GateNodeStep old request reply new → HasSeenCommands new → SharedRegister old.shared (seen_by old) request reply (seen_by new)
+pub step_is : (old : NodeOverGates) (request : Request) (reply : Reply) (new : NodeOverGates) → GateNodeStep old request reply new → HasSeenCommands new → SharedRegister old.shared (seen_by old) request reply (seen_by new)
 step_is old requests.Ping reply new step are = (step.0, ap seen_by step.1)
 step_is old (requests.Get get) reply new step are =
     at_is (partition_of old.shared.index_bits get.key) (AskGet (get_command get)) old reply new (Gets get) (GetsOpen get)

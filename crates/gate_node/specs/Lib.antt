@@ -7,3 +7,4 @@ pub mod Sessions
 pub mod Registers
 pub mod Tallies
 pub mod OneHistory
+pub mod Plain

@@ -1,5 +1,5 @@
 -- One history of the primary of each partition of a run, of which every caller has seen a beginning.
-use Rattle.std.specs.Prelude.{◌≡◌, ℕ, List, [], ◌∷◌, Option, Some, IfSome, map, slice_get}
+use Rattle.std.specs.Prelude.{◌≡◌, ℕ, Bool, true, List, [], ◌∷◌, Option, Some, IfSome, map, slice_get}
 use mathlib.Core.Logic.{inl, inr}
 use mathlib.Core.List.{IsPrefix}
 use Rattle.std.specs.List.{All, AllZip}
@@ -17,7 +17,7 @@ use Rattle.gate_node.specs.Gates.{Gates}
 use Rattle.gate_node.specs.GateStep.{NodeOverGates, GateNodeStep, AnswersFrom, AnswersAtPartition}
 use Rattle.gate_node.specs.Passes.{Sights, ArePassesOf}
 use Rattle.stats_book.specs.declared.quantity.Quantity.{Quantity}
-use Rattle.gate_node.specs.Tallies.{GateHistory, IsTally}
+use Rattle.gate_node.specs.Tallies.{GateHistory, IsTally, CountsAll}
 
 -- a pass of this history's gate, and what it has seen is a beginning of the history
 pub record IsSeen (history : GateHistory) (pass : Sight) : Type 0 where
@@ -89,15 +89,18 @@ module _ {T : Type 0} (sights : T → Sights) where
   abbrev pub AllHaveSeen : ℕ → List Entry → List T → Type 0
   AllHaveSeen index events callers = All (λ (caller : T). HasSeen index events (sights caller).primaries) callers
 
-  -- the tally is of one history of the vnode behind this gate, and what each of these callers' passes of it has seen is a beginning of that
-  pub record SharesHistory (index : ℕ) (gate : GateId View) (callers : List T) (tally : Tally) : Type 0 where
+  -- the tally is of one history of the vnode behind this gate, and what each of these callers' passes of it has seen is a beginning of that;
+  -- whether it counts all of it was looked at
+  pub record SharesHistory (index : ℕ) (gate : GateId View) (callers : List T) (tally : Tally) (counts_all : Bool) : Type 0 where
     pub events : List Entry
     pub tallied : IsTally (record { gate = gate; events = events }) tally
+    pub counted : counts_all ≡ true → CountsAll (record { gate = gate; events = events }) tally
     pub seen : AllHaveSeen index events callers
 
   -- and so for each of these gates
-  pub record ShareHistories (gates : List (GateId View)) (callers : List T) (tallies : List Tally) : Type 0 where
+  pub record ShareHistories (gates : List (GateId View)) (callers : List T) (tallies : List Tally) (count_all : Bool) : Type 0 where
     pub histories : List GateHistory
     pub of_gates : AreOfGates gates histories
     pub tallied : AllZip IsTally histories tallies
+    pub counted : count_all ≡ true → AllZip CountsAll histories tallies
     pub seen : All (λ (caller : T). HaveSeen histories (sights caller).primaries) callers

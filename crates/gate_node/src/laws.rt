@@ -14,7 +14,9 @@ ghost use Rattle.gate_node.specs.Gates.{Gates};
 ghost use Rattle.gate_node.specs.Legal.{PositionIsLegal};
 ghost use Rattle.gate_node.specs.Passes.{Sights, OutliveDiversion};
 ghost use Rattle.gate_node.specs.Sessions.{most_of, CountsUpTo};
+ghost use Rattle.gate_node.specs.Plain.{PlainStepIsRegister, TalliesArePlain};
 ghost use Rattle.gate_node.specs.Tallies.{GateHistory};
+ghost use Rattle.vnode_core.specs.declared.vnode.tally.Tally.{Tally};
 ghost use Rattle.gate_node.specs.OneHistory.{StepIn, AnswersIn};
 ghost use Rattle.gate_node.specs.Registers.{RunIsRegister, EndIsRegister, StopIsRegister};
 ghost use Rattle.node_session.specs.declared.fault.SessionFault.{SessionFault};
@@ -93,4 +95,16 @@ pub fn replies_are_at_positions()
         (old : NodeOverGates) (request : Request) (reply : Reply)
         (new : NodeOverGates) (step : StepIn histories old request reply new)
         → AnswersIn histories old request reply new step }
+{}
+
+/// Where no partition of a new run has a fallback, and each tally counts as many commands as its vnode's history has entries
+/// (`count_all` of [`RunTallies`](crate::RunTallies)), the histories are of commands alone, and legal for the sibling register. And each step of a
+/// node in such histories (`StepIn` of `specs/OneHistory`) is one of the register among others ([`gate_node_is_register`]): every reply but an
+/// error of the gate is the register's, at a position of one legal history of the key's vnode that has all that the node had seen of it.
+pub fn plain_replies_are_legal()
+    ensures tallies { (shared : Gates) (histories : List GateHistory) (tallies : List Tally)
+        → TalliesArePlain shared histories tallies }
+    ensures steps { (shared : Gates) (histories : List GateHistory)
+        (old : NodeOverGates) (request : Request) (reply : Reply) (new : NodeOverGates)
+        → PlainStepIsRegister shared histories old request reply new }
 {}

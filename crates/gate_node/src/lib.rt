@@ -66,11 +66,11 @@ mod turnstile;
 
 pub use fault::PoolFault;
 pub use laws::{
-    gate_node_is_register, passes_outlive_diversions, positions_are_legal,
+    gate_node_is_register, passes_outlive_diversions, plain_replies_are_legal, positions_are_legal,
     replies_are_at_positions, sessions_count_their_replies, sessions_keep_their_gates,
 };
 pub use node::GateNode;
 pub use passes::{HasPasses, Passes};
 pub use shared::Shared;
-pub use tallies::tallies_of;
+pub use tallies::{RunTallies, tallies_of};
 pub use turnstile::{Open, Turnstile};

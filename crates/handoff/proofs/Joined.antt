@@ -32,7 +32,7 @@ use Rattle.handoff.proofs.Meeting.{prefix-replays}
 
 -- what an accepted command changes
 module _ (state : State Content) where
-  command-applies : (command : RegisterAsk Content Context) (operation : Operation Content) (response : Response) (next : State Content)
+  pub command-applies : (command : RegisterAsk Content Context) (operation : Operation Content) (response : Response) (next : State Content)
       → outcome state command ≡ Accepted operation response next → next ≡ apply_operation state (key_of command) (context_in_ask command) operation
   command-applies (AskGet get) operation response next h = cc
   command-applies (AskPut put) operation response next h = by (put_check state put) _ _ refl h

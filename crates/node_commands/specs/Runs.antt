@@ -1,5 +1,5 @@
 -- What a run of connections leaves.
-use Rattle.std.specs.Prelude.{◌≡◌, ◌^◌, ℕ, List, None, length}
+use Rattle.std.specs.Prelude.{◌≡◌, ◌^◌, ℕ, Bool, List, None, length}
 use Rattle.job_pool.specs.Lists.{Every}
 use Rattle.handoff.specs.Partitions.{AreMadeNew, AreNone}
 use Rattle.vnode_core.specs.declared.vnode.tally.Tally.{Tally}
@@ -39,7 +39,7 @@ module _ {I O : Type 0} where
 
 -- connections were served over the gates of a new run for as long as was wanted: those of each worker came to these ends, the workers counted
 -- so much together, and all their steps were in one history of the primary of each partition, of the whole of which the tallies are
-pub record IsServedUntil (settings : UntilSettings) (ends : List (List ConnectionEnd)) (tallies : List Tally) (totals : Totals) : Type 0 where
+pub record IsServedUntil (settings : UntilSettings) (ends : List (List ConnectionEnd)) (tallies : List Tally) (count_all : Bool) (totals : Totals) : Type 0 where
   pub gates : Gates
   pub of_run : IsNewRun settings.ring settings.run settings.sweep gates
-  pub served : ServeInHistories gates ends tallies totals
+  pub served : ServeInHistories gates ends tallies count_all totals

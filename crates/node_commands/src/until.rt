@@ -84,11 +84,12 @@ where
     // There was a worker for each sink. Each served its connections by one node over the gates of a new run, until all of them had ended;
     // its sink was given each of their ends, once, and nothing else; and the totals are what all workers counted, from zero. There is one
     // history of the primary of each partition, legal: after each step of each connection the passes have seen beginnings of these
-    // histories, and the tallies are of the whole of them.
+    // histories, and the tallies are of the whole of them. No partition of the run is diverted; so where the tallies count all of the histories
+    // (`count_all`), each reply of each connection is the sibling register's (`served_replies_are_legal` of `socket_server`).
     ensures workers { IfOk result (λ outcome.
         length outcome.sinks.items ≡ length sinks.items) }
     ensures served { IfOk result (λ outcome. IsServedUntil settings.now
-        (map S.given outcome.sinks.items) outcome.tallies.items outcome.totals) }
+        (map S.given outcome.sinks.items) outcome.tallies.items outcome.count_all outcome.totals) }
 
     // No more connections were accepted than were to be, and just as many where no input could end serving before.
     ensures most { IfOk result (λ outcome.

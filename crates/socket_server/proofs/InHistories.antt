@@ -1,6 +1,6 @@
 -- What holds of a worker's last node, and what each step hands back, holds after each of its connections' steps.
 use Rattle.std.proofs.Common.{◌≡◌, ◌∙◌, ℕ, List, [], ◌∷◌, Option, None, Result, Ok, Err, refl, sym, subst, inl, inr}
-use Rattle.std.specs.Prelude.{Bool, false}
+use Rattle.std.specs.Prelude.{Bool, true, false}
 use Rattle.std.specs.List.{All, AllZip}
 use Rattle.std.proofs.lemmas.List.Elements.{All-cons, All-nil, All-head, All-tail}
 use Rattle.open_jobs.specs.declared.step.JobEvent.{JobEvent}
@@ -25,6 +25,7 @@ use Rattle.node_session.specs.Views.{SessionView, message_of}
 use Rattle.node_server.specs.declared.connections.Streams.{Streams}
 use Rattle.node_server.specs.declared.end.ConnectionEnd.{ConnectionEnd}
 use Rattle.node_server.specs.Steps.{Continues, EndsConnection}
+use Rattle.handoff.specs.Partitions.{AreNone, AreOfNewRun}
 use Rattle.gate_node.specs.Gates.{Gates}
 use Rattle.gate_node.specs.GateStep.{NodeOverGates, GateNodeStep}
 use Rattle.gate_node.specs.Passes.{Sights, ArePassesOf, AreUnused}
@@ -33,17 +34,15 @@ use Rattle.gate_node.specs.OneHistory.{IsSeen, StepIn, CallersAreOfRun, ShareHis
 use Rattle.gate_node.proofs.Histories.{each_seen}
 use Rattle.gate_node.proofs.InHistories.{AreSeen, seen_before_step}
 use Rattle.gate_node.proofs.Keeping.{step-keeps}
-use Rattle.socket_server.specs.Counting.{WorkerCounts, AreTotals, ServeInHistories}
+use Rattle.gate_node.proofs.Plain.{plain_step, tallies_plain}
+use Rattle.gate_node.specs.Plain.{AnswersAsRegister, AreOfCommands}
+use Rattle.socket_server.specs.Counting.{WorkerCounts, AreTotals, PlainRunIsLegal, ServeInHistories, ServeLegally}
 use Rattle.socket_server.specs.Serving.{ServesConnections}
 
-module _ {N : Type 0} (Step : N → Request → Reply → N → Type 0) (Holds : N → Type 0)
-    (back : (old : N) (request : Request) (reply : Reply) (new : N) → Step old request reply new → Holds new → Holds old) where
-  -- a step after which it holds
-  abbrev With : N → Request → Reply → N → Type 0
-  With old request reply new = Step old request reply new × Holds new
-
+module _ {N : Type 0} (Step With : N → Request → Reply → N → Type 0) (Holds : N → Type 0)
+    (goes : (old : N) (request : Request) (reply : Reply) (new : N) → Step old request reply new → Holds new → With old request reply new × Holds old) where
   read_with : (old : N) (said : Result Request MsgFault) (reply : Reply) (new : N) → AnswersRead Step old said reply new → Holds new → AnswersRead With old said reply new × Holds old
-  read_with old (Ok request) reply new (inl step) holds = (inl (step, holds), back old request reply new step holds)
+  read_with old (Ok request) reply new (inl step) holds = let went = goes old request reply new step holds in (inl went.0, went.1)
   read_with old (Ok request) reply new (inr stays) holds = (inr stays, subst Holds stays.1 holds)
   read_with old (Err fault) reply new stays holds = (stays, subst Holds stays.1 holds)
 
@@ -119,10 +118,15 @@ module _ {N : Type 0} (Step : N → Request → Reply → N → Type 0) (Holds :
         chain.1,
       )
 
+-- a step after which it holds
+abbrev WithHeld : {N : Type 0} → (N → Request → Reply → N → Type 0) → (N → Type 0) → N → Request → Reply → N → Type 0
+WithHeld Step Holds old request reply new = Step old request reply new × Holds new
+
 -- a worker keeps its node's gates
 pub worker_keeps : (first last : NodeOverGates) (ends : List ConnectionEnd) → ServesConnections GateNodeStep first last ends → last.shared ≡ first.shared
 worker_keeps first last ends h =
-    sym (serves_with GateNodeStep (λ node. node.shared ≡ last.shared) (λ old request reply new step same. sym (step-keeps old request reply new step) ∙ same) first last ends h refl).1
+    sym (serves_with GateNodeStep (WithHeld GateNodeStep (λ node. node.shared ≡ last.shared)) (λ node. node.shared ≡ last.shared)
+    (λ old request reply new step same. ((step, same), sym (step-keeps old request reply new step) ∙ same)) first last ends h refl).1
 
 -- what a worker counted by a node that was made of unused passes and a share that has counted nothing
 pub worker_counts : (gates : Gates) (first last : NodeOverGates) (ends : List ConnectionEnd) (begins after : Sights) (share totals : Totals) (full : Bool)
@@ -158,7 +162,8 @@ module _ (gates : Gates) (histories : List GateHistory) where
         begins = h.begins;
         unused = h.unused;
         from_zero = h.from_zero;
-        serves = (serves_with GateNodeStep (AreSeen histories) (seen_before_step histories) h.first h.last ends h.serves (subst Saw (sym h.left) saw)).0;
+        serves = (serves_with GateNodeStep (StepIn histories) (AreSeen histories) (λ old request reply new step seen. ((step, seen), seen_before_step histories old request reply new step seen))
+            h.first h.last ends h.serves (subst Saw (sym h.left) saw)).0;
         left = h.left;
         kept = h.kept;
         counted = h.counted;
@@ -181,14 +186,63 @@ module _ (gates : Gates) where
   left_of_run (one ∷ ends) (left ∷ passes) totals h = All-cons (ArePassesOf gates) left passes h.2.kept (left_of_run ends passes h.1 h.3)
 
   -- so all their steps were in one history of each primary, where the tallies share that with what they left
-  pub serve_in_histories : (ends : List (List ConnectionEnd)) (passes : List Sights) (tallies : List Tally) (totals : Totals) → AreTotals GateNodeStep gates ends passes totals → ShareHistories (λ p. p) gates.gates passes tallies
-      → ServeInHistories gates ends tallies totals
-  serve_in_histories ends passes tallies totals h share =
+  pub serve_in_histories : (ends : List (List ConnectionEnd)) (passes : List Sights) (tallies : List Tally) (count_all : Bool) (totals : Totals) → AreOfNewRun gates.run gates.gates
+      → AreTotals GateNodeStep gates ends passes totals → ShareHistories (λ p. p) gates.gates passes tallies count_all → ServeInHistories gates ends tallies count_all totals
+  serve_in_histories ends passes tallies count_all totals new h share =
       let seen = each_seen (λ p. p) gates share.histories share.of_gates passes (left_of_run ends passes totals h) share.seen in
       record {
+        new_run = new;
         histories = share.histories;
         of_gates = share.of_gates;
         tallied = share.tallied;
+        counted = share.counted;
         passes = passes;
         are_totals = workers_in gates share.histories ends passes totals seen h;
       }
+
+-- where no partition has a fallback and the histories are of commands alone, each step is one of the register
+module _ (gates : Gates) (histories : List GateHistory) (none : AreNone gates.fallbacks) (are : AreOfCommands histories) where
+  abbrev IsAnswered : NodeOverGates → Request → Reply → NodeOverGates → Type 0
+  IsAnswered = AnswersAsRegister gates histories
+
+  plain_goes : (old : NodeOverGates) (request : Request) (reply : Reply) (new : NodeOverGates) → StepIn histories old request reply new → new.shared ≡ gates → IsAnswered old request reply new × (old.shared ≡ gates)
+  plain_goes old request reply new step there =
+      let here : old.shared ≡ gates = sym (step-keeps old request reply new step.0) ∙ there in
+      (plain_step gates histories old request reply new none are here step, here)
+
+  plain_worker : (ends : List ConnectionEnd) (passes : Sights) (totals : Totals) → WorkerCounts (StepIn histories) gates ends passes totals → WorkerCounts IsAnswered gates ends passes totals
+  plain_worker ends passes totals h =
+      let there : h.last.shared ≡ gates
+      = sym (serves_with (StepIn histories) (StepIn histories) (λ node. node.shared ≡ h.last.shared)
+      (λ old request reply new step same. (step, sym (step-keeps old request reply new step.0) ∙ same)) h.first h.last ends h.serves refl).1 ∙ h.of_gates in
+      record {
+        first = h.first;
+        last = h.last;
+        of_gates = h.of_gates;
+        begins = h.begins;
+        unused = h.unused;
+        from_zero = h.from_zero;
+        serves = (serves_with (StepIn histories) IsAnswered (λ node. node.shared ≡ gates) plain_goes h.first h.last ends h.serves there).0;
+        left = h.left;
+        kept = h.kept;
+        counted = h.counted;
+        room = h.room;
+      }
+
+  plain_workers : (ends : List (List ConnectionEnd)) (passes : List Sights) (totals : Totals) → AreTotals (StepIn histories) gates ends passes totals → AreTotals IsAnswered gates ends passes totals
+  plain_workers [] [] totals h = h
+  plain_workers [] (left ∷ passes) totals h = absurd h
+  plain_workers (one ∷ ends) [] totals h = absurd h
+  plain_workers (one ∷ ends) (left ∷ passes) totals h = (h.0, h.1, plain_worker one left h.0 h.2, plain_workers ends passes h.1 h.3, h.4)
+
+pub plain_run : (gates : Gates) (ends : List (List ConnectionEnd)) (tallies : List Tally) (totals : Totals) → PlainRunIsLegal gates ends tallies totals
+plain_run gates ends tallies totals none h =
+    let plain = tallies_plain gates h.histories tallies h.new_run none h.of_gates h.tallied (h.counted refl) in
+    record {
+      histories = h.histories;
+      of_gates = h.of_gates;
+      legal = plain.legal;
+      tallied = h.tallied;
+      passes = h.passes;
+      are_totals = plain_workers gates h.histories none plain.commands ends h.passes totals h.are_totals;
+    }

@@ -1,5 +1,5 @@
 -- What a worker counts, and what all workers of a server do together.
-use Rattle.std.specs.Prelude.{◌≡◌, ◌++◌, ℕ, List, [], ◌∷◌, false, Result, Ok}
+use Rattle.std.specs.Prelude.{◌≡◌, ◌++◌, ℕ, Bool, List, [], ◌∷◌, true, false, Result, Ok}
 use Rattle.std.specs.declared.thread.PromisedHandle.{PromisedHandle}
 use Rattle.std.specs.List.{AllZip}
 use Rattle.riak_msgs.specs.declared.request.Request.{Request}
@@ -7,11 +7,13 @@ use Rattle.riak_msgs.specs.declared.reply.Reply.{Reply}
 use Rattle.vnode_core.specs.declared.vnode.tally.Tally.{Tally}
 use Rattle.stats_book.specs.declared.totals.Totals.{Totals}
 use Rattle.stats_book.specs.Counting.{zeros, both}
+use Rattle.handoff.specs.Partitions.{AreNone, AreOfNewRun}
 use Rattle.gate_node.specs.Gates.{Gates}
 use Rattle.gate_node.specs.GateStep.{NodeOverGates}
 use Rattle.gate_node.specs.Passes.{Sights, ArePassesOf, AreUnused}
-use Rattle.gate_node.specs.Tallies.{GateHistory, IsTally}
+use Rattle.gate_node.specs.Tallies.{GateHistory, IsTally, CountsAll}
 use Rattle.gate_node.specs.OneHistory.{StepIn, AreOfGates}
+use Rattle.gate_node.specs.Plain.{AnswersAsRegister, AreLegal}
 use Rattle.node_server.specs.declared.end.ConnectionEnd.{ConnectionEnd}
 use Rattle.socket_server.specs.Serving.{ServesConnections}
 use Rattle.socket_server.specs.declared.child.ServesOver.{ServesOver}
@@ -48,13 +50,30 @@ module _ (Step : NodeOverGates → Request → Reply → NodeOverGates → Type 
 
 -- Workers, whose connections came to these ends, counted so much together. There is one history of the primary of each partition: after each
 -- step of each connection the passes of its worker have seen beginnings of these histories, so that each reply at a primary is at a position
--- of its history, and the tallies are of the whole of them.
-pub record ServeInHistories (gates : Gates) (ends : List (List ConnectionEnd)) (tallies : List Tally) (totals : Totals) : Type 0 where
+-- of its history, and the tallies are of the whole of them. Whether they count all of that was looked at.
+pub record ServeInHistories (gates : Gates) (ends : List (List ConnectionEnd)) (tallies : List Tally) (count_all : Bool) (totals : Totals) : Type 0 where
+  pub new_run : AreOfNewRun gates.run gates.gates
   pub histories : List GateHistory
   pub of_gates : AreOfGates gates.gates histories
   pub tallied : AllZip IsTally histories tallies
+  pub counted : count_all ≡ true → AllZip CountsAll histories tallies
   pub passes : List Sights
   pub are_totals : AreTotals (StepIn histories) gates ends passes totals
+
+-- Workers, whose connections came to these ends, counted so much together. There is one history of the vnode of each partition, legal for the
+-- sibling register, of the whole of which its tally is; and each step of each connection is one of the register among others, in these
+-- histories: so every reply but an error of the gate is the register's, at a position of its vnode's history.
+pub record ServeLegally (gates : Gates) (ends : List (List ConnectionEnd)) (tallies : List Tally) (totals : Totals) : Type 0 where
+  pub histories : List GateHistory
+  pub of_gates : AreOfGates gates.gates histories
+  pub legal : AreLegal gates histories
+  pub tallied : AllZip IsTally histories tallies
+  pub passes : List Sights
+  pub are_totals : AreTotals (AnswersAsRegister gates histories) gates ends passes totals
+
+-- so it is where no partition has a fallback, and the tallies count all of the histories
+abbrev pub PlainRunIsLegal : Gates → (ends : List (List ConnectionEnd)) → List Tally → Totals → Type 0
+PlainRunIsLegal gates ends tallies totals = AreNone gates.fallbacks → ServeInHistories gates ends tallies true totals → ServeLegally gates ends tallies totals
 
 -- what a worker counted with what it left, where its book was never full
 abbrev pub IsWorkerOutcome : {S : Type 0} → Totals → WorkerParts S → WorkerOutcome S → Type 0

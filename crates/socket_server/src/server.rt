@@ -50,6 +50,8 @@ pub struct ServerOutcome<S> {
     /// The tally of the primary of each partition after the last connection, of all that the workers saw of it, in the order of the
     /// partitions.
     pub tallies: Vec<Tally>,
+    /// Whether each of them counts as many commands as the primary's history has entries. So it is where no partition was diverted.
+    pub count_all: bool,
     /// How many connections were accepted.
     pub connections: u64,
     /// The workers' sinks.
@@ -155,17 +157,19 @@ fn with_tallies<X: Wait, S: EndSink + Drop>(
         all.passes.items all.totals }
     ensures outcome { IfOk result (IsServerOutcome (Ok all) (Ok connections)) }
     ensures served { IfOk result (λ outcome. ServeInHistories shared.now
-        (map S.given outcome.sinks.items) outcome.tallies.items outcome.totals) }
+        (map S.given outcome.sinks.items) outcome.tallies.items outcome.count_all outcome.totals) }
 {
     let AllCounted {
         totals,
         sinks,
         passes,
     } = all;
+    let _gates = shared.gates();
     match tallies_of(rt, alloc, shared, passes.as_slice()) {
-        Ok(tallies) => Ok(ServerOutcome {
+        Ok(found) => Ok(ServerOutcome {
             totals,
-            tallies,
+            tallies: found.tallies,
+            count_all: found.count_all,
             connections,
             sinks,
         }),
@@ -185,7 +189,7 @@ fn outcome_of<X: Wait, S: EndSink + Drop>(
         (map S.given all.sinks.items) all.passes.items all.totals) }
     ensures outcome { IfOk result (IsServerOutcome counted accepted) }
     ensures served { IfOk result (λ outcome. ServeInHistories shared.now
-        (map S.given outcome.sinks.items) outcome.tallies.items outcome.totals) }
+        (map S.given outcome.sinks.items) outcome.tallies.items outcome.count_all outcome.totals) }
 {
     let all = counted?;
     let connections = accepted?;
@@ -210,7 +214,7 @@ where
     ensures workers { IfOk result (λ outcome.
         length outcome.sinks.items ≡ length acceptor.now.inboxes.now) }
     ensures served { IfOk result (λ outcome. ServeInHistories shared.now
-        (map S.given outcome.sinks.items) outcome.tallies.items outcome.totals) }
+        (map S.given outcome.sinks.items) outcome.tallies.items outcome.count_all outcome.totals) }
     ensures most { IfOk result (λ outcome.
         IfSome acceptor.now.limit (λ limit. outcome.connections ≤ limit)) }
     ensures all { acceptor.now.can_stop ≡ false → IfOk result (λ outcome.
@@ -225,7 +229,7 @@ where
             ensures workers { IfOk result (λ outcome.
                 length outcome.sinks.items ≡ length acceptor.entry.now.inboxes.now) }
             ensures served { IfOk result (λ outcome. ServeInHistories shared.entry.now
-                (map S.given outcome.sinks.items) outcome.tallies.items outcome.totals) }
+                (map S.given outcome.sinks.items) outcome.tallies.items outcome.count_all outcome.totals) }
             ensures most { IfOk result (λ outcome.
                 IfSome acceptor.entry.now.limit (λ limit. outcome.connections ≤ limit)) }
             ensures all { acceptor.entry.now.can_stop ≡ false → IfOk result (λ outcome.
@@ -270,7 +274,7 @@ where
     ensures workers { IfOk result (λ outcome.
         length outcome.sinks.items ≡ length inboxes.now) }
     ensures served { IfOk result (λ outcome. ServeInHistories shared.now
-        (map S.given outcome.sinks.items) outcome.tallies.items outcome.totals) }
+        (map S.given outcome.sinks.items) outcome.tallies.items outcome.count_all outcome.totals) }
     ensures most { IfOk result (λ outcome.
         IfSome settings.connections (λ limit. outcome.connections ≤ limit)) }
     ensures all { until ≡ None → IfOk result (λ outcome.
@@ -332,11 +336,12 @@ where
     // until all of them had ended; its sink was given each of their ends, once, in the order in which they came, and nothing else. The
     // totals are what all workers counted. There is one history of the primary of each partition, legal: after each step of each connection
     // of each worker the passes have seen beginnings of these histories, and the tallies are of the whole of them. So each reply at a
-    // primary is at a position of its history (`replies_are_at_positions` of `gate_node`).
+    // primary is at a position of its history (`replies_are_at_positions` of `gate_node`). Where the tallies count all of the histories, and no
+    // partition has a fallback, each reply of each connection is the sibling register's there (`served_replies_are_legal`).
     ensures workers { IfOk result (λ outcome.
         length outcome.sinks.items ≡ length sinks.items) }
     ensures served { IfOk result (λ outcome. ServeInHistories shared.now
-        (map S.given outcome.sinks.items) outcome.tallies.items outcome.totals) }
+        (map S.given outcome.sinks.items) outcome.tallies.items outcome.count_all outcome.totals) }
 
     // No more connections were accepted than were to be, and just as many where no input could end serving before.
     ensures most { IfOk result (λ outcome.

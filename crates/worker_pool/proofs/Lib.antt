@@ -8,3 +8,4 @@ pub mod Summing
 pub mod Histories
 pub mod InHistories
 pub mod Runs
+pub mod LegalRuns

@@ -31,7 +31,7 @@ module _ {J I O : Type 0} (Gives : J → Result (Option (Job I O)) JobFault → 
   source_served firsts served lasts h = (h.0, h.1, served_all remaining contents shared h.0 firsts served lasts h.2)
 
   -- and their sessions were by steps in one history of each vnode
-  pub serves_source : (n : ℕ) (firsts : List Totals) (served : List (ServedJob I O)) (lasts : List Totals) (closed : Closed I O) → firsts ≡ replicate n zeros → map counted_whole closed.ends.items ≡ served → ShareHistories end_passes shared.gates closed.ends.items closed.tallies.items → closed.totals ≡ sum_of lasts
+  pub serves_source : (n : ℕ) (firsts : List Totals) (served : List (ServedJob I O)) (lasts : List Totals) (closed : Closed I O) → firsts ≡ replicate n zeros → map counted_whole closed.ends.items ≡ served → ShareHistories end_passes shared.gates closed.ends.items closed.tallies.items closed.count_all → closed.totals ≡ sum_of lasts
       → AllServedOnce Gives (Counts remaining contents shared) first firsts served lasts last → ServesSource remaining contents shared Gives n first closed last
   serves_source n firsts served lasts closed new whole h sums once =
       let S : Job I O → ServedJob I O → Type 0 = Serves GateNodeStep remaining contents shared in
@@ -47,6 +47,7 @@ module _ {J I O : Type 0} (Gives : J → Result (Option (Job I O)) JobFault → 
           of_gates = h.of_gates;
           ends = ends_in h.histories remaining contents shared jobs ends seen ended;
           tallies = h.tallied;
+          counted = h.counted;
           totals = sums_sessions remaining contents shared n jobs firsts served lasts ends closed.totals new whole sums once.2;
         },
       )

@@ -1,5 +1,5 @@
 -- What a run of the pool comes to.
-use Rattle.std.specs.Prelude.{ℕ, List, Option, Result}
+use Rattle.std.specs.Prelude.{◌≡◌, ℕ, true, List, Option, Result}
 use Rattle.job_pool.specs.Lists.{Pairwise}
 use Rattle.job_pool.specs.Giving.{GaveAll}
 use Rattle.job_pool.specs.declared.jobs.JobFault.{JobFault}
@@ -8,7 +8,7 @@ use Rattle.worker_pool.specs.declared.closed.Closed.{Closed}
 use Rattle.worker_pool.specs.declared.job.Job.{Job}
 use Rattle.worker_pool.specs.Serving.{EndsWell}
 use Rattle.worker_pool.specs.Summing.{SumsSessions}
-use Rattle.gate_node.specs.Tallies.{GateHistory, IsTally}
+use Rattle.gate_node.specs.Tallies.{GateHistory, IsTally, CountsAll}
 use Rattle.gate_node.specs.OneHistory.{AreOfGates, StepIn}
 
 module _ {I O : Type 0} (remaining : I → Option (List ℕ)) (contents : O → Option (List ℕ)) (shared : Gates) where
@@ -20,6 +20,7 @@ module _ {I O : Type 0} (remaining : I → Option (List ℕ)) (contents : O → 
     pub of_gates : AreOfGates shared.gates histories
     pub ends : Pairwise (EndsWell (StepIn histories) remaining contents shared) jobs closed.ends.items
     pub tallies : Pairwise IsTally histories closed.tallies.items
+    pub counted : closed.count_all ≡ true → Pairwise CountsAll histories closed.tallies.items
     pub totals : SumsSessions remaining contents shared workers jobs closed.ends.items closed.totals
 
   -- so were all jobs of a source

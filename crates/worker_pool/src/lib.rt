@@ -25,6 +25,7 @@
 
 mod closed;
 mod job;
+mod laws;
 mod pool;
 mod server;
 
@@ -32,4 +33,5 @@ pub use closed::Closed;
 pub use gate_node::{Open, Passes, PoolFault, Shared, Turnstile, replies_are_at_positions};
 pub use job::{End, EndRead, EndWrite, Job};
 pub use job_pool::{JobFault, Jobs};
+pub use laws::pool_replies_are_legal;
 pub use pool::Pool;

@@ -76,7 +76,7 @@ where
     ensures ends { IfOk result (λ closed.
         map counted_whole closed.ends.items ≡ finished.ends.items) }
     ensures history { IfOk result (λ closed.
-        ShareHistories end_passes shared.now.gates closed.ends.items closed.tallies.items) }
+        ShareHistories end_passes shared.now.gates closed.ends.items closed.tallies.items closed.count_all) }
     ensures totals { IfOk result (λ closed. closed.totals ≡ sum_of finished.workers.items) }
     ensures fault { IfErr result (IsFaultAfter finished.ends.items) }
 {
@@ -90,9 +90,10 @@ where
         Err(fault) => return Err(fault),
     };
     match tallies_of(rt, alloc, shared, ends.as_slice()) {
-        Ok(tallies) => Ok(Closed {
+        Ok(found) => Ok(Closed {
             totals,
-            tallies,
+            tallies: found.tallies,
+            count_all: found.count_all,
             ends,
         }),
         Err(fault) => Err(fault),

@@ -257,6 +257,7 @@ fn are_ends(
 /// Whether what was served is as a run says.
 fn is_as_said(served: &Served, run: &Run) -> bool {
     served.tallies.as_slice() == [run.tally].as_slice()
+        && served.count_all
         && are_ends(served.ends.as_slice(), run.ends)
 }
 

@@ -314,7 +314,8 @@ fn serves<R: Log + Clock + Net + Threads + Wait + Sync>(
         Ok(outcome) => is_written(alloc, written.as_slice(), port, server.totals)
             && outcome.connections == server.connections
             && has_one_of_each(outcome.sinks.as_slice(), server.connections)
-            && outcome.tallies.as_slice() == [accepted_of(outcome.totals)].as_slice(),
+            && outcome.tallies.as_slice() == [accepted_of(outcome.totals)].as_slice()
+            && outcome.count_all,
         Err(_) => false,
     }
 }

@@ -167,6 +167,7 @@ fn is_closed(closed: &Closed<Input, Output<'_>>, run: &Run) -> bool {
     run.totals == Ok(closed.totals)
         && are_ends(closed.ends.as_slice(), run.lines)
         && are_tallies(closed.tallies.as_slice(), closed.totals, run)
+        && closed.count_all
 }
 
 /// Whether a run over these gates, through a turnstile, comes to what it says. The replies are counted as they are written.

@@ -14,6 +14,7 @@ pub returns-in-Ok-clause-served : goal.returns-in-Ok-clause-served
 returns-in-Ok-clause-served g c =
     let all = c.args.all in
     let gates = c.args.shared.now in
-    let tallies = c.in-Ok.tallies.items in
-    serve_in_histories gates (map g.S.EndSink.given all.sinks.items) all.passes.items tallies all.totals c.requires
-    (subst (λ passes. ShareHistories (λ p. p) gates.gates passes tallies) c.as_slice.ensures.value c.in-Ok.ensures.history)
+    let found = c.in-Ok.found in
+    let tallies = found.tallies.items in
+    serve_in_histories gates (map g.S.EndSink.given all.sinks.items) all.passes.items tallies found.count_all all.totals c.gates-gates.ensures.new_run c.requires
+    (subst (λ passes. ShareHistories (λ p. p) gates.gates passes tallies found.count_all) c.as_slice.ensures.value c.in-Ok.ensures.history)
