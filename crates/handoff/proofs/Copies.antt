@@ -1,11 +1,11 @@
 -- Copies that a pass published stay what they are.
-use Rattle.std.proofs.Common.{◌≡◌, ◌∙◌, ◌+◌, ℕ, List, [], ◌∷◌, ◌++◌, length, length-append, sym, ap, subst}
+use Rattle.std.proofs.Common.{◌≡◌, ◌∙◌, ◌+◌, ◌≤◌, ℕ, List, [], ◌∷◌, ◌++◌, length, length-append, sym, ap, subst, arith}
 use Rattle.std.specs.Prelude.{Option, Some, None, IfNone, IfOk, IfSome, Result, Ok, Err, slice_get}
 use Rattle.std.proofs.lemmas.List.Elements.{All-weaker, All-push}
 use mathlib.Core.List.{IsPrefix}
 use Rattle.riak_msgs.specs.declared.Key.{Key}
 use Rattle.rw_gate.specs.Views.{GateId}
-use Rattle.rw_gate.proofs.Prefixes.{prefix_trans}
+use Rattle.rw_gate.proofs.Prefixes.{prefix_length, prefix_trans}
 use Rattle.vnode_core.specs.declared.ask.Ask.TheVariants as asks
 use Rattle.vnode_core.specs.declared.entry.Entry.{Entry}
 use Rattle.vnode_core.specs.declared.entry.Entry.TheVariants as entries
@@ -17,11 +17,11 @@ use Rattle.ghost_state.proofs.Lists.{get-before, get-last}
 use Rattle.handoff.specs.declared.copying.Step.{Step}
 use Rattle.handoff.specs.declared.fault.Stop.{Stop}
 use Rattle.handoff.specs.declared.copying.Step.TheVariants.{End, Passed, Made, Stuck}
-use Rattle.handoff.specs.Copying.{IsCopyOf, HasCopyAt, AreCopies, CopiesOne}
+use Rattle.handoff.specs.Copying.{IsCopyOf, HasCopyAt, AreCopies, CopiesOne, RiseBetween}
 use Rattle.handoff.specs.Sights.{Sight, LeadsVnodeTo}
 use Rattle.handoff.specs.Steps.{CopiesOrStays}
 
-get_prefix : {A : Type 0} (xs ys : List A) (k : ℕ) (x : A) → IsPrefix xs ys → slice_get xs k ≡ Some x → slice_get ys k ≡ Some x
+pub get_prefix : {A : Type 0} (xs ys : List A) (k : ℕ) (x : A) → IsPrefix xs ys → slice_get xs k ≡ Some x → slice_get ys k ≡ Some x
 get_prefix xs ys k x p at = subst (λ zs. slice_get zs k ≡ Some x) p.1 (get-before xs p.0 k x at)
 
 copy-more : (n : ℕ) (theirs theirs' : Sight) (entry : Entry) → theirs'.gate ≡ theirs.gate → IsPrefix theirs.prefix theirs'.prefix → IsCopyOf n theirs entry → IsCopyOf n theirs' entry
@@ -111,3 +111,27 @@ if-some P o x is holds = subst (λ o. IfSome o P) is holds
 
 pub if-none : {A P : Type 0} (o : Option A) → o ≡ None → IfNone o P → P
 if-none {A} {P} o is holds = subst (λ (o : Option A). IfNone o P) is holds
+
+-- positions that rise, up to more
+pub rise-more : (from : ℕ) (positions : List ℕ) (below more : ℕ) → below ≤ more → RiseBetween from positions below → RiseBetween from positions more
+rise-more from [] below more le rise = omega (arith, le, rise)
+rise-more from (k ∷ ks) below more le rise = (rise.0, rise-more (k + 1) ks below more le rise.1)
+
+-- and one position more
+pub rise-push : (from : ℕ) (positions : List ℕ) (below k : ℕ) → below ≤ k → RiseBetween from positions below → RiseBetween from (positions ++ k ∷ []) (k + 1)
+rise-push from [] below k le rise = (omega (arith, le, rise), omega arith)
+rise-push from (j ∷ ks) below k le rise = (rise.0, rise-push (j + 1) ks below k le rise.1)
+
+rise-stays : (from : ℕ) (old mine : Sight) → IsPrefix old.prefix mine.prefix → RiseBetween from old.own (length old.prefix) → mine.own ≡ old.own → RiseBetween from mine.own (length mine.prefix)
+rise-stays from old mine here rise own =
+    subst (λ (ks : List ℕ). RiseBetween from ks (length mine.prefix)) (sym own) (rise-more from old.own (length old.prefix) (length mine.prefix) (prefix_length old.prefix mine.prefix here) rise)
+
+pub step-rises : (from n : ℕ) (old mine theirs : Sight) (step : Step) → IsPrefix old.prefix mine.prefix → RiseBetween from old.own (length old.prefix) → CopiesOrStays n old mine theirs step
+    → RiseBetween from mine.own (length mine.prefix)
+step-rises from n old mine theirs End here rise own = rise-stays from old mine here rise own
+step-rises from n old mine theirs (Passed key) here rise own = rise-stays from old mine here rise own
+step-rises from n old mine theirs (Stuck key) here rise own = rise-stays from old mine here rise own
+step-rises from n old mine theirs (Made key) here rise one =
+    let longer : length mine.prefix ≡ length one.position + 1 = ap length one.seen ∙ length-append one.position (one.entry ∷ []) in
+    subst (λ (p : List ℕ × ℕ). RiseBetween from p.0 p.1) (λ i. (sym one.own i, sym longer i))
+    (rise-push from old.own (length old.prefix) (length one.position) (prefix_length old.prefix one.position one.begins) rise)

@@ -1,26 +1,23 @@
 -- A run that raises a vnode's counts by as much as it has entries is one of commands alone.
-use Rattle.std.proofs.Common.{◌≡◌, ◌∙◌, ◌+◌, ◌≤◌, ◌-◌, ◌^◌, ℕ, List, [], ◌∷◌, length, refl, sym, ap, subst, arith, inl, inr}
-use Rattle.std.specs.Prelude.{◌⊎◌, Option, min}
+use Rattle.std.proofs.Common.{◌≡◌, ◌∙◌, ◌+◌, ◌≤◌, ℕ, List, [], ◌∷◌, length, refl, sym, ap, subst, arith, inl, inr}
+use Rattle.std.specs.Prelude.{◌⊎◌, Option}
 use Rattle.riak_msgs.specs.declared.Key.{Key}
 use Rattle.riak_msgs.specs.Contents.{Content}
 use Rattle.sibling_register.specs.History.{Operation, Write, Tombstone, Reap}
 use Rattle.actor_epoch.specs.Given.{Context}
-use Rattle.vnode_machine.specs.Machine.{State, apply_operation, counted, opening}
+use Rattle.vnode_machine.specs.Machine.{State, apply_operation, counted}
 use Rattle.vnode_machine.specs.Registers.{key_of, context_in_ask}
 use Rattle.rw_gate.specs.Machines.{MachineRun}
 use Rattle.rw_gate.specs.Views.{GateId}
 use Rattle.vnode_core.specs.declared.entry.Entry.{Entry}
 use Rattle.vnode_core.specs.declared.entry.Entry.TheVariants.{Command, Copied, Closed}
 use Rattle.vnode_core.specs.declared.event.VnodeEvent.{VnodeEvent}
+use Rattle.vnode_core.specs.declared.event.VnodeEvent.TheVariants as events
 use Rattle.vnode_core.specs.Events.{IsMadeNew, Makes, all_commands, event_command, event_deed, event_response}
 use Rattle.vnode_core.specs.Plans.{View}
 use Rattle.handoff.specs.Sights.{LeadsVnodeTo}
+use Rattle.handoff.specs.Started.{EachIs, IsUpdate, commands_counted, updates_counted}
 use Rattle.handoff.proofs.Joined.{command-applies}
-
--- each of these events is of a kind
-abbrev pub EachIs : (VnodeEvent → Type 0) → List VnodeEvent → Type 0
-EachIs Is [] = Unit {0}
-EachIs Is (event ∷ events) = Is event × EachIs Is events
 
 module _ (count : State Content → ℕ) (Is : VnodeEvent → Type 0) where
   -- the entry is a command of that kind
@@ -59,13 +56,6 @@ module _ (count : State Content → ℕ) (Is : VnodeEvent → Type 0) where
 counted-most : (n : ℕ) → counted n ≤ n + 1
 counted-most n = omega arith
 
--- how many commands a vnode counts, and how many of them are writes or tombstones
-abbrev pub commands_counted : State Content → ℕ
-commands_counted state = state.writes + state.tombstones + state.reaps
-
-abbrev pub updates_counted : State Content → ℕ
-updates_counted state = state.writes + state.tombstones
-
 abbrev pub IsAny : VnodeEvent → Type 0
 IsAny event = Unit {0}
 
@@ -94,3 +84,34 @@ seen-commands v l gate entries state made leads all =
     let none : commands_counted first.state ≡ 0 = ap commands_counted made.new in
     let found = counts-all commands_counted IsAny counts-commands entries first.state state run (omega (arith, none, all)) in
     (found.0, found.1)
+
+-- writes and tombstones are counted apart from reaps
+counts-update : (s m : State Content) (event : VnodeEvent) → m ≡ apply_operation s (key_of (event_command event)) (context_in_ask (event_command event)) (event_deed event)
+    → (updates_counted m ≤ updates_counted s + 1) × ((updates_counted m ≤ updates_counted s) ⊎ IsCommand updates_counted IsUpdate (Command event))
+counts-update s m (events.Put put reply) is =
+    let same : updates_counted m ≡ counted s.writes + s.tombstones = ap updates_counted is in
+    let most = counted-most s.writes in
+    (omega (arith, same, most), inr (events.Put put reply, refl, tt))
+counts-update s m (events.Del del) is =
+    let same : updates_counted m ≡ s.writes + counted s.tombstones = ap updates_counted is in
+    let most = counted-most s.tombstones in
+    (omega (arith, same, most), inr (events.Del del, refl, tt))
+counts-update s m (events.Reap key) is =
+    let same : updates_counted m ≡ s.writes + s.tombstones = ap updates_counted is in
+    (omega (arith, same), inl (omega (arith, same)))
+
+pub counts-updates : CountsOne updates_counted IsUpdate
+counts-updates s m (Command event) (opened, made) = counts-update s m event (command-applies s (event_command event) (event_deed event) (event_response event) m made)
+counts-updates s m (Copied copy) (opened, made) =
+    let same : updates_counted m ≡ updates_counted s = ap updates_counted made.2 in (omega (arith, same), inl (omega (arith, same)))
+counts-updates s m (Closed number) (opened, made) =
+    let same : updates_counted m ≡ updates_counted s = ap updates_counted made in (omega (arith, same), inl (omega (arith, same)))
+
+-- what was seen of a new vnode is writes and deletes alone, where it counts as many of these as there are entries
+pub seen-updates : (v l : ℕ) (gate : GateId View) (entries : List Entry) (state : State Content) → IsMadeNew v l gate → LeadsVnodeTo gate entries state → updates_counted state ≡ length entries
+    → (events : List VnodeEvent) × (entries ≡ all_commands events) × EachIs IsUpdate events
+seen-updates v l gate entries state made leads all =
+    let first = made.first in
+    let run : MachineRun Makes first.state entries state = subst (λ (o : Option View). LeadsVnodeTo (record { book = gate.book; opening = o }) entries state) made.made leads in
+    let none : updates_counted first.state ≡ 0 = ap updates_counted made.new in
+    counts-all updates_counted IsUpdate counts-updates entries first.state state run (omega (arith, none, all))

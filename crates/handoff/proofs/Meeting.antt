@@ -34,7 +34,7 @@ module _ (v l : ℕ) where
       (rest.0 ++ register_event v l before event ∷ [], append_assoc rest.0 (register_event v l before event ∷ []) before ∙ rest.1)
 
   -- what begins the commands begins the history
-  history-begins : (whole : History) (prefix seen : List Entry) → IsPrefix prefix seen → (later : History) × (later ++ history_after v l [] (commands_of seen) ≡ whole)
+  pub history-begins : (whole : History) (prefix seen : List Entry) → IsPrefix prefix seen → (later : History) × (later ++ history_after v l [] (commands_of seen) ≡ whole)
       → (later : History) × (later ++ history_after v l [] (commands_of prefix) ≡ whole)
   history-begins whole prefix seen (rest, is) (later, all) =
       let here = history_after v l [] (commands_of prefix) in
@@ -57,7 +57,7 @@ held-clock : (state : State Content) (key : Key) (there : Stored Content) → st
 held-clock state key there held = ap (λ (o : Option (Stored Content)). option_map_or (λ s. s.clock) o (record { known = []; live = [] })) held
 
 module _ (partition : Partition) (primary : Log) (fallbacks : Fallbacks) where
-  true-copy : (theirs : Sight) (entry : Entry) (n : ℕ) (copy : IsCopyOf n theirs entry) → IsOfFallback partition fallbacks copy.copy.diversion theirs → (key : Key) → copy.copy.key ≡ key
+  pub true-copy : (theirs : Sight) (entry : Entry) (n : ℕ) (copy : IsCopyOf n theirs entry) → IsOfFallback partition fallbacks copy.copy.diversion theirs → (key : Key) → copy.copy.key ≡ key
       → IsTrueCopy partition primary fallbacks key (copy_of partition copy.copy)
   true-copy theirs entry n copy of key same =
       let v = partition.fallback in

@@ -10,6 +10,7 @@ use Rattle.vnode_core.specs.Events.{IsMadeNew}
 use Rattle.handoff.specs.declared.gates.Fallback.{Fallback}
 use Rattle.handoff.specs.Partitions.{HandoffView, AreMadeNew, AreNone, BeginsBehind, IsDiverted, IsFallback, AreFallbacks, fallback_id, number_in, number_of}
 use Rattle.handoff.specs.Sights.{Sight, ClosedBehind, IsOfVnode}
+use Rattle.handoff.specs.Started.{IsStartOf}
 pub use Rattle.std.proofs.lemmas.Option.{none-some as none_some}
 
 -- one gate more
@@ -85,8 +86,9 @@ next-fallback run index number last_epoch before seen fallback was next begins s
 -- so the partition is diverted
 pub next-diverted : (index number last_epoch : ℕ) (old new : HandoffView) (before : Option Fallback) (seen : Option Sight) (fallback : Fallback) → IfSome before (IsFallback old.run index) → number ≡ number_of before + 1
     → BeginsBehind before seen last_epoch → fallback.diversion ≡ number → fallback.before ≡ seen → IsMadeNew (fallback_id old.run index) last_epoch fallback.gate → IsWithinLimits (fallback_id old.run index) last_epoch
-    → slice_get old.fallbacks index ≡ Some before → new ≡ record old { fallbacks = slice_set old.fallbacks index (Some fallback) } → IsDiverted index old new
-next-diverted index number last_epoch old new before seen fallback was next begins same kept made limits stood is = record {
+    → slice_get old.fallbacks index ≡ Some before
+    → ((primary : GateId View) → slice_get old.gates index ≡ Some primary → IfSome fallback.start (IsStartOf primary)) → new ≡ record old { fallbacks = slice_set old.fallbacks index (Some fallback) } → IsDiverted index old new
+next-diverted index number last_epoch old new before seen fallback was next begins same kept made limits stood start is = record {
   before = before;
   stood = stood;
   fallback = fallback;
@@ -100,6 +102,7 @@ next-diverted index number last_epoch old new before seen fallback was next begi
     limits = limits;
   };
   begins = subst (λ (o : Option Sight). BeginsBehind before o last_epoch) (sym kept) begins;
+  start = start;
   is = is;
 }
 

@@ -43,6 +43,11 @@ pub record HasCopyAt (diversion : ℕ) (mine theirs : Sight) (position : ℕ) : 
 abbrev pub AreCopies : ℕ → Sight → Sight → List ℕ → Type 0
 AreCopies diversion mine theirs = All (HasCopyAt diversion mine theirs)
 
+-- these positions rise from one on, and all are below another
+abbrev pub RiseBetween : (from : ℕ) → List ℕ → (below : ℕ) → Type 0
+RiseBetween from [] below = from ≤ below
+RiseBetween from (position ∷ positions) below = (from ≤ position) × RiseBetween (position + 1) positions below
+
 -- one key more was copied: the history of the primary has one entry more of the pass's own
 pub record CopiesOne (diversion : ℕ) (old mine theirs : Sight) : Type 0 where
   pub position : List Entry
@@ -61,14 +66,15 @@ pub record CountsLeft (mine theirs : Sight) (left : ℕ) : Type 0 where
   pub unclosed : fallback.closed ≡ None
   pub is : left ≡ min (count_left primary fallback.keys) (2 ^ 32 - 1)
 
--- keys were copied from this fallback to this primary, by these passes: each entry that was published at the primary is a copy, and
--- nothing was at the fallback
+-- keys were copied from this fallback to this primary, by these passes: each entry that was published at the primary is a copy, behind so many
+-- entries that had been seen of it before, and nothing was published at the fallback
 pub record CopiesBack (primary : GateId View) (fallback : Fallback) (budget : ℕ) (copied : Copied) : Type 0 where
   pub gate : copied.primary.gate ≡ primary
   pub gate_there : copied.fallback.gate ≡ fallback.gate
   pub copies : AreCopies fallback.diversion copied.primary copied.fallback copied.primary.own
   pub none : copied.fallback.own ≡ []
   pub keys : copied.keys ≡ length copied.primary.own
+  pub rise : RiseBetween copied.began copied.primary.own (length copied.primary.prefix)
   pub tried : copied.keys + copied.stuck ≤ budget
   pub left : CountsLeft copied.primary copied.fallback copied.left
 

@@ -1,5 +1,5 @@
 -- How an attempt to end a diversion comes out, by the passes that made it.
-use Rattle.std.specs.Prelude.{◌≡◌, ℕ, [], ◌∷◌, ◌++◌, length, MatchOption}
+use Rattle.std.specs.Prelude.{◌≡◌, ℕ, [], ◌∷◌, ◌++◌, length, MatchOption, Option}
 use Rattle.rw_gate.specs.Views.{GateId}
 use Rattle.vnode_core.specs.declared.entry.Entry.TheVariants as entries
 use Rattle.vnode_core.specs.Plans.{View}
@@ -9,7 +9,8 @@ use Rattle.handoff.specs.declared.gates.Fallback.{Fallback}
 use Rattle.handoff.specs.declared.returning.Ending.{Ending}
 use Rattle.handoff.specs.declared.returning.Ending.TheVariants.{Closed, LeftOver}
 use Rattle.handoff.specs.Copying.{SawClosed}
-use Rattle.handoff.specs.Returning.{EndsDiversion, HasLeft, OfGates}
+use Rattle.handoff.specs.declared.gates.Start.{Start}
+use Rattle.handoff.specs.Returning.{EndsFrom, HasLeft, OfGates}
 use Rattle.handoff.specs.Sights.{Sight}
 
 -- the pass's next entry is the close with this number
@@ -25,9 +26,9 @@ IsCopyStop fallback (faults.LeftOver passes) = ⊥
 IsCopyStop fallback faults.NoMemory = Unit {0}
 IsCopyStop fallback faults.GateStopped = Unit {0}
 
-abbrev pub EndsSo : (mine theirs : Sight) → Ending → Type 0
-EndsSo mine theirs Closed = EndsDiversion mine theirs
-EndsSo mine theirs LeftOver = HasLeft mine theirs
+abbrev pub EndsSo : (start : Option Start) (mine theirs : Sight) → Ending → Type 0
+EndsSo start mine theirs Closed = EndsFrom start mine theirs
+EndsSo start mine theirs LeftOver = HasLeft mine theirs
 
 -- why a diversion between these gates didn't end: where it had ended, a pass of the fallback has seen it closed
 abbrev pub IsEndFault : GateId View → Fallback → HandoffFault → Type 0

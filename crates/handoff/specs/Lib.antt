@@ -6,5 +6,7 @@ pub mod Left
 pub mod Meeting
 pub mod Partitions
 pub mod Returning
+pub mod Running
 pub mod Sights
+pub mod Started
 pub mod Steps

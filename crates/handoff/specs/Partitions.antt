@@ -9,6 +9,7 @@ use Rattle.handoff.specs.declared.fault.HandoffFault.{HandoffFault}
 use Rattle.handoff.specs.declared.fault.HandoffFault.TheVariants.{AlreadyDiverted, NoMemory}
 use Rattle.handoff.specs.declared.gates.Fallback.{Fallback}
 use Rattle.handoff.specs.Sights.{Sight, ClosedBehind}
+use Rattle.handoff.specs.Started.{IsStartOf}
 
 -- how many bits number the partitions, which run it is, the primaries' gates in the partitions' order, and the fallback of
 -- each partition that is diverted
@@ -72,7 +73,8 @@ abbrev pub BeginsBehind : (before : Option Fallback) (seen : Option Sight) (last
 BeginsBehind None seen last_epoch = (seen ≡ None) × (last_epoch ≡ 0)
 BeginsBehind (Some before) seen last_epoch = (pass : Sight) × (seen ≡ Some pass) × (pass.gate ≡ before.gate) × ClosedBehind pass last_epoch
 
--- a partition that had no fallback, or a closed one, has a new one of the next number, and all else is as it was
+-- a partition that had no fallback, or a closed one, has a new one of the next number, which keeps what the primary had; and all else is as
+-- it was
 pub record IsDiverted (index : ℕ) (old new : HandoffView) : Type 0 where
   pub before : Option Fallback
   pub stood : slice_get old.fallbacks index ≡ Some before
@@ -80,6 +82,7 @@ pub record IsDiverted (index : ℕ) (old new : HandoffView) : Type 0 where
   pub next : fallback.diversion ≡ diversion_at old index + 1
   pub is_new : IsFallback old.run index fallback
   pub begins : BeginsBehind before fallback.before is_new.last_epoch
+  pub start : (primary : GateId View) → slice_get old.gates index ≡ Some primary → IfSome fallback.start (IsStartOf primary)
   pub is : new ≡ record old { fallbacks = slice_set old.fallbacks index (Some fallback) }
 
 -- why a partition isn't diverted: memory was refused, or it has a fallback

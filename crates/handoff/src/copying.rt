@@ -4,7 +4,7 @@ ghost use mathlib.Core.List.{IsPrefix};
 ghost use Rattle.clock_store.specs.Keys.{stored_of};
 ghost use Rattle.vnode_core.specs.Events.{commands_of};
 ghost use Rattle.vnode_machine.specs.Sound.{IsSound};
-ghost use Rattle.handoff.specs.Copying.{AreCopies, CopiesBack, CopiesOne, CountsLeft};
+ghost use Rattle.handoff.specs.Copying.{AreCopies, CopiesBack, CopiesOne, CountsLeft, RiseBetween};
 ghost use Rattle.handoff.specs.Endings.{IsCopyStop};
 ghost use Rattle.handoff.specs.Sights.{IsOfVnode, ShowsState, Sight};
 ghost use Rattle.handoff.specs.Left.{IsHeld, IsHeldAt};
@@ -34,6 +34,8 @@ pub struct Copied {
     pub stuck: u32,
     /// How many keys weren't copied as they were then, at a last look at both; 4,294,967,295 where there were more.
     pub left: u32,
+    /// How many entries of the primary's history its pass had seen before the first copy.
+    pub began: u64,
     /// The pass by which it looked and published at the primary, made for this call.
     pub primary: Pass<Vnode>,
     /// The pass by which it looked at the fallback, made for this call.
@@ -84,12 +86,13 @@ struct Tried {
     last: Key,
 }
 
-/// How many keys were copied, how many were tried, and how many are left.
+/// How many keys were copied, how many were tried, and how many are left; and how many entries of the primary had been seen before.
 #[derive(Clone, Copy, Drop)]
 struct Counts {
     keys: u32,
     tried: u32,
     left: u32,
+    began: u64,
 }
 
 /// Copies the first `budget` keys that aren't copied as they are now, in their order, and counts what is left then.
@@ -111,6 +114,7 @@ pub(crate) fn copy_keys<R: Wait>(
             keys: counts.keys,
             stuck: counts.tried - counts.keys,
             left: counts.left,
+            began: counts.began,
             primary: mine,
             fallback: theirs,
         }),
@@ -141,11 +145,33 @@ fn copy_and_count<R: Wait>(
     ensures budget { IfOk result (λ counts. counts.tried ≤ budget) }
     ensures none { IfOk result (λ counts. theirs.new.own ≡ []) }
     ensures left { IfOk result (λ counts. CountsLeft mine.new theirs.new counts.left) }
+    ensures rise { IfOk result (λ counts.
+        RiseBetween counts.began mine.new.own (length mine.new.prefix)) }
     ensures stop { IfErr result (IsStopOf theirs.new) }
 {
-    let (keys, tried) = copy_some(rt, alloc, partition, budget, mine, theirs)?;
+    let began = look_first(rt, partition.primary, mine);
+    let (keys, tried) = copy_some(rt, alloc, partition, budget, began, mine, theirs)?;
     let left = look_left(rt, alloc, partition, mine, theirs)?;
-    Ok(Counts { keys, tried, left })
+    Ok(Counts {
+        keys,
+        tried,
+        left,
+        began,
+    })
+}
+
+/// How many entries of a primary a pass has seen after a look.
+fn look_first<R: Wait>(rt: &R, primary: &Gate<Vnode>, mine: &mut Pass<Vnode>) -> u64
+    requires { mine.old.gate ≡ primary.now }
+    ensures gate { mine.new.gate ≡ primary.now }
+    ensures own { mine.new.own ≡ mine.old.own }
+    ensures seen { result ≡ length mine.new.prefix }
+{
+    let right = primary.read(rt);
+    // where the history has gone on past the state, that is seen all the same
+    let _is_moved = right.look(mine).is_err();
+    right.release();
+    mine.seen()
 }
 
 /// Copies at most `budget` keys; how many were copied, and how many it tried.
@@ -154,6 +180,7 @@ fn copy_some<R: Wait>(
     alloc: Global,
     partition: &Diverted<'_>,
     budget: u32,
+    began: u64,
     mine: &mut Pass<Vnode>,
     theirs: &mut Pass<Vnode>,
 ) -> Result<(u32, u32), Stop>
@@ -162,8 +189,10 @@ fn copy_some<R: Wait>(
     requires vnode { IsOfVnode partition.now.fallback.now.gate }
     requires new { mine.old.own ≡ [] }
     requires new_there { theirs.old.own ≡ [] }
+    requires rise { RiseBetween began mine.old.own (length mine.old.prefix) }
     ensures mine { mine.new.gate ≡ partition.now.primary.now }
     ensures theirs { theirs.new.gate ≡ partition.now.fallback.now.gate }
+    ensures rise { IfOk result (λ made. RiseBetween began mine.new.own (length mine.new.prefix)) }
     ensures copies { IfOk result (λ made. AreCopies partition.now.fallback.now.diversion
         mine.new theirs.new mine.new.own) }
     ensures keys { IfOk result (λ made. made.0 ≡ length mine.new.own) }
@@ -185,6 +214,7 @@ fn copy_some<R: Wait>(
             partition,
             keys,
             tried,
+            began,
             mine,
             theirs,
             last.as_ref(),
@@ -209,6 +239,7 @@ fn copy_counted<R: Wait>(
     partition: &Diverted<'_>,
     keys: u32,
     tried: u32,
+    began: u64,
     mine: &mut Pass<Vnode>,
     theirs: &mut Pass<Vnode>,
     after: Option<&Key>,
@@ -221,6 +252,8 @@ fn copy_counted<R: Wait>(
     requires room { tried + 1 < 2 ^ 32 }
     requires copies { AreCopies partition.now.fallback.now.diversion
         mine.old theirs.old mine.old.own }
+    requires rise { RiseBetween began mine.old.own (length mine.old.prefix) }
+    ensures rise { OnOk result (RiseBetween began mine.new.own (length mine.new.prefix)) }
     ensures mine { mine.new.gate ≡ partition.now.primary.now }
     ensures theirs { theirs.new.gate ≡ partition.now.fallback.now.gate }
     ensures own_there { theirs.new.own ≡ theirs.old.own }
@@ -231,6 +264,7 @@ fn copy_counted<R: Wait>(
         (one.keys ≡ length mine.new.own) × (one.keys ≤ one.tried) × (one.tried ≤ tried + 1))) }
     ensures stop { IfErr result (IsStopOf theirs.new) }
 {
+    let _began = began;
     let step = copy_next(rt, alloc, partition, mine, theirs, after)?;
     match step {
         Step::End => Ok(None),

@@ -25,7 +25,8 @@ pub enum HandoffFault {
     LeftOver(Returned),
     /// Memory was refused.
     NoMemory,
-    /// The history of a gate had gone on past the state that was found, or can have no further event.
+    /// The history of a gate had gone on past the state that was found, or can have no further event; or a gate took what it doesn't take while
+    /// its partition is diverted, the primary a command, or the fallback a copy or a reap.
     GateStopped,
 }
 

@@ -4,11 +4,12 @@ ghost use Rattle.vnode_machine.specs.Replay.{IsWithinLimits};
 ghost use Rattle.vnode_core.specs.Events.{IsMadeNew};
 ghost use Rattle.handoff.specs.Partitions.{AreMadeNew, AreNone, BeginsBehind, fallback_id, number_of};
 ghost use Rattle.handoff.specs.Sights.{ClosedBehind};
+ghost use Rattle.handoff.specs.Started.{IsStartOf, IsTallied};
 
 use ring_map::{Ring, vnode_id};
 use rw_gate::{Gate, Pass, ReadRight};
 use std::alloc::{AllocError, Global};
-use vnode_core::Vnode;
+use vnode_core::{Tally, Vnode};
 
 /// What lies between the id of a partition's primary and that of its fallback.
 const FALLBACK_IDS: u64 = 32768;
@@ -20,6 +21,15 @@ pub struct Fallback {
     pub diversion: u32,
     /// The pass by which the fallback before this one was seen closed: of all that it ever took. None for the first diversion.
     pub before: Option<Pass<Vnode>>,
+    /// What the primary had when the partition was diverted; none where two attempts to read it failed, and then the diversion can't end.
+    pub start: Option<Start>,
+}
+
+/// What a pass had seen of a partition's primary when the partition was diverted, and the primary's tally then.
+#[derive(Drop)]
+pub struct Start {
+    pub pass: Pass<Vnode>,
+    pub tally: Tally,
 }
 
 /// One call at each place where one is let go.
@@ -29,6 +39,7 @@ impl Drop for Fallback {
             gate: _gate,
             diversion: _diversion,
             before: _before,
+            start: _start,
         } = self;
     }
 }
@@ -143,17 +154,58 @@ pub(crate) fn next_diversion(fallback: &Option<Fallback>) -> Option<NextDiversio
     }
 }
 
-/// The fallback of a partition's next diversion.
+/// The tally of a vnode at one look.
+fn tally_if_shown(right: &ReadRight<'_, Vnode>, pass: &mut Pass<Vnode>) -> Option<Tally>
+    requires { pass.old.gate ≡ right.now.gate }
+    ensures gate { pass.new.gate ≡ right.now.gate }
+    ensures tally { IfSome result (IsTallied pass.new) }
+{
+    let Ok(vnode) = right.look(pass) else {
+        return None;
+    };
+    Some(vnode.tally())
+}
+
+/// One attempt to read a primary, and one more without the mark, where no call is under way that could have made it.
+fn read_alone(gate: &Gate<Vnode>) -> Option<ReadRight<'_, Vnode>>
+    ensures { IfSome result (λ right. right.gate ≡ gate.now) }
+{
+    match gate.try_read() {
+        Some(right) => Some(right),
+        None => {
+            gate.unmark();
+            gate.try_read()
+        }
+    }
+}
+
+/// What a primary has, while no call is under way.
+pub(crate) fn look_start(gate: &Gate<Vnode>) -> Option<Start>
+    ensures { IfSome result (IsStartOf gate.now) }
+{
+    let right = read_alone(gate)?;
+    let mut pass = gate.pass();
+    let shown = tally_if_shown(&right, &mut pass);
+    right.release();
+    match shown {
+        None => None,
+        Some(tally) => Some(Start { pass, tally }),
+    }
+}
+
+/// The fallback of a partition's next diversion, of which the primary had this.
 pub(crate) fn new_fallback(
     alloc: Global,
     run: u32,
     index: u16,
     next: NextDiversion,
+    start: Option<Start>,
 ) -> Result<Fallback, AllocError>
     ensures made { IfOk result (λ fallback.
         IsMadeNew (fallback_id run index) next.last_epoch fallback.gate) }
     ensures number { IfOk result (λ fallback. fallback.diversion ≡ next.number) }
     ensures before { IfOk result (λ fallback. fallback.before ≡ next.before) }
+    ensures start { IfOk result (λ fallback. fallback.start ≡ start) }
     ensures limits { IsWithinLimits (fallback_id run index) next.last_epoch }
 {
     let id = vnode_id(run, index) + FALLBACK_IDS;
@@ -162,5 +214,6 @@ pub(crate) fn new_fallback(
         gate,
         diversion: next.number,
         before: next.before,
+        start,
     })
 }

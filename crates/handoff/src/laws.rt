@@ -1,9 +1,19 @@
 //! What copies back say, beside the law of copies.
-ghost use Rattle.std.specs.Prelude.{ℕ};
+ghost use Rattle.std.specs.Prelude.{ℕ, List, Option};
 ghost use Rattle.copy_laws.specs.Joining.{Log, Fallbacks};
 ghost use Rattle.copy_laws.specs.Sides.{Partition};
-ghost use Rattle.handoff.specs.Joined.{ReturnJoinsKeys};
+ghost use Rattle.handoff.specs.declared.gates.Start.{Start};
+ghost use Rattle.handoff.specs.declared.copying.Copied.{Copied};
+ghost use Rattle.handoff.specs.declared.gates.Fallback.{Fallback};
+ghost use Rattle.handoff.specs.Joined.{CopiesAreOfCalls, FirstReturnJoins, ReturnJoinsKeys, TurnsSpareReaps};
+ghost use Rattle.rw_gate.specs.Views.{GateId};
+ghost use Rattle.vnode_core.specs.Plans.{View};
+ghost use Rattle.vnode_core.specs.declared.entry.Entry.{Entry};
+ghost use Rattle.riak_msgs.specs.declared.Key.{Key};
+ghost use Rattle.handoff.specs.declared.fault.Returned.{Returned};
 ghost use Rattle.handoff.specs.Meeting.{CopiesAreTrue};
+ghost use Rattle.handoff.specs.Partitions.{HandoffView};
+ghost use Rattle.handoff.specs.Running.{FirstHandOffJoins};
 ghost use Rattle.handoff.specs.Sights.{Sight};
 
 /// Each copy that [`Handoff::copy_back`](crate::Handoff::copy_back) made is one that the law of copies calls true (`IsTrueCopy` of `copy_laws`): it has
@@ -22,11 +32,49 @@ pub fn copies_are_true()
 /// shows are its joint ones: the writes and tombstones of any side that no command of any side saw. So it is with each key, whether the
 /// fallback held it or not.
 ///
-/// It asks that the passes are of that partition: the primary's (`IsOfPrimary`), which isn't closed, and that of its last fallback
-/// (`IsOfLastFallback`), whose gates were made round the new vnodes that the partition names, and whose fallback took commands alone before
-/// its close. And of the key (`IsHandedOff`) that the logs are a hand-off, whose sides rise and whose contexts name what was there, and that of
-/// each earlier fallback copies brought all: so this law says it of the return that ended that one's diversion.
+/// It asks that the passes are of that partition: the primary's (`IsOfPrimary`) and that of its last fallback (`IsOfLastFallback`), whose gates were
+/// made round the new vnodes that the partition names. That the primary isn't closed, that its log and the fallback's are the machine's, and that the
+/// fallback took writes and deletes alone, the end of the diversion says itself. And it asks of the key (`IsHandedOff`) that of each earlier fallback
+/// copies brought all, which this law says of the return that ended that one's diversion; that sides rise (`begins` of `divert`'s clause); that each
+/// copy is a true one ([`copies_are_true`]); that no reap stands between what came and a copy ([`turns_spare_reaps`]); and that contexts name what was
+/// there, which is so where each had been shown.
 pub fn returns_join()
     ensures { (partition : Partition) (primary : Log) (fallbacks : Fallbacks)
         (mine theirs : Sight) → ReturnJoinsKeys partition primary fallbacks mine theirs }
+{}
+
+/// Where no command stands at the primary between two copies of a diversion, no reap of a key stands between a number of that diversion and a copy of
+/// it. For a return has shown that only copies came since its diversion began (`TookCopiesAlone` in `specs/Started`).
+pub fn turns_spare_reaps()
+    ensures { (partition : Partition) (primary : Log) (fallbacks : Fallbacks) (key : Key)
+        → TurnsSpareReaps partition primary fallbacks key }
+{}
+
+/// Where [`Handoff::finish_return`](crate::Handoff::finish_return) has ended the first diversion of a partition whose primary had taken commands alone
+/// before, and whose contexts name what was there, each key's siblings at the primary are its joint ones. Beside the contracts of `divert`,
+/// `copy_back` and `finish_return` it asks for one thing more, which no contract says: that each copy that came to the primary since is one that a
+/// copy back made (`AreMade`). Who alone copies back a partition's fallback, one call after another, can show that ([`copies_are_of_calls`]).
+pub fn first_return_joins()
+    ensures { (partition : Partition) (primary : Log) (fallbacks : Fallbacks)
+        (start : Option Start) (mine theirs : Sight)
+        → FirstReturnJoins partition primary fallbacks start mine theirs }
+{}
+
+/// Where the calls of [`Handoff::copy_back`](crate::Handoff::copy_back) that one caller made in a diversion copied as many keys as entries came to the
+/// primary since the diversion began, and each began behind all that the one before it had seen, they made all copies there. All of it is numbers and
+/// passes that the caller has, and can compare: `keys` and `began` of each [`Copied`](crate::Copied), `seen` of its passes, and `is_behind` of these and of
+/// those of the return.
+pub fn copies_are_of_calls()
+    ensures { (primary : GateId View) (fallback : Fallback) (mine : Sight)
+        (before : List Entry) (calls : List Copied)
+        → CopiesAreOfCalls primary fallback mine before calls }
+{}
+
+/// Where a caller diverted a partition for the first time, copied back by calls of its own alone, one behind another, and returned, each key's siblings at
+/// the primary are its joint ones: the writes and tombstones of either side that no command of either side saw. Beside the clauses of `divert`,
+/// `copy_back` and `finish_return`, and what these let the caller compare (`IsFirstHandOff` in `specs/Running`), it asks only that contexts name what was
+/// there, which is so where each had been shown for its key.
+pub fn first_hand_offs_join()
+    ensures { (handoff : HandoffView) (index : ℕ) (calls : List Copied) (passes : Returned)
+        → FirstHandOffJoins handoff index calls passes }
 {}

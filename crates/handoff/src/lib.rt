@@ -16,7 +16,7 @@
 //! handoff.finish_return(rt, alloc, 0)        Err(LeftOver(passes))         these passes show that b/k isn't
 //! handoff.copy_back(rt, alloc, 0, 10)?       keys: 1, stuck: 0, left: 0
 //! handoff.finish_return(rt, alloc, 0)?       the calls of partition 0 are for its primary again
-//! handoff.finish_return(rt, alloc, 0)        Err(NotDiverted)
+//! handoff.finish_return(rt, alloc, 0)        Err(NotDiverted(pass))         the pass has seen it closed
 //! handoff.divert(alloc, 0)?                  a new fallback, whose epochs begin behind the last one's
 //! ```
 //!
@@ -29,10 +29,17 @@
 //! (`EndsDiversion` in `specs/Returning`): the close stands right behind what was looked at, and then each key's siblings at the primary are
 //! the joint ones of all sides ([`returns_join`]).
 //!
+//! How a running hand-off meets that law: a fallback keeps the pass that saw the one before it closed, and what the primary had when the
+//! partition was diverted ([`Start`]). So the end of a diversion can compare tallies, and says that the fallback took writes and deletes
+//! alone, and the primary only copies since then (`EndsFrom`). A caller who copies back alone, one call after another, can compare that its calls
+//! made all of these copies ([`copies_are_of_calls`]). Of a partition's first diversion nothing more is asked than that contexts name what was
+//! there ([`first_hand_offs_join`]).
+//!
 //! What it costs: a partition that isn't diverted has a place for its fallback, and a call looks at that place. A diversion makes one
 //! gate and one vnode without keys. A key that is copied, or that is looked at and isn't, is searched for once in each vnode, and is
 //! copied for that; a key that is copied back takes three rights and its clock's size in memory, and a stretch of 16 keys that are copied
-//! already takes two. A return looks at each key once, while no call is answered at the fallback.
+//! already takes two, and each call one more in the beginning. A return looks at each key once, while no call is answered at the fallback. A
+//! diversion looks at the primary once, and a fallback keeps two passes, which have a number each.
 //!
 //! Rights are taken in one order, the fallback's before the primary's, and no call that holds a primary's asks for a fallback's. So
 //! none of these calls waits for another that waits for it.
@@ -49,6 +56,9 @@ mod returning;
 
 pub use copying::Copied;
 pub use fault::{HandoffFault, Returned};
-pub use gates::Fallback;
-pub use laws::{copies_are_true, returns_join};
+pub use gates::{Fallback, Start};
+pub use laws::{
+    copies_are_of_calls, copies_are_true, first_hand_offs_join, first_return_joins, returns_join,
+    turns_spare_reaps,
+};
 pub use partitions::Handoff;

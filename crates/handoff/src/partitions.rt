@@ -10,7 +10,7 @@ ghost use Rattle.handoff.specs.Diverted.{IsDivertedAt};
 
 use crate::copying::{Copied, Diverted, copy_keys};
 use crate::fault::{HandoffFault, Returned};
-use crate::gates::{Fallback, new_fallback, new_gates, next_diversion, no_fallbacks};
+use crate::gates::{Fallback, look_start, new_fallback, new_gates, next_diversion, no_fallbacks};
 use crate::returning::end_diversion;
 use ring_map::Ring;
 use rw_gate::Gate;
@@ -57,6 +57,7 @@ impl Drop for Handoff {
 impl Model for Handoff {
     ghost use Rattle.std.specs.Prelude.{◌≡◌, ◌^◌, length};
     ghost use Rattle.handoff.specs.Partitions.{HandoffView, AreOfNewRun, AreFallbacks};
+    ghost use Rattle.handoff.specs.Started.{AreStarts};
 
     ghost Value = { HandoffView };
 
@@ -68,7 +69,8 @@ impl Model for Handoff {
     } };
 
     ghost invariant = { λ h. AreOfNewRun h.run h.gates.items × (length h.gates.items ≡ 2 ^ h.ring)
-        × AreFallbacks h.run 0 h.fallbacks.items × (length h.fallbacks.items ≡ 2 ^ h.ring) };
+        × AreFallbacks h.run 0 h.fallbacks.items × (length h.fallbacks.items ≡ 2 ^ h.ring)
+        × AreStarts h.gates.items h.fallbacks.items };
 }
 
 impl Handoff {
@@ -109,7 +111,8 @@ impl Handoff {
         let Some(next) = next_diversion(&self.fallbacks[at]) else {
             return Err(HandoffFault::AlreadyDiverted);
         };
-        let fallback = new_fallback(alloc, self.run, index, next)?;
+        let start = look_start(&self.gates[at]);
+        let fallback = new_fallback(alloc, self.run, index, next, start)?;
         self.fallbacks[at] = Some(fallback);
         Ok(())
     }
@@ -156,7 +159,8 @@ impl Handoff {
 
     /// Ends a partition's diversion, where each key of its fallback is copied as it is now: it closes the fallback, which drops its keys,
     /// and later calls go to the primary again. The close carries how many entries the primary's history had at the look that found it
-    /// so. The index is below the ring's size.
+    /// so. By tallies it sees that the fallback took writes and deletes alone, and that since the partition was diverted only copies came to the
+    /// primary; else `GateStopped`. The index is below the ring's size.
     ///
     /// It takes the right to write at the fallback, and then a right to read at the primary; so no two calls wait for each
     /// other, as with `copy_back`.

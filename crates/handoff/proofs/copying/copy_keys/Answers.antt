@@ -11,6 +11,7 @@ returns-in-Ok-clause-ok g c =
       copies = c.in-Ok.ensures.copies;
       none = c.in-Ok.ensures.none;
       keys = c.in-Ok.ensures.keys;
+      rise = c.in-Ok.ensures.rise;
       tried = omega (arith, few, budget);
       left = c.in-Ok.ensures.left;
     }

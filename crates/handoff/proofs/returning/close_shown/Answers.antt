@@ -1,13 +1,18 @@
-use Rattle.std.proofs.Common.{◌∙◌, [], ◌∷◌, ◌++◌, ap, sym, subst, length}
-use Rattle.std.specs.Prelude.{None}
+use Rattle.std.proofs.Common.{◌≡◌, ◌∙◌, [], ◌∷◌, ◌++◌, ap, sym, subst, length}
+use Rattle.std.specs.Prelude.{None, Some, IfSome}
 use Rattle.clock_store.specs.Keys.{Keys, stored_of}
 use Rattle.rw_gate.specs.Views.{GateId}
 use Rattle.vnode_core.specs.declared.entry.Entry.TheVariants.{Closed}
 use Rattle.vnode_core.specs.Plans.{View}
 use Rattle.vnode_core.proofs.Lefts.{behind-none}
 use Rattle.handoff.specs.declared.left.Left.{Left}
+use Rattle.handoff.specs.declared.gates.Start.{Start}
 use Rattle.handoff.specs.Left.{IsFirstLeft, IsNextLeft}
-use Rattle.handoff.specs.Sights.{LeadsVnodeTo}
+use Rattle.handoff.specs.Returning.{EndsDiversion}
+use Rattle.handoff.specs.Sights.{IsOfVnode, LeadsVnodeTo}
+use Rattle.handoff.specs.Started.{IsStartOf}
+use Rattle.handoff.proofs.Between.{took-copies}
+use Rattle.handoff.proofs.Counted.{seen-updates}
 use Rattle.handoff.proofs.Copies.{if-none, if-some}
 use Rattle.handoff.proofs.Showing.{shown, shown-sound}
 use Rattle.handoff.proofs.returning.close_shown.Goals as goal
@@ -36,22 +41,37 @@ returns-in-Some-left-clause-ending c =
       own_here = c.look.ensures.own ∙ c.requires.own;
     }
 
+pub has_stayed-requires : goal.has_stayed-requires
+has_stayed-requires c = subst (λ (g : GateId View). IfSome c.args.start.now (IsStartOf g)) (sym (c.look.ensures.gate ∙ c.requires.mine)) c.requires.start
+
 pub returns-clause-ending : goal.returns-clause-ending
 returns-clause-ending c =
     let primary = c.in_ok-to.to.now.state in
     let fallback = c.in_ok-from.from.now.state in
     let before = c.look-2.new.pass.prefix in
     let closes = c.in_ok-close.ensures.closed in
-    record {
+    let mine = c.look.new.pass in
+    let here = shown c.args.reader.now mine c.in_ok-to.to.now c.look.ensures.replay (c.look.ensures.gate ∙ c.requires.mine) c.in_ok-to.ensures.seen c.in_ok-to.ensures.shown in
+    let there = shown c.args.writer.now c.look-2.new.pass c.in_ok-from.from.now c.look-2.ensures.replay (c.look-2.ensures.gate ∙ c.requires.theirs) c.in_ok-from.ensures.seen c.in_ok-from.ensures.shown in
+    let stayed = c.has_stayed.ensures c.if-not-has_stayed.false in
+    let vnode = subst IsOfVnode (sym (c.look-2.ensures.gate ∙ c.requires.theirs)) c.requires.vnode in
+    let took = seen-updates vnode.id vnode.last_epoch c.look-2.new.pass.gate before fallback vnode.made_new there (c.took_updates_alone.ensures c.if-not-took_updates_alone.false) in
+    let starts : (from : Start) → c.args.start.now ≡ Some from → IsStartOf mine.gate from
+    = λ from is. if-some (IsStartOf mine.gate) c.args.start.now from is (subst (λ (g : GateId View). IfSome c.args.start.now (IsStartOf g)) (sym (c.look.ensures.gate ∙ c.requires.mine)) c.requires.start) in
+    let ended : EndsDiversion mine c.close.new.theirs = record {
       before = before;
       primary = primary;
       fallback = fallback;
-      shows = shown c.args.reader.now c.look.new.pass c.in_ok-to.to.now c.look.ensures.replay (c.look.ensures.gate ∙ c.requires.mine) c.in_ok-to.ensures.seen c.in_ok-to.ensures.shown;
-      leads = subst (λ (gate : GateId View). LeadsVnodeTo gate before fallback) (sym c.close.ensures.gate)
-          (shown c.args.writer.now c.look-2.new.pass c.in_ok-from.from.now c.look-2.ensures.replay (c.look-2.ensures.gate ∙ c.requires.theirs) c.in_ok-from.ensures.seen c.in_ok-from.ensures.shown);
+      shows = here;
+      leads = subst (λ (gate : GateId View). LeadsVnodeTo gate before fallback) (sym c.close.ensures.gate) there;
       unclosed = sym c.closed_at.ensures ∙ c.in-None.is;
+      open_still = stayed.open_still;
+      events = took.0;
+      plain = took.1;
+      updates = took.2;
       copied = if-none c.in_ok-left.left c.in-None-left.is c.in_ok-left.ensures.none;
       seen = closes.seen ∙ ap (λ n. before ++ Closed n ∷ []) c.seen.ensures.length;
       own = closes.own ∙ ap (λ ks. ks ++ length before ∷ []) (c.look-2.ensures.own ∙ c.requires.own_there);
       own_here = c.look.ensures.own ∙ c.requires.own;
-    }
+    } in
+    record { ended = ended; since = took-copies c.args.start.now primary mine stayed starts here }
