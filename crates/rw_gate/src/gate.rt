@@ -81,21 +81,23 @@ impl<S: Kept> Model for Gate<S> {
 }
 
 impl<S: Kept> Gate<S> {
-    /// A gate round a state that has no history yet. It takes no memory. The state is given back where no gate is made, which no path of
-    /// today's code leads to.
+    /// A gate round a state that has no history yet. It takes memory for the state's place, and the state is given back where there is none.
     pub fn new(alloc: Global, state: S) -> Result<Gate<S>, S>
         ensures ok { IfOk result (λ g. g.opening ≡ Some state) }
         ensures err { IfErr result (λ s. s ≡ state) }
     {
-        let _ = alloc;
         let (gate, seen) = Gate::opened(&state);
-        match gate.put_back(SlotValue {
-            state,
-            seen,
-            count: 0,
-        }) {
-            Ok(()) => Ok(gate),
-            Err(value) => Err(value.into_state()),
+        match Box::new(alloc, state) {
+            Ok(state) => match gate.put_back(SlotValue {
+                state,
+                seen,
+                count: 0,
+            }) {
+                Ok(()) => Ok(gate),
+                // no path leads here: a new slot is free
+                Err(value) => Err(value.into_state()),
+            },
+            Err(refused) => Err(refused.value),
         }
     }
 
@@ -255,7 +257,7 @@ impl<S: Kept> Gate<S> {
     /// puts it back.
     pub(crate) fn put_back(&self, value: SlotValue<S>) -> Result<(), SlotValue<S>>
         requires { IsSlotValue S.content S.accepts self.now
-            value.seen.book value.seen.log value.count value.state }
+            value.seen.book value.seen.log value.count value.state.value }
         ensures { IfErr result (λ l. l ≡ value) }
     {
         let (found, claim) = self.slot.turn(FREE, TAKEN);

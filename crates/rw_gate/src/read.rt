@@ -43,7 +43,7 @@ impl<'a, S: Kept> Model for ReadRight<'a, S> {
         × (gate_id r.claim.tag.book r.claim.tag.log ≡ r.gate.now)
         × (gate_id r.seen.book r.seen.log ≡ r.gate.now)
         × IsSomeAnd r.claim.value (λ held. IsSomeAnd held (λ value.
-        (value.seen ≡ r.seen) × (value.state ≡ r.state.value))) };
+        (value.seen ≡ r.seen) × (value.state.value ≡ r.state.value))) };
 }
 
 impl<'a, S: Kept> ReadRight<'a, S> {
@@ -58,7 +58,7 @@ impl<'a, S: Kept> ReadRight<'a, S> {
         ensures state { IfSome result (IsReplayed S.content S.accepts) }
     {
         let (seen, state) = match claim.get() {
-            Some(value) => (value.seen.again(), Snapshot::of(&value.state)),
+            Some(value) => (value.seen.again(), Snapshot::of(&*value.state)),
             None => {
                 claim.leave();
                 return None;

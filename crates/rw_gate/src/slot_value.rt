@@ -5,9 +5,9 @@ use crate::kept::Kept;
 use crate::log::SeenLog;
 use counted_slot::Fits;
 
-/// A state, the log that leads to it, and the number of that log's events.
+/// A state in a place of its own, so that what is moved is a pointer, with the log that leads to it, and the number of that log's events.
 pub(crate) struct SlotValue<S: Kept> {
-    pub state: S,
+    pub state: Box<S>,
     pub seen: SeenLog<S>,
     pub count: u64,
 }
@@ -25,7 +25,7 @@ impl<S: Kept> Drop for SlotValue<S> {
 
 impl<S: Kept> SlotValue<S> {
     /// The state, its log and the number of that log's events.
-    pub(crate) fn into_parts(self) -> (S, SeenLog<S>, u64)
+    pub(crate) fn into_parts(self) -> (Box<S>, SeenLog<S>, u64)
         ensures { result ≡ (self.state, self.seen, self.count) }
     {
         let SlotValue { state, seen, count } = self;
@@ -34,14 +34,14 @@ impl<S: Kept> SlotValue<S> {
 
     /// The state alone.
     pub(crate) fn into_state(self) -> S
-        ensures { result ≡ self.state }
+        ensures { result ≡ self.state.value }
     {
         let SlotValue {
             state,
             seen: _seen,
             count: _count,
         } = self;
-        state
+        Box::into_inner(state)
     }
 }
 
@@ -53,5 +53,5 @@ impl<S: Kept> Fits for SlotValue<S> {
     ghost use Rattle.rw_gate.specs.Histories.{IsSlotValue};
 
     ghost fits = { λ tag value. IsSlotValue S.content S.accepts (gate_id tag.book tag.log)
-        value.seen.book value.seen.log value.count value.state };
+        value.seen.book value.seen.log value.count value.state.value };
 }

@@ -30,7 +30,7 @@ pub enum PublishFault {
 /// It knows a prefix of the history, whose replay the state is. It has to be released, and stays in its thread.
 pub struct WriteRight<'a, S: Kept> {
     gate: &'a Gate<S>,
-    state: S,
+    state: Box<S>,
     seen: SeenLog<S>,
     count: u64,
     // keeps it in its thread
@@ -49,18 +49,18 @@ impl<'a, S: Kept> Model for WriteRight<'a, S> {
     ghost view = { λ r. record {
       gate = gate_id r.seen.book r.seen.log;
       history = events r.seen.log;
-      state = r.state;
+      state = r.state.value;
     } };
 
     ghost invariant = { λ r. IsSlotValue S.content S.accepts r.gate.now
-        r.seen.book r.seen.log r.count r.state };
+        r.seen.book r.seen.log r.count r.state.value };
 }
 
 impl<'a, S: Kept> WriteRight<'a, S> {
     /// The right of a state that was taken out of the slot.
     pub(crate) fn new(gate: &'a Gate<S>, value: SlotValue<S>) -> WriteRight<'a, S>
         requires { IsSlotValue S.content S.accepts gate.now
-            value.seen.book value.seen.log value.count value.state }
+            value.seen.book value.seen.log value.count value.state.value }
         ensures gate { result.gate ≡ gate.now }
         ensures state { IsReplayed S.content S.accepts result }
     {

@@ -4,7 +4,7 @@ use Rattle.rw_gate.proofs.write.WriteRight.look.Goals as goal
 pub returns-clause-replay : goal.returns-clause-replay
 returns-clause-replay g c =
     let own = c.self.inside in
-    rw (← c.self.view_is) (replay_of g.S.Kept.content g.S.Kept.accepts own.seen.book own.seen.log own.state c.self.invariant.leads)
+    rw (← c.self.view_is) (replay_of g.S.Kept.content g.S.Kept.accepts own.seen.book own.seen.log own.state.value c.self.invariant.leads)
 
 pub returns-in_err-look-clause-gate : goal.returns-in_err-look-clause-gate
 returns-in_err-look-clause-gate g c = c.look.ensures.gate
@@ -27,4 +27,4 @@ returns-clause-more g c = c.look.ensures.more
 pub returns-in_err-look-clause-replay : goal.returns-in_err-look-clause-replay
 returns-in_err-look-clause-replay g c =
     let own = c.self.inside in
-    rw (← c.self.view_is) (replay_of g.S.Kept.content g.S.Kept.accepts own.seen.book own.seen.log own.state c.self.invariant.leads)
+    rw (← c.self.view_is) (replay_of g.S.Kept.content g.S.Kept.accepts own.seen.book own.seen.log own.state.value c.self.invariant.leads)
