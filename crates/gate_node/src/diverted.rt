@@ -8,6 +8,7 @@ ghost use Rattle.gate_node.specs.Passes.{AnswersAtFallback, AnswersBy, FindsClos
 use crate::gated_vnode::show;
 use crate::passes::{FallbackPass, renew};
 use crate::replies::{counted_reply, get_quantity};
+use crate::reserve::ReserveOf;
 use crate::shared::Shared;
 use crate::turnstile::Turnstile;
 use handoff::Fallback;
@@ -19,12 +20,17 @@ use std::sync::Wait;
 use vnode_core::{Answer, Ask, Refusal, Vnode};
 
 /// Shows a vnode's state to a get, or the number of its close.
-fn show_open(vnode: &Vnode, alloc: Global, get: &GetAsk) -> Result<Reply, u64>
+fn show_open(
+    vnode: &Vnode,
+    alloc: Global,
+    reserve: ReserveOf<'_>,
+    get: &GetAsk,
+) -> Result<Reply, u64>
     ensures shown { IfOk result (λ reply. ShowsOpen get.now reply vnode.now.state) }
     ensures closed { IfErr result (λ number. vnode.now.state.closed ≡ Some number) }
 {
     match vnode.closed_at() {
-        None => Ok(show(vnode, alloc, get)),
+        None => Ok(show(vnode, alloc, reserve, get)),
         Some(number) => Err(number),
     }
 }
@@ -35,6 +41,7 @@ fn answer_get_open<W: Wait, T: Turnstile>(
     alloc: Global,
     shared: &Shared,
     turnstile: &T,
+    reserve: ReserveOf<'_>,
     gate: &Gate<Vnode>,
     pass: &mut Pass<Vnode>,
     get: &GetAsk,
@@ -49,7 +56,7 @@ fn answer_get_open<W: Wait, T: Turnstile>(
     shared.enter(turnstile);
     match right.look(pass) {
         Ok(vnode) => {
-            let found = show_open(vnode, alloc, get);
+            let found = show_open(vnode, alloc, reserve, get);
             right.release();
             found
         }
@@ -118,6 +125,7 @@ fn get_by<W: Wait, T: Turnstile>(
     alloc: Global,
     shared: &Shared,
     turnstile: &T,
+    reserve: ReserveOf<'_>,
     gate: &Gate<Vnode>,
     kept: &mut FallbackPass,
     get: &GetAsk,
@@ -131,7 +139,16 @@ fn get_by<W: Wait, T: Turnstile>(
     if let Some(number) = kept.closed {
         return Err(number);
     }
-    match answer_get_open(rt, alloc, shared, turnstile, gate, &mut kept.pass, get) {
+    match answer_get_open(
+        rt,
+        alloc,
+        shared,
+        turnstile,
+        reserve,
+        gate,
+        &mut kept.pass,
+        get,
+    ) {
         Ok(reply) => {
             let quantity = Some(get_quantity(&reply));
             Ok((reply, quantity))
@@ -179,6 +196,7 @@ pub(crate) fn get_diverted<W: Wait, T: Turnstile>(
     alloc: Global,
     shared: &Shared,
     turnstile: &T,
+    reserve: ReserveOf<'_>,
     fallback: &Fallback,
     kept: &mut Option<FallbackPass>,
     get: &GetAsk,
@@ -190,7 +208,16 @@ pub(crate) fn get_diverted<W: Wait, T: Turnstile>(
 {
     renew(kept, fallback);
     match kept {
-        Some(kept) => get_by(rt, alloc, shared, turnstile, &fallback.gate, kept, get),
+        Some(kept) => get_by(
+            rt,
+            alloc,
+            shared,
+            turnstile,
+            reserve,
+            &fallback.gate,
+            kept,
+            get,
+        ),
         None => unreachable!(),
     }
 }

@@ -4,6 +4,7 @@ ghost use mathlib.Core.List.{IsPrefix};
 ghost use Rattle.gate_node.specs.Asked.{RepliesToGet, IsShownGet, Gets, Changes, ReapsUpTo, AnswersAndReaps};
 
 use crate::replies::{counted_reply, get_quantity};
+use crate::reserve::ReserveOf;
 use crate::shared::Shared;
 use crate::turnstile::Turnstile;
 use riak_msgs::{GetAsk, Reply, Text};
@@ -13,13 +14,28 @@ use std::alloc::Global;
 use std::sync::Wait;
 use vnode_core::{Ask, Vnode};
 
-/// Shows a vnode's state to a get.
-pub(crate) fn show(vnode: &Vnode, alloc: Global, get: &GetAsk) -> Reply
+/// Shows a vnode's state to a get, once.
+fn show_once(vnode: &Vnode, alloc: Global, get: &GetAsk) -> Reply
     ensures { RepliesToGet get.now result vnode.now.state }
 {
     match vnode.get(alloc, get) {
         Ok(reply) => Reply::Get(reply),
         Err(refusal) => Reply::Error(Text::from(refusal)),
+    }
+}
+
+/// Shows a vnode's state to a get: once more where memory was refused, and the thread gave up what it keeps back.
+pub(crate) fn show(vnode: &Vnode, alloc: Global, reserve: ReserveOf<'_>, get: &GetAsk) -> Reply
+    ensures { RepliesToGet get.now result vnode.now.state }
+{
+    match vnode.get(alloc, get) {
+        Ok(reply) => Reply::Get(reply),
+        Err(refusal) => {
+            if reserve.give_up(alloc) {
+                return show_once(vnode, alloc, get);
+            }
+            Reply::Error(Text::from(refusal))
+        }
     }
 }
 
@@ -37,6 +53,7 @@ fn answer_get<W: Wait, T: Turnstile>(
     alloc: Global,
     shared: &Shared,
     turnstile: &T,
+    reserve: ReserveOf<'_>,
     gate: &Gate<Vnode>,
     pass: &mut Pass<Vnode>,
     get: &GetAsk,
@@ -50,7 +67,7 @@ fn answer_get<W: Wait, T: Turnstile>(
     shared.enter(turnstile);
     match right.look(pass) {
         Ok(vnode) => {
-            let reply = show(vnode, alloc, get);
+            let reply = show(vnode, alloc, reserve, get);
             right.release();
             reply
         }
@@ -113,6 +130,7 @@ pub(crate) fn get_and_reap<W: Wait, T: Turnstile>(
     alloc: Global,
     shared: &Shared,
     turnstile: &T,
+    reserve: ReserveOf<'_>,
     gate: &Gate<Vnode>,
     pass: &mut Pass<Vnode>,
     get: &GetAsk,
@@ -122,7 +140,7 @@ pub(crate) fn get_and_reap<W: Wait, T: Turnstile>(
     ensures steps { AnswersAndReaps shared.now.budget result.reaps
         (λ p q. Gets get.now p q result.reply result.quantity) pass.old pass.new }
 {
-    let reply = answer_get(rt, alloc, shared, turnstile, gate, pass, get);
+    let reply = answer_get(rt, alloc, shared, turnstile, reserve, gate, pass, get);
     let quantity = Some(get_quantity(&reply));
     let reaps = reap(rt, alloc, gate, pass, shared.budget);
     Answered {

@@ -60,6 +60,7 @@ mod laws;
 mod node;
 mod passes;
 mod replies;
+mod reserve;
 mod shared;
 mod tallies;
 mod turnstile;
@@ -71,6 +72,7 @@ pub use laws::{
 };
 pub use node::GateNode;
 pub use passes::{HasPasses, Passes};
+pub use reserve::{Reserve, ReserveOf};
 pub use shared::Shared;
 pub use tallies::{RunTallies, tallies_of};
 pub use turnstile::{Open, Turnstile};

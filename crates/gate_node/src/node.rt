@@ -10,6 +10,7 @@ ghost use Rattle.gate_node.specs.Passes.{ArePassesOf};
 use crate::diverted::{change_diverted, get_diverted};
 use crate::gated_vnode::{catch_up, change_and_reap, get_and_reap};
 use crate::passes::{FallbackPass, Passes};
+use crate::reserve::Reserve;
 use crate::shared::Shared;
 use crate::turnstile::Turnstile;
 use handoff::Fallback;
@@ -52,6 +53,8 @@ pub struct GateNode<
     counter: ReplyCounter<'a, G, P, D, E, R>,
     primaries: Vec<Pass<Vnode>>,
     fallbacks: Vec<Option<FallbackPass>>,
+    /// What the thread keeps back, if anything.
+    reserve: Option<Reserve>,
 }
 
 impl<'a, W: Wait, T: Turnstile, G: Ledger, P: Ledger, D: Ledger, E: Ledger, R: Ledger> Model
@@ -108,7 +111,16 @@ impl<'a, W: Wait, T: Turnstile, G: Ledger, P: Ledger, D: Ledger, E: Ledger, R: L
             counter,
             primaries,
             fallbacks,
+            reserve: None,
         }
+    }
+
+    /// This node with memory kept back for what doesn't make its vnodes grow. It takes no memory.
+    pub fn with_reserve(mut self, reserve: Reserve) -> Self
+        ensures { result ≡ self }
+    {
+        self.reserve = Some(reserve);
+        self
     }
 
     /// The share and the passes, for later nodes over the same book and the same gates, and whether the book had no room
@@ -126,6 +138,7 @@ impl<'a, W: Wait, T: Turnstile, G: Ledger, P: Ledger, D: Ledger, E: Ledger, R: L
             counter,
             primaries,
             fallbacks,
+            reserve: _,
         } = self;
         let (share, is_book_full) = counter.parts();
         let passes = Passes {
@@ -152,8 +165,18 @@ impl<'a, W: Wait, T: Turnstile, G: Ledger, P: Ledger, D: Ledger, E: Ledger, R: L
         let shared = self.shared;
         let gates = shared.handoff.gates();
         let gate = &gates[index];
+        let reserve = shared.reserve(self.reserve.as_ref());
         let pass = &mut self.primaries[index];
-        let answered = get_and_reap(self.rt, alloc, shared, self.turnstile, gate, pass, get);
+        let answered = get_and_reap(
+            self.rt,
+            alloc,
+            shared,
+            self.turnstile,
+            reserve,
+            gate,
+            pass,
+            get,
+        );
         self.counter
             .count_answer(self.rt, answered.quantity, answered.reaps);
         answered.reply
@@ -190,8 +213,18 @@ impl<'a, W: Wait, T: Turnstile, G: Ledger, P: Ledger, D: Ledger, E: Ledger, R: L
         ensures closed { IfErr result (λ number. AtClosed index number self.old self.new) }
     {
         let shared = self.shared;
+        let reserve = shared.reserve(self.reserve.as_ref());
         let kept = &mut self.fallbacks[index];
-        match get_diverted(self.rt, alloc, shared, self.turnstile, fallback, kept, get) {
+        match get_diverted(
+            self.rt,
+            alloc,
+            shared,
+            self.turnstile,
+            reserve,
+            fallback,
+            kept,
+            get,
+        ) {
             Ok((reply, quantity)) => {
                 self.counter.count_answer(self.rt, quantity, 0);
                 Ok(reply)
@@ -371,5 +404,19 @@ impl<'a, W: Wait, T: Turnstile, G: Ledger, P: Ledger, D: Ledger, E: Ledger, R: L
                 self.change(alloc, index, Ask::Del(del))
             }
         }
+    }
+
+    fn admits(&self, alloc: Global, request: &Request) -> bool {
+        self.shared
+            .reserve(self.reserve.as_ref())
+            .admits(alloc, request)
+    }
+
+    fn has_room(&self, alloc: Global) -> bool {
+        self.shared.reserve(self.reserve.as_ref()).is_whole(alloc)
+    }
+
+    fn make_room(&self, alloc: Global) -> bool {
+        self.shared.reserve(self.reserve.as_ref()).give_up(alloc)
     }
 }

@@ -93,7 +93,12 @@ impl<N: Node, R: Read, W: Write> Connections<N, R, W> {
     }
 
     /// A step where all was answered and sent: it reads, or ends a connection that was silent for too long.
-    fn read(&self, opened: &mut OpenConnection<R, W>) -> Option<ConnectionEnd>
+    fn read(
+        &self,
+        alloc: Global,
+        node: &N,
+        opened: &mut OpenConnection<R, W>,
+    ) -> Option<ConnectionEnd>
         requires is_open { opened.old.input ≡ Open }
         requires idle { IsPartial max_request_len opened.old.session.rest }
         requires all_sent { opened.old.session.unsent ≡ [] }
@@ -101,20 +106,25 @@ impl<N: Node, R: Read, W: Write> Connections<N, R, W> {
     {
         let due = self.wait(opened);
         if due.is_none() {
-            opened.read(self.now.get());
+            opened.read(alloc, node, self.now.get());
         }
         due
     }
 
     /// A step where all was answered: it writes, and once all was sent it reads.
-    fn write_or_read(&self, opened: &mut OpenConnection<R, W>) -> Option<ConnectionEnd>
+    fn write_or_read(
+        &self,
+        alloc: Global,
+        node: &N,
+        opened: &mut OpenConnection<R, W>,
+    ) -> Option<ConnectionEnd>
         requires works { opened.old.failed ≡ false }
         requires is_open { opened.old.input ≡ Open }
         requires idle { IsPartial max_request_len opened.old.session.rest }
         ensures { TakesConnectionStep R.remaining W.contents opened.old opened.new result }
     {
         match opened.write(self.now.get()) {
-            Sent::Nothing => self.read(opened),
+            Sent::Nothing => self.read(alloc, node, opened),
             Sent::Blocked => self.wait(opened),
             Sent::Bytes(_) | Sent::Interrupted | Sent::Failed => None,
         }
@@ -134,7 +144,7 @@ impl<N: Node, R: Read, W: Write> Connections<N, R, W> {
     {
         match opened.answer(alloc, node) {
             Ok(Next::Answered) => None,
-            Ok(Next::Idle) => self.write_or_read(opened),
+            Ok(Next::Idle) => self.write_or_read(alloc, &*node, opened),
             Ok(Next::Full) => self.write(opened),
             Err(_) => None,
         }

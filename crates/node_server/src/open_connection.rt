@@ -117,14 +117,14 @@ impl<R: Read, W: Write> OpenConnection<R, W> {
         sent
     }
 
-    /// Reads once, where all that was whole is answered.
-    pub(crate) fn read(&mut self, now: u64) -> Received
+    /// Reads once, where all that was whole is answered by this node.
+    pub(crate) fn read<N: Node>(&mut self, alloc: Global, node: &N, now: u64) -> Received
         requires open { self.old.input ≡ Open }
         requires idle { IsPartial max_request_len self.old.session.rest }
         ensures { (buffer : List ℕ) × ReadsOnce R.remaining self.old self.new buffer result }
     {
         let mut piece = [0u8; MAX_READ_LEN];
-        let received = self.connection.read(&mut piece);
+        let received = self.connection.read(alloc, node, &mut piece);
         self.is_blocked = received == Received::Blocked;
         if let Received::Bytes(_) = received {
             self.moved = now;

@@ -1,6 +1,9 @@
 //! The answer to the next message.
 
 ghost use Rattle.std.specs.Prelude.{◌≡◌, None};
+ghost use Rattle.riak_msgs.specs.Reading.{Reads};
+ghost use Rattle.riak_msgs.specs.declared.reply.Reply.TheVariants.{Error};
+ghost use Rattle.riak_msgs.specs.declared.text.Text.TheVariants.{NoMemory};
 ghost use Rattle.node_session.specs.Answers.{Answers};
 ghost use Rattle.node_session.specs.Taking.{TakesNext};
 
@@ -9,15 +12,42 @@ use crate::node::Node;
 use crate::reply::message_fault_text;
 use ghost_state::{GhostList, Listing};
 use pb_frame::{Frame, FrameFault, Framer};
-use riak_msgs::{Reply, read_request};
+use riak_msgs::{MsgFault, Reply, Request, Text, read_request};
 use std::alloc::Global;
+
+/// The request of a message, or its first fault: read once more where memory was refused and the node made room.
+fn decode<N: Node>(alloc: Global, code: u8, body: &[u8], node: &N) -> Result<Request, MsgFault>
+    ensures { Reads code body.now result }
+{
+    match read_request(alloc, code, body) {
+        Ok(request) => Ok(request),
+        Err(fault) => {
+            if fault == MsgFault::NoMemory && node.make_room(alloc) {
+                return read_request(alloc, code, body);
+            }
+            Err(fault)
+        }
+    }
+}
+
+/// Refuses a request for which there is no memory, and lets it go.
+fn refuse(_request: Request) -> Reply
+    ensures { result ≡ Error NoMemory }
+{
+    Reply::Error(Text::NoMemory)
+}
 
 /// The reply to a message.
 fn answer<N: Node>(alloc: Global, code: u8, body: &[u8], node: &mut N) -> Reply
     ensures { Answers N.step node.old (record { code = code; body = body.now }) result node.new }
 {
-    match read_request(alloc, code, body) {
-        Ok(request) => node.answer(alloc, request),
+    match decode(alloc, code, body, &*node) {
+        Ok(request) => {
+            if !node.admits(alloc, &request) {
+                return refuse(request);
+            }
+            node.answer(alloc, request)
+        }
         Err(fault) => Reply::Error(message_fault_text(fault)),
     }
 }

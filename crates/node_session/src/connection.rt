@@ -74,11 +74,11 @@ pub enum Sent {
 ///
 /// ```text
 /// let mut connection = Connection::new(alloc, reader, writer);
-/// connection.read(&mut piece)         // Received::Bytes(10): two pings
+/// connection.read(alloc, &node, &mut piece)         // Received::Bytes(10): two pings
 /// connection.answer(alloc, &mut node) // Ok(Next::Answered), and again; then Ok(Next::Idle)
 /// connection.write()                  // Sent::Bytes(7): a writer that takes seven bytes; then Sent::Blocked
 /// connection.write()                  // Sent::Bytes(3); then Sent::Nothing
-/// connection.read(&mut piece)         // Received::End
+/// connection.read(alloc, &node, &mut piece)         // Received::End
 /// connection.outcome()                // Some(Ok(Ended { replies: 2, rest: 0 }))
 /// ```
 ///
@@ -225,8 +225,9 @@ impl<R: Read, W: Write> Connection<R, W> {
         }
     }
 
-    /// Reads once into a buffer of at most 4,096 bytes, where all that was whole is answered. What comes is fed to the session.
-    pub fn read(&mut self, piece: &mut [u8]) -> Received
+    /// Reads once into a buffer of at most 4,096 bytes, where all that was whole is answered. What comes is fed to the session, of which this is
+    /// the node.
+    pub fn read<N: Node>(&mut self, alloc: Global, node: &N, piece: &mut [u8]) -> Received
         requires going { self.old.input ≡ Open }
         requires idle { IsPartial max_request_len self.old.session.rest }
         requires room { (0 < length piece.old) × (length piece.old ≤ max_read_len) }
@@ -238,7 +239,7 @@ impl<R: Read, W: Write> Connection<R, W> {
                 Received::End
             }
             Ok(n) => {
-                let Ok(()) = self.session.feed(&piece[..n]) else {
+                let Ok(()) = self.session.feed_for(alloc, node, &piece[..n]) else {
                     self.unfed = GhostList::listed::<&[u8], Piece>(&&piece[..n]);
                     self.input = Input::PieceLost;
                     return Received::NoMemory;

@@ -7,6 +7,7 @@ ghost use Rattle.node_session.specs.Answers.{reply_frame, HasNoFrame, IsFramed};
 ghost use Rattle.node_session.specs.Unsent.{PutsReply, whole, IsFront};
 
 use crate::error_frame::error_frame;
+use crate::node::Node;
 use crate::reply::fill_frame;
 use pb_frame::{FrameFault, shrink_empty};
 use riak_msgs::{Reply, Text};
@@ -78,6 +79,13 @@ impl Outbox {
         !self.late.is_empty() || self.frames.len() - self.sent >= GATHERED
     }
 
+    /// Whether nothing is to be sent.
+    pub(crate) fn is_empty(&self) -> bool
+        ensures { result ≡ false → 0 < length (whole self.now) }
+    {
+        self.sent == self.frames.len() && self.late.is_empty()
+    }
+
     /// How many bytes are to be sent.
     pub(crate) fn len(&self) -> usize
         ensures { result ≡ length (whole self.now) }
@@ -140,13 +148,13 @@ impl Outbox {
         length as usize + 4
     }
 
-    /// Puts the frame of a reply, which is let go, behind the others.
-    fn put_frame(&mut self, alloc: Global, reply: Reply) -> Result<(), FrameFault>
+    /// Puts the frame of a reply behind the others.
+    fn put_frame(&mut self, alloc: Global, reply: &Reply) -> Result<(), FrameFault>
         requires { self.old.late ≡ [] }
-        ensures ok { OnOk result
-            (self.new ≡ record { frames = self.old.frames ++ reply_frame reply; late = [] }) }
-        ensures framed { OnOk result (IsFramed reply) }
-        ensures fault { IfErr result (HasNoFrame reply) }
+        ensures ok { OnOk result (self.new
+            ≡ record { frames = self.old.frames ++ reply_frame reply.now; late = [] }) }
+        ensures framed { OnOk result (IsFramed reply.now) }
+        ensures fault { IfErr result (HasNoFrame reply.now) }
         ensures err { OnErr result (self.new ≡ self.old) }
     {
         if self.frames.is_empty() {
@@ -155,6 +163,31 @@ impl Outbox {
         let mut frame = Vec::new(alloc);
         fill_frame(&mut frame, reply)?;
         Ok(self.frames.extend_from_slice(&frame)?)
+    }
+
+    /// Puts the frame of a reply behind the others: once more where memory was refused and the node made room.
+    fn put_frame_for<N: Node>(
+        &mut self,
+        alloc: Global,
+        node: &N,
+        reply: &Reply,
+    ) -> Result<(), FrameFault>
+        requires { self.old.late ≡ [] }
+        ensures ok { OnOk result (self.new
+            ≡ record { frames = self.old.frames ++ reply_frame reply.now; late = [] }) }
+        ensures framed { OnOk result (IsFramed reply.now) }
+        ensures fault { IfErr result (HasNoFrame reply.now) }
+        ensures err { OnErr result (self.new ≡ self.old) }
+    {
+        match self.put_frame(alloc, reply) {
+            Ok(()) => Ok(()),
+            Err(fault) => {
+                if fault == FrameFault::NoMemory && node.make_room(alloc) {
+                    return self.put_frame(alloc, reply);
+                }
+                Err(fault)
+            }
+        }
     }
 
     /// Puts an error behind them. It takes no memory where there is none.
@@ -169,8 +202,14 @@ impl Outbox {
         }
     }
 
-    /// Puts a reply behind them, and lets it go. Refused by `TooLarge` just where a frame can't hold the reply's body, and where memory is.
-    pub(crate) fn put(&mut self, alloc: Global, reply: Reply) -> Result<(), FrameFault>
+    /// Puts the reply of a node behind them, and lets it go. Refused by `TooLarge` just where a frame can't hold the reply's body, and where
+    /// memory is.
+    pub(crate) fn put<N: Node>(
+        &mut self,
+        alloc: Global,
+        node: &N,
+        reply: Reply,
+    ) -> Result<(), FrameFault>
         requires { self.old.late ≡ [] }
         ensures { PutsReply reply self.old self.new result }
     {
@@ -179,7 +218,7 @@ impl Outbox {
                 self.put_error(text);
                 Ok(())
             }
-            other => self.put_frame(alloc, other),
+            other => self.put_frame_for(alloc, node, &other),
         }
     }
 }

@@ -64,16 +64,16 @@ fn append_frame(out: &mut Vec<u8>, reply: &Reply) -> Result<(), FrameFault>
     }
 }
 
-/// Puts the frame of a reply, which is let go, into an empty buffer. Refused by `TooLarge` just where a frame can't hold the reply's body, and
+/// Puts the frame of a reply into an empty buffer. Refused by `TooLarge` just where a frame can't hold the reply's body, and
 /// where memory is refused; the buffer stays empty then.
-pub(crate) fn fill_frame(out: &mut Vec<u8>, reply: Reply) -> Result<(), FrameFault>
+pub(crate) fn fill_frame(out: &mut Vec<u8>, reply: &Reply) -> Result<(), FrameFault>
     requires { out.old.items ≡ [] }
-    ensures ok { OnOk result (out.new.items ≡ reply_frame reply) }
-    ensures framed { OnOk result (IsFramed reply) }
-    ensures fault { IfErr result (HasNoFrame reply) }
+    ensures ok { OnOk result (out.new.items ≡ reply_frame reply.now) }
+    ensures framed { OnOk result (IsFramed reply.now) }
+    ensures fault { IfErr result (HasNoFrame reply.now) }
     ensures err { OnErr result (out.new.items ≡ []) }
 {
-    let filled = append_frame(out, &reply);
+    let filled = append_frame(out, reply);
     if filled.is_err() {
         out.clear();
     }

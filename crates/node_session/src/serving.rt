@@ -153,7 +153,7 @@ fn serve_from<R: Read, W: Write, N: Node>(
                 });
             }
             Ok(n) => {
-                let Ok(()) = session.feed(&piece[..n]) else {
+                let Ok(()) = session.feed_for(alloc, &*node, &piece[..n]) else {
                     let _ = flush(writer);
                     return Err(SessionFault::NoMemory(replies));
                 };

@@ -129,6 +129,33 @@ impl Session {
         Ok(())
     }
 
+    /// Takes a piece, as `feed` does, of a session whose messages a node answers: once more where memory was refused and the node made room.
+    pub fn feed_for<N: Node>(
+        &mut self,
+        alloc: Global,
+        node: &N,
+        piece: &[u8],
+    ) -> Result<(), AllocError>
+        requires no_fault { self.old.fault ≡ None }
+        requires idle { IsPartial max_request_len self.old.rest }
+        requires bound { length piece.now ≤ max_read_len }
+        ensures ok { OnOk result (self.new ≡ record self.old {
+          input = self.old.input ++ piece.now;
+          rest = self.old.rest ++ piece.now;
+        }) }
+        ensures err { OnErr result (self.new ≡ self.old) }
+    {
+        match self.feed(piece) {
+            Ok(()) => Ok(()),
+            Err(_) => {
+                if node.make_room(alloc) {
+                    return self.feed(piece);
+                }
+                Err(AllocError)
+            }
+        }
+    }
+
     /// What is to be sent first: not all of it where an error waits for which there was no memory. There is none only where nothing is to be
     /// sent.
     pub fn pending(&self) -> &[u8]
@@ -166,11 +193,11 @@ impl Session {
         requires { self.old.fault ≡ None }
         ensures { AnswersNext N.step node.old node.new self.old self.new result }
     {
-        if self.outbox.is_full() {
+        if self.outbox.is_full() || (!self.outbox.is_empty() && !node.has_room(alloc)) {
             return Ok(Next::Full);
         }
         match answer_next(alloc, &mut self.framer, &mut self.exchanges, node) {
-            Ok(Some(reply)) => match self.outbox.put(alloc, reply) {
+            Ok(Some(reply)) => match self.outbox.put(alloc, &*node, reply) {
                 Ok(()) => Ok(Next::Answered),
                 Err(_) => Err(Halt::NoMemory),
             },

@@ -91,6 +91,13 @@ impl<S: Stepping> OpenJobs<S> {
         let _ = &self.worker;
     }
 
+    /// The worker, as the steps so far left it.
+    pub fn worker(&self) -> &S::Worker
+        ensures { result.now ≡ self.now.worker }
+    {
+        &self.worker
+    }
+
     /// How many jobs are open.
     pub fn len(&self) -> usize
         ensures { result ≡ slab_len self.now.slots }

@@ -11,7 +11,7 @@ use crate::end_sink::EndSink;
 use crate::fault::ServerFault;
 use crate::inbox::Inbox;
 use crate::worker::{Waits, attend};
-use gate_node::{GateNode, Open, Passes, Shared};
+use gate_node::{GateNode, Open, Passes, Reserve, Shared};
 use log::Log;
 use stats_book::{Blanks, Book, Share, Totals, close};
 use std::alloc::Global;
@@ -71,7 +71,8 @@ where
     ensures { result.1.book_full ≡ false →
         WorkerCounts GateNodeStep shared.now (S.given result.1.sink) result.1.passes result.0 }
 {
-    let node = GateNode::new(rt, shared, book, share, passes, &Open);
+    let reserve = Reserve::new(alloc);
+    let node = GateNode::new(rt, shared, book, share, passes, &Open).with_reserve(reserve);
     let (node, sink) = attend(rt, alloc, node, sink, waits, inbox, idle_seconds);
     let (share, passes, book_full) = node.parts();
     (

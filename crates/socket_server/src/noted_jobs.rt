@@ -85,6 +85,11 @@ impl<N: Node + Drop, S: EndSink> NotedJobs<N, S> {
         }
     }
 
+    /// Has the node give up memory that it keeps back. True where what was refused memory is to be tried once more.
+    pub(crate) fn make_room(&self, alloc: Global) -> bool {
+        self.jobs.worker().make_room(alloc)
+    }
+
     /// Makes room for one connection more.
     pub(crate) fn reserve(&mut self) -> Result<(), AllocError>
         ensures { self.new.first ≡ self.old.first }

@@ -40,19 +40,23 @@ impl Write for ReplySocket {
     }
 }
 
-/// Has a socket not wait, and send replies without delay. The halves and the socket itself; refused where memory is, or by the system.
-pub(crate) fn new_streams(
-    alloc: Global,
-    stream: TcpStream,
-) -> io::Result<(Socket, Streams<RequestSocket, ReplySocket>)> {
-    stream.set_nonblocking(true)?;
-    stream.set_nodelay(true)?;
-    let socket = Arc::new(alloc, stream)?;
+/// The socket of a stream, which several may have; the stream, where memory is refused.
+pub(crate) fn new_socket(alloc: Global, stream: TcpStream) -> Result<Socket, TcpStream> {
+    match Arc::new(alloc, stream) {
+        Ok(socket) => Ok(socket),
+        Err(failed) => Err(failed.value),
+    }
+}
+
+/// Has a socket not wait, and send replies without delay. Its halves; refused by the system alone.
+pub(crate) fn new_streams(socket: &Socket) -> io::Result<Streams<RequestSocket, ReplySocket>> {
+    socket.set_nonblocking(true)?;
+    socket.set_nodelay(true)?;
     let reader = RequestSocket {
-        socket: Arc::try_clone(&socket)?,
+        socket: Arc::try_clone(socket)?,
     };
     let writer = ReplySocket {
-        socket: Arc::try_clone(&socket)?,
+        socket: Arc::try_clone(socket)?,
     };
-    Ok((socket, Streams { reader, writer }))
+    Ok(Streams { reader, writer })
 }

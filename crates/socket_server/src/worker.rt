@@ -10,7 +10,7 @@ use crate::lingering::{LOOK_MILLIS, Lingering};
 use crate::noted_jobs::NotedJobs;
 use crate::pause::PAUSE_MILLIS;
 use crate::seats::Seats;
-use crate::sockets::{ReplySocket, RequestSocket, Socket, new_streams};
+use crate::sockets::{ReplySocket, RequestSocket, Socket, new_socket, new_streams};
 use crate::worker_clock::WorkerClock;
 use log::Log;
 use mio::unix::SourceFd;
@@ -18,7 +18,7 @@ use mio::{Events, Interest, Poll, Token};
 use node_server::{ConnectionEnd, Streams};
 use node_session::{Node, SessionFault};
 use std::alloc::{AllocError, Global};
-use std::net::{Shutdown, SocketAddr};
+use std::net::{Shutdown, SocketAddr, TcpStream};
 use std::os::fd::AsRawFd;
 use std::rt::Clock;
 use std::sync::Wait;
@@ -73,11 +73,37 @@ fn register(poll: &Poll, socket: &Socket, slot: usize) -> io::Result<()> {
 
 impl<'a, X: Log + Clock + Wait, N: Node + Drop, S: EndSink> Desk<'a, X, N, S> {
     /// Makes room for one connection more. What later takes its place takes no memory.
-    fn reserve(&mut self) -> Result<(), AllocError>
+    fn reserve_once(&mut self) -> Result<(), AllocError>
         ensures { self.new.jobs.first ≡ self.old.jobs.first }
     {
         self.jobs.reserve()?;
         self.seats.reserve()
+    }
+
+    /// Makes room for one connection more: once more where memory was refused and the node made room.
+    fn reserve(&mut self) -> Result<(), AllocError>
+        ensures { self.new.jobs.first ≡ self.old.jobs.first }
+    {
+        if self.reserve_once().is_ok() {
+            return Ok(());
+        }
+        if self.jobs.make_room(self.alloc) {
+            return self.reserve_once();
+        }
+        Err(AllocError)
+    }
+
+    /// The socket of a stream: made once more where memory was refused and the node made room.
+    fn new_socket(&self, stream: TcpStream) -> Option<Socket> {
+        match new_socket(self.alloc, stream) {
+            Ok(socket) => Some(socket),
+            Err(stream) => {
+                if self.jobs.make_room(self.alloc) {
+                    return new_socket(self.alloc, stream).ok();
+                }
+                None
+            }
+        }
     }
 
     /// Opens a connection over its streams, and has its slot reported when bytes can be read or written. False where memory is refused.
@@ -110,8 +136,11 @@ impl<'a, X: Log + Clock + Wait, N: Node + Drop, S: EndSink> Desk<'a, X, N, S> {
             return false;
         }
         let Arrival { stream, peer } = arrival;
-        match new_streams(self.alloc, stream) {
-            Ok((socket, streams)) => self.open(poll, peer, socket, streams),
+        let Some(socket) = self.new_socket(stream) else {
+            return false;
+        };
+        match new_streams(&socket) {
+            Ok(streams) => self.open(poll, peer, socket, streams),
             Err(_) => false,
         }
     }

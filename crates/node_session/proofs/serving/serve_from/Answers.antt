@@ -8,7 +8,7 @@ use Rattle.node_session.specs.Views.{SessionView}
 use Rattle.node_session.proofs.Frames.{none_partial}
 use Rattle.node_session.proofs.Standing.{stands_none, stands_kept, stands_same, stops_kept, all_answered, at_end, unkept, consumes_none, ok_at, rest_ok, rest_err, MadeReads-none, MadeReads-piece, MadeReads-interrupted}
 use Rattle.node_session.proofs.serving.serve_from.Goals as goal
-use Rattle.node_session.proofs.serving.serve_from.Goals.{in-Ok+in-Ok-feed+in_default-answered, in-Err+else-ne}
+use Rattle.node_session.proofs.serving.serve_from.Goals.{in-Ok+in-Ok-feed_for+in_default-answered, in-Err+else-ne}
 
 pub loop-init : goal.loop-init
 loop-init g c =
@@ -66,14 +66,14 @@ returns-in-Err-answered-clause-stopped g c =
     let h' = g.W.Write.contents c.flush.new.writer in
     let h'' = g.W.Write.contents c.answer_rest-count.new.writer in
     let s = c.loop.session in
-    let f = c.feed.new.self in
+    let f = c.feed_for.new.self in
     let inv = c.loop.invariant in
     let n = c.in-Ok.n in
     let piece = take n c.read.new.buf in
     let room : length c.read.new.buf ≡ 4096 = c.read.auto.buf ∙ inv.room in
     let long = length-take-le n c.read.new.buf c.in-Ok.ensures.bound.0 in
     let few : length piece ≤ 4096 = omega (arith, long, c.in-Ok.ensures.bound.0, room) in
-    let fed = c.in-Ok-feed.ensures.ok in
+    let fed = c.in-Ok-feed_for.ensures.ok in
     let to : f.input ≡ s.input ++ piece = ap (λ (v : SessionView). v.input) fed in
     let before : length s.input ≤ 4096 * c.loop.counter = inv.bound in
     let len : length f.input ≡ length s.input + length piece = ap length to ∙ length-append s.input piece in
@@ -113,15 +113,15 @@ loop-preserved g c =
     let before : length s.input ≤ 4096 * c.loop.counter = inv.bound in
     let kept = stands_kept step a b h _ h' s c.flush.ensures.kept inv.stands in
     elim c.match-read.branch [
-      | in-Ok+in-Ok-feed+in_default-answered w ↦
-          let f = w.feed.new.self in
+      | in-Ok+in-Ok-feed_for+in_default-answered w ↦
+          let f = w.feed_for.new.self in
           let new = w.answer_rest-count.new.session in
           let n = w.in-Ok.n in
           let piece = take n c.read.new.buf in
           let long = length-take-le n c.read.new.buf w.in-Ok.ensures.bound.0 in
           let few : length piece ≤ 4096 = omega (arith, long, w.in-Ok.ensures.bound.0, room) in
           let some : 0 < length piece = omega (arith, long, w.in-Ok.n-test) in
-          let fed = w.in-Ok-feed.ensures.ok in
+          let fed = w.in-Ok-feed_for.ensures.ok in
           let to : f.input ≡ s.input ++ piece = ap (λ (v : SessionView). v.input) fed in
           let r = w.answer_rest-count.result in
           let all = ok_at r.1 w.in_default-answered.field-0 w.in_default-answered.is w.answer_rest-count.ensures.all in

@@ -14,11 +14,11 @@ invariant_of-self g c =
     kept_to _ _ _ _ _ _ was.session was.unfed was.input _ was.answered was.progress was.writer_failed was.writer_failed (keeps_read _ _ c.read.new.buf c.in-Ok-eq0.field-0 c.in-Ok-eq0.field-0-test c.in-Ok-eq0.ensures.bytes.0) (Keeps-refl (g.W.Write.contents was.writer))
     (λ put error p. to_end was.session was.unfed was.input put error going partial p) (λ e w. w e) c.self.invariant
 
-pub invariant_of-self-in-Ok-feed : goal.invariant_of-self-in-Ok-feed
-invariant_of-self-in-Ok-feed g c =
+pub invariant_of-self-in-Ok-feed_for : goal.invariant_of-self-in-Ok-feed_for
+invariant_of-self-in-Ok-feed_for g c =
     let was = c.self.inside in
     let going = ap (λ (v : ConnectionView g.row.R.Denot g.row.W.Denot). v.input) c.self.view_is ∙ c.requires.going in
-    kept_fed _ _ _ _ _ was.session c.feed.new.self was.unfed was.input was.answered was.progress was.writer_failed (take c.in-Ok.n c.read.new.buf) going c.in-Ok.ensures.bytes.0 c.in-Ok-feed.ensures.ok c.self.invariant
+    kept_fed _ _ _ _ _ was.session c.feed_for.new.self was.unfed was.input was.answered was.progress was.writer_failed (take c.in-Ok.n c.read.new.buf) going c.in-Ok.ensures.bytes.0 c.in-Ok-feed_for.ensures.ok c.self.invariant
 
 pub invariant_of-self-in_default : goal.invariant_of-self-in_default
 invariant_of-self-in_default g c =
@@ -31,7 +31,7 @@ invariant_of-self-in_default g c =
     let room : length c.args.piece.now ≤ 4096 = c.requires.room.1 in
     let some : 0 < length piece = omega (arith, len, c.in-Ok.n-test.1) in
     let few : length piece ≤ 4096 = omega (arith, len, c.in-Ok.ensures.bound.0, long, room) in
-    kept_lost_piece _ _ _ _ _ was.session c.feed.new.self was.unfed c.listed.result was.input was.answered was.progress was.writer_failed piece going c.in-Ok.ensures.bytes.0 c.in_default.ensures.err c.listed.ensures partial some few c.self.invariant
+    kept_lost_piece _ _ _ _ _ was.session c.feed_for.new.self was.unfed c.listed.result was.input was.answered was.progress was.writer_failed piece going c.in-Ok.ensures.bytes.0 c.in_default.ensures.err c.listed.ensures partial some few c.self.invariant
 
 pub invariant_of-self-in-WouldBlock : goal.invariant_of-self-in-WouldBlock
 invariant_of-self-in-WouldBlock g c =
