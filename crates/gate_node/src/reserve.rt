@@ -1,0 +1,164 @@
+//! Memory that a thread keeps back for what doesn't make the vnodes of its run grow.
+
+use riak_msgs::Request;
+use std::alloc::{AllocError, Global};
+use std::cell::Cell;
+use std::sync::atomic::{AtomicUsize, Ordering};
+
+/// How many pages are kept back.
+const PAGES: usize = 128;
+
+/// How many bytes a block of one page has, beside what the allocator adds.
+const PAGE_LEN: usize = 4_080;
+
+/// How many pages a long block takes.
+const LONG_PAGES: usize = 16;
+
+/// How many bytes a long block has.
+const LONG_LEN: usize = 65_520;
+
+/// Memory that a thread keeps back for what doesn't make the vnodes of its run grow: gets, deletes, reaps, connections that begin or end, and
+/// replies.
+///
+/// It is half a MiB, of which nothing is ever written: in long blocks where memory is to be had so, else in pages, as they lie between what
+/// deletes and reaps have left. Each thread has one of its own, since an allocator keeps what is freed for the thread that had it. Where
+/// memory is refused for a get, for a request's bytes, a reply's or a connection, its thread gives all of it up and tries once more. A put is
+/// asked only where all of it is there, or could be made again. So puts end before the memory is used up for good, and go on by
+/// themselves once there is room.
+#[derive(Drop)]
+pub struct Reserve {
+    blocks: Cell<Vec<Vec<u8>>>,
+    /// How many pages the blocks have.
+    pages: Cell<usize>,
+    /// Whether it was given up and isn't whole again.
+    is_given_up: Cell<bool>,
+}
+
+/// Adds one block behind the others.
+fn add(alloc: Global, blocks: &mut Vec<Vec<u8>>, len: usize) -> Result<(), AllocError> {
+    blocks.reserve(1)?;
+    let block = Vec::with_capacity(alloc, len)?;
+    blocks.push(block)?;
+    Ok(())
+}
+
+/// Adds the pages that are missing where so many are there, in long blocks first. How many are there then.
+fn fill(alloc: Global, blocks: &mut Vec<Vec<u8>>, held: usize) -> usize {
+    let mut pages = held;
+    for _ in 0..PAGES / LONG_PAGES {
+        if pages + LONG_PAGES <= PAGES && add(alloc, blocks, LONG_LEN).is_ok() {
+            pages += LONG_PAGES;
+        }
+    }
+    for _ in 0..PAGES {
+        if pages < PAGES && add(alloc, blocks, PAGE_LEN).is_ok() {
+            pages += 1;
+        }
+    }
+    pages
+}
+
+/// Whether there is memory for a further page.
+fn has_page(alloc: Global) -> bool {
+    Vec::<u8>::with_capacity(alloc, PAGE_LEN).is_ok()
+}
+
+/// Whether there is memory for a further reserve.
+fn has_reserve(alloc: Global) -> bool {
+    let mut blocks = Vec::new(alloc);
+    fill(alloc, &mut blocks, 0) == PAGES
+}
+
+impl Reserve {
+    /// All of it, made by the thread that is to have it, or as much of it as there is memory for: the rest is made when it is asked for.
+    pub fn new(alloc: Global) -> Reserve {
+        let mut blocks = Vec::new(alloc);
+        let pages = fill(alloc, &mut blocks, 0);
+        Reserve {
+            blocks: Cell::new(blocks),
+            pages: Cell::new(pages),
+            is_given_up: Cell::new(false),
+        }
+    }
+
+    /// Lets all of it go.
+    fn clear(&self, alloc: Global) {
+        let mut blocks = self.blocks.replace(Vec::new(alloc));
+        blocks.clear();
+        self.blocks.set(blocks);
+        self.pages.set(0);
+    }
+
+    /// Makes again what isn't there. Whether all of it is there then.
+    fn refill(&self, alloc: Global) -> bool {
+        let mut blocks = self.blocks.replace(Vec::new(alloc));
+        let pages = fill(alloc, &mut blocks, self.pages.get());
+        self.blocks.set(blocks);
+        self.pages.set(pages);
+        pages == PAGES
+    }
+}
+
+/// A thread's reserve, if it has one, and how many threads of the run have given theirs up and not made it again.
+#[derive(Clone, Copy, Drop)]
+pub struct ReserveOf<'a> {
+    pub(crate) reserve: Option<&'a Reserve>,
+    pub(crate) given_up: &'a AtomicUsize,
+}
+
+impl<'a> ReserveOf<'a> {
+    /// Gives the reserve up. False where the thread has none.
+    pub fn give_up(&self, alloc: Global) -> bool {
+        let Some(reserve) = self.reserve else {
+            return false;
+        };
+        reserve.clear(alloc);
+        if !reserve.is_given_up.replace(true) {
+            self.given_up.fetch_add(1, Ordering::SeqCst);
+        }
+        true
+    }
+
+    /// Makes again what isn't there. Whether all of it is there then.
+    fn refill(&self, alloc: Global, reserve: &Reserve) -> bool {
+        if !reserve.refill(alloc) {
+            return false;
+        }
+        if reserve.is_given_up.replace(false) {
+            self.given_up.fetch_sub(1, Ordering::SeqCst);
+        }
+        true
+    }
+
+    /// Whether all of it is there, or could be made again; also where the thread has none.
+    pub fn is_whole(&self, alloc: Global) -> bool {
+        match self.reserve {
+            Some(reserve) => reserve.pages.get() == PAGES || self.refill(alloc, reserve),
+            None => true,
+        }
+    }
+
+    /// Whether a put may be asked: all of it is there, and where other threads have given up theirs, there is memory for one of these too.
+    fn admits_put(&self, alloc: Global) -> bool {
+        self.is_whole(alloc) && (self.given_up.load(Ordering::SeqCst) == 0 || has_reserve(alloc))
+    }
+
+    /// Makes room for a delete, which makes a clock grow by less than a page.
+    fn make_room(&self, alloc: Global) {
+        if self.reserve.is_some() && !has_page(alloc) {
+            let _is_given_up = self.give_up(alloc);
+        }
+    }
+
+    /// Whether there is memory for a request.
+    pub(crate) fn admits(&self, alloc: Global, request: &Request) -> bool {
+        match request {
+            Request::Put(_) => self.admits_put(alloc),
+            Request::Del(_) => {
+                self.make_room(alloc);
+                true
+            }
+            Request::Ping | Request::Get(_) => true,
+        }
+    }
+}
