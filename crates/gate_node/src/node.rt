@@ -117,7 +117,7 @@ impl<'a, W: Wait, T: Turnstile, G: Ledger, P: Ledger, D: Ledger, E: Ledger, R: L
 
     /// This node with memory kept back for what doesn't make its vnodes grow. It takes no memory.
     pub fn with_reserve(mut self, reserve: Reserve) -> Self
-        ensures { result ≡ self }
+        ensures { result ≡ self.entry }
     {
         self.reserve = Some(reserve);
         self

@@ -46,8 +46,9 @@ fn add(alloc: Global, blocks: &mut Vec<Vec<u8>>, len: usize) -> Result<(), Alloc
 fn fill(alloc: Global, blocks: &mut Vec<Vec<u8>>, held: usize) -> usize {
     let mut pages = held;
     for _ in 0..PAGES / LONG_PAGES {
-        if pages + LONG_PAGES <= PAGES && add(alloc, blocks, LONG_LEN).is_ok() {
-            pages += LONG_PAGES;
+        let more = pages.saturating_add(LONG_PAGES);
+        if more <= PAGES && add(alloc, blocks, LONG_LEN).is_ok() {
+            pages = more;
         }
     }
     for _ in 0..PAGES {
