@@ -121,24 +121,6 @@ AreMade diversion fallback before [] = Unit {0}
 AreMade diversion fallback before (copy ∷ copies) =
     ((their : Sight) × IsCopyOf diversion their (Copied copy) × (their.gate ≡ fallback) × IsPrefix their.prefix before) × AreMade diversion fallback before copies
 
--- The first diversion of a partition has ended, of whose gates these passes are. The primary had taken commands alone when it was diverted, and who
--- copied to it since was a copy back.
-pub record IsFirstReturn (partition : Partition) (primary : Log) (fallbacks : Fallbacks) (start : Option Start) (mine theirs : Sight) : Type 0 where
-  pub first : partition.diversions ≡ 1
-  pub rise : SidesRise partition fallbacks
-  pub ends : EndsFrom start mine theirs
-  pub of_primary : IsOfPrimary partition primary mine
-  pub of_fallback : IsOfLastFallback partition fallbacks theirs
-  pub commands : AreCommands ends.since.from.pass.prefix
-  pub made : AreMade partition.diversions theirs.gate ends.ended.before ends.since.copies
-
--- then each key is joined, where contexts name what was there
-abbrev pub FirstReturnJoins : Partition → Log → Fallbacks → Option Start → (mine theirs : Sight) → Type 0
-FirstReturnJoins partition primary fallbacks start mine theirs =
-    (return : IsFirstReturn partition primary fallbacks start mine theirs) → (key : Key)
-    → NamesWhatCame partition primary fallbacks key → CopiesNameWhatCame partition primary fallbacks key
-    → IsJoinedIn partition primary fallbacks key return.ends.ended.primary
-
 -- how many keys these copy backs copied
 abbrev pub keys_copied : List CopyBack → ℕ
 keys_copied [] = 0
