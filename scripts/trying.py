@@ -105,8 +105,9 @@ class Node:
 
     def memory(self):
         """How many KiB it holds. The sum of its maps is exact, where that of its status is not."""
-        with open(f"/proc/{self.process.pid}/smaps_rollup") as maps:
-            return next(int(line.split()[1]) for line in maps if line.startswith("Rss:"))
+        folder = f"/proc/{self.process.pid}"
+        with open(f"{folder}/smaps_rollup" if os.path.exists(f"{folder}/smaps_rollup") else f"{folder}/status") as lines:
+            return next(int(line.split()[1]) for line in lines if line.startswith(("Rss:", "VmRSS:")))
 
     def ended(self):
         """The status and the line of totals, once it has ended by itself."""
