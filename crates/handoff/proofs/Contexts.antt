@@ -1,6 +1,6 @@
 -- Where each context had been shown, those of a partition's diversions name what was there.
-use Rattle.std.proofs.Common.{◌≡◌, ◌∙◌, ◌+◌, ◌++◌, ◌≤◌, ◌<◌, ℕ, Bool, true, cond, List, [], ◌∷◌, append_assoc, length, refl, sym, ap, subst, arith, inl, inr}
-use Rattle.std.specs.Prelude.{◌⊎◌, ◌==◌, MatchBool, Option, None, Some}
+use Rattle.std.proofs.Common.{◌≡◌, ◌∙◌, ◌+◌, ◌++◌, ◌≤◌, ℕ, true, cond, List, [], ◌∷◌, append_assoc, length, refl, sym, ap, subst, arith, inl, inr}
+use Rattle.std.specs.Prelude.{◌⊎◌, MatchBool, Option, None, Some}
 use Rattle.std.proofs.lemmas.Bool.{cases_lt}
 use Rattle.ring_map.specs.Ring.{id_of}
 use Rattle.riak_msgs.specs.declared.Key.{Key}
@@ -11,10 +11,10 @@ use Rattle.actor_epoch.specs.declared.Dot.{Dot}
 use Rattle.actor_epoch.specs.Dots.{covers}
 use Rattle.actor_epoch.specs.Given.{Context}
 use Rattle.vnode_machine.specs.Lives.{dot_of}
-use Rattle.vnode_machine.specs.Machine.{State, clock_of, pairs_of}
+use Rattle.vnode_machine.specs.Machine.{clock_of, pairs_of}
 use Rattle.vnode_machine.specs.Registers.{key_of, context_in_ask}
 use Rattle.vnode_machine.specs.Replay.{HasReplay, History, replay}
-use Rattle.copy_laws.specs.Copies.{Copy, LogEntry, Command as LawCommand, Copied as LawCopied, commands_of as commands_in, count_brought}
+use Rattle.copy_laws.specs.Copies.{Copy, Command as LawCommand, Copied as LawCopied, commands_of as commands_in, count_brought}
 use Rattle.copy_laws.specs.CopyReplay.{HasEntries, primary_after, seen_at}
 use Rattle.copy_laws.specs.Joining.{Log, Fallbacks, HasCome, HasDot, IsTrueCopy, SidesRise}
 use Rattle.copy_laws.specs.LegalLogs.{IsLegalLog}
@@ -25,7 +25,6 @@ use Rattle.copy_laws.proofs.Later.{count-later, legal-before, open-before}
 use Rattle.copy_laws.proofs.Tests.{not_zero}
 use Rattle.rw_gate.specs.Views.{GateId}
 use Rattle.vnode_core.specs.declared.entry.Entry.{Entry}
-use Rattle.vnode_core.specs.declared.entry.Entry.TheVariants.{Command, Copied}
 use Rattle.vnode_core.specs.declared.event.VnodeEvent.{VnodeEvent}
 use Rattle.vnode_core.specs.KeyCopies.{KeyCopyView}
 use Rattle.vnode_core.specs.Events.{IsMadeNew, all_commands, event_command, event_deed}
@@ -33,13 +32,13 @@ use Rattle.vnode_core.specs.Plans.{View}
 use Rattle.handoff.specs.Joined.{AreMade, log_after, log_entry}
 use Rattle.handoff.specs.Meeting.{copy_of}
 use Rattle.handoff.specs.Partitions.{fallback_id}
-use Rattle.handoff.specs.Running.{Diversion, GiveShown, HaveReturned, ShownContextsName, fallbacks_of, log_of, opened_in, partition_of, seen_here}
-use Rattle.handoff.specs.Shown.{WasShown, WasShownBy}
+use Rattle.handoff.specs.Running.{Diversion, GiveShown, ShownContextsName, fallbacks_of, log_of, opened_in, partition_of, seen_here}
+use Rattle.handoff.specs.Shown.{WasShown}
 use Rattle.handoff.specs.Started.{all_copies}
 use Rattle.handoff.proofs.Blocks.{copy-number, log-append, log-grows}
 use Rattle.handoff.proofs.Joined.{turns-spare}
-use Rattle.handoff.proofs.Returns.{are-made, commands-since, seen-is}
-use Rattle.handoff.proofs.Running.{Back, IsLegalAt, IsOne, Of, are-of, brought-by-return, facts, legal-entries, legal-there, new-at, numbers, open-still, partition, rise}
+use Rattle.handoff.proofs.Returns.{are-made, commands-since, new-at, seen-is}
+use Rattle.handoff.proofs.Running.{Back, IsLegalAt, IsOne, Of, are-of, brought-by-return, facts, legal-entries, legal-there, numbers, open-still, partition, rise}
 use Rattle.handoff.proofs.Shown.{AreKnownThere, AreNamed, ComesBy, ComesThere, CoversCame, IsKnown, IsKnownThere, comes-later, covers-known, known-command, known-copy, known-none, known-there, named-came, named-contexts, shown-comes}
 use Rattle.handoff.proofs.Turns.{EachCopy, InTurns, copy-in, each-behind, turn-at, turns-behind}
 
@@ -165,7 +164,7 @@ module _ (run index : ℕ) (primary : GateId View) (new : IsMadeNew (id_of run i
               let first : 1 ≤ copy.diversion = (one p).diversion.0 in (
                 first,
                 λ dot h. by dot first (subst (λ m. (later place : History) → later ++ place ≡ F m → (dot : Dot) → is_covered_by place key dot ≡ true → ComesThere P F key rises S m place dot) (sym same) covered
-                (one p).begins.0 (copy_of P copy).prefix (one p).begins.1 dot h),
+                    (one p).begins.0 (copy_of P copy).prefix (one p).begins.1 dot h),
               )
 
     -- so it is behind each return

@@ -1,5 +1,5 @@
 -- A hand-off at whose log no copy of a later diversion has come is one of a partition with fewer diversions.
-use Rattle.std.proofs.Common.{◌≡◌, ℕ, ◌<◌, ◌≤◌, not, ◌&&◌, cond, false, List, [], ◌∷◌, refl, sym, ◌∙◌, ap, arith}
+use Rattle.std.proofs.Common.{◌≡◌, ℕ, ◌≤◌, not, ◌&&◌, cond, false, List, [], ◌∷◌, refl, sym, ◌∙◌, ap, arith}
 use Rattle.std.specs.Prelude.{◌==◌, length, filter, Option, Some, None}
 use Rattle.std.specs.Option.{option_map_or}
 use Rattle.riak_msgs.specs.declared.Key.{Key}
@@ -12,7 +12,7 @@ use Rattle.vnode_machine.specs.Machine.{pairs_of, same_context}
 use Rattle.copy_laws.specs.Copies.{Copy, Command, Copied, Closed, commands_of}
 use Rattle.copy_laws.specs.CopyReplay.{HasEntries, name_at, named_at, seen_at}
 use Rattle.copy_laws.specs.Joining.{Log, Fallbacks, IsHandOff, IsTrueCopy, NamesWhatCame, SidesRise}
-use Rattle.copy_laws.specs.Sides.{Partition, Number, is_defined_at, siblings_at}
+use Rattle.copy_laws.specs.Sides.{Partition, Number, is_defined_at}
 use Rattle.handoff.proofs.MoreSides.{any-more, none-come}
 use Rattle.handoff.proofs.Turns.{EachCopy, copy-in, each-before}
 
@@ -39,8 +39,8 @@ module _ (partition : Partition) (n : ℕ) (le : n ≤ partition.diversions) whe
   seen-same : (log : Log) (key : Key) (given : Option Context) (operation : Operation Content) → EachCopy IsAmong log → seen_at fewer log key given operation ≡ seen_at partition log key given operation
   seen-same log key (Some context) operation each =
       ap (λ (o : Option Log).
-        option_map_or (λ position. numbers_to (count_of (commands_of position) key)) o
-        (filter (λ number. option_map_or (covers (pairs_of (Some context))) (dot_of partition.primary partition.last_epoch (commands_of log) key number) false) (numbers_to (count_of (commands_of log) key))))
+      option_map_or (λ position. numbers_to (count_of (commands_of position) key)) o
+      (filter (λ number. option_map_or (covers (pairs_of (Some context))) (dot_of partition.primary partition.last_epoch (commands_of log) key number) false) (numbers_to (count_of (commands_of log) key))))
       (named-same log key context each)
   seen-same log key None (Write content) each = refl
   seen-same log key None Tombstone each = refl

@@ -1,6 +1,6 @@
 -- What one diversion of a partition says that has returned.
-use Rattle.std.proofs.Common.{◌≡◌, ◌∙◌, ◌+◌, ◌++◌, ◌≤◌, ℕ, List, [], ◌∷◌, append_assoc, length, length-append, refl, sym, ap, subst, arith}
-use Rattle.std.specs.Prelude.{IsTrue, Option, Some, None, IfSome, slice_get}
+use Rattle.std.proofs.Common.{◌≡◌, ◌∙◌, ◌+◌, ◌++◌, ℕ, List, [], ◌∷◌, append_assoc, length, length-append, refl, sym, ap, subst, arith}
+use Rattle.std.specs.Prelude.{IsTrue, Option, Some, None, IfSome, slice_get, zero, suc}
 use Rattle.std.specs.List.{list_all}
 use Rattle.std.specs.Option.{option_map_or}
 use mathlib.Core.List.{IsPrefix}
@@ -24,7 +24,7 @@ use Rattle.vnode_core.proofs.Events.{gate-history-is-legal}
 use Rattle.handoff.specs.declared.gates.Fallback.{Fallback}
 use Rattle.handoff.specs.declared.gates.Start.{Start}
 use Rattle.handoff.specs.Joined.{AreMade}
-use Rattle.handoff.specs.Partitions.{BeginsBehind, HandoffView, fallback_id, number_in, number_of}
+use Rattle.handoff.specs.Partitions.{AreMadeNew, BeginsBehind, HandoffView, fallback_id, number_in, number_of}
 use Rattle.handoff.specs.Returning.{EndsDiversion}
 use Rattle.handoff.specs.Running.{Diversion, HasReturnedBehind, HaveReturned, commands_in, last_fallback, opened_at, seen_here}
 use Rattle.handoff.specs.Sights.{Sight, ClosedBehind, LeadsVnodeTo}
@@ -33,6 +33,20 @@ use Rattle.handoff.proofs.Between.{copies-count, lead-split}
 use Rattle.handoff.proofs.CallsMade.{copies-are-of-calls}
 use Rattle.handoff.proofs.Counted.{IsAny, counts-all, counts-commands, seen-commands}
 use Rattle.handoff.proofs.Joined.{all-unreaped, ended-events}
+use Rattle.handoff.proofs.Opened.{none_some}
+
+-- the primary of an index is of a new vnode
+made-new-at : (run index i : ℕ) (gates : List (GateId View)) (gate : GateId View) → AreMadeNew run index gates → slice_get gates i ≡ Some gate → IsMadeNew (id_of run (index + i)) 0 gate
+made-new-at run index i [] gate all at = absurd (none_some gate at)
+made-new-at run index zero (g ∷ gates) gate all at =
+    let same : g ≡ gate = cc at in
+    let here : index ≡ index + 0 = omega arith in
+    subst (λ (x : GateId View). IsMadeNew (id_of run (index + 0)) 0 x) same (subst (λ n. IsMadeNew (id_of run n) 0 g) here all.0)
+made-new-at run index (suc i) (g ∷ gates) gate all at =
+    let next : (index + 1) + i ≡ index + suc i = omega arith in subst (λ n. IsMadeNew (id_of run n) 0 gate) next (made-new-at run (index + 1) i gates gate all.1 at)
+
+pub new-at : (run index : ℕ) (gates : List (GateId View)) (gate : GateId View) → AreMadeNew run 0 gates → slice_get gates index ≡ Some gate → IsMadeNew (id_of run index) 0 gate
+new-at run index gates gate all at = let here : 0 + index ≡ index = omega arith in subst (λ n. IsMadeNew (id_of run n) 0 gate) here (made-new-at run 0 index gates gate all at)
 
 module _ (run index : ℕ) (primary : GateId View) (earlier : List Diversion) (one : Diversion) (back : HasReturnedBehind run index primary earlier one) where
   abbrev pub ended : EndsDiversion one.passes.primary one.passes.fallback
@@ -84,7 +98,7 @@ module _ (run index : ℕ) (primary : GateId View) (earlier : List Diversion) (o
   new-is =
       let both : Some (Some back.diverted.fallback) ≡ Some (Some one.fallback)
       = sym (set-here one.found.fallbacks index (last_fallback earlier) (Some back.diverted.fallback) back.stood)
-          ∙ (ap (λ (h : HandoffView). slice_get h.fallbacks index) (sym back.diverted.is) ∙ back.stands) in
+      ∙ (ap (λ (h : HandoffView). slice_get h.fallbacks index) (sym back.diverted.is) ∙ back.stands) in
       cc both
 
   pub number-next : one.fallback.diversion ≡ number_of (last_fallback earlier) + 1

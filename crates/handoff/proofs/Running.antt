@@ -1,6 +1,6 @@
 -- The diversions of a partition, one behind another, join its keys.
 use Rattle.std.proofs.Common.{◌≡◌, ◌∙◌, ◌+◌, ◌++◌, ◌≤◌, ◌<◌, ℕ, Bool, true, false, cond, List, [], ◌∷◌, append_assoc, length, refl, sym, ap, subst, arith, inl, inr}
-use Rattle.std.specs.Prelude.{◌==◌, IsTrue, None, Some, slice_get, zero, suc}
+use Rattle.std.specs.Prelude.{◌==◌, IsTrue, None, suc}
 use Rattle.std.specs.List.{list_all}
 use Rattle.std.proofs.lemmas.Bool.{cases_lt}
 use mathlib.Core.List.{IsPrefix}
@@ -16,7 +16,7 @@ use Rattle.vnode_machine.proofs.Keys.{key_eq-same}
 use Rattle.vnode_machine.proofs.Tests.{nat_eq-refl, nat_eq-same}
 use Rattle.copy_laws.specs.Copies.{Copy, count_brought}
 use Rattle.copy_laws.specs.CopyReplay.{HasEntries, primary_after}
-use Rattle.copy_laws.specs.Joining.{Log, Fallbacks, IsDiversion, IsHandOff, IsJoined, IsTrueCopy, NamesWhatCame, SidesRise, StandsCopy}
+use Rattle.copy_laws.specs.Joining.{Log, Fallbacks, IsHandOff, IsJoined, IsTrueCopy, NamesWhatCame, SidesRise}
 use Rattle.copy_laws.specs.LastDots.{knows_last_dot}
 use Rattle.copy_laws.specs.LegalLogs.{IsLegalLog}
 use Rattle.copy_laws.specs.Sides.{Partition}
@@ -29,7 +29,6 @@ use Rattle.copy_laws.proofs.Positions.{brought-most}
 use Rattle.rw_gate.specs.Views.{GateId}
 use Rattle.vnode_core.specs.declared.entry.Entry.{Entry}
 use Rattle.vnode_core.specs.declared.entry.Entry.TheVariants.{Copied}
-use Rattle.vnode_core.specs.declared.event.VnodeEvent.{VnodeEvent}
 use Rattle.vnode_core.specs.KeyCopies.{KeyCopyView}
 use Rattle.vnode_core.specs.Events.{IsMadeNew, all_commands, commands_of, history_after}
 use Rattle.vnode_core.specs.Plans.{View}
@@ -38,7 +37,7 @@ use Rattle.vnode_core.proofs.Lefts.{none-left-known}
 use Rattle.handoff.specs.Copying.{IsCopyOf}
 use Rattle.handoff.specs.Joined.{AreMade, CopiesNameWhatCame, IsJoinedIn, IsOfPrimary, log_after}
 use Rattle.handoff.specs.Meeting.{IsOfFallback, copy_of}
-use Rattle.handoff.specs.Partitions.{AreMadeNew, fallback_id, number_of}
+use Rattle.handoff.specs.Partitions.{fallback_id, number_of}
 use Rattle.handoff.specs.Running.{Diversion, HasReturnedBehind, HaveReturned, RunningHandOffsJoin, fallbacks_of, last_fallback, log_of, opened_at, opened_in, partition_of, seen_here}
 use Rattle.handoff.specs.Sights.{Sight}
 use Rattle.handoff.specs.Started.{all_copies}
@@ -46,21 +45,8 @@ use Rattle.handoff.proofs.Blocks.{commands-each, commands-turn, copies-each, cop
 use Rattle.handoff.proofs.Fewer.{IsAmong, fewer, fewer-came, fewer-hand-off, fewer-rise}
 use Rattle.handoff.proofs.Joined.{shown-legal, shown-state, turns-spare}
 use Rattle.handoff.proofs.Meeting.{history-begins, true-copy, true-held}
-use Rattle.handoff.proofs.Opened.{none_some}
-use Rattle.handoff.proofs.Returns.{are-made, commands-since, gate-is, gate-there, history-is, limits-there, made-there, next-opened, number-next, replays, seen-is, there-is, unreaped}
+use Rattle.handoff.proofs.Returns.{are-made, commands-since, gate-is, gate-there, history-is, limits-there, made-there, new-at, next-opened, number-next, replays, seen-is, there-is, unreaped}
 use Rattle.handoff.proofs.Turns.{EachCopy, InTurns, IsEarlier, copy-in, each-weaker, earlier-at-commands, turn-at}
-
-made-new-at : (run index i : ℕ) (gates : List (GateId View)) (gate : GateId View) → AreMadeNew run index gates → slice_get gates i ≡ Some gate → IsMadeNew (id_of run (index + i)) 0 gate
-made-new-at run index i [] gate all at = absurd (none_some gate at)
-made-new-at run index zero (g ∷ gates) gate all at =
-    let same : g ≡ gate = cc at in
-    let here : index ≡ index + 0 = omega arith in
-    subst (λ (x : GateId View). IsMadeNew (id_of run (index + 0)) 0 x) same (subst (λ n. IsMadeNew (id_of run n) 0 g) here all.0)
-made-new-at run index (suc i) (g ∷ gates) gate all at =
-    let next : (index + 1) + i ≡ index + suc i = omega arith in subst (λ n. IsMadeNew (id_of run n) 0 gate) next (made-new-at run (index + 1) i gates gate all.1 at)
-
-pub new-at : (run index : ℕ) (gates : List (GateId View)) (gate : GateId View) → AreMadeNew run 0 gates → slice_get gates index ≡ Some gate → IsMadeNew (id_of run index) 0 gate
-new-at run index gates gate all at = let here : 0 + index ≡ index = omega arith in subst (λ n. IsMadeNew (id_of run n) 0 gate) here (made-new-at run 0 index gates gate all at)
 
 -- the fallback's history of a diversion
 abbrev pub history_of : (run index : ℕ) → Diversion → History
@@ -98,11 +84,11 @@ module _ (run index : ℕ) where
         ap (λ b. cond b (opened_at one.fallback.gate) (opened_in run index earlier (length (one ∷ earlier)))) here,
         ap (λ b. cond b (history_of run index one) (fallbacks_of run index earlier (length (one ∷ earlier)))) here,
         same-below (opened_in run index earlier) (opened_in run index (one ∷ earlier)) (fallbacks_of run index earlier) (fallbacks_of run index (one ∷ earlier)) earlier
-        (λ m le. (
-          ap (λ b. cond b (opened_at one.fallback.gate) (opened_in run index earlier m)) (other m (length earlier) le),
-          ap (λ b. cond b (history_of run index one) (fallbacks_of run index earlier m)) (other m (length earlier) le),
-        ))
-        (are-of earlier),
+            (λ m le. (
+              ap (λ b. cond b (opened_at one.fallback.gate) (opened_in run index earlier m)) (other m (length earlier) le),
+              ap (λ b. cond b (history_of run index one) (fallbacks_of run index earlier m)) (other m (length earlier) le),
+            ))
+            (are-of earlier),
       )
 
   -- behind them there is no history
@@ -146,7 +132,7 @@ module _ (run index : ℕ) (primary : GateId View) (new : IsMadeNew (id_of run i
       its : IsLegalAt key (length (one ∷ earlier))
       its = (
         subst (λ e. HasReplay (fallback_id run index) e (fallbacks (length (one ∷ earlier)))) (sym of.0)
-        (subst (λ (h : History). HasReplay (fallback_id run index) (opened_at one.fallback.gate) h) (sym of.1) (replays run index primary earlier one back)),
+            (subst (λ (h : History). HasReplay (fallback_id run index) (opened_at one.fallback.gate) h) (sym of.1) (replays run index primary earlier one back)),
         subst (λ (h : History). IsTrue (list_all (λ event. is_update event.operation) (events_of h key))) (sym of.1) (unreaped run index primary earlier one back key),
       )
 
@@ -225,7 +211,7 @@ module _ (run index : ℕ) (primary : GateId View) (new : IsMadeNew (id_of run i
                 let key_is = ap (λ (c : KeyCopyView). c.key) is ∙ key_eq-same copy.key key itself in (
                   subst (λ (c : KeyCopyView). IsTrueCopy partition whole fallbacks key (copy_of partition c)) is (true-copy partition whole fallbacks their (Copied copy) (length (one ∷ earlier)) made its key key_is),
                   subst (λ (c : KeyCopyView). is_held (replay (fallback_id run index) (opened c.diversion) (copy_of partition c).prefix) key ≡ true) is
-                  (true-held partition whole fallbacks their (Copied copy) (length (one ∷ earlier)) made its key key_is),
+                      (true-held partition whole fallbacks their (Copied copy) (length (one ∷ earlier)) made its key key_is),
                 ),
           )
 
@@ -248,8 +234,8 @@ module _ (run index : ℕ) (primary : GateId View) (new : IsMadeNew (id_of run i
         ∙ ap (λ (l : Log). log_after partition l (all_copies copies)) (log-append partition (seen_here earlier) (all_commands since.0) []))) in (
           subst InTurns is (copies-turn partition (length (one ∷ earlier)) one.fallback.gate back.returned.of_gates.sees.ended.before copies middle made behind turns),
           subst (EachCopy (IsOne (length (one ∷ earlier)))) is
-          (copies-each partition (length (one ∷ earlier)) one.fallback.gate back.returned.of_gates.sees.ended.before (IsOne (length (one ∷ earlier))) (one-copy one earlier back rest of le) copies middle
-          (each-weaker (IsOne (length earlier)) (IsOne (length (one ∷ earlier))) (λ copy is. (let few = is.0 in omega (arith, few), is.1)) middle each) made),
+              (copies-each partition (length (one ∷ earlier)) one.fallback.gate back.returned.of_gates.sees.ended.before (IsOne (length (one ∷ earlier))) (one-copy one earlier back rest of le) copies middle
+              (each-weaker (IsOne (length earlier)) (IsOne (length (one ∷ earlier))) (λ copy is. (let few = is.0 in omega (arith, few), is.1)) middle each) made),
         )
 
   module _ (key : Key) where

@@ -1,6 +1,6 @@
 -- Where contexts were shown, those of a log name what had come.
 use Rattle.std.proofs.Common.{◌≡◌, ◌∙◌, ◌++◌, ◌≤◌, ◌<◌, ℕ, Bool, true, false, cond, List, [], ◌∷◌, append_assoc, length, length-append, ◌+◌, refl, sym, ap, subst, arith, inl, inr}
-use Rattle.std.specs.Prelude.{◌⊎◌, ◌==◌, ◌||◌, IsTrue, MatchBool, Option, Some, None, zero, suc}
+use Rattle.std.specs.Prelude.{◌⊎◌, ◌==◌, MatchBool, Option, Some, None, zero, suc}
 use Rattle.std.specs.List.{list_any}
 use Rattle.riak_msgs.specs.declared.Key.{Key}
 use Rattle.riak_msgs.specs.Contents.{Content}
@@ -32,7 +32,7 @@ use Rattle.copy_laws.proofs.Since.{clock_at, dot_given, knows-at, pairs_at, stat
 use Rattle.copy_laws.proofs.Tests.{not_zero, one_of_three, one_of_two}
 use Rattle.copy_laws.proofs.Tracked.{exact-at}
 use Rattle.handoff.specs.Joined.{CopiesNameWhatCame}
-use Rattle.handoff.specs.Shown.{WasShown, WasShownBy, WasShownHere, WasShownThere}
+use Rattle.handoff.specs.Shown.{WasShown, WasShownBy}
 
 -- a command of a key whose context covers a dot
 record Covering (key : Key) (dot : Dot) (history : History) : Type 0 where

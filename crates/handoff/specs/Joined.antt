@@ -1,5 +1,5 @@
 -- What the end of a diversion says of its partition, beside what the law of copies asks.
-use Rattle.std.specs.Prelude.{◌≡◌, ◌≢◌, ◌⊎◌, ◌≤◌, ◌<◌, ◌+◌, ◌++◌, ℕ, List, [], ◌∷◌, length, IsTrue, Option}
+use Rattle.std.specs.Prelude.{◌≡◌, ◌≢◌, ◌⊎◌, ◌≤◌, ◌<◌, ◌+◌, ◌++◌, ℕ, List, [], ◌∷◌, length, IsTrue}
 use Rattle.std.specs.List.{list_all}
 use Rattle.riak_msgs.specs.declared.Key.{Key}
 use Rattle.riak_msgs.specs.Contents.{Content}
@@ -19,14 +19,13 @@ use mathlib.Core.List.{IsPrefix}
 use Rattle.rw_gate.specs.Views.{GateId}
 use Rattle.vnode_core.specs.KeyCopies.{KeyCopyView}
 use Rattle.vnode_core.specs.Plans.{View}
-use Rattle.vnode_core.specs.Events.{AreCommands, IsMadeNew, commands_of, event_command, event_deed, history_after}
+use Rattle.vnode_core.specs.Events.{IsMadeNew, commands_of, event_command, event_deed, history_after}
 use Rattle.handoff.specs.Meeting.{copy_of}
-use Rattle.handoff.specs.declared.gates.Start.{Start}
 use Rattle.handoff.specs.declared.copying.Copied.{Copied as CopyBack}
 use Rattle.handoff.specs.declared.gates.Fallback.{Fallback}
 use Rattle.handoff.specs.Copying.{CopiesBack, IsCopyOf}
 use Rattle.handoff.specs.Started.{TookCopiesAlone}
-use Rattle.handoff.specs.Returning.{EndsDiversion, EndsFrom}
+use Rattle.handoff.specs.Returning.{EndsDiversion}
 use Rattle.handoff.specs.Sights.{Sight}
 
 module _ (partition : Partition) where
