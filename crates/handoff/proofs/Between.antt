@@ -110,16 +110,25 @@ run-one (entry ∷ entries) first s t (mid, makes, rest) (also, makes_also, rest
     let same : also ≡ mid = makes-one first entry also mid makes_also makes in
     run-one entries mid s t rest (subst (λ m. MachineRun Makes m entries t) same rest_also)
 
--- what came behind what had been seen before
+-- what came behind what had been seen before led on from there
+pub lead-split : (gate : GateId View) (before rest : List Entry) (s t : State Content) → LeadsVnodeTo gate before s → LeadsVnodeTo gate (before ++ rest) t → MachineRun Makes s rest t
+lead-split gate before rest s t a b = by gate.opening a b
+  where
+    by : (first : Option View) → RunFrom state_of Makes first before s → RunFrom state_of Makes first (before ++ rest) t → MachineRun Makes s rest t
+    by None a b = absurd a
+    by (Some first) a b =
+        let split = run-split before rest first.state t b in
+        let here : split.0 ≡ s = run-one before first.state split.0 s split.1 a in
+        subst (λ m. MachineRun Makes m rest t) here split.2
+
 pub since : (gate : GateId View) (before rest : List Entry) (s t : State Content) → LeadsVnodeTo gate before s → LeadsVnodeTo gate (before ++ rest) t → t.closed ≡ None → IsBelowStop t → commands_counted t ≤ commands_counted s
     → (copies : List KeyCopyView) × (rest ≡ all_copies copies)
-since gate before rest s t a b none below same = by gate.opening a b where
-  by : (first : Option View) → RunFrom state_of Makes first before s → RunFrom state_of Makes first (before ++ rest) t → (copies : List KeyCopyView) × (rest ≡ all_copies copies)
-  by None a b = absurd a
-  by (Some first) a b =
-      let split = run-split before rest first.state t b in
-      let here : split.0 ≡ s = run-one before first.state split.0 s split.1 a in
-      copies-alone rest s t (subst (λ m. MachineRun Makes m rest t) here split.2) none below same
+since gate before rest s t a b none below same = copies-alone rest s t (lead-split gate before rest s t a b) none below same
+
+-- copies count no command
+pub copies-count : (copies : List KeyCopyView) (s t : State Content) → MachineRun Makes s (all_copies copies) t → commands_counted t ≡ commands_counted s
+copies-count [] s t run = sym (ap commands_counted run)
+copies-count (copy ∷ copies) s t (m, makes, run) = copies-count copies m t run ∙ ap commands_counted makes.1.2
 
 -- so where a primary has stayed as it was, it took copies alone
 pub took-copies : (start : Option Start) (state : State Content) (mine : Sight) → HasStayed start state mine → ((from : Start) → start ≡ Some from → IsStartOf mine.gate from) → ShowsState mine state → TookCopiesAlone start mine

@@ -150,7 +150,7 @@ module _ (partition : Partition) where
       (entry-applies log first mid entry makes ∙ ap (λ (s : State Content). apply_entry s (log_entry partition log entry)) is)
       (legal, sym (ap (λ (s : State Content). s.closed) is) ∙ makes.0, entry-accepted log first mid entry is makes) run
 
-  shown-legal : (primary : Log) (mine : Sight) (state : State Content) → IsOfPrimary partition primary mine → ShowsState mine state → HasEntries partition primary
+  pub shown-legal : (primary : Log) (mine : Sight) (state : State Content) → IsOfPrimary partition primary mine → ShowsState mine state → HasEntries partition primary
   shown-legal primary mine state of shows =
       let first = of.made_new.first in
       let run : MachineRun Makes first.state mine.prefix state =
@@ -158,7 +158,7 @@ module _ (partition : Partition) where
       subst (HasEntries partition) of.log (log-legal mine.prefix [] first.state state of.made_new.new tt run)
 
   -- a pass of the primary shows that state
-  shown-state : (primary : Log) (mine : Sight) (state : State Content) → IsOfPrimary partition primary mine → ShowsState mine state → state ≡ primary_after partition primary
+  pub shown-state : (primary : Log) (mine : Sight) (state : State Content) → IsOfPrimary partition primary mine → ShowsState mine state → state ≡ primary_after partition primary
   shown-state primary mine state of shows =
       let first = of.made_new.first in
       let run : MachineRun Makes first.state mine.prefix state =
@@ -182,9 +182,14 @@ module _ (v l : ℕ) (key : Key) where
       by true update is' = and_both (is_update event.operation) (list_all (λ e. is_update e.operation) (events_of before key)) is rest
       by false update is' = rest
 
-  all-unreaped : (before : History) (events : List VnodeEvent) → IsUnreaped before → EachIs IsUpdate events → IsUnreaped (history_after v l before events)
+  pub all-unreaped : (before : History) (events : List VnodeEvent) → IsUnreaped before → EachIs IsUpdate events → IsUnreaped (history_after v l before events)
   all-unreaped before [] rest are = rest
   all-unreaped before (event ∷ events) rest are = all-unreaped (register_event v l before event ∷ before) events (one-unreaped (register_event v l before event) before (update-deed event are.0) rest) are.1
+
+-- the commands of a closed fallback's pass
+pub ended-events : (mine theirs : Sight) (ended : EndsDiversion mine theirs) → commands_of theirs.prefix ≡ ended.events
+ended-events mine theirs ended =
+    ap commands_of ended.seen ∙ (commands_of-append ended.before (Closed (length mine.prefix) ∷ []) ∙ (append-nil (commands_of ended.before) ∙ (ap commands_of ended.plain ∙ commands_of-all_commands ended.events)))
 
 module _ (partition : Partition) (primary : Log) (fallbacks : Fallbacks) (mine theirs : Sight) (ended : EndsDiversion mine theirs)
     (of_primary : IsOfPrimary partition primary mine) (of_fallback : IsOfLastFallback partition fallbacks theirs) where
@@ -194,13 +199,8 @@ module _ (partition : Partition) (primary : Log) (fallbacks : Fallbacks) (mine t
   opened : ℕ
   opened = partition.opened last
 
-  -- the commands of the fallback's pass
-  pub events-are : commands_of theirs.prefix ≡ ended.events
-  events-are =
-      ap commands_of ended.seen ∙ (commands_of-append ended.before (Closed (length mine.prefix) ∷ []) ∙ (append-nil (commands_of ended.before) ∙ (ap commands_of ended.plain ∙ commands_of-all_commands ended.events)))
-
   pub history-is : history_after partition.fallback (partition.opened partition.diversions) [] ended.events ≡ fallbacks partition.diversions
-  history-is = ap (history_after partition.fallback (partition.opened partition.diversions) []) (sym events-are) ∙ of_fallback.whole
+  history-is = ap (history_after partition.fallback (partition.opened partition.diversions) []) (sym (ended-events mine theirs ended)) ∙ of_fallback.whole
 
   here : ended.primary ≡ primary_after partition primary
   here = shown-state partition primary mine ended.primary of_primary ended.shows

@@ -1,11 +1,11 @@
 -- A copy of what a look at a fallback showed is a true one.
-use Rattle.std.proofs.Common.{◌≡◌, ◌∙◌, ◌++◌, ℕ, List, [], ◌∷◌, refl, sym, ap, subst, append_assoc}
-use Rattle.std.specs.Prelude.{Option, Some, None}
+use Rattle.std.proofs.Common.{◌≡◌, ◌∙◌, ◌++◌, ℕ, true, List, [], ◌∷◌, refl, sym, ap, subst, append_assoc}
+use Rattle.std.specs.Prelude.{Option, Some, None, is_some}
 use Rattle.std.specs.Option.{option_map_or}
 use mathlib.Core.List.{IsPrefix}
 use Rattle.riak_msgs.specs.declared.Key.{Key}
 use Rattle.riak_msgs.specs.Contents.{Content}
-use Rattle.vnode_machine.specs.Machine.{State, Stored, stored, clock_of}
+use Rattle.vnode_machine.specs.Machine.{State, Stored, stored, clock_of, is_held}
 use Rattle.vnode_machine.specs.Replay.{History, IsWithinLimits, replay}
 use Rattle.vnode_machine.proofs.Keys.{key_eq-same}
 use Rattle.copy_laws.specs.Joining.{Log, Fallbacks, IsTrueCopy}
@@ -72,6 +72,18 @@ module _ (partition : Partition) (primary : Log) (fallbacks : Fallbacks) where
         clock = copy.clock ∙ sym (held-clock copy.state copy.copy.key copy.there copy.held) ∙ ap (λ (s : State Content). clock_of s copy.copy.key) replays
             ∙ ap (λ (h : History). clock_of (replay v l h) copy.copy.key) (sym carried) ∙ ap (λ (k : Key). clock_of (replay v l (history_after v l [] copy.copy.prefix)) k) same;
       }
+
+  -- and the fallback had the key then
+  pub true-held : (theirs : Sight) (entry : Entry) (n : ℕ) (copy : IsCopyOf n theirs entry) → IsOfFallback partition fallbacks copy.copy.diversion theirs → (key : Key) → copy.copy.key ≡ key
+      → is_held (replay partition.fallback (partition.opened copy.copy.diversion) (copy_of partition copy.copy).prefix) key ≡ true
+  true-held theirs entry n copy of key same =
+      let v = partition.fallback in
+      let l = partition.opened copy.copy.diversion in
+      let are = all_commands-commands_of copy.prefix (commands_before copy.prefix theirs.prefix copy.begins of.commands) in
+      let replays = prefix-replays v l theirs.gate copy.prefix copy.state of.limits of.made_new are copy.leads in
+      let carried : history_after v l [] copy.copy.prefix ≡ history_after v l [] (commands_of copy.prefix) = ap (history_after v l []) copy.commands in
+      ap (λ (h : History). is_held (replay v l h) key) carried ∙ (ap (λ (s : State Content). is_held s key) (sym replays)
+      ∙ (ap (λ (k : Key). is_held copy.state k) (sym same) ∙ ap (λ (o : Option (Stored Content)). is_some o) copy.held))
 
   pub copies-are-true : (diversion : ℕ) (mine theirs : Sight) → CopiesAreTrue partition primary fallbacks diversion mine theirs
   copies-are-true diversion mine theirs of position has =

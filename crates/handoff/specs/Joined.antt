@@ -1,5 +1,5 @@
 -- What the end of a diversion says of its partition, beside what the law of copies asks.
-use Rattle.std.specs.Prelude.{◌≡◌, ◌≢◌, ◌⊎◌, ◌≤◌, ◌<◌, ◌+◌, ◌++◌, ℕ, List, [], ◌∷◌, length, IsTrue, Option}
+use Rattle.std.specs.Prelude.{◌≡◌, ◌≢◌, ◌⊎◌, ◌≤◌, ◌<◌, ◌+◌, ◌++◌, ℕ, List, [], ◌∷◌, length, IsTrue}
 use Rattle.std.specs.List.{list_all}
 use Rattle.riak_msgs.specs.declared.Key.{Key}
 use Rattle.riak_msgs.specs.Contents.{Content}
@@ -19,14 +19,13 @@ use mathlib.Core.List.{IsPrefix}
 use Rattle.rw_gate.specs.Views.{GateId}
 use Rattle.vnode_core.specs.KeyCopies.{KeyCopyView}
 use Rattle.vnode_core.specs.Plans.{View}
-use Rattle.vnode_core.specs.Events.{AreCommands, IsMadeNew, commands_of, event_command, event_deed, history_after}
+use Rattle.vnode_core.specs.Events.{IsMadeNew, commands_of, event_command, event_deed, history_after}
 use Rattle.handoff.specs.Meeting.{copy_of}
-use Rattle.handoff.specs.declared.gates.Start.{Start}
 use Rattle.handoff.specs.declared.copying.Copied.{Copied as CopyBack}
 use Rattle.handoff.specs.declared.gates.Fallback.{Fallback}
 use Rattle.handoff.specs.Copying.{CopiesBack, IsCopyOf}
 use Rattle.handoff.specs.Started.{TookCopiesAlone}
-use Rattle.handoff.specs.Returning.{EndsDiversion, EndsFrom}
+use Rattle.handoff.specs.Returning.{EndsDiversion}
 use Rattle.handoff.specs.Sights.{Sight}
 
 module _ (partition : Partition) where
@@ -120,24 +119,6 @@ abbrev pub AreMade : (diversion : ℕ) (fallback : GateId View) (before : List E
 AreMade diversion fallback before [] = Unit {0}
 AreMade diversion fallback before (copy ∷ copies) =
     ((their : Sight) × IsCopyOf diversion their (Copied copy) × (their.gate ≡ fallback) × IsPrefix their.prefix before) × AreMade diversion fallback before copies
-
--- The first diversion of a partition has ended, of whose gates these passes are. The primary had taken commands alone when it was diverted, and who
--- copied to it since was a copy back.
-pub record IsFirstReturn (partition : Partition) (primary : Log) (fallbacks : Fallbacks) (start : Option Start) (mine theirs : Sight) : Type 0 where
-  pub first : partition.diversions ≡ 1
-  pub rise : SidesRise partition fallbacks
-  pub ends : EndsFrom start mine theirs
-  pub of_primary : IsOfPrimary partition primary mine
-  pub of_fallback : IsOfLastFallback partition fallbacks theirs
-  pub commands : AreCommands ends.since.from.pass.prefix
-  pub made : AreMade partition.diversions theirs.gate ends.ended.before ends.since.copies
-
--- then each key is joined, where contexts name what was there
-abbrev pub FirstReturnJoins : Partition → Log → Fallbacks → Option Start → (mine theirs : Sight) → Type 0
-FirstReturnJoins partition primary fallbacks start mine theirs =
-    (return : IsFirstReturn partition primary fallbacks start mine theirs) → (key : Key)
-    → NamesWhatCame partition primary fallbacks key → CopiesNameWhatCame partition primary fallbacks key
-    → IsJoinedIn partition primary fallbacks key return.ends.ended.primary
 
 -- how many keys these copy backs copied
 abbrev pub keys_copied : List CopyBack → ℕ

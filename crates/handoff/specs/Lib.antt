@@ -7,6 +7,7 @@ pub mod Meeting
 pub mod Partitions
 pub mod Returning
 pub mod Running
+pub mod Shown
 pub mod Sights
 pub mod Started
 pub mod Steps

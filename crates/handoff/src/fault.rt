@@ -26,7 +26,7 @@ pub enum HandoffFault {
     /// Memory was refused.
     NoMemory,
     /// The history of a gate had gone on past the state that was found, or can have no further event; or a gate took what it doesn't take while
-    /// its partition is diverted, the primary a command, or the fallback a copy or a reap.
+    /// its partition is diverted, the primary a command or a close, or the fallback a copy or a reap; or what the primary had then wasn't seen.
     GateStopped,
 }
 
@@ -45,7 +45,7 @@ pub(crate) enum Stop {
     NotDiverted,
     /// Memory was refused.
     NoMemory,
-    /// The history of a gate had gone on past the state that was found, or can have no further event.
+    /// As the fault of this name.
     GateStopped,
 }
 

@@ -1,19 +1,16 @@
 //! What copies back say, beside the law of copies.
-ghost use Rattle.std.specs.Prelude.{ℕ, List, Option};
+ghost use Rattle.std.specs.Prelude.{ℕ, List};
 ghost use Rattle.copy_laws.specs.Joining.{Log, Fallbacks};
 ghost use Rattle.copy_laws.specs.Sides.{Partition};
-ghost use Rattle.handoff.specs.declared.gates.Start.{Start};
 ghost use Rattle.handoff.specs.declared.copying.Copied.{Copied};
 ghost use Rattle.handoff.specs.declared.gates.Fallback.{Fallback};
-ghost use Rattle.handoff.specs.Joined.{CopiesAreOfCalls, FirstReturnJoins, ReturnJoinsKeys, TurnsSpareReaps};
+ghost use Rattle.handoff.specs.Joined.{CopiesAreOfCalls, ReturnJoinsKeys, TurnsSpareReaps};
 ghost use Rattle.rw_gate.specs.Views.{GateId};
 ghost use Rattle.vnode_core.specs.Plans.{View};
 ghost use Rattle.vnode_core.specs.declared.entry.Entry.{Entry};
 ghost use Rattle.riak_msgs.specs.declared.Key.{Key};
-ghost use Rattle.handoff.specs.declared.fault.Returned.{Returned};
 ghost use Rattle.handoff.specs.Meeting.{CopiesAreTrue};
-ghost use Rattle.handoff.specs.Partitions.{HandoffView};
-ghost use Rattle.handoff.specs.Running.{FirstHandOffJoins};
+ghost use Rattle.handoff.specs.Running.{Diversion, RunningHandOffsJoin, ShownContextsName};
 ghost use Rattle.handoff.specs.Sights.{Sight};
 
 /// Each copy that [`Handoff::copy_back`](crate::Handoff::copy_back) made is one that the law of copies calls true (`IsTrueCopy` of `copy_laws`): it has
@@ -37,7 +34,7 @@ pub fn copies_are_true()
 /// fallback took writes and deletes alone, the end of the diversion says itself. And it asks of the key (`IsHandedOff`) that of each earlier fallback
 /// copies brought all, which this law says of the return that ended that one's diversion; that sides rise (`begins` of `divert`'s clause); that each
 /// copy is a true one ([`copies_are_true`]); that no reap stands between what came and a copy ([`turns_spare_reaps`]); and that contexts name what was
-/// there, which is so where each had been shown.
+/// there. Where copy backs ran one behind another, [`running_hand_offs_join`] says all of this but the last; this law is left for those beside others.
 pub fn returns_join()
     ensures { (partition : Partition) (primary : Log) (fallbacks : Fallbacks)
         (mine theirs : Sight) → ReturnJoinsKeys partition primary fallbacks mine theirs }
@@ -50,16 +47,6 @@ pub fn turns_spare_reaps()
         → TurnsSpareReaps partition primary fallbacks key }
 {}
 
-/// Where [`Handoff::finish_return`](crate::Handoff::finish_return) has ended the first diversion of a partition whose primary had taken commands alone
-/// before, and whose contexts name what was there, each key's siblings at the primary are its joint ones. Beside the contracts of `divert`,
-/// `copy_back` and `finish_return` it asks for one thing more, which no contract says: that each copy that came to the primary since is one that a
-/// copy back made (`AreMade`). Who alone copies back a partition's fallback, one call after another, can show that ([`copies_are_of_calls`]).
-pub fn first_return_joins()
-    ensures { (partition : Partition) (primary : Log) (fallbacks : Fallbacks)
-        (start : Option Start) (mine theirs : Sight)
-        → FirstReturnJoins partition primary fallbacks start mine theirs }
-{}
-
 /// Where the calls of [`Handoff::copy_back`](crate::Handoff::copy_back) that one caller made in a diversion copied as many keys as entries came to the
 /// primary since the diversion began, and each began behind all that the one before it had seen, they made all copies there. All of it is numbers and
 /// passes that the caller has, and can compare: `keys` and `began` of each [`Copied`](crate::Copied), `seen` of its passes, and `is_behind` of these and of
@@ -70,11 +57,19 @@ pub fn copies_are_of_calls()
         → CopiesAreOfCalls primary fallback mine before calls }
 {}
 
-/// Where a caller diverted a partition for the first time, copied back by calls of its own alone, one behind another, and returned, each key's siblings at
-/// the primary are its joint ones: the writes and tombstones of either side that no command of either side saw. Beside the clauses of `divert`,
-/// `copy_back` and `finish_return`, and what these let the caller compare (`IsFirstHandOff` in `specs/Running`), it asks only that contexts name what was
-/// there, which is so where each had been shown for its key.
-pub fn first_hand_offs_join()
-    ensures { (handoff : HandoffView) (index : ℕ) (calls : List Copied) (passes : Returned)
-        → FirstHandOffJoins handoff index calls passes }
+/// Where a caller diverted a partition any number of times, copied back each time by calls of its own alone, one behind another, and returned, each key's
+/// siblings at the primary behind the last return are its joint ones: the writes and tombstones of any side that no command of any side saw. Beside the
+/// clauses of `divert`, `fallback`, `gates`, `copy_back` and `finish_return`, and what passes and tallies let the caller compare (`HasReturnedBehind` in
+/// `specs/Running`), it asks only that contexts name what was there, which is so where each had been shown for its key.
+pub fn running_hand_offs_join()
+    ensures { (run index : ℕ) (primary : GateId View) (last : Diversion) (earlier : List Diversion)
+        → RunningHandOffsJoin run index primary last earlier }
+{}
+
+/// Where each context that a command of a key carried in such diversions had been shown for it, they name what was there: so the siblings are joint ones
+/// ([`running_hand_offs_join`]). To the primary it had been shown by the primary before, or by a fallback that had returned by then; to a fallback by the
+/// primary before the partition was diverted, by an earlier fallback, or by itself before (`GivesShown` in `specs/Running`).
+pub fn shown_contexts_name()
+    ensures { (run index : ℕ) (primary : GateId View) (last : Diversion) (earlier : List Diversion)
+        → ShownContextsName run index primary last earlier }
 {}

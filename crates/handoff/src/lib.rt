@@ -32,8 +32,8 @@
 //! How a running hand-off meets that law: a fallback keeps the pass that saw the one before it closed, and what the primary had when the
 //! partition was diverted ([`Start`]). So the end of a diversion can compare tallies, and says that the fallback took writes and deletes
 //! alone, and the primary only copies since then (`EndsFrom`). A caller who copies back alone, one call after another, can compare that its calls
-//! made all of these copies ([`copies_are_of_calls`]). Of a partition's first diversion nothing more is asked than that contexts name what was
-//! there ([`first_hand_offs_join`]).
+//! made all of these copies ([`copies_are_of_calls`]). Then, of any number of diversions of a partition, nothing more is asked than that contexts
+//! name what was there ([`running_hand_offs_join`]), as those do that had been shown ([`shown_contexts_name`]).
 //!
 //! What it costs: a partition that isn't diverted has a place for its fallback, and a call looks at that place. A diversion makes one
 //! gate and one vnode without keys. A key that is copied, or that is looked at and isn't, is searched for once in each vnode, and is
@@ -58,7 +58,7 @@ pub use copying::Copied;
 pub use fault::{HandoffFault, Returned};
 pub use gates::{Fallback, Start};
 pub use laws::{
-    copies_are_of_calls, copies_are_true, first_hand_offs_join, first_return_joins, returns_join,
-    turns_spare_reaps,
+    copies_are_of_calls, copies_are_true, returns_join, running_hand_offs_join,
+    shown_contexts_name, turns_spare_reaps,
 };
 pub use partitions::Handoff;

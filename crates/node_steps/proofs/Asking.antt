@@ -1,5 +1,5 @@
 -- What comes of asking a worker, and where its call goes.
-use Rattle.std.proofs.Common.{◌≡◌, ℕ, zero, suc, ◌<◌, ◌≤◌, Bool, true, false, cond, not, ◌&&◌, List, length, refl, sym, ◌∙◌, ap, subst}
+use Rattle.std.proofs.Common.{◌≡◌, ℕ, zero, suc, ◌≤◌, Bool, true, false, cond, not, ◌&&◌, List, length, refl, sym, ◌∙◌, ap, subst}
 use Rattle.std.specs.Prelude.{◌==◌, Option, Some, None, option_map, option_and_then, slice_get, slice_set}
 use Rattle.std.specs.Option.{option_map_or}
 use Rattle.std.proofs.lemmas.Option.{slice_get_past}
@@ -122,11 +122,6 @@ module _ (parts : Parts) (index : ℕ) (ask : RegisterAsk Content Context) where
   pub without_partition : route (world_in parts) index ≡ None → SendsTo parts index ask None
   without_partition e worker = goes None e worker ∙ asks_nowhere (world_in parts) worker
 
-  -- a reap of one that is diverted
-  pub without_reap : (site : ℕ) → route (world_in parts) index ≡ Some site → (site == index) ≡ false → is_reap ask ≡ true → SendsTo parts index ask None
-  without_reap site e other reap worker =
-      goes (Some site) e worker ∙ (λ i. acts (world_in parts) worker (cond (not (other i) && reap i) AsksNowhere (Asks site ask))) ∙ asks_nowhere (world_in parts) worker
-
   -- there is no such site
   pub without_site : (site : ℕ) → route (world_in parts) index ≡ Some site → length parts.sites.items ≤ site → SendsTo parts index ask None
   without_site site e past worker =
@@ -135,9 +130,3 @@ module _ (parts : Parts) (index : ℕ) (ask : RegisterAsk Content Context) where
       by : (b : Bool) → acts (world_in parts) worker (cond b AsksNowhere (Asks site ask)) ≡ None
       by true = asks_nowhere (world_in parts) worker
       by false = asks_past (world_in parts) site ask (at_none vnode_of parts.sites.items site (slice_get_past parts.sites.items site past)) worker
-
-  -- it goes to the site of its partition's calls
-  pub sends_there : (site : ℕ) → route (world_in parts) index ≡ Some site → not (site == index) && is_reap ask ≡ false → site < length parts.sites.items
-      → SendsTo parts index ask (Some site)
-  sends_there site e allowed below =
-      (ap (λ r. option_map_or (λ site. sent index site ask) r AsksNowhere) e ∙ ap (λ b. cond b AsksNowhere (Asks site ask)) allowed, below)

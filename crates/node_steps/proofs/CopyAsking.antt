@@ -19,7 +19,7 @@ use Rattle.node_steps.specs.Running.{vnode_of, worker_of, world_of}
 use Rattle.node_steps.specs.Asked.{closing_step, copying_step}
 use Rattle.node_steps.specs.Parts.{FindsIdle, HasFallbackSite, HasNone, TakesRunStep, world_in}
 use Rattle.node_steps.proofs.Looking.{vnode_itself}
-use Rattle.node_steps.proofs.Mapped.{same_test, set-same, at_none}
+use Rattle.node_steps.proofs.Mapped.{set-same, at_none}
 use Rattle.node_steps.proofs.Stepping.{not_possible, result_at, Steps, step_taken, no_worker, at_one, no_turn, NoTurn, IsAsking, copying_sent, closing_sent, is_busy}
 use Rattle.node_steps.proofs.Asking.{asks_nowhere}
 
@@ -145,17 +145,6 @@ module _ (parts : Parts) (index : ℕ) where
   without_partition e = record {
     copies = λ worker key. copied key None e worker ∙ asks_nowhere (world_in parts) worker;
     closes = λ worker. closed None e worker ∙ asks_nowhere (world_in parts) worker;
-  }
-
-  -- it isn't diverted
-  pub without_fallback : (site : ℕ) → route (world_in parts) index ≡ Some site → site ≡ index → HasNone parts index
-  without_fallback site e own = record {
-    copies = λ worker key.
-        copied key (Some site) e worker ∙ ap (λ b. acts (world_in parts) worker (cond b AsksNowhere (CopiesFrom index site key))) (same_test site index own)
-        ∙ asks_nowhere (world_in parts) worker;
-    closes = λ worker.
-        closed (Some site) e worker ∙ ap (λ b. acts (world_in parts) worker (cond b AsksNowhere (ClosesFrom index site))) (same_test site index own)
-        ∙ asks_nowhere (world_in parts) worker;
   }
 
   -- there is no such site

@@ -14,7 +14,7 @@ use Rattle.node_steps.specs.World.{Phase, SiteVnode, World, fresh_vnode}
 use Rattle.node_steps.specs.Steps.{Diverts, Outcome, NotPossible, Happened, is_for, fallback_ids, diverted_by, diverted}
 use Rattle.node_steps.specs.Erased.{erase, erase_vnode}
 use Rattle.node_steps.specs.Returned.{returned}
-use Rattle.node_steps.specs.Running.{phase_of, vnode_of, worker_of}
+use Rattle.node_steps.specs.Running.{vnode_of, worker_of}
 use Rattle.node_steps.specs.Parts.{AreFit, IsOpen, DivertsTo, TakesFitStep, world_in}
 use Rattle.node_steps.proofs.Mapped.{at_some, at_none, tested_same}
 use Rattle.node_steps.proofs.Stepping.{vnodes_itself, workers_itself, not_possible}
@@ -22,11 +22,6 @@ use Rattle.node_steps.proofs.Stepping.{vnodes_itself, workers_itself, not_possib
 -- no worker of these has to do with a partition whose sites are these
 abbrev pub are_free : List SiteVnode → (index : ℕ) → List RunPhase → Bool
 are_free vnodes index phases = list_all (λ worker. not (is_for vnodes index 0 worker.phase)) (map worker_of phases)
-
--- by the first of them, and the rest
-pub free_on : (vnodes : List SiteVnode) (index : ℕ) (phases rest : List RunPhase) (phase : RunPhase) (about : Bool) → phases ≡ phase ∷ rest → about ≡ is_for vnodes index 0 (phase_of phase)
-    → are_free vnodes index phases ≡ not about && are_free vnodes index rest
-free_on vnodes index phases rest phase about split e = ap (are_free vnodes index) split ∙ ap (λ b. not b && are_free vnodes index rest) (sym e)
 
 -- the sites from a place on
 abbrev pub for_from : (index : ℕ) → Phase → (at : ℕ) → List Site → Bool
@@ -49,9 +44,6 @@ module _ (parts : Parts) (index : ℕ) where
   by_route o = option_and_then (λ site. by_epoch site (slice_get w.epochs index)) o
 
   -- there is no such partition
-  pub no_route : slice_get parts.routes.items index ≡ None → diverted w index ≡ None
-  no_route e = ap by_route e
-
   pub no_epoch : slice_get parts.epochs.items index ≡ None → diverted w index ≡ None
   no_epoch e = by (slice_get w.routes index)
     where

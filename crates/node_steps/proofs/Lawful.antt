@@ -8,16 +8,15 @@ use Rattle.actor_epoch.specs.Given.{Context}
 use Rattle.vnode_machine.specs.Machine.{State, is_bad_context, has_too_many_siblings, has_too_many_actors, is_out_of_epochs, is_out_of_counters, update_check}
 use Rattle.vnode_machine.specs.Replay.{AcceptsEvent}
 use Rattle.vnode_machine.proofs.Puts.{rooms_of}
-use Rattle.copy_laws.specs.Copies.{brought}
 use Rattle.copy_laws.specs.Sides.{Partition}
 use Rattle.copy_laws.specs.CopyReplay.{primary_after, seen_at}
-use Rattle.copy_laws.specs.Joining.{Log, IsJoined, ShowsSiblings}
+use Rattle.copy_laws.specs.Joining.{Log}
 use Rattle.copy_laws.specs.Diversions.{Course, AtPrimary, Divert, AtFallback, CopyBack, Return, primary_of, fallback_of, Happens}
 use Rattle.copy_laws.specs.JointAnswers.{update_at, has_too_many_at}
+use Rattle.copy_laws.specs.LegalLogs.{IsLegalLog}
 use Rattle.copy_laws.proofs.Clocks.{taken_pairs}
-use Rattle.copy_laws.proofs.Positions.{joined-then}
-use Rattle.copy_laws.proofs.Courses.{open_always}
-use Rattle.copy_laws.proofs.CourseLaw.{courses_are_hand_offs}
+use Rattle.copy_laws.proofs.Held.{joined-at}
+use Rattle.copy_laws.proofs.LegalCourses.{courses_are_legal}
 use Rattle.copy_laws.proofs.JointSights.{crowded-same}
 use Rattle.copy_laws.proofs.JointAnswers.{held-same, shows, courses_reap_dead}
 use Rattle.node_steps.specs.Told.{AcceptsBy, IsLegalOver}
@@ -36,14 +35,14 @@ module _ (partition : Partition) (ids : partition.primary < partition.fallback) 
     abbrev state : State Content
     state = primary_after partition log
 
+    legal : (key : Key) → IsLegalLog partition log (fallback_of course) key
+    legal = courses_are_legal partition course ids happens
+
     fits : (key : Key) (given : Option Context) (operation : Operation Content) → is_update operation ≡ true
         → update_check state key given (taken_pairs state key given operation) ≡ None → has_too_many_at partition log (update_at partition log key given operation) ≡ false
     fits key given operation update none =
-        let joined : IsJoined partition log (brought log key) key = joined-then partition log (fallback_of course) key (courses_are_hand_offs partition course ids happens key).0 [] log refl (open_always partition course) in
-        let s = shows partition course ids happens key in
-        let shown : ShowsSiblings partition log (brought log key) key log = record { live = s.live; present = s.present } in
         let pairs = taken_pairs state key given operation in
-        sym (crowded-same partition log key joined given operation update shown)
+        sym (crowded-same partition log key (joined-at partition log (fallback_of course) key (legal key) [] log refl) given operation update (shows partition log (fallback_of course) key (legal key)))
         ∙ uncrowded (is_bad_context state key given) (has_too_many_siblings state key pairs) (has_too_many_actors state key pairs) (is_out_of_epochs state key) (is_out_of_counters state key) none
 
     accepts : (event : Event Content Context) → (given : Option Context) → event.context ≡ given → (operation : Operation Content) → AcceptsEvent state event.key given operation
@@ -51,7 +50,7 @@ module _ (partition : Partition) (ids : partition.primary < partition.fallback) 
     accepts event given c (Write content) h e = subst (λ (x : Event Content Context). has_too_many_at partition log x ≡ false) e (fits event.key given (Write content) refl h)
     accepts event None c Tombstone h e = (
       subst (λ (x : Event Content Context). has_too_many_at partition log x ≡ false) e (fits event.key None Tombstone refl h.1),
-      λ none. sym (held-same partition course ids happens event.key) ∙ h.0,
+      λ none. sym (held-same partition log (fallback_of course) event.key (legal event.key)) ∙ h.0,
     )
     accepts event (Some context) c Tombstone h e = (
       subst (λ (x : Event Content Context). has_too_many_at partition log x ≡ false) e (fits event.key (Some context) Tombstone refl h),

@@ -48,8 +48,8 @@ pub record HandsOff (partition : Partition) (run : ℕ) (w : World) (index : ℕ
   pub answers : AnswersAsRegister partition course (log_at w index)
   -- what is asked at the primary may be asked there
   pub asked : CallsMayBeAsked partition w index course
-  -- by each reply there, an accepted command's too, at its publish, a call is told what the register may tell over the numbers of all
-  -- sides at the end of the log, which has just the accepted command more
+  -- each reply there, an accepted command's too, at its publish, is what the register may answer over the numbers of all sides at the
+  -- end of the log, which has just the accepted command more then
   pub replies : (step : Step) (call : Call) (reply : Result Response ℕ) → call_at w (number_of step) ≡ Some call → call.site ≡ index
       → outcome w step ≡ Replied reply → IsToldAt partition (log_at w index) call.ask reply (log_at (after w step) index)
   -- no dot twice: two writes or deletes that have the same, of whatever keys and on whichever sides, are one

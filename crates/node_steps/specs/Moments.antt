@@ -1,5 +1,5 @@
--- What is claimed of a moment of a schedule and its end, after some steps and after all: how logs go on from the one to the other, and
--- what leaves a partition's siblings in between.
+-- What is claimed of two moments, after some steps of a schedule and after all: how logs go on from the one to the other, and what
+-- leaves a partition's siblings in between.
 use Rattle.std.specs.Prelude.{◌≡◌, ◌≢◌, ◌⊎◌, ◌<◌, ◌++◌, List, ℕ, None, IsTrue}
 use Rattle.riak_msgs.specs.declared.Key.{Key}
 use Rattle.sibling_register.specs.History.{content_of}

@@ -1,5 +1,5 @@
--- What a reply tells: the machine's answer at the end of a log; and at a partition's own site, behind copies too, the register's over the
--- numbers of all sides. An accepted command is the log's next entry.
+-- What a call is answered at the end of a log: by the machine; and at a partition's own site, behind copies too, by the register, over
+-- the numbers of all sides. An accepted command is the log's next entry.
 use Rattle.std.specs.Prelude.{◌≡◌, true, false, [], ◌∷◌, ℕ, suc, None, Result, Ok, Err, MatchBool}
 use Rattle.riak_msgs.specs.declared.Key.{Key}
 use Rattle.riak_msgs.specs.Contents.{Content}
@@ -55,21 +55,22 @@ module _ (partition : Partition) (log : Log) where
       ((reply ≡ Ok ReapDone) × (later ≡ Command (update_at partition log key None Reap) ∷ log))
       ((reply ≡ Ok ReapKept) × (later ≡ log))
 
-  -- the register accepts an event that does this: not too many siblings weren't seen by it; a delete without context is of a key that is
-  -- defined, and a reap of one that is dead
+  -- the register accepts an event that does this: a write or delete that leaves fewer siblings unseen than a key may have; a delete
+  -- without context of a key that is defined alone, and a reap of a dead one alone
   abbrev pub AcceptsBy : Event Content Context → Operation Content → Type 0
   AcceptsBy event (Write content) = has_too_many_at partition log event ≡ false
   AcceptsBy event Tombstone = (has_too_many_at partition log event ≡ false) × (event.context ≡ None → is_defined_at partition log event.key ≡ true)
   AcceptsBy event Reap = is_dead_at partition log event.key ≡ true
 
-  -- what the register may tell to an ask at the end of the log, and the log afterwards
+  -- what the register may answer to an ask at the end of the log, and the log afterwards
   abbrev pub IsToldAt : RegisterAsk Content Context → Result Response ℕ → Log → Type 0
   IsToldAt (AskGet get) reply later = GetTold get reply later
   IsToldAt (AskPut put) reply later = PutTold put reply later
   IsToldAt (AskDel del) reply later = DelTold del reply later
   IsToldAt (AskReap key) reply later = ReapTold key reply later
 
--- a legal log: each command saw what it had to see, and was accepted as the register accepts it there over the numbers of all sides
+-- a log is legal over the numbers of all sides: each command saw what it had to see, and the register accepts it where it stands. It is
+-- of all keys at once, and asks nothing of contexts; the law's own (`IsLegalLog` of copy_laws) is of one key, with that law's premises
 abbrev pub IsLegalOver : Partition → Log → Type 0
 IsLegalOver partition [] = Unit {0}
 IsLegalOver partition (Command event ∷ before) =

@@ -16,30 +16,41 @@ ghost use Rattle.node_steps.specs.Gates.{RunsAreScheduled};
 ///
 /// *Whatever order*: in every run, for any number of workers and partitions, and after every list of steps, also of such that
 /// divert a partition to a fallback, which has a history of its own, copy keys back from there, close it, so that the calls go to
-/// the primary again, and divert the partition once more. *One thread*: the history is legal and has a replay where no command
-/// follows a copy (`histories`); the state that any look shows is the one after the log, which is that replay where nothing was
-/// copied (`looks`), as it is where a worker has a call, unless a fallback of its partition was closed, and until then no command
-/// follows a copy (`uncopied`); what comes of a look for a call is what the vnode machine does with it in that state, and where that is
-/// closed the call is turned away to the primary (`looked`). *Is answered*: nothing is answered where the state is closed, and each
-/// reply, a refusal too, is the machine's in the state after the log at its look, or, of an accepted command, at its publish, by which
-/// the log has just that command more; where nothing was copied, so at each fallback (`fallbacks`), it is what the register may give at
-/// the end of that history (`answers`). No other step changes a log, but a copy, which carries the clock that its key has at the
-/// fallback then, and the fallback's history, and a close, before which each key that the fallback holds is copied as it is there, and
-/// which carries the number of commands that the primary accepted (`nothing_else`). *Had seen*: the worker had seen no more than that
-/// log, copies and closes too, and has seen all of it afterwards, its own event too (`seen`); the log at a site only grows (`grown`).
-/// *No second time*: whatever the keys and lives (`dots`); a key is in a life exactly where it is defined (`lives`). *Unless .. had seen
-/// it*: a value leaves only by a write or delete whose context covers its dot, or by a delete without context (`covered`); and where
-/// each context that was given for its key at a site had been shown for it there, such a write or delete had seen the value (`left`).
+/// the primary again, and divert the partition once more.
 ///
-/// Where each context that was given for a key at a site of a partition had been shown for it at one of them, its primary and its
-/// fallbacks, with the copies between, are a hand-off (`handed_off`, `specs/HandOffs`), and all this holds behind copies too, over the
-/// numbers of all sides: the primary's log is legal, each command having seen what it had to see; by each reply there, an accepted
-/// command's too, at its publish, a call is told what the register gives there, and the log has just that command more; the primary
-/// shows the siblings that are its own or came, in their order; two writes or deletes that have the same dot are one, whatever their
-/// keys and sides; and after each copy of a key for which its fallback accepted nothing since, as once the fallback is closed, the
-/// primary's siblings are the joint ones. And what happened to the partition is one course, of which at each moment of the schedule a
-/// beginning had happened (`moments`, `specs/Moments`): from there on a value leaves the siblings at a site, own or brought, only where a
-/// write or delete that had seen it, of whichever side, was accepted, or brought, since.
+/// *One thread*: a look shows the state after the whole log of its vnode, which is the replay of the history where nothing was
+/// copied (`looks`). What comes of a look for a call is what the vnode machine does with the call in that state; where it is closed,
+/// the call is turned away to the primary (`looked`). Where no command follows a copy the history has a replay and is legal
+/// (`histories`): so at each fallback (`fallbacks`), and at a primary until a fallback of its partition is closed; until then nothing
+/// was copied to where a worker has a call (`uncopied`).
+///
+/// *Is answered*: a vnode that is closed answers nothing. Each reply, a refusal too, is the machine's in the state after the log: at
+/// its look, or, of an accepted command, at its publish, by which the log has just that command more. Where nothing was copied, and
+/// at each fallback, it is what the register may answer at the end of the history (`answers`). No other step changes a log, but a
+/// copy, which carries the clock that its key has at the fallback then, and the fallback's history, and a close, before which each key
+/// that the fallback holds is copied as it is there, and which carries the number of commands that the primary accepted
+/// (`nothing_else`).
+///
+/// *Had seen there*: the worker had seen no more than that log, copies and closes too, and has seen all of it afterwards, its own
+/// command too (`seen`). The log at a site only grows (`grown`).
+///
+/// *A second time*: at one vnode, whatever the keys and lives (`dots`). A key is in a life exactly where it is defined (`lives`).
+///
+/// *Unless .. had seen it*: a value leaves only by a write or delete whose context covers its dot, or by a delete without context
+/// (`covered`). Where each context that was given for its key at a site had been shown for it there, such a write or delete had seen
+/// the value (`left`).
+///
+/// Behind copies all this holds of a partition, over the numbers of all sides, where each context that was given for a key at a site
+/// of it had been shown for that key at one of them: its primary and its fallbacks, with the copies between, are a hand-off
+/// (`handed_off`, `specs/HandOffs`). The primary's log is legal, each command having seen what it had to see. Each reply there, an
+/// accepted command's too, at its publish, is what the register may answer at the end of the log, which has just that command more
+/// then. The primary shows the siblings that are its own or came, in their order. Two writes or deletes that have the same dot are
+/// one, whatever their keys and sides. After each copy of a key for which its fallback accepted nothing since, and once the fallback
+/// is closed, the primary's siblings are the joint ones.
+///
+/// What happened to the partition is one course, of which at each moment of the schedule a beginning had happened (`moments`,
+/// `specs/Moments`): from there on a value leaves the siblings at a site, own or brought, only where a write or delete that had seen
+/// it, of whichever side, was accepted, or brought, since.
 pub fn always()
     ensures histories { AfterEvery HistoriesAreLegal }
     ensures looks { AfterEvery LooksShowReplays }

@@ -78,6 +78,61 @@ pub const SHOWS_THREE: Message = Message {
 \0\0\0\0\0\x01\x80\0\0\0\0\x02\0\0\0\0\0\0\0\x01",
 };
 
+/// A put of "w" by the context of three sides, which asks for what is stored.
+pub const PUT_W_BY_THREE: Message = Message {
+    code: 11,
+    body: b"\x0a\x01b\x12\x01k\x1a\x3d\x02\
+\0\0\0\0\0\x01\0\0\0\0\0\x01\0\0\0\0\0\0\0\x01\
+\0\0\0\0\0\x01\x80\0\0\0\0\x01\0\0\0\0\0\0\0\x01\
+\0\0\0\0\0\x01\x80\0\0\0\0\x02\0\0\0\0\0\0\0\x01\
+\x22\x03\x0a\x01w\x38\x01",
+};
+
+/// The reply to it, which has seen all: "w" alone, the second write of the vnode.
+pub const STORED_W_ALONE: Message = Message {
+    code: 12,
+    body: b"\x0a\x03\x0a\x01w\x12\x3d\x02\
+\0\0\0\0\0\x01\0\0\0\0\0\x01\0\0\0\0\0\0\0\x02\
+\0\0\0\0\0\x01\x80\0\0\0\0\x01\0\0\0\0\0\0\0\x01\
+\0\0\0\0\0\x01\x80\0\0\0\0\x02\0\0\0\0\0\0\0\x01",
+};
+
+/// A put of "w" by the context of the vnode and its first fallback, which asks for what is stored.
+pub const PUT_W_BY_BOTH: Message = Message {
+    code: 11,
+    body: b"\x0a\x01b\x12\x01k\x1a\x29\x02\
+\0\0\0\0\0\x01\0\0\0\0\0\x01\0\0\0\0\0\0\0\x01\
+\0\0\0\0\0\x01\x80\0\0\0\0\x01\0\0\0\0\0\0\0\x01\
+\x22\x03\x0a\x01w\x38\x01",
+};
+
+/// The reply to it behind the second fallback, whose "v" it hasn't seen: "w" and that one, by rising actors.
+pub const STORED_W_BESIDE_V: Message = Message {
+    code: 12,
+    body: b"\x0a\x03\x0a\x01w\x0a\x03\x0a\x01v\x12\x3d\x02\
+\0\0\0\0\0\x01\0\0\0\0\0\x01\0\0\0\0\0\0\0\x02\
+\0\0\0\0\0\x01\x80\0\0\0\0\x01\0\0\0\0\0\0\0\x01\
+\0\0\0\0\0\x01\x80\0\0\0\0\x02\0\0\0\0\0\0\0\x01",
+};
+
+/// A put of "v" without context, of a key that may not be present.
+pub const PUT_V_IF_NONE: Message = Message {
+    code: 11,
+    body: b"\x0a\x01b\x12\x01k\x22\x03\x0a\x01v\x50\x01",
+};
+
+/// The reply to it where the key is present.
+pub const MATCH_FOUND: Message = Message {
+    code: 0,
+    body: b"\x0a\x0bmatch_found\x10\x01",
+};
+
+/// The reply to a get that shows "v", the first write of the key's second life at the vnode 0 of run 1.
+pub const SHOWS_V_IN_LIFE_TWO: Message = Message {
+    code: 10,
+    body: b"\x0a\x03\x0a\x01v\x12\x15\x02\0\0\0\0\0\x01\0\0\0\0\0\x02\0\0\0\0\0\0\0\x01",
+};
+
 /// The reply to a put.
 pub const STORED: Message = Message {
     code: 12,

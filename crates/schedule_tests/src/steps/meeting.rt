@@ -1,12 +1,16 @@
 //! Schedules in which a closer meets others, and diversions one after another.
 
 use crate::messages::{
-    ABSENT, GET, PUT_V, SHOWS_THREE, SHOWS_V_AT_FALLBACK, SHOWS_V_AT_SECOND, STORED,
+    ABSENT, DELETE, DELETED, GET, MATCH_FOUND, PUT_V, PUT_V_IF_NONE, PUT_W_BY_BOTH, PUT_W_BY_THREE,
+    SHOWS_BOTH, SHOWS_THREE, SHOWS_V_AT_FALLBACK, SHOWS_V_AT_SECOND, SHOWS_V_IN_LIFE_TWO, STORED,
+    STORED_W_ALONE, STORED_W_BESIDE_V,
 };
-use crate::steps::parts::{CLOSE, COPY, DIVERT, Schedule, WRITE, all_play, finds_left, reads};
+use crate::steps::parts::{
+    CLOSE, COPY, DIVERT, Schedule, WRITE, all_play, finds_left, reads, writes,
+};
 use crate::steps::playing::{Act, Wanted};
-use Act::{Ask, Close, Copy, Divert, Enter, Leave, Look, Mark, Publish, Put, Take, Unmark};
-use Wanted::{Copied, Done, Elsewhere, Left, No, Reply};
+use Act::{Ask, Close, Copy, Divert, Enter, Leave, Look, Mark, Publish, Put, Reap, Take, Unmark};
+use Wanted::{Copied, Done, Elsewhere, Left, No, Reaped, Reply};
 
 /// A closer beside another worker.
 const BESIDE: &[Schedule] = &[
@@ -234,6 +238,94 @@ const AGAIN: &[Schedule] = &[
             COPY,
             CLOSE,
             reads!(SHOWS_THREE),
+        ],
+    },
+    // The put has seen the values of all sides, and stands alone.
+    Schedule {
+        shows: "a put behind a second return, by what is shown there",
+        workers: 2,
+        vnodes: 1,
+        parts: &[
+            WRITE,
+            DIVERT,
+            WRITE,
+            COPY,
+            CLOSE,
+            DIVERT,
+            WRITE,
+            COPY,
+            CLOSE,
+            reads!(SHOWS_THREE),
+            writes!(1, PUT_W_BY_THREE, STORED_W_ALONE),
+        ],
+    },
+    // Its context was shown before the second diversion: what that fallback wrote stays.
+    Schedule {
+        shows: "a put behind a second return, by what was shown before it",
+        workers: 2,
+        vnodes: 1,
+        parts: &[
+            WRITE,
+            DIVERT,
+            WRITE,
+            COPY,
+            CLOSE,
+            reads!(SHOWS_BOTH),
+            DIVERT,
+            WRITE,
+            COPY,
+            CLOSE,
+            writes!(1, PUT_W_BY_BOTH, STORED_W_BESIDE_V),
+        ],
+    },
+    // The delete has seen what came, too. The key is dead, and forgotten; its next life has the vnode's epoch 2, and nothing of either
+    // fallback.
+    Schedule {
+        shows: "a delete and a reap behind a second return",
+        workers: 2,
+        vnodes: 1,
+        parts: &[
+            WRITE,
+            DIVERT,
+            WRITE,
+            COPY,
+            CLOSE,
+            DIVERT,
+            WRITE,
+            COPY,
+            CLOSE,
+            writes!(1, DELETE, DELETED),
+            reads!(ABSENT),
+            &[
+                (Reap(1, 0), Done),
+                (Take(1), Done),
+                (Look(1), Done),
+                (Publish(1), Reaped),
+                (Put(1), Done),
+            ],
+            WRITE,
+            reads!(SHOWS_V_IN_LIFE_TWO),
+        ],
+    },
+    // The primary has written nothing itself; what the second fallback wrote makes the key present there.
+    Schedule {
+        shows: "a put is refused behind a second return",
+        workers: 2,
+        vnodes: 1,
+        parts: &[
+            DIVERT,
+            CLOSE,
+            DIVERT,
+            WRITE,
+            COPY,
+            CLOSE,
+            &[
+                (Ask(1, 0, PUT_V_IF_NONE), Done),
+                (Take(1), Done),
+                (Look(1), Reply(MATCH_FOUND)),
+                (Put(1), Done),
+            ],
+            reads!(SHOWS_V_AT_FALLBACK),
         ],
     },
     // The first fallback gave no epoch, so that the second begins with 1.

@@ -1,0 +1,216 @@
+"""What the scripts share that try the built node: its frames, its processes, and the verdict over their cases.
+
+No case looks at how fast anything is: SECONDS bounds only how long a case waits for what has to come, on a machine however slow.
+"""
+import os
+import resource
+import socket
+import struct
+import subprocess
+import sys
+import threading
+import time
+
+SECONDS = 120
+ERROR, PING_CODE, GET_CODE, GOT, PUT_CODE, STORED_CODE, DELETE_CODE, DELETED_CODE = 0, 1, 9, 10, 11, 12, 13, 14
+NOTHING_FOUND = bytes([GOT])
+NO_MEMORY = b"\0\x0a\x09no memory\x10\1"
+# how a context begins: its version
+CONTEXT_VERSION = 2
+CONTEXT_LENGTH = 21
+
+
+class Wrong(Exception):
+    """A case that isn't as it should be, and how."""
+
+
+def check(holds, *said):
+    """Ends the case where something doesn't hold, with what is said of it."""
+    if not holds:
+        raise Wrong(" ".join(str(it) for it in said))
+
+
+def varint(number):
+    groups = []
+    while number > 127:
+        groups.append(number & 127 | 128)
+        number >>= 7
+    return bytes([*groups, number])
+
+
+def field(number, data):
+    """A field of bytes."""
+    return varint(number * 8 + 2) + varint(len(data)) + data
+
+
+def frame(code, body=b""):
+    return struct.pack(">IB", len(body) + 1, code) + body
+
+
+def get(key, bucket=b"b", more=b""):
+    return frame(GET_CODE, field(1, bucket) + field(2, key) + more)
+
+
+def put(key, value, context=b"", bucket=b"b", more=b""):
+    seen = field(3, context) if context else b""
+    return frame(PUT_CODE, field(1, bucket) + field(2, key) + seen + field(4, field(1, value)) + more)
+
+
+def delete(key, context=b"", bucket=b"b"):
+    return frame(DELETE_CODE, field(1, bucket) + field(2, key) + (field(4, context) if context else b""))
+
+
+def shown(values):
+    """How the body of a reply to a get begins that has these siblings; a context's field stands behind them."""
+    return NOTHING_FOUND + b"".join(field(1, field(1, value)) for value in values)
+
+
+PING = frame(PING_CODE)
+PONG = frame(2)
+PUT = put(b"k", b"v")
+GET = get(b"k")
+STORED = frame(STORED_CODE)
+DELETED = frame(DELETED_CODE)
+SHOWN = frame(GOT, shown([b"v"])[1:] + field(2, struct.pack(">BQIQ", CONTEXT_VERSION, 0x10000, 1, 1)))
+BAD_LENGTH = b"\0\0\0\0"
+
+
+def dots(reply):
+    """The entries of the context at the end of a get's reply, which has one of a single actor: vnode, epoch and counter."""
+    check(len(reply) > CONTEXT_LENGTH and reply[-CONTEXT_LENGTH] == CONTEXT_VERSION, "no context in", reply)
+    return struct.unpack(">QIQ", reply[1 - CONTEXT_LENGTH :])
+
+
+class Node:
+    """A run of `serve` on a free port, with `--until-eof` where it isn't said otherwise. What it logs is read all the time, so that no line waits for room."""
+
+    started = []
+
+    def __init__(self, *options, command=None, before=None, reads_log=True):
+        words = [*(command or [PROGRAM, "serve", "--until-eof", "--port", "0"]), *map(str, options)]
+        self.process = subprocess.Popen(words, stdin=subprocess.PIPE, stdout=subprocess.PIPE, stderr=subprocess.PIPE, preexec_fn=before)
+        Node.started.append(self.process)
+        self.log = []
+        self.reader = threading.Thread(target=lambda: self.log.extend(self.process.stderr), daemon=True)
+        if reads_log:
+            self.reader.start()
+        self.first = self.process.stdout.readline().decode().strip()
+        check(self.first.startswith("listening "), "the node said", repr(self.first), "and not that it listens;", b"".join(self.log))
+        self.port = int(self.first.rpartition(":")[2])
+
+    def connect(self, address="127.0.0.1"):
+        client = socket.create_connection((address, self.port), SECONDS)
+        client.setsockopt(socket.IPPROTO_TCP, socket.TCP_NODELAY, 1)
+        return client
+
+    def memory(self):
+        """How many KiB it holds. The sum of its maps is exact, where that of its status is not."""
+        folder = f"/proc/{self.process.pid}"
+        with open(f"{folder}/smaps_rollup" if os.path.exists(f"{folder}/smaps_rollup") else f"{folder}/status") as lines:
+            return next(int(line.split()[1]) for line in lines if line.startswith(("Rss:", "VmRSS:")))
+
+    def ended(self):
+        """The status and the line of totals, once it has ended by itself."""
+        text = self.process.stdout.read().decode().strip()
+        status = self.process.wait(SECONDS)
+        if self.reader.ident:
+            self.reader.join(SECONDS)
+        return status, text
+
+    def totals(self):
+        """The line of totals, once standard input was closed, and the status was 0."""
+        self.process.stdin.close()
+        status, text = self.ended()
+        check(status == 0, "the node ended with status", status, "and", text)
+        return text
+
+    def logged(self, text):
+        """How many lines of the log have this text."""
+        return sum(text in line for line in list(self.log))
+
+
+def limit(kind, most):
+    """What a node is to do before it starts so that it has no more than so much."""
+    return lambda: resource.setrlimit(kind, (most, most))
+
+
+def read_all(client):
+    """What comes until the connection ends."""
+    pieces = []
+    while piece := client.recv(1 << 18):
+        pieces.append(piece)
+    return b"".join(pieces)
+
+
+def read_exactly(client, length):
+    """So many bytes, or fewer where the connection ended."""
+    data = b""
+    while len(data) < length and (piece := client.recv(length - len(data))):
+        data += piece
+    return data
+
+
+def ask(client, request, reply):
+    """Whether a request has this reply, a frame. The connection stays."""
+    client.sendall(request)
+    return read_exactly(client, len(reply)) == reply
+
+
+def reply_to(client, request):
+    """The body of the reply to a request, its code first, or None where the connection ended before it was whole."""
+    try:
+        client.sendall(request)
+        head = read_exactly(client, 4)
+        body = read_exactly(client, int.from_bytes(head, "big")) if len(head) == 4 else b""
+    except (ConnectionError, BrokenPipeError):
+        return None
+    return body if len(head) == 4 and len(body) == int.from_bytes(head, "big") else None
+
+
+def reset(client):
+    """Ends a connection by a reset."""
+    client.setsockopt(socket.SOL_SOCKET, socket.SO_LINGER, struct.pack("ii", 1, 0))
+    client.close()
+
+
+def until(holds, *said):
+    """Waits until something holds, and ends the case where it doesn't come."""
+    deadline = time.monotonic() + SECONDS
+    while not holds():
+        check(time.monotonic() < deadline, *said, f"within {SECONDS} s")
+        time.sleep(0.05)
+
+
+def run_cases(cases):
+    """Runs each case, prints a line for each and one of totals, and ends the script: with 1 where a case failed. A case returns what its line adds."""
+    began, failed = time.monotonic(), 0
+    for name, case in cases.items():
+        try:
+            told = case()
+            said = f"{told}: as it should be" if told else "as it should be"
+        except Exception as wrong:
+            failed += 1
+            said = f"FAILED: {wrong if isinstance(wrong, Wrong) else repr(wrong)}"
+        finally:
+            for process in Node.started:
+                if process.poll() is None:
+                    process.kill()
+                    process.wait()
+            Node.started.clear()
+        print(f"{name}: {said}", flush=True)
+    script = os.path.basename(sys.argv[0])
+    print(f"{script}: {len(cases)} cases, {failed} failed, {time.monotonic() - began:.0f} s", flush=True)
+    sys.exit(failed > 0)
+
+
+def program_to_try():
+    """The program that the script was given, or the one that was proved and built here; without it the script ends with 1."""
+    here = os.path.dirname(os.path.realpath(sys.argv[0]))
+    program = os.path.realpath(sys.argv[1] if len(sys.argv) > 1 else f"{here}/../crates/riak_node/out/riak_node")
+    if len(sys.argv) > 2 or not os.path.isfile(program) or not os.access(program, os.X_OK):
+        script = os.path.basename(sys.argv[0])
+        sys.exit(f"{script}: {program} is no program: rt ci leaves the node there, and so does scripts/try-client" if len(sys.argv) < 3 else f"{script} [PROGRAM]")
+    return program
+
+
+PROGRAM = program_to_try()
