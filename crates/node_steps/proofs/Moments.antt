@@ -23,7 +23,7 @@ use Rattle.node_steps.specs.Courses.{WasShownThere, GivesShownThere}
 use Rattle.node_steps.specs.Told.{log_by}
 use Rattle.node_steps.specs.Claims.{state_at, RepliesAt, FallbacksTakeCommands}
 use Rattle.node_steps.specs.HandOffs.{HandsOff}
-use Rattle.node_steps.specs.Moments.{LogsGrow, diverted_so, GoesOn, PartitionsGoOn}
+use Rattle.node_steps.specs.Moments.{LogsGrow, with_diversions, GoesOn, PartitionsGoOn}
 use Rattle.node_steps.proofs.Kept.{IsOrderly}
 use Rattle.node_steps.proofs.Scheduled.{orderly}
 use Rattle.node_steps.proofs.FallbackLogs.{fallbacks_take_commands}
@@ -137,7 +137,7 @@ module _ (start : Start) (is : IsStart start) (index : ℕ) (known : index < sta
     goes : RunGoesOn then.0 now.0 then.1 now.1
     goes = runs-later start is index known later earlier gives
 
-    was : HandsOff (diverted_so partition (diversions_of then.0)) start.run (world_after start earlier) index then.0
+    was : HandsOff (with_diversions partition (diversions_of then.0)) start.run (world_after start earlier) index then.0
     was = handed earlier then.0 now.1 (run-opened start.run index (world_after start earlier) then.0 then.1 now.1 (WasShownThere start index earlier) goes.same then.2)
 
     is-now : HandsOff partition start.run (world_after start (later ++ earlier)) index (goes.happened ++ then.0)

@@ -29,18 +29,18 @@ pub record GoesOnSeen (old new : History) : Type 0 where
   pub leaves : (key : Key) (number : ℕ) → IsTrue (is_among (siblings old key) number) → content_of old key number ≢ None
       → IsTrue (is_among (siblings new key) number) ⊎ IsTrue (is_seen_in between key number)
 
--- the partition as it was when it had been diverted so often
-abbrev pub diverted_so : Partition → (diversions : ℕ) → Partition
-diverted_so partition diversions = record partition { diversions = diversions }
+-- the partition with so many diversions: as it was when it had been diverted so often
+abbrev pub with_diversions : Partition → (diversions : ℕ) → Partition
+with_diversions partition diversions = record partition { diversions = diversions }
 
 -- from one moment to a later one a partition's course goes on, and so do its logs
 pub record GoesOn (partition : Partition) (run : ℕ) (old new : World) (index : ℕ) (course happened : Course) : Type 0 where
-  pub was : HandsOff (diverted_so partition (diversions_of course)) run old index course
+  pub was : HandsOff (with_diversions partition (diversions_of course)) run old index course
   pub is : HandsOff partition run new index (happened ++ course)
   pub between : Log
   pub grown : between ++ log_at old index ≡ log_at new index
   -- the siblings at the primary, its own and those that came, are the same by the partition as it is later
-  pub same : (key : Key) → siblings_at (diverted_so partition (diversions_of course)) (log_at old index) key ≡ siblings_at partition (log_at old index) key
+  pub same : (key : Key) → siblings_at (with_diversions partition (diversions_of course)) (log_at old index) key ≡ siblings_at partition (log_at old index) key
   -- a value leaves them, or those at a fallback, only where a write or delete that had seen it was accepted, or brought, in between
   pub leaves : (key : Key) → IsSeenWhereItLeft partition between (log_at old index) key
   pub leaves_there : (n : ℕ) → GoesOnSeen (fallback_of course n) (fallback_of (happened ++ course) n)

@@ -1,3 +1,4 @@
 -- The definitions of this crate.
 pub mod Serving
 pub mod Counting
+pub mod Accepting

@@ -1,5 +1,9 @@
 //! What an error of `accept` says.
 
+ghost use Rattle.std.specs.Prelude.{◌≡◌, ◌≢◌};
+ghost use Rattle.std.specs.IoError.{error_kind, raw_os_error};
+ghost use Rattle.socket_server.specs.Accepting.{fault_of};
+
 use std::io;
 use std::io::ErrorKind;
 
@@ -25,12 +29,11 @@ pub enum AcceptFault {
 }
 
 impl AcceptFault {
-    /// What this error of `accept` says.
-    pub fn of(error: &io::Error) -> AcceptFault {
-        if error.kind() == ErrorKind::WouldBlock {
-            return AcceptFault::NoneWaits;
-        }
-        let Some(number) = error.raw_os_error() else {
+    /// What an error of this number says, if it has one.
+    fn of_number(number: Option<i32>) -> AcceptFault
+        ensures { result ≡ fault_of number }
+    {
+        let Some(number) = number else {
             return AcceptFault::OfListener;
         };
         if OF_RESOURCES.contains(&number) {
@@ -40,5 +43,18 @@ impl AcceptFault {
         } else {
             AcceptFault::OfListener
         }
+    }
+
+    /// What this error of `accept` says.
+    pub fn of(error: &io::Error) -> AcceptFault
+        ensures waits { error_kind error.now ≡ ErrorKind.WouldBlock →
+            result ≡ AcceptFault.NoneWaits }
+        ensures number { error_kind error.now ≢ ErrorKind.WouldBlock →
+            result ≡ fault_of (raw_os_error error.now) }
+    {
+        if error.kind() == ErrorKind::WouldBlock {
+            return AcceptFault::NoneWaits;
+        }
+        AcceptFault::of_number(error.raw_os_error())
     }
 }

@@ -1,5 +1,5 @@
 //! The accepting thread: it hands each connection to the worker that has the fewest.
-ghost use Rattle.std.specs.Prelude.{◌≡◌, ◌<◌, ◌≤◌, Some, true, false, IfOk, IfSome};
+ghost use Rattle.std.specs.Prelude.{◌≡◌, ◌≢◌, ◌<◌, ◌≤◌, Some, true, false, IfOk, IfErr, IfSome};
 
 use crate::accept_fault::AcceptFault;
 use crate::fault::ServerFault;
@@ -11,6 +11,7 @@ use log::{Log, info, warn};
 use std::net::{SocketAddr, TcpListener, TcpStream};
 use std::rt::Clock;
 use std::sync::Wait;
+use std::thread;
 use std::time::Duration;
 
 /// A listener whose connections go to inboxes.
@@ -87,7 +88,8 @@ impl<'a, X: Log + Clock + Wait> Acceptor<'a, X> {
     /// ended it.
     fn accept_waiting(&self, accepted: &mut u64) -> AcceptFault
         requires { IfSome self.now.limit (λ limit. accepted.old ≤ limit) }
-        ensures { IfSome self.now.limit (λ limit. accepted.new ≤ limit) }
+        ensures most { IfSome self.now.limit (λ limit. accepted.new ≤ limit) }
+        ensures passes_over { result ≢ AcceptFault.OfOneConnection }
     {
         for _ in self.rt.forever() {
             if self.is_reached(*accepted) || self.is_stopped() {
@@ -98,10 +100,12 @@ impl<'a, X: Log + Clock + Wait> Acceptor<'a, X> {
                     *accepted = accepted.saturating_add(1);
                     self.place(stream, peer);
                 }
-                Err(error) => match AcceptFault::of(&error) {
-                    AcceptFault::OfOneConnection => {}
-                    fault => return fault,
-                },
+                Err(error) => {
+                    let fault = AcceptFault::of(&error);
+                    if fault != AcceptFault::OfOneConnection {
+                        return fault;
+                    }
+                }
             }
         }
         unreachable!()
@@ -112,18 +116,26 @@ impl<'a, X: Log + Clock + Wait> Acceptor<'a, X> {
         warn!(self.rt; "no descriptor or no memory for a further connection: trying again");
     }
 
+    /// Waits until a connection does, or accepting is stopped, or for as long as this, if it is said. Where the wait fails, for a short time.
+    fn wait(&self, waits: &mut Waits, limit: Option<Duration>) {
+        if waits.poll.poll(&mut waits.events, limit).is_err() {
+            thread::sleep(self.rt, Duration::from_millis(PAUSE_MILLIS));
+        }
+    }
+
     /// Accepts connections until as many were accepted as are to be, or accepting is stopped. Returns how many there were.
     pub(crate) fn accept_all(&self, waits: &mut Waits) -> Result<u64, ServerFault>
         ensures most { IfOk result (λ accepted.
             IfSome self.now.limit (λ limit. accepted ≤ limit)) }
         ensures all { self.now.can_stop ≡ false → IfOk result (λ accepted.
             self.now.limit ≡ Some accepted) }
+        ensures failed { IfErr result (λ fault. fault ≡ ServerFault.AcceptFailed) }
     {
         let mut accepted = 0u64;
         let mut pause = Some(Duration::from_millis(0));
         let mut is_logged = false;
         for _ in self.rt.forever() {
-            let _ = waits.poll.poll(&mut waits.events, pause);
+            self.wait(waits, pause);
             let fault = self.accept_waiting(&mut accepted);
             if self.is_reached(accepted) || self.is_stopped() {
                 return Ok(accepted);

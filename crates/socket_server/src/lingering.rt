@@ -72,9 +72,12 @@ impl Lingering {
 
     /// Shuts down the side to the client, and keeps the socket, from this time on. Where 64 are kept, and where memory is refused, it is closed.
     pub(crate) fn add(&mut self, socket: Socket, now: u64) {
-        if socket.shutdown(Shutdown::Write).is_ok() && self.sockets.len() < MAX_SOCKETS {
+        if socket.shutdown(Shutdown::Write).is_err() || self.sockets.len() >= MAX_SOCKETS {
+            return;
+        }
+        if self.sockets.reserve(1).is_ok() {
             let closes_at = now.saturating_add(LINGER_MILLIS);
-            let _ = self.sockets.push(Lingerer { socket, closes_at });
+            self.sockets.push_reserved(Lingerer { socket, closes_at });
         }
     }
 

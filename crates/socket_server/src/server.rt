@@ -280,8 +280,9 @@ where
     ensures all { until ≡ None → IfOk result (λ outcome.
         settings.connections ≡ Some outcome.connections) }
 {
-    let Ok((mut waits, stop)) = new_accepting(rt, alloc, listener) else {
-        return Err(ServerFault::NoThread);
+    let (mut waits, stop) = match new_accepting(rt, alloc, listener) {
+        Ok(made) => made,
+        Err(error) => return Err(ServerFault::of_setup(&error)),
     };
     let acceptor = Acceptor {
         rt,
@@ -360,6 +361,6 @@ where
             inboxes.as_slice(),
             until,
         ),
-        Err(_) => Err(ServerFault::NoThread),
+        Err(error) => Err(ServerFault::of_setup(&error)),
     }
 }

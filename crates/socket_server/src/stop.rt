@@ -40,7 +40,8 @@ impl Stop {
     /// Raises it, for good. Workers that wait for their last connections to end are told to end them.
     fn raise(&self, inboxes: &[Inbox]) {
         self.is_raised.store(true, Ordering::SeqCst);
-        let _ = self.waker.wake();
+        // the counter behind a waker takes every wake while it is open, as it is for as long as the waker lives
+        let _taken = self.waker.wake();
         if self.has_accepted.load(Ordering::SeqCst) {
             stop_all(inboxes);
         }

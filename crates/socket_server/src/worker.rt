@@ -194,7 +194,6 @@ impl<'a, X: Log + Clock + Wait, N: Node + Drop, S: EndSink> Desk<'a, X, N, S> {
     fn take_turn(&mut self, slot: usize)
         ensures { self.new.jobs.first ≡ self.old.jobs.first }
     {
-        self.seats.clear_mark(slot);
         let Some(peer) = self.seats.peer(slot) else {
             return;
         };
@@ -203,15 +202,15 @@ impl<'a, X: Log + Clock + Wait, N: Node + Drop, S: EndSink> Desk<'a, X, N, S> {
         }
     }
 
-    /// Gives each connection that is ready a turn.
+    /// Gives each connection that is ready a turn. One that is ready again has the next after them.
     fn take_turns(&mut self)
         ensures { self.new.jobs.first ≡ self.old.jobs.first }
     {
-        let batch = self.seats.take_ready(self.alloc);
-        for &slot in batch.as_slice() {
-            self.take_turn(slot);
+        for _ in 0..self.seats.ready() {
+            if let Some(slot) = self.seats.take_ready() {
+                self.take_turn(slot);
+            }
         }
-        self.seats.give_back(batch);
     }
 
     /// Has the connections that would have to wait take a step, in which those that were silent since `closes_before` end.
