@@ -2,3 +2,4 @@
 pub mod Sources
 pub mod Runs
 pub mod Lines
+pub mod Asked

@@ -1,6 +1,8 @@
--- The two lines that a run of connections writes.
+-- The two lines that a run of connections writes, and why it stopped in words.
 use Rattle.std.specs.Prelude.{ℕ, List, codes, decimal, ◌++◌}
 use Rattle.stats_book.specs.declared.totals.Totals.{Totals}
+use Rattle.node_commands.specs.declared.fault.ServeFault.{ServeFault}
+use Rattle.node_commands.specs.declared.fault.ServeFault.TheVariants.{AcceptFailed, NoThread, NoMemory, BookFull}
 
 -- the line of the address
 abbrev pub address_line : ℕ → List ℕ
@@ -17,3 +19,10 @@ others_text t = codes " refusals " ++ decimal t.refusals ++ codes " reaps " ++ d
 -- the line of the totals
 abbrev pub totals_line : Totals → List ℕ
 totals_line t = commands_text t ++ others_text t
+
+-- why serving stopped, in words
+abbrev pub serve_fault_text : ServeFault → List ℕ
+serve_fault_text AcceptFailed = codes "accept failed"
+serve_fault_text NoThread = codes "no thread"
+serve_fault_text NoMemory = codes "no memory"
+serve_fault_text BookFull = codes "book full"

@@ -11,6 +11,10 @@ use Rattle.node_commands.specs.Sources.{IsNewConnection}
 use Rattle.socket_server.specs.Counting.{ServeInHistories}
 use Rattle.stats_book.specs.declared.totals.Totals.{Totals}
 use Rattle.node_server.specs.declared.end.ConnectionEnd.{ConnectionEnd}
+use Rattle.socket_server.specs.declared.fault.ServerFault.{ServerFault}
+use Rattle.socket_server.specs.declared.fault.ServerFault.TheVariants as server
+use Rattle.node_commands.specs.declared.fault.ServeFault.{ServeFault}
+use Rattle.node_commands.specs.declared.fault.ServeFault.TheVariants as serve
 use Rattle.node_commands.specs.declared.serving.Settings.{Settings}
 use Rattle.node_commands.specs.declared.until.UntilSettings.{UntilSettings}
 
@@ -43,3 +47,10 @@ pub record IsServedUntil (settings : UntilSettings) (ends : List (List Connectio
   pub gates : Gates
   pub of_run : IsNewRun settings.ring settings.run settings.sweep gates
   pub served : ServeInHistories gates ends tallies count_all totals
+
+-- the fault of serving for one of its server
+abbrev pub serve_fault_of : ServerFault → ServeFault
+serve_fault_of server.AcceptFailed = serve.AcceptFailed
+serve_fault_of server.NoThread = serve.NoThread
+serve_fault_of server.NoMemory = serve.NoMemory
+serve_fault_of server.BookFull = serve.BookFull

@@ -2,7 +2,7 @@
 //!
 //! [`pipe`] serves one reader to one writer by a node of its own. [`serve_on`] serves the connections of a listener, many at a time, over
 //! the gates of one run (`worker_pool`). [`serve_on_until`] serves as many as come, each as it is ready, until so many have ended or an input ends
-//! (`socket_server`): the program's `serve` is this one.
+//! (`socket_server`). [`serve_as_asked`] does so by the options of a command line: the program's `serve` is this one.
 //!
 //! ```text
 //! pipe(alloc, Ring::new(1)?, 1, 0, &mut reader, &mut writer)      // reader: 00 00 00 01 01, a ping
@@ -25,18 +25,22 @@
 #![tactic(auto)]
 
 mod accept;
+mod asked_serving;
 mod connections;
 mod fault;
 mod gates;
 mod halves;
 mod lines;
+mod options;
 mod serving;
 mod streams;
 mod until;
 
 pub use accept::MAX_ACCEPT_TRIES;
+pub use asked_serving::serve_as_asked;
 pub use fault::ServeFault;
 pub use halves::{ReplyHalf, RequestHalf};
+pub use options::ServingOptions;
 pub use serving::{Served, Settings, serve_on};
 pub use streams::pipe;
 pub use until::{UntilSettings, serve_on_until};

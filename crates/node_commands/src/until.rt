@@ -34,6 +34,11 @@ pub struct UntilSettings {
 }
 
 impl From<ServerFault> for ServeFault {
+    ghost use Rattle.std.specs.Prelude.{◌≡◌};
+    ghost use Rattle.node_commands.specs.Runs.{serve_fault_of};
+
+    ghost from_gives = { λ server fault. fault ≡ serve_fault_of server };
+
     fn from(fault: ServerFault) -> ServeFault {
         match fault {
             ServerFault::AcceptFailed => ServeFault::AcceptFailed,

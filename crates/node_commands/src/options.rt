@@ -1,0 +1,19 @@
+//! What a server is asked for.
+
+ghost use Rattle.std.specs.Prelude.{◌≤◌};
+
+/// How a server is asked to serve, whatever its ring and its listener.
+#[derive(Clone, Copy)]
+pub struct ServingOptions {
+    /// After how many connections no more are accepted, if there is such a number.
+    pub connections: Option<u64>,
+    /// After how many seconds without a byte a connection is closed, if it is.
+    pub idle_seconds: Option<u32>,
+    /// How many threads serve.
+    pub workers: u16,
+    /// The run's number.
+    pub run: u32,
+    /// How many dead keys are forgotten after an answer, at most.
+    pub sweep: u32,
+    ghost some_run: { 1 ≤ run },
+}
