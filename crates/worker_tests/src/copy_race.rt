@@ -142,7 +142,7 @@ fn returns_joined<R: Threads + Wait + Sync>(
     }
     race(rt, alloc, shared, context, &mut puts)
         && copies_all(rt, alloc, shared) == Some(true)
-        && try_finish(rt, alloc, shared) == Some(Finish::Returned)
+        && try_finish(rt, alloc, shared.handoff(), 0) == Some(Finish::Returned)
         && shows_joint(rt, alloc, shared, puts.as_slice(), b'k', GET)
         && shows_joint(rt, alloc, shared, puts.as_slice(), b'j', GET_J)
 }
@@ -155,7 +155,7 @@ fn is_none_lost<R: Threads + Wait + Sync>(rt: &R, alloc: Global) -> bool {
     let Some(context) = put_first(rt, alloc, &shared) else {
         return false;
     };
-    match divert(alloc, shared, 0) {
+    match divert(alloc, shared, 0, 0) {
         Some(shared) => returns_joined(rt, alloc, &shared, context.as_slice()),
         None => false,
     }

@@ -31,7 +31,7 @@ fn set_up<W: Wait>(rt: &W, alloc: Global) -> Option<Shared> {
     if !play(rt, alloc, &shared, &Open, PUTS_P) {
         return None;
     }
-    let shared = divert(alloc, shared, 0)?;
+    let shared = divert(alloc, shared, 0, 0)?;
     if !play(rt, alloc, &shared, &Open, PUTS_F_AND_G) {
         return None;
     }
@@ -61,7 +61,7 @@ enum Call {
 fn comes<W: Wait>(rt: &W, alloc: Global, shared: &Shared, call: Call) -> Option<bool> {
     match call {
         Call::Copy => copies_all(rt, alloc, shared),
-        Call::Finish => match try_finish(rt, alloc, shared) {
+        Call::Finish => match try_finish(rt, alloc, shared.handoff(), 0) {
             Some(Finish::NoMemory) => None,
             finish => Some(finish == Some(Finish::Returned)),
         },

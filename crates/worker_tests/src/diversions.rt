@@ -1,14 +1,14 @@
 //! Sessions over the gates of a run, before and after its partition 0 is diverted. The key k of the bucket b lies in that partition of a
 //! ring of one or of two; b/j in partition 0 of one, in partition 1 of two. The id of the primary of partition 0 is 65,536, that of its
 //! fallback 98,304.
-ghost use Rattle.std.specs.Prelude.{IfSome};
+ghost use Rattle.std.specs.Prelude.{◌≡◌, ◌<◌, ◌^◌, true, IfSome};
 ghost use Rattle.gate_node.specs.Passes.{Sights, ArePassesOf};
 
 use crate::exchanges::{GET_BOTH, NOTHING_ACCEPTED, NOTHING_COUNTED, STORED_TWICE, new_shared};
 use crate::playing::{NEW_SESSION, Session, play_on};
-use crate::returns::{PUTS_F_AND_G, PUTS_P};
+use crate::returns::{PUTS_F_AND_G, PUTS_P, gate_tally};
 use gate_node::{Open, Passes, Shared};
-use handoff::HandoffFault;
+use handoff::{Handoff, HandoffFault};
 use stats_book::Totals;
 use std::alloc::Global;
 use std::process::Abort;
@@ -41,7 +41,7 @@ pub const F_AND_G: &[u8] =
     b"\0\0\0\x01\x0a\0\0\0\x01\x0c\0\0\0\x31\x0a\x0a\x03\x0a\x01f\x12\x29\x02\0\0\0\0\0\x01\0\0\0\0\0\x01\0\0\0\0\0\0\0\x01\0\0\0\0\0\x01\x80\0\0\0\0\x01\0\0\0\0\0\0\0\x01\0\0\0\x01\x0c\0\0\0\x1d\x0a\x0a\x03\x0a\x01g\x12\x15\x02\0\0\0\0\0\x01\x80\0\0\0\0\x02\0\0\0\0\0\0\0\x01";
 
 /// Puts of "p" on b/k and of "u" on b/j.
-const PUT_P_AND_U: &[u8] =
+pub const PUT_P_AND_U: &[u8] =
     b"\0\0\0\x0c\x0b\x0a\x01b\x12\x01k\x22\x03\x0a\x01p\0\0\0\x0c\x0b\x0a\x01b\x12\x01j\x22\x03\x0a\x01u";
 
 /// Nothing; "u", with the first dot of the vnode 65,537.
@@ -49,14 +49,14 @@ const NOTHING_U: &[u8] =
     b"\0\0\0\x01\x0a\0\0\0\x1d\x0a\x0a\x03\x0a\x01u\x12\x15\x02\0\0\0\0\0\x01\0\x01\0\0\0\x01\0\0\0\0\0\0\0\x01";
 
 /// A put of "f" on b/k and a delete of it.
-const PUT_DELETE: &[u8] =
+pub const PUT_DELETE: &[u8] =
     b"\0\0\0\x0c\x0b\x0a\x01b\x12\x01k\x22\x03\x0a\x01f\0\0\0\x07\x0d\x0a\x01b\x12\x01k";
 
 /// Stored; deleted.
-const STORED_DELETED: &[u8] = b"\0\0\0\x01\x0c\0\0\0\x01\x0e";
+pub const STORED_DELETED: &[u8] = b"\0\0\0\x01\x0c\0\0\0\x01\x0e";
 
 /// What the primary has accepted of the session before.
-const ONE_WRITE: Tally = Tally {
+pub const ONE_WRITE: Tally = Tally {
     writes: 1,
     ..NOTHING_ACCEPTED
 };
@@ -113,18 +113,28 @@ const DIVERSIONS: &[Diversion] = &[
     },
 ];
 
-/// The gates with partition 0 diverted, which can't be diverted again; they have the passes that they had. None where memory is refused,
-/// or the second diversion isn't.
-pub fn divert(alloc: Global, shared: Shared, budget: u32) -> Option<Shared>
+/// Whether a run has a partition of this index.
+pub fn has_partition(handoff: &Handoff, index: u16) -> bool
+    ensures { result ≡ true → index < 2 ^ handoff.now.index_bits }
+{
+    usize::from(index) < handoff.gates().len()
+}
+
+/// The gates with the partition at this index diverted, which can't be diverted again; they have the passes that they had. None where memory
+/// is refused, or there is no such partition, or the second diversion isn't refused.
+pub fn divert(alloc: Global, shared: Shared, index: u16, budget: u32) -> Option<Shared>
     ensures { IfSome result (λ diverted.
         (passes : Sights) → ArePassesOf shared passes → ArePassesOf diverted passes) }
 {
     let mut handoff = shared.into_handoff();
-    match handoff.divert(alloc, 0) {
+    if !has_partition(&handoff, index) {
+        return None;
+    }
+    match handoff.divert(alloc, index) {
         Ok(()) => {}
         Err(_) => return None,
     }
-    match handoff.divert(alloc, 0) {
+    match handoff.divert(alloc, index) {
         Err(HandoffFault::AlreadyDiverted) => Some(Shared::over(handoff, budget, 100)),
         _ => None,
     }
@@ -132,15 +142,7 @@ pub fn divert(alloc: Global, shared: Shared, budget: u32) -> Option<Shared>
 
 /// What the primary of partition 0 has accepted.
 fn first_tally<W: Wait>(rt: &W, shared: &Shared) -> Option<Tally> {
-    let gate = shared.gates().first()?;
-    let mut pass = gate.pass();
-    let right = gate.read(rt);
-    let tally = match right.look(&mut pass) {
-        Ok(vnode) => Some(vnode.tally()),
-        Err(_) => None,
-    };
-    right.release();
-    tally
+    gate_tally(rt, shared.gates().first()?)
 }
 
 /// Whether the second session of a row, by these passes, comes to what it says, and the primary has accepted what it says.
@@ -170,7 +172,7 @@ fn play_both<W: Wait>(
     let Some(passes) = play_on(rt, alloc, &shared, &Open, row.before, passes) else {
         return false;
     };
-    match divert(alloc, shared, row.budget) {
+    match divert(alloc, shared, 0, row.budget) {
         Some(shared) => play_after(rt, alloc, &shared, row, passes),
         None => false,
     }

@@ -21,6 +21,8 @@ mod jobs;
 #[cfg(test)]
 mod playing;
 #[cfg(test)]
+mod return_race;
+#[cfg(test)]
 mod returns;
 #[cfg(test)]
 mod serving;

@@ -1,6 +1,7 @@
-//! Two gets of one key are inside at once.
-use crate::exchanges::{GET, NOTHING, NOTHING_ACCEPTED, NOTHING_COUNTED};
-use crate::workers::runs::{Run, play_anew};
+//! Two gets of one key are inside at once: inside its primary, and inside the fallback of its partition.
+use crate::diversions::divert;
+use crate::exchanges::{GET, NOTHING, NOTHING_ACCEPTED, NOTHING_COUNTED, new_shared};
+use crate::workers::runs::{Run, play_over};
 use crate::workers::script::Line;
 use node_session::Ended;
 use stats_book::Totals;
@@ -11,7 +12,7 @@ use std::sync::atomic::{AtomicU64, Ordering};
 use std::test::*;
 use std::thread;
 use std::thread::Threads;
-use worker_pool::Turnstile;
+use worker_pool::{Shared, Turnstile};
 
 /// How many turns the first call waits at most.
 const TURNS: u32 = 10_000_000;
@@ -62,19 +63,38 @@ const TWO_GETS: Run = Run {
     accepted: NOTHING_ACCEPTED,
 };
 
-/// Whether the second get was answered while the first was inside.
-fn meet<X: Threads + Wait + Sync>(rt: &X, alloc: Global) -> bool {
+/// Whether the second get over these gates was answered while the first was inside.
+fn meet<X: Threads + Wait + Sync>(rt: &X, alloc: Global, shared: &Shared) -> bool {
     let writes = AtomicU64::new(0);
     let met = AtomicU64::new(0);
     let turnstile = Holding {
         writes: &writes,
         met: &met,
     };
-    let is_well = play_anew(rt, alloc, &writes, &turnstile, &TWO_GETS);
+    let is_well = play_over(rt, alloc, shared, &writes, &turnstile, &TWO_GETS);
     is_well && met.load(Ordering::SeqCst) == 1
+}
+
+/// The same over new gates, whose partition is diverted or not.
+fn meet_anew<X: Threads + Wait + Sync>(rt: &X, alloc: Global, is_diverted: bool) -> bool {
+    let Some(shared) = new_shared(alloc, 1, 0) else {
+        return false;
+    };
+    if !is_diverted {
+        return meet(rt, alloc, &shared);
+    }
+    match divert(alloc, shared, 0, 0) {
+        Some(shared) => meet(rt, alloc, &shared),
+        None => false,
+    }
 }
 
 #[test]
 fn two_readers_inside(rt: HostRuntime) {
-    assert!(rt; meet(&rt, rt.alloc()));
+    assert!(rt; meet_anew(&rt, rt.alloc(), false));
+}
+
+#[test]
+fn two_readers_inside_a_fallback(rt: HostRuntime) {
+    assert!(rt; meet_anew(&rt, rt.alloc(), true));
 }

@@ -171,7 +171,7 @@ fn is_closed(closed: &Closed<Input, Output<'_>>, run: &Run) -> bool {
 }
 
 /// Whether a run over these gates, through a turnstile, comes to what it says. The replies are counted as they are written.
-fn play_over<X: Threads + Wait + Sync, T: Turnstile + Sync>(
+pub fn play_over<X: Threads + Wait + Sync, T: Turnstile + Sync>(
     rt: &X,
     alloc: Global,
     shared: &Shared,

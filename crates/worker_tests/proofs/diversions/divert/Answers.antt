@@ -9,6 +9,6 @@ returns-in-Err-AlreadyDiverted c =
     let old = c.args.shared in
     let new = c.over.result in
     let is = c.over.ensures.handoff ∙ c.in-Err-AlreadyDiverted.ensures.err in
-    let diverted = subst (λ (h : HandoffView). IsDiverted 0 (handoff_of old) h) (sym is)
-    (subst (λ (h : HandoffView). IsDiverted 0 h c.divert.new.self) c.into_handoff-handoff.ensures c.in-Ok.ensures.ok) in
-    λ passes are. outlive_diversion 0 old new passes diverted are
+    let diverted = subst (λ (h : HandoffView). IsDiverted c.args.index (handoff_of old) h) (sym is)
+    (subst (λ (h : HandoffView). IsDiverted c.args.index h c.divert.new.self) c.into_handoff-handoff.ensures c.in-Ok.ensures.ok) in
+    λ passes are. outlive_diversion c.args.index old new passes diverted are
