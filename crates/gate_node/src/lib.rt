@@ -43,7 +43,7 @@
 //!
 //! What it costs: a request waits while another thread has its vnode's state in hand, and while another counts. What is
 //! answered lies between the taking and the giving back of a right, and so a get copies its reply while other readers may
-//! be in. Memory is taken by the vnode alone, and by `Shared::new`, `Passes::new` and `tallies_of`. Where nothing is diverted a request looks at one
+//! be in. Memory is taken by the vnode, by what a thread keeps back ([`Reserve`]), and by `Shared::new`, `Passes::new` and `tallies_of`. Where nothing is diverted a request looks at one
 //! word more, whether its partition has a fallback, and a caller's passes have a place for the pass of each partition's fallback. After
 //! the end of a diversion a caller takes a right at the closed fallback once, and one at the primary to see that the copies are there,
 //! where it hadn't seen as many events; later requests compare two numbers and are answered as where nothing was diverted.
@@ -72,7 +72,7 @@ pub use laws::{
 };
 pub use node::GateNode;
 pub use passes::{HasPasses, Passes};
-pub use reserve::{Reserve, ReserveOf};
+pub use reserve::Reserve;
 pub use shared::Shared;
 pub use tallies::{RunTallies, tallies_of};
 pub use turnstile::{Open, Turnstile};

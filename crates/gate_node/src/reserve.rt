@@ -102,14 +102,14 @@ impl Reserve {
 
 /// A thread's reserve, if it has one, and how many threads of the run have given theirs up and not made it again.
 #[derive(Clone, Copy, Drop)]
-pub struct ReserveOf<'a> {
+pub(crate) struct ReserveOf<'a> {
     pub(crate) reserve: Option<&'a Reserve>,
     pub(crate) given_up: &'a AtomicUsize,
 }
 
 impl<'a> ReserveOf<'a> {
     /// Gives the reserve up. False where the thread has none.
-    pub fn give_up(&self, alloc: Global) -> bool {
+    pub(crate) fn give_up(&self, alloc: Global) -> bool {
         let Some(reserve) = self.reserve else {
             return false;
         };
@@ -132,7 +132,7 @@ impl<'a> ReserveOf<'a> {
     }
 
     /// Whether all of it is there, or could be made again; also where the thread has none.
-    pub fn is_whole(&self, alloc: Global) -> bool {
+    pub(crate) fn is_whole(&self, alloc: Global) -> bool {
         match self.reserve {
             Some(reserve) => reserve.pages.get() == PAGES || self.refill(alloc, reserve),
             None => true,

@@ -113,7 +113,7 @@ impl Shared {
     }
 
     /// What a thread keeps back, as it is asked for.
-    pub fn reserve<'a>(&'a self, reserve: Option<&'a Reserve>) -> ReserveOf<'a> {
+    pub(crate) fn reserve<'a>(&'a self, reserve: Option<&'a Reserve>) -> ReserveOf<'a> {
         ReserveOf {
             reserve,
             given_up: &self.given_up,
