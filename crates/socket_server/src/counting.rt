@@ -71,9 +71,9 @@ where
     ensures { result.1.book_full ≡ false →
         WorkerCounts GateNodeStep shared.now (S.given result.1.sink) result.1.passes result.0 }
 {
-    let reserve = Reserve::new(alloc);
-    let node = GateNode::new(rt, shared, book, share, passes, &Open).with_reserve(reserve);
-    let (node, sink) = attend(rt, alloc, node, sink, waits, inbox, idle_seconds);
+    let node = GateNode::new(rt, shared, book, share, passes, &Open);
+    let kept = node.with_reserve(Reserve::new(alloc));
+    let (node, sink) = attend(rt, alloc, kept, sink, waits, inbox, idle_seconds);
     let (share, passes, book_full) = node.parts();
     (
         share,
