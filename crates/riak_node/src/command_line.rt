@@ -1,79 +1,11 @@
 //! The command line.
 
-ghost use Rattle.std.specs.Prelude.{◌≤◌};
-
+use crate::option_values::command_of;
 use crate::options;
+use crate::subcommand::Subcommand;
 use clap::error::ErrorKind;
 use clap::{ArgMatches, Error};
 use std::alloc::{AllocError, Global};
-use std::net::{IpAddr, Ipv4Addr};
-
-/// What the program is to do.
-#[derive(Clone, Copy)]
-pub enum Subcommand {
-    /// Serve standard input to standard output.
-    Pipe(PipeOptions),
-    /// Serve connections.
-    Serve(ServeOptions),
-    /// Play a schedule from standard input.
-    Steps(StepsOptions),
-}
-
-/// How a session over the standard streams is served.
-#[derive(Clone, Copy)]
-pub struct PipeOptions {
-    /// How many partitions are asked for.
-    pub ring: u16,
-    /// The run's number.
-    pub run: u32,
-    /// How many dead keys are forgotten after an answer, at most.
-    pub sweep: u32,
-    ghost some: { 1 ≤ run },
-}
-
-/// How connections are served.
-#[derive(Clone, Copy)]
-pub struct ServeOptions {
-    /// The address that is listened on; None where what was given is none.
-    pub address: Option<IpAddr>,
-    /// How many connections are served, if there is such a number.
-    pub connections: Option<u64>,
-    /// After how many seconds without a byte a connection is closed, if it is.
-    pub idle_seconds: Option<u32>,
-    /// Whether serving ends at the end of standard input.
-    pub until_eof: bool,
-    /// How the vnodes are served.
-    pub threads: ThreadOptions,
-}
-
-/// How a node serves by threads.
-#[derive(Clone, Copy)]
-pub struct ThreadOptions {
-    /// The port that is listened on; with 0 a free one.
-    pub port: u16,
-    /// How many threads serve.
-    pub workers: u16,
-    /// How many partitions are asked for.
-    pub ring: u16,
-    /// The run's number.
-    pub run: u32,
-    /// How many dead keys are forgotten after an answer, at most.
-    pub sweep: u32,
-    ghost some_run: { 1 ≤ run },
-    ghost some_worker: { 1 ≤ workers },
-    ghost few_workers: { workers ≤ 64 },
-}
-
-/// How a schedule is played.
-#[derive(Clone, Copy)]
-pub struct StepsOptions {
-    /// How many workers take steps.
-    pub workers: u16,
-    /// How many partitions are asked for.
-    pub ring: u16,
-    /// The run's number.
-    pub run: u32,
-}
 
 /// The command that serves standard input.
 fn pipe<'a>(alloc: Global) -> Result<clap::Command<'a>, AllocError> {
@@ -172,73 +104,6 @@ fn program<'a>(alloc: Global) -> Result<clap::Command<'a>, AllocError> {
     let program = with_command(bare_program(alloc), serve(alloc))?;
     let program = with_command(program, pipe(alloc))?;
     with_command(program, steps(alloc))
-}
-
-/// The options of `pipe`. Each has a value, since `clap` puts in the defaults, and a run of 0 was refused.
-fn pipe_options(found: &ArgMatches<'_>) -> PipeOptions {
-    PipeOptions {
-        ring: found.get_one::<u16>("ring").unwrap_or(1),
-        run: found.get_one::<u32>("run").unwrap_or(1).max(1),
-        sweep: found.get_one::<u32>("sweep").unwrap_or(0),
-    }
-}
-
-/// How threads serve. Each option has a value, since `clap` puts in the defaults, and numbers out of their ranges were refused.
-fn thread_options(found: &ArgMatches<'_>) -> ThreadOptions {
-    ThreadOptions {
-        port: found.get_one::<u16>("port").unwrap_or(8087),
-        workers: found.get_one::<u16>("workers").unwrap_or(4).max(1).min(64),
-        ring: found.get_one::<u16>("ring").unwrap_or(64),
-        run: found.get_one::<u32>("run").unwrap_or(1).max(1),
-        sweep: found.get_one::<u32>("sweep").unwrap_or(0),
-    }
-}
-
-/// The address that was given, or that of this machine to itself where none was; None where what was given is none.
-fn address(found: &ArgMatches<'_>) -> Option<IpAddr> {
-    if found.contains_id("address") {
-        found.get_one::<IpAddr>("address")
-    } else {
-        Some(IpAddr::V4(Ipv4Addr::LOCALHOST))
-    }
-}
-
-/// After how many connections serving ends, if it does.
-fn connections(found: &ArgMatches<'_>) -> Option<u64> {
-    match found.get_one::<u16>("connections") {
-        Some(connections) => Some(u64::from(connections)),
-        None => None,
-    }
-}
-
-/// The options of `serve`.
-fn serve_options(found: &ArgMatches<'_>) -> ServeOptions {
-    ServeOptions {
-        address: address(found),
-        connections: connections(found),
-        idle_seconds: found.get_one::<u32>("idle"),
-        until_eof: found.get_flag("until-eof"),
-        threads: thread_options(found),
-    }
-}
-
-/// The options of `steps`. Each has a value, since `clap` puts in the defaults.
-fn steps_options(found: &ArgMatches<'_>) -> StepsOptions {
-    StepsOptions {
-        workers: found.get_one::<u16>("workers").unwrap_or(2),
-        ring: found.get_one::<u16>("ring").unwrap_or(1),
-        run: found.get_one::<u32>("run").unwrap_or(1),
-    }
-}
-
-/// The command that was found, if there is one.
-fn command_of(matches: &ArgMatches<'_>) -> Option<Subcommand> {
-    match matches.subcommand() {
-        Some(("pipe", found)) => Some(Subcommand::Pipe(pipe_options(found))),
-        Some(("serve", found)) => Some(Subcommand::Serve(serve_options(found))),
-        Some(("steps", found)) => Some(Subcommand::Steps(steps_options(found))),
-        _ => None,
-    }
 }
 
 /// The error for arguments without a command. `clap` has refused such by itself.

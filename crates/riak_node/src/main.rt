@@ -13,25 +13,37 @@
 //! ```
 //!
 //! Each ends with status 0 at the end of its input, or of its last connection, with 1 and one line on standard error where it had to stop before, and with 2 where the command line is
-//! none of its own. A signal ends `serve` at once.
+//! none of its own. Where that line can't be written the status is the same. A signal ends `serve` at once.
+//!
+//! Each option is read by its name (`specs/Options`), each command is what its options ask for, and each line and status is of one table
+//! (`specs/Conclusions`). What `clap` takes as an option and puts in for one that isn't given, no clause says. Nothing is read or opened
+//! before the command line and the ring were found good.
 #![tactic(auto)]
 
+ghost use Rattle.std.specs.Prelude.{◌≡◌, is_some};
+ghost use Rattle.std.specs.Process.{exit_status};
+ghost use Rattle.riak_node.specs.Conclusions.{status_of};
+
 mod command_line;
+mod commands;
+mod conclusion;
 mod drained_console;
 mod log_time;
+mod option_values;
 mod options;
+mod subcommand;
 mod watch;
 mod watched_input;
 
 use clap::error::ErrorKind;
-use command_line::{PipeOptions, ServeOptions, StepsOptions, Subcommand};
+use commands::{pipe_as_asked, place_of, ring_of, steps_as_asked};
+use conclusion::Conclusion;
 use drained_console::DrainedConsole;
 use log::{Level, Log, Logged, warn};
-use node_commands::{ServeFault, UntilSettings, pipe, serve_on_until};
-use node_session::{Ended, SessionFault, exit_status, write_fault};
+use node_commands::serve_as_asked;
+use node_session::SessionFault;
 use ring_map::Ring;
-use schedule_player::{StepsFault, steps_on};
-use socket_server::log_sinks;
+use schedule_player::StepsFault;
 use std::alloc::Global;
 use std::io;
 use std::io::{BufWriter, Read, Write};
@@ -41,48 +53,41 @@ use std::process::ExitCode;
 use std::rt::Clock;
 use std::sync::Wait;
 use std::thread::Threads;
+use subcommand::{PipeOptions, ServeOptions, StepsOptions, Subcommand};
 use watch::STANDARD_ERROR;
 use watched_input::WatchedInput;
 
-/// One line on standard error for a fault of a session, or for the bytes that its input has behind the last whole frame, and the status.
-fn end(rt: &HostRuntime, outcome: Result<Ended, SessionFault>) -> io::Result<ExitCode> {
-    match outcome {
-        Ok(Ended { rest: 0, .. }) => {}
-        Ok(Ended { replies, rest }) => {
-            eprintln!(rt; "riak_node: {rest} bytes of a frame are left after {replies} replies")?;
-        }
-        Err(fault) => write_fault(&mut rt.stderr(), fault)?,
-    }
-    Ok(ExitCode::from(exit_status(outcome)))
+/// Writes the line that a command ends with on standard error, and returns its status, which is the same where the line can't be written.
+fn conclude(rt: &HostRuntime, conclusion: Conclusion) -> ExitCode
+    ensures { exit_status result ≡ status_of conclusion }
+{
+    let _unheard = conclusion.write_line(&mut rt.stderr());
+    ExitCode::from(conclusion.status())
 }
 
-/// What `clap` has to say of a command line, and the status.
+/// What `clap` has to say of a command line, and the status. Help that can't be written is an error of the writer; a mistake has its status
+/// whether or not its text can be.
 fn tell(rt: &HostRuntime, error: clap::Error) -> io::Result<ExitCode> {
     if error.kind() == ErrorKind::OutOfMemory {
-        return end(rt, Err(SessionFault::NoMemory(0)));
+        return Ok(conclude(rt, Conclusion::Piped(Err(SessionFault::NoMemory(0)))));
     }
-    error.print(rt)?;
-    Ok(ExitCode::from(error.exit_code() as u8))
-}
-
-/// What is to be said of a ring that there isn't, and the status.
-fn tell_no_ring<R: Eprint>(rt: &R) -> io::Result<ExitCode> {
-    eprintln!(rt; "riak_node: ring must be a power of two from 1 to 1024")?;
-    Ok(ExitCode::from(2))
+    let status = error.exit_code() as u8;
+    let written = error.print(rt);
+    if status == 0 {
+        written?;
+    }
+    Ok(ExitCode::from(status))
 }
 
 /// Serves standard input to standard output, by a ring of the asked size if there is one.
-fn serve_streams(rt: &HostRuntime, options: PipeOptions) -> io::Result<ExitCode> {
-    let Some(ring) = Ring::new(options.ring) else {
-        return tell_no_ring(rt);
+fn serve_streams(rt: &HostRuntime, options: PipeOptions) -> Conclusion {
+    let ring = match ring_of(options.ring) {
+        Ok(ring) => ring,
+        Err(end) => return end,
     };
     let mut input = rt.stdin();
     let mut output = rt.stdout();
-    let PipeOptions { run, sweep, .. } = options;
-    end(
-        rt,
-        pipe(rt.alloc(), ring, run, sweep, &mut input, &mut output),
-    )
+    Conclusion::Piped(pipe_as_asked(rt.alloc(), ring, options, &mut input, &mut output))
 }
 
 /// A listener on this address and port. None where there is none, and where a standard stream was closed before the program began: sockets
@@ -106,115 +111,76 @@ fn listen<R: Log + Net<Listener = TcpListener, Stream = TcpStream>>(
     Some(listener)
 }
 
-/// The status after serving, with one line on standard error where it had to stop before its end.
-fn end_serving<R: Eprint>(rt: &R, stopped: Option<ServeFault>) -> io::Result<ExitCode> {
-    match stopped {
-        None => Ok(ExitCode::SUCCESS),
-        Some(fault) => {
-            eprintln!(rt; "riak_node: {fault}")?;
-            Ok(ExitCode::from(1))
-        }
-    }
-}
-
-/// What is to be said where there is no listener, and the status.
-fn tell_cannot_listen<R: Eprint>(rt: &R) -> io::Result<ExitCode> {
-    eprintln!(rt; "riak_node: cannot listen")?;
-    Ok(ExitCode::from(1))
-}
-
 /// What ends serving before its last connection: the end of standard input, where that is asked for.
 fn input_of<R: Net, I: Drop>(
     net: &R,
     alloc: Global,
-    options: ServeOptions,
+    until_eof: bool,
     input: I,
-) -> Option<WatchedInput<I>> {
-    if options.until_eof {
+) -> Option<WatchedInput<I>>
+    ensures { is_some result ≡ until_eof }
+{
+    if until_eof {
         Some(WatchedInput::new(net, alloc, input))
     } else {
         None
     }
 }
 
-/// Serves the connections that come, by a ring of the asked size if there is one, until as many have ended as are to be served, or the input
-/// ends, where that is asked for.
+/// Serves the connections that come to this address and port, on this ring, until as many have ended as are asked for, or the input ends,
+/// where that is asked for.
 fn serve_all<R, W, I>(
     rt: &R,
     alloc: Global,
+    ring: Ring,
+    address: IpAddr,
     options: ServeOptions,
     input: I,
     output: &mut W,
-) -> io::Result<ExitCode>
+) -> Conclusion
 where
-    R: Log
-        + Clock
-        + Eprint
-        + Net<Listener = TcpListener, Stream = TcpStream>
-        + Threads
-        + Wait
-        + Sync,
+    R: Log + Clock + Net<Listener = TcpListener, Stream = TcpStream> + Threads + Wait + Sync,
     W: Write,
     I: Read + Send + Drop,
 {
-    let threads = options.threads;
-    let Some(ring) = Ring::new(threads.ring) else {
-        return tell_no_ring(rt);
+    let Some(listener) = listen(rt, address, options.port) else {
+        return Conclusion::CannotListen;
     };
-    let Some(address) = options.address else {
-        eprintln!(rt; "riak_node: address must be an IP address, as 127.0.0.1")?;
-        return Ok(ExitCode::from(2));
-    };
-    let Some(listener) = listen(rt, address, threads.port) else {
-        return tell_cannot_listen(rt);
-    };
-    let Ok(sinks) = log_sinks(alloc, threads.workers) else {
-        return end_serving(rt, Some(ServeFault::NoMemory));
-    };
-    let settings = UntilSettings {
-        connections: options.connections,
-        ring,
-        run: threads.run,
-        sweep: threads.sweep,
-        idle_seconds: options.idle_seconds,
-    };
-    let until = input_of(rt, alloc, options, input);
-    let outcome = serve_on_until(rt, alloc, listener, &settings, sinks, until, output);
-    end_serving(rt, outcome.err())
-}
-
-/// Why a schedule wasn't played to its end, and the status.
-fn tell_steps_fault(rt: &HostRuntime, fault: StepsFault) -> io::Result<ExitCode> {
-    eprintln!(rt; "riak_node: {fault}")?;
-    Ok(ExitCode::from(1))
+    let until = input_of(rt, alloc, options.until_eof, input);
+    match serve_as_asked(rt, alloc, listener, ring, options.serving, until, output) {
+        Ok(_) => Conclusion::Served(Ok(())),
+        Err(fault) => Conclusion::Served(Err(fault)),
+    }
 }
 
 /// Plays a schedule from standard input to standard output, by a ring of the asked size if there is one.
-fn play_steps(rt: &HostRuntime, options: StepsOptions) -> io::Result<ExitCode> {
-    let Some(ring) = Ring::new(options.ring) else {
-        return tell_no_ring(rt);
+fn play_steps(rt: &HostRuntime, options: StepsOptions) -> Conclusion {
+    let ring = match ring_of(options.ring) {
+        Ok(ring) => ring,
+        Err(end) => return end,
     };
-    let StepsOptions { workers, run, .. } = options;
     let mut input = rt.stdin();
     let Ok(mut output) = BufWriter::new(rt.alloc(), rt.stdout()) else {
-        return tell_steps_fault(rt, StepsFault::NoMemory);
+        return Conclusion::Played(Err(StepsFault::NoMemory));
     };
-    match steps_on(rt.alloc(), &mut input, &mut output, workers, ring, run) {
-        Ok(()) => Ok(ExitCode::SUCCESS),
-        Err(fault) => tell_steps_fault(rt, fault),
-    }
+    Conclusion::Played(steps_as_asked(rt.alloc(), ring, options, &mut input, &mut output))
 }
 
 fn main(rt: HostRuntime) -> io::Result<ExitCode> {
     let alloc = rt.alloc();
     let args: Vec<String> = std::env::args(&rt)?.collect(alloc)?;
-    match command_line::read(alloc, args.as_slice()) {
+    let conclusion = match command_line::read(alloc, args.as_slice()) {
         Ok(Subcommand::Pipe(options)) => serve_streams(&rt, options),
         Ok(Subcommand::Steps(options)) => play_steps(&rt, options),
-        Ok(Subcommand::Serve(options)) => {
-            let logged = Logged::new(rt, Level::Info, DrainedConsole::new(rt, alloc));
-            serve_all(&logged, alloc, options, rt.stdin(), &mut rt.stdout())
-        }
-        Err(error) => tell(&rt, error),
-    }
+        Ok(Subcommand::Serve(options)) => match place_of(options) {
+            Ok((ring, address)) => {
+                let logged = Logged::new(rt, Level::Info, DrainedConsole::new(rt, alloc));
+                let (input, mut output) = (rt.stdin(), rt.stdout());
+                serve_all(&logged, alloc, ring, address, options, input, &mut output)
+            }
+            Err(end) => end,
+        },
+        Err(error) => return tell(&rt, error),
+    };
+    Ok(conclude(&rt, conclusion))
 }
