@@ -362,13 +362,21 @@ fn are_taken<S: Kept, Q: Request<S, S::Ask, S::Reply, S::Refusal>, V: View<S>>(
     are_so
 }
 
+/// A gate round a state, made once more where memory was refused.
+fn new_gate<S: Kept>(alloc: Global, state: S) -> Result<Gate<S>, S> {
+    match Gate::new(alloc, state) {
+        Ok(gate) => Ok(gate),
+        Err(state) => Gate::new(alloc, state),
+    }
+}
+
 /// Whether each step at a gate round a state is as it says.
 pub(crate) fn plays<S: Kept, Q: Request<S, S::Ask, S::Reply, S::Refusal>, V: View<S>>(
     alloc: Global,
     state: S,
     steps: &[Step<Q, V>],
 ) -> bool {
-    match Gate::new(alloc, state) {
+    match new_gate(alloc, state) {
         Ok(gate) => are_taken(&gate, alloc, steps),
         Err(_) => false,
     }
