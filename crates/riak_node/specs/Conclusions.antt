@@ -19,10 +19,14 @@ steps_fault_line ReadFailed = error_line (codes "read failed")
 steps_fault_line WriteFailed = error_line (codes "write failed")
 steps_fault_line NoMemory = error_line (codes "no memory")
 
--- the line for the bytes that an input has behind its last whole frame, where it has some
+-- the line for so many bytes behind the last whole frame of an input, after so many replies
+abbrev pub left_line : ℕ → ℕ → List ℕ
+left_line rest replies =
+    codes "riak_node: " ++ (decimal rest ++ (codes " bytes of a frame are left after " ++ (decimal replies ++ codes " replies\n")))
+
+-- that line where there are such bytes
 abbrev pub rest_line : Ended → List ℕ
-rest_line ended =
-    if ended.rest == 0 then [] else codes "riak_node: " ++ decimal ended.rest ++ codes " bytes of a frame are left after " ++ decimal ended.replies ++ codes " replies\n"
+rest_line ended = if ended.rest == 0 then [] else left_line ended.rest ended.replies
 
 -- what is written on standard error
 abbrev pub line_of : Conclusion → List ℕ

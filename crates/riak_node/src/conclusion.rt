@@ -2,7 +2,7 @@
 
 ghost use Rattle.std.specs.Prelude.{◌≡◌, OnOk};
 ghost use Rattle.std.specs.Io.KnownBytes.{Appends};
-ghost use Rattle.riak_node.specs.Conclusions.{error_line, line_of, rest_line, status_of, steps_fault_line};
+ghost use Rattle.riak_node.specs.Conclusions.{error_line, left_line, line_of, rest_line, status_of, steps_fault_line};
 
 use node_commands::ServeFault;
 use node_session::{Ended, SessionFault, exit_status, write_fault};
@@ -35,19 +35,26 @@ fn write_error<W: Write>(writer: &mut W, text: &str) -> io::Result<()>
     writeln!(writer, "riak_node: {text}")
 }
 
-/// Writes the line for the bytes that an input has behind its last whole frame, where it has some.
-fn write_rest<W: Write>(writer: &mut W, ended: Ended) -> io::Result<()>
+/// Writes the line for so many bytes behind the last whole frame of an input.
+fn write_left<W: Write>(writer: &mut W, rest: usize, replies: u64) -> io::Result<()>
     ensures { OnOk result
-        (Appends (W.contents writer.old) (W.contents writer.new) (rest_line ended)) }
+        (Appends (W.contents writer.old) (W.contents writer.new) (left_line rest replies)) }
 {
-    let Ended { replies, rest } = ended;
-    if rest == 0 {
-        return Ok(());
-    }
     writeln!(
         writer,
         "riak_node: {rest} bytes of a frame are left after {replies} replies"
     )
+}
+
+/// Writes that line where there are such bytes.
+fn write_rest<W: Write>(writer: &mut W, ended: Ended) -> io::Result<()>
+    ensures { OnOk result
+        (Appends (W.contents writer.old) (W.contents writer.new) (rest_line ended)) }
+{
+    if ended.rest == 0 {
+        return Ok(());
+    }
+    write_left(writer, ended.rest, ended.replies)
 }
 
 /// Writes the line for a schedule that wasn't played to its end.
