@@ -106,7 +106,7 @@ fn take_turn(
     match connection.input() {
         Input::Open => match connection.answer(alloc, node) {
             Ok(Next::Idle) => {
-                connection.read(piece);
+                connection.read(alloc, &*node, piece);
             }
             Ok(Next::Full) => full.set(full.get().saturating_add(1)),
             Ok(Next::Answered) => {}
