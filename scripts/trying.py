@@ -4,6 +4,7 @@ No case looks at how fast anything is: SECONDS bounds only how long a case waits
 """
 import os
 import resource
+import signal
 import socket
 import struct
 import subprocess
@@ -12,6 +13,10 @@ import threading
 import time
 
 SECONDS = 120
+# A signal that is passed over where a script begins, as of a job in the background, would be by the nodes that it starts, too.
+signal.signal(signal.SIGINT, signal.default_int_handler)
+for number in (signal.SIGHUP, signal.SIGQUIT, signal.SIGTERM):
+    signal.signal(number, signal.SIG_DFL)
 ERROR, PING_CODE, GET_CODE, GOT, PUT_CODE, STORED_CODE, DELETE_CODE, DELETED_CODE = 0, 1, 9, 10, 11, 12, 13, 14
 NOTHING_FOUND = bytes([GOT])
 NO_MEMORY = b"\0\x0a\x09no memory\x10\1"
