@@ -5,11 +5,15 @@
 //! shares, and answers numbers that are the sums of what the shares have counted (`sum_of`), whatever threads added
 //! them, in whatever order. No count is lost and none is made up.
 //!
+//! A [`Stock`] has all shares but those that are out: [`open_stock`] puts them there, [`Stock::take`] gives one that has counted nothing, and
+//! [`Stock::give_back`] keeps what it has counted. [`close_stock`] answers what all that came back have counted. [`open_stocks`] lays the
+//! shares into several stocks, so that each worker has its own.
+//!
 //! A [`ReplyCounter`] is what one worker counts by: its share, its book, and whether the book had no room for some of it
 //! (`specs/Counter`).
 //!
-//! What it costs: an addition is one lock and one sum with a test for overflow. Only [`Book::new`] takes memory, for the
-//! vector of shares.
+//! What it costs: an addition is one lock and one sum with a test for overflow. [`Book::new`] takes memory for the vector of shares, and
+//! [`open_stocks`] for that of stocks; nothing else does.
 //!
 //! How it is built: the numbers lie under one mutex, each beside the book of a ledger (`std::sync::ledger`). A share has
 //! one part of each of the five ledgers; whoever has all parts has the ledger's whole total.
@@ -30,6 +34,7 @@ mod fault;
 mod holding;
 mod quantity;
 mod share;
+mod stock;
 mod sums;
 mod totals;
 
@@ -39,5 +44,6 @@ pub use counter::ReplyCounter;
 pub use fault::BookFault;
 pub use quantity::Quantity;
 pub use share::Share;
+pub use stock::{Stock, Stocked, close_stock, close_stocks, open_stock, open_stocks};
 pub use sums::Sums;
 pub use totals::Totals;

@@ -109,15 +109,24 @@ impl<G: Ledger, P: Ledger, D: Ledger, E: Ledger, R: Ledger> Sums<G, P, D, E, R> 
         requires all { AllAre (vec_len shares) G.parts P.parts D.parts E.parts R.parts }
         ensures { result ≡ sum_of shares.items }
     {
+        let mut sums = self;
+        let all = sums.rest.empty().merge_all(shares);
+        sums.close_held(all)
+    }
+
+    /// The numbers, which are what all shares together have counted, where these are in one hand.
+    pub(crate) fn close_held(self, all: Holding<G, P, D, E, R>) -> Totals
+        requires all { AllAre all.shares G.parts P.parts D.parts E.parts R.parts }
+        ensures { result ≡ all.counted }
+    {
         let Sums {
             gets,
             puts,
             deletes,
             refusals,
             reaps,
-            rest,
+            rest: _,
         } = self;
-        let all = rest.merge_all(shares);
         Totals {
             gets: gets.close(all.gets),
             puts: puts.close(all.puts),
