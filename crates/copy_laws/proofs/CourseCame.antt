@@ -15,7 +15,7 @@ use Rattle.vnode_machine.proofs.Keys.{key_eq-refl}
 use Rattle.copy_laws.specs.Copies.{Copy, Command, Copied, commands_of, count_brought}
 use Rattle.copy_laws.specs.Sides.{Partition, Number, is_covered_by}
 use Rattle.copy_laws.specs.Joining.{Log, HasDot, HasCome}
-use Rattle.copy_laws.specs.Diversions.{Course, AtPrimary, CopyBack, diversions_of, is_diverted, fallback_of, primary_of, WasShownInCourse, Happens, CoursesNameWhatCame}
+use Rattle.copy_laws.specs.Diversions.{Course, AtPrimary, CopyBack, diversions_of, is_diverted, fallback_of, primary_of, WasShownInCourse, HappensTo, CoursesNameWhatCame}
 use Rattle.copy_laws.proofs.Tests.{differs}
 use Rattle.copy_laws.proofs.LifeDots.{dot-of}
 use Rattle.copy_laws.proofs.Numbered.{number-within}
@@ -23,7 +23,7 @@ use Rattle.copy_laws.proofs.Courses.{happens-before, settled, CopyMade, copy-mad
 use Rattle.copy_laws.proofs.CourseDots.{DotIn, dot-stays, CameBy, came-later, context-came, covering-came, side-came}
 use Rattle.copy_laws.proofs.CourseLaw.{all-came, came-below}
 
-module _ (partition : Partition) (ids : partition.primary < partition.fallback) (key : Key) (course : Course) (happens : Happens partition course) where
+module _ (partition : Partition) (ids : partition.primary < partition.fallback) (key : Key) (course : Course) (happens : HappensTo partition key course) where
   abbrev v : ℕ
   v = partition.primary
 
@@ -37,7 +37,7 @@ module _ (partition : Partition) (ids : partition.primary < partition.fallback) 
   abbrev ComesBy : Log → Dot → Type 0
   ComesBy before dot = (number : Number) × HasDot partition log (fallback_of course) key number dot × HasCome partition log (fallback_of course) key before number
 
-  module _ (moment : Course) (happens' : Happens partition moment) (number : Number) (dot : Dot) (has : DotIn partition key ids moment number dot) where
+  module _ (moment : Course) (happens' : HappensTo partition key moment) (number : Number) (dot : Dot) (has : DotIn partition key ids moment number dot) where
     -- a dot of the fallbacks' vnode, while the primary isn't diverted, was brought
     of-fallback : dot.actor.vnode ≡ partition.fallback → (is_diverted moment ≡ false) → HasCome partition log (fallback_of course) key (primary_of partition moment) number
     of-fallback vnode undiverted = by (number.side == 0) refl has
@@ -46,7 +46,7 @@ module _ (partition : Partition) (ids : partition.primary < partition.fallback) 
         brought z d =
             let few = number-within partition.fallback (partition.opened number.side) key (fallback_of moment number.side) number.number dot d in
             let begun = side-came partition key ids moment happens' (came-below partition key ids moment happens') moment number dot (λ e. differs number.side 0 z e) has in
-            let all = settled partition moment happens' number.side (inr (begun, undiverted)) key in
+            let all = settled partition key moment happens' number.side (inr (begun, undiverted)) in
             omega (arith, few, all)
 
         by : (b : Bool) → (number.side == 0) ≡ b
@@ -83,8 +83,8 @@ module _ (partition : Partition) (ids : partition.primary < partition.fallback) 
     where
       made : CommandMade partition course event before → ComesBy before dot
       made m =
-          let there = happens-before partition m.later (AtPrimary event ∷ m.moment) (subst (Happens partition) (sym m.is) happens) in
-          let one = at-moment m.moment dot (context-came partition key ids m.moment event.key event.context itself (all-came partition key ids m.moment there.0) there.1.2 dot h) in (
+          let there = happens-before partition key m.later (AtPrimary event ∷ m.moment) (subst (HappensTo partition key) (sym m.is) happens) in
+          let one = at-moment m.moment dot (context-came partition key ids m.moment event.key event.context itself (all-came partition key ids m.moment there.0) (there.2 itself).1 dot h) in (
             one.0,
             subst (λ c. DotIn partition key ids c one.0 dot) (append_assoc m.later (AtPrimary event ∷ []) m.moment ∙ m.is) (dot-stays partition key ids (m.later ++ AtPrimary event ∷ []) m.moment one.0 dot one.1),
             subst (λ t. HasCome partition log (fallback_of course) key t one.0) (sym m.before_is) (of-fallback m.moment there.0 one.0 dot one.1 vnode there.1.0),
@@ -96,7 +96,7 @@ module _ (partition : Partition) (ids : partition.primary < partition.fallback) 
     where
       made : CopyMade partition course copy before → ComesBy before dot
       made m =
-          let there = happens-before partition m.later (CopyBack m.key ∷ m.moment) (subst (Happens partition) (sym m.is) happens) in
+          let there = happens-before partition key m.later (CopyBack m.key ∷ m.moment) (subst (HappensTo partition key) (sym m.is) happens) in
           let covered : is_covered_by (fallback_of m.moment (diversions_of m.moment)) key dot ≡ true = sym (ap (λ (c : Copy Content). is_covered_by c.prefix key dot) m.copy_is) ∙ h in
           let one = at-moment m.moment dot (covering-came partition key ids m.moment there.0 (came-below partition key ids m.moment there.0) m.moment dot [] refl (covering m.moment (diversions_of m.moment) key dot covered)) in (
             one.0,
@@ -105,7 +105,7 @@ module _ (partition : Partition) (ids : partition.primary < partition.fallback) 
           )
 
 pub courses_name_what_came : (partition : Partition) (course : Course) → CoursesNameWhatCame partition course
-courses_name_what_came partition course ids happens key = record {
+courses_name_what_came partition course ids key happens = record {
   given = λ later before event e itself dot vnode h. given partition ids key course happens later before event e itself dot vnode h;
   copied = λ later before copy stands dot vnode h. copied partition ids key course happens later before copy stands.0 dot vnode h;
 }

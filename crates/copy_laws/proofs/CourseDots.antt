@@ -20,7 +20,7 @@ use Rattle.copy_laws.specs.Copies.{Copy, Command, Copied, commands_of, count_bro
 use Rattle.copy_laws.specs.Sides.{Partition, Number, is_covered_by, takes_all}
 use Rattle.copy_laws.specs.CopyReplay.{primary_after}
 use Rattle.copy_laws.specs.Joining.{Log, IsHandOff, IsTrueCopy, HasDot, HasCome}
-use Rattle.copy_laws.specs.Diversions.{Happening, AtPrimary, AtFallback, CopyBack, Course, diversions_of, is_diverted, fallback_of, fallback_state, copy_of, primary_of, WasShownInCourse, Happens}
+use Rattle.copy_laws.specs.Diversions.{Happening, AtPrimary, AtFallback, CopyBack, Course, diversions_of, is_diverted, fallback_of, fallback_state, copy_of, primary_of, WasShownInCourse, HappensTo}
 use Rattle.copy_laws.proofs.Tests.{not_zero, test-le}
 use Rattle.copy_laws.proofs.Splits.{tail-same, Compared, compare}
 use Rattle.copy_laws.proofs.Clocks.{knows}
@@ -31,7 +31,7 @@ use Rattle.copy_laws.proofs.Numbered.{number-within, number-positive}
 use Rattle.copy_laws.proofs.Brought.{BroughtBy, count_brought, brought-by, is_seen, SeenBy, seen-by}
 use Rattle.copy_laws.proofs.PrimaryDots.{commands-append}
 use Rattle.copy_laws.proofs.Apart.{dots_stand_apart}
-use Rattle.copy_laws.proofs.Courses.{diversions-grow, diverted-some, diverted-since, Grown, fallback-grows, none-yet, happens-before, LogGrown, primary-grows, within, legal-primary, legal-fallback, all-updates, settled, sides-rise, CopyMade, copy-made, CommandMade, command-made, Covering, covering}
+use Rattle.copy_laws.proofs.Courses.{diversions-grow, diverted-some, diverted-since, Grown, fallback-grows, none-yet, happens-before, it-happens, LogGrown, primary-grows, within, legal-primary, legal-fallback, all-updates, settled, sides-rise, CopyMade, copy-made, CommandMade, command-made, Covering, covering}
 
 nonzero : (n : ℕ) → (n == 0) ≡ false → 1 ≤ n
 nonzero n h = grind (arith, nat_tests)
@@ -93,10 +93,10 @@ module _ (partition : Partition) (key : Key) (ids : partition.primary < partitio
       by false h k = one-number partition.fallback (partition.opened side) (fallback_of course side) key n m dot h k
 
   -- a number with this dot at a moment, where it has it now
-  pub there-then : (later moment : Course) → Happens partition (later ++ moment) → (number : Number) (dot : Dot) → DotIn (later ++ moment) number dot → Came moment dot → DotIn moment number dot
+  pub there-then : (later moment : Course) → HappensTo partition key (later ++ moment) → (number : Number) (dot : Dot) → DotIn (later ++ moment) number dot → Came moment dot → DotIn moment number dot
   there-then later moment h number dot has (other, d) =
       let now = dot-stays later moment other dot d in
-      let sides : other.side ≡ number.side = dots_stand_apart partition (primary_log (later ++ moment)) (fallback_of (later ++ moment)) key (sides-rise partition (later ++ moment) ids h) other number dot now has in
+      let sides : other.side ≡ number.side = dots_stand_apart partition (primary_log (later ++ moment)) (fallback_of (later ++ moment)) key (sides-rise partition (later ++ moment) ids (it-happens partition key (later ++ moment) h)) other number dot now has in
       let same : other.number ≡ number.number =
       one-of-side (later ++ moment) number.side other.number number.number dot (subst (λ s. DotIn (later ++ moment) (record { side = s; number = other.number }) dot) sides now) has in
       subst (λ n. DotIn moment (record { side = number.side; number = n }) dot) same (subst (λ s. DotIn moment (record { side = s; number = other.number }) dot) sides d)
@@ -150,11 +150,11 @@ module _ (partition : Partition) (key : Key) (ids : partition.primary < partitio
       by w = record { later = w.later; moment = w.moment; is = w.is; came = came_at w (came-now w.moment (all-before w.later w.moment (subst AllCame (sym w.is) all))) }
 
   -- what a fallback's context covered came before the context was shown
-  pub covering-came : (course : Course) → Happens partition course → CameBelow course → (c : Course) (dot : Dot) (later : Course) → later ++ c ≡ course → Covering c key dot → CameBy c dot
+  pub covering-came : (course : Course) → HappensTo partition key course → CameBelow course → (c : Course) (dot : Dot) (later : Course) → later ++ c ≡ course → Covering c key dot → CameBy c dot
   covering-came course h all c dot later e g =
       let whole : (later ++ g.later) ++ AtFallback g.event ∷ g.moment ≡ course = append_assoc later g.later (AtFallback g.event ∷ g.moment) ∙ ap (λ t. later ++ t) g.is ∙ e in
-      let may = (happens-before partition (later ++ g.later) (AtFallback g.event ∷ g.moment) (subst (Happens partition) (sym whole) h)).1 in
-      let by = context-came g.moment g.event.key g.event.context g.itself (below course all (later ++ g.later) (AtFallback g.event) g.moment whole) may.4 dot g.covers_it in
+      let may = (happens-before partition key (later ++ g.later) (AtFallback g.event ∷ g.moment) (subst (HappensTo partition key) (sym whole) h)).2 in
+      let by = context-came g.moment g.event.key g.event.context g.itself (below course all (later ++ g.later) (AtFallback g.event) g.moment whole) (may g.itself) dot g.covers_it in
       record {
         later = (g.later ++ AtFallback g.event ∷ []) ++ by.later;
         moment = by.moment;
@@ -162,7 +162,7 @@ module _ (partition : Partition) (key : Key) (ids : partition.primary < partitio
         came = by.came;
       }
 
-  module _ (course : Course) (happens : Happens partition course) (all : CameBelow course) where
+  module _ (course : Course) (happens : HappensTo partition key course) (all : CameBelow course) where
     abbrev log : Log
     log = primary_log course
 
@@ -197,9 +197,9 @@ module _ (partition : Partition) (key : Key) (ids : partition.primary < partitio
         made : (m : CopyMade partition course copy before) → key_eq m.key key ≡ true → IsTrueCopy partition log (fallback_of course) key (copy_of partition m.moment m.key)
         made m q =
             let n : ℕ = diversions_of m.moment in
-            let may = (happens-before partition m.later (CopyBack m.key ∷ m.moment) (subst (Happens partition) (sym m.is) happens)).1 in
+            let may = (happens-before partition key m.later (CopyBack m.key ∷ m.moment) (subst (HappensTo partition key) (sym m.is) happens)).1 in
             let grow : diversions_of (CopyBack m.key ∷ m.moment) ≤ diversions_of course = subst (λ t. diversions_of (CopyBack m.key ∷ m.moment) ≤ diversions_of t) m.is (diversions-grow m.later (CopyBack m.key ∷ m.moment)) in
-            let all_within = within partition course happens in
+            let all_within = within partition course (it-happens partition key course happens) in
             let g : Grown (fallback_of m.moment n) (fallback_of course n) = subst (λ t. Grown (fallback_of m.moment n) (fallback_of t n)) m.is (fallback-grows m.later (CopyBack m.key ∷ m.moment) n) in
             record {
               diversion = (diverted-some m.moment may.0, omega (arith, grow, all_within));
@@ -244,7 +244,7 @@ module _ (partition : Partition) (key : Key) (ids : partition.primary < partitio
                 let other : number.side ≢ diversions_of m.moment = λ q. ne (q ∙ sym (ap (λ (c : Copy Content). c.diversion) m.copy_is)) in
                 let past : number.side < diversions_of m.moment = omega (arith, begun, grow, other) in
                 let all_settled : brought_count (primary_log m.moment) key number.side ≡ count_of (fallback_of m.moment number.side) key =
-                settled partition m.moment (happens-before partition (m.later ++ CopyBack m.key ∷ []) m.moment (subst (Happens partition) (sym (append_assoc m.later (CopyBack m.key ∷ []) m.moment ∙ m.is)) happens)) number.side (inl past) key in
+                settled partition key m.moment (happens-before partition key (m.later ++ CopyBack m.key ∷ []) m.moment (subst (HappensTo partition key) (sym (append_assoc m.later (CopyBack m.key ∷ []) m.moment ∙ m.is)) happens)) number.side (inl past) in
                 let same : brought_count before key number.side ≡ brought_count (primary_log m.moment) key number.side = ap (λ t. brought_count t key number.side) m.before_is in
                 omega (arith, few, more, all_settled, same)
 
@@ -260,7 +260,7 @@ module _ (partition : Partition) (key : Key) (ids : partition.primary < partitio
             by : CameBy m.moment dot → HasCome partition log (fallback_of course) key before number
             by w =
                 let here : DotIn w.moment number dot =
-                there-then (m.later ++ CopyBack m.key ∷ w.later) w.moment (subst (Happens partition) (sym (whole w)) happens) number dot (subst (λ t. DotIn t number dot) (sym (whole w)) has) w.came in
+                there-then (m.later ++ CopyBack m.key ∷ w.later) w.moment (subst (HappensTo partition key) (sym (whole w)) happens) number dot (subst (λ t. DotIn t number dot) (sym (whole w)) has) w.came in
                 at w here (number.side == 0) refl here
 
     -- what had come or was seen at the primary before a reap is of a diversion that had come
@@ -290,7 +290,7 @@ module _ (partition : Partition) (key : Key) (ids : partition.primary < partitio
         by_context : (w : CameBy moment dot) → number.side ≤ diversions_of moment
         by_context w =
             let whole : (later' ++ w.later) ++ w.moment ≡ course = append_assoc later' w.later w.moment ∙ ap (λ t. later' ++ t) w.is ∙ e in
-            let here : DotIn w.moment number dot = there-then (later' ++ w.later) w.moment (subst (Happens partition) (sym whole) happens) number dot (subst (λ t. DotIn t number dot) (sym whole) has) w.came in
+            let here : DotIn w.moment number dot = there-then (later' ++ w.later) w.moment (subst (HappensTo partition key) (sym whole) happens) number dot (subst (λ t. DotIn t number dot) (sym whole) has) w.came in
             let begun = side-came w.moment number dot ne here in
             let grow : diversions_of w.moment ≤ diversions_of moment = subst (λ t. diversions_of w.moment ≤ diversions_of t) w.is (diversions-grow w.later w.moment) in
             omega (arith, begun, grow)
@@ -305,7 +305,7 @@ module _ (partition : Partition) (key : Key) (ids : partition.primary < partitio
             whole = append_assoc later' m.later (AtPrimary s.event ∷ m.moment) ∙ ap (λ t. later' ++ t) m.is ∙ e
 
             shown : (context : Context) → s.event.context ≡ Some context → WasShownInCourse partition m.moment s.event.key context
-            shown = (happens-before partition (later' ++ m.later) (AtPrimary s.event ∷ m.moment) (subst (Happens partition) (sym whole) happens)).1.2
+            shown = ((happens-before partition key (later' ++ m.later) (AtPrimary s.event ∷ m.moment) (subst (HappensTo partition key) (sym whole) happens)).2 s.itself).1
 
             lifted : CameBy m.moment dot → CameBy moment dot
             lifted w = record {
@@ -338,13 +338,13 @@ module _ (partition : Partition) (key : Key) (ids : partition.primary < partitio
         bound = bounded m.moment (m.later ++ AtPrimary event ∷ []) (append_assoc m.later (AtPrimary event ∷ []) m.moment ∙ m.is) before m.before_is number dot has ne h
 
         undiverted : is_diverted m.moment ≡ false
-        undiverted = (happens-before partition m.later (AtPrimary event ∷ m.moment) (subst (Happens partition) (sym m.is) happens)).1.0
+        undiverted = (happens-before partition key m.later (AtPrimary event ∷ m.moment) (subst (HappensTo partition key) (sym m.is) happens)).1.0
 
         after : (c : BroughtBy key later number.side 1) (mc : CopyMade partition course c.copy (c.before ++ Command event ∷ before))
             → Compared mc.later (CopyBack mc.key) mc.moment m.later (AtPrimary event) m.moment → ⊥
         after c mc (inl (x, y, z)) = cc
         after c mc (inr (inl (between, y, z))) =
-            let diverted : is_diverted mc.moment ≡ true = (happens-before partition mc.later (CopyBack mc.key ∷ mc.moment) (subst (Happens partition) (sym mc.is) happens)).1.0 in
+            let diverted : is_diverted mc.moment ≡ true = (happens-before partition key mc.later (CopyBack mc.key ∷ mc.moment) (subst (HappensTo partition key) (sym mc.is) happens)).1.0 in
             let since = diverted-since between (AtPrimary event ∷ m.moment) undiverted (ap is_diverted (sym y) ∙ diverted) in
             let same : diversions_of mc.moment ≡ diversions_of (between ++ AtPrimary event ∷ m.moment) = ap diversions_of y in
             let copy_is : c.copy.diversion ≡ diversions_of mc.moment = ap (λ (x : Copy Content). x.diversion) mc.copy_is in
@@ -367,11 +367,11 @@ module _ (partition : Partition) (key : Key) (ids : partition.primary < partitio
 
     pub hand-off : IsHandOff partition log (fallback_of course) key
     hand-off = record {
-      primary_legal = legal-primary partition course happens;
-      fallbacks_legal = λ n diversion. legal-fallback partition course happens n;
+      primary_legal = legal-primary partition key course happens;
+      fallbacks_legal = λ n diversion. legal-fallback partition course (it-happens partition key course happens) n;
       copies = λ later before copy stands. true-copy later copy before stands.0 stands.1;
-      apart = dots_stand_apart partition log (fallback_of course) key (sides-rise partition course ids happens);
-      unreaped = λ n diversion. all-updates partition course happens n key;
+      apart = dots_stand_apart partition log (fallback_of course) key (sides-rise partition course ids (it-happens partition key course happens));
+      unreaped = λ n diversion. all-updates partition course (it-happens partition key course happens) n key;
       reaps = λ later before event stands number dot has ne h. reaps-came later before event stands.0 number dot has ne h;
       contexts = λ later before copy stands number dot has ne covered come. contexts-came later before copy stands.0 number dot has ne covered;
     }

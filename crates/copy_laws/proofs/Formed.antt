@@ -119,11 +119,11 @@ epoch-most state at given operation le a = by operation a
     by Tombstone a = updated (passed state at given Tombstone refl a).epochs
     by Reap a = le
 
-pub epochs-most : (partition : Partition) → AreWithinLimits partition → (log : Log) → HasEntries partition log → (primary_after partition log).last_epoch ≤ max_epoch
-epochs-most partition limits [] h = limits.primary.1
-epochs-most partition limits (Command event ∷ before) h = epoch-most (primary_after partition before) event.key event.context event.operation (epochs-most partition limits before h.0) h.2.0
-epochs-most partition limits (Copied copy ∷ before) h = epochs-most partition limits before h.0
-epochs-most partition limits (Closed number ∷ before) h = epochs-most partition limits before h.0
+pub epochs-most : (partition : Partition) → AreWithinLimits partition → (key : Key) (log : Log) → HasEntries partition key log → (primary_after partition log).last_epoch ≤ max_epoch
+epochs-most partition limits key [] h = limits.primary.1
+epochs-most partition limits key (Command event ∷ before) h = epoch-most (primary_after partition before) event.key event.context event.operation (epochs-most partition limits key before h.0) h.2.0
+epochs-most partition limits key (Copied copy ∷ before) h = epochs-most partition limits key before h.0
+epochs-most partition limits key (Closed number ∷ before) h = epochs-most partition limits key before h.0
 
 module _ (partition : Partition) (limits : AreWithinLimits partition) (primary : Log) (fallbacks : Fallbacks) (key : Key) (joined : IsJoined partition primary fallbacks key) where
   abbrev v : ℕ
@@ -132,10 +132,10 @@ module _ (partition : Partition) (limits : AreWithinLimits partition) (primary :
   abbrev l : ℕ
   l = partition.last_epoch
 
-  entries : (gap log : Log) → gap ++ log ≡ primary → HasEntries partition log
-  entries gap log e = through gap log (subst (HasEntries partition) (sym e) joined.hand_off.primary_legal)
+  entries : (gap log : Log) → gap ++ log ≡ primary → HasEntries partition key log
+  entries gap log e = through gap log (subst (HasEntries partition key) (sym e) joined.hand_off.primary_legal)
     where
-      through : (gap log : Log) → HasEntries partition (gap ++ log) → HasEntries partition log
+      through : (gap log : Log) → HasEntries partition key (gap ++ log) → HasEntries partition key log
       through [] log h = h
       through (entry ∷ gap) log h = through gap log h.0
 
@@ -194,7 +194,7 @@ module _ (partition : Partition) (limits : AreWithinLimits partition) (primary :
     dot-within : ArePairs (clock_at v l key before).known → is_within_limits dot ≡ true
     dot-within h =
         let of = latest-of v l (event ∷ commands_of before) key dot exact in
-        let most : (state_at v l key (Command event ∷ before)).last_epoch ≤ max_epoch = epochs-most partition limits (Command event ∷ before) (entries gap (Command event ∷ before) is) in
+        let most : (state_at v l key (Command event ∷ before)).last_epoch ≤ max_epoch = epochs-most partition limits key (Command event ∷ before) (entries gap (Command event ∷ before) is) in
         let epochs = (tracked partition primary fallbacks key joined gap (Command event ∷ before) is).epochs in
         let until = of.until in
         let after = of.after in

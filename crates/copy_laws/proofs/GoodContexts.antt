@@ -21,7 +21,7 @@ use Rattle.copy_laws.specs.Copies.{commands_of, brought}
 use Rattle.copy_laws.specs.Sides.{Partition}
 use Rattle.copy_laws.specs.CopyReplay.{primary_after}
 use Rattle.copy_laws.specs.Joining.{Log, IsJoined}
-use Rattle.copy_laws.specs.Diversions.{Course, diversions_of, fallback_of, fallback_state, primary_of, WasShownInCourse, Happens}
+use Rattle.copy_laws.specs.Diversions.{Course, diversions_of, fallback_of, fallback_state, primary_of, WasShownInCourse, HappensTo}
 use Rattle.copy_laws.specs.JointAnswers.{AreWithinLimits}
 use Rattle.std.proofs.lemmas.Bool.{or_from}
 use Rattle.copy_laws.proofs.Tests.{within-test}
@@ -30,7 +30,7 @@ use Rattle.copy_laws.proofs.LifeDots.{IsPast, some-same, latest-of, dot-of, issu
 use Rattle.copy_laws.proofs.PrimaryDots.{latest-alive, IsTracked}
 use Rattle.copy_laws.proofs.Tracked.{tracked}
 use Rattle.copy_laws.proofs.Positions.{joined-then}
-use Rattle.copy_laws.proofs.Courses.{within, open_always, legal-fallback, happens-before}
+use Rattle.copy_laws.proofs.Courses.{within, open_always, legal-fallback, happens-before, it-happens}
 use Rattle.copy_laws.proofs.CourseDots.{Came, came-later, CameBy, context-came}
 use Rattle.copy_laws.proofs.CourseLaw.{all-came, courses_are_hand_offs}
 use Rattle.copy_laws.proofs.NamedContexts.{each-issued}
@@ -43,22 +43,22 @@ module _ (partition : Partition) (ids : partition.primary < partition.fallback) 
   abbrev l : ℕ
   l = partition.last_epoch
 
-  joined-at : (course : Course) → Happens partition course → IsJoined partition (primary_of partition course) (brought (primary_of partition course) key) key
+  joined-at : (course : Course) → HappensTo partition key course → IsJoined partition (primary_of partition course) (brought (primary_of partition course) key) key
   joined-at course happens =
-      joined-then partition (primary_of partition course) (fallback_of course) key (courses_are_hand_offs partition course ids happens key).0 [] (primary_of partition course) refl (open_always partition course)
+      joined-then partition (primary_of partition course) (fallback_of course) key (courses_are_hand_offs partition course ids key happens).0 [] (primary_of partition course) refl (open_always partition course)
 
   -- what was shown is of the form of a context
-  shown-form : AreWithinLimits partition → (course : Course) → Happens partition course → (context : Context) → WasShownInCourse partition course key context → context ≢ Pairs []
+  shown-form : AreWithinLimits partition → (course : Course) → HappensTo partition key course → (context : Context) → WasShownInCourse partition course key context → context ≢ Pairs []
       → (pairs : List Dot) × (context ≡ Pairs pairs) × (is_well_formed pairs ≡ true)
   shown-form limits course happens context w some = by happens' w.shown
     where
-      happens' : Happens partition w.moment
-      happens' = happens-before partition w.later w.moment (subst (Happens partition) (sym w.is) happens)
+      happens' : HappensTo partition key w.moment
+      happens' = happens-before partition key w.later w.moment (subst (HappensTo partition key) (sym w.is) happens)
 
       other : (pairs : List Dot) → context ≡ Pairs pairs → pairs ≢ []
       other pairs e none = some (e ∙ ap (λ ps. Pairs ps) none)
 
-      by : Happens partition w.moment → (context ≡ Pairs (clock_at v l key (primary_of partition w.moment)).known) ⊎ (context ≡ Pairs (clock_of (fallback_state partition w.moment) key).known)
+      by : HappensTo partition key w.moment → (context ≡ Pairs (clock_at v l key (primary_of partition w.moment)).known) ⊎ (context ≡ Pairs (clock_of (fallback_state partition w.moment) key).known)
           → (pairs : List Dot) × (context ≡ Pairs pairs) × (is_well_formed pairs ≡ true)
       by h (inl e) =
           let known : List Dot = (clock_at v l key (primary_of partition w.moment)).known in
@@ -66,9 +66,9 @@ module _ (partition : Partition) (ids : partition.primary < partition.fallback) 
       by h (inr e) =
           let known : List Dot = (clock_of (fallback_state partition w.moment) key).known in
           let n : ℕ = diversions_of w.moment in
-          (known, e, formed-whole known (fallback-formed partition.fallback (partition.opened n) (limits.fallbacks n (within partition w.moment h)) (fallback_of w.moment n) (legal-fallback partition w.moment h n) key) (other known e))
+          (known, e, formed-whole known (fallback-formed partition.fallback (partition.opened n) (limits.fallbacks n (within partition w.moment (it-happens partition key w.moment h))) (fallback_of w.moment n) (legal-fallback partition w.moment (it-happens partition key w.moment h) n) key) (other known e))
 
-  module _ (course : Course) (happens : Happens partition course) where
+  module _ (course : Course) (happens : HappensTo partition key course) where
     abbrev log : Log
     log = primary_of partition course
 

@@ -146,7 +146,7 @@ module _ (partition : Partition) (primary : Log) (fallbacks : Fallbacks) (key : 
 
   module _ (later log : Log) (is : later ++ log ≡ primary) where
     open-at : (primary_after partition log).closed ≡ None
-    open-at = open-before partition later log (subst (HasEntries partition) (sym is) legal.hand_off.primary_legal) (ap (λ t. (primary_after partition t).closed) is ∙ legal.open_still)
+    open-at = open-before partition key later log (subst (HasEntries partition key) (sym is) legal.hand_off.primary_legal) (ap (λ t. (primary_after partition t).closed) is ∙ legal.open_still)
 
     pub joined-at : IsJoined partition log (brought log key) key
     joined-at = joined-then partition primary fallbacks key legal.hand_off later log is open-at

@@ -97,7 +97,7 @@ pub logs_reap_dead : (partition : Partition) (log : Log) (fallbacks : Fallbacks)
 logs_reap_dead partition log fallbacks key legal = dead-same partition log fallbacks key legal
 
 pub courses_answer_gets : (partition : Partition) (course : Course) → CoursesAnswerGets partition course
-courses_answer_gets partition course ids happens get = logs_answer_gets partition (primary_of partition course) (fallback_of course) get (courses_are_legal partition course ids happens get.key)
+courses_answer_gets partition course ids get happens = logs_answer_gets partition (primary_of partition course) (fallback_of course) get (courses_are_legal partition course ids get.key happens)
 
 pub courses_reap_dead : (partition : Partition) (course : Course) → CoursesReapDead partition course
-courses_reap_dead partition course ids happens key = logs_reap_dead partition (primary_of partition course) (fallback_of course) key (courses_are_legal partition course ids happens key)
+courses_reap_dead partition course ids key happens = logs_reap_dead partition (primary_of partition course) (fallback_of course) key (courses_are_legal partition course ids key happens)

@@ -22,7 +22,7 @@ use Rattle.copy_laws.specs.Copies.{Command, brought}
 use Rattle.copy_laws.specs.Sides.{Partition, siblings_at}
 use Rattle.copy_laws.specs.CopyReplay.{primary_after}
 use Rattle.copy_laws.specs.Joining.{Log, Fallbacks, IsJoined, ShowsSiblings}
-use Rattle.copy_laws.specs.Diversions.{Course, primary_of, fallback_of, Happens}
+use Rattle.copy_laws.specs.Diversions.{Course, primary_of, fallback_of, HappensTo}
 use Rattle.copy_laws.specs.JointAnswers.{AreWithinLimits, is_name_at, update_at, has_too_many_at, put_event_at, del_event_at, put_refusal_at, del_refusal_at, does_nothing_at, MayRefuseBy, put_shown_at, IsNextAt, PutGivesAt, DelGivesAt, MayAsk, CoursesAnswerPuts, CoursesAnswerDels}
 use Rattle.copy_laws.specs.LegalLogs.{IsLegalLog, CoversBrought, MayRefuseAt, IsNextOf, PutGivesOf, DelGivesOf, ReapGivesOf, LogsAnswerPuts, LogsAnswerDels, LogsAnswerReaps, IsOfLog, StepIsOfLogs}
 use Rattle.copy_laws.proofs.Clocks.{taken_pairs}
@@ -107,7 +107,7 @@ module _ (partition : Partition) (log : Log) (fallbacks : Fallbacks) (limits : A
         (if_not_modified && not (is_name_at partition log put.key put.context)) (crowded put.key legal put.context (Write put.value) refl i)))
 
     put_goes_on : update_check state put.key put.context (pairs_of put.context) ≡ None → IsLegalLog partition put_after fallbacks put.key
-    put_goes_on fits = legal-next partition log fallbacks put.key legal put_event (fits, refl) (λ same. brings)
+    put_goes_on fits = legal-next partition log fallbacks put.key legal put_event (fits, λ same. refl) (λ same. brings)
 
     reply : IsLegalLog partition put_after fallbacks put.key → (b : Bool)
         → (let r : PutReply = cond b (record { contents = contents_in (primary_after partition put_after) put.key (not put.return_body); context = context_in (primary_after partition put_after) put.key }) (record { contents = []; context = [] }) in r)
@@ -170,7 +170,7 @@ module _ (partition : Partition) (log : Log) (fallbacks : Fallbacks) (limits : A
 
     del-accepted : does_nothing_at partition log del ≡ false → del_refusal_at partition log del ≡ None → update_check state del.key del.context pairs ≡ None → DelGivesOf partition log fallbacks del del_accepts
     del-accepted does none fits =
-        (does, none, refl, leads-next del_event refl (legal-next partition log fallbacks del.key legal del_event (accepts del.context (idle-same ∙ does) fits, refl) (λ same. brings)), refl)
+        (does, none, refl, leads-next del_event refl (legal-next partition log fallbacks del.key legal del_event (accepts del.context (idle-same ∙ does) fits, λ same. refl) (λ same. brings)), refl)
 
     by-del : does_nothing_at partition log del ≡ false → (bad : Bool) → is_bad_context state del.key del.context ≡ bad → (crowded full epochs counters : Bool) → del_refusal_at partition log del ≡ cond crowded (Some 5) None
         → update_check state del.key del.context pairs ≡ cond bad (Some 4) (rooms_of crowded full epochs counters)
@@ -202,7 +202,7 @@ module _ (partition : Partition) (log : Log) (fallbacks : Fallbacks) (key : Key)
   reap_after = Command reap_event ∷ log
 
   reap_next : holds_dead (primary_after partition log) key ≡ true → IsLegalLog partition reap_after fallbacks key
-  reap_next dead = legal-next partition log fallbacks key legal reap_event (dead, refl) (λ same dot vnode h. cc)
+  reap_next dead = legal-next partition log fallbacks key legal reap_event (dead, λ same. refl) (λ same dot vnode h. cc)
 
   by-reap : (dead : Bool) → holds_dead (primary_after partition log) key ≡ dead → ReapGivesOf partition log fallbacks key (cond dead (Accepted Reap ReapDone (primary_after partition reap_after)) (Answered ReapKept))
   by-reap true e =
@@ -236,16 +236,18 @@ step_is_of_logs at ask partition log fallbacks limits leads legal brings = subst
     by (AskReap key) legal brings = logs_answer_reaps partition log fallbacks key legal
 
 -- so in each course, where a context that was shown is never a bad one
-module _ (partition : Partition) (course : Course) (ids : partition.primary < partition.fallback) (limits : AreWithinLimits partition) (happens : Happens partition course) where
+module _ (partition : Partition) (course : Course) (ids : partition.primary < partition.fallback) (limits : AreWithinLimits partition) where
   abbrev log : Log
   log = primary_of partition course
 
   abbrev now : State Content
   now = primary_after partition log
 
-  module _ (event : Event Content Context) (ask : MayAsk partition course event) where
+  module _ (event : Event Content Context) (happens : HappensTo partition event.key course) (ask : MayAsk partition course event) where
     next-at : (next : State Content) → IsNextOf partition log (fallback_of course) event next → IsNextAt partition course event next
-    next-at next n = record { happens = (happens, (ask.here, n.legal.hand_off.primary_legal.2, ask.shown)); leads = n.leads; siblings = n.siblings }
+    next-at next n =
+        let accepts = n.legal.hand_off.primary_legal.2 in
+        record { happens = (happens, (ask.here, accepts.0), λ itself. (accepts.1 itself, ask.shown)); leads = n.leads; siblings = n.siblings }
 
     good : is_bad_context now event.key event.context ≡ false
     good = good-context partition ids event.key course happens limits event.context ask.shown ask.some
@@ -272,32 +274,32 @@ module _ (partition : Partition) (course : Course) (ids : partition.primary < pa
   put-other false false false false false false false true g o h = λ e. cc
   put-other false false false false false false false false g o h = h
 
-  puts : (put : PutCommand Content Context) → MayAsk partition course (put_event_at partition log put) → PutGivesAt partition course put (outcome now (AskPut put))
-  puts put ask =
-      by (outcome now (AskPut put)) (put-other (is_bad_context now put.key put.context) _ _ _ _ _ _ _ (good (put_event_at partition log put) ask) _ tt)
-      (logs_answer_puts partition log (fallback_of course) limits put (courses_are_legal partition course ids happens put.key) (covers-brought partition ids put.key course happens put.context ask.here ask.shown))
+  puts : (put : PutCommand Content Context) → HappensTo partition put.key course → MayAsk partition course (put_event_at partition log put) → PutGivesAt partition course put (outcome now (AskPut put))
+  puts put happens ask =
+      by (outcome now (AskPut put)) (put-other (is_bad_context now put.key put.context) _ _ _ _ _ _ _ (good (put_event_at partition log put) happens ask) _ tt)
+      (logs_answer_puts partition log (fallback_of course) limits put (courses_are_legal partition course ids put.key happens) (covers-brought partition ids put.key course happens put.context ask.here ask.shown))
     where
       by : (o : MachineOutcome) → IsOther o → PutGivesOf partition log (fallback_of course) put o → PutGivesAt partition course put o
-      by (Refused number) other h = unrefused (put_event_at partition log put) ask (put_refusal_at partition log put) number other h
+      by (Refused number) other h = unrefused (put_event_at partition log put) happens ask (put_refusal_at partition log put) number other h
       by (Answered response) other h = h
-      by (Accepted operation response next) other h = (h.0, h.1, next-at (put_event_at partition log put) ask next h.2, h.3)
+      by (Accepted operation response next) other h = (h.0, h.1, next-at (put_event_at partition log put) happens ask next h.2, h.3)
 
-  dels : (del : DelCommand Context) → MayAsk partition course (del_event_at partition log del) → DelGivesAt partition course del (outcome now (AskDel del))
-  dels del ask =
+  dels : (del : DelCommand Context) → HappensTo partition del.key course → MayAsk partition course (del_event_at partition log del) → DelGivesAt partition course del (outcome now (AskDel del))
+  dels del happens ask =
       by (outcome now (AskDel del)) (other (is_none del.context && not (is_held now del.key)))
-      (logs_answer_dels partition log (fallback_of course) limits del (courses_are_legal partition course ids happens del.key) (covers-brought partition ids del.key course happens del.context ask.here ask.shown))
+      (logs_answer_dels partition log (fallback_of course) limits del (courses_are_legal partition course ids del.key happens) (covers-brought partition ids del.key course happens del.context ask.here ask.shown))
     where
       other : (idle : Bool) → IsOther (cond idle (Answered DelDone) (unless_refused (update_check now del.key del.context (del_pairs now del.key del.context)) (Accepted Tombstone DelDone (apply_operation now del.key del.context Tombstone))))
       other true = tt
-      other false = put-other (is_bad_context now del.key del.context) false false false (has_too_many_siblings now del.key (del_pairs now del.key del.context)) (has_too_many_actors now del.key (del_pairs now del.key del.context)) (is_out_of_epochs now del.key) (is_out_of_counters now del.key) (good (del_event_at partition log del) ask) _ tt
+      other false = put-other (is_bad_context now del.key del.context) false false false (has_too_many_siblings now del.key (del_pairs now del.key del.context)) (has_too_many_actors now del.key (del_pairs now del.key del.context)) (is_out_of_epochs now del.key) (is_out_of_counters now del.key) (good (del_event_at partition log del) happens ask) _ tt
 
       by : (o : MachineOutcome) → IsOther o → DelGivesOf partition log (fallback_of course) del o → DelGivesAt partition course del o
-      by (Refused number) other h = (h.0, unrefused (del_event_at partition log del) ask (del_refusal_at partition log del) number other h.1)
+      by (Refused number) other h = (h.0, unrefused (del_event_at partition log del) happens ask (del_refusal_at partition log del) number other h.1)
       by (Answered response) other h = h
-      by (Accepted operation response next) other h = (h.0, h.1, h.2, next-at (del_event_at partition log del) ask next h.3, h.4)
+      by (Accepted operation response next) other h = (h.0, h.1, h.2, next-at (del_event_at partition log del) happens ask next h.3, h.4)
 
 pub courses_answer_puts : (partition : Partition) (course : Course) → CoursesAnswerPuts partition course
-courses_answer_puts partition course ids limits happens put ask = puts partition course ids limits happens put ask
+courses_answer_puts partition course ids limits put happens ask = puts partition course ids limits put happens ask
 
 pub courses_answer_dels : (partition : Partition) (course : Course) → CoursesAnswerDels partition course
-courses_answer_dels partition course ids limits happens del ask = dels partition course ids limits happens del ask
+courses_answer_dels partition course ids limits del happens ask = dels partition course ids limits del happens ask

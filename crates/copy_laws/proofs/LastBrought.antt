@@ -64,7 +64,7 @@ module _ (partition : Partition) (primary : Log) (fallbacks : Fallbacks) (key : 
     -- no command of the primary has the dot
     not-own : (gap : Log) (event : Event Content Context) (before : Log) → gap ++ Command event ∷ before ≡ primary → IsUpdate v l key event → dot_eq (dot_given v l key before event) dot ≡ true → ⊥
     not-own gap event before e u given =
-        let legal : HasEntries partition (Command event ∷ before) = legal-before partition gap (Command event ∷ before) (subst (HasEntries partition) (sym e) off.primary_legal) in
+        let legal : HasEntries partition key (Command event ∷ before) = legal-before partition key gap (Command event ∷ before) (subst (HasEntries partition key) (sym e) off.primary_legal) in
         let open_then = closed-kept (primary_after partition before) event.key event.context event.operation ∙ legal.1 in
         let joined = joined-then partition primary fallbacks key off gap (Command event ∷ before) e open_then in
         let latest = exact-at partition (Command event ∷ before) (brought (Command event ∷ before) key) key joined [] event before refl u in

@@ -131,7 +131,7 @@ module _ (partition : Partition) (primary : Log) (fallbacks : Fallbacks) (key : 
 
   open_at : (later position : Log) → later ++ position ≡ primary → (primary_after partition position).closed ≡ None
   open_at later position e =
-      open-before partition later position (subst (HasEntries partition) (sym e) joined.hand_off.primary_legal)
+      open-before partition key later position (subst (HasEntries partition key) (sym e) joined.hand_off.primary_legal)
       (ap (λ t. (primary_after partition t).closed) e ∙ joined.open_still)
 
   -- so it has a value there
@@ -180,7 +180,7 @@ module _ (partition : Partition) (primary : Log) (fallbacks : Fallbacks) (key : 
 
     by_own : (number.side == 0) ≡ true → is_among event.saw number.number ≡ true
     by_own z =
-        ap (λ ns. is_among ns number.number) (accepted partition primary fallbacks key joined later before (Command event) is).1
+        ap (λ ns. is_among ns number.number) ((accepted partition primary fallbacks key joined later before (Command event) is).1 update.0)
         ∙ covers-saw partition key before number.number dot (own-positive partition primary fallbacks key joined number.number dot own) there event.key event.context event.operation update.0 update.1
         (λ gap position e h. known-counted partition primary fallbacks key joined number.number dot own (later ++ Command event ∷ gap) position
         (append_assoc later (Command event ∷ gap) position ∙ ap (λ t. later ++ Command event ∷ t) e ∙ is) h)
@@ -358,9 +358,9 @@ leaves_only_seen partition primary fallbacks key off later between position is o
     ]
 
 pub courses_leave_only_seen : (partition : Partition) (course : Course) → CoursesLeaveOnlySeen partition course
-courses_leave_only_seen partition course ids happens key later between position is =
-    leaves_only_seen partition (primary_of partition course) (fallback_of course) key (courses_are_hand_offs partition course ids happens key).0 later between position is
-    (open-part partition course happens later (between ++ position) is)
+courses_leave_only_seen partition course ids key happens later between position is =
+    leaves_only_seen partition (primary_of partition course) (fallback_of course) key (courses_are_hand_offs partition course ids key happens).0 later between position is
+    (open-part partition key course happens later (between ++ position) is)
 
 pub fallbacks_leave_only_seen : (partition : Partition) (course : Course) → FallbacksLeaveOnlySeen partition course
 fallbacks_leave_only_seen partition course happens n later between position is key number among written_one =

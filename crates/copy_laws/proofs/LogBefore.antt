@@ -103,7 +103,7 @@ module _ (partition : Partition) (primary : Log) (fallbacks : Fallbacks) (key : 
   legal-then : IsLegalLog partition position fallbacks key
   legal-then = record {
     hand_off = record {
-      primary_legal = legal-before partition later position (subst (HasEntries partition) (sym is) off.primary_legal);
+      primary_legal = legal-before partition key later position (subst (HasEntries partition key) (sym is) off.primary_legal);
       fallbacks_legal = off.fallbacks_legal;
       copies = λ part before copy s.
           let one : IsTrueCopy partition primary fallbacks key copy = off.copies (later ++ part) before copy (whole part (Copied copy) before s.0, s.1) in
@@ -117,7 +117,7 @@ module _ (partition : Partition) (primary : Log) (fallbacks : Fallbacks) (key : 
     rise = legal.rise;
     came = record { given = given; copied = copied };
     had = λ part before copy s. legal.had (later ++ part) before copy (whole part (Copied copy) before s.0, s.1);
-    open_still = open-before partition later position (subst (HasEntries partition) (sym is) off.primary_legal) (ap (λ t. (primary_after partition t).closed) is ∙ legal.open_still);
+    open_still = open-before partition key later position (subst (HasEntries partition key) (sym is) off.primary_legal) (ap (λ t. (primary_after partition t).closed) is ∙ legal.open_still);
   }
 
 pub logs_were_legal : (partition : Partition) (log : Log) (fallbacks : Fallbacks) → LogsWereLegal partition log fallbacks

@@ -28,7 +28,7 @@ still-open state at given Tombstone = refl
 still-open state at given Reap = refl
 
 module _ (partition : Partition) (log : Log) (fallbacks : Fallbacks) (key : Key) (legal : IsLegalLog partition log fallbacks key) (event : Event Content Context)
-    (accepts : AcceptsEntry partition log (Command event)) (brings : key_eq event.key key ≡ true → CoversBrought partition log fallbacks key event.context) where
+    (accepts : AcceptsEntry partition key log (Command event)) (brings : key_eq event.key key ≡ true → CoversBrought partition log fallbacks key event.context) where
   abbrev v : ℕ
   v = partition.primary
 

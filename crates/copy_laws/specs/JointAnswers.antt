@@ -18,7 +18,7 @@ use Rattle.copy_laws.specs.Sides.{Partition, Number, dot_at, content_at, sibling
 use Rattle.copy_laws.specs.CopyReplay.{primary_after, name_at, seen_at}
 use Rattle.copy_laws.specs.Joining.{Log}
 use Rattle.copy_laws.specs.Leaving.{saw_number}
-use Rattle.copy_laws.specs.Diversions.{Course, AtPrimary, is_diverted, primary_of, GivesShownInCourse, Happens}
+use Rattle.copy_laws.specs.Diversions.{Course, AtPrimary, is_diverted, primary_of, GivesShownInCourse, HappensTo}
 
 -- the ids and the last epochs that a partition's vnodes can have
 pub record AreWithinLimits (partition : Partition) : Type 0 where
@@ -64,14 +64,14 @@ module _ (partition : Partition) where
   -- in each course, at every moment, a get at the primary is answered as the register answers it
   abbrev pub CoursesAnswerGets : Course → Type 0
   CoursesAnswerGets course =
-      (partition.primary < partition.fallback) → Happens partition course → (get : GetCommand Context)
+      (partition.primary < partition.fallback) → (get : GetCommand Context) → HappensTo partition get.key course
       → get_reply (primary_after partition (primary_of partition course)) get
       ≡ get_shown_at (primary_of partition course) get.key (get_told_at (primary_of partition course) get)
 
   -- and a reap there forgets exactly a dead key
   abbrev pub CoursesReapDead : Course → Type 0
   CoursesReapDead course =
-      (partition.primary < partition.fallback) → Happens partition course → (key : Key)
+      (partition.primary < partition.fallback) → (key : Key) → HappensTo partition key course
       → holds_dead (primary_after partition (primary_of partition course)) key ≡ is_dead_at partition (primary_of partition course) key
 
   -- the write or delete that a command is at the end of a log: it saw what it has to see
@@ -130,7 +130,7 @@ module _ (partition : Partition) where
   -- the command is what happens next, and leads to this state; after it the siblings are those that it didn't see, and the
   -- command's own number before them
   pub record IsNextAt (course : Course) (event : Event Content Context) (next : State Content) : Type 0 where
-    pub happens : Happens partition (AtPrimary event ∷ course)
+    pub happens : HappensTo partition event.key (AtPrimary event ∷ course)
     pub leads : next ≡ primary_after partition (primary_of partition (AtPrimary event ∷ course))
     pub siblings : siblings_at partition (primary_of partition (AtPrimary event ∷ course)) event.key
         ≡ (let number : Number = record { side = 0; number = suc (count_of (commands_of (primary_of partition course)) event.key) } in number)
@@ -170,13 +170,13 @@ module _ (partition : Partition) where
   -- in each course, at every moment, what comes of a put at the primary is what the register may give
   abbrev pub CoursesAnswerPuts : Course → Type 0
   CoursesAnswerPuts course =
-      (partition.primary < partition.fallback) → AreWithinLimits partition → Happens partition course → (put : PutCommand Content Context)
+      (partition.primary < partition.fallback) → AreWithinLimits partition → (put : PutCommand Content Context) → HappensTo partition put.key course
       → MayAsk course (put_event_at (primary_of partition course) put)
       → PutGivesAt course put (outcome (primary_after partition (primary_of partition course)) (AskPut put))
 
   -- and of a delete
   abbrev pub CoursesAnswerDels : Course → Type 0
   CoursesAnswerDels course =
-      (partition.primary < partition.fallback) → AreWithinLimits partition → Happens partition course → (del : DelCommand Context)
+      (partition.primary < partition.fallback) → AreWithinLimits partition → (del : DelCommand Context) → HappensTo partition del.key course
       → MayAsk course (del_event_at (primary_of partition course) del)
       → DelGivesAt course del (outcome (primary_after partition (primary_of partition course)) (AskDel del))

@@ -12,7 +12,7 @@ use Rattle.copy_laws.specs.Copies.{Copy, LogEntry, Command, Copied, Closed, brou
 use Rattle.copy_laws.specs.Sides.{Partition, Number, has_number, dot_at, content_at, is_covered_by, saw_brought, siblings_at}
 use Rattle.copy_laws.specs.CopyReplay.{primary_after}
 use Rattle.copy_laws.specs.Joining.{Log, Fallbacks, IsHandOff}
-use Rattle.copy_laws.specs.Diversions.{Course, Happens, fallback_of, primary_of}
+use Rattle.copy_laws.specs.Diversions.{Course, Happens, HappensTo, fallback_of, primary_of}
 
 module _ {V : Type 0} where
   -- a command of the primary saw the number: one of its own side as the command says, one of a fallback by its context
@@ -57,7 +57,7 @@ HandOffLeavesOnlySeen partition primary fallbacks key =
 -- between each two positions of the primary in a course
 abbrev pub CoursesLeaveOnlySeen : Partition → Course → Type 0
 CoursesLeaveOnlySeen partition course =
-    (partition.primary < partition.fallback) → Happens partition course → (key : Key)
+    (partition.primary < partition.fallback) → (key : Key) → HappensTo partition key course
     → (later between position : Log) → later ++ (between ++ position) ≡ primary_of partition course
     → IsSeenWhereItLeft partition between position key
 

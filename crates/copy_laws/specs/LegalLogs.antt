@@ -19,7 +19,7 @@ use Rattle.copy_laws.specs.Copies.{Copy, Command, commands_of}
 use Rattle.copy_laws.specs.Sides.{Partition, Number, siblings_at, is_defined_at, is_dead_at}
 use Rattle.copy_laws.specs.CopyReplay.{primary_after, name_at, named_at, AcceptsEntry, IsUntouchedBy}
 use Rattle.copy_laws.specs.Joining.{Log, Fallbacks, IsHandOff, SidesRise, NamesWhatCame, HasDot, HasCome, StandsCopy}
-use Rattle.copy_laws.specs.Diversions.{Course, fallback_of, primary_of, Happens}
+use Rattle.copy_laws.specs.Diversions.{Course, fallback_of, primary_of, HappensTo}
 use Rattle.copy_laws.specs.JointAnswers.{AreWithinLimits, MayRefuseBy, get_told_at, get_shown_at, update_at, put_event_at, del_event_at, put_refusal_at, del_refusal_at, does_nothing_at, unseen_at, put_told_at, put_shown_at}
 
 -- a log is legal for a key: it is a hand-off of it, sides rise, contexts name what was there, each copy is of a key that its
@@ -68,7 +68,7 @@ module _ (partition : Partition) (log : Log) (fallbacks : Fallbacks) where
   -- a log goes on with each command that the machine accepts, of whatever key: it is legal with it too
   abbrev pub LogsGoOn : Type 0
   LogsGoOn =
-      (key : Key) → IsLegalLog partition log fallbacks key → (event : Event Content Context) → AcceptsEntry partition log (Command event)
+      (key : Key) → IsLegalLog partition log fallbacks key → (event : Event Content Context) → AcceptsEntry partition key log (Command event)
       → (IsTrue (key_eq event.key key) → CoversBrought key event.context) → IsLegalLog partition (Command event ∷ log) fallbacks key
 
   -- the context is given, and names no position of the key
@@ -156,7 +156,7 @@ AtEachLog state ask Holds =
 abbrev pub StepIsOfLogs : State Content → RegisterAsk Content Context → Type 0
 StepIsOfLogs state ask = AtEachLog state ask (λ partition log fallbacks. IsOfLog partition log fallbacks ask (outcome state ask))
 
--- what comes of a course is legal for each key
+-- what comes of a course is legal for each key to which it happens
 abbrev pub CoursesAreLegal : Partition → Course → Type 0
 CoursesAreLegal partition course =
-    (partition.primary < partition.fallback) → Happens partition course → (key : Key) → IsLegalLog partition (primary_of partition course) (fallback_of course) key
+    (partition.primary < partition.fallback) → (key : Key) → HappensTo partition key course → IsLegalLog partition (primary_of partition course) (fallback_of course) key

@@ -60,7 +60,7 @@ module _ (run index : ℕ) (primary : GateId View) (new : IsMadeNew (id_of run i
   abbrev P : Partition
   P = partition run index primary new opened most F
 
-  module _ (rises : SidesRise P F) (L : Log) (entries : HasEntries P L) (turns : InTurns L)
+  module _ (rises : SidesRise P F) (L : Log) (entries : HasEntries P key L) (turns : InTurns L)
       (each : EachCopy (IsOne run index primary new opened most F L key most) L)
       (legal : (n : ℕ) → 1 ≤ n → n ≤ most → IsLegalAt run index primary new opened most F key n) (open_still : (primary_after P L).closed ≡ None) where
     abbrev Is : Copy Content → Type 0
@@ -69,7 +69,7 @@ module _ (run index : ℕ) (primary : GateId View) (new : IsMadeNew (id_of run i
     -- where contexts name what was there, each position of the log is legal
     legal-at : (gap log : Log) → gap ++ log ≡ L → AreNamed P F key rises log → IsLegalLog P log F key
     legal-at gap log is named =
-        let here = legal-before P gap log (subst (HasEntries P) (sym is) entries) in
+        let here = legal-before P key gap log (subst (HasEntries P key) (sym is) entries) in
         let copies = each-behind Is gap log (subst (EachCopy Is) (sym is) each) in
         let ordered = turns-behind gap log (subst InTurns (sym is) turns) in
         let came = named-came P F key rises log named in
@@ -88,7 +88,7 @@ module _ (run index : ℕ) (primary : GateId View) (new : IsMadeNew (id_of run i
           rise = rises;
           came = came;
           had = λ later before copy stands. ((copy-in Is log later before copy copies stands.0).1 stands.1).1;
-          open_still = open-before P gap log (subst (HasEntries P) (sym is) entries) (ap (λ (t : Log). (primary_after P t).closed) is ∙ open_still);
+          open_still = open-before P key gap log (subst (HasEntries P key) (sym is) entries) (ap (λ (t : Log). (primary_after P t).closed) is ∙ open_still);
         }
 
     still : (few : ℕ) (gap log : Log) → AreKnownThere P F key rises few log → AreKnownThere P F key rises few (gap ++ log)

@@ -13,7 +13,7 @@ use Rattle.copy_laws.specs.Copies.{Copy, Command, Copied, Closed, commands_of}
 use Rattle.copy_laws.specs.CopyReplay.{HasEntries, name_at, named_at, seen_at}
 use Rattle.copy_laws.specs.Joining.{Log, Fallbacks, IsHandOff, IsTrueCopy, NamesWhatCame, SidesRise}
 use Rattle.copy_laws.specs.Sides.{Partition, Number, is_defined_at}
-use Rattle.handoff.proofs.MoreSides.{any-more, none-come}
+use Rattle.copy_laws.proofs.MoreSides.{any-more, none-come}
 use Rattle.handoff.proofs.Turns.{EachCopy, copy-in, each-before}
 
 module _ (partition : Partition) (n : ℕ) (le : n ≤ partition.diversions) where
@@ -46,17 +46,17 @@ module _ (partition : Partition) (n : ℕ) (le : n ≤ partition.diversions) whe
   seen-same log key None Tombstone each = refl
   seen-same log key None Reap each = refl
 
-  entries-same : (log : Log) → EachCopy IsAmong log → HasEntries partition log → HasEntries fewer log
-  entries-same [] each legal = tt
-  entries-same (Command event ∷ before) each legal =
-      (entries-same before each legal.0, legal.1, (legal.2.0, legal.2.1 ∙ sym (seen-same before event.key event.context event.operation each)))
-  entries-same (Copied copy ∷ before) each legal = (entries-same before each.1 legal.0, legal.1, legal.2)
-  entries-same (Closed number ∷ before) each legal = (entries-same before each legal.0, legal.1, legal.2)
+  entries-same : (key : Key) (log : Log) → EachCopy IsAmong log → HasEntries partition key log → HasEntries fewer key log
+  entries-same key [] each legal = tt
+  entries-same key (Command event ∷ before) each legal =
+      (entries-same key before each legal.0, legal.1, (legal.2.0, λ itself. legal.2.1 itself ∙ sym (seen-same before event.key event.context event.operation each)))
+  entries-same key (Copied copy ∷ before) each legal = (entries-same key before each.1 legal.0, legal.1, legal.2)
+  entries-same key (Closed number ∷ before) each legal = (entries-same key before each legal.0, legal.1, legal.2)
 
   module _ (log : Log) (fallbacks : Fallbacks) (key : Key) where
     pub fewer-hand-off : EachCopy IsAmong log → IsHandOff partition log fallbacks key → IsHandOff fewer log fallbacks key
     fewer-hand-off each off = record {
-      primary_legal = entries-same log each off.primary_legal;
+      primary_legal = entries-same key log each off.primary_legal;
       fallbacks_legal = λ m diversion. off.fallbacks_legal m (diversion.0, let most = diversion.1 in omega (arith, most, le));
       copies = λ later before copy stands.
           let one : IsTrueCopy partition log fallbacks key copy = off.copies later before copy stands in

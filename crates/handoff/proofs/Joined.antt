@@ -134,28 +134,28 @@ module _ (partition : Partition) where
       (entry-applies log first mid entry makes ∙ ap (λ (s : State Content). apply_entry s (log_entry partition log entry)) is) run
 
   -- and that log is one that the law's machine accepts
-  entry-accepted : (log : Log) (state next : State Content) (entry : Entry) → state ≡ primary_after partition log → Makes state entry next → AcceptsEntry partition log (log_entry partition log entry)
-  entry-accepted log state next (Command event) is (opened, made) = (
+  entry-accepted : (key : Key) (log : Log) (state next : State Content) (entry : Entry) → state ≡ primary_after partition log → Makes state entry next → AcceptsEntry partition key log (log_entry partition log entry)
+  entry-accepted key log state next (Command event) is (opened, made) = (
     subst (λ (s : State Content). AcceptsEvent s (key_of (event_command event)) (context_in_ask (event_command event)) (event_deed event)) is (command-accepted state (event_command event) _ _ next made),
-    refl,
+    λ itself. refl,
   )
-  entry-accepted log state next (Copied copy) is (opened, (form, unstuck, made)) = subst (λ (s : State Content). IsTrue (not (is_stuck s copy.key copy.clock))) is unstuck
-  entry-accepted log state next (Closed number) is made = tt
+  entry-accepted key log state next (Copied copy) is (opened, (form, unstuck, made)) = subst (λ (s : State Content). IsTrue (not (is_stuck s copy.key copy.clock))) is unstuck
+  entry-accepted key log state next (Closed number) is made = tt
 
-  log-legal : (entries : List Entry) (log : Log) (first last : State Content) → first ≡ primary_after partition log → HasEntries partition log → MachineRun Makes first entries last
-      → HasEntries partition (log_after partition log entries)
-  log-legal [] log first last is legal run = legal
-  log-legal (entry ∷ entries) log first last is legal (mid, makes, run) =
-      log-legal entries (log_entry partition log entry ∷ log) mid last
+  log-legal : (key : Key) (entries : List Entry) (log : Log) (first last : State Content) → first ≡ primary_after partition log → HasEntries partition key log → MachineRun Makes first entries last
+      → HasEntries partition key (log_after partition log entries)
+  log-legal key [] log first last is legal run = legal
+  log-legal key (entry ∷ entries) log first last is legal (mid, makes, run) =
+      log-legal key entries (log_entry partition log entry ∷ log) mid last
       (entry-applies log first mid entry makes ∙ ap (λ (s : State Content). apply_entry s (log_entry partition log entry)) is)
-      (legal, sym (ap (λ (s : State Content). s.closed) is) ∙ makes.0, entry-accepted log first mid entry is makes) run
+      (legal, sym (ap (λ (s : State Content). s.closed) is) ∙ makes.0, entry-accepted key log first mid entry is makes) run
 
-  pub shown-legal : (primary : Log) (mine : Sight) (state : State Content) → IsOfPrimary partition primary mine → ShowsState mine state → HasEntries partition primary
-  shown-legal primary mine state of shows =
+  pub shown-legal : (key : Key) (primary : Log) (mine : Sight) (state : State Content) → IsOfPrimary partition primary mine → ShowsState mine state → HasEntries partition key primary
+  shown-legal key primary mine state of shows =
       let first = of.made_new.first in
       let run : MachineRun Makes first.state mine.prefix state =
       subst (λ (o : Option View). LeadsVnodeTo (record { book = mine.gate.book; opening = o }) mine.prefix state) of.made_new.made shows in
-      subst (HasEntries partition) of.log (log-legal mine.prefix [] first.state state of.made_new.new tt run)
+      subst (HasEntries partition key) of.log (log-legal key mine.prefix [] first.state state of.made_new.new tt run)
 
   -- a pass of the primary shows that state
   pub shown-state : (primary : Log) (mine : Sight) (state : State Content) → IsOfPrimary partition primary mine → ShowsState mine state → state ≡ primary_after partition primary
@@ -229,7 +229,7 @@ module _ (partition : Partition) (primary : Log) (fallbacks : Fallbacks) (mine t
 
     hand_off : IsHandOff partition primary fallbacks key
     hand_off = record {
-      primary_legal = shown-legal partition primary mine ended.primary of_primary ended.shows;
+      primary_legal = shown-legal partition key primary mine ended.primary of_primary ended.shows;
       fallbacks_legal = each (λ n. HasReplay partition.fallback (partition.opened n) (fallbacks n)) (λ n d lt. (handed.earlier n d lt).legal)
           (subst (HasReplay partition.fallback (partition.opened partition.diversions)) history-is goes.after.replays);
       copies = handed.copies;

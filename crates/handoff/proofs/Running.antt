@@ -334,10 +334,10 @@ module _ (run index : ℕ) (primary : GateId View) (new : IsMadeNew (id_of run i
         let end = back.0.returned.of_gates.sees.ended in
         shown-state P L last.passes.primary end.primary (of-primary run index primary new o (length diversions) F key last earlier back.0) end.shows
 
-    pub legal-entries : HasEntries P L
+    pub legal-entries : HasEntries P key L
     legal-entries =
         let end = back.0.returned.of_gates.sees.ended in
-        shown-legal P L last.passes.primary end.primary (of-primary run index primary new o (length diversions) F key last earlier back.0) end.shows
+        shown-legal P key L last.passes.primary end.primary (of-primary run index primary new o (length diversions) F key last earlier back.0) end.shows
 
     pub legal-there : (n : ℕ) → 1 ≤ n → n ≤ length (last ∷ earlier) → IsLegalAt run index primary new (opened_in run index (last ∷ earlier)) (length (last ∷ earlier)) F key n
     legal-there n first most = each-legal run index primary new o (length diversions) F key diversions back (are-of run index diversions) n first most

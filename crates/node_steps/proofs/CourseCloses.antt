@@ -14,7 +14,7 @@ use Rattle.copy_laws.specs.Copies.{all_commands, commands_of}
 use Rattle.copy_laws.specs.Joining.{Log}
 use Rattle.copy_laws.specs.Sides.{Partition}
 use Rattle.copy_laws.specs.CopyReplay.{primary_after}
-use Rattle.copy_laws.specs.Diversions.{Course, Return, diversions_of, fallback_of, fallback_state, primary_of, WasShownInCourse, MayHappen}
+use Rattle.copy_laws.specs.Diversions.{Course, Return, diversions_of, fallback_of, fallback_state, primary_of, WasShownInCourse, MayHappenTo}
 use Rattle.copy_laws.specs.LastDots.{knows_last_dot}
 use Rattle.copy_laws.proofs.CourseCopied.{copied_is_brought}
 use Rattle.copy_laws.proofs.Fallback.{log-replay}
@@ -34,9 +34,9 @@ use Rattle.vnode_core.proofs.Lefts.{none-left-known}
 
 -- a closer's look
 pub run-judged : (run index : ℕ) (w : World) (number : ℕ) (action : Action) (r : World × Outcome) → IsJudgement w number action r
-    → (course : Course) (opened : ℕ → ℕ) (Shown : Key → Context → Type 0) → IsRun run index w course opened Shown → IsRun run index r.0 course opened Shown
-run-judged run index w number action r j course opened Shown run_is =
-    subst (λ (q : World × Outcome). IsQuiet w q.0 → IsRun run index q.0 course opened Shown) j.gives (λ calm. record {
+    → (course : Course) (opened : ℕ → ℕ) (Shown : Key → Context → Type 0) (Gives : Key → Type 0) → IsRun run index w course opened Shown Gives → IsRun run index r.0 course opened Shown Gives
+run-judged run index w number action r j course opened Shown Gives run_is =
+    subst (λ (q : World × Outcome). IsQuiet w q.0 → IsRun run index q.0 course opened Shown Gives) j.gives (λ calm. record {
       known = run_is.known;
       timed = run_is.timed;
       first = run_is.first;
@@ -55,15 +55,16 @@ run-judged run index w number action r j course opened Shown run_is =
       fallbacks = λ n one most last. let f = run_is.fallbacks n one most last in was-later run index w _ course course opened n refl f f.there;
       lawful = λ partition agrees. let law = run_is.lawful partition agrees in record {
         may_happen = law.may_happen;
+        to_key = law.to_key;
         vnode = let v = law.vnode in record { vnode = v.vnode; there = v.there; id_is = v.id_is; epoch_is = v.epoch_is; log_is = v.log_is };
         shown = law.shown;
-        calls = λ place worker h call asked v there own context e.
-            let old = calm.calls place worker h call asked in law.calls place old.0 old.1 call (ap call_of old.2 ∙ asked) v there own context e;
+        calls = λ place worker h call asked v there own gives context e.
+            let old = calm.calls place worker h call asked in law.calls place old.0 old.1 call (ap call_of old.2 ∙ asked) v there own gives context e;
       };
     }) (quiet-judged w number action r j)
 
 module _ (run index : ℕ) (w : World) (orderly : IsOrderly w) (number : ℕ) (action : Action) (r : World × Outcome) (c : IsClose w number action r) (judged_all : AreJudged w)
-    (course : Course) (opened : ℕ → ℕ) (Shown : Key → Context → Type 0) (run_is : IsRun run index w course opened Shown) where
+    (course : Course) (opened : ℕ → ℕ) (Shown : Key → Context → Type 0) (Gives : Key → Type 0) (run_is : IsRun run index w course opened Shown Gives) where
   abbrev next : World
   next = close_world w orderly number action r c
 
@@ -104,15 +105,15 @@ module _ (run index : ℕ) (w : World) (orderly : IsOrderly w) (number : ℕ) (a
       (close_fallback w orderly number action r c).apart (sym (close_own w orderly number action r c) ∙ home.0)
 
   calls-stay : (partition : Partition) (later : Course) → ((key : Key) (context : Context) → WasShownInCourse partition course key context → WasShownInCourse partition later key context)
-      → IsLawful run index partition w course Shown → IsQuiet w next → (place : ℕ) (worker : Worker) → slice_get next.workers place ≡ Some worker → (call : Call) → call_of worker.phase ≡ Some call
-      → (v : SiteVnode) → slice_get next.vnodes call.site ≡ Some v → v.own ≡ index → (context : Context) → context_in_ask call.ask ≡ Some context → WasGiven run index partition later (key_of call.ask) context
-  calls-stay partition later still law calm place worker h call asked v there own context e =
+      → IsLawful run index partition w course Shown Gives → IsQuiet w next → (place : ℕ) (worker : Worker) → slice_get next.workers place ≡ Some worker → (call : Call) → call_of worker.phase ≡ Some call
+      → (v : SiteVnode) → slice_get next.vnodes call.site ≡ Some v → v.own ≡ index → Gives (key_of call.ask) → (context : Context) → context_in_ask call.ask ≡ Some context → WasGiven run index partition later (key_of call.ask) context
+  calls-stay partition later still law calm place worker h call asked v there own gives context e =
       let old = calm.calls place worker h call asked in
       let vnode = vnode_was call.site v there in
-      given-later run index partition course later still (key_of call.ask) context (law.calls place old.0 old.1 call (ap call_of old.2 ∙ asked) vnode.0 vnode.1 (vnode.2 ∙ own) context e)
+      given-later run index partition course later still (key_of call.ask) context (law.calls place old.0 old.1 call (ap call_of old.2 ∙ asked) vnode.0 vnode.1 (vnode.2 ∙ own) gives context e)
 
   -- another partition's close
-  elsewhere : c.own ≢ index → IsQuiet w next → IsRun run index next course opened Shown
+  elsewhere : c.own ≢ index → IsQuiet w next → IsRun run index next course opened Shown Gives
   elsewhere n calm = record {
     known = subst (λ m. index < m) (sym (length-set w.routes c.own c.own)) run_is.known;
     timed = subst (λ m. index < m) (sym (length-set w.epochs c.own c.hand.last_epoch)) run_is.timed;
@@ -138,6 +139,7 @@ module _ (run index : ℕ) (w : World) (orderly : IsOrderly w) (number : ℕ) (a
     fallbacks = λ m one most last. was-stays course m refl (run_is.fallbacks m one most last);
     lawful = λ partition agrees. let law = run_is.lawful partition agrees in record {
       may_happen = law.may_happen;
+      to_key = law.to_key;
       vnode = vnode-stays index (home_id run index) 0 (primary_of partition course) not_home law.vnode;
       shown = law.shown;
       calls = calls-stay partition course (λ key context s. s) law calm;
@@ -177,7 +179,7 @@ module _ (run index : ℕ) (w : World) (orderly : IsOrderly w) (number : ℕ) (a
 
     -- all was brought back
     module _ (partition : Partition) (agrees : Agrees run index opened (diversions_of course) partition) where
-      abbrev law : IsLawful run index partition w course Shown
+      abbrev law : IsLawful run index partition w course Shown Gives
       law = run_is.lawful partition agrees
 
       hand-state : c.hand ≡ fallback_state partition course
@@ -194,11 +196,8 @@ module _ (run index : ℕ) (w : World) (orderly : IsOrderly w) (number : ℕ) (a
           ∙ primary-state run index opened count partition agrees (primary_of partition course) in
           none-left-known (primary_after partition (primary_of partition course)) (fallback_state partition course) ((λ i. left_in (sym primary i) (sym hand-state i)) ∙ f.none_left) key
 
-      may-return : MayHappen partition course Return
-      may-return = (
-        away.diverted,
-        λ key. copied_is_brought partition course (ids run index opened count partition agrees) law.may_happen away.diverted key (all-known key),
-      )
+      may-return : (key : Key) → Gives key → MayHappenTo partition key course Return
+      may-return key gives = copied_is_brought partition course (ids run index opened count partition agrees) key (law.to_key key gives) away.diverted (all-known key)
 
     returned-fallback : WasFallback run index next later opened count
     returned-fallback = record {
@@ -212,7 +211,7 @@ module _ (run index : ℕ) (w : World) (orderly : IsOrderly w) (number : ℕ) (a
       closed = λ none. none-some c.count (sym none);
     }
 
-    returned : IsRun run index next later opened Shown
+    returned : IsRun run index next later opened Shown Gives
     returned = record {
       known = subst (λ m. index < m) (sym (length-set w.routes c.own c.own)) run_is.known;
       timed = subst (λ m. index < m) (sym (length-set w.epochs c.own c.hand.last_epoch)) run_is.timed;
@@ -230,14 +229,15 @@ module _ (run index : ℕ) (w : World) (orderly : IsOrderly w) (number : ℕ) (a
         | inr m ↦ was-stays later n refl (run_is.fallbacks n one most (λ diverted. m))
       ];
       lawful = λ partition agrees. let law = run_is.lawful partition agrees in record {
-        may_happen = (law.may_happen, may-return partition agrees);
+        may_happen = (law.may_happen, away.diverted);
+        to_key = λ key gives. (law.to_key key gives, away.diverted, may-return partition agrees key gives);
         vnode = vnode-stays index (home_id run index) 0 (primary_of partition course) not_home law.vnode;
         shown = λ key context s. given-later run index partition course later (shown-later run index partition Return course) key context (law.shown key context s);
         calls = calls-stay partition later (shown-later run index partition Return course) law calm;
       };
     }
 
-  closes-on : IsQuiet w next → (happened : Course) × IsRun run index next (happened ++ course) opened Shown
+  closes-on : IsQuiet w next → (happened : Course) × IsRun run index next (happened ++ course) opened Shown Gives
   closes-on calm = elim (same_or_other c.own index) [
     | inl e ↦ elim run_is.side [
       | inl own ↦ absurd (not_home (some_back c.site index (sym (close_route w orderly number action r c) ∙ ap (λ k. slice_get w.routes k) e ∙ own.route_is)))
@@ -246,5 +246,5 @@ module _ (run index : ℕ) (w : World) (orderly : IsOrderly w) (number : ℕ) (a
     | inr n ↦ ([], elsewhere n calm)
   ]
 
-  pub run-closed : (happened : Course) × IsRun run index r.0 (happened ++ course) opened Shown
-  run-closed = subst (λ (q : World × Outcome). IsQuiet w q.0 → (happened : Course) × IsRun run index q.0 (happened ++ course) opened Shown) c.gives closes-on (quiet-closed w orderly number action r c)
+  pub run-closed : (happened : Course) × IsRun run index r.0 (happened ++ course) opened Shown Gives
+  run-closed = subst (λ (q : World × Outcome). IsQuiet w q.0 → (happened : Course) × IsRun run index q.0 (happened ++ course) opened Shown Gives) c.gives closes-on (quiet-closed w orderly number action r c)

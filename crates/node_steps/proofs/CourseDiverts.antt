@@ -47,7 +47,7 @@ at_most : (m n : ℕ) → m ≤ n + 1 → m ≢ n + 1 → m ≤ n
 at_most m n h k = omega (arith, h, k)
 
 module _ (run index : ℕ) (w : World) (orderly : IsOrderly w) (other : ℕ) (after : World) (d : IsDiversion w other after)
-    (course : Course) (opened : ℕ → ℕ) (Shown : Key → Context → Type 0) (run_is : IsRun run index w course opened Shown) where
+    (course : Course) (opened : ℕ → ℕ) (Shown : Key → Context → Type 0) (Gives : Key → Type 0) (run_is : IsRun run index w course opened Shown Gives) where
   abbrev new_site : ℕ
   new_site = length w.vnodes
 
@@ -78,13 +78,13 @@ module _ (run index : ℕ) (w : World) (orderly : IsOrderly w) (other : ℕ) (af
           (subst (λ n. new_site ≤ n) (sym at) (omega arith))
 
   calls-stay : (partition : Partition) (next : Course) → ((key : Key) (context : Context) → WasShownInCourse partition course key context → WasShownInCourse partition next key context)
-      → IsLawful run index partition w course Shown → (place : ℕ) (worker : Worker) → slice_get w.workers place ≡ Some worker → (call : Call) → call_of worker.phase ≡ Some call
-      → (v : SiteVnode) → slice_get later.vnodes call.site ≡ Some v → v.own ≡ index → (context : Context) → context_in_ask call.ask ≡ Some context → WasGiven run index partition next (key_of call.ask) context
-  calls-stay partition next still law place worker h call asked v there own context e =
-      given-later run index partition course next still (key_of call.ask) context (law.calls place worker h call asked v (old_vnode place worker h call asked v there) own context e)
+      → IsLawful run index partition w course Shown Gives → (place : ℕ) (worker : Worker) → slice_get w.workers place ≡ Some worker → (call : Call) → call_of worker.phase ≡ Some call
+      → (v : SiteVnode) → slice_get later.vnodes call.site ≡ Some v → v.own ≡ index → Gives (key_of call.ask) → (context : Context) → context_in_ask call.ask ≡ Some context → WasGiven run index partition next (key_of call.ask) context
+  calls-stay partition next still law place worker h call asked v there own gives context e =
+      given-later run index partition course next still (key_of call.ask) context (law.calls place worker h call asked v (old_vnode place worker h call asked v there) own gives context e)
 
   -- another partition's diversion
-  elsewhere-diverted : other ≢ index → IsRun run index later course opened Shown
+  elsewhere-diverted : other ≢ index → IsRun run index later course opened Shown Gives
   elsewhere-diverted n = record {
     known = subst (λ m. index < m) (sym (length-set w.routes other new_site)) run_is.known;
     timed = run_is.timed;
@@ -105,6 +105,7 @@ module _ (run index : ℕ) (w : World) (orderly : IsOrderly w) (other : ℕ) (af
         let f = run_is.fallbacks m one most last in was-later run index w later course course opened m refl f (get-before w.vnodes (fresh ∷ []) f.site f.vnode f.there);
     lawful = λ partition agrees. let law = run_is.lawful partition agrees in record {
       may_happen = law.may_happen;
+      to_key = law.to_key;
       vnode = vnode-stays index (home_id run index) 0 (primary_of partition course) law.vnode;
       shown = law.shown;
       calls = calls-stay partition course (λ key context s. s) law;
@@ -166,7 +167,7 @@ module _ (run index : ℕ) (w : World) (orderly : IsOrderly w) (other : ℕ) (af
       log_is = sym (ap (λ (h : History). all_commands h) (none-yet course (count + 1) (omega arith)));
     }
 
-    own-diverted : IsRun run index later next more Shown
+    own-diverted : IsRun run index later next more Shown Gives
     own-diverted = record {
       known = subst (λ m. index < m) (sym (length-set w.routes other new_site)) run_is.known;
       timed = run_is.timed;
@@ -197,13 +198,14 @@ module _ (run index : ℕ) (w : World) (orderly : IsOrderly w) (other : ℕ) (af
           };
       lawful = λ partition agrees. let law = run_is.lawful partition (agrees_before partition agrees) in record {
         may_happen = (law.may_happen, may-divert partition agrees);
+        to_key = λ key gives. (law.to_key key gives, may-divert partition agrees, tt);
         vnode = vnode-stays index (home_id run index) 0 (primary_of partition course) law.vnode;
         shown = λ key context s. given-later run index partition course next (shown-later run index partition Divert course) key context (law.shown key context s);
         calls = calls-stay partition next (shown-later run index partition Divert course) law;
       };
     }
 
-  diverts-on : (happened : Course) × (more : ℕ → ℕ) × ((n : ℕ) → n ≤ diversions_of course → more n ≡ opened n) × IsRun run index later (happened ++ course) more Shown
+  diverts-on : (happened : Course) × (more : ℕ → ℕ) × ((n : ℕ) → n ≤ diversions_of course → more n ≡ opened n) × IsRun run index later (happened ++ course) more Shown Gives
   diverts-on = elim (same_or_other other index) [
     | inl e ↦ elim run_is.side [
       | inl own ↦ (
@@ -217,6 +219,6 @@ module _ (run index : ℕ) (w : World) (orderly : IsOrderly w) (other : ℕ) (af
     | inr n ↦ ([], opened, (λ n most. refl), elsewhere-diverted n)
   ]
 
-  pub run-diverted : (happened : Course) × (more : ℕ → ℕ) × ((n : ℕ) → n ≤ diversions_of course → more n ≡ opened n) × IsRun run index after (happened ++ course) more Shown
+  pub run-diverted : (happened : Course) × (more : ℕ → ℕ) × ((n : ℕ) → n ≤ diversions_of course → more n ≡ opened n) × IsRun run index after (happened ++ course) more Shown Gives
   run-diverted =
-      subst (λ (q : World). (happened : Course) × (more : ℕ → ℕ) × ((n : ℕ) → n ≤ diversions_of course → more n ≡ opened n) × IsRun run index q (happened ++ course) more Shown) d.gives diverts-on
+      subst (λ (q : World). (happened : Course) × (more : ℕ → ℕ) × ((n : ℕ) → n ≤ diversions_of course → more n ≡ opened n) × IsRun run index q (happened ++ course) more Shown Gives) d.gives diverts-on

@@ -9,7 +9,7 @@ use Rattle.sibling_register.specs.History.{count_of}
 use Rattle.copy_laws.specs.Copies.{Copy, Copied, count_brought}
 use Rattle.copy_laws.specs.Sides.{Partition}
 use Rattle.copy_laws.specs.Joining.{Log, IsHandOff, IsJoined, AreJointSiblings}
-use Rattle.copy_laws.specs.Diversions.{Course, diversions_of, fallback_of, primary_of, Happens}
+use Rattle.copy_laws.specs.Diversions.{Course, diversions_of, fallback_of, primary_of, HappensTo}
 use Rattle.copy_laws.proofs.Brought.{BroughtBy, brought-by, brought-at}
 use Rattle.copy_laws.proofs.Later.{count-later}
 use Rattle.copy_laws.proofs.Courses.{none-yet, open_always, settled}
@@ -17,7 +17,7 @@ use Rattle.copy_laws.proofs.CourseDots.{copy-came}
 use Rattle.copy_laws.proofs.CourseLaw.{came-below, courses_are_hand_offs}
 use Rattle.copy_laws.proofs.JoinLaw.{copies_join}
 
-module _ (partition : Partition) (course : Course) (ids : partition.primary < partition.fallback) (happens : Happens partition course) (key : Key) where
+module _ (partition : Partition) (course : Course) (ids : partition.primary < partition.fallback) (key : Key) (happens : HappensTo partition key course) where
   abbrev log : Log
   log = primary_of partition course
 
@@ -25,7 +25,7 @@ module _ (partition : Partition) (course : Course) (ids : partition.primary < pa
   last = diversions_of course
 
   off : IsHandOff partition log (fallback_of course) key
-  off = (courses_are_hand_offs partition course ids happens key).0
+  off = (courses_are_hand_offs partition course ids key happens).0
 
   -- of a diversion that is to come nothing was brought
   none-brought : (n : ℕ) → last < n → count_brought log key n ≡ 0
@@ -55,7 +55,7 @@ module _ (partition : Partition) (course : Course) (ids : partition.primary < pa
   AllBrought n = count_brought log key n ≡ count_of (fallback_of course n) key
 
   pub earlier-brought : (n : ℕ) → n < last → AllBrought n
-  earlier-brought n less = settled partition course happens n (inl less) key
+  earlier-brought n less = settled partition key course happens n (inl less)
 
   joined : AllBrought last → IsJoined partition log (fallback_of course) key
   joined all = record {

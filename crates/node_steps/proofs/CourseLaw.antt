@@ -8,11 +8,12 @@ use Rattle.std.specs.Option.{option_map_or}
 use Rattle.riak_msgs.specs.declared.Key.{Key}
 use Rattle.actor_epoch.specs.Given.{Context}
 use Rattle.actor_epoch.specs.Limits.{max_epoch}
+use Rattle.vnode_machine.specs.Registers.{key_of}
 use Rattle.vnode_machine.specs.Step.{Response}
 use Rattle.copy_laws.specs.Copies.{Command, all_commands, commands_of}
 use Rattle.copy_laws.specs.Joining.{Log}
 use Rattle.copy_laws.specs.Sides.{Partition}
-use Rattle.copy_laws.specs.Diversions.{Course, AtPrimary, Divert, AtFallback, CopyBack, Return, diversions_of, is_diverted, fallback_of, primary_of, Happens, WasShownInCourse}
+use Rattle.copy_laws.specs.Diversions.{Course, AtPrimary, Divert, AtFallback, CopyBack, Return, diversions_of, is_diverted, fallback_of, primary_of, Happens, HappensTo, WasShownInCourse}
 use Rattle.copy_laws.proofs.Courses.{diverted-some, diversions-grow}
 use Rattle.node_steps.specs.World.{SiteVnode, Worker, World, CommandsAlone, fresh_vnode, fresh_worker, id_of, opening_world, route, log_at, call_of, history_of}
 use Rattle.node_steps.specs.Steps.{Action, Step, By, Diverts, routed, Outcome, NotPossible, Happened, Replied, acts, diverted}
@@ -40,7 +41,7 @@ use Rattle.node_steps.proofs.CourseCloses.{run-judged, run-closed}
 use Rattle.node_steps.proofs.CourseDiverts.{some_partition, some_agrees, run-diverted}
 
 run-opening : (start : Start) (index : ℕ) → index < start.vnodes
-    → IsRun start.run index (opening_world start.run start.workers start.vnodes) [] (λ n. 0) (λ key context. ⊥)
+    → IsRun start.run index (opening_world start.run start.workers start.vnodes) [] (λ n. 0) (λ key context. ⊥) (λ key. Unit {0})
 run-opening start index known = record {
   known = subst (λ n. index < n) (sym (length-own 0 start.vnodes)) known;
   timed = subst (λ n. index < n) (sym (length-replicate start.vnodes 0)) known;
@@ -54,6 +55,7 @@ run-opening start index known = record {
   fallbacks = λ n one most last. absurd (none n one most);
   lawful = λ partition agrees. record {
     may_happen = tt;
+    to_key = λ key gives. tt;
     vnode = record {
       vnode = fresh_vnode (id_of start.run index) index 0;
       there = vnode_there start.run 0 start.vnodes index known ∙ ap (λ n. Some (fresh_vnode (id_of start.run n) n 0)) (zero-add index);
@@ -62,7 +64,7 @@ run-opening start index known = record {
       log_is = refl;
     };
     shown = λ key context h. absurd h;
-    calls = λ place worker h call asked v there own context e.
+    calls = λ place worker h call asked v there own gives context e.
         absurd (none-some call (ap (λ (x : Worker). call_of x.phase) (sym (get-replicate start.workers place fresh_worker worker h)) ∙ asked));
   };
 }
@@ -70,10 +72,11 @@ run-opening start index known = record {
     none : (n : ℕ) → 1 ≤ n → n ≤ 0 → ⊥
     none n h k = omega (arith, h, k)
 
--- a run by the contexts that had been shown
-run-shown : (run index : ℕ) (w : World) (course : Course) (opened : ℕ → ℕ) (Shown Later : Key → Context → Type 0) → ((key : Key) (context : Context) → Later key context → Shown key context)
-    → IsRun run index w course opened Shown → IsRun run index w course opened Later
-run-shown run index w course opened Shown Later back run_is = record {
+-- a run by the contexts that had been shown, and by the keys for which just such were given
+run-shown : (run index : ℕ) (w : World) (course : Course) (opened : ℕ → ℕ) (Shown Later : Key → Context → Type 0) (Gives More : Key → Type 0)
+    → ((key : Key) (context : Context) → Later key context → Shown key context) → ((key : Key) → More key → Gives key)
+    → IsRun run index w course opened Shown Gives → IsRun run index w course opened Later More
+run-shown run index w course opened Shown Later Gives More back still run_is = record {
   known = run_is.known;
   timed = run_is.timed;
   first = run_is.first;
@@ -82,9 +85,10 @@ run-shown run index w course opened Shown Later back run_is = record {
   fallbacks = run_is.fallbacks;
   lawful = λ partition agrees. let law = run_is.lawful partition agrees in record {
     may_happen = law.may_happen;
+    to_key = λ key more. law.to_key key (still key more);
     vnode = law.vnode;
     shown = λ key context s. law.shown key context (back key context s);
-    calls = law.calls;
+    calls = λ place worker h call asked v there own more context e. law.calls place worker h call asked v there own (still (key_of call.ask) more) context e;
   };
 }
 
@@ -108,17 +112,21 @@ goes-trans a b c opened more most first second = record {
     still n below = let grow = subst (λ (t : Course). diversions_of a ≤ diversions_of t) first.is (diversions-grow first.happened a) in omega (arith, below, grow)
 
 module _ (start : Start) (is : IsStart start) (index : ℕ) (known : index < start.vnodes) where
+  -- the keys for which each context that was given had been shown
+  abbrev pub Gives : List Step → Key → Type 0
+  Gives schedule key = GivesShownThere start index key schedule
+
   -- the run of a partition after a schedule
   abbrev pub Run : List Step → World → Type 0
-  Run schedule w = (course : Course) × (opened : ℕ → ℕ) × IsRun start.run index w course opened (WasShownThere start index schedule)
+  Run schedule w = (course : Course) × (opened : ℕ → ℕ) × IsRun start.run index w course opened (WasShownThere start index schedule) (Gives schedule)
 
   -- and after one step more
   abbrev Next : List Step → (course : Course) (opened : ℕ → ℕ) → World → Type 0
   Next schedule course opened w = (next : Run schedule w) × RunGoesOn course next.0 opened next.1
 
-  runs-on : (step : Step) (earlier : List Step) → GivesShownThere start index (step ∷ earlier) → (before : Run earlier (world_after start earlier))
+  runs-on : (step : Step) (earlier : List Step) → (before : Run earlier (world_after start earlier))
       → Next (step ∷ earlier) before.0 before.1 (world_after start (step ∷ earlier))
-  runs-on (By number action) earlier gives run = by (acts w number to) refl run
+  runs-on (By number action) earlier run = by (acts w number to) refl run
     where
       w : World
       w = world_after start earlier
@@ -143,11 +151,11 @@ module _ (start : Start) (is : IsStart start) (index : ℕ) (known : index < sta
         (
           before.0,
           before.1,
-          run-shown start.run index w before.0 before.1 (WasShownThere start index earlier) (WasShownThere start index (By number action ∷ earlier))
+          run-shown start.run index w before.0 before.1 (WasShownThere start index earlier) (WasShownThere start index (By number action ∷ earlier)) (Gives earlier) (Gives (By number action ∷ earlier))
               (λ key context s. elim s [
                 | inl now ↦ absurd (not_replied (Ok now.2.response) (sym (ap (λ o. option_map_or (λ (r : World × Outcome). r.1) o NotPossible) h) ∙ now.2.replied))
                 | inr was ↦ was
-              ]) before.2,
+              ]) (λ key gives. gives.0) before.2,
         ),
         goes-itself before.0 before.1,
       )
@@ -157,13 +165,14 @@ module _ (start : Start) (is : IsStart start) (index : ℕ) (known : index < sta
             let ordered = orderly start is earlier in
             let apart = stays_apart start is earlier in
             let sends = sent-by w action in
-            let n = course-next start.run index w ordered apart number to r p sends before.0 before.1 (WasShownThere start index earlier) before.2 in (
+            let n = course-next start.run index w ordered apart number to r p sends before.0 before.1 (WasShownThere start index earlier) (Gives earlier) before.2 in (
               (
                 n.0 ++ before.0,
                 before.1,
-                subst (λ (q : World × Outcome). IsRun start.run index q.0 (n.0 ++ before.0) before.1 (WasShownThere start index (By number action ∷ earlier))) p.gives
-                    (run-next start.run index w ordered apart number to r p sends before.0 before.1 (WasShownThere start index earlier) before.2 (sends-well w action)
-                    (λ site there key context g. gives.1 (λ none. none-some r (sym none ∙ h)) site there key context
+                subst (λ (q : World × Outcome). IsRun start.run index q.0 (n.0 ++ before.0) before.1 (WasShownThere start index (By number action ∷ earlier)) (Gives (By number action ∷ earlier))) p.gives
+                    (run-next start.run index w ordered apart number to r p sends before.0 before.1 (WasShownThere start index earlier) (Gives earlier) before.2 (sends-well w action)
+                    (Gives (By number action ∷ earlier)) (λ key gives. gives.0)
+                    (λ site there key gives context g. gives.1 (λ none. none-some r (sym none ∙ h)) site there context
                     (ap (λ o. option_map_or (λ (x : Worker). given_in (call_by to x.phase) site key) o None) p.worker_is ∙ g)) (n.0 ++ before.0) n.1
                     (WasShownThere start index (By number action ∷ earlier))
                     (λ key context s. elim s [
@@ -188,25 +197,25 @@ module _ (start : Start) (is : IsStart start) (index : ℕ) (known : index < sta
             (
               before.0,
               before.1,
-              run-shown start.run index r.0 before.0 before.1 (WasShownThere start index earlier) (WasShownThere start index (By number action ∷ earlier))
-                  (before-shown r h (λ response e. silent_judged w number (orderly start is earlier) to r j (Ok response) e))
-                  (run-judged start.run index w number to r j before.0 before.1 (WasShownThere start index earlier) before.2),
+              run-shown start.run index r.0 before.0 before.1 (WasShownThere start index earlier) (WasShownThere start index (By number action ∷ earlier)) (Gives earlier) (Gives (By number action ∷ earlier))
+                  (before-shown r h (λ response e. silent_judged w number (orderly start is earlier) to r j (Ok response) e)) (λ key gives. gives.0)
+                  (run-judged start.run index w number to r j before.0 before.1 (WasShownThere start index earlier) (Gives earlier) before.2),
             ),
             goes-itself before.0 before.1,
           )
           | inr c ↦
-              let n = run-closed start.run index w (orderly start is earlier) number to r c (judged_after start is earlier) before.0 before.1 (WasShownThere start index earlier) before.2 in (
+              let n = run-closed start.run index w (orderly start is earlier) number to r c (judged_after start is earlier) before.0 before.1 (WasShownThere start index earlier) (Gives earlier) before.2 in (
                 (
                   n.0 ++ before.0,
                   before.1,
-                  run-shown start.run index r.0 (n.0 ++ before.0) before.1 (WasShownThere start index earlier) (WasShownThere start index (By number action ∷ earlier))
-                      (before-shown r h (λ response e. silent_closed w number (orderly start is earlier) to r c (Ok response) e)) n.1,
+                  run-shown start.run index r.0 (n.0 ++ before.0) before.1 (WasShownThere start index earlier) (WasShownThere start index (By number action ∷ earlier)) (Gives earlier) (Gives (By number action ∷ earlier))
+                      (before-shown r h (λ response e. silent_closed w number (orderly start is earlier) to r c (Ok response) e)) (λ key gives. gives.0) n.1,
                 ),
                 record { happened = n.0; is = refl; same = λ m most. refl },
               )
         ]
       ]
-  runs-on (Diverts other) earlier gives run = by (diverted w other) refl run
+  runs-on (Diverts other) earlier run = by (diverted w other) refl run
     where
       w : World
       w = world_after start earlier
@@ -217,37 +226,36 @@ module _ (start : Start) (is : IsStart start) (index : ℕ) (known : index < sta
         | inr was ↦ was
       ]
 
-      as_shown : (x : World) (course : Course) (opened : ℕ → ℕ) → IsRun start.run index x course opened (WasShownThere start index earlier)
-          → IsRun start.run index x course opened (WasShownThere start index (Diverts other ∷ earlier))
+      as_shown : (x : World) (course : Course) (opened : ℕ → ℕ) → IsRun start.run index x course opened (WasShownThere start index earlier) (Gives earlier)
+          → IsRun start.run index x course opened (WasShownThere start index (Diverts other ∷ earlier)) (Gives (Diverts other ∷ earlier))
       as_shown x course opened run =
-          run-shown start.run index x course opened (WasShownThere start index earlier) (WasShownThere start index (Diverts other ∷ earlier)) before-shown run
+          run-shown start.run index x course opened (WasShownThere start index earlier) (WasShownThere start index (Diverts other ∷ earlier)) (Gives earlier) (Gives (Diverts other ∷ earlier)) before-shown (λ key gives. gives.0) run
 
       by : (o : Option World) → diverted w other ≡ o → (before : Run earlier w)
           → Next (Diverts other ∷ earlier) before.0 before.1 (option_map_or (λ (r : World × Outcome). r.0) (option_map (λ (next : World). (next, Happened)) o) w)
       by None h before = ((before.0, before.1, as_shown w before.0 before.1 before.2), goes-itself before.0 before.1)
       by (Some next) h before =
-          let n = run-diverted start.run index w (orderly start is earlier) other next (diversion w other next h) before.0 before.1 (WasShownThere start index earlier) before.2 in
+          let n = run-diverted start.run index w (orderly start is earlier) other next (diversion w other next h) before.0 before.1 (WasShownThere start index earlier) (Gives earlier) before.2 in
           ((n.0 ++ before.0, n.1, as_shown next (n.0 ++ before.0) n.1 n.3), record { happened = n.0; is = refl; same = n.2 })
 
-  pub runs : (schedule : List Step) → GivesShownThere start index schedule → Run schedule (world_after start schedule)
-  runs [] gives = ([], (λ n. 0), run-opening start index known)
-  runs (step ∷ earlier) gives = (runs-on step earlier gives (runs earlier gives.0)).0
+  pub runs : (schedule : List Step) → Run schedule (world_after start schedule)
+  runs [] = ([], (λ n. 0), run-opening start index known)
+  runs (step ∷ earlier) = (runs-on step earlier (runs earlier)).0
 
   -- what is given until a moment
-  pub gives-before : (later earlier : List Step) → GivesShownThere start index (later ++ earlier) → GivesShownThere start index earlier
-  gives-before [] earlier gives = gives
-  gives-before (step ∷ later) earlier gives = gives-before later earlier gives.0
+  pub gives-before : (key : Key) (later earlier : List Step) → GivesShownThere start index key (later ++ earlier) → GivesShownThere start index key earlier
+  gives-before key [] earlier gives = gives
+  gives-before key (step ∷ later) earlier gives = gives-before key later earlier gives.0
 
   -- from a moment to a later one the run goes on
-  pub runs-later : (later earlier : List Step) (gives : GivesShownThere start index (later ++ earlier))
-      → RunGoesOn (runs earlier (gives-before later earlier gives)).0 (runs (later ++ earlier) gives).0 (runs earlier (gives-before later earlier gives)).1 (runs (later ++ earlier) gives).1
-  unfolding gives-before runs
-  runs-later [] earlier gives = goes-itself (runs earlier gives).0 (runs earlier gives).1
-  runs-later (step ∷ later) earlier gives =
-      let was = runs earlier (gives-before later earlier gives.0) in
-      let mid = runs (later ++ earlier) gives.0 in
-      let now = runs-on step (later ++ earlier) gives mid in
-      goes-trans was.0 mid.0 now.0.0 was.1 mid.1 now.0.1 (runs-later later earlier gives.0) now.1
+  pub runs-later : (later earlier : List Step) → RunGoesOn (runs earlier).0 (runs (later ++ earlier)).0 (runs earlier).1 (runs (later ++ earlier)).1
+  unfolding runs
+  runs-later [] earlier = goes-itself (runs earlier).0 (runs earlier).1
+  runs-later (step ∷ later) earlier =
+      let was = runs earlier in
+      let mid = runs (later ++ earlier) in
+      let now = runs-on step (later ++ earlier) mid in
+      goes-trans was.0 mid.0 now.0.0 was.1 mid.1 now.0.1 (runs-later later earlier) now.1
 
 -- until it is diverted nothing comes to a primary but commands
 undiverted-alone : (partition : Partition) (course : Course) → Happens partition course → diversions_of course ≡ 0 → CommandsAlone (primary_of partition course)
@@ -259,7 +267,7 @@ undiverted-alone partition (CopyBack key ∷ before) h none = let one = diverted
 undiverted-alone partition (Return ∷ before) h none = undiverted-alone partition before h.0 none
 
 -- a run's course, by the logs and histories
-module _ (run index : ℕ) (w : World) (orderly : IsOrderly w) (course : Course) (opened : ℕ → ℕ) (Shown : Key → Context → Type 0) (run_is : IsRun run index w course opened Shown) where
+module _ (run index : ℕ) (w : World) (orderly : IsOrderly w) (course : Course) (opened : ℕ → ℕ) (Shown : Key → Context → Type 0) (Gives : Key → Type 0) (run_is : IsRun run index w course opened Shown Gives) where
   abbrev partition : Partition
   partition = some_partition run index opened (diversions_of course)
 
@@ -342,16 +350,16 @@ module _ (run index : ℕ) (w : World) (orderly : IsOrderly w) (course : Course)
         fallbacks = each;
       }
 
--- and what is asked at its own site may be asked
-pub calls_may_be_asked : (run index : ℕ) (w : World) → IsOrderly w → IsApart w → (course : Course) (opened : ℕ → ℕ) (Shown : Key → Context → Type 0) → IsRun run index w course opened Shown
-    → CallsMayBeAsked (some_partition run index opened (diversions_of course)) w index course
-calls_may_be_asked run index w orderly apart course opened Shown run_is number call asked at event key_is context_is =
+-- and what is asked of such a key at its own site may be asked
+pub calls_may_be_asked : (run index : ℕ) (w : World) → IsOrderly w → IsApart w → (course : Course) (opened : ℕ → ℕ) (Shown : Key → Context → Type 0) (Gives : Key → Type 0)
+    → IsRun run index w course opened Shown Gives → (key : Key) → Gives key → CallsMayBeAsked (some_partition run index opened (diversions_of course)) w index course key
+calls_may_be_asked run index w orderly apart course opened Shown Gives run_is key gives number call asked at of_key event key_is context_is =
     let x = call_worker w number call asked in
     let law = run_is.lawful (some_partition run index opened (diversions_of course)) (some_agrees run index opened (diversions_of course)) in
     let v = law.vnode in
     let there : slice_get w.vnodes call.site ≡ Some v.vnode = ap (λ k. slice_get w.vnodes k) at ∙ v.there in
     let own : v.vnode.own ≡ index = (orderly.homes index v.vnode run_is.known v.there).0 in
-    let given = λ (context : Context) (e : event.context ≡ Some context). law.calls x.0 x.1 x.2 call x.3 v.vnode there own context (sym context_is ∙ e) in
+    let given = λ (context : Context) (e : event.context ≡ Some context). law.calls x.0 x.1 x.2 call x.3 v.vnode there own (subst Gives (sym of_key) gives) context (sym context_is ∙ e) in
     record {
       here = elim run_is.side [
         | inl own_side ↦ own_side.not_diverted
@@ -361,12 +369,23 @@ calls_may_be_asked run index w orderly apart course opened Shown run_is number c
       some = λ context e. (given context e).1;
     }
 
+-- it happens so to such a key
+pub happens_to : (run index : ℕ) (w : World) (course : Course) (opened : ℕ → ℕ) (Shown : Key → Context → Type 0) (Gives : Key → Type 0)
+    → IsRun run index w course opened Shown Gives → (key : Key) → Gives key → HappensTo (some_partition run index opened (diversions_of course)) key course
+happens_to run index w course opened Shown Gives run_is key gives =
+    (run_is.lawful (some_partition run index opened (diversions_of course)) (some_agrees run index opened (diversions_of course))).to_key key gives
+
 pub runs_are_courses : RunsAreCourses
-runs_are_courses start is schedule index known gives =
-    let run = runs start is index known schedule gives in
-    let w = world_after start schedule in (
+runs_are_courses start is schedule index known =
+    let run = runs start is index known schedule in
+    let w = world_after start schedule in
+    let Shown : Key → Context → Type 0 = WasShownThere start index schedule in
+    let Given : Key → Type 0 = Gives start is index known schedule in (
       some_partition start.run index run.1 (diversions_of run.0),
       run.0,
-      course_of start.run index w (orderly start is schedule) run.0 run.1 (WasShownThere start index schedule) run.2,
-      calls_may_be_asked start.run index w (orderly start is schedule) (stays_apart start is schedule) run.0 run.1 (WasShownThere start index schedule) run.2,
+      course_of start.run index w (orderly start is schedule) run.0 run.1 Shown Given run.2,
+      λ key gives. (
+        happens_to start.run index w run.0 run.1 Shown Given run.2 key gives,
+        calls_may_be_asked start.run index w (orderly start is schedule) (stays_apart start is schedule) run.0 run.1 Shown Given run.2 key gives,
+      ),
     )

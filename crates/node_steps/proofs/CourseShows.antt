@@ -33,10 +33,11 @@ use Rattle.node_steps.proofs.CourseSteps.{IsNext}
 module _ (run index : ℕ) (w : World) (orderly : IsOrderly w) (apart : IsApart w) (number : ℕ) (action : Action) (r : World × Outcome) (p : IsPossible w number action r)
     (sends : (site : ℕ) (ask : RegisterAsk Content Context) → action ≡ Asks site ask
     → (other : ℕ) × (slice_get w.routes other ≡ Some site) × ((not (site == other) && is_reap ask) ≡ false))
-    (course : Course) (opened : ℕ → ℕ) (Shown : Key → Context → Type 0) (run_is : IsRun run index w course opened Shown)
+    (course : Course) (opened : ℕ → ℕ) (Shown : Key → Context → Type 0) (Gives : Key → Type 0) (run_is : IsRun run index w course opened Shown Gives)
     (wells : SendsWell w action)
-    (gives : (site : ℕ) → IsSiteOf w index site → (key : Key) (context : Context) → given_in (call_by action p.worker.phase) site key ≡ Some context → Shown key context)
-    (later : Course) (goes : IsNext run index w orderly apart number action r p sends course opened Shown run_is later) where
+    (More : Key → Type 0) (still : (key : Key) → More key → Gives key)
+    (gives : (site : ℕ) → IsSiteOf w index site → (key : Key) → More key → (context : Context) → given_in (call_by action p.worker.phase) site key ≡ Some context → Shown key context)
+    (later : Course) (goes : IsNext run index w orderly apart number action r p sends course opened Shown Gives run_is later) where
   abbrev next : World
   next = next_of w orderly number action r p
 
@@ -104,30 +105,30 @@ module _ (run index : ℕ) (w : World) (orderly : IsOrderly w) (apart : IsApart 
         ∙ ap (λ b. cond b (context_in_ask call.ask) None) (key_eq-refl (key_of call.ask))
 
     calls-next : (place : ℕ) (worker : Worker) → slice_get next.workers place ≡ Some worker → (call : Call) → call_of worker.phase ≡ Some call
-        → (v : SiteVnode) → slice_get next.vnodes call.site ≡ Some v → v.own ≡ index
+        → (v : SiteVnode) → slice_get next.vnodes call.site ≡ Some v → v.own ≡ index → More (key_of call.ask)
         → (context : Context) → context_in_ask call.ask ≡ Some context → WasGiven run index partition later (key_of call.ask) context
-    calls-next place worker h call asked v there own context e =
+    calls-next place worker h call asked v there own more context e =
         let old = vnode_was w orderly number action r p apart sends call.site v there in
         let law = run_is.lawful partition agrees_before in
         given-later run index partition course later (goes.lawful partition agrees_before).still (key_of call.ask) context (elim (set_cases w (pred number) p.worker now (here w orderly number action r p) place worker h) [
           | inl d ↦ by old.0 old.1 (sym old.2 ∙ own) (turn w orderly number action r p).call (ap (λ (x : Worker). call_of x.phase) d.1 ∙ asked)
-          | inr d ↦ law.calls place worker d.1 call asked old.0 old.1 (sym old.2 ∙ own) context e
+          | inr d ↦ law.calls place worker d.1 call asked old.0 old.1 (sym old.2 ∙ own) (still (key_of call.ask) more) context e
         ])
       where
         by : (old : SiteVnode) → slice_get w.vnodes call.site ≡ Some old → old.own ≡ index → CallIs action p.worker.phase p.turn.phase → call_of p.turn.phase ≡ Some call
             → WasGiven run index partition course (key_of call.ask) context
-        by old there own (inl same) k = (run_is.lawful partition agrees_before).calls (pred number) p.worker (here w orderly number action r p) call (sym same ∙ k) old there own context e
+        by old there own (inl same) k = (run_is.lawful partition agrees_before).calls (pred number) p.worker (here w orderly number action r p) call (sym same ∙ k) old there own (still (key_of call.ask) more) context e
         by old there own (inr (inl none)) k = absurd (none-some call (sym none ∙ k))
         by old there own (inr (inr new)) k =
             let same : new.0 ≡ call = some_back new.0 call (sym new.1 ∙ k) in
             let made = new.2 ∙ ap (λ (c : Call). Some c) same in
             elim (comes-to w orderly number action r p sends call made index old there own) [
-              | inl sent ↦ (run_is.lawful partition agrees_before).shown (key_of call.ask) context (gives call.site (inr sent.0) (key_of call.ask) context (given_is call made ∙ e))
-              | inr home ↦ (run_is.lawful partition agrees_before).shown (key_of call.ask) context (gives call.site (inl home.0) (key_of call.ask) context (given_is call made ∙ e))
+              | inl sent ↦ (run_is.lawful partition agrees_before).shown (key_of call.ask) context (gives call.site (inr sent.0) (key_of call.ask) more context (given_is call made ∙ e))
+              | inr home ↦ (run_is.lawful partition agrees_before).shown (key_of call.ask) context (gives call.site (inl home.0) (key_of call.ask) more context (given_is call made ∙ e))
             ]
 
   -- so it is a run still
-  pub run-next : (Later : Key → Context → Type 0) → ((key : Key) (context : Context) → Later key context → IsShownNow key context ⊎ Shown key context) → IsRun run index next later opened Later
+  pub run-next : (Later : Key → Context → Type 0) → ((key : Key) (context : Context) → Later key context → IsShownNow key context ⊎ Shown key context) → IsRun run index next later opened Later More
   run-next Later splits = record {
     known = run_is.known;
     timed = run_is.timed;
@@ -137,6 +138,7 @@ module _ (run index : ℕ) (w : World) (orderly : IsOrderly w) (apart : IsApart 
     fallbacks = goes.fallbacks;
     lawful = λ partition agrees. let step = goes.lawful partition (agrees_before partition agrees) in record {
       may_happen = step.may_happen;
+      to_key = λ key more. step.to_key key (still key more);
       vnode = step.vnode;
       shown = λ key context s. elim (splits key context s) [
         | inl now ↦ shown-now partition agrees key context now

@@ -11,11 +11,12 @@ use Rattle.vnode_machine.specs.Copying.{is_stuck}
 use Rattle.vnode_machine.specs.Machine.{clock_of, is_held}
 use Rattle.vnode_machine.specs.Lives.{lives_begun}
 use Rattle.vnode_machine.specs.Replay.{History, AcceptsEvent}
+use Rattle.vnode_machine.proofs.Keys.{key_eq-same}
 use Rattle.copy_laws.specs.Copies.{Command, Copied, all_commands, commands_of}
 use Rattle.copy_laws.specs.Joining.{Log}
 use Rattle.copy_laws.specs.Sides.{Partition}
 use Rattle.copy_laws.specs.CopyReplay.{primary_after}
-use Rattle.copy_laws.specs.Diversions.{Course, AtPrimary, AtFallback, CopyBack, copy_of, diversions_of, is_diverted, fallback_of, primary_of, WasShownInCourse, MayHappen, Happens}
+use Rattle.copy_laws.specs.Diversions.{Course, AtPrimary, AtFallback, CopyBack, copy_of, diversions_of, is_diverted, fallback_of, primary_of, WasShownInCourse, MayHappen, MayHappenTo, Happens, HappensTo}
 use Rattle.copy_laws.proofs.Courses.{legal-fallback}
 use Rattle.copy_laws.proofs.Fallback.{log-replay}
 use Rattle.node_steps.specs.HeldNames.{saw_held}
@@ -35,7 +36,7 @@ use Rattle.node_steps.proofs.Growing.{next_of, Grows, Copies, grown, copied-home
 module _ (run index : ℕ) (w : World) (orderly : IsOrderly w) (apart : IsApart w) (number : ℕ) (action : Action) (r : World × Outcome) (p : IsPossible w number action r)
     (sends : (site : ℕ) (ask : RegisterAsk Content Context) → action ≡ Asks site ask
     → (other : ℕ) × (slice_get w.routes other ≡ Some site) × ((not (site == other) && is_reap ask) ≡ false))
-    (course : Course) (opened : ℕ → ℕ) (Shown : Key → Context → Type 0) (run_is : IsRun run index w course opened Shown) where
+    (course : Course) (opened : ℕ → ℕ) (Shown : Key → Context → Type 0) (Gives : Key → Type 0) (run_is : IsRun run index w course opened Shown Gives) where
   abbrev next : World
   next = next_of w orderly number action r p
 
@@ -51,6 +52,7 @@ module _ (run index : ℕ) (w : World) (orderly : IsOrderly w) (apart : IsApart 
   -- what the law has of the course afterwards
   pub record IsStep (partition : Partition) (later : Course) : Type 0 where
     pub may_happen : Happens partition later
+    pub to_key : (key : Key) → Gives key → HappensTo partition key later
     pub vnode : IsVnode next index (home_id run index) 0 (primary_of partition later)
     pub still : (key : Key) (context : Context) → WasShownInCourse partition course key context → WasShownInCourse partition later key context
 
@@ -140,43 +142,50 @@ module _ (run index : ℕ) (w : World) (orderly : IsOrderly w) (apart : IsApart 
     fallbacks = λ n one most last. was-kept course n refl (run_is.fallbacks n one most last);
     lawful = λ partition agrees. let law = run_is.lawful partition agrees in record {
       may_happen = law.may_happen;
+      to_key = law.to_key;
       vnode = vnode-kept w orderly number action r p index (home_id run index) 0 (primary_of partition course) home law.vnode;
       still = λ key context s. s;
     };
   }
 
   module _ (partition : Partition) (agrees : Agrees run index opened (diversions_of course) partition) where
-    abbrev law : IsLawful run index partition w course Shown
+    abbrev law : IsLawful run index partition w course Shown Gives
     law = run_is.lawful partition agrees
 
     abbrev primary_log : Log
     primary_log = primary_of partition course
 
     -- the context of an event had been shown
-    gives-event : (g : Grows w orderly number action r p) → p.vnode.own ≡ index → (context : Context) → g.event.context ≡ Some context → WasShownInCourse partition course g.event.key context
-    gives-event g own context e =
+    gives-event : (g : Grows w orderly number action r p) → p.vnode.own ≡ index → Gives g.event.key → (context : Context) → g.event.context ≡ Some context → WasShownInCourse partition course g.event.key context
+    gives-event g own gives context e =
         subst (λ k. WasShownInCourse partition course k context) (sym g.key_is)
-        (law.calls (pred number) p.worker (here w orderly number action r p) g.call g.asked p.vnode (ap (λ k. slice_get w.vnodes k) g.at ∙ p.vnode_is) own context (sym g.context_is ∙ e)).0
+        (law.calls (pred number) p.worker (here w orderly number action r p) g.call g.asked p.vnode (ap (λ k. slice_get w.vnodes k) g.at ∙ p.vnode_is) own (subst Gives g.key_is gives) context (sym g.context_is ∙ e)).0
 
     -- an event at the primary may happen
-    at-primary : (g : Grows w orderly number action r p) → p.index ≡ index → p.vnode.own ≡ index → IsOwn run index w course opened → MayHappen partition course (AtPrimary g.event)
-    at-primary g at mine own =
+    at-primary : (g : Grows w orderly number action r p) → p.index ≡ index → IsOwn run index w course opened → MayHappen partition course (AtPrimary g.event)
+    at-primary g at own =
         let event = g.event in
         let known = as-known w orderly number action r p index (home_id run index) 0 primary_log at law.vnode in (
           own.not_diverted,
-          (
-            by-primary run index opened count partition agrees (λ id epoch. AcceptsEvent (state_of id epoch primary_log) event.key event.context event.operation)
-                (known (λ id epoch l. AcceptsEvent (state_of id epoch l) event.key event.context event.operation) g.accepts),
-            by-primary run index opened count partition agrees (λ id epoch. event.saw ≡ saw_held id epoch primary_log event.key event.context event.operation)
-                (known (λ id epoch l. event.saw ≡ saw_held id epoch l event.key event.context event.operation) g.saw)
-                ∙ saw-course partition (ids run index opened count partition agrees) course law.may_happen event.key event.context event.operation,
-          ),
-          gives-event g mine,
+          by-primary run index opened count partition agrees (λ id epoch. AcceptsEvent (state_of id epoch primary_log) event.key event.context event.operation)
+              (known (λ id epoch l. AcceptsEvent (state_of id epoch l) event.key event.context event.operation) g.accepts),
+        )
+
+    -- and to its key, where its contexts had been shown: it saw what it had to see
+    at-primary-to : (g : Grows w orderly number action r p) → p.index ≡ index → p.vnode.own ≡ index → (key : Key) → Gives key → MayHappenTo partition key course (AtPrimary g.event)
+    at-primary-to g at mine key gives itself =
+        let event = g.event in
+        let known = as-known w orderly number action r p index (home_id run index) 0 primary_log at law.vnode in
+        let own_key : Gives event.key = subst Gives (sym (key_eq-same event.key key itself)) gives in (
+          by-primary run index opened count partition agrees (λ id epoch. event.saw ≡ saw_held id epoch primary_log event.key event.context event.operation)
+              (known (λ id epoch l. event.saw ≡ saw_held id epoch l event.key event.context event.operation) g.saw)
+              ∙ saw-course partition (ids run index opened count partition agrees) course event.key (law.to_key event.key own_key) event.context event.operation,
+          gives-event g mine own_key,
         )
 
     -- and one at the fallback
-    at-fallback : (g : Grows w orderly number action r p) (away : IsAway run index w course opened) → p.index ≡ away.site → p.vnode.own ≡ index → MayHappen partition course (AtFallback g.event)
-    at-fallback g away at own =
+    at-fallback : (g : Grows w orderly number action r p) (away : IsAway run index w course opened) → p.index ≡ away.site → MayHappen partition course (AtFallback g.event)
+    at-fallback g away at =
         let event = g.event in
         let known = as-known w orderly number action r p away.site (away_id run index) (opened count) (all_commands history) at away.vnode in
         let replays = legal-fallback partition course law.may_happen count in (
@@ -188,8 +197,10 @@ module _ (run index : ℕ) (w : World) (orderly : IsOrderly w) (apart : IsApart 
           by-fallback run index opened count partition agrees (λ id epoch. event.saw ≡ saw_held id epoch (all_commands history) event.key event.context event.operation)
               (known (λ id epoch l. event.saw ≡ saw_held id epoch l event.key event.context event.operation) g.saw)
               ∙ saw-plain partition.fallback (partition.opened count) history event.key event.context event.operation replays,
-          gives-event g own,
         )
+
+    at-fallback-to : (g : Grows w orderly number action r p) → p.vnode.own ≡ index → (key : Key) → Gives key → MayHappenTo partition key course (AtFallback g.event)
+    at-fallback-to g own key gives itself = gives-event g own (subst Gives (sym (key_eq-same g.event.key key itself)) gives)
 
     -- a copier is inside the fallback, whose state its clock is of
     copies_from : (c : Copies w orderly number action r p) → p.index ≡ index → (away : IsAway run index w course opened) → c.site ≡ away.site
@@ -239,7 +250,8 @@ module _ (run index : ℕ) (w : World) (orderly : IsOrderly w) (apart : IsApart 
     side = inl (own-next own (AtPrimary g.event ∷ course) own.not_diverted refl refl);
     fallbacks = λ n one most last. was-kept (AtPrimary g.event ∷ course) n refl (run_is.fallbacks n one most last);
     lawful = λ partition agrees. let law = run_is.lawful partition agrees in record {
-      may_happen = (law.may_happen, at-primary partition agrees g at (own-home at) own);
+      may_happen = (law.may_happen, at-primary partition agrees g at own);
+      to_key = λ key gives. (law.to_key key gives, at-primary partition agrees g at own, at-primary-to partition agrees g at (own-home at) key gives);
       vnode = vnode-here w orderly number action r p index (home_id run index) 0 (primary_of partition course) (Command g.event ∷ primary_of partition course) at law.vnode
           (λ was. g.is ∙ ap (λ (l : Log). Command g.event ∷ l) was);
       still = shown-later run index partition (AtPrimary g.event) course;
@@ -265,7 +277,8 @@ module _ (run index : ℕ) (w : World) (orderly : IsOrderly w) (apart : IsApart 
         fallbacks = λ m one most last.
             was-kept later m (ap (λ b. cond b (g.event ∷ fallback_of course m) (fallback_of course m)) (other_test count m (λ e. last away.diverted (sym e)))) (run_is.fallbacks m one most last);
         lawful = λ partition agrees. let law = run_is.lawful partition agrees in record {
-          may_happen = (law.may_happen, at-fallback partition agrees g away at (own-away away at));
+          may_happen = (law.may_happen, at-fallback partition agrees g away at);
+          to_key = λ key gives. (law.to_key key gives, at-fallback partition agrees g away at, at-fallback-to partition agrees g (own-away away at) key gives);
           vnode = vnode-there w orderly number action r p index (home_id run index) 0 (primary_of partition course) n law.vnode;
           still = shown-later run index partition (AtFallback g.event) course;
         };
@@ -285,6 +298,7 @@ module _ (run index : ℕ) (w : World) (orderly : IsOrderly w) (apart : IsApart 
     fallbacks = λ n one most last. was-kept (CopyBack c.key ∷ course) n refl (run_is.fallbacks n one most last);
     lawful = λ partition agrees. let law = run_is.lawful partition agrees in record {
       may_happen = (law.may_happen, at-copy partition agrees c at away);
+      to_key = λ key gives. (law.to_key key gives, at-copy partition agrees c at away, tt);
       vnode = vnode-here w orderly number action r p index (home_id run index) 0 (primary_of partition course) (Copied (copy_of partition course c.key) ∷ primary_of partition course) at law.vnode
           (λ was. copy-is partition agrees c at away ∙ ap (λ (l : Log). Copied (copy_of partition course c.key) ∷ l) was);
       still = shown-later run index partition (CopyBack c.key) course;

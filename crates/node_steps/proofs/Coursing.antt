@@ -10,7 +10,7 @@ use Rattle.copy_laws.specs.Copies.{all_commands}
 use Rattle.copy_laws.specs.Joining.{Log}
 use Rattle.copy_laws.specs.Sides.{Partition}
 use Rattle.copy_laws.specs.CopyReplay.{primary_after}
-use Rattle.copy_laws.specs.Diversions.{Course, Happening, diversions_of, is_diverted, fallback_of, fallback_state, primary_of, WasShownInCourse, Happens}
+use Rattle.copy_laws.specs.Diversions.{Course, Happening, diversions_of, is_diverted, fallback_of, fallback_state, primary_of, WasShownInCourse, Happens, HappensTo}
 use Rattle.copy_laws.proofs.Fallback.{log-replay}
 use Rattle.node_steps.specs.Partitions.{fallback_ids}
 use Rattle.node_steps.specs.World.{SiteVnode, Worker, World, Call, id_of, call_of, history_of}
@@ -92,24 +92,25 @@ module _ (run index : ℕ) where
   abbrev pub WasGiven : Partition → Course → Key → Context → Type 0
   WasGiven partition course key context = WasShownInCourse partition course key context × (context ≢ Pairs [])
 
-  -- what the law has of the course, those contexts having been shown that are given by Shown
-  pub record IsLawful (partition : Partition) (w : World) (course : Course) (Shown : Key → Context → Type 0) : Type 0 where
+  -- what the law has of the course, those contexts having been shown that are given by Shown; and of the keys for which just such were given
+  pub record IsLawful (partition : Partition) (w : World) (course : Course) (Shown : Key → Context → Type 0) (Gives : Key → Type 0) : Type 0 where
     pub may_happen : Happens partition course
+    pub to_key : (key : Key) → Gives key → HappensTo partition key course
     pub vnode : IsVnode w index home_id 0 (primary_of partition course)
     pub shown : (key : Key) (context : Context) → Shown key context → WasGiven partition course key context
     pub calls : (place : ℕ) (worker : Worker) → slice_get w.workers place ≡ Some worker → (call : Call) → call_of worker.phase ≡ Some call
-        → (v : SiteVnode) → slice_get w.vnodes call.site ≡ Some v → v.own ≡ index
+        → (v : SiteVnode) → slice_get w.vnodes call.site ≡ Some v → v.own ≡ index → Gives (key_of call.ask)
         → (context : Context) → context_in_ask call.ask ≡ Some context → WasGiven partition course (key_of call.ask) context
 
   -- what is true of a world and the course so far
-  pub record IsRun (w : World) (course : Course) (opened : ℕ → ℕ) (Shown : Key → Context → Type 0) : Type 0 where
+  pub record IsRun (w : World) (course : Course) (opened : ℕ → ℕ) (Shown : Key → Context → Type 0) (Gives : Key → Type 0) : Type 0 where
     pub known : index < length w.routes
     pub timed : index < length w.epochs
     pub first : opened 0 ≡ 0
     pub number : slice_get w.diversions index ≡ Some (diversions_of course)
     pub side : IsOwn w course opened ⊎ IsAway w course opened
     pub fallbacks : (n : ℕ) → 1 ≤ n → n ≤ diversions_of course → (is_diverted course ≡ true → n ≢ diversions_of course) → WasFallback w course opened n
-    pub lawful : (partition : Partition) → Agrees opened (diversions_of course) partition → IsLawful partition w course Shown
+    pub lawful : (partition : Partition) → Agrees opened (diversions_of course) partition → IsLawful partition w course Shown Gives
 
   -- what was shown still was
   pub shown-later : (partition : Partition) (happening : Happening) (course : Course) (key : Key) (context : Context)

@@ -46,7 +46,6 @@ pub mod OneDot
 pub mod Telling
 pub mod Lawful
 pub mod Joined
-pub mod MoreSides
 pub mod Moments
 pub mod Uncopied
 pub mod Firsts

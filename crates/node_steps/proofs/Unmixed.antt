@@ -21,7 +21,7 @@ use Rattle.copy_laws.specs.Copies.{commands_of, all_commands}
 use Rattle.copy_laws.specs.Joining.{Log}
 use Rattle.copy_laws.specs.Sides.{Partition}
 use Rattle.copy_laws.specs.CopyReplay.{state_with, name_at, named_at, seen_at}
-use Rattle.copy_laws.specs.Diversions.{Course, AtPrimary, Divert, AtFallback, CopyBack, Return, copy_of, primary_of, Happens}
+use Rattle.copy_laws.specs.Diversions.{Course, AtPrimary, Divert, AtFallback, CopyBack, Return, copy_of, primary_of, HappensTo}
 use Rattle.copy_laws.specs.Copies.{Command, Copied}
 use Rattle.copy_laws.proofs.Fallback.{log-replay}
 use Rattle.copy_laws.proofs.LegalCourses.{courses_hold_defined}
@@ -90,27 +90,27 @@ module _ (id epoch : ℕ) where
 
 -- of a course, in whatever partition it may happen
 module _ (partition : Partition) (ids : partition.primary < partition.fallback) where
-  named-course : (course : Course) → Happens partition course → (key : Key) (context : Context)
+  named-course : (key : Key) (course : Course) → HappensTo partition key course → (context : Context)
       → named_held partition.primary partition.last_epoch (primary_of partition course) key context ≡ named_at partition (primary_of partition course) key context
-  named-course [] h key context = refl
-  named-course (AtPrimary event ∷ before) h key context =
+  named-course key [] h context = refl
+  named-course key (AtPrimary event ∷ before) h context =
       let log : Log = Command event ∷ primary_of partition before in
-      let held = courses_hold_defined partition (AtPrimary event ∷ before) ids h key in
-      let rest = named-course before h.0 key context in
+      let held = courses_hold_defined partition (AtPrimary event ∷ before) ids key h in
+      let rest = named-course key before h.0 context in
       λ i. cond (held i && same_context context (name_at partition log key)) (Some log) (rest i)
-  named-course (Divert ∷ before) h key context = named-course before h.0 key context
-  named-course (AtFallback event ∷ before) h key context = named-course before h.0 key context
-  named-course (CopyBack at ∷ before) h key context =
+  named-course key (Divert ∷ before) h context = named-course key before h.0 context
+  named-course key (AtFallback event ∷ before) h context = named-course key before h.0 context
+  named-course key (CopyBack at ∷ before) h context =
       let log : Log = Copied (copy_of partition before at) ∷ primary_of partition before in
-      let held = courses_hold_defined partition (CopyBack at ∷ before) ids h key in
-      let rest = named-course before h.0 key context in
+      let held = courses_hold_defined partition (CopyBack at ∷ before) ids key h in
+      let rest = named-course key before h.0 context in
       λ i. cond (held i && same_context context (name_at partition log key)) (Some log) (rest i)
-  named-course (Return ∷ before) h key context = named-course before h.0 key context
+  named-course key (Return ∷ before) h context = named-course key before h.0 context
 
-  pub saw-course : (course : Course) → Happens partition course → (key : Key) (given : Option Context) (operation : Operation Content)
+  pub saw-course : (course : Course) (key : Key) → HappensTo partition key course → (given : Option Context) (operation : Operation Content)
       → saw_held partition.primary partition.last_epoch (primary_of partition course) key given operation ≡ seen_at partition (primary_of partition course) key given operation
-  saw-course course h key None (Write content) = refl
-  saw-course course h key None Tombstone = refl
-  saw-course course h key None Reap = refl
-  saw-course course h key (Some context) operation =
-      ap (saw_by partition.primary partition.last_epoch (primary_of partition course) key context) (named-course course h key context)
+  saw-course course key h None (Write content) = refl
+  saw-course course key h None Tombstone = refl
+  saw-course course key h None Reap = refl
+  saw-course course key h (Some context) operation =
+      ap (saw_by partition.primary partition.last_epoch (primary_of partition course) key context) (named-course key course h context)

@@ -8,7 +8,7 @@ use Rattle.sibling_register.specs.History.{Event}
 use Rattle.vnode_machine.specs.Registers.{key_of, context_in_ask}
 use Rattle.copy_laws.specs.Sides.{Partition}
 use Rattle.copy_laws.specs.JointAnswers.{MayAsk}
-use Rattle.copy_laws.specs.Diversions.{Course, Happens, diversions_of, is_diverted, fallback_of, primary_of}
+use Rattle.copy_laws.specs.Diversions.{Course, Happens, HappensTo, diversions_of, is_diverted, fallback_of, primary_of}
 use Rattle.node_steps.specs.Partitions.{fallback_ids}
 use Rattle.node_steps.specs.World.{World, CommandsAlone, Call, call_at, id_of, route, id_at, own_at, last_epoch_at, log_at, history_at}
 use Rattle.node_steps.specs.Steps.{Step, happens}
@@ -27,13 +27,13 @@ module _ (start : Start) (index : ℕ) where
       let w = world_after start earlier in
       ((site : ℕ) × IsSiteOf w index site × Shows w step site key context) ⊎ WasShownThere earlier key context
 
-  -- each context that was given for a key at a site of the partition had been shown for it at one
-  abbrev pub GivesShownThere : List Step → Type 0
-  GivesShownThere [] = Unit {0}
-  GivesShownThere (step ∷ earlier) =
+  -- each context that was given for the key at a site of the partition had been shown for it at one
+  abbrev pub GivesShownThere : Key → List Step → Type 0
+  GivesShownThere key [] = Unit {0}
+  GivesShownThere key (step ∷ earlier) =
       let w = world_after start earlier in
-      GivesShownThere earlier
-      × (happens w step ≢ None → (site : ℕ) → IsSiteOf w index site → (key : Key) (context : Context)
+      GivesShownThere key earlier
+      × (happens w step ≢ None → (site : ℕ) → IsSiteOf w index site → (context : Context)
       → given_by w step site key ≡ Some context → WasShownThere earlier key context)
 
 -- a site is the one of the n-th diversion's fallback: with its id, the epoch that it was opened behind, and its history
@@ -62,16 +62,17 @@ pub record IsCourseOf (partition : Partition) (run : ℕ) (w : World) (index : �
       → (is_diverted course ≡ true) × IsFallbackOf partition w index course (diversions_of course) site × CommandsAlone (log_at w site)
   pub fallbacks : (n : ℕ) → 1 ≤ n → n ≤ diversions_of course → (site : ℕ) × IsFallbackOf partition w index course n site
 
--- what a worker is asked at the partition's own site may be asked there: the partition isn't diverted, and a context that is given had been
--- shown, where its key was defined
-abbrev pub CallsMayBeAsked : Partition → World → (index : ℕ) → Course → Type 0
-CallsMayBeAsked partition w index course =
-    (number : ℕ) (call : Call) → call_at w number ≡ Some call → call.site ≡ index
+-- what a worker is asked of the key at the partition's own site may be asked there: the partition isn't diverted, and a context that is
+-- given had been shown, where the key was defined
+abbrev pub CallsMayBeAsked : Partition → World → (index : ℕ) → Course → Key → Type 0
+CallsMayBeAsked partition w index course key =
+    (number : ℕ) (call : Call) → call_at w number ≡ Some call → call.site ≡ index → key_of call.ask ≡ key
     → (event : Event Content Context) → event.key ≡ key_of call.ask → event.context ≡ context_in_ask call.ask → MayAsk partition course event
 
--- so is each run of a partition, where the contexts had been shown
+-- so is each run of a partition, whatever contexts were given; and it happens so to each key whose contexts had been shown
 abbrev pub RunsAreCourses : Type 0
 RunsAreCourses =
-    (start : Start) → IsStart start → (schedule : List Step) (index : ℕ) → index < start.vnodes → GivesShownThere start index schedule
+    (start : Start) → IsStart start → (schedule : List Step) (index : ℕ) → index < start.vnodes
     → (partition : Partition) × (course : Course) × IsCourseOf partition start.run (world_after start schedule) index course
-    × CallsMayBeAsked partition (world_after start schedule) index course
+    × ((key : Key) → GivesShownThere start index key schedule
+    → HappensTo partition key course × CallsMayBeAsked partition (world_after start schedule) index course key)

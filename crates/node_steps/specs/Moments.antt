@@ -14,7 +14,7 @@ use Rattle.node_steps.specs.World.{World, log_at}
 use Rattle.node_steps.specs.Steps.{Step}
 use Rattle.node_steps.specs.Schedules.{Start, IsStart, world_after, Begins}
 use Rattle.node_steps.specs.Courses.{GivesShownThere}
-use Rattle.node_steps.specs.HandOffs.{HandsOff}
+use Rattle.node_steps.specs.HandOffs.{HandsOff, HandsOffKey}
 
 -- the log at a site begins the one at each later moment
 abbrev pub LogsGrow : Type 0
@@ -41,15 +41,24 @@ pub record GoesOn (partition : Partition) (run : ℕ) (old new : World) (index :
   pub grown : between ++ log_at old index ≡ log_at new index
   -- the siblings at the primary, its own and those that came, are the same by the partition as it is later
   pub same : (key : Key) → siblings_at (with_diversions partition (diversions_of course)) (log_at old index) key ≡ siblings_at partition (log_at old index) key
-  -- a value leaves them, or those at a fallback, only where a write or delete that had seen it was accepted, or brought, in between
-  pub leaves : (key : Key) → IsSeenWhereItLeft partition between (log_at old index) key
+  -- a value leaves those at a fallback only where a write or delete that had seen it was accepted in between
   pub leaves_there : (n : ℕ) → GoesOnSeen (fallback_of course n) (fallback_of (happened ++ course) n)
 
--- so it is for each moment of a run and its end: what happened to the partition is one course, and until the moment a beginning of it had
+-- and so does a key, with these entries in between: a value leaves its siblings at the primary only where a write or delete that had seen
+-- it was accepted, or brought, in between
+pub record GoesOnFor (partition : Partition) (old new : World) (index : ℕ) (course happened : Course) (between : Log) (key : Key) : Type 0 where
+  pub was : HandsOffKey (with_diversions partition (diversions_of course)) old index course key
+  pub is : HandsOffKey partition new index (happened ++ course) key
+  pub leaves : IsSeenWhereItLeft partition between (log_at old index) key
+
+-- so it is for each moment of a run and its end: what happened to the partition is one course, and until the moment a beginning of it had.
+-- Of a key it is so where each context that was given for it had been shown
 abbrev pub PartitionsGoOn : Type 0
 PartitionsGoOn =
-    (start : Start) → IsStart start → (schedule : List Step) (index : ℕ) → index < start.vnodes → GivesShownThere start index schedule
+    (start : Start) → IsStart start → (schedule : List Step) (index : ℕ) → index < start.vnodes
     → (partition : Partition) × (course : Course)
     × ((later earlier : List Step) → later ++ earlier ≡ schedule
     → (before : Course) × (happened : Course) × (happened ++ before ≡ course)
-    × GoesOn partition start.run (world_after start earlier) (world_after start schedule) index before happened)
+    × ((on : GoesOn partition start.run (world_after start earlier) (world_after start schedule) index before happened)
+    × ((key : Key) → GivesShownThere start index key schedule
+    → GoesOnFor partition (world_after start earlier) (world_after start schedule) index before happened on.between key)))

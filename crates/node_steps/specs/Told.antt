@@ -1,8 +1,9 @@
 -- What a call is answered at the end of a log: by the machine; and at a partition's own site, behind copies too, by the register, over
 -- the numbers of all sides. An accepted command is the log's next entry.
-use Rattle.std.specs.Prelude.{◌≡◌, true, false, [], ◌∷◌, ℕ, suc, None, Result, Ok, Err, MatchBool}
+use Rattle.std.specs.Prelude.{◌≡◌, true, false, [], ◌∷◌, ℕ, suc, None, Result, Ok, Err, MatchBool, IsTrue}
 use Rattle.riak_msgs.specs.declared.Key.{Key}
 use Rattle.riak_msgs.specs.Contents.{Content}
+use Rattle.riak_msgs.specs.KeyOrder.{key_eq}
 use Rattle.sibling_register.specs.History.{Event, Operation, Write, Tombstone, Reap, count_of}
 use Rattle.sibling_register.specs.Answers.{RegisterAsk, AskGet, AskPut, AskDel, AskReap, GetCommand, PutCommand, DelCommand}
 use Rattle.actor_epoch.specs.Given.{Context}
@@ -69,12 +70,13 @@ module _ (partition : Partition) (log : Log) where
   IsToldAt (AskDel del) reply later = DelTold del reply later
   IsToldAt (AskReap key) reply later = ReapTold key reply later
 
--- a log is legal over the numbers of all sides: each command saw what it had to see, and the register accepts it where it stands. It is
--- of all keys at once, and asks nothing of contexts; the law's own (`IsLegalLog` of copy_laws) is of one key, with that law's premises
-abbrev pub IsLegalOver : Partition → Log → Type 0
-IsLegalOver partition [] = Unit {0}
-IsLegalOver partition (Command event ∷ before) =
-    IsLegalOver partition before
-    × ((event.saw ≡ seen_at partition before event.key event.context event.operation) × AcceptsBy partition before event event.operation)
-IsLegalOver partition (Copied copy ∷ before) = IsLegalOver partition before
-IsLegalOver partition (Closed number ∷ before) = IsLegalOver partition before
+-- a log is legal for the key over the numbers of all sides: each command of it saw what it had to see, and the register accepts it where
+-- it stands. It asks nothing of contexts, unlike the law's own (`IsLegalLog` of copy_laws), which has that law's premises
+abbrev pub IsLegalOver : Partition → Key → Log → Type 0
+IsLegalOver partition key [] = Unit {0}
+IsLegalOver partition key (Command event ∷ before) =
+    IsLegalOver partition key before
+    × (IsTrue (key_eq event.key key)
+    → (event.saw ≡ seen_at partition before event.key event.context event.operation) × AcceptsBy partition before event event.operation)
+IsLegalOver partition key (Copied copy ∷ before) = IsLegalOver partition key before
+IsLegalOver partition key (Closed number ∷ before) = IsLegalOver partition key before

@@ -40,17 +40,18 @@ ghost use Rattle.node_steps.specs.Gates.{RunsAreScheduled};
 /// (`covered`). Where each context that was given for its key at a site had been shown for it there, such a write or delete had seen
 /// the value (`left`).
 ///
-/// Behind copies all this holds of a partition, over the numbers of all sides, where each context that was given for a key at a site
-/// of it had been shown for that key at one of them: its primary and its fallbacks, with the copies between, are a hand-off
-/// (`handed_off`, `specs/HandOffs`). The primary's log is legal, each command having seen what it had to see. Each reply there, an
-/// accepted command's too, at its publish, is what the register may answer at the end of the log, which has just that command more
-/// then. The primary shows the siblings that are its own or came, in their order. Two writes or deletes that have the same dot are
-/// one, whatever their keys and sides. After each copy of a key for which its fallback accepted nothing since, and once the fallback
-/// is closed, the primary's siblings are the joint ones.
+/// Behind copies all this holds of each key, over the numbers of all sides, where each context that was given for that key at a site
+/// of its partition had been shown for it at one of them, whatever was given for other keys: the partition's primary and its
+/// fallbacks, with the copies between, are a hand-off of it (`handed_off`, `specs/HandOffs`). The primary's log is legal for it, each
+/// command of it having seen what it had to see. Each reply there to a call of it, an accepted command's too, at its publish, is what
+/// the register may answer at the end of the log, which has just that command more then. The primary shows the siblings that are its
+/// own or came, in their order. After each copy of the key where its fallback accepted nothing of it since, and once the fallback
+/// is closed, the primary's siblings are the joint ones. Whatever contexts were given, two writes or deletes that have the same dot
+/// are one, whatever their keys and sides.
 ///
-/// What happened to the partition is one course, of which at each moment of the schedule a beginning had happened (`moments`,
-/// `specs/Moments`): from there on a value leaves the siblings at a site, own or brought, only where a write or delete that had seen
-/// it, of whichever side, was accepted, or brought, since.
+/// What happened to the partition is one course, whatever contexts were given, of which at each moment of the schedule a beginning
+/// had happened (`moments`, `specs/Moments`): from there on a value leaves the siblings of such a key at a site, own or brought, only
+/// where a write or delete that had seen it, of whichever side, was accepted, or brought, since.
 pub fn always()
     ensures histories { AfterEvery HistoriesAreLegal }
     ensures looks { AfterEvery LooksShowReplays }
@@ -69,11 +70,11 @@ pub fn always()
     ensures fallbacks { AfterEvery FallbacksTakeCommands }
 {}
 
-/// Where each context that was given for a key at a site of a partition had been shown for it at one of them, each run of the
-/// partition is a course of the law of copies: what its primary and its fallbacks accepted may happen so, one after another, with a
-/// return at each close, and each later fallback behind the epochs of the one before. So what `courses_are_hand_offs` of `copy_laws`
-/// says of courses holds of it: each key is handed off as it has to be, and what the fallbacks' contexts cover of the primary is just
-/// what had come.
+/// Each run of a partition is a course of the law of copies, whatever contexts are given: what its primary and its fallbacks
+/// accepted may happen so, one after another, with a return at each close, and each later fallback behind the epochs of the one
+/// before. It happens so to each key for which each context that was given at a site of the partition had been shown for it at one of
+/// them. So what `courses_are_hand_offs` of `copy_laws` says of courses holds of it: the key is handed off as it has to be, and what
+/// the fallbacks' contexts cover of the primary is just what had come.
 pub fn runs_are_courses()
     ensures { RunsAreCourses }
 {}

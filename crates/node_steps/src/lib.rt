@@ -32,7 +32,7 @@
 //! has seen until it publishes. `proofs/Coursing` and those behind it make each run of a partition a course of `copy_laws`
 //! ([`runs_are_courses`], `specs/Courses`): by a step at one site in `proofs/CourseSteps`, by a close in `proofs/CourseCloses`, by a
 //! diversion in `proofs/CourseDiverts`; the law's partition isn't known until the run is over, so all is said of each partition that
-//! agrees so far. `proofs/Joined` draws from the laws what holds of it: what replies tell at the primary in `proofs/Telling`, that its log
+//! agrees so far, and what needs contexts of each key for which those that were given had been shown. `proofs/Joined` draws from the laws what holds of it: what replies tell at the primary in `proofs/Telling`, that its log
 //! is legal in `proofs/Lawful`, joint siblings in `proofs/CourseJoins`, dots in `proofs/OneDot`; `proofs/Moments` goes from one moment
 //! to a later one. `proofs/CallsApart` and `proofs/Uncopied` keep calls and copies apart: a partition that is diverted is asked nothing
 //! but at its fallback, to which nothing is copied (`proofs/FallbackLogs`).

@@ -1,4 +1,4 @@
--- The siblings at a primary are the same however many diversions are still to come.
+-- The siblings at a primary are the same however many diversions more are counted of which nothing came.
 use Rattle.std.proofs.Common.{◌≡◌, ℕ, zero, suc, ◌<◌, ◌≤◌, Bool, true, false, not, ◌&&◌, ◌||◌, cond, List, [], ◌∷◌, ◌++◌, map, refl, sym, ◌∙◌, ap, arith, inl, inr}
 use Rattle.std.specs.Prelude.{◌==◌, nat_le, length, filter, flat_map, reverse}
 use Rattle.std.specs.Option.{option_map_or}
