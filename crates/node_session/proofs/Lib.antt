@@ -2,6 +2,8 @@ pub mod Frames
 pub mod Telling
 pub mod SentParts
 pub mod Standing
+pub mod Coming
+pub mod Weighing
 pub mod Reaching
 pub mod CarryingOn
 pub mod Ending

@@ -1,29 +1,25 @@
 -- A part of what is to be sent was sent.
-use Rattle.std.proofs.Common.{◌≡◌, ◌==◌, Bool, false, ℕ, ◌+◌, ◌<◌, ◌≤◌, List, [], ◌∷◌, ◌++◌, length, take, drop, Option, refl, sym, ap, subst, ◌∙◌, append_assoc, append-nil, length-append, arith}
+use Rattle.std.proofs.Common.{◌≡◌, ◌==◌, Bool, true, false, ℕ, ◌+◌, ◌<◌, ◌≤◌, List, [], ◌∷◌, ◌++◌, length, take, drop, Option, refl, sym, ap, subst, ◌∙◌, append_assoc, append-nil, length-append, arith}
 use Rattle.std.specs.Io.KnownBytes.{Appends, Keeps}
 use Rattle.std.proofs.KnownBytes.{Appends-trans, Appends-nil, Appends-kept}
 use Rattle.std.proofs.lemmas.List.{nil_from_length, take-append-le, take-append-drop, length-drop}
 use Rattle.std.proofs.lemmas.Bool.{false≢true}
+use Rattle.std.proofs.lemmas.Bool.Decides.{nat_tests}
 use Rattle.std.proofs.Math.Seq.{take-append_seam}
+use Rattle.node_session.specs.Courses.{SentSome}
 use Rattle.node_session.specs.Sending.{IsWriteCutShort}
 use Rattle.node_session.specs.Unsent.{IsFront}
 use Rattle.node_session.specs.Views.{SessionView}
 
-pub record SentPart (held held' : Option (List ℕ)) (old new : SessionView) : Type 0 where
-  pub done : List ℕ
-  pub splits : old.unsent ≡ done ++ new.unsent
-  pub written : Appends held held' done
-  pub same : new ≡ record old { unsent = new.unsent }
-
-pub sent_none : (held : Option (List ℕ)) (s : SessionView) → SentPart held held s s
+pub sent_none : (held : Option (List ℕ)) (s : SessionView) → SentSome held held s s
 sent_none held s = record { done = []; splits = refl; written = Appends-nil held; same = refl }
 
 -- the first bytes of the front are the first bytes of all
 pub front_take : (front bytes : List ℕ) (n : ℕ) → IsFront front bytes → n ≤ length front → take n front ≡ take n bytes
 front_take front bytes n is le = sym (take-append-le n front is.more le) ∙ ap (take n) (sym is.splits)
 
-pub sent_more : (a b c : Option (List ℕ)) (old mid new : SessionView) (front : List ℕ) (n : ℕ) → SentPart a b old mid → IsFront front mid.unsent → n ≤ length front → Appends b c (take n front)
-    → new ≡ record mid { unsent = drop n mid.unsent } → SentPart a c old new
+pub sent_more : (a b c : Option (List ℕ)) (old mid new : SessionView) (front : List ℕ) (n : ℕ) → SentSome a b old mid → IsFront front mid.unsent → n ≤ length front → Appends b c (take n front)
+    → new ≡ record mid { unsent = drop n mid.unsent } → SentSome a c old new
 sent_more a b c old mid new front n p is le wrote e =
     let to : new.unsent ≡ drop n mid.unsent = ap (λ (s : SessionView). s.unsent) e in
     let some = take n mid.unsent in
@@ -42,16 +38,14 @@ sent_less mid new front n is some le e =
     omega (arith, to, len, cut, some, le)
 
 -- nothing is left
-pub all_sent : (a b : Option (List ℕ)) (old new : SessionView) (front : List ℕ) → SentPart a b old new → IsFront front new.unsent → length front ≡ 0
-    → Appends a b old.unsent × (new ≡ record old { unsent = [] })
-all_sent a b old new front p is none =
-    let empty : new.unsent ≡ [] = is.some (nil_from_length front none) in (
-      subst (Appends a b) (sym (append-nil p.done) ∙ ap (λ (t : List ℕ). p.done ++ t) (sym empty) ∙ sym p.splits) p.written,
-      p.same ∙ ap (λ (t : List ℕ). record old { unsent = t }) empty,
-    )
+pub all_sent : (a b : Option (List ℕ)) (old new : SessionView) → SentSome a b old new → new.unsent ≡ [] → Appends a b old.unsent × (new ≡ record old { unsent = [] })
+all_sent a b old new p empty = (
+  subst (Appends a b) (sym (append-nil p.done) ∙ ap (λ (t : List ℕ). p.done ++ t) (sym empty) ∙ sym p.splits) p.written,
+  p.same ∙ ap (λ (t : List ℕ). record old { unsent = t }) empty,
+)
 
 -- some is left
-pub sent_short : (a b c : Option (List ℕ)) (old new : SessionView) → SentPart a b old new → 0 < length new.unsent → Keeps b c → IsWriteCutShort a c old.unsent
+pub sent_short : (a b c : Option (List ℕ)) (old new : SessionView) → SentSome a b old new → 0 < length new.unsent → Keeps b c → IsWriteCutShort a c old.unsent
 sent_short a b c old new p some kept =
     let all : length old.unsent ≡ length p.done + length new.unsent = ap length p.splits ∙ length-append p.done new.unsent in
     record {
@@ -59,6 +53,10 @@ sent_short a b c old new p some kept =
       short = omega (arith, all, some);
       written = Appends-kept a b c _ (subst (Appends a b) (sym (ap (take (length p.done)) p.splits ∙ take-append_seam p.done new.unsent)) p.written) kept;
     }
+
+-- the writer keeps what it has
+pub sent_kept : (a b c : Option (List ℕ)) (old new : SessionView) → Keeps b c → SentSome a b old new → SentSome a c old new
+sent_kept a b c old new kept p = record { done = p.done; splits = p.splits; written = Appends-kept a b c p.done p.written kept; same = p.same }
 
 -- there is a byte in what has a front with a byte
 pub some_unsent : (front bytes : List ℕ) → IsFront front bytes → 0 < length front → 0 < length bytes
@@ -73,3 +71,9 @@ not_empty (x ∷ xs) e = omega arith
 -- and in what was tested not to be empty
 pub tested : (xs : List ℕ) (is : Bool) → is ≡ (length xs == 0) → is ≡ false → 0 < length xs
 tested xs is told not = not_empty xs (sym told ∙ not)
+
+-- what was tested to be empty
+pub empty_if : (xs : List ℕ) (is : Bool) → is ≡ (length xs == 0) → is ≡ true → xs ≡ []
+empty_if xs is told holds =
+    let none : length xs ≡ 0 = grind (arith, nat_tests, told, holds) in
+    nil_from_length xs none

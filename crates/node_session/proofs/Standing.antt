@@ -1,5 +1,5 @@
 -- How far a session has come, and how it ends.
-use Rattle.std.proofs.Common.{◌≡◌, ℕ, ◌+◌, ◌<◌, ◌≤◌, List, [], ◌∷◌, ◌++◌, length, take, Option, Result, Ok, Err, is_ok, refl, sym, ap, subst, ◌∙◌, append_assoc, append-nil, length-append, inl, inr, arith}
+use Rattle.std.proofs.Common.{◌≡◌, ℕ, ◌+◌, ◌<◌, ◌≤◌, List, [], ◌∷◌, ◌++◌, length, take, Option, Result, Ok, Err, refl, sym, ap, subst, ◌∙◌, append_assoc, append-nil, length-append, inl, inr, arith}
 use Rattle.std.specs.List.{flat_map}
 use Rattle.std.specs.Io.KnownBytes.{Appends, Consumes, Keeps}
 use Rattle.std.proofs.KnownBytes.{Appends-trans, Appends-nil, Appends-kept, Consumes-trans, Consumes-kept, Consumes-nil}
@@ -12,19 +12,14 @@ use Rattle.pb_frame.specs.Message.{CodedMessage, frame, IsPartial, IsFaulty}
 use Rattle.riak_msgs.specs.declared.request.Request.{Request}
 use Rattle.riak_msgs.specs.declared.reply.Reply.{Reply}
 use Rattle.riak_msgs.specs.declared.reply.Reply.TheVariants.{Error}
-use Rattle.node_session.specs.declared.sending.Stop.{Stop}
-use Rattle.node_session.specs.declared.sending.Stop.TheVariants as stops
 use Rattle.node_session.specs.declared.exchange.Exchange.{Exchange}
 use Rattle.node_session.specs.declared.session.Next.{Next}
 use Rattle.node_session.specs.declared.session.Halt.{Halt}
 use Rattle.node_session.specs.declared.fault.SessionFault.TheVariants.{BadFrame, NoMemory}
 use Rattle.node_session.specs.Answers.{Answers, AnswersInTurn, reply_frame, frame_fault_text}
 use Rattle.node_session.specs.Answered.{AllAnswered, AnsweredInput, NextReply, IsError, IsBadLengthTold, CameInLastRead, AtLastRead, WriteFailedAt, IsMemoryRefused}
-use Rattle.node_session.specs.Session.{IsInputEnd, MadeReads, Stops, fault_for}
-use Rattle.node_session.specs.declared.fault.SessionFault.{SessionFault}
-use Rattle.node_session.specs.Sending.{AnswersRest, SendsAll, Stands}
-use Rattle.std.specs.Prelude.{OnOk}
-use Rattle.std.proofs.lemmas.Bool.{false≢true}
+use Rattle.node_session.specs.Session.{IsInputEnd, MadeReads, Stops}
+use Rattle.node_session.specs.Sending.{IsWriteCutShort, Stands}
 use Rattle.node_session.specs.Nexts.{AnswersNext, IsNextAnswered, IsBadNext, IsLost}
 use Rattle.node_session.specs.Views.{SessionView, EndsInPiece, IsRead, message_of, messages_of, replies_of}
 pub use Rattle.node_session.proofs.Frames.{some_frame}
@@ -66,13 +61,6 @@ read_count input rest es p =
     let same : length (messages_of es) ≡ length es = length-map es message_of in
     let len : length input ≡ length (flat_map frame (messages_of es)) + length rest = ap length p.stream ∙ length-append (flat_map frame (messages_of es)) rest in
     omega (arith, long, same, len)
-
--- what was sent, by how it came out
-pub sent_at : (h h' : Option (List ℕ)) (s t : SessionView) (r : Result (Unit {0}) Stop) (u : Unit {0}) → r ≡ Ok u → SendsAll h h' s t r → Appends h h' s.unsent × (t ≡ record s { unsent = [] })
-sent_at h h' s t r u e p = subst (λ (x : Result (Unit {0}) Stop). SendsAll h h' s t x) e p
-
-pub unsent_at : (h h' : Option (List ℕ)) (s t : SessionView) (r : Result (Unit {0}) Stop) (stop : Stop) → r ≡ Err stop → SendsAll h h' s t r → SendsAll h h' s t (Err stop)
-unsent_at h h' s t r stop e p = subst (λ (x : Result (Unit {0}) Stop). SendsAll h h' s t x) e p
 
 module _ {S : Type 0} (Step : S → Request → Reply → S → Type 0) where
   -- what became of the next message, by how it came out
@@ -143,8 +131,8 @@ module _ {S : Type 0} (Step : S → Request → Reply → S → Type 0) where
 
     module _ (c : S) (t : SessionView) (none : s.unsent ≡ []) where
       -- a reply was cut short
-      pub cut_reply : (stop : Stop) (u : SessionView) → IsNextAnswered Step b c s t → SendsAll h' h'' t u (Err stop) → Stops Step a c s.input h h'' (fault_for stop count)
-      cut_reply stops.WriteFailed u one cut =
+      pub cut_reply : IsNextAnswered Step b c s t → IsWriteCutShort h' h'' t.unsent → AnsweredInput Step a s.input h h'' count (WriteFailedAt Step c)
+      cut_reply one cut =
           let r = one.exchange.reply in
           let sent : t.unsent ≡ reply_frame r = one.unsent ∙ ap (λ (l : List ℕ). l ++ reply_frame r) none in
           let next : NextReply Step b s.rest (reply_frame r) c = record { message = message_of one.exchange; reply = r; more = t.rest; front = one.front; within = one.within; answers = one.answers; is = refl } in
@@ -153,15 +141,13 @@ module _ {S : Type 0} (Step : S → Request → Reply → S → Type 0) where
             came_in s.rest read.last (λ q. q.left (message_of one.exchange) t.rest one.within one.front),
             record { next = reply_frame r; due = inl next; len = cut.len; short = subst (λ (l : List ℕ). cut.len < length l) sent cut.short; begins = refl },
           ))
-      cut_reply stops.BadFrame u one cut = absurd cut
-      cut_reply stops.NoMemory u one cut = absurd cut
 
       abbrev bad_error : (bad : IsBadNext s t) → c ≡ b → IsError b s.rest (reply_frame (Error (frame_fault_text bad.bad))) c
       bad_error bad same = record { fault = bad.bad; faulty = bad.faulty; node = same; is = refl }
 
       -- the error for a bad length was cut short
-      pub cut_error : (stop : Stop) (u : SessionView) → IsBadNext s t → c ≡ b → SendsAll h' h'' t u (Err stop) → Stops Step a c s.input h h'' (fault_for stop count)
-      cut_error stops.WriteFailed u bad same cut =
+      pub cut_error : (bad : IsBadNext s t) → c ≡ b → IsWriteCutShort h' h'' t.unsent → AnsweredInput Step a s.input h h'' count (WriteFailedAt Step c)
+      cut_error bad same cut =
           let error = reply_frame (Error (frame_fault_text bad.bad)) in
           let sent : t.unsent ≡ error = bad.unsent ∙ ap (λ (l : List ℕ). l ++ error) none in
           ended (take cut.len error) (WriteFailedAt Step c) (subst (λ (l : List ℕ). Appends h' h'' (take cut.len l)) sent cut.written)
@@ -169,8 +155,6 @@ module _ {S : Type 0} (Step : S → Request → Reply → S → Type 0) where
             came_in s.rest read.last (faulty_not s.rest bad.bad bad.faulty),
             record { next = error; due = inr (bad_error bad same); len = cut.len; short = subst (λ (l : List ℕ). cut.len < length l) sent cut.short; begins = refl },
           ))
-      cut_error stops.BadFrame u bad same cut = absurd cut
-      cut_error stops.NoMemory u bad same cut = absurd cut
 
       -- and was written whole
       pub told_error : IsBadNext s t → c ≡ b → Appends h' h'' t.unsent → Stops Step a c s.input h h'' (BadFrame count)
@@ -210,11 +194,6 @@ module _ {S : Type 0} (Step : S → Request → Reply → S → Type 0) where
     written = Appends-kept h h' h'' _ p.written kept;
     ends = p.ends;
   }
-
-  pub stops_kept : (a b : S) (input : List ℕ) (h h' h'' : Option (List ℕ)) (count : ℕ) (stop : Stop) (fault : SessionFault) → fault ≡ fault_for stop count → Keeps h' h'' → Stops Step a b input h h' (fault_for stop count) → Stops Step a b input h h'' fault
-  stops_kept a b input h h' h'' count stops.WriteFailed fault is kept p = subst (Stops Step a b input h h'') (sym is) (answered_kept a input h h' h'' count (WriteFailedAt Step b) kept p)
-  stops_kept a b input h h' h'' count stops.BadFrame fault is kept p = subst (Stops Step a b input h h'') (sym is) (answered_kept a input h h' h'' count (AtLastRead (IsBadLengthTold b)) kept p)
-  stops_kept a b input h h' h'' count stops.NoMemory fault is kept p = subst (Stops Step a b input h h'') (sym is) (answered_kept a input h h' h'' count (AtLastRead (IsMemoryRefused Step b)) kept p)
 
   module _ (a b : S) (h h' h'' : Option (List ℕ)) (s : SessionView) (count : ℕ) (p : Stands Step a b h h' s) (read : IsRead s.input s.exchanges s.rest) (counted : length s.exchanges ≡ count) (kept : Keeps h' h'') where
     abbrev none_more : Appends h' h'' []
@@ -263,20 +242,3 @@ pub MadeReads-interrupted : (a b c : Option (List ℕ)) (i : ℕ) → MadeReads 
 MadeReads-interrupted a b c i p left =
     let before : i ≤ p.interrupted + length p.input = p.gave in
     record { input = p.input; read = Consumes-kept a b c p.input p.read left; interrupted = p.interrupted + 1; gave = omega (arith, before) }
-
--- a read of nothing
-pub consumes_none : (a b c : Option (List ℕ)) (input buf : List ℕ) (n : ℕ) → n ≡ 0 → Consumes a b input → Consumes b c (take n buf) → Consumes a c input
-consumes_none a b c input buf n e p q =
-    subst (Consumes a c) (ap (λ (k : ℕ). input ++ take k buf) e ∙ append-nil input) (Consumes-trans a b c input (take n buf) p q)
-
--- what holds at a success
-pub ok_at : {P : Type 0} (r : Result (Unit {0}) Stop) (u : Unit {0}) → r ≡ Ok u → OnOk r P → P
-ok_at (Ok u) v e p = p
-ok_at (Err stop) v e p = absurd (false≢true (ap is_ok e))
-
-module _ {S : Type 0} (Step : S → Request → Reply → S → Type 0) (a b : S) (h h' : Option (List ℕ)) (old new : SessionView) (count : ℕ) where
-  pub rest_ok : (r : Result (Unit {0}) Stop) (u : Unit {0}) → r ≡ Ok u → AnswersRest Step a b h h' old new count r → Stands Step a b h h' new
-  rest_ok r u e p = subst (AnswersRest Step a b h h' old new count) e p
-
-  pub rest_err : (r : Result (Unit {0}) Stop) (stop : Stop) → r ≡ Err stop → AnswersRest Step a b h h' old new count r → Stops Step a b old.input h h' (fault_for stop count)
-  rest_err r stop e p = subst (AnswersRest Step a b h h' old new count) e p

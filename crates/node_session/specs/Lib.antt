@@ -7,6 +7,7 @@ pub mod Unsent
 pub mod Taking
 pub mod Nexts
 pub mod Sending
+pub mod Courses
 pub mod Progress
 pub mod Connections
 pub mod Moves

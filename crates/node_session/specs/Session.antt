@@ -4,8 +4,6 @@ use Rattle.std.specs.Io.KnownBytes.{Consumes}
 use Rattle.riak_msgs.specs.declared.request.Request.{Request}
 use Rattle.riak_msgs.specs.declared.reply.Reply.{Reply}
 use Rattle.node_session.specs.Limits.{max_read_len}
-use Rattle.node_session.specs.declared.sending.Stop.{Stop}
-use Rattle.node_session.specs.declared.sending.Stop.TheVariants as stops
 use Rattle.node_session.specs.declared.fault.SessionFault.{SessionFault}
 use Rattle.node_session.specs.declared.fault.SessionFault.TheVariants.{ReadFailed, WriteFailed, BadFrame, TooManyReads, NoMemory}
 use Rattle.node_session.specs.Answered.{AnsweredInput, AllAnswered, IsBadLengthTold, WriteFailedAt, IsMemoryRefused, AtLastRead}
@@ -36,12 +34,6 @@ Stops Step old new input held held' (WriteFailed count) = AnsweredInput Step old
 Stops Step old new input held held' (BadFrame count) = AnsweredInput Step old input held held' count (AtLastRead (IsBadLengthTold new))
 Stops Step old new input held held' (TooManyReads count) = AnsweredInput Step old input held held' count (AllAnswered new)
 Stops Step old new input held held' (NoMemory count) = AnsweredInput Step old input held held' count (AtLastRead (IsMemoryRefused Step new))
-
--- the fault for a stop
-abbrev pub fault_for : Stop → ℕ → SessionFault
-fault_for stops.WriteFailed count = WriteFailed count
-fault_for stops.BadFrame count = BadFrame count
-fault_for stops.NoMemory count = NoMemory count
 
 -- the fault of a session that made all its reads
 abbrev pub IsTooManyReads : SessionFault → Type 0

@@ -16,6 +16,7 @@ use riak_msgs::{MsgFault, Reply, Request, Text, read_request};
 use std::alloc::Global;
 
 /// The request of a message, or its first fault: read once more where memory was refused and the node made room.
+#[inline(always)]
 fn decode<N: Node>(alloc: Global, code: u8, body: &[u8], node: &N) -> Result<Request, MsgFault>
     ensures { Reads code body.now result }
 {
@@ -38,6 +39,7 @@ fn refuse(_request: Request) -> Reply
 }
 
 /// The reply to a message.
+#[inline(always)]
 fn answer<N: Node>(alloc: Global, code: u8, body: &[u8], node: &mut N) -> Reply
     ensures { Answers N.step node.old (record { code = code; body = body.now }) result node.new }
 {

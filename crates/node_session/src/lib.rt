@@ -14,10 +14,11 @@
 //! of these replies are written. A length that no frame has is answered by one error, and ends the session. Each other
 //! end has its clause too: how many whole replies went out before it, and the state of the node (`specs/Session`).
 //!
-//! [`Session`] is one in steps, for a caller that has streams which don't wait: what was read is fed to it, each answer is lent the node, and
-//! what is to be sent is looked at and told as sent. [`serve`] is a loop over it that sends each reply before it answers on. [`Connection`]
-//! is one with its streams, each of whose calls makes one call of a stream at most: replies gather, and [`connections_are_sessions`] is
-//! the law by which many of them over one node come to the ends that `serve` promises.
+//! [`Session`] is one that knows no stream: what was read is fed to it, each answer is lent the node, and what is to be sent is looked at and
+//! told as sent. [`Course`] drives one by steps, each of which answers one message or calls one stream once, and sends each reply before it
+//! answers on: whoever has many of them may take their steps in any order, and each comes to what `serve` promises (`specs/Courses`).
+//! [`serve`] is the loop of these steps, over streams that wait. [`Connection`] is a session with its streams, where replies gather, and
+//! [`connections_are_sessions`] is the law by which many of them over one node come to the ends that `serve` promises.
 //!
 //! `serve` reads up to 4,096 bytes at a time, and answers each whole frame that has come before it reads on. Where it
 //! stops among its answers, no frame is left unanswered but those that its last 4,096 bytes at most made whole. It never
@@ -33,6 +34,7 @@
 mod answering;
 mod connection;
 mod connection_laws;
+mod course;
 mod ended;
 mod error_frame;
 mod exchange;
@@ -44,13 +46,15 @@ mod plain_node;
 mod progress;
 mod reply;
 mod report;
-mod sending;
 mod serving;
 mod session;
+mod stage;
+mod talk;
 mod vnode_reply;
 
 pub use connection::{Connection, Input, Received, Sent};
 pub use connection_laws::connections_are_sessions;
+pub use course::Course;
 pub use ended::Ended;
 pub use exchange::Exchange;
 pub use fault::SessionFault;
@@ -60,4 +64,6 @@ pub use plain_node::{NodeFault, PlainNode};
 pub use report::{exit_status, write_fault};
 pub use serving::{MAX_READ_LEN, serve};
 pub use session::{Halt, Next, Session};
+pub use stage::Stage;
+pub use talk::Talk;
 pub use vnode_reply::answer_reply;

@@ -166,6 +166,7 @@ impl Outbox {
     }
 
     /// Puts the frame of a reply behind the others: once more where memory was refused and the node made room.
+    #[inline(always)]
     fn put_frame_for<N: Node>(
         &mut self,
         alloc: Global,

@@ -1,0 +1,43 @@
+use Rattle.std.proofs.Common.{◌≡◌, ◌<◌, ◌≤◌, length, take, refl, arith}
+use Rattle.node_session.proofs.Coming.{piece_lost, piece_fed, interrupted, read_failed}
+use Rattle.node_session.proofs.talk.Talk.read.Goals as goal
+
+pub returns-in_default-clause-goes : goal.returns-in_default-clause-goes
+returns-in_default-clause-goes g c =
+    let step = g.N.Node.step in
+    let was = c.args.self.now in
+    let piece = take c.in-Ok.n c.read.new.buf in
+    let len = c.in-Ok.ensures.bound.1 in
+    let long : length c.read.new.buf ≡ length c.args.piece.now = c.read.auto.buf in
+    let room : length c.args.piece.now ≤ 4096 = c.requires.room.1 in
+    let some : 0 < length piece = omega (arith, len, c.in-Ok.n-test.1) in
+    let few : length piece ≤ 4096 = omega (arith, len, c.in-Ok.ensures.bound.0, long, room) in
+    λ now h' first u h p. piece_lost step first now u _ h h' was.session was.replies was.made was.most c.is_read.ensures p _ c.requires.fits.3 piece c.in-Ok.ensures.bytes.0 some few
+
+pub returns-in-Ok-feed_for-clause-goes : goal.returns-in-Ok-feed_for-clause-goes
+returns-in-Ok-feed_for-clause-goes g c =
+    let step = g.N.Node.step in
+    let was = c.args.self.now in
+    let piece = take c.in-Ok.n c.read.new.buf in
+    let len = c.in-Ok.ensures.bound.1 in
+    let long : length c.read.new.buf ≡ length c.args.piece.now = c.read.auto.buf in
+    let room : length c.args.piece.now ≤ 4096 = c.requires.room.1 in
+    let some : 0 < length piece = omega (arith, len, c.in-Ok.n-test.1) in
+    let few : length piece ≤ 4096 = omega (arith, len, c.in-Ok.ensures.bound.0, long, room) in
+    λ now h' first u h p. piece_fed step first now u _ h h' was.session was.replies was.made was.most c.is_read.ensures p _ c.requires.fits.3 piece c.in-Ok.ensures.bytes.0 some few c.feed_for.new.self c.in-Ok-feed_for.ensures.ok
+
+pub returns-in-Interrupted-clause-goes : goal.returns-in-Interrupted-clause-goes
+returns-in-Interrupted-clause-goes g c =
+    let was = c.args.self.now in
+    λ now h' first u h p. interrupted g.N.Node.step first now u _ h h' was.session was.replies was.made was.most c.is_read.ensures p _ c.requires.fits.3 c.in-Err.ensures.bytes
+
+pub returns-in_default-kind : goal.returns-in_default-kind
+returns-in_default-kind g c =
+    let was = c.args.self.now in
+    record {
+      goes = λ now h' first u h p. read_failed g.N.Node.step first now u _ h h' was.session was.replies was.made was.most c.is_read.ensures p _ c.in-Err.ensures.bytes;
+      fits = tt;
+      less = omega arith;
+      waits = tt;
+      most = refl;
+    }
