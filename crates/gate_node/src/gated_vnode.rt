@@ -25,6 +25,7 @@ fn show_once(vnode: &Vnode, alloc: Global, get: &GetAsk) -> Reply
 }
 
 /// Shows a vnode's state to a get: once more where memory was refused, and the thread gave up what it keeps back.
+#[inline(always)]
 pub(crate) fn show(vnode: &Vnode, alloc: Global, reserve: ReserveOf<'_>, get: &GetAsk) -> Reply
     ensures { RepliesToGet get.now result vnode.now.state }
 {

@@ -413,7 +413,7 @@ impl<'a, W: Wait, T: Turnstile, G: Ledger, P: Ledger, D: Ledger, E: Ledger, R: L
     }
 
     fn has_room(&self, alloc: Global) -> bool {
-        self.shared.reserve(self.reserve.as_ref()).is_whole(alloc)
+        self.shared.reserve(self.reserve.as_ref()).has_room(alloc)
     }
 
     fn make_room(&self, alloc: Global) -> bool {

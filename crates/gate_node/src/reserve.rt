@@ -17,6 +17,9 @@ const LONG_PAGES: usize = 16;
 /// How many bytes a long block has.
 const LONG_LEN: usize = 65_520;
 
+/// After how many questions it is looked again whether replies may wait.
+const LOOKS_APART: u32 = 1_024;
+
 /// Memory that a thread keeps back for what doesn't make the vnodes of its run grow: gets, deletes, reaps, connections that begin or end, and
 /// replies.
 ///
@@ -24,7 +27,8 @@ const LONG_LEN: usize = 65_520;
 /// deletes and reaps have left. Each thread has one of its own, since an allocator keeps what is freed for the thread that had it. Where
 /// memory is refused for a get, for a request's bytes, a reply's or a connection, its thread gives all of it up and tries once more. A put is
 /// asked only where all of it is there, or could be made again. So puts end before the memory is used up for good, and go on by
-/// themselves once there is room.
+/// themselves once there is room. Once it was given up replies don't wait, in a buffer that would have to grow by long pieces, until there
+/// is memory for another reserve beside it.
 #[derive(Drop)]
 pub struct Reserve {
     blocks: Cell<Vec<Vec<u8>>>,
@@ -32,6 +36,8 @@ pub struct Reserve {
     pages: Cell<usize>,
     /// Whether it was given up and isn't whole again.
     is_given_up: Cell<bool>,
+    /// How many more questions whether replies may wait are answered by no; 0 where they may.
+    tight: Cell<u32>,
 }
 
 /// Adds one block behind the others.
@@ -79,6 +85,7 @@ impl Reserve {
             blocks: Cell::new(blocks),
             pages: Cell::new(pages),
             is_given_up: Cell::new(false),
+            tight: Cell::new(0),
         }
     }
 
@@ -88,6 +95,7 @@ impl Reserve {
         blocks.clear();
         self.blocks.set(blocks);
         self.pages.set(0);
+        self.tight.set(LOOKS_APART);
     }
 
     /// Makes again what isn't there. Whether all of it is there then.
@@ -132,9 +140,31 @@ impl<'a> ReserveOf<'a> {
     }
 
     /// Whether all of it is there, or could be made again; also where the thread has none.
-    pub(crate) fn is_whole(&self, alloc: Global) -> bool {
+    fn is_whole(&self, alloc: Global) -> bool {
         match self.reserve {
             Some(reserve) => reserve.pages.get() == PAGES || self.refill(alloc, reserve),
+            None => true,
+        }
+    }
+
+    /// Whether replies may wait: until the reserve is given up, and from when it is whole again and there is memory for another one, which is
+    /// looked at now and then.
+    fn is_loose(&self, alloc: Global, reserve: &Reserve) -> bool {
+        let left = reserve.tight.get();
+        if left == 0 {
+            return true;
+        }
+        let is_due = left == 1;
+        let is_loose = is_due && self.is_whole(alloc) && has_reserve(alloc);
+        let next = if is_due { LOOKS_APART } else { left - 1 };
+        reserve.tight.set(if is_loose { 0 } else { next });
+        is_loose
+    }
+
+    /// Whether replies may wait to be sent; also where the thread has no reserve.
+    pub(crate) fn has_room(&self, alloc: Global) -> bool {
+        match self.reserve {
+            Some(reserve) => self.is_loose(alloc, reserve),
             None => true,
         }
     }
@@ -144,7 +174,8 @@ impl<'a> ReserveOf<'a> {
         self.is_whole(alloc) && (self.given_up.load(Ordering::SeqCst) == 0 || has_reserve(alloc))
     }
 
-    /// Makes room for a delete, which makes a clock grow by less than a page.
+    /// Makes room for a delete: gives the reserve up where there is no memory for a further page. A delete of a long name or of a wide clock may
+    /// need more, and be refused then.
     fn make_room(&self, alloc: Global) {
         if self.reserve.is_some() && !has_page(alloc) {
             let _is_given_up = self.give_up(alloc);
