@@ -10,7 +10,7 @@ use crate::worker::Waits;
 use log::{Log, info, warn};
 use std::net::{SocketAddr, TcpListener, TcpStream};
 use std::rt::Clock;
-use std::sync::Wait;
+use std::sync::{Mutex, Wait};
 use std::thread;
 use std::time::Duration;
 
@@ -20,6 +20,8 @@ pub(crate) struct Acceptor<'a, X> {
     pub(crate) rt: &'a X,
     pub(crate) listener: &'a TcpListener,
     pub(crate) inboxes: &'a [Inbox],
+    /// What is held while threads are started, and each worker waits for before it takes memory.
+    pub(crate) starting: &'a Mutex<()>,
     /// After how many connections no more are accepted, if there is such a number.
     pub(crate) limit: Option<u64>,
     /// What may end accepting before that.

@@ -252,7 +252,7 @@ pub(crate) fn work<X: Log + Clock + Wait, S: EndSink + Drop>(
 {
     let counted = count(rt, alloc, shared, station, inbox, idle_seconds);
     if counted.is_err() {
-        inbox.close(rt, alloc);
+        inbox.close(rt);
     }
     counted
 }

@@ -25,7 +25,7 @@ use std::net::{Net, TcpListener};
 use std::os::fd::AsRawFd;
 use std::rt::Clock;
 use std::snapshot::Snapshot;
-use std::sync::Wait;
+use std::sync::{Mutex, Wait};
 use std::thread::{Scope, Threads};
 use std::{io, thread};
 use vnode_core::Tally;
@@ -131,6 +131,8 @@ where
 {
     let rt = acceptor.rt;
     let inboxes = acceptor.inboxes;
+    let starting = acceptor.starting;
+    let held = starting.lock(rt);
     start_workers(
         scope,
         rt,
@@ -138,10 +140,12 @@ where
         shared,
         stations,
         inboxes,
+        starting,
         idle_seconds,
         children,
     )?;
     start_reader(scope, acceptor, until)?;
+    drop(held);
     acceptor.accept_all(waits)
 }
 
@@ -284,10 +288,12 @@ where
         Ok(made) => made,
         Err(error) => return Err(ServerFault::of_setup(&error)),
     };
+    let starting = Mutex::new(());
     let acceptor = Acceptor {
         rt,
         listener,
         inboxes,
+        starting: &starting,
         limit: settings.connections,
         stop: &stop,
         can_stop: until.is_some(),

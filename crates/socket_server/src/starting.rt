@@ -19,7 +19,7 @@ use std::io;
 use std::net::Net;
 use std::rt::Clock;
 use std::snapshot::Snapshot;
-use std::sync::Wait;
+use std::sync::{Mutex, Wait};
 use std::thread::{Scope, Threads};
 
 /// How many events one wait gives at most.
@@ -47,7 +47,7 @@ fn add_worker<X: Net, S: EndSink + Drop>(
 {
     let (waits, waker) = new_waits(net, alloc)?;
     stations.push(Station { waits, sink })?;
-    inboxes.push(Inbox::new(alloc, waker))?;
+    inboxes.push(Inbox::new(alloc, waker)?)?;
     Ok(())
 }
 
@@ -70,7 +70,8 @@ pub(crate) fn new_workers<X: Net, S: EndSink + Drop>(
     Ok((stations, inboxes))
 }
 
-/// Starts the worker of an inbox.
+/// Starts the worker of an inbox. It takes no memory before `starting` is free: what an allocator takes for a thread at once may be all the
+/// address space that is left, and those threads that are still to be started need some for their stacks.
 fn start_worker<'s, X, Y, S>(
     scope: &'s Scope<'s, Y>,
     rt: &'s X,
@@ -78,6 +79,7 @@ fn start_worker<'s, X, Y, S>(
     shared: &'s Shared,
     station: Station<S>,
     inbox: &'s Inbox,
+    starting: &'s Mutex<()>,
     idle_seconds: Option<u32>,
 ) -> Result<Child<S>, ServerFault>
 where
@@ -95,7 +97,10 @@ where
             requires { S.given station.sink ≡ [] }
             ensures { IfOk result (λ outcome. WorkerCounts GateNodeStep shared.entry.now
                 (S.given outcome.sink) outcome.passes outcome.totals) }
-        { work(rt, alloc, shared, station, inbox, idle_seconds) },
+        {
+            drop(starting.lock(rt));
+            work(rt, alloc, shared, station, inbox, idle_seconds)
+        },
     ) {
         Ok(child) => Ok(child),
         Err(_) => Err(ServerFault::NoThread),
@@ -110,6 +115,7 @@ pub(crate) fn start_workers<'s, X, Y, S>(
     shared: &'s Shared,
     stations: Vec<Station<S>>,
     inboxes: &'s [Inbox],
+    starting: &'s Mutex<()>,
     idle_seconds: Option<u32>,
     children: &mut Vec<Child<S>>,
 ) -> Result<(), ServerFault>
@@ -130,7 +136,16 @@ where
             return Err(ServerFault::NoThread);
         };
         let inbox = &inboxes[at];
-        match start_worker(scope, rt, alloc, shared, station, inbox, idle_seconds) {
+        match start_worker(
+            scope,
+            rt,
+            alloc,
+            shared,
+            station,
+            inbox,
+            starting,
+            idle_seconds,
+        ) {
             Ok(child) => children.push_reserved(child),
             Err(fault) => return Err(fault),
         }

@@ -120,8 +120,8 @@ impl<'a, X: Log + Clock + Wait, N: Node + Drop, S: EndSink> Desk<'a, X, N, S> {
             return false;
         };
         if register(poll, &socket, slot).is_err() {
-            // Its first read meets the end, and so it ends like any other.
-            let _ = socket.shutdown(Shutdown::Both);
+            // Its first read meets the end, and so it ends like any other. Only a socket that is shut down already can't be.
+            let _is_shut = socket.shutdown(Shutdown::Both).is_err();
         }
         self.seats.set(slot, peer, socket);
         self.seats.mark_ready(slot);
@@ -149,8 +149,10 @@ impl<'a, X: Log + Clock + Wait, N: Node + Drop, S: EndSink> Desk<'a, X, N, S> {
     fn begin_arrivals(&mut self, poll: &Poll)
         ensures { self.new.jobs.first ≡ self.old.jobs.first }
     {
-        let arrivals = self.inbox.take(self.rt, self.alloc);
-        for arrival in arrivals {
+        for _ in 0..self.inbox.waiting(self.rt) {
+            let Some(arrival) = self.inbox.take(self.rt) else {
+                return;
+            };
             let peer = arrival.peer;
             if !self.begin(poll, arrival) {
                 self.inbox.count_end();
