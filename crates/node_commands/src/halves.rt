@@ -86,7 +86,8 @@ impl EndWrite for ReplyHalf {
     /// Shuts down the side to the client, which then reads the end of the replies, and lets go of the socket.
     fn ended(&mut self) {
         if let Some(gathered) = &self.gathered {
-            let _ = gathered.get_ref().socket.shutdown(Shutdown::Write);
+            // Only a connection that its client has ended can't be shut down.
+            let _is_ended = gathered.get_ref().socket.shutdown(Shutdown::Write).is_err();
         }
         self.gathered = None;
     }

@@ -87,8 +87,8 @@ where
 /// Writes the address, as far as that can be done.
 fn announce<L: OpenListener, W: Write>(listener: &L, writer: &mut W) {
     if let Ok(address) = listener.local_addr() {
-        let _ = write_address(writer, address.port());
-        let _ = writer.flush();
+        let _unheard = write_address(writer, address.port());
+        let _unheard = writer.flush();
     }
 }
 
@@ -145,7 +145,7 @@ where
     );
     if let Ok(served) = &outcome {
         log_ends(rt, served.ends.as_slice());
-        let _ = report(served.totals, writer);
+        let _unheard = report(served.totals, writer);
     }
     outcome
 }

@@ -105,7 +105,7 @@ where
     let Some(shared) = new_shared(alloc, settings.ring, settings.run, settings.sweep) else {
         return Err(ServeFault::NoMemory);
     };
-    let _ = announce(&listener, writer);
+    let _unheard = announce(&listener, writer);
     let server = ServerSettings {
         connections: settings.connections,
         idle_seconds: settings.idle_seconds,
@@ -114,6 +114,6 @@ where
         Ok(outcome) => outcome,
         Err(fault) => return Err(ServeFault::from(fault)),
     };
-    let _ = report(outcome.totals, writer);
+    let _unheard = report(outcome.totals, writer);
     Ok(outcome)
 }

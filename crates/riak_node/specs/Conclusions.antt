@@ -6,7 +6,8 @@ use Rattle.node_commands.specs.Lines.{serve_fault_text}
 use Rattle.schedule_player.specs.declared.fault.StepsFault.{StepsFault}
 use Rattle.schedule_player.specs.declared.fault.StepsFault.TheVariants.{BadStep, ReadFailed, WriteFailed, NoMemory}
 use Rattle.riak_node.specs.declared.conclusion.Conclusion.{Conclusion}
-use Rattle.riak_node.specs.declared.conclusion.Conclusion.TheVariants.{Piped, Served, CannotListen, Played, NoRing, NoAddress}
+use Rattle.riak_node.specs.declared.conclusion.Conclusion.TheVariants.{Piped, Served, CannotListen, Played, NoRing, NoAddress, NotText, HelpNotWritten}
+use Rattle.riak_node.specs.declared.conclusion.Conclusion.TheVariants as conclusions
 
 -- a line of the program on standard error
 abbrev pub error_line : List ℕ → List ℕ
@@ -39,6 +40,9 @@ line_of (Played (Ok unit)) = []
 line_of (Played (Err fault)) = steps_fault_line fault
 line_of NoRing = error_line (codes "ring must be a power of two from 1 to 1024")
 line_of NoAddress = error_line (codes "address must be an IP address, as 127.0.0.1")
+line_of NotText = error_line (codes "arguments must be UTF-8")
+line_of conclusions.NoMemory = error_line (codes "no memory")
+line_of HelpNotWritten = error_line (codes "write failed")
 
 -- the status: 0 at the end, also where bytes are left, 1 at a fault, and 2 for a command line that is none
 abbrev pub status_of : Conclusion → ℕ
@@ -50,3 +54,6 @@ status_of (Played (Ok unit)) = 0
 status_of (Played (Err fault)) = 1
 status_of NoRing = 2
 status_of NoAddress = 2
+status_of NotText = 2
+status_of conclusions.NoMemory = 1
+status_of HelpNotWritten = 1

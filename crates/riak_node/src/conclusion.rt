@@ -25,6 +25,12 @@ pub enum Conclusion {
     NoRing,
     /// What was given as an address is none. Status 2.
     NoAddress,
+    /// An argument isn't UTF-8. Status 2.
+    NotText,
+    /// There was no memory for the command line. Status 1.
+    NoMemory,
+    /// The help that was asked for couldn't be written. Status 1.
+    HelpNotWritten,
 }
 
 /// Writes a line of the program.
@@ -89,6 +95,9 @@ impl Conclusion {
             Conclusion::NoAddress => {
                 write_error(writer, "address must be an IP address, as 127.0.0.1")
             }
+            Conclusion::NotText => write_error(writer, "arguments must be UTF-8"),
+            Conclusion::NoMemory => write_error(writer, "no memory"),
+            Conclusion::HelpNotWritten => write_error(writer, "write failed"),
         }
     }
 
@@ -100,8 +109,8 @@ impl Conclusion {
             Conclusion::Piped(outcome) => exit_status(outcome),
             Conclusion::Served(Ok(())) | Conclusion::Played(Ok(())) => 0,
             Conclusion::Served(Err(_)) | Conclusion::Played(Err(_)) => 1,
-            Conclusion::CannotListen => 1,
-            Conclusion::NoRing | Conclusion::NoAddress => 2,
+            Conclusion::CannotListen | Conclusion::NoMemory | Conclusion::HelpNotWritten => 1,
+            Conclusion::NoRing | Conclusion::NoAddress | Conclusion::NotText => 2,
         }
     }
 }

@@ -41,7 +41,6 @@ use conclusion::Conclusion;
 use drained_console::DrainedConsole;
 use log::{Level, Log, Logged, warn};
 use node_commands::serve_as_asked;
-use node_session::SessionFault;
 use ring_map::Ring;
 use schedule_player::StepsFault;
 use std::alloc::Global;
@@ -65,18 +64,35 @@ fn conclude(rt: &HostRuntime, conclusion: Conclusion) -> ExitCode
     ExitCode::from(conclusion.status())
 }
 
-/// What `clap` has to say of a command line, and the status. Help that can't be written is an error of the writer; a mistake has its status
-/// whether or not its text can be.
-fn tell(rt: &HostRuntime, error: clap::Error) -> io::Result<ExitCode> {
+/// The arguments, the program's name first; how the program ends where they can't be read.
+fn arguments(rt: &HostRuntime) -> Result<Vec<String>, Conclusion> {
+    let args = match std::env::args(rt) {
+        Ok(args) => args.collect(rt.alloc()),
+        Err(error) => {
+            return if error.kind() == io::ErrorKind::InvalidData {
+                Err(Conclusion::NotText)
+            } else {
+                Err(Conclusion::NoMemory)
+            };
+        }
+    };
+    match args {
+        Ok(args) => Ok(args),
+        Err(_) => Err(Conclusion::NoMemory),
+    }
+}
+
+/// Writes what `clap` has to say of a command line, and returns the status. A mistake has its status whether or not its text can be written;
+/// help that can't be is a fault.
+fn tell(rt: &HostRuntime, error: clap::Error) -> ExitCode {
     if error.kind() == ErrorKind::OutOfMemory {
-        return Ok(conclude(rt, Conclusion::Piped(Err(SessionFault::NoMemory(0)))));
+        return conclude(rt, Conclusion::NoMemory);
     }
     let status = error.exit_code() as u8;
-    let written = error.print(rt);
-    if status == 0 {
-        written?;
+    if error.print(rt).is_err() && status == 0 {
+        return conclude(rt, Conclusion::HelpNotWritten);
     }
-    Ok(ExitCode::from(status))
+    ExitCode::from(status)
 }
 
 /// Serves standard input to standard output, by a ring of the asked size if there is one.
@@ -166,9 +182,12 @@ fn play_steps(rt: &HostRuntime, options: StepsOptions) -> Conclusion {
     Conclusion::Played(steps_as_asked(rt.alloc(), ring, options, &mut input, &mut output))
 }
 
-fn main(rt: HostRuntime) -> io::Result<ExitCode> {
+fn main(rt: HostRuntime) -> ExitCode {
     let alloc = rt.alloc();
-    let args: Vec<String> = std::env::args(&rt)?.collect(alloc)?;
+    let args = match arguments(&rt) {
+        Ok(args) => args,
+        Err(end) => return conclude(&rt, end),
+    };
     let conclusion = match command_line::read(alloc, args.as_slice()) {
         Ok(Subcommand::Pipe(options)) => serve_streams(&rt, options),
         Ok(Subcommand::Steps(options)) => play_steps(&rt, options),
@@ -182,5 +201,5 @@ fn main(rt: HostRuntime) -> io::Result<ExitCode> {
         },
         Err(error) => return tell(&rt, error),
     };
-    Ok(conclude(&rt, conclusion))
+    conclude(&rt, conclusion)
 }
