@@ -5,3 +5,4 @@ mod register;
 mod steps;
 mod threads;
 mod vnode;
+mod waiting;

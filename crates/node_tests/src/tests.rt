@@ -1,5 +1,6 @@
 //! Whole sessions, from bytes to bytes.
 
+mod buffers;
 mod connections;
 mod contexts;
 mod exchange;

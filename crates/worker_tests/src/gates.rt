@@ -1,8 +1,12 @@
 //! Sessions over two gates. The key k of the bucket b lies in partition 0 of a ring of two, b/j in partition 1, by the
 //! first bytes 56 and a6 of their digests as Python's `hashlib` gives them.
+mod lives;
+mod options;
+
 use crate::exchanges::{
     GET, GET_AND_PUT, LIVED_TWICE, NOTHING_COUNTED, ONE_GET, STORED_TWICE, TWO_LIVES, new_shared,
 };
+use crate::gates::options::{BUCKET_TYPES, GET_OPTIONS, PUT_OPTIONS};
 use crate::playing::{NEW_SESSION, Session, play};
 use gate_node::{Open, Shared, Turnstile};
 use stats_book::Totals;
@@ -139,6 +143,7 @@ const SESSIONS: &[Sessions] = &[
                 puts: 1,
                 ..NOTHING_COUNTED
             },
+            ..NEW_SESSION
         }],
         calls: 12,
     },
@@ -155,6 +160,45 @@ const SESSIONS: &[Sessions] = &[
             ..NEW_SESSION
         }],
         calls: 12,
+    },
+    Sessions {
+        shows: "options of gets are followed",
+        budget: 0,
+        sessions: &[GET_OPTIONS],
+        calls: 12_345_678,
+    },
+    Sessions {
+        shows: "options of puts are followed",
+        budget: 0,
+        sessions: &[PUT_OPTIONS],
+        calls: 123_456,
+    },
+    Sessions {
+        shows: "a key of another bucket type is another key",
+        budget: 0,
+        sessions: &[BUCKET_TYPES],
+        calls: 123_456,
+    },
+    Sessions {
+        shows: "memory that is kept back is given up when it is asked for, and made again, and all is answered",
+        budget: 0,
+        sessions: &[
+            Session {
+                has_reserve: true,
+                requests: ABSENT_PUT_V,
+                replies: NOTHING_STORED,
+                totals: GET_AND_PUT,
+                ..NEW_SESSION
+            },
+            Session {
+                has_reserve: true,
+                requests: GET_PUT_W,
+                replies: V_STORED,
+                totals: GET_AND_PUT,
+                ..NEW_SESSION
+            },
+        ],
+        calls: 1_234,
     },
 ];
 

@@ -4,7 +4,7 @@ ghost use Rattle.stats_book.specs.Holdings.{AllAre};
 ghost use Rattle.gate_node.specs.Passes.{ArePassesOf};
 
 use crate::exchanges::NOTHING_COUNTED;
-use gate_node::{GateNode, Passes, Shared, Turnstile};
+use gate_node::{GateNode, Passes, Reserve, Shared, Turnstile};
 use node_session::{Node, serve};
 use stats_book::{Blanks, Book, Quantity, Share, Totals, close};
 use std::alloc::Global;
@@ -15,6 +15,8 @@ use std::sync::ledger::Ledger;
 /// A session by a node of its own, and what it comes to.
 #[derive(Clone, Copy)]
 pub struct Session {
+    /// Whether the node's thread keeps memory back.
+    pub has_reserve: bool,
     /// How many gets the node's share has counted before.
     pub gets_before: u64,
     pub requests: &'static [u8],
@@ -25,8 +27,10 @@ pub struct Session {
     pub totals: Totals,
 }
 
-/// A session without requests, whose share has counted nothing before. Sessions of a test say what is other.
+/// A session without requests, whose share has counted nothing before, by a node that keeps nothing back. Sessions of a test say what is
+/// other.
 pub const NEW_SESSION: Session = Session {
+    has_reserve: false,
     gets_before: 0,
     requests: b"",
     replies: b"",
@@ -48,7 +52,45 @@ fn answers<W: Wait, T: Turnstile, G: Ledger, P: Ledger, D: Ledger, E: Ledger, R:
     result.is_ok() && written.as_slice() == session.replies
 }
 
-/// Whether a node with this share answers as the session says, and finds the book as full; and its passes.
+/// Whether a node gives memory up just where its thread keeps some back, as often as it is asked to, and replies may wait until it did.
+fn gives_up<W: Wait, T: Turnstile, G: Ledger, P: Ledger, D: Ledger, E: Ledger, R: Ledger>(
+    alloc: Global,
+    node: &GateNode<'_, W, T, G, P, D, E, R>,
+    has_reserve: bool,
+) -> bool {
+    node.has_room(alloc)
+        && node.make_room(alloc) == has_reserve
+        && node.has_room(alloc) != has_reserve
+        && node.make_room(alloc) == has_reserve
+}
+
+/// Whether a node with this share, whose thread keeps memory back, answers as the session says, and finds the book as full; and its passes.
+fn serve_keeping<W: Wait, T: Turnstile, G: Ledger, P: Ledger, D: Ledger, E: Ledger, R: Ledger>(
+    rt: &W,
+    alloc: Global,
+    shared: &Shared,
+    turnstile: &T,
+    session: &Session,
+    book: &Book<G, P, D, E, R>,
+    share: Share<G, P, D, E, R>,
+    passes: Passes,
+) -> (Share<G, P, D, E, R>, Passes, bool)
+    requires { ArePassesOf shared.now passes }
+    ensures { ArePassesOf shared.now result.1 }
+{
+    let node = GateNode::new(rt, shared, book, share, passes, turnstile);
+    let mut kept = node.with_reserve(Reserve::new(alloc));
+    let is_given_up = gives_up(alloc, &kept, true);
+    let is_answered = answers(alloc, &mut kept, session);
+    let (share, passes, is_book_full) = kept.parts();
+    (
+        share,
+        passes,
+        is_given_up && is_answered && is_book_full == session.is_book_full,
+    )
+}
+
+/// The same of one whose thread keeps none back.
 fn serve_by<W: Wait, T: Turnstile, G: Ledger, P: Ledger, D: Ledger, E: Ledger, R: Ledger>(
     rt: &W,
     alloc: Global,
@@ -63,13 +105,34 @@ fn serve_by<W: Wait, T: Turnstile, G: Ledger, P: Ledger, D: Ledger, E: Ledger, R
     ensures { ArePassesOf shared.now result.1 }
 {
     let mut node = GateNode::new(rt, shared, book, share, passes, turnstile);
+    let is_given_up = gives_up(alloc, &node, false);
     let is_answered = answers(alloc, &mut node, session);
     let (share, passes, is_book_full) = node.parts();
     (
         share,
         passes,
-        is_answered && is_book_full == session.is_book_full,
+        is_given_up && is_answered && is_book_full == session.is_book_full,
     )
+}
+
+/// The same of one that keeps memory back, or doesn't, as the session says.
+fn serve_as_said<W: Wait, T: Turnstile, G: Ledger, P: Ledger, D: Ledger, E: Ledger, R: Ledger>(
+    rt: &W,
+    alloc: Global,
+    shared: &Shared,
+    turnstile: &T,
+    session: &Session,
+    book: &Book<G, P, D, E, R>,
+    share: Share<G, P, D, E, R>,
+    passes: Passes,
+) -> (Share<G, P, D, E, R>, Passes, bool)
+    requires { ArePassesOf shared.now passes }
+    ensures { ArePassesOf shared.now result.1 }
+{
+    if session.has_reserve {
+        return serve_keeping(rt, alloc, shared, turnstile, session, book, share, passes);
+    }
+    serve_by(rt, alloc, shared, turnstile, session, book, share, passes)
 }
 
 /// The passes of a node with the one share of this book, which has counted some gets before. None where it doesn't answer and count as
@@ -91,7 +154,7 @@ fn play_in<W: Wait, T: Turnstile, G: Ledger, P: Ledger, D: Ledger, E: Ledger, R:
 {
     let mut share = shares.swap_remove(0);
     let _ = share.add(rt, &book, Quantity::Gets, session.gets_before);
-    let (share, passes, is_well) = serve_by(
+    let (share, passes, is_well) = serve_as_said(
         rt, alloc, shared, turnstile, session, &book, share, passes,
     );
     shares.push_reserved(share);

@@ -1,14 +1,35 @@
 //! Connections over streams that need not wait.
 
 use crate::tests::frames::{
-    BAD_FRAME, FRAME_TOO_LARGE, PING, PONG, PUT_AND_GET, REPLIES, REQUESTS, STORED_AND_SHOWN,
-    UNKNOWN, UNKNOWN_CODE,
+    BAD_FRAME, FRAME_TOO_LARGE, GET, PING, PONG, PUT_AND_GET, REPLIES, REQUESTS, STORED,
+    STORED_AND_SHOWN, UNKNOWN, UNKNOWN_CODE,
 };
 use crate::tests::sessions::{ANSWERED, EMPTY, Part, Session, ended, goes};
 use crate::tests::streams::{Call, Channel, PLAIN, Trouble};
 use crate::tests::turns::{Carried, comes_so, is_carried};
 use node_session::SessionFault;
 use std::alloc::Global;
+
+/// The field of a reply that shows the first dot of the first key.
+const FIRST_DOT: &[u8] = b"\x12\x15\x02\0\0\0\0\0\x01\0\0\0\0\0\x01\0\0\0\0\0\0\0\x01";
+
+/// The same of the second key.
+const SECOND_DOT: &[u8] = b"\x12\x15\x02\0\0\0\0\0\x01\0\0\0\0\0\x02\0\0\0\0\0\0\0\x01";
+
+/// A reply to a get of b/k, of 1,048,561 bytes, up to these.
+const SHOWN_LONGEST: &[u8] = b"\0\x10\0\x11\x0a\x0a\xf5\xff\x3f\x0a\xf1\xff\x3f";
+
+/// The 1,048,561 bytes.
+const LONGEST: Part = Part::Times(911, &[7; 1151]);
+
+/// A get of b/j.
+const GET_J: &[u8] = b"\0\0\0\x07\x09\x0a\x01b\x12\x01j";
+
+/// A reply to a get of b/k, of 5,000 bytes, up to these.
+const SHOWN_5_000: &[u8] = b"\0\0\x13\xa6\x0a\x0a\x8b\x27\x0a\x88\x27";
+
+/// A reply to a get of b/j, of 20,000 bytes, up to these.
+const SHOWN_20_000: &[u8] = b"\0\0\x4e\x40\x0a\x0a\xa4\x9c\x01\x0a\xa0\x9c\x01";
 
 /// Streams that wait, or that never have to.
 const EITHER_WAY: &[Session] = &[
@@ -91,6 +112,35 @@ const EITHER_WAY: &[Session] = &[
         },
         ..ANSWERED
     },
+    // The replies are 3,145,796 bytes in all.
+    Session {
+        shows: "the longest request, and three gets of it in one piece",
+        input: &[
+            Part::Bytes(b"\0\x10\0\0\x0b\x0a\x01b\x12\x01k\x22\xf5\xff\x3f\x0a\xf1\xff\x3f"),
+            LONGEST,
+            Part::Times(3, GET),
+        ],
+        channel: Channel {
+            pieces: (4096, 4096),
+            most: 2_000_000,
+            reads: 1000,
+            ..PLAIN
+        },
+        end: ended!(4, 0),
+        output: &[
+            Part::Bytes(STORED),
+            Part::Bytes(SHOWN_LONGEST),
+            LONGEST,
+            Part::Bytes(FIRST_DOT),
+            Part::Bytes(SHOWN_LONGEST),
+            LONGEST,
+            Part::Bytes(FIRST_DOT),
+            Part::Bytes(SHOWN_LONGEST),
+            LONGEST,
+            Part::Bytes(FIRST_DOT),
+        ],
+        ..EMPTY
+    },
 ];
 
 #[test]
@@ -130,6 +180,47 @@ const BLOCKED: &[Session] = &[
         },
         end: Err(SessionFault::BadFrame(3)),
         output: &[Part::Bytes(&REPLIES), Part::Bytes(BAD_FRAME)],
+        ..EMPTY
+    },
+    // Of the replies to five gets in one piece, 55,174 bytes, none is taken before all wait.
+    Session {
+        shows: "long replies wait one behind the other",
+        input: &[
+            Part::Bytes(b"\0\0\x13\x95\x0b\x0a\x01b\x12\x01k\x22\x8b\x27\x0a\x88\x27"),
+            Part::Times(5, &[7; 1000]),
+            Part::Bytes(b"\0\0\x4e\x2f\x0b\x0a\x01b\x12\x01j\x22\xa4\x9c\x01\x0a\xa0\x9c\x01"),
+            Part::Times(20, &[8; 1000]),
+            Part::Bytes(GET),
+            Part::Bytes(GET_J),
+            Part::Bytes(GET),
+            Part::Bytes(GET_J),
+            Part::Bytes(GET),
+        ],
+        channel: Channel {
+            pieces: (4096, 4096),
+            most: 5000,
+            troubles: &[Trouble::Holds(Call::Write, 50)],
+            ..PLAIN
+        },
+        end: ended!(7, 0),
+        output: &[
+            Part::Times(2, STORED),
+            Part::Bytes(SHOWN_5_000),
+            Part::Times(5, &[7; 1000]),
+            Part::Bytes(FIRST_DOT),
+            Part::Bytes(SHOWN_20_000),
+            Part::Times(20, &[8; 1000]),
+            Part::Bytes(SECOND_DOT),
+            Part::Bytes(SHOWN_5_000),
+            Part::Times(5, &[7; 1000]),
+            Part::Bytes(FIRST_DOT),
+            Part::Bytes(SHOWN_20_000),
+            Part::Times(20, &[8; 1000]),
+            Part::Bytes(SECOND_DOT),
+            Part::Bytes(SHOWN_5_000),
+            Part::Times(5, &[7; 1000]),
+            Part::Bytes(FIRST_DOT),
+        ],
         ..EMPTY
     },
 ];

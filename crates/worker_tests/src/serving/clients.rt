@@ -2,7 +2,7 @@
 use std::alloc::Global;
 use std::io::{Read, Write};
 use std::net::{Net, Shutdown, TcpStream};
-use std::sync::atomic::{AtomicBool, Ordering};
+use std::sync::atomic::{AtomicBool, AtomicU16, Ordering};
 
 /// A step of the clients.
 pub enum Step {
@@ -32,10 +32,46 @@ pub enum Action {
     IsEnded,
 }
 
+/// The ports from which the first three clients connected, and 0 where there was none.
+#[derive(Drop)]
+pub struct Ports {
+    ports: [AtomicU16; 3],
+}
+
+impl Ports {
+    /// No client has connected.
+    pub fn new() -> Ports {
+        Ports {
+            ports: [AtomicU16::new(0), AtomicU16::new(0), AtomicU16::new(0)],
+        }
+    }
+
+    /// The port of a client, counted from 0 on.
+    pub fn of(&self, client: usize) -> u16 {
+        match self.ports.get(client) {
+            Some(port) => port.load(Ordering::SeqCst),
+            None => 0,
+        }
+    }
+
+    /// Keeps the port of a client, where it is one of those.
+    fn keep(&self, client: usize, stream: &TcpStream) {
+        if let (Some(port), Ok(address)) = (self.ports.get(client), stream.local_addr()) {
+            port.store(address.port(), Ordering::SeqCst);
+        }
+    }
+}
+
 /// Whether a client connects to a port of this machine.
-fn connects<N: Net<Stream = TcpStream>>(net: &N, port: u16, streams: &mut Vec<TcpStream>) -> bool {
+fn connects<N: Net<Stream = TcpStream>>(
+    net: &N,
+    port: u16,
+    streams: &mut Vec<TcpStream>,
+    ports: &Ports,
+) -> bool {
     match TcpStream::connect(net, ("127.0.0.1", port)) {
         Ok(stream) => {
+            ports.keep(streams.len(), &stream);
             let is_set = stream.set_nodelay(true).is_ok();
             streams.push(stream).is_ok() && is_set
         }
@@ -103,11 +139,12 @@ fn take<N: Net<Stream = TcpStream>>(
     net: &N,
     port: u16,
     streams: &mut Vec<TcpStream>,
+    ports: &Ports,
     has_ended: &AtomicBool,
     step: &Step,
 ) -> bool {
     match step {
-        Step::Connects => connects(net, port, streams),
+        Step::Connects => connects(net, port, streams, ports),
         Step::Acts(client, action) => match streams.get_mut(*client) {
             Some(stream) => act(stream, action),
             None => false,
@@ -121,18 +158,19 @@ fn take<N: Net<Stream = TcpStream>>(
 }
 
 /// Whether all steps go as they should. Where one doesn't, those behind it are taken nevertheless, so that all clients come. Behind the last
-/// one the input has ended.
+/// one the input has ended. The ports of the clients are kept.
 pub fn take_all<N: Net<Stream = TcpStream>>(
     net: &N,
     alloc: Global,
     port: u16,
+    ports: &Ports,
     has_ended: &AtomicBool,
     steps: &[Step],
 ) -> bool {
     let mut streams = Vec::new(alloc);
     let mut is_well = true;
     for step in steps {
-        is_well = take(net, port, &mut streams, has_ended, step) && is_well;
+        is_well = take(net, port, &mut streams, ports, has_ended, step) && is_well;
     }
     has_ended.store(true, Ordering::SeqCst);
     is_well

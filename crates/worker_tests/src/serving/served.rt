@@ -1,6 +1,6 @@
 //! Runs that serve all their connections, and their clients beside them.
 use crate::exchanges::{GET, NOTHING_ACCEPTED, PUT_V, STORED};
-use crate::serving::clients::{Action, Step, take_all};
+use crate::serving::clients::{Action, Ports, Step, take_all};
 use crate::serving::listener::{
     ABORTED, Failing, Failures, NO_BUFFER, NO_FAILURES, NO_MEMORY, NO_PROCESS_DESCRIPTOR,
     NO_ROUTE_TO_HOST, NO_SYSTEM_DESCRIPTOR, listen,
@@ -303,7 +303,10 @@ fn goes<R: Log + Clock + Net<Stream = TcpStream> + Threads + Wait + Sync>(
     let (is_served, are_steps_taken) = thread::join(
         rt,
         || serves(rt, alloc, failing, port, run),
-        || take_all(rt, alloc, port, &AtomicBool::new(false), run.steps),
+        || {
+            let has_ended = AtomicBool::new(false);
+            take_all(rt, alloc, port, &Ports::new(), &has_ended, run.steps)
+        },
     );
     is_served && are_steps_taken
 }

@@ -1,16 +1,18 @@
 //! Servers for as many clients as come, until an input ends or so many have come, and their clients beside them.
 use crate::exchanges::accepted_of;
-use crate::serving::clients::{Action, Step, take_all};
+use crate::serving::clients::{Action, Ports, Step, take_all};
 use crate::serving::is_written;
 use crate::serving::listener::listen;
 use crate::serving::served::{
     BAD_FRAME, BAD_LENGTH, NONE_OF_EACH, ONE_KEY, PUT_V_GET, PUT_W_GET, STORED_V, STORED_W,
     TWO_CLIENTS, TWO_OF_EACH,
 };
-use crate::serving::sinks::{has_one_of_each, new_sinks};
+use crate::serving::sinks::{are_told, has_one_of_each, new_sinks};
 use log::sink::Console;
 use log::{LevelFilter, Log, Logged};
 use node_commands::{UntilSettings, serve_on_until};
+use node_server::ConnectionEnd;
+use node_session::{Ended, SessionFault};
 use ring_map::Ring;
 use std::alloc::Global;
 use std::io::{ErrorKind, Read};
@@ -53,6 +55,8 @@ struct Server {
     idle_seconds: Option<u32>,
     steps: &'static [Step],
     connections: u64,
+    /// How the connections of the first clients end, by their addresses.
+    ends: &'static [ConnectionEnd],
     /// The line of the totals; none where a client doesn't wait for its replies.
     totals: Option<&'static str>,
 }
@@ -161,6 +165,7 @@ const ONE_WORKER: Server = Server {
     idle_seconds: None,
     steps: &[],
     connections: 0,
+    ends: &[],
     totals: NONE_OF_EACH,
 };
 
@@ -184,6 +189,14 @@ const SERVERS: &[Server] = &[
         shows: "clients that wait hold nobody up, and are ended with the input",
         steps: TWO_WAIT,
         connections: 3,
+        ends: &[
+            ConnectionEnd::Closed,
+            ConnectionEnd::Closed,
+            ConnectionEnd::Through(Ok(Ended {
+                replies: 2,
+                rest: 0,
+            })),
+        ],
         totals: ONE_OF_EACH,
         ..ONE_WORKER
     },
@@ -206,6 +219,7 @@ const SERVERS: &[Server] = &[
         shows: "a bad length ends its connection alone",
         steps: ONE_BAD_LENGTH,
         connections: 2,
+        ends: &[ConnectionEnd::Through(Err(SessionFault::BadFrame(1)))],
         totals: ONE_OF_EACH,
         ..ONE_WORKER
     },
@@ -287,6 +301,7 @@ fn serves<R: Log + Clock + Net + Threads + Wait + Sync>(
     alloc: Global,
     listener: TcpListener,
     port: u16,
+    ports: &Ports,
     has_ended: &AtomicBool,
     server: &Server,
 ) -> bool {
@@ -314,6 +329,7 @@ fn serves<R: Log + Clock + Net + Threads + Wait + Sync>(
         Ok(outcome) => is_written(alloc, written.as_slice(), port, server.totals)
             && outcome.connections == server.connections
             && has_one_of_each(outcome.sinks.as_slice(), server.connections)
+            && are_told(outcome.sinks.as_slice(), ports, server.ends)
             && outcome.tallies.as_slice() == [accepted_of(outcome.totals)].as_slice()
             && outcome.count_all,
         Err(_) => false,
@@ -328,11 +344,20 @@ fn clients_are_served_until_the_end(rt: HostRuntime) {
         let Some((listener, port)) = listen(&rt) else {
             panic!(rt; "no listener");
         };
+        let ports = Ports::new();
         let has_ended = AtomicBool::new(false);
         let (is_served, are_steps_taken) = thread::join(
             &rt,
-            || serves(&quiet, rt.alloc(), listener, port, &has_ended, server),
-            || take_all(&rt, rt.alloc(), port, &has_ended, server.steps),
+            || serves(
+                &quiet,
+                rt.alloc(),
+                listener,
+                port,
+                &ports,
+                &has_ended,
+                server,
+            ),
+            || take_all(&rt, rt.alloc(), port, &ports, &has_ended, server.steps),
         );
         assert!(rt; is_served && are_steps_taken, "{}", server.shows);
     }
