@@ -1,4 +1,6 @@
 //! What shares add to a book, and what the book has when it is closed.
+mod stock;
+
 ghost use Rattle.std.specs.Prelude.{◌≡◌, vec_len};
 ghost use Rattle.stats_book.specs.Holdings.{AllAre};
 
