@@ -230,6 +230,6 @@ module _ (id : VnodeId) (limits : IsWithinLimits id.vnode id.last_epoch) (old ne
   get_answers get quantity (inl said, counted) = elim said.says [
     | inl shown ↦ said_answers (AskGet (get_command get)) (Ok (GetDone (get_reply said.state (get_command get)))) (RepliesToGet get reply) said
         (λ history after. turn_told id.vnode id.last_epoch limits history said.state (AskGet (get_command get)) (GetDone (get_reply said.state (get_command get))) after refl) shown.0
-    | inr refused ↦ said_answers (AskGet (get_command get)) (Err no_memory) (RepliesToGet get reply) said (λ history after. inr (refl, refl)) refused.0
+    | inr refused ↦ said_answers (AskGet (get_command get)) (Err no_memory) (RepliesToGet get reply) said (λ history after. inr (refl, refl)) refused.1.0
   ]
   get_answers get quantity (inr moved, counted) = of_gate (AskGet (get_command get)) (inl moved.0)

@@ -1,5 +1,5 @@
 -- The passes that are kept of fallbacks, and the fallbacks.
-use Rattle.std.proofs.Common.{◌≡◌, ◌<◌, ◌∙◌, ℕ, List, [], ◌∷◌, length, refl, sym, ap, subst, arith, inl}
+use Rattle.std.proofs.Common.{◌≡◌, ◌<◌, ◌∙◌, ℕ, List, [], ◌∷◌, length, replicate, refl, sym, ap, subst, arith, inl}
 use Rattle.std.specs.Prelude.{Option, Some, None, Result, Ok, Err, IfOk, true, slice_get, slice_set, zero, suc}
 use Rattle.riak_msgs.specs.declared.Reply.{Reply}
 use Rattle.stats_book.specs.declared.quantity.Quantity.{Quantity}
@@ -10,7 +10,7 @@ use Rattle.handoff.specs.Partitions.{AreNone, number_in, number_of}
 use Rattle.gate_node.specs.declared.passes.FallbackPass.{FallbackPass}
 use Rattle.gate_node.specs.Asked.{Sight}
 use Rattle.gate_node.specs.Gates.{Gates}
-use Rattle.gate_node.specs.Passes.{Sights, FitsPartition, AllFit, OutliveDiversion, AnswersAtFallback, AnswersBy, FindsClosed, IsClosedBy, IsRenewed, Resumes, is_pass_of, kept_of}
+use Rattle.gate_node.specs.Passes.{Sights, FitsPartition, AllFit, OutliveDiversion, AnswersAtFallback, AnswersBy, FindsClosed, IsClosedBy, IsRenewed, Resumes, is_pass_of, kept_of, places_of}
 use Rattle.handoff.proofs.Opened.{none_some}
 
 -- where nothing is kept, that fits
@@ -143,3 +143,18 @@ closes_at fallback had old new number renewed h =
       stays = h.stays;
       kept = kept_so fallback new (Some number) (h.diversion ∙ ap (λ (k : FallbackPass). k.diversion) same) h.kept;
     }
+
+nones : (places : List (Option FallbackPass)) → AreNone places → places ≡ replicate (length places) None
+nones [] none = refl
+nones (place ∷ places) none = λ i. none.0 i ∷ nones places none.1 i
+
+-- places that were made and have no pass show what those show that weren't made
+pub made_same : (size : ℕ) (made old : List (Option FallbackPass)) → AreNone made → length made ≡ size → length old ≡ 0 → places_of size made ≡ places_of size old
+made_same size [] [] none is unmade = refl
+made_same size (place ∷ places) [] none is unmade = nones (place ∷ places) none ∙ ap (λ n. replicate n None) is
+made_same size made (place ∷ places) none is unmade = absurd (omega (arith, unmade))
+
+-- and these show none
+pub unmade_none : (size : ℕ) → AreNone {A = FallbackPass} (replicate size None)
+unmade_none zero = tt
+unmade_none (suc size) = (refl, unmade_none size)

@@ -41,7 +41,7 @@ use Rattle.rw_gate.specs.declared.asking.AskOutcome.TheVariants as Outcomes
 use Rattle.gate_node.specs.Asked.{Sight, Changes, ChangesOpen, GetsOpen, ComesOf, IsMadeBy, answer_quantity, get_quantity, outcome_quantity, outcome_reply, told_quantity}
 use Rattle.gate_node.specs.Asked.{Gets as AnswersGet}
 use Rattle.gate_node.specs.Gates.{Gates}
-use Rattle.gate_node.specs.GateStep.{NodeOverGates, GateNodeStep, AnswersMoved, AtIndex, AtIndexFrom, AnswersAtPartition}
+use Rattle.gate_node.specs.GateStep.{NodeOverGates, GateNodeStep, AnswersError, AtIndex, AtIndexFrom, AnswersAtPartition}
 use Rattle.stats_book.specs.Counter.{Count, Counts, CountsReply, CountsAnswer}
 use Rattle.gate_node.specs.Sessions.{reply_most, most_of, CountsUpTo}
 use Rattle.stats_book.proofs.Raising.{raised_none}
@@ -140,12 +140,12 @@ Fits (replies.Error text) quantity = quantity ≡ Some Refusals
 Fits replies.Ping quantity = ⊥
 
 -- the state is shown by a get's reply, or by an error
-get-fits : (r : GetReply) (A B : Type 0) (t : Text) (reply : Reply) (quantity : Option Quantity) → ((reply ≡ replies.Get r) × A) ⊎ ((reply ≡ replies.Error t) × B) → quantity ≡ Some (get_quantity reply) → Fits reply quantity
-get-fits r A B t reply quantity (inl is) counted = subst (λ (x : Reply). Fits x quantity) (sym is.0) (counted ∙ ap (λ (x : Reply). Some (get_quantity x)) is.0)
-get-fits r A B t reply quantity (inr is) counted = subst (λ (x : Reply). Fits x quantity) (sym is.0) (counted ∙ ap (λ (x : Reply). Some (get_quantity x)) is.0)
+get-fits : (r : GetReply) (A B C : Type 0) (t : Text) (reply : Reply) (quantity : Option Quantity) → ((reply ≡ replies.Get r) × A) ⊎ (B × ((reply ≡ replies.Error t) × C)) → quantity ≡ Some (get_quantity reply) → Fits reply quantity
+get-fits r A B C t reply quantity (inl is) counted = subst (λ (x : Reply). Fits x quantity) (sym is.0) (counted ∙ ap (λ (x : Reply). Some (get_quantity x)) is.0)
+get-fits r A B C t reply quantity (inr (takes, is)) counted = subst (λ (x : Reply). Fits x quantity) (sym is.0) (counted ∙ ap (λ (x : Reply). Some (get_quantity x)) is.0)
 
 gets-fit : (get : GetAsk) (old new : Sight) (reply : Reply) (quantity : Option Quantity) → AnswersGet get old new reply quantity → Fits reply quantity
-gets-fit get old new reply quantity (inl said, counted) = get-fits (get_reply said.state (get_command get)) (said.state ≡ said.state) (said.state ≡ said.state) texts.NoMemory reply quantity said.says counted
+gets-fit get old new reply quantity (inl said, counted) = get-fits (get_reply said.state (get_command get)) (said.state ≡ said.state) (Unit {0}) (said.state ≡ said.state) texts.NoMemory reply quantity said.says counted
 gets-fit get old new reply quantity (inr moved, counted) = subst (λ (x : Reply). Fits x quantity) (sym moved.0) (counted ∙ ap (λ (x : Reply). Some (get_quantity x)) moved.0)
 
 no-reap : (ask : Ask) → IsWrite ask → (key : Key) → AsksReap key ask → ⊥
@@ -277,10 +277,10 @@ index-counts index old reply new Says fits at =
     subst (λ (n : NodeOverGates). CountsAs old reply n) (sym at.node)
     (one-counts old.shared.budget at.reaps reply at.quantity old.count at.count (fits at.before at.steps.answered at.quantity at.steps.answers) few at.counts)
 
-moved-counts : (old : NodeOverGates) (reply : Reply) (new : NodeOverGates) → AnswersMoved old reply new → CountsAs old reply new
-moved-counts old reply new moved =
-    subst (λ (n : NodeOverGates). CountsAs old reply n) (sym moved.node)
-    (one-counts old.shared.budget 0 reply (Some Refusals) old.count moved.count (subst (λ (r : Reply). Fits r (Some Refusals)) (sym moved.replied) refl) (omega arith) moved.counts)
+text-counts : (text : Text) (old : NodeOverGates) (reply : Reply) (new : NodeOverGates) → AnswersError text old reply new → CountsAs old reply new
+text-counts text old reply new answers =
+    subst (λ (n : NodeOverGates). CountsAs old reply n) (sym answers.node)
+    (one-counts old.shared.budget 0 reply (Some Refusals) old.count answers.count (subst (λ (r : Reply). Fits r (Some Refusals)) (sym answers.replied) refl) (omega arith) answers.counts)
 
 -- a look counts nothing
 module _ (index number : ℕ) (old : NodeOverGates) (reply : Reply) (new : NodeOverGates) (Answers : Sight → Sight → Reply → Option Quantity → Type 0)
@@ -290,7 +290,7 @@ module _ (index number : ℕ) (old : NodeOverGates) (reply : Reply) (new : NodeO
       let looked : (at.looked.shared, at.looked.count) ≡ (old.shared, old.count) = ap (λ (n : NodeOverGates). (n.shared, n.count)) at.looks.node in
       let here : CountsAs at.looked reply new = elim at.answers [
         | inl far ↦ index-counts index at.looked reply new (λ p q. Answers p q reply) fits far.1
-        | inr short ↦ moved-counts at.looked reply new short.1
+        | inr short ↦ text-counts texts.Moved at.looked reply new short.1
       ] in
       subst (λ (p : Gates × Count). CountsUpTo (λ q. reply_most p.0.budget q reply) p.1 new.count) looked here
 
@@ -298,7 +298,8 @@ at-counts : (index : ℕ) (old : NodeOverGates) (reply : Reply) (new : NodeOverG
     → ((p q : Sight) (quantity : Option Quantity) → Answers p q reply quantity → Fits reply quantity) → ((p q : Sight) (quantity : Option Quantity) → AnswersOpen p q reply quantity → Answers p q reply quantity)
     → AnswersAtPartition index old reply new Answers AnswersOpen → CountsAs old reply new
 at-counts index old reply new Answers AnswersOpen fits opened (inl (none, at)) = index-counts index old reply new (λ p q. Answers p q reply) fits at
-at-counts index old reply new Answers AnswersOpen fits opened (inr (inl at)) =
+at-counts index old reply new Answers AnswersOpen fits opened (inr (inl (inr short))) = text-counts texts.NoMemory old reply new short
+at-counts index old reply new Answers AnswersOpen fits opened (inr (inl (inl at))) =
     subst (λ (n : NodeOverGates). CountsAs old reply n) (sym at.node)
     (one-counts old.shared.budget 0 reply at.quantity old.count at.count (fits at.before at.after at.quantity (opened at.before at.after at.quantity at.answers)) (omega arith) at.counts)
 at-counts index old reply new Answers AnswersOpen fits opened (inr (inr at)) =

@@ -62,7 +62,7 @@ from_answered histories index number looked reply new Answers (inr short) seen =
 at_answered : (histories : List GateHistory) (index : ℕ) (old : NodeOverGates) (reply : Reply) (new : NodeOverGates) (Answers AnswersOpen : Sight → Sight → Reply → Option Quantity → Type 0) (h : AnswersAtPartition index old reply new Answers AnswersOpen)
     → AllZip IsSeen histories new.passes.primaries → IsAnsweredAt histories index old reply new Answers AnswersOpen h
 at_answered histories index old reply new Answers AnswersOpen (inl (none, h)) seen = index_answered histories index old new (λ p q. Answers p q reply) h seen
-at_answered histories index old reply new Answers AnswersOpen (inr (inl h)) seen = tt
+at_answered histories index old reply new Answers AnswersOpen (inr (inl asks)) seen = tt
 at_answered histories index old reply new Answers AnswersOpen (inr (inr h)) seen = from_answered histories index h.number h.answers.looked reply new Answers h.answers.answers seen
 
 pub step_answers : (histories : List GateHistory) (old : NodeOverGates) (request : Request) (reply : Reply) (new : NodeOverGates) (step : StepIn histories old request reply new) → AnswersIn histories old request reply new step
@@ -92,7 +92,8 @@ module _ (histories : List GateHistory) where
   partition_seen : (index : ℕ) (old : NodeOverGates) (reply : Reply) (new : NodeOverGates) (Answers AnswersOpen : Sight → Sight → Reply → Option Quantity → Type 0) → AnswersAtPartition index old reply new Answers AnswersOpen → AreSeen new
       → AreSeen old
   partition_seen index old reply new Answers AnswersOpen (inl (none, h)) seen = index_seen index old new (λ p q. Answers p q reply) h seen
-  partition_seen index old reply new Answers AnswersOpen (inr (inl h)) seen = subst AreSeen h.node seen
+  partition_seen index old reply new Answers AnswersOpen (inr (inl (inl h))) seen = subst AreSeen h.node seen
+  partition_seen index old reply new Answers AnswersOpen (inr (inl (inr short))) seen = subst AreSeen short.node seen
   partition_seen index old reply new Answers AnswersOpen (inr (inr h)) seen =
       subst AreSeen h.closed.node (from_seen index h.number h.found reply new Answers h.answers seen)
 

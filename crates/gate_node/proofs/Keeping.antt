@@ -24,7 +24,8 @@ from-keeps index number old reply new Answers at =
 partition-keeps : (index : ℕ) (old : NodeOverGates) (reply : Reply) (new : NodeOverGates) (Answers AnswersOpen : Sight → Sight → Reply → Option Quantity → Type 0)
     → AnswersAtPartition index old reply new Answers AnswersOpen → new.shared ≡ old.shared
 partition-keeps index old reply new Answers AnswersOpen (inl (none, at)) = ap (λ (n : NodeOverGates). n.shared) at.node
-partition-keeps index old reply new Answers AnswersOpen (inr (inl at)) = ap (λ (n : NodeOverGates). n.shared) at.node
+partition-keeps index old reply new Answers AnswersOpen (inr (inl (inl at))) = ap (λ (n : NodeOverGates). n.shared) at.node
+partition-keeps index old reply new Answers AnswersOpen (inr (inl (inr short))) = ap (λ (n : NodeOverGates). n.shared) short.node
 partition-keeps index old reply new Answers AnswersOpen (inr (inr at)) =
     from-keeps index at.number at.found reply new Answers at.answers ∙ ap (λ (n : NodeOverGates). n.shared) at.closed.node
 

@@ -1,5 +1,5 @@
 -- Steps in histories of commands alone are the register's.
-use Rattle.std.proofs.Common.{◌≡◌, ◌∙◌, ℕ, zero, suc, List, [], ◌∷◌, map, refl, sym, ap, subst, inl, inr}
+use Rattle.std.proofs.Common.{◌≡◌, ◌∙◌, ℕ, zero, suc, List, [], ◌∷◌, refl, sym, ap, subst, inl, inr}
 use Rattle.std.specs.Prelude.{◌⊎◌, Option, Some, None, slice_get}
 use Rattle.std.specs.Option.{option_map, option_map_or}
 use Rattle.std.proofs.lemmas.Option.{slice_get-map}
@@ -11,20 +11,18 @@ use Rattle.ring_map.specs.Ring.{id_of}
 use Rattle.rw_gate.specs.Histories.{RunFrom}
 use Rattle.rw_gate.specs.Views.{GateId}
 use Rattle.vnode_core.specs.declared.entry.Entry.{Entry}
-use Rattle.vnode_core.specs.declared.event.VnodeEvent.{VnodeEvent}
 use Rattle.vnode_core.specs.declared.vnode.tally.Tally.{Tally}
-use Rattle.vnode_core.specs.Events.{AreCommands, Makes, all_commands, commands_of}
+use Rattle.vnode_core.specs.Events.{AreCommands, Makes, commands_of}
 use Rattle.vnode_core.specs.Plans.{View}
 use Rattle.vnode_core.proofs.Entries.{commands_before, commands_begin, commands_of-all_commands}
 use Rattle.handoff.specs.declared.gates.Fallback.{Fallback}
-use Rattle.handoff.specs.Partitions.{AreNone, AreOfNewRun}
+use Rattle.handoff.specs.Partitions.{AreNone}
 use Rattle.handoff.proofs.Opened.{none_some}
 use Rattle.gate_node.specs.Asked.{Sight, state_of}
-use Rattle.gate_node.specs.declared.passes.FallbackPass.{FallbackPass}
 use Rattle.gate_node.specs.Gates.{Gates}
 use Rattle.gate_node.specs.GateStep.{NodeOverGates}
-use Rattle.gate_node.specs.OneHistory.{AreOfGates, IsSeen, StepIn}
-use Rattle.gate_node.specs.Plain.{AreOfCommands, AreLegal, AnswersAsRegister, PlainStepIsRegister, TalliesArePlain, commands_at}
+use Rattle.gate_node.specs.OneHistory.{IsSeen}
+use Rattle.gate_node.specs.Plain.{AreOfCommands, AreLegal, PlainStepIsRegister, TalliesArePlain, commands_at}
 use Rattle.gate_node.specs.Registers.{Commands, VnodeId, HasSeenCommands, IsLegalHistory, SharedRegister, entries_by, id_at, seen_at, seen_by, vnode_at}
 use Rattle.gate_node.specs.Tallies.{GateHistory, IsTally, CountsAll}
 use Rattle.gate_node.proofs.Keeping.{step-keeps}

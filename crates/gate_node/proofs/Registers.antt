@@ -70,7 +70,7 @@ module _ (index : ℕ) (command : Command Content Context) (old new : NodeOverGa
       let here = answers id at.before at.steps.answered (commands_of at.after.prefix) at.quantity at.limits at.made_new at.steps.more
       (subst (λ es. IsPrefix at.steps.answered.prefix es) (last_seen at.after has) more) at.steps.answers in
       record {
-        answers = subst (λ (p : VnodeId × (Commands × Commands)). Answered_at p.0 p.1.0 p.1.1) (λ i. (is i, (commands_of (had i), commands_of (has i)))) here;
+        answers = inl (subst (λ (p : VnodeId × (Commands × Commands)). Answered_at p.0 p.1.0 p.1.1) (λ i. (is i, (commands_of (had i), commands_of (has i)))) here);
         others = λ other ne. ap commands_of (node other ∙ ap (λ o. seen_at (slice_get old.shared.fallbacks other) o (slice_get old.passes.fallbacks other)) (set_there old.passes.primaries index other at.after ne));
       }
 
@@ -88,7 +88,7 @@ module _ (index : ℕ) (command : Command Content Context) (old new : NodeOverGa
       let made = subst (λ (g : GateId View). IsMadeNew first.vnode first.last_epoch g) (sym at.of_gate) at.is_new.made_new in
       let here = answers first at.before at.after (commands_of at.after.prefix) at.quantity at.is_new.limits made at.more ([], append-nil at.after.prefix ∙ last_seen at.after has) at.answers in
       record {
-        answers = subst (λ (p : VnodeId × (Commands × Commands)). Answered_at p.0 p.1.0 p.1.1) (λ i. (is i, (commands_of (had i), commands_of (has i)))) here;
+        answers = inl (subst (λ (p : VnodeId × (Commands × Commands)). Answered_at p.0 p.1.0 p.1.1) (λ i. (is i, (commands_of (had i), commands_of (has i)))) here);
         others = λ other ne. ap commands_of (node other ∙ ap (λ o. seen_at (slice_get old.shared.fallbacks other) (slice_get old.passes.primaries other) o) (set_there old.passes.fallbacks index other kept ne));
       }
 
@@ -115,7 +115,11 @@ at_is : (index : ℕ) (command : Command Content Context) (old : NodeOverGates) 
     → AnswersCommand command reply (λ p q. Answers p q reply) → ((p q : Sight) (quantity : Option Quantity) → AnswersOpen p q reply quantity → Answers p q reply quantity) → HasSeenCommands new
     → AnswersAtPartition index old reply new Answers AnswersOpen → AnswersAskAt (vnode_at old.shared index) index command (seen_by old) reply (seen_by new)
 at_is index command old reply new Answers AnswersOpen answers opened are (inl (none, at)) = at_primary index command old new reply (λ p q. Answers p q reply) answers are none at
-at_is index command old reply new Answers AnswersOpen answers opened are (inr (inl at)) =
+at_is index command old reply new Answers AnswersOpen answers opened are (inr (inl (inr short))) = record {
+  answers = inr (short.replied, ap (λ (n : NodeOverGates). seen_by n index) short.node);
+  others = λ other ne. ap (λ (n : NodeOverGates). seen_by n other) short.node;
+}
+at_is index command old reply new Answers AnswersOpen answers opened are (inr (inl (inl at))) =
     at_its_fallback index command old new reply (λ p q. AnswersOpen p q reply)
     (λ id before after last quantity limits made begins more says. answers id before after last quantity limits made begins more (opened before after quantity says)) are at
 at_is index command old reply new Answers AnswersOpen answers opened are (inr (inr at)) = absurd (no_close index at.number old at.found new reply Answers are at.closed at.answers)

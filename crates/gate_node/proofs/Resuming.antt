@@ -1,6 +1,6 @@
 -- A node at a partition that has a fallback: the pass that it keeps of that, and what is answered by it.
-use Rattle.std.proofs.Common.{◌≡◌, ◌<◌, ℕ, List, length, sym, subst}
-use Rattle.std.specs.Prelude.{Option, Some, slice_get, slice_set, get_or}
+use Rattle.std.proofs.Common.{◌≡◌, ◌∙◌, ◌<◌, ℕ, List, [], ◌∷◌, length, refl, sym, ap, subst, arith}
+use Rattle.std.specs.Prelude.{Option, Some, slice_get, slice_set, get_or, zero, suc}
 use Rattle.handoff.specs.declared.gates.Fallback.{Fallback}
 use Rattle.handoff.specs.Partitions.{IsFallback}
 use Rattle.handoff.proofs.Opened.{got}
@@ -10,13 +10,33 @@ use Rattle.gate_node.specs.declared.passes.FallbackPass.{FallbackPass}
 use Rattle.gate_node.specs.Asked.{Sight}
 use Rattle.gate_node.specs.Gates.{Gates}
 use Rattle.gate_node.specs.GateStep.{NodeOverGates, AtFallback, AtClosed}
-use Rattle.gate_node.specs.Passes.{AnswersAtFallback, ArePassesOf, FindsClosed, FitsPartition}
+use Rattle.gate_node.specs.Passes.{AnswersAtFallback, ArePassesOf, FindsClosed, FitsPartition, places_of}
 use Rattle.gate_node.proofs.Fitting.{answered_fits, closed_fits, fit_at, fit_set, place_at}
 use Rattle.gate_node.proofs.Opened.{at_closed, at_fallback}
 
 -- a node by its parts
 abbrev pub node_of : Gates → List Sight → List (Option FallbackPass) → Count → NodeOverGates
 node_of shared primaries fallbacks count = record { shared = shared; passes = record { primaries = primaries; fallbacks = fallbacks }; count = count }
+
+no_less : (i : ℕ) → i < 0 → ⊥
+no_less i h = omega (arith, h)
+
+-- what is set in places that were made is seen there
+pub places_set : (size i : ℕ) (places : List (Option FallbackPass)) (kept : Option FallbackPass) → i < length places → places_of size (slice_set places i kept) ≡ slice_set places i kept
+places_set size i [] kept inside = absurd (no_less i inside)
+places_set size zero (place ∷ places) kept inside = refl
+places_set size (suc i) (place ∷ places) kept inside = refl
+
+-- a node whose places are made shows what it showed
+module _ (size : ℕ) (shared : Gates) (primaries : List Sight) (places made : List (Option FallbackPass)) (count : Count) (same : places_of size made ≡ places_of size places) (all : places_of size made ≡ made) where
+  shown : places_of size places ≡ made
+  shown = sym same ∙ all
+
+  pub made_is : (node : NodeOverGates) → node_of shared primaries (places_of size places) count ≡ node → node_of shared primaries made count ≡ node
+  made_is node is = ap (λ shows. node_of shared primaries shows count) (sym shown) ∙ is
+
+  pub made_of : ArePassesOf shared (record { primaries = primaries; fallbacks = places_of size places }) → ArePassesOf shared (record { primaries = primaries; fallbacks = made })
+  made_of = subst (λ shows. ArePassesOf shared (record { primaries = primaries; fallbacks = shows })) shown
 
 module _ (inside node : NodeOverGates) (i : ℕ) (fallback : Fallback) (is : inside ≡ node) (of : ArePassesOf inside.shared inside.passes) (diverted : slice_get node.shared.fallbacks i ≡ Some (Some fallback)) where
   there : slice_get inside.shared.fallbacks i ≡ Some (Some fallback)

@@ -135,7 +135,8 @@ module _ (index other : ℕ) where
 
   adds : (old : NodeOverGates) (reply : Reply) (new : NodeOverGates) (Answers AnswersOpen : Sight → Sight → Reply → Option Quantity → Type 0) → AnswersAtPartition index old reply new Answers AnswersOpen → Grows old new
   adds old reply new Answers AnswersOpen (inl (none, at)) = index_adds old new (λ p q. Answers p q reply) at
-  adds old reply new Answers AnswersOpen (inr (inl at)) =
+  adds old reply new Answers AnswersOpen (inr (inl (inr short))) = subst (λ (n : NodeOverGates). Grows old n) (sym short.node) (whole _)
+  adds old reply new Answers AnswersOpen (inr (inl (inl at))) =
       fallback_adds old new at.fallback at.kept at.before at.after None None at.count at.diverted at.stood at.resumes at.more at.node
   adds old reply new Answers AnswersOpen (inr (inr at)) =
       let c = at.closed in

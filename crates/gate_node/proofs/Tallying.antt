@@ -1,5 +1,5 @@
 -- A tally that counts as many commands as there are entries is of commands alone.
-use Rattle.std.proofs.Common.{◌≡◌, ◌∙◌, ◌+◌, ℕ, List, length, sym, ap, arith}
+use Rattle.std.proofs.Common.{◌≡◌, List, length, arith}
 use Rattle.riak_msgs.specs.Contents.{Content}
 use Rattle.vnode_machine.specs.Machine.{State}
 use Rattle.rw_gate.specs.Views.{GateId}

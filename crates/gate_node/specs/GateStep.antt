@@ -8,6 +8,7 @@ use Rattle.riak_msgs.specs.declared.Request.TheVariants as requests
 use Rattle.riak_msgs.specs.declared.Reply.{Reply}
 use Rattle.riak_msgs.specs.declared.Reply.TheVariants as replies
 use Rattle.vnode_core.specs.declared.ask.Ask.TheVariants as asks
+use Rattle.riak_msgs.specs.declared.Text.{Text}
 use Rattle.riak_msgs.specs.declared.Text.TheVariants as texts
 use Rattle.stats_book.specs.declared.quantity.Quantity.{Quantity}
 use Rattle.stats_book.specs.declared.quantity.Quantity.TheVariants as quantities
@@ -105,10 +106,10 @@ pub record LooksAtPrimary (index : ℕ) (old new : NodeOverGates) : Type 0 where
 abbrev pub events_seen : NodeOverGates → (index : ℕ) → ℕ
 events_seen node index = option_map_or (λ (pass : Sight). length pass.prefix) (slice_get node.passes.primaries index) 0
 
--- a request is answered by the error `moved`, which is counted, and nothing else changes
-pub record AnswersMoved (old : NodeOverGates) (reply : Reply) (new : NodeOverGates) : Type 0 where
+-- a request is answered by this error, which is counted, and nothing else changes
+pub record AnswersError (text : Text) (old : NodeOverGates) (reply : Reply) (new : NodeOverGates) : Type 0 where
   pub count : Count
-  pub replied : reply ≡ replies.Error texts.Moved
+  pub replied : reply ≡ replies.Error text
   pub counts : CountsAnswer (Some quantities.Refusals) 0 old.count count
   pub node : new ≡ record old { count = count }
 
@@ -117,7 +118,7 @@ pub record AnswersMoved (old : NodeOverGates) (reply : Reply) (new : NodeOverGat
 abbrev pub AnswersFrom : (index number : ℕ) (old : NodeOverGates) (reply : Reply) (new : NodeOverGates) → (Sight → Sight → Reply → Option Quantity → Type 0) → Type 0
 AnswersFrom index number old reply new Answers =
     ((number ≤ events_seen old index) × AtIndex index old new (λ p q. Answers p q reply))
-    ⊎ ((events_seen old index < number) × AnswersMoved old reply new)
+    ⊎ ((events_seen old index < number) × AnswersError texts.Moved old reply new)
 
 -- so it is once the node has looked at the primary
 pub record AtIndexFrom (index number : ℕ) (old : NodeOverGates) (reply : Reply) (new : NodeOverGates) (Answers : Sight → Sight → Reply → Option Quantity → Type 0) : Type 0 where
@@ -133,10 +134,13 @@ pub record AtReturned (index : ℕ) (old : NodeOverGates) (reply : Reply) (new :
   pub closed : AtClosed index number old found
   pub answers : AtIndexFrom index number found reply new Answers
 
+-- a request is answered at a fallback by a pass of it, or memory is refused for the pass
+abbrev pub AsksFallback : (index : ℕ) (old : NodeOverGates) (reply : Reply) (new : NodeOverGates) → (AnswersOpen : Sight → Sight → Reply → Option Quantity → Type 0) → Type 0
+AsksFallback index old reply new AnswersOpen = AtFallback index old new (λ p q. AnswersOpen p q reply) ⊎ AnswersError texts.NoMemory old reply new
+
 -- a request is answered at a partition with a fallback: at that, while it isn't closed, and then at the primary
 abbrev pub AtDiverted : (index : ℕ) (old : NodeOverGates) (reply : Reply) (new : NodeOverGates) → (Answers AnswersOpen : Sight → Sight → Reply → Option Quantity → Type 0) → Type 0
-AtDiverted index old reply new Answers AnswersOpen =
-    AtFallback index old new (λ p q. AnswersOpen p q reply) ⊎ AtReturned index old reply new Answers
+AtDiverted index old reply new Answers AnswersOpen = AsksFallback index old reply new AnswersOpen ⊎ AtReturned index old reply new Answers
 
 -- a request is answered at a partition: at its primary, where it has no fallback
 abbrev pub AnswersAtPartition : (index : ℕ) (old : NodeOverGates) (reply : Reply) (new : NodeOverGates) → (Answers AnswersOpen : Sight → Sight → Reply → Option Quantity → Type 0) → Type 0

@@ -47,7 +47,7 @@ IsAnsweredFrom histories index number looked reply new Answers (inr short) = Uni
 abbrev pub IsAnsweredAt : (histories : List GateHistory) (index : ℕ) (old : NodeOverGates) (reply : Reply) (new : NodeOverGates) (Answers AnswersOpen : Sight → Sight → Reply → Option Quantity → Type 0)
     → AnswersAtPartition index old reply new Answers AnswersOpen → Type 0
 IsAnsweredAt histories index old reply new Answers AnswersOpen (inl (none, at)) = IsAnsweredIn histories index at.before at.steps.answered
-IsAnsweredAt histories index old reply new Answers AnswersOpen (inr (inl at)) = Unit {0}
+IsAnsweredAt histories index old reply new Answers AnswersOpen (inr (inl asks)) = Unit {0}
 IsAnsweredAt histories index old reply new Answers AnswersOpen (inr (inr at)) =
     IsAnsweredFrom histories index at.number at.answers.looked reply new Answers at.answers.answers
 

@@ -1,5 +1,5 @@
 -- A caller's passes of the gates of a run, and of the fallbacks that it met.
-use Rattle.std.specs.Prelude.{◌≡◌, ◌≤◌, ◌⊎◌, ◌==◌, ℕ, Bool, false, List, [], ◌∷◌, All, Option, Some, None, IfSome, IsSome, map}
+use Rattle.std.specs.Prelude.{◌≡◌, ◌≤◌, ◌⊎◌, ◌==◌, ℕ, Bool, false, List, [], ◌∷◌, All, Option, Some, None, IfSome, IsSome, map, replicate}
 use Rattle.std.specs.Option.{option_map_or}
 use mathlib.Core.List.{IsPrefix}
 use Rattle.handoff.specs.declared.gates.Fallback.{Fallback}
@@ -12,6 +12,11 @@ use Rattle.gate_node.specs.Gates.{Gates, handoff_of}
 pub record Sights : Type 0 where
   pub primaries : List Sight
   pub fallbacks : List (Option FallbackPass)
+
+-- the places of fallbacks' passes, one for each of so many partitions: those that were made, or else none has a pass
+abbrev pub places_of : ℕ → List (Option FallbackPass) → List (Option FallbackPass)
+places_of size [] = replicate size None
+places_of size (place ∷ places) = place ∷ places
 
 -- a pass whose holder has seen and published nothing
 pub record IsUnused (pass : Sight) : Type 0 where

@@ -111,10 +111,15 @@ module _ (id : VnodeId) where
 abbrev pub IsGateError : Reply → Type 0
 IsGateError reply = (reply ≡ replies.Error texts.Moved) ⊎ (reply ≡ replies.Error texts.HistoryFull)
 
--- an ask is answered at this vnode of the partition of this index: by the register, or by the gate, and then it is no command; what
--- was seen of other partitions stays
+-- memory is refused before the register is asked, and nothing more is seen
+abbrev pub GivesUpBefore : Commands → Reply → Commands → Type 0
+GivesUpBefore old reply new = (reply ≡ replies.Error texts.NoMemory) × (new ≡ old)
+
+-- an ask is answered at this vnode of the partition of this index: by the register, or by the gate or for want of memory, and then it is no
+-- command; what was seen of other partitions stays
 pub record AnswersAskAt (id : VnodeId) (index : ℕ) (ask : RegisterAsk Content Context) (old : Seen) (reply : Reply) (new : Seen) : Type 0 where
-  pub answers : AnswersAmongOthers id ask (old index) reply (new index) ⊎ (IsGateError reply × IsPrefix (old index) (new index))
+  pub answers : (AnswersAmongOthers id ask (old index) reply (new index) ⊎ (IsGateError reply × IsPrefix (old index) (new index)))
+      ⊎ GivesUpBefore (old index) reply (new index)
   pub others : (other : ℕ) → other ≢ index → new other ≡ old other
 
 -- a ping is answered by a ping and shows nothing, any other request at the partition that its key lies in

@@ -32,7 +32,7 @@ pub(crate) fn show(vnode: &Vnode, alloc: Global, reserve: ReserveOf<'_>, get: &G
     match vnode.get(alloc, get) {
         Ok(reply) => Reply::Get(reply),
         Err(refusal) => {
-            if reserve.give_up(alloc) {
+            if reserve.give_up() {
                 return show_once(vnode, alloc, get);
             }
             Reply::Error(Text::from(refusal))

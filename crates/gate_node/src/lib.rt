@@ -60,6 +60,7 @@ mod laws;
 mod node;
 mod passes;
 mod replies;
+mod requests;
 mod reserve;
 mod shared;
 mod tallies;

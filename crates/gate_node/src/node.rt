@@ -1,21 +1,20 @@
 //! A node over the gates of a run.
-ghost use Rattle.std.specs.Prelude.{◌≡◌, ◌<◌, ◌^◌, Some, IfOk, IfErr, false, nat_le, slice_get};
+ghost use Rattle.std.specs.Prelude.{◌≡◌, ◌<◌, ◌^◌, Some, IfOk, IfErr, false, true, nat_le, slice_get};
 ghost use Rattle.handoff.specs.Partitions.{IsFallback};
 ghost use Rattle.node_session.specs.PlainNodes.{partition_of};
 ghost use Rattle.gate_node.specs.Asked.{Gets, GetsOpen, Changes, ChangesOpen};
-ghost use Rattle.gate_node.specs.GateStep.{AtIndex, AtFallback, AtClosed, LooksAtPrimary, AtIndexFrom};
-ghost use Rattle.gate_node.specs.GateStep.{AnswersMoved, AtDiverted, AnswersAtPartition, events_seen};
+ghost use Rattle.gate_node.specs.GateStep.{AtIndex, AtClosed, LooksAtPrimary, AtIndexFrom};
+ghost use Rattle.gate_node.specs.GateStep.{AnswersError, AsksFallback, AtDiverted, AnswersAtPartition, events_seen};
 ghost use Rattle.gate_node.specs.Passes.{ArePassesOf};
 
 use crate::diverted::{change_diverted, get_diverted};
 use crate::gated_vnode::{catch_up, change_and_reap, get_and_reap};
-use crate::passes::{FallbackPass, Passes};
+use crate::passes::{FallbackPass, Passes, make_places};
 use crate::reserve::Reserve;
 use crate::shared::Shared;
 use crate::turnstile::Turnstile;
 use handoff::Fallback;
-use node_session::Node;
-use riak_msgs::{GetAsk, Key, Reply, Request, Text};
+use riak_msgs::{GetAsk, Key, Reply, Text};
 use rw_gate::Pass;
 use stats_book::{Book, Quantity, ReplyCounter, Share};
 use std::alloc::Global;
@@ -30,8 +29,8 @@ use vnode_core::{Ask, Vnode};
 /// Contracts see what its passes have seen and published, and what it has counted. Each reply but an error for want of
 /// memory, `moved` or `history full` is the vnode machine's at one position of the vnode's history, not before what this
 /// node had seen of it; `moved` and `history full` change nothing. A get that was answered, a put that was accepted, a
-/// delete that wrote a tombstone, an error, and each dead key that was forgotten add one to the share and to the book;
-/// where the book has no room, the reply is the same, and the node keeps that fact.
+/// delete that wrote a tombstone, an error, and each dead key that was forgotten add one to what it has counted, which comes
+/// into the share and the book when the node is taken apart; where there is no room, the reply is the same, and the node keeps that fact.
 ///
 /// In a partition that is diverted all of this is so at its fallback, whose history is its own, and no dead key is forgotten there; the
 /// primary is not asked. Where the fallback is closed, all of this is so at the primary, at a position behind as many events as the close
@@ -48,30 +47,33 @@ pub struct GateNode<
     R: Ledger,
 > {
     rt: &'a W,
-    shared: &'a Shared,
+    pub(crate) shared: &'a Shared,
     turnstile: &'a T,
     counter: ReplyCounter<'a, G, P, D, E, R>,
     primaries: Vec<Pass<Vnode>>,
+    /// How many partitions there are.
+    size: usize,
+    /// A place for each partition, once a fallback was met; none before.
     fallbacks: Vec<Option<FallbackPass>>,
     /// What the thread keeps back, if anything.
-    reserve: Option<Reserve>,
+    pub(crate) reserve: Option<&'a Reserve>,
 }
 
 impl<'a, W: Wait, T: Turnstile, G: Ledger, P: Ledger, D: Ledger, E: Ledger, R: Ledger> Model
     for GateNode<'a, W, T, G, P, D, E, R> {
     ghost use Rattle.gate_node.specs.GateStep.{NodeOverGates};
-    ghost use Rattle.gate_node.specs.Passes.{ArePassesOf};
+    ghost use Rattle.gate_node.specs.Passes.{ArePassesOf, places_of};
 
     ghost Value = { NodeOverGates };
 
     ghost view = { λ n. record {
       shared = n.shared.now;
-      passes = record { primaries = n.primaries.items; fallbacks = n.fallbacks.items };
+      passes = record { primaries = n.primaries.items; fallbacks = places_of n.size n.fallbacks.items };
       count = n.counter;
     } };
 
     ghost invariant = { λ n. ArePassesOf n.shared.now
-        (record { primaries = n.primaries.items; fallbacks = n.fallbacks.items }) };
+        (record { primaries = n.primaries.items; fallbacks = places_of n.size n.fallbacks.items }) };
 }
 
 impl<'a, W: Wait, T: Turnstile, G: Ledger, P: Ledger, D: Ledger, E: Ledger, R: Ledger> GateNode<
@@ -101,6 +103,7 @@ impl<'a, W: Wait, T: Turnstile, G: Ledger, P: Ledger, D: Ledger, E: Ledger, R: L
     {
         let Passes {
             primaries,
+            size,
             fallbacks,
         } = passes;
         let counter = ReplyCounter::new(book, share);
@@ -110,46 +113,49 @@ impl<'a, W: Wait, T: Turnstile, G: Ledger, P: Ledger, D: Ledger, E: Ledger, R: L
             turnstile,
             counter,
             primaries,
+            size,
             fallbacks,
             reserve: None,
         }
     }
 
     /// This node with memory kept back for what doesn't make its vnodes grow. It takes no memory.
-    pub fn with_reserve(mut self, reserve: Reserve) -> Self
+    pub fn with_reserve(mut self, reserve: &'a Reserve) -> Self
         ensures { result ≡ self.entry }
     {
         self.reserve = Some(reserve);
         self
     }
 
-    /// The share and the passes, for later nodes over the same book and the same gates, and whether the book had no room
-    /// for some of what was to be counted. It takes no memory.
+    /// The share, with all that was counted, and the passes, for later nodes over the same book and the same gates; and whether there was no room
+    /// for some of what was to be counted. It takes no memory, and waits while another has the book.
     pub fn parts(self) -> (Share<G, P, D, E, R>, Passes, bool)
-        ensures share { result.0 ≡ self.entry.count.counted }
+        ensures share { result.2 ≡ false → result.0 ≡ self.entry.count.counted }
         ensures passes { result.1 ≡ self.entry.passes }
         ensures gates { ArePassesOf self.entry.shared result.1 }
-        ensures full { result.2 ≡ self.entry.count.book_full }
+        ensures full { self.entry.count.book_full ≡ true → result.2 ≡ true }
     {
         let GateNode {
-            rt: _,
+            rt,
             shared: _,
             turnstile: _,
             counter,
             primaries,
+            size,
             fallbacks,
             reserve: _,
         } = self;
-        let (share, is_book_full) = counter.parts();
+        let (share, is_book_full) = counter.parts(rt);
         let passes = Passes {
             primaries,
+            size,
             fallbacks,
         };
         (share, passes, is_book_full)
     }
 
     /// The index of the partition that a key lies in.
-    fn index(&self, key: &Key) -> usize
+    pub(crate) fn index(&self, key: &Key) -> usize
         ensures index { result ≡ partition_of self.now.shared.index_bits key.now }
         ensures below { result < 2 ^ self.now.shared.index_bits }
     {
@@ -165,7 +171,7 @@ impl<'a, W: Wait, T: Turnstile, G: Ledger, P: Ledger, D: Ledger, E: Ledger, R: L
         let shared = self.shared;
         let gates = shared.handoff.gates();
         let gate = &gates[index];
-        let reserve = shared.reserve(self.reserve.as_ref());
+        let reserve = shared.reserve(self.reserve);
         let pass = &mut self.primaries[index];
         let answered = get_and_reap(
             self.rt,
@@ -177,8 +183,7 @@ impl<'a, W: Wait, T: Turnstile, G: Ledger, P: Ledger, D: Ledger, E: Ledger, R: L
             pass,
             get,
         );
-        self.counter
-            .count_answer(self.rt, answered.quantity, answered.reaps);
+        self.counter.count_answer(answered.quantity, answered.reaps);
         answered.reply
     }
 
@@ -192,9 +197,16 @@ impl<'a, W: Wait, T: Turnstile, G: Ledger, P: Ledger, D: Ledger, E: Ledger, R: L
         let gate = &gates[index];
         let pass = &mut self.primaries[index];
         let answered = change_and_reap(self.rt, alloc, shared, self.turnstile, gate, pass, change);
-        self.counter
-            .count_answer(self.rt, answered.quantity, answered.reaps);
+        self.counter.count_answer(answered.quantity, answered.reaps);
         answered.reply
+    }
+
+    /// Answers by an error that changes nothing.
+    fn answer_error(&mut self, text: Text) -> Reply
+        ensures { AnswersError text self.old result self.new }
+    {
+        self.counter.count_answer(Some(Quantity::Refusals), 0);
+        Reply::Error(text)
     }
 
     /// Answers a get at the fallback of a partition, or gives the number of its close.
@@ -208,12 +220,15 @@ impl<'a, W: Wait, T: Turnstile, G: Ledger, P: Ledger, D: Ledger, E: Ledger, R: L
         requires diverted { slice_get self.old.shared.fallbacks index
             ≡ Some (Some fallback.now) }
         requires new { IsFallback self.old.shared.run index fallback.now }
-        ensures answers { IfOk result (λ reply. AtFallback index self.old self.new
-            (λ p q. GetsOpen get.now p q reply)) }
+        ensures answers { IfOk result (λ reply.
+            AsksFallback index self.old reply self.new (GetsOpen get.now)) }
         ensures closed { IfErr result (λ number. AtClosed index number self.old self.new) }
     {
+        if !make_places(alloc, self.size, &mut self.fallbacks) {
+            return Ok(self.answer_error(Text::NoMemory));
+        }
         let shared = self.shared;
-        let reserve = shared.reserve(self.reserve.as_ref());
+        let reserve = shared.reserve(self.reserve);
         let kept = &mut self.fallbacks[index];
         match get_diverted(
             self.rt,
@@ -226,7 +241,7 @@ impl<'a, W: Wait, T: Turnstile, G: Ledger, P: Ledger, D: Ledger, E: Ledger, R: L
             get,
         ) {
             Ok((reply, quantity)) => {
-                self.counter.count_answer(self.rt, quantity, 0);
+                self.counter.count_answer(quantity, 0);
                 Ok(reply)
             }
             Err(number) => Err(number),
@@ -244,11 +259,14 @@ impl<'a, W: Wait, T: Turnstile, G: Ledger, P: Ledger, D: Ledger, E: Ledger, R: L
         requires diverted { slice_get self.old.shared.fallbacks index
             ≡ Some (Some fallback.now) }
         requires new { IsFallback self.old.shared.run index fallback.now }
-        ensures answers { IfOk result (λ reply. AtFallback index self.old self.new
-            (λ p q. ChangesOpen change p q reply)) }
+        ensures answers { IfOk result (λ reply.
+            AsksFallback index self.old reply self.new (ChangesOpen change)) }
         ensures closed { IfErr result (λ back. AtClosed index back.0 self.old self.new) }
         ensures same { IfErr result (λ back. back.1 ≡ change) }
     {
+        if !make_places(alloc, self.size, &mut self.fallbacks) {
+            return Ok(self.answer_error(Text::NoMemory));
+        }
         let shared = self.shared;
         let kept = &mut self.fallbacks[index];
         match change_diverted(
@@ -261,7 +279,7 @@ impl<'a, W: Wait, T: Turnstile, G: Ledger, P: Ledger, D: Ledger, E: Ledger, R: L
             change,
         ) {
             Ok((reply, quantity)) => {
-                self.counter.count_answer(self.rt, quantity, 0);
+                self.counter.count_answer(quantity, 0);
                 Ok(reply)
             }
             Err(back) => Err(back),
@@ -282,15 +300,6 @@ impl<'a, W: Wait, T: Turnstile, G: Ledger, P: Ledger, D: Ledger, E: Ledger, R: L
         catch_up(self.rt, gate, pass, number)
     }
 
-    /// Answers that the history has moved.
-    fn answer_moved(&mut self) -> Reply
-        ensures { AnswersMoved self.old result self.new }
-    {
-        self.counter
-            .count_answer(self.rt, Some(Quantity::Refusals), 0);
-        Reply::Error(Text::Moved)
-    }
-
     /// Answers a get at the primary of a partition whose fallback is closed with this number.
     fn get_returned(&mut self, alloc: Global, index: usize, number: u64, get: &GetAsk) -> Reply
         requires { index < 2 ^ self.old.shared.index_bits }
@@ -299,7 +308,7 @@ impl<'a, W: Wait, T: Turnstile, G: Ledger, P: Ledger, D: Ledger, E: Ledger, R: L
         if self.catch_up(index, number) {
             self.get_at_primary(alloc, index, get)
         } else {
-            self.answer_moved()
+            self.answer_error(Text::Moved)
         }
     }
 
@@ -311,7 +320,7 @@ impl<'a, W: Wait, T: Turnstile, G: Ledger, P: Ledger, D: Ledger, E: Ledger, R: L
         if self.catch_up(index, number) {
             self.change_at_primary(alloc, index, change)
         } else {
-            self.answer_moved()
+            self.answer_error(Text::Moved)
         }
     }
 
@@ -356,7 +365,7 @@ impl<'a, W: Wait, T: Turnstile, G: Ledger, P: Ledger, D: Ledger, E: Ledger, R: L
     }
 
     /// Answers a get, at the primary of a partition that has no fallback.
-    fn get(&mut self, alloc: Global, index: usize, get: &GetAsk) -> Reply
+    pub(crate) fn get(&mut self, alloc: Global, index: usize, get: &GetAsk) -> Reply
         requires { index < 2 ^ self.old.shared.index_bits }
         ensures { AnswersAtPartition index self.old result self.new
             (Gets get.now) (GetsOpen get.now) }
@@ -369,7 +378,7 @@ impl<'a, W: Wait, T: Turnstile, G: Ledger, P: Ledger, D: Ledger, E: Ledger, R: L
     }
 
     /// Answers what may change a vnode, at the primary of a partition that has no fallback.
-    fn change(&mut self, alloc: Global, index: usize, change: Ask) -> Reply
+    pub(crate) fn change(&mut self, alloc: Global, index: usize, change: Ask) -> Reply
         requires { index < 2 ^ self.old.shared.index_bits }
         ensures { AnswersAtPartition index self.old result self.new
             (Changes change) (ChangesOpen change) }
@@ -379,44 +388,5 @@ impl<'a, W: Wait, T: Turnstile, G: Ledger, P: Ledger, D: Ledger, E: Ledger, R: L
             None => self.change_at_primary(alloc, index, change),
             Some(fallback) => self.change_at_diverted(alloc, index, fallback, change),
         }
-    }
-}
-
-impl<'a, W: Wait, T: Turnstile, G: Ledger, P: Ledger, D: Ledger, E: Ledger, R: Ledger> Node
-    for GateNode<'a, W, T, G, P, D, E, R> {
-    ghost use Rattle.gate_node.specs.GateStep.{GateNodeStep};
-
-    ghost step = { GateNodeStep };
-
-    fn answer(&mut self, alloc: Global, request: Request) -> Reply {
-        match request {
-            Request::Ping => Reply::Ping,
-            Request::Get(get) => {
-                let index = self.index(&get.key);
-                self.get(alloc, index, &get)
-            }
-            Request::Put(put) => {
-                let index = self.index(&put.key);
-                self.change(alloc, index, Ask::Put(put))
-            }
-            Request::Del(del) => {
-                let index = self.index(&del.key);
-                self.change(alloc, index, Ask::Del(del))
-            }
-        }
-    }
-
-    fn admits(&self, alloc: Global, request: &Request) -> bool {
-        self.shared
-            .reserve(self.reserve.as_ref())
-            .admits(alloc, request)
-    }
-
-    fn has_room(&self, alloc: Global) -> bool {
-        self.shared.reserve(self.reserve.as_ref()).has_room(alloc)
-    }
-
-    fn make_room(&self, alloc: Global) -> bool {
-        self.shared.reserve(self.reserve.as_ref()).give_up(alloc)
     }
 }

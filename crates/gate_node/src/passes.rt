@@ -1,7 +1,7 @@
 //! A caller's passes of the gates of a run, and of the fallbacks that it met.
-ghost use Rattle.std.specs.Prelude.{◌≡◌, IfOk, IsOkUnless, All, length, map};
+ghost use Rattle.std.specs.Prelude.{◌≡◌, IfOk, IsOkUnless, All, length, map, true};
 ghost use Rattle.handoff.specs.Partitions.{AreNone};
-ghost use Rattle.gate_node.specs.Passes.{ArePassesOf, AreUnused, IsUnused, FitsPartition, IsRenewed, is_pass_of};
+ghost use Rattle.gate_node.specs.Passes.{ArePassesOf, AreUnused, IsUnused, FitsPartition, IsRenewed, is_pass_of, places_of};
 
 use crate::fault::PoolFault;
 use crate::shared::Shared;
@@ -22,22 +22,26 @@ pub struct FallbackPass {
 /// A caller's pass of each gate of a run, in the partitions' order, and one of the fallback of each partition where the caller met one.
 ///
 /// They outlive a diversion: by the same passes a node may go on over the gates when a partition was diverted
-/// ([`passes_outlive_diversions`](crate::passes_outlive_diversions)). Where a diversion has ended, the pass of the closed fallback is kept
+/// ([`passes_outlive_diversions`](crate::passes_outlive_diversions)). The places of fallbacks take no memory before the first one is met. Where a
+/// diversion has ended, the pass of the closed fallback is kept
 /// with the number of its close until the partition is diverted again, so that a caller looks at a closed fallback once.
 #[derive(Drop)]
 pub struct Passes {
     pub(crate) primaries: Vec<Pass<Vnode>>,
+    /// How many partitions there are.
+    pub(crate) size: usize,
+    /// A place for each partition, once a fallback was met; none before.
     pub(crate) fallbacks: Vec<Option<FallbackPass>>,
 }
 
 impl Model for Passes {
-    ghost use Rattle.gate_node.specs.Passes.{Sights};
+    ghost use Rattle.gate_node.specs.Passes.{Sights, places_of};
 
     ghost Value = { Sights };
 
     ghost view = { λ p. record {
       primaries = p.primaries.items;
-      fallbacks = p.fallbacks.items;
+      fallbacks = places_of p.size p.fallbacks.items;
     } };
 }
 
@@ -63,6 +67,27 @@ fn empty_places(alloc: Global, size: usize) -> Result<Vec<Option<FallbackPass>>,
         places.push(None)?;
     }
     Ok(places)
+}
+
+/// Makes the places of so many partitions, where they weren't made yet. False where memory is refused.
+pub(crate) fn make_places(
+    alloc: Global,
+    size: usize,
+    places: &mut Vec<Option<FallbackPass>>,
+) -> bool
+    ensures same { places_of size places.new.items ≡ places_of size places.old.items }
+    ensures made { result ≡ true → places_of size places.new.items ≡ places.new.items }
+{
+    if !places.is_empty() {
+        return true;
+    }
+    match empty_places(alloc, size) {
+        Ok(made) => {
+            *places = made;
+            true
+        }
+        Err(_) => false,
+    }
 }
 
 /// Whether the pass that is kept is of this fallback.
@@ -99,10 +124,10 @@ impl Passes {
     {
         let gates = shared.handoff.gates();
         let primaries = new_passes(alloc, gates)?;
-        let fallbacks = empty_places(alloc, gates.len())?;
         Ok(Passes {
             primaries,
-            fallbacks,
+            size: gates.len(),
+            fallbacks: Vec::new(alloc),
         })
     }
 

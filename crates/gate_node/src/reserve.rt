@@ -2,8 +2,8 @@
 
 use riak_msgs::Request;
 use std::alloc::{AllocError, Global};
-use std::cell::Cell;
-use std::sync::atomic::{AtomicUsize, Ordering};
+use std::sync::Mutex;
+use std::sync::atomic::{AtomicBool, AtomicU32, AtomicUsize, Ordering};
 
 /// How many pages are kept back.
 const PAGES: usize = 128;
@@ -24,20 +24,21 @@ const LOOKS_APART: u32 = 1_024;
 /// replies.
 ///
 /// It is half a MiB, of which nothing is ever written: in long blocks where memory is to be had so, else in pages, as they lie between what
-/// deletes and reaps have left. Each thread has one of its own, since an allocator keeps what is freed for the thread that had it. Where
+/// deletes and reaps have left. Each thread has one of its own, since an allocator keeps what is freed for the thread that had it; the nodes of
+/// all its sessions are lent that one. Where
 /// memory is refused for a get, for a request's bytes, a reply's or a connection, its thread gives all of it up and tries once more. A put is
 /// asked only where all of it is there, or could be made again. So puts end before the memory is used up for good, and go on by
 /// themselves once there is room. Once it was given up replies don't wait, in a buffer that would have to grow by long pieces, until there
 /// is memory for another reserve beside it.
 #[derive(Drop)]
 pub struct Reserve {
-    blocks: Cell<Vec<Vec<u8>>>,
+    blocks: Mutex<Vec<Vec<u8>>>,
     /// How many pages the blocks have.
-    pages: Cell<usize>,
+    pages: AtomicUsize,
     /// Whether it was given up and isn't whole again.
-    is_given_up: Cell<bool>,
+    is_given_up: AtomicBool,
     /// How many more questions whether replies may wait are answered by no; 0 where they may.
-    tight: Cell<u32>,
+    tight: AtomicU32,
 }
 
 /// Adds one block behind the others.
@@ -77,33 +78,33 @@ fn has_reserve(alloc: Global) -> bool {
 }
 
 impl Reserve {
-    /// All of it, made by the thread that is to have it, or as much of it as there is memory for: the rest is made when it is asked for.
+    /// Nothing of it yet. It takes no memory.
     pub fn new(alloc: Global) -> Reserve {
-        let mut blocks = Vec::new(alloc);
-        let pages = fill(alloc, &mut blocks, 0);
         Reserve {
-            blocks: Cell::new(blocks),
-            pages: Cell::new(pages),
-            is_given_up: Cell::new(false),
-            tight: Cell::new(0),
+            blocks: Mutex::new(Vec::new(alloc)),
+            pages: AtomicUsize::new(0),
+            is_given_up: AtomicBool::new(false),
+            tight: AtomicU32::new(0),
         }
     }
 
     /// Lets all of it go.
-    fn clear(&self, alloc: Global) {
-        let mut blocks = self.blocks.replace(Vec::new(alloc));
-        blocks.clear();
-        self.blocks.set(blocks);
-        self.pages.set(0);
-        self.tight.set(LOOKS_APART);
+    fn clear(&self) {
+        if let Some(mut blocks) = self.blocks.try_lock() {
+            blocks.clear();
+        }
+        self.pages.store(0, Ordering::SeqCst);
+        self.tight.store(LOOKS_APART, Ordering::SeqCst);
     }
 
-    /// Makes again what isn't there. Whether all of it is there then.
-    fn refill(&self, alloc: Global) -> bool {
-        let mut blocks = self.blocks.replace(Vec::new(alloc));
-        let pages = fill(alloc, &mut blocks, self.pages.get());
-        self.blocks.set(blocks);
-        self.pages.set(pages);
+    /// Makes what isn't there, by the thread that has it, or as much of that as there is memory for: the rest is made when it is asked for. Whether all of it
+    /// is there then.
+    pub fn fill(&self, alloc: Global) -> bool {
+        let Some(mut blocks) = self.blocks.try_lock() else {
+            return false;
+        };
+        let pages = fill(alloc, &mut blocks, self.pages.load(Ordering::SeqCst));
+        self.pages.store(pages, Ordering::SeqCst);
         pages == PAGES
     }
 }
@@ -117,12 +118,12 @@ pub(crate) struct ReserveOf<'a> {
 
 impl<'a> ReserveOf<'a> {
     /// Gives the reserve up. False where the thread has none.
-    pub(crate) fn give_up(&self, alloc: Global) -> bool {
+    pub(crate) fn give_up(&self) -> bool {
         let Some(reserve) = self.reserve else {
             return false;
         };
-        reserve.clear(alloc);
-        if !reserve.is_given_up.replace(true) {
+        reserve.clear();
+        if !reserve.is_given_up.swap(true, Ordering::SeqCst) {
             self.given_up.fetch_add(1, Ordering::SeqCst);
         }
         true
@@ -130,10 +131,10 @@ impl<'a> ReserveOf<'a> {
 
     /// Makes again what isn't there. Whether all of it is there then.
     fn refill(&self, alloc: Global, reserve: &Reserve) -> bool {
-        if !reserve.refill(alloc) {
+        if !reserve.fill(alloc) {
             return false;
         }
-        if reserve.is_given_up.replace(false) {
+        if reserve.is_given_up.swap(false, Ordering::SeqCst) {
             self.given_up.fetch_sub(1, Ordering::SeqCst);
         }
         true
@@ -142,7 +143,8 @@ impl<'a> ReserveOf<'a> {
     /// Whether all of it is there, or could be made again; also where the thread has none.
     fn is_whole(&self, alloc: Global) -> bool {
         match self.reserve {
-            Some(reserve) => reserve.pages.get() == PAGES || self.refill(alloc, reserve),
+            Some(reserve) => reserve.pages.load(Ordering::SeqCst) == PAGES
+                || self.refill(alloc, reserve),
             None => true,
         }
     }
@@ -150,14 +152,15 @@ impl<'a> ReserveOf<'a> {
     /// Whether replies may wait: until the reserve is given up, and from when it is whole again and there is memory for another one, which is
     /// looked at now and then.
     fn is_loose(&self, alloc: Global, reserve: &Reserve) -> bool {
-        let left = reserve.tight.get();
+        let left = reserve.tight.load(Ordering::SeqCst);
         if left == 0 {
             return true;
         }
         let is_due = left == 1;
         let is_loose = is_due && self.is_whole(alloc) && has_reserve(alloc);
         let next = if is_due { LOOKS_APART } else { left - 1 };
-        reserve.tight.set(if is_loose { 0 } else { next });
+        let next = if is_loose { 0 } else { next };
+        reserve.tight.store(next, Ordering::SeqCst);
         is_loose
     }
 
@@ -178,7 +181,7 @@ impl<'a> ReserveOf<'a> {
     /// need more, and be refused then.
     fn make_room(&self, alloc: Global) {
         if self.reserve.is_some() && !has_page(alloc) {
-            let _is_given_up = self.give_up(alloc);
+            let _is_given_up = self.give_up();
         }
     }
 

@@ -42,7 +42,7 @@ turn_by old new ask reply (Refused number) e p =
     record { result = Err number; replied = p.0; takes = inl (ap result_of (sym e), subst (λ (o : MachineOutcome). new ≡ state_after_step old o) (sym e) p.1) }
 turn_by old new ask reply (Answered response) e (inl p) =
     record { result = Ok response; replied = p.0; takes = inl (ap result_of (sym e), subst (λ (o : MachineOutcome). new ≡ state_after_step old o) (sym e) p.1) }
-turn_by old new ask reply (Answered response) e (inr p) = record { result = Err no_memory; replied = p.0; takes = inr (refl, p.1) }
+turn_by old new ask reply (Answered response) e (inr (takes, p)) = record { result = Err no_memory; replied = p.0; takes = inr (refl, p.1) }
 turn_by old new ask reply (Accepted operation response next) e (inl p) =
     record { result = Ok response; replied = p.0; takes = inl (ap result_of (sym e), subst (λ (o : MachineOutcome). new ≡ state_after_step old o) (sym e) p.1) }
 turn_by old new ask reply (Accepted operation response next) e (inr p) = record { result = Err no_memory; replied = p.0; takes = inr (refl, p.1) }

@@ -41,10 +41,18 @@ reply_of (Err number) = replies.Error (refusal_text number)
 abbrev pub GivesUp : {S : Type 0} → S → Reply → S → Type 0
 GivesUp old reply new = (reply ≡ replies.Error texts.NoMemory) × (new ≡ old)
 
--- what comes of an ask is replied, and the state is the next one; or memory is refused, where the ask isn't
+-- of what changes nothing, a get alone may be refused memory: a delete that does nothing takes none
+abbrev pub TakesMemory : Response → Type 0
+TakesMemory (GetDone reply) = Unit {0}
+TakesMemory (PutDone reply) = ⊥
+TakesMemory DelDone = ⊥
+TakesMemory ReapDone = ⊥
+TakesMemory ReapKept = ⊥
+
+-- what comes of an ask is replied, and the state is the next one; or memory is refused, where the ask isn't and takes some
 abbrev pub StepsBy : State Content → MachineOutcome → Reply → State Content → Type 0
 StepsBy old (Refused number) reply new = (reply ≡ reply_of (Err number)) × (new ≡ old)
-StepsBy old (Answered response) reply new = ((reply ≡ reply_of (Ok response)) × (new ≡ old)) ⊎ GivesUp old reply new
+StepsBy old (Answered response) reply new = ((reply ≡ reply_of (Ok response)) × (new ≡ old)) ⊎ (TakesMemory response × GivesUp old reply new)
 StepsBy old (Accepted operation response next) reply new = ((reply ≡ reply_of (Ok response)) × (new ≡ next)) ⊎ GivesUp old reply new
 
 -- a put or a delete is answered so, by what comes of it

@@ -1,5 +1,5 @@
 -- What a worker counts by its share of the book.
-use Rattle.std.specs.Prelude.{◌≡◌, ◌⊎◌, ◌<◌, ℕ, Bool, true, Option, Some, None}
+use Rattle.std.specs.Prelude.{◌≡◌, ◌⊎◌, ℕ, Bool, true, Option, Some, None}
 use Rattle.stats_book.specs.declared.totals.Totals.{Totals}
 use Rattle.stats_book.specs.declared.quantity.Quantity.{Quantity}
 use Rattle.stats_book.specs.declared.quantity.Quantity.TheVariants.{Reaps}
@@ -10,16 +10,11 @@ pub record Count : Type 0 where
   pub counted : Totals
   pub book_full : Bool
 
--- so many more of a quantity are counted; or there were some and the book had no room for them, and that is kept
+-- so many more of a quantity are counted; or they would pass the last number, and that is kept
 abbrev pub Counts : Quantity → ℕ → Count → Count → Type 0
 Counts quantity n old new =
     (new ≡ record old { counted = raised quantity n old.counted })
-    ⊎ ((0 < n) × (new ≡ record old { book_full = true }))
-
--- they are counted, unless they would pass the last number
-abbrev pub CountsOrIsFull : Quantity → ℕ → Count → Count → Type 0
-CountsOrIsFull quantity n old new =
-    (new ≡ record old { counted = raised quantity n old.counted }) ⊎ IsFull quantity old.counted n
+    ⊎ (IsFull quantity old.counted n × (new ≡ record old { book_full = true }))
 
 -- a reply is counted as one of its quantity, where it has one
 abbrev pub CountsReply : Option Quantity → Count → Count → Type 0

@@ -40,3 +40,7 @@ both a b = numbers (a.gets + b.gets) (a.puts + b.puts) (a.deletes + b.deletes) (
 abbrev pub sum_of : List Totals → Totals
 sum_of [] = zeros
 sum_of (t ∷ ts) = both t (sum_of ts)
+
+-- of some quantity these two counts together would pass the last number
+abbrev pub ArePastFull : Totals → Totals → Type 0
+ArePastFull t more = (quantity : Quantity) × IsFull quantity t (number_of quantity more)

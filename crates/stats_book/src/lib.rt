@@ -9,10 +9,10 @@
 //! [`Stock::give_back`] keeps what it has counted. [`close_stock`] answers what all that came back have counted. [`open_stocks`] lays the
 //! shares into several stocks, so that each worker has its own.
 //!
-//! A [`ReplyCounter`] is what one worker counts by: its share, its book, and whether the book had no room for some of it
-//! (`specs/Counter`).
+//! A [`ReplyCounter`] is what one session counts by: by itself, with no lock, until it is taken apart and its counts are in its share and in the book; and
+//! whether there was no room for some of them (`specs/Counter`).
 //!
-//! What it costs: an addition is one lock and one sum with a test for overflow. [`Book::new`] takes memory for the vector of shares, and
+//! What it costs: an addition to a book is one lock and one sum with a test for overflow. [`Book::new`] takes memory for the vector of shares, and
 //! [`open_stocks`] for that of stocks; nothing else does.
 //!
 //! How it is built: the numbers lie under one mutex, each beside the book of a ledger (`std::sync::ledger`). A share has

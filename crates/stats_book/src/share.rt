@@ -1,12 +1,13 @@
 //! A worker's share of a book.
-ghost use Rattle.std.specs.Prelude.{◌≡◌, IsErrOf, IsOkUnless, MatchResult};
-ghost use Rattle.stats_book.specs.Counting.{IsFull, raised};
+ghost use Rattle.std.specs.Prelude.{◌≡◌, IfErr, IfOk, IsErrOf, IsOkUnless, MatchResult};
+ghost use Rattle.stats_book.specs.Counting.{ArePastFull, IsFull, both, raised};
 ghost use Rattle.stats_book.specs.Holdings.{AllAre};
 
 use crate::book::Book;
 use crate::count::Part;
 use crate::fault::BookFault;
 use crate::quantity::Quantity;
+use crate::totals::Totals;
 use std::marker::Model;
 use std::sync::Wait;
 use std::sync::ledger::Ledger;
@@ -56,5 +57,22 @@ impl<G: Ledger, P: Ledger, D: Ledger, E: Ledger, R: Ledger> Share<G, P, D, E, R>
             → IsErrOf result BookFault.BookFull → IsFull quantity self.old amount }
     {
         book.sums.lock(rt).add(self, quantity, amount)
+    }
+
+    /// Locks the book, and raises all quantities there and here by so much. Where one of the numbers there would pass 18,446,744,073,709,551,615 the
+    /// book is full; some quantities may have risen then, in both by the same.
+    ///
+    /// It waits while another has the lock.
+    pub(crate) fn add_all<W: Wait>(
+        &mut self,
+        rt: &W,
+        book: &Book<G, P, D, E, R>,
+        more: &Totals,
+    ) -> Result<(), BookFault>
+        ensures added { IfOk result (λ _. self.new ≡ both self.old more.now) }
+        ensures sole { AllAre 1 G.parts P.parts D.parts E.parts R.parts
+            → IfErr result (λ _. ArePastFull self.old more.now) }
+    {
+        book.sums.lock(rt).add_all(self, more)
     }
 }

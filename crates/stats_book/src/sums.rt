@@ -1,6 +1,6 @@
 //! The numbers of a book, as they lie under its lock.
-ghost use Rattle.std.specs.Prelude.{◌≡◌, ◌≤◌, ◌↔◌, IsErrOf, IsOkUnless, MatchResult, vec_len};
-ghost use Rattle.stats_book.specs.Counting.{IsFull, number_of, raised, sum_of, zeros};
+ghost use Rattle.std.specs.Prelude.{◌≡◌, ◌≤◌, ◌↔◌, IfErr, IfOk, IsErrOf, IsOkUnless, MatchResult, vec_len};
+ghost use Rattle.stats_book.specs.Counting.{ArePastFull, IsFull, both, number_of, raised, sum_of, zeros};
 ghost use Rattle.stats_book.specs.Holdings.{AllAre};
 
 use crate::blanks::Blanks;
@@ -67,6 +67,23 @@ impl<G: Ledger, P: Ledger, D: Ledger, E: Ledger, R: Ledger> Sums<G, P, D, E, R> 
             Quantity::Refusals => self.refusals.add(&mut share.refusals, amount),
             Quantity::Reaps => self.reaps.add(&mut share.reaps, amount),
         }
+    }
+
+    /// Raises all quantities here and in the share by so much. Where one of the numbers here would pass 18,446,744,073,709,551,615 the book is full.
+    pub(crate) fn add_all(
+        &mut self,
+        share: &mut Share<G, P, D, E, R>,
+        more: &Totals,
+    ) -> Result<(), BookFault>
+        ensures added { IfOk result (λ _. share.new ≡ both share.old more.now) }
+        ensures sole { AllAre 1 G.parts P.parts D.parts E.parts R.parts
+            → IfErr result (λ _. ArePastFull share.old more.now) }
+    {
+        self.add(share, Quantity::Gets, more.gets)?;
+        self.add(share, Quantity::Puts, more.puts)?;
+        self.add(share, Quantity::Deletes, more.deletes)?;
+        self.add(share, Quantity::Refusals, more.refusals)?;
+        self.add(share, Quantity::Reaps, more.reaps)
     }
 
     /// Zeros, and all shares of them in one hand.

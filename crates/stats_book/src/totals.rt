@@ -1,4 +1,8 @@
 //! The five numbers.
+ghost use Rattle.std.specs.Prelude.{◌≡◌, ◌+◌, ◌≤◌, ◌^◌, MatchBool};
+ghost use Rattle.stats_book.specs.Counting.{IsFull, raised, zeros};
+
+use crate::quantity::Quantity;
 
 /// How much was counted of each quantity.
 #[derive(Clone, Copy, Debug, PartialEq, Eq)]
@@ -13,4 +17,47 @@ pub struct Totals {
     pub refusals: u64,
     /// Dead keys that were reaped.
     pub reaps: u64,
+}
+
+/// Raises a number. False where it would pass the last number; it stays then.
+fn raise(number: &mut u64, amount: u64) -> bool
+    ensures { MatchBool result (number.new ≡ number.old + amount)
+        ((number.new ≡ number.old) × (2 ^ 64 ≤ number.old + amount)) }
+{
+    match number.checked_add(amount) {
+        Some(sum) => {
+            *number = sum;
+            true
+        }
+        None => false,
+    }
+}
+
+impl Totals {
+    /// Nothing was counted.
+    pub(crate) fn zeros() -> Totals
+        ensures { result ≡ zeros }
+    {
+        Totals {
+            gets: 0,
+            puts: 0,
+            deletes: 0,
+            refusals: 0,
+            reaps: 0,
+        }
+    }
+
+    /// Raises the number of a quantity. False where it would pass the last number; all stay then.
+    pub(crate) fn raise(&mut self, quantity: Quantity, amount: u64) -> bool
+        ensures { MatchBool result (self.new ≡ raised quantity amount self.old)
+            ((self.new ≡ self.old) × IsFull quantity self.old amount) }
+    {
+        match quantity {
+            Quantity::Gets => raise(&mut self.gets, amount),
+            Quantity::Puts => raise(&mut self.puts, amount),
+            Quantity::Deletes => raise(&mut self.deletes, amount),
+            Quantity::Refusals => raise(&mut self.refusals, amount),
+            Quantity::Reaps => raise(&mut self.reaps, amount),
+        }
+    }
 }

@@ -1,4 +1,4 @@
-use Rattle.std.proofs.Common.{◌≡◌, ◌∙◌, ◌+◌, ℕ, sym, subst}
+use Rattle.std.proofs.Common.{◌∙◌, subst}
 use Rattle.rw_gate.specs.Views.{GateId}
 use Rattle.vnode_core.specs.Plans.{View}
 use Rattle.handoff.specs.Sights.{LeadsVnodeTo}

@@ -3,7 +3,7 @@ use Rattle.riak_msgs.specs.declared.Request.{Request}
 use Rattle.vnode_core.specs.declared.ask.Ask.TheVariants as asks
 use Rattle.gate_node.specs.Asked.{Gets, GetsOpen, Changes, ChangesOpen}
 use Rattle.gate_node.specs.GateStep.{GateNodeStep, AnswersAtPartition}
-use Rattle.gate_node.proofs.node.GateNodeNode.answer.Goals as goal
+use Rattle.gate_node.proofs.requests.GateNodeNode.answer.Goals as goal
 
 pub returns-in-Get : goal.returns-in-Get
 returns-in-Get g c =
