@@ -13,3 +13,4 @@ pub mod Histories
 pub mod InHistories
 pub mod Tallying
 pub mod Plain
+pub mod Further

@@ -8,3 +8,4 @@ pub mod Registers
 pub mod Tallies
 pub mod OneHistory
 pub mod Plain
+pub mod Merging

@@ -57,6 +57,7 @@ mod diverted;
 mod fault;
 mod gated_vnode;
 mod laws;
+mod merging;
 mod node;
 mod passes;
 mod replies;
