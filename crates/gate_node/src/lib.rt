@@ -5,16 +5,16 @@
 //! vnode's history, and which of its events the caller published. A [`GateNode`]
 //! answers requests by them: a get under a right to read, a put or a delete under a right to write, and after each of
 //! these the first dead keys of that vnode are forgotten, so many at most, each under a right to write of its own. Each
-//! of these calls passes a [`Turnstile`] while it has its right. What was answered is counted in a book (`stats_book`) by
-//! the node's share of it, once no right is held.
+//! of these calls passes a [`Turnstile`] while it has its right. What was answered is counted by the node itself, once no right is held,
+//! and comes into its share and its book (`stats_book`) when the node is taken apart.
 //!
 //! What it means (`specs/GateStep`): each reply is the vnode machine's at one position of the history of the key's vnode, and
 //! not before what the caller had seen of it; an accepted put or delete is the event at that position, published once, and
 //! the caller's own; what the caller has seen of any other vnode stays. Where commands alone stand before them, these positions are
 //! legal histories of the sibling register, since each gate was made round a new vnode ([`positions_are_legal`]). The errors `moved`
 //! and `history full` change nothing: the history had gone on past the state that was found, which no path of today's gate leads to, or
-//! the vnode is closed, or the history can have no further event. The share rises by one for what was answered and by one for each
-//! dead key that was forgotten, and by nothing else; where the book has no room for that, the reply is the same and the node keeps that
+//! the vnode is closed, or the history can have no further event. The node's count rises by one for what was answered and by one for each
+//! dead key that was forgotten, and by nothing else; where a number would pass the last one, the reply is the same and the node keeps that
 //! fact.
 //!
 //! Where a key's partition has a fallback, all of that is so at the fallback while it isn't closed: another vnode, which has an id and a

@@ -44,10 +44,7 @@ impl Passes {
         ensures theirs { HaveSeenAllOf self.new other }
         ensures fallbacks { self.new.fallbacks ≡ self.old.fallbacks }
     {
-        let Passes {
-            primaries,
-            fallbacks: _,
-        } = other;
+        let Passes { primaries, .. } = other;
         keep_each_further(&mut self.primaries, primaries);
     }
 }

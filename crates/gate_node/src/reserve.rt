@@ -1,5 +1,6 @@
 //! Memory that a thread keeps back for what doesn't make the vnodes of its run grow.
 
+use crate::shared::Shared;
 use riak_msgs::Request;
 use std::alloc::{AllocError, Global};
 use std::sync::Mutex;
@@ -86,6 +87,11 @@ impl Reserve {
             is_given_up: AtomicBool::new(false),
             tight: AtomicU32::new(0),
         }
+    }
+
+    /// Gives it up, where memory was refused for a connection of its thread. True: the same is to be tried once more.
+    pub fn give_up(&self, shared: &Shared) -> bool {
+        shared.reserve(Some(self)).give_up()
     }
 
     /// Lets all of it go.
