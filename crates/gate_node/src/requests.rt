@@ -36,10 +36,6 @@ impl<'a, W: Wait, T: Turnstile, G: Ledger, P: Ledger, D: Ledger, E: Ledger, R: L
         self.shared.reserve(self.reserve).admits(alloc, request)
     }
 
-    fn has_room(&self, alloc: Global) -> bool {
-        self.shared.reserve(self.reserve).has_room(alloc)
-    }
-
     fn make_room(&self, _alloc: Global) -> bool {
         self.shared.reserve(self.reserve).give_up()
     }

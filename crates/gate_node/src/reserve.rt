@@ -4,7 +4,7 @@ use crate::shared::Shared;
 use riak_msgs::Request;
 use std::alloc::{AllocError, Global};
 use std::sync::Mutex;
-use std::sync::atomic::{AtomicBool, AtomicU32, AtomicUsize, Ordering};
+use std::sync::atomic::{AtomicBool, AtomicUsize, Ordering};
 
 /// How many pages are kept back.
 const PAGES: usize = 128;
@@ -18,19 +18,14 @@ const LONG_PAGES: usize = 16;
 /// How many bytes a long block has.
 const LONG_LEN: usize = 65_520;
 
-/// After how many questions it is looked again whether replies may wait.
-const LOOKS_APART: u32 = 1_024;
-
 /// Memory that a thread keeps back for what doesn't make the vnodes of its run grow: gets, deletes, reaps, connections that begin or end, and
 /// replies.
 ///
 /// It is half a MiB, of which nothing is ever written: in long blocks where memory is to be had so, else in pages, as they lie between what
-/// deletes and reaps have left. Each thread has one of its own, since an allocator keeps what is freed for the thread that had it; the nodes of
-/// all its sessions are lent that one. Where
-/// memory is refused for a get, for a request's bytes, a reply's or a connection, its thread gives all of it up and tries once more. A put is
-/// asked only where all of it is there, or could be made again. So puts end before the memory is used up for good, and go on by
-/// themselves once there is room. Once it was given up replies don't wait, in a buffer that would have to grow by long pieces, until there
-/// is memory for another reserve beside it.
+/// deletes and reaps have left. Each thread has one of its own, since an allocator keeps what is freed for the thread that had it; the nodes
+/// of all its sessions are lent that one. Where memory is refused for a get, for a request's bytes, a reply's or a connection, its thread
+/// gives all of it up and tries once more. A put is asked only where all of it is there, or could be made again. So puts end before the
+/// memory is used up for good, and go on by themselves once there is room.
 #[derive(Drop)]
 pub struct Reserve {
     blocks: Mutex<Vec<Vec<u8>>>,
@@ -38,8 +33,6 @@ pub struct Reserve {
     pages: AtomicUsize,
     /// Whether it was given up and isn't whole again.
     is_given_up: AtomicBool,
-    /// How many more questions whether replies may wait are answered by no; 0 where they may.
-    tight: AtomicU32,
 }
 
 /// Adds one block behind the others.
@@ -85,7 +78,6 @@ impl Reserve {
             blocks: Mutex::new(Vec::new(alloc)),
             pages: AtomicUsize::new(0),
             is_given_up: AtomicBool::new(false),
-            tight: AtomicU32::new(0),
         }
     }
 
@@ -100,7 +92,6 @@ impl Reserve {
             blocks.clear();
         }
         self.pages.store(0, Ordering::SeqCst);
-        self.tight.store(LOOKS_APART, Ordering::SeqCst);
     }
 
     /// Makes what isn't there, by the thread that has it, or as much of that as there is memory for: the rest is made when it is asked for. Whether all of it
@@ -151,29 +142,6 @@ impl<'a> ReserveOf<'a> {
         match self.reserve {
             Some(reserve) => reserve.pages.load(Ordering::SeqCst) == PAGES
                 || self.refill(alloc, reserve),
-            None => true,
-        }
-    }
-
-    /// Whether replies may wait: until the reserve is given up, and from when it is whole again and there is memory for another one, which is
-    /// looked at now and then.
-    fn is_loose(&self, alloc: Global, reserve: &Reserve) -> bool {
-        let left = reserve.tight.load(Ordering::SeqCst);
-        if left == 0 {
-            return true;
-        }
-        let is_due = left == 1;
-        let is_loose = is_due && self.is_whole(alloc) && has_reserve(alloc);
-        let next = if is_due { LOOKS_APART } else { left - 1 };
-        let next = if is_loose { 0 } else { next };
-        reserve.tight.store(next, Ordering::SeqCst);
-        is_loose
-    }
-
-    /// Whether replies may wait to be sent; also where the thread has no reserve.
-    pub(crate) fn has_room(&self, alloc: Global) -> bool {
-        match self.reserve {
-            Some(reserve) => self.is_loose(alloc, reserve),
             None => true,
         }
     }

@@ -4,9 +4,6 @@ pub mod SentParts
 pub mod Standing
 pub mod Coming
 pub mod Weighing
-pub mod Reaching
-pub mod CarryingOn
-pub mod Ending
 pub mod Simulating
 pub mod Histories
 pub mod Sweeping

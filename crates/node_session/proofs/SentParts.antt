@@ -1,11 +1,11 @@
 -- A part of what is to be sent was sent.
-use Rattle.std.proofs.Common.{◌≡◌, ◌==◌, Bool, true, false, ℕ, ◌+◌, ◌<◌, ◌≤◌, List, [], ◌∷◌, ◌++◌, length, take, drop, Option, refl, sym, ap, subst, ◌∙◌, append_assoc, append-nil, length-append, arith}
+use Rattle.std.proofs.Common.{◌≡◌, ◌==◌, Bool, true, false, ℕ, ◌+◌, ◌-◌, ◌<◌, ◌≤◌, List, [], ◌∷◌, ◌++◌, length, take, drop, Option, refl, sym, ap, subst, ◌∙◌, append_assoc, append-nil, length-append, arith}
 use Rattle.std.specs.Io.KnownBytes.{Appends, Keeps}
 use Rattle.std.proofs.KnownBytes.{Appends-trans, Appends-nil, Appends-kept}
-use Rattle.std.proofs.lemmas.List.{nil_from_length, take-append-le, take-append-drop, length-drop}
+use Rattle.std.proofs.lemmas.List.{nil_from_length, take-append-le, take-append-drop}
 use Rattle.std.proofs.lemmas.Bool.{false≢true}
 use Rattle.std.proofs.lemmas.Bool.Decides.{nat_tests}
-use Rattle.std.proofs.Math.Seq.{take-append_seam}
+use Rattle.std.proofs.Math.Seq.{drop-append-add, take-append_seam}
 use Rattle.node_session.specs.Courses.{SentSome}
 use Rattle.node_session.specs.Sending.{IsWriteCutShort}
 use Rattle.node_session.specs.Unsent.{IsFront}
@@ -29,13 +29,6 @@ sent_more a b c old mid new front n p is le wrote e =
       written = Appends-trans a b c p.done some p.written (subst (Appends b c) (front_take front mid.unsent n is le) wrote);
       same = e ∙ ap (λ (s : SessionView). record s { unsent = drop n mid.unsent }) p.same ∙ ap (λ (t : List ℕ). record old { unsent = t }) (sym to);
     }
-
-pub sent_less : (mid new : SessionView) (front : List ℕ) (n : ℕ) → IsFront front mid.unsent → 0 < n → n ≤ length front → new ≡ record mid { unsent = drop n mid.unsent } → length new.unsent < length mid.unsent
-sent_less mid new front n is some le e =
-    let to : length new.unsent ≡ length (drop n mid.unsent) = ap (λ (s : SessionView). length s.unsent) e in
-    let len : length mid.unsent ≡ length front + length is.more = ap length is.splits ∙ length-append front is.more in
-    let cut = length-drop n mid.unsent in
-    omega (arith, to, len, cut, some, le)
 
 -- nothing is left
 pub all_sent : (a b : Option (List ℕ)) (old new : SessionView) → SentSome a b old new → new.unsent ≡ [] → Appends a b old.unsent × (new ≡ record old { unsent = [] })
@@ -77,3 +70,7 @@ pub empty_if : (xs : List ℕ) (is : Bool) → is ≡ (length xs == 0) → is �
 empty_if xs is told holds =
     let none : length xs ≡ 0 = grind (arith, nat_tests, told, holds) in
     nil_from_length xs none
+
+-- what is left where more than the first bytes go
+pub drop_past : (xs ys : List ℕ) (n : ℕ) → length xs ≤ n → drop n (xs ++ ys) ≡ drop (n - length xs) ys
+drop_past xs ys n le = ap (λ (k : ℕ). drop k (xs ++ ys)) (omega (arith, le)) ∙ drop-append-add xs ys (n - length xs)

@@ -22,9 +22,6 @@ use Rattle.node_session.proofs.Frames.{read_more}
 pub taken_at : (old new : Stream) (r : Result (Option Frame) FrameFault) (o : Option Frame) (f : Frame) → r ≡ Ok o → o ≡ Some f → Takes old r new → IsTaken old (frame_message f) new
 taken_at old new r o f e d t = subst (λ (x : Option Frame). Takes old (Ok x) new) d (subst (λ (x : Result (Option Frame) FrameFault). Takes old x new) e t)
 
-pub takes_at : (old new : Stream) (r r' : Result (Option Frame) FrameFault) → r ≡ r' → Takes old r new → Takes old r' new
-takes_at old new r r' e t = subst (λ (x : Result (Option Frame) FrameFault). Takes old x new) e t
-
 module _ {S : Type 0} (Step : S → Request → Reply → S → Type 0) where
   -- a message that was not read is answered by its error
   pub refused : (old new : S) (code : ℕ) (body : List ℕ) (fault : MsgFault) (reply : Reply) → reply ≡ Error (message_fault_text fault) → new ≡ old → Reads code body (Err fault) → Answers Step old (record { code = code; body = body }) reply new

@@ -8,11 +8,6 @@ pub mod Taking
 pub mod Nexts
 pub mod Sending
 pub mod Courses
-pub mod Progress
-pub mod Connections
-pub mod Moves
-pub mod SharedNode
-pub mod ConnectionLaws
 pub mod Report
 pub mod PlainStep
 pub mod PlainNodes

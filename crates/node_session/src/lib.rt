@@ -17,8 +17,7 @@
 //! [`Session`] is one that knows no stream: what was read is fed to it, each answer is lent the node, and what is to be sent is looked at and
 //! told as sent. [`Course`] drives one by steps, each of which answers one message or calls one stream once, and sends each reply before it
 //! answers on: whoever has many of them may take their steps in any order, and each comes to what `serve` promises (`specs/Courses`).
-//! [`serve`] is the loop of these steps, over streams that wait. [`Connection`] is a session with its streams, where replies gather, and
-//! [`connections_are_sessions`] is the law by which many of them over one node come to the ends that `serve` promises.
+//! [`serve`] is the loop of these steps, over streams that wait.
 //!
 //! `serve` reads up to 4,096 bytes at a time, and answers each whole frame that has come before it reads on. Where it
 //! stops among its answers, no frame is left unanswered but those that its last 4,096 bytes at most made whole. It never
@@ -32,8 +31,6 @@
 #![tactic(auto)]
 
 mod answering;
-mod connection;
-mod connection_laws;
 mod course;
 mod ended;
 mod error_frame;
@@ -43,7 +40,6 @@ mod laws;
 mod node;
 mod outbox;
 mod plain_node;
-mod progress;
 mod reply;
 mod report;
 mod serving;
@@ -52,8 +48,6 @@ mod stage;
 mod talk;
 mod vnode_reply;
 
-pub use connection::{Connection, Input, Received, Sent};
-pub use connection_laws::connections_are_sessions;
 pub use course::Course;
 pub use ended::Ended;
 pub use exchange::Exchange;

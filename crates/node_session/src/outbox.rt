@@ -79,13 +79,6 @@ impl Outbox {
         !self.late.is_empty() || self.frames.len() - self.sent >= GATHERED
     }
 
-    /// Whether nothing is to be sent.
-    pub(crate) fn is_empty(&self) -> bool
-        ensures { result ≡ false → 0 < length (whole self.now) }
-    {
-        self.sent == self.frames.len() && self.late.is_empty()
-    }
-
     /// How many bytes are to be sent.
     pub(crate) fn len(&self) -> usize
         ensures { result ≡ length (whole self.now) }
@@ -118,34 +111,6 @@ impl Outbox {
             self.sent = 0;
             shrink_empty(&mut self.frames);
         }
-    }
-
-    /// The byte of what is to be sent that has so many before it; 0 where there is none.
-    fn byte(&self, at: usize) -> u8
-        ensures { result ≡ get_or (whole self.now) at 0 }
-    {
-        let waits = self.frames.len() - self.sent;
-        if at < waits {
-            return self.frames[self.sent + at];
-        }
-        match self.late.get(at - waits) {
-            Some(byte) => *byte,
-            None => 0,
-        }
-    }
-
-    /// How long the frame is that begins behind so many bytes of what is to be sent.
-    pub(crate) fn frame_len(&self, at: usize) -> usize
-        requires { (at < length (whole self.now)) × (at < 2 ^ 63) }
-        ensures { result ≡ given_length (drop at (whole self.now)) + 4 }
-    {
-        let length = u32::from_be_bytes([
-            self.byte(at),
-            self.byte(at + 1),
-            self.byte(at + 2),
-            self.byte(at + 3),
-        ]);
-        length as usize + 4
     }
 
     /// Puts the frame of a reply behind the others.

@@ -171,14 +171,6 @@ impl Session {
         self.outbox.len()
     }
 
-    /// How long the frame is that begins behind so many bytes of what is to be sent.
-    pub(crate) fn frame_len(&self, at: usize) -> usize
-        requires { (at < length self.now.unsent) × (at < 2 ^ 63) }
-        ensures { result ≡ given_length (drop at self.now.unsent) + 4 }
-    {
-        self.outbox.frame_len(at)
-    }
-
     /// So many bytes of what is to be sent were sent.
     pub fn sent(&mut self, n: usize)
         requires { n ≤ length self.old.unsent }
@@ -193,7 +185,7 @@ impl Session {
         requires { self.old.fault ≡ None }
         ensures { AnswersNext N.step node.old node.new self.old self.new result }
     {
-        if self.outbox.is_full() || (!self.outbox.is_empty() && !node.has_room(alloc)) {
+        if self.outbox.is_full() {
             return Ok(Next::Full);
         }
         match answer_next(alloc, &mut self.framer, &mut self.exchanges, node) {

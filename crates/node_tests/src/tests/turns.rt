@@ -1,16 +1,17 @@
-//! A connection over streams that need not wait, taken turn by turn to its end.
+//! A session over streams that need not wait, taken step by step to its end.
 
-ghost use Rattle.std.specs.Prelude.{◌≡◌, ◌<◌, ◌≤◌, [], false, length};
-ghost use Rattle.node_session.specs.Limits.{max_read_len};
-ghost use Rattle.node_tests.specs.declared.tests.turns.Turn.TheVariants.{GoesOn, Over};
+ghost use Rattle.node_session.specs.Courses.{Fits};
 
 use crate::tests::sessions::{Session, joined};
 use crate::tests::streams::{Call, Channel, Trouble, attempt};
-use node_session::{Connection, Ended, Input, MAX_READ_LEN, Next, PlainNode, Sent, SessionFault};
+use node_session::{Course, Ended, MAX_READ_LEN, PlainNode, SessionFault};
 use std::alloc::Global;
 use std::cell::Cell;
 use std::io;
 use std::io::{ErrorKind, Read, Write};
+
+/// How many reads a session makes at most: more than any row takes.
+const MAX_READS: u64 = 4_294_967_296;
 
 /// Gives bytes in pieces.
 #[derive(Drop)]
@@ -73,70 +74,27 @@ impl Write for Comparing<'_> {
     }
 }
 
-/// What a turn of a connection came to.
-#[derive(Clone, Copy)]
-enum Turn {
-    GoesOn,
-    /// The writer has failed, or all was read and sent.
-    Over,
-}
-
-/// Writes once, and then answers one message or, where none is whole, reads once. It counts the answers for which too much waited.
-fn take_turn(
-    alloc: Global,
-    connection: &mut Connection<Giving, Comparing>,
-    node: &mut PlainNode,
-    piece: &mut [u8],
-    full: &Cell<u64>,
-) -> Turn
-    requires goes { connection.old.failed ≡ false }
-    requires room { (0 < length piece.old) × (length piece.old ≤ max_read_len) }
-    ensures goes { result ≡ GoesOn → connection.new.failed ≡ false }
-    ensures over { result ≡ Over → connection.new.failed ≡ false
-        → connection.new.session.unsent ≡ [] }
-{
-    match connection.write() {
-        Sent::Failed => return Turn::Over,
-        Sent::Nothing => match connection.input() {
-            Input::Open => {}
-            _ => return Turn::Over,
-        },
-        Sent::Bytes(_) | Sent::Blocked | Sent::Interrupted => {}
-    }
-    match connection.input() {
-        Input::Open => match connection.answer(alloc, node) {
-            Ok(Next::Idle) => {
-                connection.read(alloc, &*node, piece);
-            }
-            Ok(Next::Full) => full.set(full.get().saturating_add(1)),
-            Ok(Next::Answered) => {}
-            Err(_) => {}
-        },
-        _ => {}
-    }
-    Turn::GoesOn
-}
-
-/// Takes turns to the end, and returns what came of the connection.
+/// Takes steps to the end, and returns what came of the session. One that would have to wait takes its next step all the same.
 fn outcome_of(
     alloc: Global,
-    connection: &mut Connection<Giving, Comparing>,
+    course: &mut Course,
+    source: &mut Giving,
+    sink: &mut Comparing,
     node: &mut PlainNode,
-    full: &Cell<u64>,
 ) -> Option<Result<Ended, SessionFault>>
-    requires { connection.old.failed ≡ false }
+    requires { Fits course.old.stage course.old.talk }
 {
     let mut piece = [0u8; MAX_READ_LEN];
     for _ in 0..1_000_000u32 {
-        match take_turn(alloc, connection, node, &mut piece, full) {
-            Turn::GoesOn => {}
-            Turn::Over => return connection.outcome(),
+        if let Some(result) = course.outcome() {
+            return Some(result);
         }
+        let _waits = course.step(alloc, source, sink, node, &mut piece);
     }
     None
 }
 
-/// What a connection is given, and what comes of it.
+/// What a session is given, and what comes of it.
 #[derive(Drop)]
 pub struct Carried<'i, 'o, 't> {
     pub input: &'i [u8],
@@ -147,40 +105,35 @@ pub struct Carried<'i, 'o, 't> {
     pub left: usize,
 }
 
-/// Whether a connection to a new node comes to its end so. The number is how often too much waited to answer on.
-pub fn comes_so(alloc: Global, row: &Carried) -> Option<u64> {
+/// Whether a session with a new node comes to its end so.
+pub fn comes_so(alloc: Global, row: &Carried) -> bool {
     let Ok(mut node) = PlainNode::new(alloc, 1) else {
-        return None;
+        return false;
     };
     let left = Cell::new(row.output.len());
-    let full = Cell::new(0);
     let (piece, _) = row.channel.pieces;
-    let source = Giving {
+    let mut source = Giving {
         left: row.input,
         piece: piece.max(1),
         troubles: row.channel.troubles,
         reads: 0,
     };
-    let sink = Comparing {
+    let mut sink = Comparing {
         due: row.output,
         most: row.channel.most,
         troubles: row.channel.troubles,
         writes: 0,
         left: &left,
     };
-    let mut connection = Connection::new(alloc, source, sink);
-    let end = outcome_of(alloc, &mut connection, &mut node, &full);
-    if end == Some(row.end) && left.get() == row.left {
-        Some(full.get())
-    } else {
-        None
-    }
+    let mut course = Course::new(alloc, MAX_READS);
+    let end = outcome_of(alloc, &mut course, &mut source, &mut sink, &mut node);
+    end == Some(row.end) && left.get() == row.left
 }
 
-/// Whether a connection goes as its row says, and takes all of its output.
-pub fn is_carried(alloc: Global, row: &Session) -> Option<u64> {
+/// Whether a session goes as its row says, and takes all of its output.
+pub fn is_carried(alloc: Global, row: &Session) -> bool {
     let (Ok(input), Ok(output)) = (joined(alloc, row.input), joined(alloc, row.output)) else {
-        return None;
+        return false;
     };
     let carried = Carried {
         input: &input,

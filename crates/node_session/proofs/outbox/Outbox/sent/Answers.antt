@@ -1,6 +1,6 @@
 use Rattle.std.proofs.Common.{◌≡◌, ℕ, ◌-◌, List, [], ◌++◌, length, take, drop, ◌∙◌, ap, sym, arith}
 use Rattle.std.proofs.lemmas.List.{length-drop, take_rest}
-use Rattle.node_session.proofs.Reaching.{drop_past}
+use Rattle.node_session.proofs.SentParts.{drop_past}
 use Rattle.node_session.proofs.outbox.Outbox.sent.Goals as goal
 
 pub returns-else-n-waits : goal.returns-else-n-waits

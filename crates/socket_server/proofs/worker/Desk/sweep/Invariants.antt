@@ -1,5 +1,0 @@
-use Rattle.std.proofs.Common.{◌≡◌}
-use Rattle.socket_server.proofs.worker.Desk.sweep.Given as goal
-
-abbrev pub invariant-loop-slot : goal.invariant-loop-slot
-invariant-loop-slot g l = l.self.jobs.first ≡ l.initial.self.jobs.first
