@@ -27,7 +27,7 @@ filled_none W (job ∷ jobs) (None ∷ places) h fit = filled_none W jobs places
 filled_none W (job ∷ jobs) (Some end ∷ places) h fit = absurd (none_some end (sym h.0))
 
 module _ {W J E : Type 0} where
-  taken_more : (taken more : List (NumberedJob J)) (turn : ServedTurn W J E) (done : NumberedEnd E) → IsTurnOfTaken taken turn done → IsTurnOfTaken (taken ++ more) turn done
+  pub taken_more : (taken more : List (NumberedJob J)) (turn : ServedTurn W J E) (done : NumberedEnd E) → IsTurnOfTaken taken turn done → IsTurnOfTaken (taken ++ more) turn done
   taken_more taken more turn done d = record { place = d.place; next = d.next; at = get-before taken more d.place d.next d.at; number = d.number; job = d.job; end = d.end }
 
   -- what was taken was given
@@ -40,7 +40,7 @@ module _ {W J E : Type 0} where
   all_given jobs taken all turns dones each = pairs_more (given_of_taken jobs taken all) turns dones each
 
   module _ (Serves : W → J → W → E → Type 0) where
-    chain_more : (first : W) (turns : List (ServedTurn W J E)) (mid : W) (job : J) (last : W) (end : E) → TurnChain Serves first turns mid → Serves mid job last end
+    pub chain_more : (first : W) (turns : List (ServedTurn W J E)) (mid : W) (job : J) (last : W) (end : E) → TurnChain Serves first turns mid → Serves mid job last end
         → TurnChain Serves first (turns ++ record { before = mid; job = job; after = last; end = end } ∷ []) last
     chain_more first [] mid job last end is serves = (is, serves, refl)
     chain_more first (turn ∷ turns) mid job last end h serves = (h.0, h.1, chain_more turn.after turns mid job last end h.2 serves)

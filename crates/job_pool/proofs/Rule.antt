@@ -10,7 +10,7 @@ use Rattle.job_pool.specs.declared.queue.NumberedJob.{NumberedJob}
 use Rattle.job_pool.specs.declared.queue.Task.{Task}
 use Rattle.job_pool.specs.declared.queue.Task.TheVariants.{Serve, Stop}
 use Rattle.job_pool.specs.declared.queue.Knowledge.{Knowledge}
-use Rattle.job_pool.specs.Queue.{leader, newcomer, after_push, after_pop, together, IsNumbered, IsAcceptedTask, IsNextTask, WasGiven, Agrees, AllGiven, AreOfGiven, waiting, taken_by}
+use Rattle.job_pool.specs.Queue.{leader, newcomer, after_push, after_pop, together, IsNumbered, IsAcceptedTask, IsNextTask, WasGiven, Agrees, AllGiven, AreOfGiven, waiting, taken_by, weight_of, weight_waiting, weight_taken, weight_below}
 use Rattle.ghost_state.proofs.Lists.{get-before, get-last}
 use Rattle.job_pool.proofs.Lists.{all_more, all_join, all_snoc}
 
@@ -56,9 +56,42 @@ module _ {J : Type 0} where
   taken_same : (views : List (Knowledge J)) (port : ℕ) (v w : Knowledge J) → get_elem? views port ≡ some v → length w.taken ≡ length v.taken → taken_by (set views port w) ≡ taken_by views
   taken_same views port v w at same = let here = taken_set views port v w at in omega (arith, here, same)
 
+  -- and so with weights
+  module _ (w : ℕ → ℕ) where
+    weights_set : (views : List (Knowledge J)) (port : ℕ) (v u : Knowledge J) → get_elem? views port ≡ some v → weight_taken w (set views port u) + weight_of w v.taken ≡ weight_taken w views + weight_of w u.taken
+    weights_set [] port v u at = absurd (some-ne-none v (sym at))
+    weights_set (x ∷ views) zero v u at = let same : weight_of w x.taken ≡ weight_of w v.taken = ap (λ (y : Knowledge J). weight_of w y.taken) (some-injective x v at) in omega (arith, same)
+    weights_set (x ∷ views) (suc port) v u at = let rest = weights_set views port v u at in omega (arith, rest)
+
+    weights_snoc : (views : List (Knowledge J)) (v : Knowledge J) → weight_taken w (views ++ v ∷ []) ≡ weight_taken w views + weight_of w v.taken
+    weights_snoc [] v = omega arith
+    weights_snoc (u ∷ views) v = let rest = weights_snoc views v in omega (arith, rest)
+
+    weights_at : (views : List (Knowledge J)) (port : ℕ) (v : Knowledge J) → get_elem? views port ≡ some v → weight_of w v.taken ≤ weight_taken w views
+    weights_at [] port v at = absurd (some-ne-none v (sym at))
+    weights_at (x ∷ views) zero v at = let same : weight_of w x.taken ≡ weight_of w v.taken = ap (λ (y : Knowledge J). weight_of w y.taken) (some-injective x v at) in omega (arith, same)
+    weights_at (x ∷ views) (suc port) v at = let rest = weights_at views port v at in omega (arith, rest)
+
+    pub weights_join : (xs ys : List (NumberedJob J)) → weight_of w (xs ++ ys) ≡ weight_of w xs + weight_of w ys
+    weights_join [] ys = omega arith
+    weights_join (x ∷ xs) ys = let rest = weights_join xs ys in omega (arith, rest)
+
+    waiting_more : (tasks : List (Task J)) (task : Task J) → weight_waiting w (tasks ++ task ∷ []) ≡ weight_waiting w tasks + weight_waiting w (task ∷ [])
+    waiting_more [] task = omega arith
+    waiting_more (Serve next ∷ tasks) task = let rest = waiting_more tasks task in omega (arith, rest)
+    waiting_more (Stop ∷ tasks) task = let rest = waiting_more tasks task in omega (arith, rest)
+
+    below_more : (jobs : List J) (job : J) → weight_below w (length (jobs ++ job ∷ [])) ≡ weight_below w (length jobs) + w (length jobs)
+    below_more jobs job =
+        let long : length (jobs ++ job ∷ []) ≡ suc (length jobs) = omega (arith, length-append jobs (job ∷ [])) in
+        ap (weight_below w) long
+
+    weights_same : (views : List (Knowledge J)) (port : ℕ) (v u : Knowledge J) → get_elem? views port ≡ some v → weight_of w u.taken ≡ weight_of w v.taken → weight_taken w (set views port u) ≡ weight_taken w views
+    weights_same views port v u at same = let here = weights_set views port v u at in omega (arith, here, same)
+
   module _ (Accepts : J → Type 0) where
     pub begins : AllGiven {J = J} Accepts [] (leader ∷ [])
-    begins = (0, [], tt, first, refl) where
+    begins = (0, [], tt, first, refl, λ w. refl) where
       first : Each (Agrees 0 []) (leader ∷ [])
       first zero v e = subst (λ (u : Knowledge J). Agrees 0 [] 0 u) (some-injective leader v e) ((λ _. (refl, refl)), tt)
       first (suc j) v e = absurd (some-ne-none v (sym e))
@@ -72,6 +105,7 @@ module _ {J : Type 0} where
         all_snoc (WasGiven Accepts h.1) items Stop h.2 tt,
         each_set (Agrees h.0 h.1) views port v mine (λ j u other e. h.3 j u e),
         let same = taken_same views port v v at refl in let more = waiting_snoc items Stop in let was = h.4 in omega (arith, same, more, was),
+        λ w. let same = weights_same w views port v v at refl in let more = waiting_more w items Stop in let was = h.5 w in omega (arith, same, more, was),
       ),
       refl,
     )
@@ -89,24 +123,31 @@ module _ {J : Type 0} where
             each_set (Agrees h.0 jobs) views port w ((λ _. ((mine.0 leads).0, ap (λ l. l ++ next.job ∷ []) (mine.0 leads).1)), all_more (more_of h.1 next.job) v.taken mine.1)
                 (λ j u other e. ((λ p. absurd (other (((h.3 j u e).0 p).0 ∙ sym (mine.0 leads).0))), all_more (more_of h.1 next.job) u.taken (h.3 j u e).1)),
             let same = taken_same views port v w at refl in let more = waiting_snoc items (Serve next) in let long = length-append h.1 (next.job ∷ []) in let was = h.4 in omega (arith, same, more, long, was),
+            λ wt.
+                let same = weights_same wt views port v w at refl in
+                let more = waiting_more wt items (Serve next) in
+                let long = below_more wt h.1 next.job in
+                let at_end : wt next.number ≡ wt (length h.1) = ap wt number in
+                let was = h.5 wt in
+                omega (arith, same, more, long, at_end, was),
           ),
           refl,
         )
 
     pub pops : (port : ℕ) (v : Knowledge J) → Pops (AllGiven Accepts) port v (λ x w. (w ≡ after_pop v x) × IsAcceptedTask Accepts x)
-    pops port v Stop items views h at = let mine = h.3 port v at in (v, (h.0, h.1, h.2.1, each_set (Agrees h.0 h.1) views port v mine (λ j u other e. h.3 j u e), let same = taken_same views port v v at refl in let was = h.4 in omega (arith, same, was)), (refl, tt))
+    pops port v Stop items views h at = let mine = h.3 port v at in (v, (h.0, h.1, h.2.1, each_set (Agrees h.0 h.1) views port v mine (λ j u other e. h.3 j u e), let same = taken_same views port v v at refl in let was = h.4 in omega (arith, same, was), λ w. let same = weights_same w views port v v at refl in let was = h.5 w in omega (arith, same, was)), (refl, tt))
     pops port v (Serve next) items views h at =
         let mine = h.3 port v at in
         let w : Knowledge J = after_pop v (Serve next) in
         let same = taken_set views port v w at in let long = length-append v.taken (next ∷ []) in let was = h.4 in
-        (w, (h.0, h.1, h.2.1, each_set (Agrees h.0 h.1) views port w (mine.0, all_snoc (IsNumbered h.1) v.taken next mine.1 h.2.0.0) (λ j u other e. h.3 j u e), omega (arith, same, long, was)), (refl, h.2.0.1))
+        (w, (h.0, h.1, h.2.1, each_set (Agrees h.0 h.1) views port w (mine.0, all_snoc (IsNumbered h.1) v.taken next mine.1 h.2.0.0) (λ j u other e. h.3 j u e), omega (arith, same, long, was), λ wt. let one = weights_set wt views port v w at in let joined = weights_join wt v.taken (next ∷ []) in let before = h.5 wt in omega (arith, one, joined, before)), (refl, h.2.0.1))
 
     pub forks : (port : ℕ) (v : Knowledge J) → Forks (AllGiven Accepts) port v v newcomer
     forks port v items views h at =
         let vs : List (Knowledge J) = set views port v in
         let old : Each (Agrees h.0 h.1) vs = each_set (Agrees h.0 h.1) views port v (h.3 port v at) (λ j u other e. h.3 j u e) in
         let same = taken_same views port v v at refl in let more = taken_snoc vs newcomer in let was = h.4 in
-        (h.0, h.1, h.2, λ j u e. ⊎_elim (λ x. old j u x) (λ (is : newcomer ≡ u). subst (λ (y : Knowledge J). Agrees h.0 h.1 j y) is (new_agrees h.0 h.1 j)) (at_snoc vs newcomer u j e), omega (arith, same, more, was))
+        (h.0, h.1, h.2, λ j u e. ⊎_elim (λ x. old j u x) (λ (is : newcomer ≡ u). subst (λ (y : Knowledge J). Agrees h.0 h.1 j y) is (new_agrees h.0 h.1 j)) (at_snoc vs newcomer u j e), omega (arith, same, more, was), λ w. let one = weights_same w views port v v at refl in let longer = weights_snoc w vs newcomer in let before = h.5 w in omega (arith, one, longer, before))
 
     pub merges : (port : ℕ) (v : Knowledge J) (other : ℕ) (u : Knowledge J) → Merges (AllGiven Accepts) port v other u (together v u) newcomer
     merges port v other u items views h at two at' =
@@ -116,11 +157,11 @@ module _ {J : Type 0} where
         let was : get_elem? views other ≡ some u = ⊎_elim (λ x. absurd (two x.0)) (λ x. x.1) (at_set views port other both u at') in
         let now : Each (Agrees h.0 h.1) vs = each_set (Agrees h.0 h.1) views port both (mine.0, all_join (IsNumbered h.1) v.taken u.taken mine.1 (h.3 other u was).1) (λ j y apart e. h.3 j y e) in
         let more = taken_set views port v both at in let gone = taken_set vs other u newcomer at' in let long = length-append v.taken u.taken in let count = h.4 in
-        (h.0, h.1, h.2, each_set (Agrees h.0 h.1) vs other newcomer (new_agrees h.0 h.1 other) (λ j y apart e. now j y e), omega (arith, more, gone, long, count))
+        (h.0, h.1, h.2, each_set (Agrees h.0 h.1) vs other newcomer (new_agrees h.0 h.1 other) (λ j y apart e. now j y e), omega (arith, more, gone, long, count), λ w. let put = weights_set w views port v both at in let left = weights_set w vs other u newcomer at' in let joined = weights_join w v.taken u.taken in let before = h.5 w in omega (arith, put, left, joined, before))
 
     pub learns : (port : ℕ) (v : Knowledge J) → v.leads ≡ true → Learns (AllGiven Accepts) port v (λ items. AreOfGiven v)
     learns port v leads items views h at =
         let mine = h.3 port v at in let some_of = taken_at views port v at in let all = h.4 in
         let given : h.1 ≡ v.given = sym (mine.0 leads).1 in
         let many : length h.1 ≡ length v.given = ap length given in
-        record { numbered = subst (λ (jobs : List J). Every (IsNumbered jobs) v.taken) given mine.1; count = omega (arith, some_of, all, many) }
+        record { numbered = subst (λ (jobs : List J). Every (IsNumbered jobs) v.taken) given mine.1; count = omega (arith, some_of, all, many); once = λ w. let some = weights_at w views port v at in let before = h.5 w in let same : weight_below w (length h.1) ≡ weight_below w (length v.given) = ap (weight_below w) many in omega (arith, some, before, same) }

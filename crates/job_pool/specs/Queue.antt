@@ -1,5 +1,5 @@
 -- What the queue of jobs holds, and what its passes know.
-use Rattle.std.specs.Prelude.{◌≡◌, ◌+◌, ◌≤◌, ℕ, Bool, true, false, List, [], ◌∷◌, ◌++◌, Some, slice_get, length}
+use Rattle.std.specs.Prelude.{◌≡◌, ◌+◌, ◌≤◌, ℕ, zero, suc, Bool, true, false, List, [], ◌∷◌, ◌++◌, Some, slice_get, length}
 use mathlib.Core.Option.{some}
 use lib.ListN.{get_elem?}
 use Rattle.job_pool.specs.Lists.{Every}
@@ -7,6 +7,11 @@ use Rattle.job_pool.specs.declared.queue.NumberedJob.{NumberedJob}
 use Rattle.job_pool.specs.declared.queue.Task.{Task}
 use Rattle.job_pool.specs.declared.queue.Task.TheVariants.{Serve, Stop}
 use Rattle.job_pool.specs.declared.queue.Knowledge.{Knowledge}
+
+-- the weights of all numbers below this one
+abbrev pub weight_below : (ℕ → ℕ) → ℕ → ℕ
+weight_below w zero = 0
+weight_below w (suc n) = weight_below w n + w n
 
 module _ {J : Type 0} where
   abbrev pub knowledge : Bool → List J → List (NumberedJob J) → Knowledge J
@@ -66,14 +71,30 @@ module _ {J : Type 0} where
   taken_by [] = 0
   taken_by (v ∷ views) = length v.taken + taken_by views
 
+  -- the weights of these jobs' numbers, together
+  abbrev pub weight_of : (ℕ → ℕ) → List (NumberedJob J) → ℕ
+  weight_of w [] = 0
+  weight_of w (next ∷ rest) = w next.number + weight_of w rest
+
+  abbrev pub weight_waiting : (ℕ → ℕ) → List (Task J) → ℕ
+  weight_waiting w [] = 0
+  weight_waiting w (Serve next ∷ tasks) = w next.number + weight_waiting w tasks
+  weight_waiting w (Stop ∷ tasks) = weight_waiting w tasks
+
+  abbrev pub weight_taken : (ℕ → ℕ) → List (Knowledge J) → ℕ
+  weight_taken w [] = 0
+  weight_taken w (v ∷ views) = weight_of w v.taken + weight_taken w views
+
   -- there are jobs that one pass gave, of which are all that the queue holds and that each pass took; each waits or was taken once
   abbrev pub AllGiven : (J → Type 0) → List (Task J) → List (Knowledge J) → Type 0
   AllGiven Accepts tasks views =
       (lead : ℕ) × (jobs : List J) × Every (WasGiven Accepts jobs) tasks
       × ((port : ℕ) (v : Knowledge J) → get_elem? views port ≡ some v → Agrees lead jobs port v)
       × (taken_by views + waiting tasks ≡ length jobs)
+      × ((w : ℕ → ℕ) → weight_taken w views + weight_waiting w tasks ≡ weight_below w (length jobs))
 
-  -- what this pass took are jobs that it gave, and no more than it gave
+  -- what this pass took are jobs that it gave, and no more than it gave, each at most once: whatever the numbers weigh
   pub record AreOfGiven (v : Knowledge J) : Type 0 where
     pub numbered : Every (IsNumbered v.given) v.taken
     pub count : length v.taken ≤ length v.given
+    pub once : (w : ℕ → ℕ) → weight_of w v.taken ≤ weight_below w (length v.given)

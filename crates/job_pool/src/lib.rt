@@ -28,12 +28,17 @@
 #![tactic(auto)]
 
 mod collect;
+mod desk;
 mod fault;
 mod jobs;
 mod lent;
 mod pool;
 mod queue;
+mod readiness;
+mod rounds;
+mod seat;
 mod service;
+mod sink;
 mod sleepers;
 mod start;
 mod submit;
@@ -43,4 +48,7 @@ pub use collect::Finished;
 pub use fault::RunFault;
 pub use jobs::{JobFault, Jobs};
 pub use pool::{MAX_WAITING, run};
-pub use service::Service;
+pub use readiness::{Bell, Readiness, Station, Turn};
+pub use service::{Moved, Service};
+pub use sink::Sink;
+pub use worker::NumberedEnd;

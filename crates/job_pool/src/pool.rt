@@ -12,6 +12,7 @@ use crate::fault::RunFault;
 use crate::jobs::Jobs;
 use crate::lent::Lent;
 use crate::queue::{Accepts, JobQueue, QueuePass};
+use crate::rounds::Wake;
 use crate::service::Service;
 use crate::sleepers::Sleepers;
 use crate::start::start_all;
@@ -34,7 +35,7 @@ fn dispatch<H, S, G, T>(
     service: Snapshot<S>,
     queue: &JobQueue<H, S::Job>,
     pass: &mut QueuePass<S::Job>,
-    sleepers: &Sleepers,
+    sleepers: &Sleepers<Wake>,
     jobs: &mut G,
     children: Vec<Child<S>>,
 ) -> Result<Finished<S::End, S::Worker>, RunFault>
@@ -70,7 +71,7 @@ fn give_up<H: Accepts<S::Job>, S: Service, T: Threads + Wait>(
     rt: &T,
     queue: &JobQueue<H, S::Job>,
     pass: &mut QueuePass<S::Job>,
-    sleepers: &Sleepers,
+    sleepers: &Sleepers<Wake>,
     children: Vec<Child<S>>,
 )
     requires queue { IsPassOf queue.now pass.old × (view pass.old ≡ leader) }
@@ -86,7 +87,7 @@ fn run_on<'a, H, S, G, T>(
     service: &'a S,
     queue: &'a JobQueue<H, S::Job>,
     pass: QueuePass<S::Job>,
-    sleepers: Sleepers,
+    sleepers: Sleepers<Wake>,
     jobs: G,
     workers: Vec<S::Worker>,
 ) -> (G, Result<Finished<S::End, S::Worker>, RunFault>)

@@ -9,8 +9,9 @@ ghost use Rattle.job_pool.specs.Workers.{IsOn, IsOfStart, state_before};
 use crate::collect::Child;
 use crate::fault::RunFault;
 use crate::queue::{Accepts, Fork, JobQueue, QueuePass};
+use crate::rounds::{Rounds, Wake};
 use crate::service::Service;
-use crate::sleepers::{Sleeper, Sleepers};
+use crate::sleepers::{Leader, Sleepers};
 use crate::worker::{WorkerOutput, WorkerPromise, work};
 use std::alloc::Global;
 use std::snapshot::Snapshot;
@@ -25,7 +26,8 @@ fn start_one<'s, X, H, S, T>(
     service: &'s S,
     queue: &'s JobQueue<H, S::Job>,
     pass: &mut QueuePass<S::Job>,
-    sleeper: Sleeper,
+    to_leader: Leader,
+    rounds: Rounds,
     worker: S::Worker,
 ) -> Result<Child<S>, RunFault>
 where
@@ -53,7 +55,7 @@ where
             ensures queue { IsPassOf queue.entry.now result.pass }
             ensures served { HasServed (S.serves service.entry.now) (view result.pass).taken
                 result.ends.items worker result.worker }
-        { work::<H, S, T>(rt, alloc, service, queue, worker, theirs, sleeper) },
+        { work::<H, S, T>(rt, alloc, service, queue, worker, theirs, to_leader, rounds) },
     ) else {
         return Err(RunFault::NoThread);
     };
@@ -68,7 +70,7 @@ pub(crate) fn start_all<'s, X, H, S, T>(
     service: &'s S,
     queue: &'s JobQueue<H, S::Job>,
     pass: &mut QueuePass<S::Job>,
-    sleepers: &mut Sleepers,
+    sleepers: &mut Sleepers<Wake>,
     children: &mut Vec<Child<S>>,
     workers: Vec<S::Worker>,
 ) -> Result<(), RunFault>
@@ -88,10 +90,15 @@ where
         if children.reserve(1).is_err() {
             return Err(RunFault::NoMemory);
         }
-        let Ok(sleeper) = sleepers.add(alloc) else {
+        let Ok((rounds, wake)) = Rounds::new(alloc) else {
             return Err(RunFault::NoMemory);
         };
-        match start_one(scope, rt, alloc, service, queue, pass, sleeper, worker) {
+        let Ok(to_leader) = sleepers.add(wake) else {
+            return Err(RunFault::NoMemory);
+        };
+        match start_one(
+            scope, rt, alloc, service, queue, pass, to_leader, rounds, worker,
+        ) {
             Ok(child) => children.push_reserved(child),
             Err(fault) => return Err(fault),
         }

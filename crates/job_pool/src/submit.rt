@@ -7,6 +7,7 @@ ghost use Rattle.job_pool.specs.Queue.{leader, after_push, IsAcceptedTask, IsNex
 use crate::fault::RunFault;
 use crate::jobs::Jobs;
 use crate::queue::{Accepts, JobQueue, NumberedJob, Push, QueuePass, Task};
+use crate::rounds::Wake;
 use crate::sleepers::Sleepers;
 use std::sync::Wait;
 
@@ -15,7 +16,7 @@ pub(crate) fn submit<H: Accepts<J>, J, T: Wait>(
     rt: &T,
     queue: &JobQueue<H, J>,
     pass: &mut QueuePass<J>,
-    sleepers: &Sleepers,
+    sleepers: &Sleepers<Wake>,
     task: Task<J>,
 )
     requires queue { IsPassOf queue.now pass.old }
@@ -28,7 +29,7 @@ pub(crate) fn submit<H: Accepts<J>, J, T: Wait>(
     for _ in rt.forever() {
         match queue.push_as::<Push, T>(rt, pass, held) {
             Ok(()) => {
-                sleepers.wake_all();
+                sleepers.ring_all();
                 return;
             }
             Err(back) => {
@@ -45,7 +46,7 @@ pub(crate) fn submit_all<H, G, T>(
     rt: &T,
     queue: &JobQueue<H, G::Job>,
     pass: &mut QueuePass<G::Job>,
-    sleepers: &Sleepers,
+    sleepers: &Sleepers<Wake>,
     jobs: &mut G,
 ) -> (usize, Result<(), RunFault>)
 where
@@ -84,7 +85,7 @@ pub(crate) fn submit_stops<H: Accepts<J>, J, T: Wait>(
     rt: &T,
     queue: &JobQueue<H, J>,
     pass: &mut QueuePass<J>,
-    sleepers: &Sleepers,
+    sleepers: &Sleepers<Wake>,
     workers: usize,
 )
     requires queue { IsPassOf queue.now pass.old × ((view pass.old).leads ≡ true) }

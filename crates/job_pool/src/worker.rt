@@ -1,12 +1,17 @@
 //! A worker: it takes jobs and serves them until it takes a stop mark.
-ghost use Rattle.std.specs.Prelude.{◌≡◌};
+ghost use Rattle.std.specs.Prelude.{◌≡◌, []};
+ghost use Rattle.slab.specs.Slab.{slab_len};
 ghost use Rattle.crossbeam_queue.specs.Passes.{view, IsPassOf};
 ghost use Rattle.job_pool.specs.Queue.{newcomer};
 ghost use Rattle.job_pool.specs.Ends.{HasServed};
 
+use crate::desk::Desk;
 use crate::queue::{Accepts, JobQueue, Pop, QueuePass, Task};
+use crate::readiness::Readiness;
+use crate::rounds::Rounds;
 use crate::service::Service;
-use crate::sleepers::Sleeper;
+use crate::sink::{Collected, Sink};
+use crate::sleepers::Leader;
 use std::alloc::Global;
 use std::snapshot::Snapshot;
 use std::sync::Wait;
@@ -48,8 +53,185 @@ impl<S: Service> Promise<WorkerOutput<S::Worker, S::Job, S::End>>
         p.worker.value work.worker };
 }
 
-/// Serves jobs until it takes a stop mark. It sleeps where the queue is empty, and wakes the leading thread, which may sleep for room,
-/// whenever it took a task. A job for whose end there is no memory is let go and not served.
+/// What a worker took out of the queue.
+enum Took {
+    /// A job, which was opened or refused.
+    Job,
+    /// A stop mark.
+    Stop,
+    /// There was nothing.
+    Nothing,
+}
+
+/// Takes a task out of the queue, if there is one, and opens the job. Wakes the leading thread, which may sleep for room.
+fn take_task<'a, H, S, K, D, T>(
+    rt: &T,
+    alloc: Global,
+    queue: &JobQueue<H, S::Job>,
+    pass: &mut QueuePass<S::Job>,
+    to_leader: &Leader,
+    desk: &mut Desk<'a, S, K>,
+    waits: &mut D,
+) -> Took
+where
+    H: Accepts<S::Job>,
+    S: Service,
+    K: Sink<S> + Drop,
+    D: Readiness<S>,
+    T: Wait,
+    requires queue { IsPassOf queue.now pass.old }
+    requires accepts { (job : S.Job) → H.accepts job → S.accepts desk.old.service job }
+    requires taken { desk.old.taken ≡ (view pass.old).taken }
+    ensures queue { IsPassOf queue.now pass.new }
+    ensures taken { desk.new.taken ≡ (view pass.new).taken }
+    ensures service { desk.new.service ≡ desk.old.service }
+    ensures first { desk.new.first ≡ desk.old.first }
+{
+    let has_room = desk.reserve(alloc);
+    match queue.pop_as::<Pop<H>, T>(rt, pass) {
+        Some(Task::Serve(next)) => {
+            to_leader.wake();
+            if let Some(slot) = desk.begin(alloc, next, has_room) {
+                if let Some(opened) = desk.opened(slot) {
+                    waits.begin(slot, opened);
+                }
+            }
+            Took::Job
+        }
+        Some(Task::Stop) => {
+            to_leader.wake();
+            Took::Stop
+        }
+        None => Took::Nothing,
+    }
+}
+
+/// Gives each slot that is to have one a turn.
+fn take_turns<'a, S: Service, K: Sink<S> + Drop, D: Readiness<S>>(
+    alloc: Global,
+    desk: &mut Desk<'a, S, K>,
+    waits: &mut D,
+)
+    ensures service { desk.new.service ≡ desk.old.service }
+    ensures first { desk.new.first ≡ desk.old.first }
+    ensures taken { desk.new.taken ≡ desk.old.taken }
+{
+    for _ in 0..u64::MAX {
+        match waits.next() {
+            Some(turn) => {
+                let moved = desk.take_turn(alloc, turn.slot, turn.may_wait);
+                waits.after(turn.slot, moved);
+            }
+            None => return,
+        }
+    }
+}
+
+/// One round of a worker: it takes a task, where it is to take one, and gives each job that is ready a turn. It waits where it took none. Whether it
+/// has taken its stop mark.
+fn work_once<'a, H, S, K, D, T>(
+    rt: &T,
+    alloc: Global,
+    queue: &JobQueue<H, S::Job>,
+    pass: &mut QueuePass<S::Job>,
+    to_leader: &Leader,
+    desk: &mut Desk<'a, S, K>,
+    waits: &mut D,
+    is_stopped: bool,
+) -> bool
+where
+    H: Accepts<S::Job>,
+    S: Service,
+    K: Sink<S> + Drop,
+    D: Readiness<S>,
+    T: Wait,
+    requires queue { IsPassOf queue.now pass.old }
+    requires accepts { (job : S.Job) → H.accepts job → S.accepts desk.old.service job }
+    requires taken { desk.old.taken ≡ (view pass.old).taken }
+    ensures queue { IsPassOf queue.now pass.new }
+    ensures taken { desk.new.taken ≡ (view pass.new).taken }
+    ensures service { desk.new.service ≡ desk.old.service }
+    ensures first { desk.new.first ≡ desk.old.first }
+{
+    if !is_stopped && waits.takes(desk.is_empty()) {
+        match take_task(rt, alloc, queue, pass, to_leader, desk, waits) {
+            Took::Job => {
+                take_turns(alloc, desk, waits);
+                return false;
+            }
+            Took::Stop => return true,
+            Took::Nothing => {}
+        }
+    }
+    take_turns(alloc, desk, waits);
+    waits.wait(rt, desk.is_empty());
+    is_stopped
+}
+
+/// What a worker leaves whose jobs have all ended: its state, its pass and its sink.
+#[derive(Drop)]
+pub(crate) struct Left<W, J, K> {
+    pub(crate) worker: W,
+    pub(crate) pass: QueuePass<J>,
+    pub(crate) sink: K,
+}
+
+/// What a worker leaves whose jobs have all ended.
+fn finish<'a, S: Service, K: Sink<S> + Drop>(
+    desk: Desk<'a, S, K>,
+    pass: QueuePass<S::Job>,
+) -> Left<S::Worker, S::Job, K>
+    requires empty { slab_len desk.seats ≡ 0 }
+    requires taken { desk.taken ≡ (view pass).taken }
+    ensures pass { result.pass ≡ pass }
+    ensures served { HasServed (S.serves desk.entry.service) (view result.pass).taken
+        (K.told result.sink) desk.entry.first result.worker }
+{
+    let (worker, sink) = desk.into_parts();
+    Left { worker, pass, sink }
+}
+
+/// Serves jobs, many at once, until it takes a stop mark and all have ended. It waits by its readiness alone. The sink was told each end as it came.
+pub(crate) fn work_for<H, S, K, D, T>(
+    rt: &T,
+    alloc: Global,
+    service: &S,
+    queue: &JobQueue<H, S::Job>,
+    worker: S::Worker,
+    pass: QueuePass<S::Job>,
+    to_leader: Leader,
+    sink: K,
+    waits: &mut D,
+) -> Left<S::Worker, S::Job, K>
+where
+    H: Accepts<S::Job>,
+    S: Service,
+    K: Sink<S> + Drop,
+    D: Readiness<S>,
+    T: Wait,
+    requires queue { IsPassOf queue.now pass × (view pass ≡ newcomer) }
+    requires accepts { (job : S.Job) → H.accepts job → S.accepts service.now job }
+    requires none { K.told sink ≡ [] }
+    requires room { K.has_room sink 0 }
+    ensures queue { IsPassOf queue.now result.pass }
+    ensures served { HasServed (S.serves service.now) (view result.pass).taken
+        (K.told result.sink) worker result.worker }
+{
+    let mut mine = pass;
+    let mut desk = Desk::new(alloc, service, worker, sink);
+    let mut is_stopped = false;
+    for _ in rt.forever() {
+        is_stopped = work_once(
+            rt, alloc, queue, &mut mine, &to_leader, &mut desk, waits, is_stopped,
+        );
+        if is_stopped && desk.is_empty() {
+            return finish(desk, mine);
+        }
+    }
+    unreachable!()
+}
+
+/// Serves jobs as [`work_for`] does, and keeps their ends. Nothing is waited for but the queue.
 pub(crate) fn work<H: Accepts<S::Job>, S: Service, T: Wait>(
     rt: &T,
     alloc: Global,
@@ -57,7 +239,8 @@ pub(crate) fn work<H: Accepts<S::Job>, S: Service, T: Wait>(
     queue: &JobQueue<H, S::Job>,
     worker: S::Worker,
     pass: QueuePass<S::Job>,
-    sleeper: Sleeper,
+    to_leader: Leader,
+    rounds: Rounds,
 ) -> WorkerOutput<S::Worker, S::Job, S::End>
     requires queue { IsPassOf queue.now pass × (view pass ≡ newcomer) }
     requires accepts { (job : S.Job) → H.accepts job → S.accepts service.now job }
@@ -65,31 +248,18 @@ pub(crate) fn work<H: Accepts<S::Job>, S: Service, T: Wait>(
     ensures served { HasServed (S.serves service.now) (view result.pass).taken
         result.ends.items worker result.worker }
 {
-    let mut state = worker;
-    let mut mine = pass;
-    let mut ends = Vec::new(alloc);
-    for _ in rt.forever() {
-        let has_room = ends.reserve(1).is_ok();
-        match queue.pop_as::<Pop<H>, T>(rt, &mut mine) {
-            Some(Task::Serve(next)) => {
-                sleeper.wake_leader();
-                if has_room {
-                    let number = next.number;
-                    let (next_state, end) = service.serve(alloc, state, next.job);
-                    state = next_state;
-                    ends.push_reserved(NumberedEnd { number, end });
-                }
-            }
-            Some(Task::Stop) => {
-                sleeper.wake_leader();
-                break;
-            }
-            None => sleeper.sleep(rt),
-        }
-    }
-    WorkerOutput {
-        worker: state,
-        pass: mine,
-        ends,
-    }
+    let mut rounds = rounds;
+    let Left { worker, pass, sink } = work_for(
+        rt,
+        alloc,
+        service,
+        queue,
+        worker,
+        pass,
+        to_leader,
+        Collected::new(alloc),
+        &mut rounds,
+    );
+    let Collected { ends } = sink;
+    WorkerOutput { worker, pass, ends }
 }

@@ -1,8 +1,8 @@
+use Rattle.std.specs.Prelude.{◌≡◌}
 use Rattle.crossbeam_queue.specs.Passes.{view, IsPassOf}
-use Rattle.job_pool.specs.Ends.{HasServed}
-use Rattle.job_pool.proofs.worker.work.Given as goal
+use Rattle.job_pool.proofs.worker.work_for.Given as goal
 
 abbrev pub invariant-loop : goal.invariant-loop
 invariant-loop g l =
     (goal.iterator-loop g).can_next l.iterator' × (goal.iterator-loop g).is_finite l.iterator' × IsPassOf l.queue l.mine
-    × HasServed (g.S.Service.serves l.service) (view l.mine).taken l.ends.items l.fn.worker l.state
+    × (l.desk.taken ≡ (view l.mine).taken) × (l.desk.service ≡ l.service) × (l.desk.first ≡ l.fn.worker)

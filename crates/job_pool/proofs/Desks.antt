@@ -1,0 +1,245 @@
+-- What a worker's calls do with its open jobs.
+use Rattle.std.proofs.Common.{◌≡◌, ◌≢◌, ◌+◌, ℕ, zero, suc, List, [], ◌∷◌, ◌++◌, length, length-append, set, get_or, cond, count_by, is_some, Option, Some, None, refl, sym, ap, subst, ◌∙◌, inl, inr, arith}
+use Rattle.std.specs.Prelude.{IfSome, slice_get, slice_index_or}
+use Rattle.std.proofs.lemmas.Bool.{cases_eq}
+use Rattle.std.proofs.lemmas.List.{get_or-set_other}
+use Rattle.std.proofs.lemmas.List.Sums.{sum_by-cons}
+use Rattle.slab.specs.Slab.{Slab, get, slab_len, with_value, Updates}
+use Rattle.slab.proofs.SlabLemmas.{Updates-with_value}
+use Rattle.ghost_state.proofs.Lists.{get-before, get-last}
+use Rattle.job_pool.specs.Lists.{Pairwise}
+use Rattle.job_pool.specs.Turns.{ServedTurn, TurnChain}
+use Rattle.job_pool.specs.Ends.{IsTurnOfTaken, HasServed}
+use Rattle.job_pool.specs.Queue.{weight_of}
+use Rattle.job_pool.specs.Desks.{SeatView, IsSeated, AreSeated, DeskStands, weight_told, weight_refused, weight_slot, weight_seats}
+use Rattle.job_pool.proofs.Rule.{weights_join}
+use Rattle.job_pool.specs.declared.queue.NumberedJob.{NumberedJob}
+use Rattle.job_pool.specs.declared.worker.NumberedEnd.{NumberedEnd}
+use Rattle.job_pool.proofs.Lists.{pairs_more, pairs_snoc}
+use Rattle.job_pool.proofs.Ends.{taken_more, chain_more}
+
+-- two answers of one look
+pub one_value : {O : Type 0} → (o : Option O) (a b : O) → o ≡ Some a → o ≡ Some b → b ≡ a
+one_value o a b p q = let e : Some a ≡ Some b = sym p ∙ q in cc
+
+-- another value in a slot that has one
+pub count-set : {O : Type 0} → (slots : List (Option O)) (key : ℕ) (was now : O) → get_or slots key None ≡ Some was → count_by is_some (set slots key (Some now)) ≡ count_by is_some slots
+count-set [] key was now found = absurd (cc)
+count-set (None ∷ rest) zero was now found = absurd (cc)
+count-set (Some x ∷ rest) zero was now found = omega (arith, sum_by-cons (λ o. cond (is_some o) 1 0) (Some now) rest, sum_by-cons (λ o. cond (is_some o) 1 0) (Some x) rest)
+count-set (x ∷ rest) (suc key) was now found =
+    omega (arith, count-set rest key was now found, sum_by-cons (λ o. cond (is_some o) 1 0) x (set rest key (Some now)), sum_by-cons (λ o. cond (is_some o) 1 0) x rest)
+
+module _ {S J : Type 0} (service : S) where
+  seated_more : (taken more : List (NumberedJob J)) (seat : SeatView S J) → IsSeated service taken seat → IsSeated service (taken ++ more) seat
+  seated_more taken more seat p = record { of_service = p.of_service; place = p.place; next = p.next; at = get-before taken more p.place p.next p.at; number = p.number; job = p.job }
+
+  seated_if : (taken more : List (NumberedJob J)) (slot : Option (SeatView S J)) → IfSome slot (IsSeated service taken) → IfSome slot (IsSeated service (taken ++ more))
+  seated_if taken more None p = p
+  seated_if taken more (Some seat) p = seated_more taken more seat p
+
+  -- what is open at a slot
+  pub seat_at : (taken : List (NumberedJob J)) (seats : Slab (SeatView S J)) (slot : ℕ) (seat : SeatView S J) → AreSeated service taken seats → get seats slot ≡ Some seat → IsSeated service taken seat
+  seat_at taken seats slot seat p found = subst (λ (o : Option (SeatView S J)). IfSome o (IsSeated service taken)) found (p slot)
+
+  -- one slot has this now
+  seated_now : (taken : List (NumberedJob J)) (seats seats' : Slab (SeatView S J)) (slot : ℕ) (now : Option (SeatView S J)) → Updates seats seats' slot now → IfSome now (IsSeated service taken) → AreSeated service taken seats → AreSeated service taken seats'
+  seated_now taken seats seats' slot now updates is p = λ other. elim (cases_eq other slot) [
+    | inl same ↦ subst (λ (o : Option (SeatView S J)). IfSome o (IsSeated service taken)) (sym (ap (λ (n : ℕ). get seats' n) same ∙ updates.changed)) is
+    | inr differs ↦ subst (λ (o : Option (SeatView S J)). IfSome o (IsSeated service taken)) (sym (updates.others other differs)) (p other)
+  ]
+
+-- the weights of what is told, refused and open
+refused_more : (w : ℕ → ℕ) (refused : List ℕ) (n : ℕ) → weight_refused w (refused ++ n ∷ []) ≡ weight_refused w refused + w n
+refused_more w [] n = omega arith
+refused_more w (x ∷ refused) n = let rest = refused_more w refused n in omega (arith, rest)
+
+told_more : {E : Type 0} (w : ℕ → ℕ) (told : List (NumberedEnd E)) (one : NumberedEnd E) → weight_told w (told ++ one ∷ []) ≡ weight_told w told + w one.number
+told_more w [] one = omega arith
+told_more w (x ∷ told) one = let rest = told_more w told one in omega (arith, rest)
+
+module _ {S J : Type 0} (w : ℕ → ℕ) where
+  slots_same : (old new : List (Option (SeatView S J))) → ((k : ℕ) → get_or new k None ≡ get_or old k None) → weight_seats w new ≡ weight_seats w old
+  slots_same [] [] h = refl
+  slots_same [] (n ∷ ns) h = let head : weight_slot w n ≡ 0 = ap (weight_slot w) (h 0) in let rest : weight_seats w ns ≡ 0 = slots_same [] ns (λ k. h (suc k)) in omega (arith, head, rest)
+  slots_same (o ∷ os) [] h = let head : 0 ≡ weight_slot w o = ap (weight_slot w) (h 0) in let rest : 0 ≡ weight_seats w os = slots_same os [] (λ k. h (suc k)) in omega (arith, head, rest)
+  slots_same (o ∷ os) (n ∷ ns) h = let head : weight_slot w n ≡ weight_slot w o = ap (weight_slot w) (h 0) in let rest = slots_same os ns (λ k. h (suc k)) in omega (arith, head, rest)
+
+  -- one slot has this now
+  slots_updated : (old new : List (Option (SeatView S J))) (key : ℕ) (o : Option (SeatView S J)) → get_or new key None ≡ o → ((k : ℕ) → k ≢ key → get_or new k None ≡ get_or old k None) → weight_seats w new + weight_slot w (get_or old key None) ≡ weight_seats w old + weight_slot w o
+  slots_updated [] [] zero o at others = let here : 0 ≡ weight_slot w o = ap (weight_slot w) at in omega (arith, here)
+  slots_updated [] (n ∷ ns) zero o at others =
+      let here : weight_slot w n ≡ weight_slot w o = ap (weight_slot w) at in
+      let rest : weight_seats w ns ≡ 0 = slots_same [] ns (λ k. others (suc k) (λ e. absurd (omega (arith, e)))) in
+      omega (arith, here, rest)
+  slots_updated (x ∷ xs) [] zero o at others =
+      let here : 0 ≡ weight_slot w o = ap (weight_slot w) at in
+      let rest : 0 ≡ weight_seats w xs = slots_same xs [] (λ k. others (suc k) (λ e. absurd (omega (arith, e)))) in
+      omega (arith, here, rest)
+  slots_updated (x ∷ xs) (n ∷ ns) zero o at others =
+      let here : weight_slot w n ≡ weight_slot w o = ap (weight_slot w) at in
+      let rest = slots_same xs ns (λ k. others (suc k) (λ e. absurd (omega (arith, e)))) in
+      omega (arith, here, rest)
+  slots_updated [] [] (suc key) o at others = let here : 0 ≡ weight_slot w o = ap (weight_slot w) at in omega (arith, here)
+  slots_updated [] (n ∷ ns) (suc key) o at others =
+      let head : weight_slot w n ≡ 0 = ap (weight_slot w) (others 0 (λ e. absurd (omega (arith, e)))) in
+      let rest : weight_seats w ns + 0 ≡ 0 + weight_slot w o = slots_updated [] ns key o at (λ k d. others (suc k) (λ e. d (omega (arith, e)))) in
+      omega (arith, head, rest)
+  slots_updated (x ∷ xs) [] (suc key) o at others =
+      let head : 0 ≡ weight_slot w x = ap (weight_slot w) (others 0 (λ e. absurd (omega (arith, e)))) in
+      let rest = slots_updated xs [] key o at (λ k d. others (suc k) (λ e. d (omega (arith, e)))) in
+      omega (arith, head, rest)
+  slots_updated (x ∷ xs) (n ∷ ns) (suc key) o at others =
+      let head : weight_slot w n ≡ weight_slot w x = ap (weight_slot w) (others 0 (λ e. absurd (omega (arith, e)))) in
+      let rest = slots_updated xs ns key o at (λ k d. others (suc k) (λ e. d (omega (arith, e)))) in
+      omega (arith, head, rest)
+
+-- what is removed after a write was there before it
+removed : {O : Type 0} → (slots after : Slab O) (key : ℕ) (now : O) → Updates (with_value slots key now) after key None → Updates slots after key None
+removed slots after key now p = record {
+  changed = p.changed;
+  others = λ other differs. p.others other differs ∙ get_or-set_other slots.slots key other (Some now) None differs;
+}
+
+module _ {S W J E : Type 0} (Serves : W → J → W → E → Type 0) (service : S) where
+  pub desk_new : (taken : List (NumberedJob J)) (told : List (NumberedEnd E)) (refused : List ℕ) (first last : W) (seats : Slab (SeatView S J)) → taken ≡ [] → told ≡ [] → refused ≡ [] → last ≡ first → seats.slots ≡ []
+      → DeskStands Serves service taken told refused first last seats
+  desk_new taken told refused first last seats t o r w s = record {
+    turns = [];
+    chained = w;
+    each = subst (λ (l : List (NumberedEnd E)). Pairwise (IsTurnOfTaken {W = W} taken) [] l) (sym o) tt;
+    seated = λ slot. subst (λ (l : List (Option (SeatView S J))). IfSome (slice_index_or l slot None) (IsSeated service taken)) (sym s) tt;
+    counted =
+        let open_none : slab_len seats ≡ 0 = ap (λ (l : List (Option (SeatView S J))). count_by is_some l) s in
+        let taken_none : length taken ≡ 0 = ap length t in
+        let refused_none : length refused ≡ 0 = ap length r in
+        omega (arith, open_none, taken_none, refused_none);
+    once = λ wt.
+        let a : weight_told wt told ≡ 0 = ap (weight_told wt) o in
+        let b : weight_refused wt refused ≡ 0 = ap (weight_refused wt) r in
+        let d : weight_seats wt seats.slots ≡ 0 = ap (weight_seats wt) s in
+        let e : weight_of wt taken ≡ 0 = ap (weight_of wt) t in
+        omega (arith, a, b, d, e);
+  }
+
+  module _ (taken taken' : List (NumberedJob J)) (told told' : List (NumberedEnd E)) (refused refused' : List ℕ) (first last last' : W) (seats seats' : Slab (SeatView S J)) (next : NumberedJob J)
+      (takes : taken' ≡ taken ++ next ∷ []) (same_told : told' ≡ told) (same_worker : last' ≡ last) (p : DeskStands Serves service taken told refused first last seats) where
+    abbrev still_each : Pairwise (IsTurnOfTaken taken') p.turns told'
+    still_each =
+        subst (λ (l : List (NumberedJob J)). Pairwise (IsTurnOfTaken l) p.turns told') (sym takes)
+        (subst (λ (l : List (NumberedEnd E)). Pairwise (IsTurnOfTaken (taken ++ next ∷ [])) p.turns l) (sym same_told)
+        (pairs_more (taken_more taken (next ∷ [])) p.turns told p.each))
+
+    abbrev still_seated : AreSeated service taken' seats
+    still_seated = λ slot. subst (λ (l : List (NumberedJob J)). IfSome (get seats slot) (IsSeated service l)) (sym takes) (seated_if service taken (next ∷ []) (get seats slot) (p.seated slot))
+
+    abbrev one_more : length taken' ≡ length taken + 1
+    one_more = ap length takes ∙ length-append taken (next ∷ [])
+
+    -- a job was taken, and refused
+    abbrev more_taken_by : (wt : ℕ → ℕ) → weight_of wt taken' ≡ weight_of wt taken + (wt next.number + 0)
+    more_taken_by wt = ap (weight_of wt) takes ∙ weights_join wt taken (next ∷ [])
+
+    pub desk_refused : (n : ℕ) → n ≡ next.number → refused' ≡ refused ++ n ∷ [] → seats' ≡ seats → DeskStands Serves service taken' told' refused' first last' seats'
+    desk_refused n is r s = subst (λ (x : Slab (SeatView S J)). DeskStands Serves service taken' told' refused' first last' x) (sym s) (record {
+      turns = p.turns;
+      chained = subst (TurnChain Serves first p.turns) (sym same_worker) p.chained;
+      each = still_each;
+      seated = still_seated;
+      counted =
+          let count = p.counted in
+          let more : length refused' ≡ length refused + 1 = ap length r ∙ length-append refused (n ∷ []) in
+          omega (arith, count, more, one_more);
+      once = λ wt.
+          let before = p.once wt in
+          let more = more_taken_by wt in
+          let put : weight_refused wt refused' ≡ weight_refused wt refused + wt n = ap (weight_refused wt) r ∙ refused_more wt refused n in
+          let same : wt n ≡ wt next.number = ap wt is in
+          let still : weight_told wt told' ≡ weight_told wt told = ap (weight_told wt) same_told in
+          omega (arith, before, more, put, same, still);
+    })
+
+    -- a job was taken, and opened
+    pub desk_opened : (slot : ℕ) (seat : SeatView S J) → refused' ≡ refused → seat.service ≡ service → seat.number ≡ next.number → seat.job ≡ next.job → get seats slot ≡ None → Updates seats seats' slot (Some seat) → slab_len seats' ≡ slab_len seats + 1
+        → DeskStands Serves service taken' told' refused' first last' seats'
+    desk_opened slot seat r of_service number job vacant updates len =
+        let at : slice_get taken' (length taken) ≡ Some next = subst (λ (l : List (NumberedJob J)). slice_get l (length taken) ≡ Some next) (sym takes) (get-last taken next) in
+        record {
+          turns = p.turns;
+          chained = subst (TurnChain Serves first p.turns) (sym same_worker) p.chained;
+          each = still_each;
+          seated = seated_now service taken' seats seats' slot (Some seat) updates (record { of_service = of_service; place = length taken; next = next; at = at; number = number; job = job }) still_seated;
+          counted =
+              let count = p.counted in
+              let same : length refused' ≡ length refused = ap length r in
+              omega (arith, count, same, one_more, len);
+          once = λ wt.
+              let before = p.once wt in
+              let more = more_taken_by wt in
+              let put = slots_updated wt seats.slots seats'.slots slot (Some seat) updates.changed updates.others in
+              let was : weight_slot wt (get seats slot) ≡ 0 = ap (weight_slot wt) vacant in
+              let same : wt seat.number ≡ wt next.number = ap wt number in
+              let kept : weight_refused wt refused' ≡ weight_refused wt refused = ap (weight_refused wt) r in
+              let still : weight_told wt told' ≡ weight_told wt told = ap (weight_told wt) same_told in
+              omega (arith, before, more, put, was, same, kept, still);
+        }
+
+  module _ (taken : List (NumberedJob J)) (told : List (NumberedEnd E)) (refused : List ℕ) (first last last' : W) (seats : Slab (SeatView S J)) (slot : ℕ) (seat now : SeatView S J)
+      (found : get seats slot ≡ Some seat) (same : now ≡ record seat { ended = now.ended }) (p : DeskStands Serves service taken told refused first last seats) where
+    abbrev was : IsSeated service taken seat
+    was = seat_at service taken seats slot seat p.seated found
+
+    abbrev is_now : IsSeated service taken now
+    is_now = subst (IsSeated service taken) (sym same) (record { of_service = was.of_service; place = was.place; next = was.next; at = was.at; number = was.number; job = was.job })
+
+    pub same_len : slab_len (with_value seats slot now) ≡ slab_len seats
+    same_len = count-set seats.slots slot seat now found
+
+    -- an open job took a step
+    pub desk_stepped : last' ≡ last → DeskStands Serves service taken told refused first last' (with_value seats slot now)
+    desk_stepped w = record {
+      turns = p.turns;
+      chained = subst (TurnChain Serves first p.turns) (sym w) p.chained;
+      each = p.each;
+      seated = seated_now service taken seats (with_value seats slot now) slot (Some now) (Updates-with_value seats slot now (ap is_some found)) is_now p.seated;
+      counted = let count = p.counted in omega (arith, count, same_len);
+      once = λ wt.
+          let before = p.once wt in
+          let updates = Updates-with_value seats slot now (ap is_some found) in
+          let put = slots_updated wt seats.slots (with_value seats slot now).slots slot (Some now) updates.changed updates.others in
+          let had : weight_slot wt (get seats slot) ≡ wt seat.number = ap (weight_slot wt) found in
+          let number : wt now.number ≡ wt seat.number = ap (λ (v : SeatView S J). wt v.number) same in
+          omega (arith, before, put, had, number);
+    }
+
+    -- and came to its end
+    pub desk_ended : (mid : W) (after : Slab (SeatView S J)) (told' : List (NumberedEnd E)) (one : NumberedEnd E) → mid ≡ last → Serves mid now.job last' one.end → one.number ≡ now.number → told' ≡ told ++ one ∷ []
+        → Updates (with_value seats slot now) after slot None → slab_len after + 1 ≡ slab_len (with_value seats slot now) → DeskStands Serves service taken told' refused first last' after
+    desk_ended mid after told' one w serves number tells updates len =
+        let s = is_now in
+        let job : now.job ≡ s.next.job = s.job in
+        let turn : ServedTurn W J E = record { before = mid; job = now.job; after = last'; end = one.end } in
+        record {
+          turns = p.turns ++ turn ∷ [];
+          chained = chain_more Serves first p.turns mid now.job last' one.end (subst (TurnChain Serves first p.turns) (sym w) p.chained) serves;
+          each = subst (λ (l : List (NumberedEnd E)). Pairwise (IsTurnOfTaken taken) (p.turns ++ turn ∷ []) l) (sym tells)
+              (pairs_snoc (IsTurnOfTaken taken) p.turns told turn one p.each (record { place = s.place; next = s.next; at = s.at; number = number ∙ s.number; job = job; end = refl }));
+          seated = seated_now service taken seats after slot None (removed seats after slot now updates) tt p.seated;
+          counted =
+              let count = p.counted in
+              let more : length (p.turns ++ turn ∷ []) ≡ length p.turns + 1 = length-append p.turns (turn ∷ []) in
+              omega (arith, count, more, len, same_len);
+          once = λ wt.
+              let before = p.once wt in
+              let gone = removed seats after slot now updates in
+              let put = slots_updated wt seats.slots after.slots slot None gone.changed gone.others in
+              let had : weight_slot wt (get seats slot) ≡ wt seat.number = ap (weight_slot wt) found in
+              let same_number : wt now.number ≡ wt seat.number = ap (λ (v : SeatView S J). wt v.number) same in
+              let one_number : wt one.number ≡ wt now.number = ap wt number in
+              let more : weight_told wt told' ≡ weight_told wt told + wt one.number = ap (weight_told wt) tells ∙ told_more wt told one in
+              omega (arith, before, put, had, same_number, one_number, more);
+        }
+
+  -- where none is open, this was served
+  pub desk_done : (taken : List (NumberedJob J)) (told : List (NumberedEnd E)) (refused : List ℕ) (first last : W) (seats : Slab (SeatView S J)) → DeskStands Serves service taken told refused first last seats → HasServed Serves taken told first last
+  desk_done taken told refused first last seats p = let count = p.counted in record { turns = p.turns; chained = p.chained; each = p.each; count = omega (arith, count) }

@@ -1,0 +1,66 @@
+-- The jobs that a worker has open.
+use Rattle.std.specs.Prelude.{◌≡◌, ◌+◌, ℕ, Bool, List, [], ◌∷◌, Option, Some, None, IfSome, length, slice_get}
+use Rattle.slab.specs.Slab.{Slab, get, slab_len}
+use Rattle.job_pool.specs.Lists.{Pairwise}
+use Rattle.job_pool.specs.Turns.{ServedTurn, TurnChain}
+use Rattle.job_pool.specs.Ends.{IsTurnOfTaken}
+use Rattle.job_pool.specs.Queue.{weight_of}
+use Rattle.job_pool.specs.declared.queue.NumberedJob.{NumberedJob}
+use Rattle.job_pool.specs.declared.worker.NumberedEnd.{NumberedEnd}
+
+-- the service of an open job, its number, the job as it was given, and whether it is over
+pub record SeatView (S J : Type 0) : Type 0 where
+  pub service : S
+  pub number : ℕ
+  pub job : J
+  pub ended : Bool
+
+-- the worker's state at its start and now, the open jobs by slot, the sink, which jobs were taken, and the numbers of those that were refused
+pub record DeskView (S W J K : Type 0) : Type 0 where
+  pub service : S
+  pub first : W
+  pub worker : W
+  pub seats : Slab (SeatView S J)
+  pub sink : K
+  pub taken : List (NumberedJob J)
+  pub refused : List ℕ
+
+module _ {S J : Type 0} where
+  -- an open job of this service is one of those that were taken, under its number
+  pub record IsSeated (service : S) (taken : List (NumberedJob J)) (seat : SeatView S J) : Type 0 where
+    pub of_service : seat.service ≡ service
+    pub place : ℕ
+    pub next : NumberedJob J
+    pub at : slice_get taken place ≡ Some next
+    pub number : seat.number ≡ next.number
+    pub job : seat.job ≡ next.job
+
+  abbrev pub AreSeated : S → List (NumberedJob J) → Slab (SeatView S J) → Type 0
+  AreSeated service taken seats = (slot : ℕ) → IfSome (get seats slot) (IsSeated service taken)
+
+-- the weights of the numbers of these ends, of these refused jobs, and of what is open, together
+abbrev pub weight_told : {E : Type 0} → (ℕ → ℕ) → List (NumberedEnd E) → ℕ
+weight_told w [] = 0
+weight_told w (one ∷ rest) = w one.number + weight_told w rest
+
+abbrev pub weight_refused : (ℕ → ℕ) → List ℕ → ℕ
+weight_refused w [] = 0
+weight_refused w (n ∷ rest) = w n + weight_refused w rest
+
+abbrev pub weight_slot : {S J : Type 0} → (ℕ → ℕ) → Option (SeatView S J) → ℕ
+weight_slot w None = 0
+weight_slot w (Some seat) = w seat.number
+
+abbrev pub weight_seats : {S J : Type 0} → (ℕ → ℕ) → List (Option (SeatView S J)) → ℕ
+weight_seats w [] = 0
+weight_seats w (slot ∷ rest) = weight_slot w slot + weight_seats w rest
+
+-- A worker that took these jobs has served some of them, to these ends, and has come from the first state to the last; each of the others is
+-- open or was refused; and each that was taken is just one of these, once, since whatever its number weighs, the sums are the same.
+pub record DeskStands {S W J E : Type 0} (Serves : W → J → W → E → Type 0) (service : S) (taken : List (NumberedJob J)) (told : List (NumberedEnd E)) (refused : List ℕ) (first last : W) (seats : Slab (SeatView S J)) : Type 0 where
+  pub turns : List (ServedTurn W J E)
+  pub chained : TurnChain Serves first turns last
+  pub each : Pairwise (IsTurnOfTaken taken) turns told
+  pub seated : AreSeated service taken seats
+  pub counted : length turns + length refused + slab_len seats ≡ length taken
+  pub once : (w : ℕ → ℕ) → weight_told w told + weight_refused w refused + weight_seats w seats.slots ≡ weight_of w taken

@@ -1,0 +1,207 @@
+//! The jobs that a worker has open.
+ghost use Rattle.std.specs.Prelude.{◌≡◌, ◌+◌, ◌==◌, ◌∷◌, ◌++◌, [], true};
+ghost use Rattle.slab.specs.Slab.{slab_len, HasRoomFor};
+ghost use Rattle.job_pool.specs.Ends.{HasServed};
+
+use crate::queue::NumberedJob;
+use crate::seat::Seat;
+use crate::service::{Moved, Service};
+use crate::sink::Sink;
+use ghost_state::GhostList;
+use slab::Slab;
+use std::alloc::Global;
+use std::marker::Model;
+use std::snapshot::Snapshot;
+
+/// How many steps a job takes at most before others have their turn.
+const MAX_STEPS_PER_TURN: u32 = 64;
+
+/// The jobs that a worker has open, each in a slot, the worker's state, and what is told the ends.
+///
+/// Each job that was taken is open, or its end was told, or it was refused, once.
+#[derive(Drop)]
+pub(crate) struct Desk<'a, S: Service, K: Sink<S>> {
+    service: &'a S,
+    first: Snapshot<S::Worker>,
+    worker: S::Worker,
+    seats: Slab<Seat<S>>,
+    sink: K,
+    taken: GhostList<NumberedJob<S::Job>>,
+    refused: GhostList<usize>,
+}
+
+impl<'a, S: Service, K: Sink<S>> Model for Desk<'a, S, K> {
+    ghost use Rattle.slab.specs.Slab.{slab_len};
+    ghost use Rattle.job_pool.specs.Desks.{DeskView, DeskStands};
+
+    ghost Value = { DeskView S S.Worker S.Job K };
+
+    ghost view = { λ d. record {
+      service = d.service.now;
+      first = d.first.value;
+      worker = d.worker;
+      seats = d.seats;
+      sink = d.sink;
+      taken = d.taken;
+      refused = d.refused;
+    } };
+
+    ghost invariant = { λ d. DeskStands (S.serves d.service.now) d.service.now d.taken
+        (K.told d.sink) d.refused d.first.value d.worker d.seats
+        × K.has_room d.sink (slab_len d.seats) };
+}
+
+impl<'a, S: Service, K: Sink<S> + Drop> Desk<'a, S, K> {
+    /// No job is open, and none was taken.
+    pub(crate) fn new(alloc: Global, service: &'a S, worker: S::Worker, sink: K) -> Desk<'a, S, K>
+        requires none { K.told sink ≡ [] }
+        requires room { K.has_room sink 0 }
+        ensures service { result.service ≡ service.now }
+        ensures first { result.first ≡ worker }
+        ensures taken { result.taken ≡ [] }
+        ensures none_open { slab_len result.seats ≡ 0 }
+    {
+        Desk {
+            service,
+            first: Snapshot::of(&worker),
+            worker,
+            seats: Slab::new(alloc),
+            sink,
+            taken: GhostList::new(),
+            refused: GhostList::new(),
+        }
+    }
+
+    /// Whether no job is open.
+    pub(crate) fn is_empty(&self) -> bool
+        ensures { result ≡ (slab_len self.now.seats == 0) }
+    {
+        self.seats.is_empty()
+    }
+
+    /// The job that is open in a slot, if one is.
+    pub(crate) fn opened(&self, slot: usize) -> Option<&S::Open> {
+        match self.seats.get(slot) {
+            Some(seat) => Some(seat.opened()),
+            None => None,
+        }
+    }
+
+    /// Makes room for one job more, and for its end; once more where the service gives memory up for that. False where memory is refused.
+    pub(crate) fn reserve(&mut self, alloc: Global) -> bool
+        ensures room { result ≡ true → HasRoomFor self.new.seats 1
+            × K.has_room self.new.sink (slab_len self.new.seats + 1) }
+        ensures service { self.new.service ≡ self.old.service }
+        ensures first { self.new.first ≡ self.old.first }
+        ensures taken { self.new.taken ≡ self.old.taken }
+    {
+        self.reserve_one() || (self.service.make_room(alloc, &self.worker) && self.reserve_one())
+    }
+
+    /// Makes room for one job more, and for its end. False where memory is refused.
+    fn reserve_one(&mut self) -> bool
+        ensures room { result ≡ true → HasRoomFor self.new.seats 1
+            × K.has_room self.new.sink (slab_len self.new.seats + 1) }
+        ensures service { self.new.service ≡ self.old.service }
+        ensures first { self.new.first ≡ self.old.first }
+        ensures taken { self.new.taken ≡ self.old.taken }
+    {
+        if self.seats.reserve(1).is_err() {
+            return false;
+        }
+        let _capacity = self.seats.capacity();
+        let open = self.seats.len() + 1;
+        self.sink.make_room(open)
+    }
+
+    /// Opens a job that was taken, where there is room for it, and returns its slot. None where it is refused, which the sink is told.
+    pub(crate) fn begin(
+        &mut self,
+        alloc: Global,
+        next: NumberedJob<S::Job>,
+        has_room: bool,
+    ) -> Option<usize>
+        requires accepts { S.accepts self.old.service next.job }
+        requires room { has_room ≡ true → HasRoomFor self.old.seats 1
+            × K.has_room self.old.sink (slab_len self.old.seats + 1) }
+        ensures service { self.new.service ≡ self.old.service }
+        ensures first { self.new.first ≡ self.old.first }
+        ensures taken { self.new.taken ≡ self.old.taken ++ next ∷ [] }
+    {
+        self.taken.push(&next);
+        let NumberedJob { number, job } = next;
+        let service = self.service;
+        if !has_room {
+            self.refused.push(&number);
+            self.sink.refuse(service, number, job);
+            return None;
+        }
+        let asked = Snapshot::of(&job);
+        match service.open(alloc, &mut self.worker, job) {
+            Ok(opened) => {
+                let seat = Seat::new(service, number, asked, opened);
+                Some(self.seats.insert_reserved(seat))
+            }
+            Err(job) => {
+                self.refused.push(&number);
+                self.sink.refuse(service, number, job);
+                None
+            }
+        }
+    }
+
+    /// Takes one step of the job in a slot. Its end, if it comes to that, is told the sink, and the slot is free. In a slot that is free
+    /// nothing is done.
+    pub(crate) fn step(&mut self, alloc: Global, slot: usize, may_wait: bool) -> Moved
+        ensures service { self.new.service ≡ self.old.service }
+        ensures first { self.new.first ≡ self.old.first }
+        ensures taken { self.new.taken ≡ self.old.taken }
+    {
+        let service = self.service;
+        let Some(seat) = self.seats.get_mut(slot) else {
+            return Moved::Waits;
+        };
+        match seat.step(service, alloc, &mut self.worker, may_wait) {
+            Moved::Going => return Moved::Going,
+            Moved::Waits => return Moved::Waits,
+            Moved::Over => {}
+        }
+        let seat = self.seats.remove(slot);
+        let (number, job, end) = seat.close(service, &mut self.worker);
+        self.sink.tell(service, number, job, end);
+        Moved::Over
+    }
+
+    /// Takes steps of the job in a slot until it ends or would have to wait, or others are to have their turn.
+    pub(crate) fn take_turn(&mut self, alloc: Global, slot: usize, may_wait: bool) -> Moved
+        ensures service { self.new.service ≡ self.old.service }
+        ensures first { self.new.first ≡ self.old.first }
+        ensures taken { self.new.taken ≡ self.old.taken }
+    {
+        for _ in 0..MAX_STEPS_PER_TURN {
+            match self.step(alloc, slot, may_wait) {
+                Moved::Going => {}
+                moved => return moved,
+            }
+        }
+        Moved::Going
+    }
+
+    /// The worker's last state, and the sink, where no job is open.
+    pub(crate) fn into_parts(self) -> (S::Worker, K)
+        requires { slab_len self.seats ≡ 0 }
+        ensures { HasServed (S.serves self.entry.service) self.entry.taken
+            (K.told result.1) self.entry.first result.0 }
+    {
+        let Desk {
+            service: _,
+            first: _,
+            worker,
+            seats: _,
+            sink,
+            taken: _,
+            refused: _,
+        } = self;
+        (worker, sink)
+    }
+}
