@@ -9,9 +9,9 @@ use Rattle.slab.proofs.SlabLemmas.{Updates-with_value}
 use Rattle.ghost_state.proofs.Lists.{get-before, get-last}
 use Rattle.job_pool.specs.Lists.{Pairwise}
 use Rattle.job_pool.specs.Turns.{ServedTurn, TurnChain}
-use Rattle.job_pool.specs.Ends.{IsTurnOfTaken, HasServed}
+use Rattle.job_pool.specs.Ends.{IsTurnOfTaken, IsCount, HasWorked, weight_told, weight_refused}
 use Rattle.job_pool.specs.Queue.{weight_of}
-use Rattle.job_pool.specs.Desks.{SeatView, IsSeated, AreSeated, DeskStands, weight_told, weight_refused, weight_slot, weight_seats}
+use Rattle.job_pool.specs.Desks.{SeatView, IsSeated, AreSeated, DeskStands, weight_slot, weight_seats}
 use Rattle.job_pool.proofs.Rule.{weights_join}
 use Rattle.job_pool.specs.declared.queue.NumberedJob.{NumberedJob}
 use Rattle.job_pool.specs.declared.worker.NumberedEnd.{NumberedEnd}
@@ -64,6 +64,11 @@ module _ {S J : Type 0} (w : ℕ → ℕ) where
   slots_same [] (n ∷ ns) h = let head : weight_slot w n ≡ 0 = ap (weight_slot w) (h 0) in let rest : weight_seats w ns ≡ 0 = slots_same [] ns (λ k. h (suc k)) in omega (arith, head, rest)
   slots_same (o ∷ os) [] h = let head : 0 ≡ weight_slot w o = ap (weight_slot w) (h 0) in let rest : 0 ≡ weight_seats w os = slots_same os [] (λ k. h (suc k)) in omega (arith, head, rest)
   slots_same (o ∷ os) (n ∷ ns) h = let head : weight_slot w n ≡ weight_slot w o = ap (weight_slot w) (h 0) in let rest = slots_same os ns (λ k. h (suc k)) in omega (arith, head, rest)
+
+  none_open : (slots : List (Option (SeatView S J))) → count_by is_some slots ≡ 0 → weight_seats w slots ≡ 0
+  none_open [] none = refl
+  none_open (None ∷ slots) none = let rest = none_open slots (omega (arith, none, sum_by-cons (λ o. cond (is_some o) 1 0) None slots)) in omega (arith, rest)
+  none_open (Some seat ∷ slots) none = absurd (omega (arith, none, sum_by-cons (λ o. cond (is_some o) 1 0) (Some seat) slots))
 
   -- one slot has this now
   slots_updated : (old new : List (Option (SeatView S J))) (key : ℕ) (o : Option (SeatView S J)) → get_or new key None ≡ o → ((k : ℕ) → k ≢ key → get_or new k None ≡ get_or old k None) → weight_seats w new + weight_slot w (get_or old key None) ≡ weight_seats w old + weight_slot w o
@@ -240,6 +245,15 @@ module _ {S W J E : Type 0} (Serves : W → J → W → E → Type 0) (service :
               omega (arith, before, put, had, same_number, one_number, more);
         }
 
-  -- where none is open, this was served
-  pub desk_done : (taken : List (NumberedJob J)) (told : List (NumberedEnd E)) (refused : List ℕ) (first last : W) (seats : Slab (SeatView S J)) → DeskStands Serves service taken told refused first last seats → HasServed Serves taken told first last
-  desk_done taken told refused first last seats p = let count = p.counted in record { turns = p.turns; chained = p.chained; each = p.each; count = omega (arith, count) }
+  -- where none is open, each was served or refused
+  pub desk_done : (taken : List (NumberedJob J)) (told : List (NumberedEnd E)) (refused : List ℕ) (first last : W) (seats : Slab (SeatView S J)) (took away : ℕ) → DeskStands Serves service taken told refused first last seats
+      → slab_len seats ≡ 0 → IsCount took (length taken) → IsCount away (length refused) → HasWorked Serves taken told took away first last
+  desk_done taken told refused first last seats took away p empty all others = record {
+    turns = p.turns;
+    refusals = refused;
+    chained = p.chained;
+    each = p.each;
+    once = λ w. let before = p.once w in let none = none_open w seats.slots empty in omega (arith, before, none);
+    all = all;
+    others = others;
+  }

@@ -9,12 +9,16 @@ use Rattle.job_pool.specs.Turns.{ServedTurn, TurnChain, jobs_of, ends_of}
 use Rattle.job_pool.specs.declared.queue.NumberedJob.{NumberedJob}
 use Rattle.job_pool.specs.declared.worker.NumberedEnd.{NumberedEnd}
 use Rattle.job_pool.specs.Queue.{IsNumbered}
-use Rattle.job_pool.specs.Ends.{IsTurnOfTaken, IsTurnOfGiven, AreFilled, AreCollected, HasServed, placed}
-use Rattle.ghost_state.proofs.Lists.{get-before, get-last}
-use Rattle.job_pool.proofs.Lists.{all_at, pairs_more, pairs_snoc}
+use Rattle.job_pool.specs.Ends.{IsTurnOfTaken, IsTurnOfGiven, AreFilled, AreCollected, placed}
+use Rattle.ghost_state.proofs.Lists.{get-before}
+use Rattle.job_pool.proofs.Lists.{all_at, pairs_more}
 use Rattle.std.proofs.lemmas.Option.{none-some as none_some}
 
 module _ {E : Type 0} where
+  pub placed_join : (places : List (Option E)) (ends more : List (NumberedEnd E)) → placed places (ends ++ more) ≡ placed (placed places ends) more
+  placed_join places [] more = refl
+  placed_join places (one ∷ ends) more = placed_join (slice_set places one.number (Some one.end)) ends more
+
   pub placed_length : (places : List (Option E)) (ends : List (NumberedEnd E)) → length (placed places ends) ≡ length places
   placed_length places [] = refl
   placed_length places (one ∷ rest) = placed_length (slice_set places one.number (Some one.end)) rest ∙ length-set places one.number (Some one.end)
@@ -44,26 +48,6 @@ module _ {W J E : Type 0} where
         → TurnChain Serves first (turns ++ record { before = mid; job = job; after = last; end = end } ∷ []) last
     chain_more first [] mid job last end is serves = (is, serves, refl)
     chain_more first (turn ∷ turns) mid job last end h serves = (h.0, h.1, chain_more turn.after turns mid job last end h.2 serves)
-
-    -- more was taken
-    pub more_taken : (taken more : List (NumberedJob J)) (ends : List (NumberedEnd E)) (first last : W) → HasServed Serves taken ends first last → HasServed Serves (taken ++ more) ends first last
-    more_taken taken more ends first last h =
-        let long = length-append taken more in let count = h.count in
-        record { turns = h.turns; chained = h.chained; each = pairs_more (taken_more taken more) h.turns ends h.each; count = omega (arith, long, count) }
-
-    -- the job that was taken last was served
-    pub one_served : (taken : List (NumberedJob J)) (ends : List (NumberedEnd E)) (first mid last : W) (next : NumberedJob J) (done : NumberedEnd E)
-        → done.number ≡ next.number → HasServed Serves taken ends first mid → Serves mid next.job last done.end → HasServed Serves (taken ++ next ∷ []) (ends ++ done ∷ []) first last
-    one_served taken ends first mid last next done number h serves =
-        let turn : ServedTurn W J E = record { before = mid; job = next.job; after = last; end = done.end } in
-        let long = length-append taken (next ∷ []) in let longer = length-append h.turns (turn ∷ []) in let count = h.count in
-        record {
-          turns = h.turns ++ turn ∷ [];
-          chained = chain_more first h.turns mid next.job last done.end h.chained serves;
-          each = pairs_snoc (IsTurnOfTaken (taken ++ next ∷ [])) h.turns ends turn done (pairs_more (taken_more taken (next ∷ [])) h.turns ends h.each)
-              (record { place = length taken; next = next; at = get-last taken next; number = number; job = refl; end = refl });
-          count = omega (arith, long, longer, count);
-        }
 
   -- none has ended
   pub collected_none : (jobs : List J) (places : List (Option E)) → Every (λ place. place ≡ None) places → length places ≤ length jobs → AreCollected {W = W} jobs [] places

@@ -3,8 +3,13 @@ use Rattle.std.proofs.Common.{◌≡◌, List, [], ◌∷◌, ◌++◌, refl, su
 use Rattle.std.specs.Prelude.{Option, Some, Result, Ok, Err, IfOk, IfErr}
 use Rattle.job_pool.specs.declared.fault.RunFault.{RunFault}
 use Rattle.job_pool.specs.declared.fault.RunFault.TheVariants.{NoMemory, NoThread, JobsFailed}
-use Rattle.job_pool.specs.Giving.{Gave, GaveAll, Leaves, ServedThenFailed, StoppedAfter}
-use Rattle.job_pool.specs.Workers.{IsOfStart}
+use Rattle.job_pool.specs.Giving.{Gave, GaveAll, AllServedOnce, Leaves, ServedThenFailed, StoppedAfter}
+use Rattle.job_pool.specs.Ends.{AreInOrder, told_by}
+use Rattle.job_pool.specs.Telling.{ToldOnce, TellsGiven}
+use Rattle.job_pool.specs.declared.told.Told.{Told}
+use Rattle.job_pool.specs.declared.worker.NumberedEnd.{NumberedEnd}
+use Rattle.job_pool.proofs.Joining.{all_ordered}
+use Rattle.job_pool.specs.Workers.{IsOfRun}
 
 module _ {G J F : Type 0} (Gives : G → Result (Option J) F → G → Type 0) where
   pub gave_more : (first : G) (jobs : List J) (next : G) (job : J) (last : G) → Gave Gives first jobs next → Gives next (Ok (Some job)) last → Gave Gives first (jobs ++ job ∷ []) last
@@ -12,18 +17,54 @@ module _ {G J F : Type 0} (Gives : G → Result (Option J) F → G → Type 0) w
   gave_more first (one ∷ jobs) next job last h more = (h.0, h.1, gave_more h.0 jobs next job last h.2 more)
 
   -- before a job was taken the source is as it was
-  pub none_taken : (fault : RunFault) (first : G) → IsOfStart fault → Leaves Gives fault first first
+  pub none_taken : (fault : RunFault) (first : G) → IsOfRun fault → Leaves Gives fault first first
   none_taken NoMemory first h = ([], inl (inl refl))
   none_taken NoThread first h = refl
   none_taken JobsFailed first h = absurd h
 
-  -- and no source has failed
-  pub none_failed : {W E : Type 0} (Serves : W → J → W → E → Type 0) (firsts : List W) (fault : RunFault) (first last : G) → IsOfStart fault → fault ≡ JobsFailed → ServedThenFailed Gives Serves first firsts last
-  none_failed Serves firsts fault first last h is = absurd (subst IsOfStart is h)
+  -- behind this fault
+  pub stops : (fault : RunFault) (first : G) (jobs : List J) (last : G) → StoppedAfter Gives fault first jobs last → Leaves Gives fault first last
+  stops NoMemory first jobs last h = h
+  stops NoThread first jobs last h = absurd h
+  stops JobsFailed first jobs last h = (jobs, h)
 
-  -- behind the last job, or behind a fault, the ends were refused memory
-  pub refused : (first : G) (jobs : List J) (last : G) (given : Result (Unit {0}) RunFault) → IfOk given (λ _. GaveAll Gives first jobs last) → IfErr given (λ fault. StoppedAfter Gives fault first jobs last) → Leaves Gives NoMemory first last
+  -- behind the last job, or behind a fault, memory was refused
+  pub refused : (first : G) (jobs : List J) (last : G) (stopped : Result (Unit {0}) RunFault) → IfOk stopped (λ _. GaveAll Gives first jobs last) → IfErr stopped (λ fault. StoppedAfter Gives fault first jobs last) → Leaves Gives NoMemory first last
   refused first jobs last (Ok u) all h = (jobs, inr all)
   refused first jobs last (Err NoMemory) all h = h
   refused first jobs last (Err NoThread) all h = absurd h
   refused first jobs last (Err JobsFailed) all h = (jobs, inl (inr h))
+
+  -- the run's own fault isn't the source's
+  pub own_fault : {P : Type 0} (fault : RunFault) → IsOfRun fault → fault ≡ JobsFailed → P
+  own_fault fault h is = absurd (subst IsOfRun is h)
+
+  module _ {W E K : Type 0} (Serves : W → J → W → E → Type 0) (told : K → List (NumberedEnd E)) (first : G) (firsts : List W) (done : Told W K) (last : G) where
+    abbrev Telling : Result (Unit {0}) RunFault → Type 0
+    Telling stopped = TellsGiven Serves told Gives first firsts done stopped last
+
+    -- what each worker took was told
+    pub told_all : (jobs : List J) (stopped : Result (Unit {0}) RunFault) → IfOk stopped (λ _. GaveAll Gives first jobs last) → IfErr stopped (λ fault. StoppedAfter Gives fault first jobs last)
+        → ToldOnce Serves told jobs firsts done.workers.items done.sinks.items done.given done.refused → Telling stopped
+    told_all jobs (Ok u) all h once = (jobs, all, once)
+    told_all jobs (Err fault) all h once = (jobs, h, once)
+
+    pub told_some : (stopped : Result (Unit {0}) RunFault) → Telling stopped → Leaves Gives NoMemory first last
+    told_some (Ok u) h = refused first h.0 last (Ok u) h.1 tt
+    told_some (Err fault) h = refused first h.0 last (Err fault) tt h.1
+
+    pub told_stopped : (fault : RunFault) → Telling (Err fault) → Leaves Gives fault first last
+    told_stopped fault h = stops fault first h.0 last h.1
+
+    module _ (ends : List E) (order : AreInOrder done.given (told_by told done.sinks.items) ends) where
+      pub told_served : (u : Unit {0}) → Telling (Ok u) → AllServedOnce Gives Serves first firsts ends done.workers.items last
+      told_served u h = (h.0, h.1, all_ordered Serves told h.0 firsts done.workers.items done.sinks.items done.given done.refused ends h.2 order)
+
+      pub told_failed : (fault : RunFault) → fault ≡ JobsFailed → Telling (Err fault) → ServedThenFailed Gives Serves first firsts last
+      told_failed fault is h = (
+        h.0,
+        subst (λ f. StoppedAfter Gives f first h.0 last) is h.1,
+        ends,
+        done.workers.items,
+        all_ordered Serves told h.0 firsts done.workers.items done.sinks.items done.given done.refused ends h.2 order,
+      )

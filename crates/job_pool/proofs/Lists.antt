@@ -1,5 +1,5 @@
 -- Lists: what each element has, and what stands at an index.
-use Rattle.std.proofs.Common.{◌≡◌, ℕ, zero, suc, List, [], ◌∷◌, ◌++◌, subst}
+use Rattle.std.proofs.Common.{◌≡◌, ℕ, zero, suc, List, [], ◌∷◌, ◌++◌, length, ap, refl, subst}
 use Rattle.job_pool.specs.Lists.{Every, Pairwise}
 use Rattle.std.specs.Prelude.{Some, slice_get}
 use Rattle.std.proofs.lemmas.Option.{none-some as none_some}
@@ -35,6 +35,18 @@ module _ {A B : Type 0} {P Q : A → B → Type 0} where
   pairs_more f (x ∷ xs) (y ∷ ys) h = (f x y h.0, pairs_more f xs ys h.1)
 
 module _ {A B : Type 0} (P : A → B → Type 0) where
+  pub pairs_length : (xs : List A) (ys : List B) → Pairwise P xs ys → length xs ≡ length ys
+  pairs_length [] [] h = refl
+  pairs_length [] (y ∷ ys) h = absurd h
+  pairs_length (x ∷ xs) [] h = absurd h
+  pairs_length (x ∷ xs) (y ∷ ys) h = ap suc (pairs_length xs ys h.1)
+
+  pub pairs_join : (xs : List A) (ys : List B) (us : List A) (vs : List B) → Pairwise P xs ys → Pairwise P us vs → Pairwise P (xs ++ us) (ys ++ vs)
+  pairs_join [] [] us vs h k = k
+  pairs_join [] (y ∷ ys) us vs h k = absurd h
+  pairs_join (x ∷ xs) [] us vs h k = absurd h
+  pairs_join (x ∷ xs) (y ∷ ys) us vs h k = (h.0, pairs_join xs ys us vs h.1 k)
+
   pub pairs_snoc : (xs : List A) (ys : List B) (x : A) (y : B) → Pairwise P xs ys → P x y → Pairwise P (xs ++ x ∷ []) (ys ++ y ∷ [])
   pairs_snoc [] [] x y h p = (p, tt)
   pairs_snoc [] (v ∷ ys) x y h p = absurd h

@@ -58,10 +58,37 @@ module _ {J : Type 0} where
 
   -- and so with weights
   module _ (w : ℕ → ℕ) where
+    no_jobs : (taken : List (NumberedJob J)) → length taken ≡ 0 → weight_of w taken ≡ 0
+    no_jobs [] none = refl
+    no_jobs (next ∷ taken) none = absurd (omega (arith, none))
+
     weights_set : (views : List (Knowledge J)) (port : ℕ) (v u : Knowledge J) → get_elem? views port ≡ some v → weight_taken w (set views port u) + weight_of w v.taken ≡ weight_taken w views + weight_of w u.taken
     weights_set [] port v u at = absurd (some-ne-none v (sym at))
     weights_set (x ∷ views) zero v u at = let same : weight_of w x.taken ≡ weight_of w v.taken = ap (λ (y : Knowledge J). weight_of w y.taken) (some-injective x v at) in omega (arith, same)
     weights_set (x ∷ views) (suc port) v u at = let rest = weights_set views port v u at in omega (arith, rest)
+
+    -- who has taken all leaves nothing for others
+    none_weigh : (views : List (Knowledge J)) → taken_by views ≡ 0 → weight_taken w views ≡ 0
+    none_weigh [] none = refl
+    none_weigh (x ∷ views) none = let here = no_jobs x.taken (omega (arith, none)) in let rest = none_weigh views (omega (arith, none)) in omega (arith, here, rest)
+
+    all_weigh : (views : List (Knowledge J)) (port : ℕ) (v : Knowledge J) → get_elem? views port ≡ some v → taken_by views ≡ length v.taken → weight_taken w views ≡ weight_of w v.taken
+    all_weigh [] port v at all = absurd (some-ne-none v (sym at))
+    all_weigh (x ∷ views) zero v at all =
+        let same : weight_of w x.taken ≡ weight_of w v.taken = ap (λ (y : Knowledge J). weight_of w y.taken) (some-injective x v at) in
+        let long : length x.taken ≡ length v.taken = ap (λ (y : Knowledge J). length y.taken) (some-injective x v at) in
+        let rest = none_weigh views (omega (arith, all, long)) in
+        omega (arith, same, rest)
+    all_weigh (x ∷ views) (suc port) v at all =
+        let some_of = taken_at views port v at in
+        let here = no_jobs x.taken (omega (arith, all, some_of)) in
+        let rest = all_weigh views port v at (omega (arith, all, some_of)) in
+        omega (arith, here, rest)
+
+    none_waiting : (tasks : List (Task J)) → waiting tasks ≡ 0 → weight_waiting w tasks ≡ 0
+    none_waiting [] none = refl
+    none_waiting (Serve next ∷ tasks) none = absurd (omega (arith, none))
+    none_waiting (Stop ∷ tasks) none = none_waiting tasks none
 
     weights_snoc : (views : List (Knowledge J)) (v : Knowledge J) → weight_taken w (views ++ v ∷ []) ≡ weight_taken w views + weight_of w v.taken
     weights_snoc [] v = omega arith
@@ -164,4 +191,15 @@ module _ {J : Type 0} where
         let mine = h.3 port v at in let some_of = taken_at views port v at in let all = h.4 in
         let given : h.1 ≡ v.given = sym (mine.0 leads).1 in
         let many : length h.1 ≡ length v.given = ap length given in
-        record { numbered = subst (λ (jobs : List J). Every (IsNumbered jobs) v.taken) given mine.1; count = omega (arith, some_of, all, many); once = λ w. let some = weights_at w views port v at in let before = h.5 w in let same : weight_below w (length h.1) ≡ weight_below w (length v.given) = ap (weight_below w) many in omega (arith, some, before, same) }
+        record {
+          numbered = subst (λ (jobs : List J). Every (IsNumbered jobs) v.taken) given mine.1;
+          count = omega (arith, some_of, all, many);
+          once = λ w. let some = weights_at w views port v at in let before = h.5 w in let same : weight_below w (length h.1) ≡ weight_below w (length v.given) = ap (weight_below w) many in omega (arith, some, before, same);
+          all = λ full w.
+              let none : waiting items ≡ 0 = omega (arith, some_of, all, many, full) in
+              let here = all_weigh w views port v at (omega (arith, some_of, all, many, full)) in
+              let left = none_waiting w items none in
+              let before = h.5 w in
+              let same : weight_below w (length h.1) ≡ weight_below w (length v.given) = ap (weight_below w) many in
+              omega (arith, here, left, before, same);
+        }

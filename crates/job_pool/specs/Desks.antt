@@ -3,7 +3,7 @@ use Rattle.std.specs.Prelude.{◌≡◌, ◌+◌, ℕ, Bool, List, [], ◌∷◌
 use Rattle.slab.specs.Slab.{Slab, get, slab_len}
 use Rattle.job_pool.specs.Lists.{Pairwise}
 use Rattle.job_pool.specs.Turns.{ServedTurn, TurnChain}
-use Rattle.job_pool.specs.Ends.{IsTurnOfTaken}
+use Rattle.job_pool.specs.Ends.{IsTurnOfTaken, weight_told, weight_refused}
 use Rattle.job_pool.specs.Queue.{weight_of}
 use Rattle.job_pool.specs.declared.queue.NumberedJob.{NumberedJob}
 use Rattle.job_pool.specs.declared.worker.NumberedEnd.{NumberedEnd}
@@ -38,15 +38,7 @@ module _ {S J : Type 0} where
   abbrev pub AreSeated : S → List (NumberedJob J) → Slab (SeatView S J) → Type 0
   AreSeated service taken seats = (slot : ℕ) → IfSome (get seats slot) (IsSeated service taken)
 
--- the weights of the numbers of these ends, of these refused jobs, and of what is open, together
-abbrev pub weight_told : {E : Type 0} → (ℕ → ℕ) → List (NumberedEnd E) → ℕ
-weight_told w [] = 0
-weight_told w (one ∷ rest) = w one.number + weight_told w rest
-
-abbrev pub weight_refused : (ℕ → ℕ) → List ℕ → ℕ
-weight_refused w [] = 0
-weight_refused w (n ∷ rest) = w n + weight_refused w rest
-
+-- the weights of the numbers of what is open, together
 abbrev pub weight_slot : {S J : Type 0} → (ℕ → ℕ) → Option (SeatView S J) → ℕ
 weight_slot w None = 0
 weight_slot w (Some seat) = w seat.number

@@ -1,12 +1,13 @@
 //! The jobs that a worker has open.
 ghost use Rattle.std.specs.Prelude.{◌≡◌, ◌+◌, ◌==◌, ◌∷◌, ◌++◌, [], true};
 ghost use Rattle.slab.specs.Slab.{slab_len, HasRoomFor};
-ghost use Rattle.job_pool.specs.Ends.{HasServed};
+ghost use Rattle.job_pool.specs.Ends.{HasWorked};
 
 use crate::queue::NumberedJob;
 use crate::seat::Seat;
 use crate::service::{Moved, Service};
 use crate::sink::Sink;
+use crate::worker::Left;
 use ghost_state::GhostList;
 use slab::Slab;
 use std::alloc::Global;
@@ -28,11 +29,15 @@ pub(crate) struct Desk<'a, S: Service, K: Sink<S>> {
     sink: K,
     taken: GhostList<NumberedJob<S::Job>>,
     refused: GhostList<usize>,
+    took: usize,
+    away: usize,
 }
 
 impl<'a, S: Service, K: Sink<S>> Model for Desk<'a, S, K> {
+    ghost use Rattle.std.specs.Prelude.{length};
     ghost use Rattle.slab.specs.Slab.{slab_len};
     ghost use Rattle.job_pool.specs.Desks.{DeskView, DeskStands};
+    ghost use Rattle.job_pool.specs.Ends.{IsCount};
 
     ghost Value = { DeskView S S.Worker S.Job K };
 
@@ -48,7 +53,8 @@ impl<'a, S: Service, K: Sink<S>> Model for Desk<'a, S, K> {
 
     ghost invariant = { λ d. DeskStands (S.serves d.service.now) d.service.now d.taken
         (K.told d.sink) d.refused d.first.value d.worker d.seats
-        × K.has_room d.sink (slab_len d.seats) };
+        × K.has_room d.sink (slab_len d.seats)
+        × IsCount d.took (length d.taken) × IsCount d.away (length d.refused) };
 }
 
 impl<'a, S: Service, K: Sink<S> + Drop> Desk<'a, S, K> {
@@ -69,6 +75,8 @@ impl<'a, S: Service, K: Sink<S> + Drop> Desk<'a, S, K> {
             sink,
             taken: GhostList::new(),
             refused: GhostList::new(),
+            took: 0,
+            away: 0,
         }
     }
 
@@ -129,10 +137,12 @@ impl<'a, S: Service, K: Sink<S> + Drop> Desk<'a, S, K> {
         ensures taken { self.new.taken ≡ self.old.taken ++ next ∷ [] }
     {
         self.taken.push(&next);
+        self.took = self.took.saturating_add(1);
         let NumberedJob { number, job } = next;
         let service = self.service;
         if !has_room {
             self.refused.push(&number);
+            self.away = self.away.saturating_add(1);
             self.sink.refuse(service, number, job);
             return None;
         }
@@ -144,6 +154,7 @@ impl<'a, S: Service, K: Sink<S> + Drop> Desk<'a, S, K> {
             }
             Err(job) => {
                 self.refused.push(&number);
+                self.away = self.away.saturating_add(1);
                 self.sink.refuse(service, number, job);
                 None
             }
@@ -187,11 +198,11 @@ impl<'a, S: Service, K: Sink<S> + Drop> Desk<'a, S, K> {
         Moved::Going
     }
 
-    /// The worker's last state, and the sink, where no job is open.
-    pub(crate) fn into_parts(self) -> (S::Worker, K)
+    /// What the worker leaves where no job is open.
+    pub(crate) fn into_left(self) -> Left<S::Worker, K>
         requires { slab_len self.seats ≡ 0 }
-        ensures { HasServed (S.serves self.entry.service) self.entry.taken
-            (K.told result.1) self.entry.first result.0 }
+        ensures { HasWorked (S.serves self.entry.service) self.entry.taken
+            (K.told result.sink) result.taken result.refused self.entry.first result.worker }
     {
         let Desk {
             service: _,
@@ -201,7 +212,14 @@ impl<'a, S: Service, K: Sink<S> + Drop> Desk<'a, S, K> {
             sink,
             taken: _,
             refused: _,
+            took,
+            away,
         } = self;
-        (worker, sink)
+        Left {
+            worker,
+            sink,
+            taken: took,
+            refused: away,
+        }
     }
 }

@@ -27,11 +27,12 @@
 //! ```
 #![tactic(auto)]
 
-mod collect;
 mod desk;
 mod fault;
 mod jobs;
+mod join;
 mod lent;
+mod order;
 mod pool;
 mod queue;
 mod readiness;
@@ -42,13 +43,14 @@ mod sink;
 mod sleepers;
 mod start;
 mod submit;
+mod told;
 mod worker;
 
-pub use collect::Finished;
 pub use fault::RunFault;
 pub use jobs::{JobFault, Jobs};
-pub use pool::{MAX_WAITING, run};
+pub use pool::{Finished, MAX_WAITING, run, run_at};
 pub use readiness::{Bell, Readiness, Station, Turn};
 pub use service::{Moved, Service};
 pub use sink::Sink;
+pub use told::Told;
 pub use worker::NumberedEnd;

@@ -1,22 +1,27 @@
 //! A run of the pool.
-ghost use Rattle.std.specs.Prelude.{◌≡◌, ◌<◌, length, map, IfOk, IfErr};
+ghost use Rattle.std.specs.Prelude.{◌≡◌, ◌<◌, [], length, map, IfOk, IfErr};
 ghost use Rattle.crossbeam_queue.specs.Passes.{view, IsPassOf};
 ghost use Rattle.job_pool.specs.Giving.{AllServedOnce, GivesOnly, Leaves, ServedThenFailed};
 ghost use Rattle.job_pool.specs.Lists.{Every};
 ghost use Rattle.job_pool.specs.Queue.{leader};
-ghost use Rattle.job_pool.specs.Workers.{IsOn, state_before};
+ghost use Rattle.job_pool.specs.Telling.{HasPlaces, IsEmpty, TellsEachOnce, TellsGiven};
+ghost use Rattle.job_pool.specs.Workers.{IsNew, IsOfRun, IsOn, state_before, worker_of};
 ghost use Rattle.job_pool.specs.declared.fault.RunFault.TheVariants.{JobsFailed};
 
-use crate::collect::{Child, Finished, collect_all, join_all};
 use crate::fault::RunFault;
 use crate::jobs::Jobs;
+use crate::join::{Child, join_all, let_go};
 use crate::lent::Lent;
+use crate::order::in_order;
 use crate::queue::{Accepts, JobQueue, QueuePass};
-use crate::rounds::Wake;
+use crate::readiness::{Bell, Readiness, Station};
+use crate::rounds::stations_of;
 use crate::service::Service;
-use crate::sleepers::Sleepers;
+use crate::sink::Sink;
+use crate::sleepers::{Sleepers, Wakes};
 use crate::start::start_all;
 use crate::submit::{submit_all, submit_stops};
+use crate::told::Told;
 use std::alloc::Global;
 use std::marker::Brand;
 use std::snapshot::Snapshot;
@@ -24,102 +29,130 @@ use std::sync::Wait;
 use std::thread;
 use std::thread::Threads;
 
-/// How many jobs wait in the queue at most.
+/// How many jobs wait in the queue at most, unless there are more workers: then as many as these.
 pub const MAX_WAITING: usize = 1024;
 
-/// Gives the jobs to the workers that were started, and a stop mark to each; then joins them and puts their ends in order. Where the
-/// source failed, they are put in order too: that each job that was given has an end shows that it was served.
-fn dispatch<H, S, G, T>(
+/// What a run leaves.
+#[derive(Drop)]
+pub struct Finished<E, W> {
+    /// One end for each job, in the order in which the jobs were given.
+    pub ends: Vec<E>,
+    /// The states of the workers, in the order in which they were handed in.
+    pub workers: Vec<W>,
+}
+
+/// What the workers left, and how the source stopped.
+#[derive(Drop)]
+struct Joined<W, K> {
+    told: Told<W, K>,
+    stopped: Result<(), RunFault>,
+}
+
+/// Gives the jobs to the workers that were started, and a stop mark to each; then joins them. What they took has to be all that was given: so
+/// each job was served or refused.
+fn dispatch<H, S, G, K, B, T>(
     rt: &T,
-    alloc: Global,
     service: Snapshot<S>,
     queue: &JobQueue<H, S::Job>,
     pass: &mut QueuePass<S::Job>,
-    sleepers: &Sleepers<Wake>,
+    sleepers: &Sleepers<B>,
     jobs: &mut G,
-    children: Vec<Child<S>>,
-) -> Result<Finished<S::End, S::Worker>, RunFault>
+    children: Vec<Child<S, K>>,
+    told: Told<S::Worker, K>,
+) -> Result<Joined<S::Worker, K>, RunFault>
 where
     H: Accepts<S::Job>,
     S: Service,
     G: Jobs<Job = S::Job>,
+    K: Sink<S> + Drop + Send,
+    B: Bell + Drop,
     T: Threads + Wait,
     requires queue { IsPassOf queue.now pass.old × (view pass.old ≡ leader) }
     requires accepts { GivesOnly G.gives H.accepts jobs.old }
     requires children { Every (IsOn queue.now.table.shared.table_id service.value) children.items }
-    ensures served { IfOk result (λ done.
-        AllServedOnce G.gives (S.serves service.value) jobs.old
-        (map state_before children.items) done.ends.items done.workers.items jobs.new) }
+    requires told { IsEmpty told × HasPlaces told (length children.items) }
+    ensures told { IfOk result (λ joined.
+        TellsGiven (S.serves service.value) K.told G.gives jobs.old
+        (map state_before children.items) joined.told joined.stopped jobs.new) }
     ensures fault { IfErr result (λ fault. Leaves G.gives fault jobs.old jobs.new) }
-    ensures failed { IfErr result (λ fault. fault ≡ JobsFailed
-        → ServedThenFailed G.gives (S.serves service.value) jobs.old
-        (map state_before children.items) jobs.new) }
+    ensures own { IfErr result IsOfRun }
 {
-    let (count, given) = submit_all(rt, queue, pass, sleepers, jobs);
+    let mut told = told;
+    let (count, stopped) = submit_all(rt, queue, pass, sleepers, jobs);
     submit_stops(rt, queue, pass, sleepers, children.len());
-    match collect_all(rt, alloc, service, queue, pass, children, count) {
-        Ok(done) => match given {
-            Ok(()) => Ok(done),
-            Err(fault) => Err(fault),
-        },
-        Err(_) => Err(RunFault::NoMemory),
+    join_all(rt, service, queue, pass, children, &mut told);
+    if told.given == count {
+        Ok(Joined { told, stopped })
+    } else {
+        Err(RunFault::NoMemory)
     }
 }
 
 /// Stops and joins the workers that were started.
-fn give_up<H: Accepts<S::Job>, S: Service, T: Threads + Wait>(
+fn give_up<H, S, K, B, T>(
     rt: &T,
     queue: &JobQueue<H, S::Job>,
     pass: &mut QueuePass<S::Job>,
-    sleepers: &Sleepers<Wake>,
-    children: Vec<Child<S>>,
+    sleepers: &Sleepers<B>,
+    children: Vec<Child<S, K>>,
 )
+where
+    H: Accepts<S::Job>,
+    S: Service,
+    K: Sink<S> + Drop + Send,
+    B: Bell + Drop,
+    T: Threads + Wait,
     requires queue { IsPassOf queue.now pass.old × (view pass.old ≡ leader) }
 {
     submit_stops(rt, queue, pass, sleepers, children.len());
-    join_all(rt, children);
+    let_go(rt, children);
 }
 
 /// A run over a queue of which this pass gives the jobs. The source of jobs comes back.
-fn run_on<'a, H, S, G, T>(
+fn run_on<'a, H, S, G, K, D, B, T>(
     rt: &'a T,
     alloc: Global,
     service: &'a S,
     queue: &'a JobQueue<H, S::Job>,
     pass: QueuePass<S::Job>,
-    sleepers: Sleepers<Wake>,
+    sleepers: Sleepers<B>,
     jobs: G,
-    workers: Vec<S::Worker>,
-) -> (G, Result<Finished<S::End, S::Worker>, RunFault>)
+    stations: Vec<Station<S::Worker, K, D, B>>,
+    told: Told<S::Worker, K>,
+) -> (G, Result<Joined<S::Worker, K>, RunFault>)
 where
     H: Accepts<S::Job> + Send + Sync,
     S: Service,
     G: Jobs<Job = S::Job> + Drop,
+    K: Sink<S> + Drop + Send + 'a,
+    D: Readiness<S> + Drop + Send + 'a,
+    B: Bell + Drop,
     T: Threads + Wait + Sync,
     requires queue { IsPassOf queue.now pass × (view pass ≡ leader) }
     requires accepts { (job : S.Job) → H.accepts job → S.accepts service.now job }
     requires jobs { GivesOnly G.gives H.accepts jobs }
-    ensures served { IfOk result.1 (λ done.
-        AllServedOnce G.gives (S.serves service.now) jobs
-        workers.items done.ends.items done.workers.items result.0) }
+    requires new { Every (IsNew K.told K.has_room) stations.items }
+    requires told { IsEmpty told × HasPlaces told (length stations.items) }
+    ensures told { IfOk result.1 (λ joined.
+        TellsGiven (S.serves service.now) K.told G.gives jobs
+        (map worker_of stations.items) joined.told joined.stopped result.0) }
     ensures fault { IfErr result.1 (λ fault. Leaves G.gives fault jobs result.0) }
-    ensures failed { IfErr result.1 (λ fault. fault ≡ JobsFailed
-        → ServedThenFailed G.gives (S.serves service.now) jobs workers.items result.0) }
+    ensures own { IfErr result.1 IsOfRun }
 {
     thread::scope(
         thread::scope_env(),
         rt,
-        |scope| -> (G, Result<Finished<S::End, S::Worker>, RunFault>)
+        |scope| -> (G, Result<Joined<S::Worker, K>, RunFault>)
             requires queue { IsPassOf queue.now pass × (view pass ≡ leader) }
             requires accepts { (job : S.Job) → H.accepts job → S.accepts service.now job }
             requires jobs { GivesOnly G.gives H.accepts jobs }
-            ensures served { IfOk result.1 (λ done.
-                AllServedOnce G.gives (S.serves service.entry.now) jobs
-                workers.items done.ends.items done.workers.items result.0) }
+            requires new { Every (IsNew K.told K.has_room) stations.items }
+            requires told { IsEmpty told × HasPlaces told (length stations.items) }
+            ensures told { IfOk result.1 (λ joined.
+                TellsGiven (S.serves service.entry.now) K.told G.gives jobs
+                (map worker_of stations.items) joined.told joined.stopped result.0) }
             ensures fault { IfErr result.1 (λ fault. Leaves G.gives fault jobs result.0) }
-            ensures failed { IfErr result.1 (λ fault. fault ≡ JobsFailed
-                → ServedThenFailed G.gives (S.serves service.entry.now) jobs
-                workers.items result.0) }
+            ensures own { IfErr result.1 IsOfRun }
         {
             let mut mine = pass;
             let mut source = jobs;
@@ -134,73 +167,116 @@ where
                 &mut mine,
                 &mut sleepers,
                 &mut children,
-                workers,
+                stations,
             );
             if let Err(fault) = started {
                 give_up(rt, queue, &mut mine, &sleepers, children);
                 return (source, Err(fault));
             }
             let service = Snapshot::of(service);
-            let done = dispatch(
+            let joined = dispatch(
                 rt,
-                alloc,
                 service,
                 queue,
                 &mut mine,
                 &sleepers,
                 &mut source,
                 children,
+                told,
             );
-            (source, done)
+            (source, joined)
         },
     )
 }
 
 /// A run for a service that takes what `H` says. The source of jobs comes back.
-fn run_owned<H, S, G, T>(
+fn run_owned<H, S, G, K, D, B, T>(
     rt: &T,
     alloc: Global,
     service: &S,
     jobs: G,
-    workers: Vec<S::Worker>,
-) -> (G, Result<Finished<S::End, S::Worker>, RunFault>)
+    stations: Vec<Station<S::Worker, K, D, B>>,
+    wakes: Wakes,
+) -> (G, Result<Joined<S::Worker, K>, RunFault>)
 where
     H: Accepts<S::Job> + Send + Sync,
     S: Service,
     G: Jobs<Job = S::Job> + Drop,
+    K: Sink<S> + Drop + Send,
+    D: Readiness<S> + Drop + Send,
+    B: Bell + Drop,
     T: Threads + Wait + Sync,
     requires accepts { (job : S.Job) → H.accepts job → S.accepts service.now job }
     requires jobs { GivesOnly G.gives H.accepts jobs }
-    ensures served { IfOk result.1 (λ done.
-        AllServedOnce G.gives (S.serves service.now) jobs
-        workers.items done.ends.items done.workers.items result.0) }
+    requires new { Every (IsNew K.told K.has_room) stations.items }
+    ensures told { IfOk result.1 (λ joined.
+        TellsGiven (S.serves service.now) K.told G.gives jobs
+        (map worker_of stations.items) joined.told joined.stopped result.0) }
     ensures fault { IfErr result.1 (λ fault. Leaves G.gives fault jobs result.0) }
-    ensures failed { IfErr result.1 (λ fault. fault ≡ JobsFailed
-        → ServedThenFailed G.gives (S.serves service.now) jobs workers.items result.0) }
+    ensures own { IfErr result.1 IsOfRun }
 {
-    let Ok(sleepers) = Sleepers::new(alloc) else {
+    let count = stations.len();
+    let Ok(told) = Told::with_places(alloc, count) else {
         return (jobs, Err(RunFault::NoMemory));
     };
-    let Ok((queue, pass)) = JobQueue::<H, S::Job>::ruled(alloc, MAX_WAITING) else {
+    let Ok(sleepers) = Sleepers::new(alloc, wakes) else {
         return (jobs, Err(RunFault::NoMemory));
     };
-    run_on(rt, alloc, service, &queue, pass, sleepers, jobs, workers)
+    let most = MAX_WAITING.max(count);
+    let Ok((queue, pass)) = JobQueue::<H, S::Job>::ruled(alloc, most) else {
+        return (jobs, Err(RunFault::NoMemory));
+    };
+    run_on(
+        rt, alloc, service, &queue, pass, sleepers, jobs, stations, told,
+    )
+}
+
+/// A run over a source that is lent.
+fn run_lent<S, G, K, D, B, T>(
+    rt: &T,
+    alloc: Global,
+    service: &S,
+    jobs: &mut G,
+    stations: Vec<Station<S::Worker, K, D, B>>,
+    wakes: Wakes,
+) -> Result<Joined<S::Worker, K>, RunFault>
+where
+    S: Service,
+    G: Jobs<Job = S::Job>,
+    K: Sink<S> + Drop + Send,
+    D: Readiness<S> + Drop + Send,
+    B: Bell + Drop,
+    T: Threads + Wait + Sync,
+    requires jobs { GivesOnly G.gives (S.accepts service.now) jobs.old }
+    requires new { Every (IsNew K.told K.has_room) stations.items }
+    ensures told { IfOk result (λ joined.
+        TellsGiven (S.serves service.now) K.told G.gives jobs.old
+        (map worker_of stations.items) joined.told joined.stopped jobs.new) }
+    ensures fault { IfErr result (λ fault. Leaves G.gives fault jobs.old jobs.new) }
+    ensures own { IfErr result IsOfRun }
+{
+    let lent = Lent { jobs };
+    let (Lent { jobs }, joined) = run_owned::<Brand, S, Lent<G>, K, D, B, T>(
+        rt, alloc, service, lent, stations, wakes,
+    );
+    joined
 }
 
 /// Serves all jobs of a source, each once, by as many workers as there are states.
 ///
 /// The ends are in the order of the jobs, and the workers' states, each as its worker left it, in the order in which they were
-/// handed in. Each job was served in one call of the service, and the calls that one worker made lead from its first state to its
-/// last. There has to be a worker, and each job that the source may give is one that the service takes.
+/// handed in. Each job was served in one turn of a worker, and the turns of one worker lead from its first state to its
+/// last. There has to be a worker, and each job that the source may give is one that the service takes. A worker has one job open at a time,
+/// and takes its steps until it is over: where the job would have to wait it is told that it may not.
 ///
 /// Where the run ends by a fault, the workers that were started have been joined, and their states and the ends are let go:
 ///
 /// - `NoThread`: the system refused a thread. No job was taken from the source.
 /// - `JobsFailed`: the source gave some jobs and then a fault. Each of the jobs that it gave was served once.
-/// - `NoMemory`: memory was refused, to the run or to a worker for the end of a job, which was then not served. The source gave some
+/// - `NoMemory`: memory was refused, to the run or to a worker for a job or its end, which was then not served. The source gave some
 ///   jobs, or all of them, or some and then a fault.
 ///
-/// It waits for the workers, and they for jobs. It returns if each call of `next` and of `serve` does.
+/// It waits for the workers, and they for jobs. It returns if each call of `next` does, and each job is over after finitely many steps.
 pub fn run<S, G, T>(
     rt: &T,
     alloc: Global,
@@ -223,9 +299,76 @@ where
     ensures failed { IfErr result (λ fault. fault ≡ JobsFailed
         → ServedThenFailed G.gives (S.serves service.now) jobs.old workers.items jobs.new) }
 {
-    let lent = Lent { jobs };
-    let (Lent { jobs }, done) = run_owned::<Brand, S, Lent<G>, T>(
-        rt, alloc, service, lent, workers,
-    );
-    done
+    let Ok(stations) = stations_of::<S>(alloc, workers) else {
+        return Err(RunFault::NoMemory);
+    };
+    let Joined { told, stopped } = match run_lent(rt, alloc, service, jobs, stations, Wakes::All) {
+        Ok(joined) => joined,
+        Err(fault) => return Err(fault),
+    };
+    let Told {
+        workers,
+        sinks,
+        given,
+        refused: _,
+    } = told;
+    match in_order(alloc, sinks, given) {
+        Ok(ends) => match stopped {
+            Ok(()) => Ok(Finished { ends, workers }),
+            Err(fault) => Err(fault),
+        },
+        Err(_) => Err(RunFault::NoMemory),
+    }
+}
+
+/// Serves all jobs of a source, each once, by a worker at each of these stations, and keeps no end: each is told the sink of the worker that served
+/// its job, when it comes.
+///
+/// What each sink was told are the ends of the turns of its worker, under their jobs' numbers, in their order; these turns lead from the state that
+/// was handed in to the one that comes back. A job whose end is told no sink was refused, for want of memory, by the worker that took it, which told
+/// its sink so. Each job is one of these, once, and `given` and `refused` count them. There has to be a station; its sink was told nothing before,
+/// and has room for no end at least; and each job that the source may give is one that the service takes.
+///
+/// A worker takes the jobs for which its bell was rung; each is meant for the worker whose bell tells the least load, the first of these. It has many
+/// jobs open, as its readiness lets it.
+///
+/// Where the run ends by a fault, the workers that were started have been joined, all jobs that they took were served or refused, and their states
+/// and sinks are let go:
+///
+/// - `NoThread`: the system refused a thread. No job was taken from the source.
+/// - `JobsFailed`: the source gave some jobs and then a fault.
+/// - `NoMemory`: memory was refused to the run, before it took a job from the source; or there were more jobs than can be counted.
+///
+/// It waits for the workers, and they for jobs. It returns if each call of `next` does, and each job is over after finitely many turns.
+pub fn run_at<S, G, T, K, D, B>(
+    rt: &T,
+    alloc: Global,
+    service: &S,
+    jobs: &mut G,
+    stations: Vec<Station<S::Worker, K, D, B>>,
+) -> Result<Told<S::Worker, K>, RunFault>
+where
+    S: Service,
+    G: Jobs<Job = S::Job>,
+    T: Threads + Wait + Sync,
+    K: Sink<S> + Drop + Send,
+    D: Readiness<S> + Drop + Send,
+    B: Bell + Drop,
+    requires some { 0 < length stations.items }
+    requires jobs { GivesOnly G.gives (S.accepts service.now) jobs.old }
+    requires new { Every (IsNew K.told K.has_room) stations.items }
+    ensures told { IfOk result (λ done.
+        TellsEachOnce G.gives (S.serves service.now) K.told jobs.old stations.items done jobs.new) }
+    ensures fault { IfErr result (λ fault. Leaves G.gives fault jobs.old jobs.new) }
+{
+    match run_lent(rt, alloc, service, jobs, stations, Wakes::LeastLoad) {
+        Ok(joined) => {
+            let Joined { told, stopped } = joined;
+            match stopped {
+                Ok(()) => Ok(told),
+                Err(fault) => Err(fault),
+            }
+        }
+        Err(fault) => Err(fault),
+    }
 }

@@ -1,6 +1,12 @@
 //! What a worker waits with that has one job open at a time.
-use crate::readiness::{Bell, Readiness, Turn};
+ghost use Rattle.std.specs.Prelude.{◌≡◌, map, IfOk};
+ghost use Rattle.job_pool.specs.Lists.{Every};
+ghost use Rattle.job_pool.specs.Sinks.{HasRoom, kept};
+ghost use Rattle.job_pool.specs.Workers.{IsNew, worker_of};
+
+use crate::readiness::{Bell, Readiness, Station, Turn};
 use crate::service::{Moved, Service};
+use crate::sink::Collected;
 use crossbeam_utils::sync::{Parker, Unparker};
 use std::alloc::{AllocError, Global};
 use std::sync::Wait;
@@ -32,6 +38,28 @@ impl Rounds {
         };
         Ok((rounds, Wake { unparker }))
     }
+}
+
+/// A station for each of these workers, which keeps all ends.
+pub(crate) fn stations_of<S: Service>(
+    alloc: Global,
+    workers: Vec<S::Worker>,
+) -> Result<Vec<Station<S::Worker, Collected<S::End>, Rounds, Wake>>, AllocError>
+    ensures workers { IfOk result (λ stations. map worker_of stations.items ≡ workers.items) }
+    ensures new { IfOk result (λ stations.
+        Every (IsNew kept HasRoom) stations.items) }
+{
+    let mut stations = Vec::with_capacity(alloc, workers.len())?;
+    for worker in workers {
+        let (readiness, bell) = Rounds::new(alloc)?;
+        stations.push_reserved(Station {
+            worker,
+            sink: Collected::new(alloc),
+            readiness,
+            bell,
+        });
+    }
+    Ok(stations)
 }
 
 impl<S: Service> Readiness<S> for Rounds {

@@ -47,7 +47,8 @@ pub struct Collected<E> {
 impl<E: Drop> Collected<E> {
     /// It was told none.
     pub(crate) fn new(alloc: Global) -> Collected<E>
-        ensures { result.ends.items ≡ [] }
+        ensures none { result.ends.items ≡ [] }
+        ensures room { vec_len result.ends ≤ vec_capacity result.ends }
     {
         Collected {
             ends: Vec::new(alloc),
@@ -56,11 +57,11 @@ impl<E: Drop> Collected<E> {
 }
 
 impl<S: Service> Sink<S> for Collected<S::End> {
-    ghost use Rattle.std.specs.Prelude.{◌+◌, ◌≤◌, vec_len, vec_capacity};
+    ghost use Rattle.job_pool.specs.Sinks.{HasRoom, kept};
 
-    ghost told = { λ kept. kept.ends.items };
+    ghost told = { kept };
 
-    ghost has_room = { λ kept n. vec_len kept.ends + n ≤ vec_capacity kept.ends };
+    ghost has_room = { HasRoom };
 
     fn make_room(&mut self, more: usize) -> bool {
         self.ends.reserve(more).is_ok()

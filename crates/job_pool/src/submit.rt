@@ -1,5 +1,5 @@
 //! How the jobs come into the queue.
-ghost use Rattle.std.specs.Prelude.{◌≡◌, true, length, IfOk, IfErr};
+ghost use Rattle.std.specs.Prelude.{◌≡◌, [], true, length, IfOk, IfErr};
 ghost use Rattle.crossbeam_queue.specs.Passes.{view, IsPassOf};
 ghost use Rattle.job_pool.specs.Giving.{GaveAll, GivesOnly, StoppedAfter};
 ghost use Rattle.job_pool.specs.Queue.{leader, after_push, IsAcceptedTask, IsNextTask};
@@ -7,16 +7,16 @@ ghost use Rattle.job_pool.specs.Queue.{leader, after_push, IsAcceptedTask, IsNex
 use crate::fault::RunFault;
 use crate::jobs::Jobs;
 use crate::queue::{Accepts, JobQueue, NumberedJob, Push, QueuePass, Task};
-use crate::rounds::Wake;
+use crate::readiness::Bell;
 use crate::sleepers::Sleepers;
 use std::sync::Wait;
 
-/// Puts a task into the queue, and wakes the workers. Where the queue is full it sleeps until a worker has taken a task.
-pub(crate) fn submit<H: Accepts<J>, J, T: Wait>(
+/// Puts a task into the queue. Where the queue is full it sleeps until a worker has taken a task.
+fn submit<H: Accepts<J>, J, B: Bell + Drop, T: Wait>(
     rt: &T,
     queue: &JobQueue<H, J>,
     pass: &mut QueuePass<J>,
-    sleepers: &Sleepers<Wake>,
+    sleepers: &Sleepers<B>,
     task: Task<J>,
 )
     requires queue { IsPassOf queue.now pass.old }
@@ -28,10 +28,7 @@ pub(crate) fn submit<H: Accepts<J>, J, T: Wait>(
     let mut held = task;
     for _ in rt.forever() {
         match queue.push_as::<Push, T>(rt, pass, held) {
-            Ok(()) => {
-                sleepers.ring_all();
-                return;
-            }
+            Ok(()) => return,
             Err(back) => {
                 held = back;
                 sleepers.sleep(rt);
@@ -41,23 +38,25 @@ pub(crate) fn submit<H: Accepts<J>, J, T: Wait>(
     unreachable!()
 }
 
-/// Takes all jobs and puts each into the queue under its number. Returns how many it put there, also behind a fault.
-pub(crate) fn submit_all<H, G, T>(
+/// Takes all jobs and puts each into the queue under its number, and wakes those that it is meant for. Returns how many it put there, also behind a fault.
+pub(crate) fn submit_all<H, G, B, T>(
     rt: &T,
     queue: &JobQueue<H, G::Job>,
     pass: &mut QueuePass<G::Job>,
-    sleepers: &Sleepers<Wake>,
+    sleepers: &Sleepers<B>,
     jobs: &mut G,
 ) -> (usize, Result<(), RunFault>)
 where
     H: Accepts<G::Job>,
     G: Jobs,
     G::Job: Drop,
+    B: Bell + Drop,
     T: Wait,
     requires queue { IsPassOf queue.now pass.old × (view pass.old ≡ leader) }
     requires accepts { GivesOnly G.gives H.accepts jobs.old }
     ensures queue { IsPassOf queue.now pass.new × ((view pass.new).leads ≡ true) }
     ensures count { result.0 ≡ length (view pass.new).given }
+    ensures taken { (view pass.new).taken ≡ [] }
     ensures given { IfOk result.1 (λ _. GaveAll G.gives jobs.old (view pass.new).given jobs.new) }
     ensures fault { IfErr result.1 (λ fault.
         StoppedAfter G.gives fault jobs.old (view pass.new).given jobs.new) }
@@ -71,6 +70,7 @@ where
                 };
                 let task = Task::Serve(NumberedJob { number: count, job });
                 submit(rt, queue, pass, sleepers, task);
+                sleepers.ring();
                 count = more;
             }
             Ok(None) => return (count, Ok(())),
@@ -80,12 +80,12 @@ where
     unreachable!()
 }
 
-/// Puts a stop mark into the queue for each worker.
-pub(crate) fn submit_stops<H: Accepts<J>, J, T: Wait>(
+/// Puts a stop mark into the queue for each worker, and wakes all.
+pub(crate) fn submit_stops<H: Accepts<J>, J, B: Bell + Drop, T: Wait>(
     rt: &T,
     queue: &JobQueue<H, J>,
     pass: &mut QueuePass<J>,
-    sleepers: &Sleepers<Wake>,
+    sleepers: &Sleepers<B>,
     workers: usize,
 )
     requires queue { IsPassOf queue.now pass.old × ((view pass.old).leads ≡ true) }
@@ -95,4 +95,5 @@ pub(crate) fn submit_stops<H: Accepts<J>, J, T: Wait>(
     for _ in 0..workers {
         submit(rt, queue, pass, sleepers, Task::Stop);
     }
+    sleepers.close();
 }

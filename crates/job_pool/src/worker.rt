@@ -3,14 +3,13 @@ ghost use Rattle.std.specs.Prelude.{◌≡◌, []};
 ghost use Rattle.slab.specs.Slab.{slab_len};
 ghost use Rattle.crossbeam_queue.specs.Passes.{view, IsPassOf};
 ghost use Rattle.job_pool.specs.Queue.{newcomer};
-ghost use Rattle.job_pool.specs.Ends.{HasServed};
+ghost use Rattle.job_pool.specs.Ends.{HasWorked};
 
 use crate::desk::Desk;
 use crate::queue::{Accepts, JobQueue, Pop, QueuePass, Task};
 use crate::readiness::Readiness;
-use crate::rounds::Rounds;
 use crate::service::Service;
-use crate::sink::{Collected, Sink};
+use crate::sink::Sink;
 use crate::sleepers::Leader;
 use std::alloc::Global;
 use std::snapshot::Snapshot;
@@ -24,16 +23,25 @@ pub struct NumberedEnd<E> {
     pub end: E,
 }
 
-/// What a worker gives back when it stops.
+/// What a worker leaves whose jobs have all ended.
 #[derive(Drop)]
-pub struct WorkerOutput<W, J, E> {
+pub struct Left<W, K> {
     pub worker: W,
-    pub pass: QueuePass<J>,
-    pub ends: Vec<NumberedEnd<E>>,
+    pub sink: K,
+    /// How many jobs it took, and how many of these it refused.
+    pub taken: usize,
+    pub refused: usize,
 }
 
-/// What a worker promises of its work: its pass is of the same queue, and its ends are those of its calls of the service, each with a
-/// job that it took, which lead from its first state to its last.
+/// What a worker gives back when it stops.
+#[derive(Drop)]
+pub struct WorkerOutput<W, J, K> {
+    pub pass: QueuePass<J>,
+    pub left: Left<W, K>,
+}
+
+/// What a worker promises of its work: its pass is of the same queue, and what its sink was told are the ends of its turns, each with a
+/// job that it took, which lead from its first state to its last. It has served or refused each job that it took, once.
 #[derive(Drop)]
 pub struct WorkerPromise<S, W, J> {
     pub service: Snapshot<S>,
@@ -41,16 +49,17 @@ pub struct WorkerPromise<S, W, J> {
     pub pass: Snapshot<QueuePass<J>>,
 }
 
-impl<S: Service> Promise<WorkerOutput<S::Worker, S::Job, S::End>>
+impl<S: Service, K: Sink<S>> Promise<WorkerOutput<S::Worker, S::Job, K>>
     for WorkerPromise<S, S::Worker, S::Job> {
     ghost use Rattle.std.specs.Prelude.{◌≡◌, []};
     ghost use Rattle.crossbeam_queue.specs.Passes.{view};
-    ghost use Rattle.job_pool.specs.Ends.{HasServed};
+    ghost use Rattle.job_pool.specs.Ends.{HasWorked};
 
     ghost kept_by = { λ p work.
         ((work.pass.table_id ≡ p.pass.value.table_id) × (work.pass.me.1 ≡ []))
-        × HasServed (S.serves p.service.value) (view work.pass).taken work.ends.items
-        p.worker.value work.worker };
+        × HasWorked (S.serves p.service.value) (view work.pass).taken
+        (K.told work.left.sink) work.left.taken work.left.refused
+        p.worker.value work.left.worker };
 }
 
 /// What a worker took out of the queue.
@@ -168,98 +177,62 @@ where
     is_stopped
 }
 
-/// What a worker leaves whose jobs have all ended: its state, its pass and its sink.
-#[derive(Drop)]
-pub(crate) struct Left<W, J, K> {
-    pub(crate) worker: W,
-    pub(crate) pass: QueuePass<J>,
-    pub(crate) sink: K,
-}
-
-/// What a worker leaves whose jobs have all ended.
+/// What a worker gives back whose jobs have all ended.
 fn finish<'a, S: Service, K: Sink<S> + Drop>(
     desk: Desk<'a, S, K>,
     pass: QueuePass<S::Job>,
-) -> Left<S::Worker, S::Job, K>
+) -> WorkerOutput<S::Worker, S::Job, K>
     requires empty { slab_len desk.seats ≡ 0 }
     requires taken { desk.taken ≡ (view pass).taken }
     ensures pass { result.pass ≡ pass }
-    ensures served { HasServed (S.serves desk.entry.service) (view result.pass).taken
-        (K.told result.sink) desk.entry.first result.worker }
+    ensures worked { HasWorked (S.serves desk.entry.service) (view result.pass).taken
+        (K.told result.left.sink) result.left.taken result.left.refused
+        desk.entry.first result.left.worker }
 {
-    let (worker, sink) = desk.into_parts();
-    Left { worker, pass, sink }
+    WorkerOutput {
+        pass,
+        left: desk.into_left(),
+    }
 }
 
 /// Serves jobs, many at once, until it takes a stop mark and all have ended. It waits by its readiness alone. The sink was told each end as it came.
-pub(crate) fn work_for<H, S, K, D, T>(
+pub(crate) fn work<H, S, K, D, T>(
     rt: &T,
     alloc: Global,
     service: &S,
     queue: &JobQueue<H, S::Job>,
-    worker: S::Worker,
     pass: QueuePass<S::Job>,
     to_leader: Leader,
+    worker: S::Worker,
     sink: K,
-    waits: &mut D,
-) -> Left<S::Worker, S::Job, K>
+    readiness: D,
+) -> WorkerOutput<S::Worker, S::Job, K>
 where
     H: Accepts<S::Job>,
     S: Service,
     K: Sink<S> + Drop,
-    D: Readiness<S>,
+    D: Readiness<S> + Drop,
     T: Wait,
     requires queue { IsPassOf queue.now pass × (view pass ≡ newcomer) }
     requires accepts { (job : S.Job) → H.accepts job → S.accepts service.now job }
     requires none { K.told sink ≡ [] }
     requires room { K.has_room sink 0 }
     ensures queue { IsPassOf queue.now result.pass }
-    ensures served { HasServed (S.serves service.now) (view result.pass).taken
-        (K.told result.sink) worker result.worker }
+    ensures worked { HasWorked (S.serves service.now) (view result.pass).taken
+        (K.told result.left.sink) result.left.taken result.left.refused
+        worker result.left.worker }
 {
     let mut mine = pass;
+    let mut waits = readiness;
     let mut desk = Desk::new(alloc, service, worker, sink);
     let mut is_stopped = false;
     for _ in rt.forever() {
         is_stopped = work_once(
-            rt, alloc, queue, &mut mine, &to_leader, &mut desk, waits, is_stopped,
+            rt, alloc, queue, &mut mine, &to_leader, &mut desk, &mut waits, is_stopped,
         );
         if is_stopped && desk.is_empty() {
             return finish(desk, mine);
         }
     }
     unreachable!()
-}
-
-/// Serves jobs as [`work_for`] does, and keeps their ends. Nothing is waited for but the queue.
-pub(crate) fn work<H: Accepts<S::Job>, S: Service, T: Wait>(
-    rt: &T,
-    alloc: Global,
-    service: &S,
-    queue: &JobQueue<H, S::Job>,
-    worker: S::Worker,
-    pass: QueuePass<S::Job>,
-    to_leader: Leader,
-    rounds: Rounds,
-) -> WorkerOutput<S::Worker, S::Job, S::End>
-    requires queue { IsPassOf queue.now pass × (view pass ≡ newcomer) }
-    requires accepts { (job : S.Job) → H.accepts job → S.accepts service.now job }
-    ensures queue { IsPassOf queue.now result.pass }
-    ensures served { HasServed (S.serves service.now) (view result.pass).taken
-        result.ends.items worker result.worker }
-{
-    let mut rounds = rounds;
-    let Left { worker, pass, sink } = work_for(
-        rt,
-        alloc,
-        service,
-        queue,
-        worker,
-        pass,
-        to_leader,
-        Collected::new(alloc),
-        &mut rounds,
-    );
-    let Collected { ends } = sink;
-    WorkerOutput { worker, pass, ends }
 }

@@ -1,22 +1,23 @@
-use Rattle.std.proofs.Common.{sym}
-use Rattle.std.proofs.lemmas.Result.{IfOk-weaker, IfErr-weaker}
-use Rattle.job_pool.proofs.Lending.{only_inside, all_back, leaves_back, served_back}
+use Rattle.std.proofs.Common.{subst}
+use Rattle.job_pool.specs.Sinks.{kept}
+use Rattle.job_pool.specs.Telling.{TellsGiven}
+use Rattle.job_pool.proofs.Giving.{told_served, told_failed}
 use Rattle.job_pool.proofs.pool.run.Goals as goal
 
-pub run_owned-jobs-requires-clause-jobs : goal.run_owned-jobs-requires-clause-jobs
-run_owned-jobs-requires-clause-jobs g c κs within = only_inside g.G.Jobs.gives (g.S.Service.accepts c.args.service.now) _ c.requires.jobs
+pub returns-in-Ok-stopped-clause-served : goal.returns-in-Ok-stopped-clause-served
+returns-in-Ok-stopped-clause-served g c =
+    let Serves = g.S.Service.serves c.args.service.now in
+    let done = c.in-Ok-run_lent.joined.told in
+    let firsts = c.args.workers.items in
+    let told = subst (λ ws. TellsGiven Serves kept g.G.Jobs.gives c.args.jobs.now ws done c.in-Ok-run_lent.joined.stopped c.run_lent.new.jobs) c.in-Ok.ensures.workers c.in-Ok-run_lent.ensures.told in
+    told_served g.G.Jobs.gives Serves kept c.args.jobs.now firsts done c.run_lent.new.jobs c.in-Ok-in_order.ends.items c.in-Ok-in_order.ensures c.in-Ok-stopped.field-0
+    (subst (λ s. TellsGiven Serves kept g.G.Jobs.gives c.args.jobs.now firsts done s c.run_lent.new.jobs) c.in-Ok-stopped.is told)
 
-pub returns-clause-served : goal.returns-clause-served
-returns-clause-served g c =
-    let tie = c.jobs-1.given.1 in
-    IfOk-weaker c.run_owned-jobs.result.1 _ _ (λ done h. (h.0, all_back g.G.Jobs.gives _ h.0 c.run_owned-jobs.result.0 c.jobs-1.given.0 (λ name. sym (tie (sym name))) h.1, h.2)) c.run_owned-jobs.ensures.served
-
-pub returns-clause-fault : goal.returns-clause-fault
-returns-clause-fault g c =
-    let tie = c.jobs-1.given.1 in
-    IfErr-weaker c.run_owned-jobs.result.1 _ _ (λ fault h. leaves_back g.G.Jobs.gives fault _ c.run_owned-jobs.result.0 c.jobs-1.given.0 (λ name. sym (tie (sym name))) h) c.run_owned-jobs.ensures.fault
-
-pub returns-clause-failed : goal.returns-clause-failed
-returns-clause-failed g c =
-    let tie = c.jobs-1.given.1 in
-    IfErr-weaker c.run_owned-jobs.result.1 _ _ (λ fault h is. served_back g.G.Jobs.gives _ _ _ c.run_owned-jobs.result.0 c.jobs-1.given.0 (λ name. sym (tie (sym name))) (h is)) c.run_owned-jobs.ensures.failed
+pub returns-in-Err-stopped-clause-failed : goal.returns-in-Err-stopped-clause-failed
+returns-in-Err-stopped-clause-failed g c =
+    let Serves = g.S.Service.serves c.args.service.now in
+    let done = c.in-Ok-run_lent.joined.told in
+    let firsts = c.args.workers.items in
+    let told = subst (λ ws. TellsGiven Serves kept g.G.Jobs.gives c.args.jobs.now ws done c.in-Ok-run_lent.joined.stopped c.run_lent.new.jobs) c.in-Ok.ensures.workers c.in-Ok-run_lent.ensures.told in
+    λ is. told_failed g.G.Jobs.gives Serves kept c.args.jobs.now firsts done c.run_lent.new.jobs c.in-Ok-in_order.ends.items c.in-Ok-in_order.ensures c.in-Err-stopped.fault is
+    (subst (λ s. TellsGiven Serves kept g.G.Jobs.gives c.args.jobs.now firsts done s c.run_lent.new.jobs) c.in-Err-stopped.is told)

@@ -1,63 +1,68 @@
 use Rattle.std.proofs.Common.{◌≡◌, ◌∙◌, ap, sym, subst, ◌∷◌, [], ◌++◌, map}
 use Rattle.std.specs.Vec.Iter.{into_iter_items}
 use Rattle.job_pool.specs.Lists.{Every}
-use Rattle.job_pool.specs.Workers.{IsOn, state_before}
+use Rattle.job_pool.specs.Workers.{IsNew, IsOn, state_before, worker_of}
 use Rattle.job_pool.proofs.Lists.{all_snoc}
 use Rattle.job_pool.proofs.Starting.{started}
 use Rattle.job_pool.proofs.start.start_all.Goals as goal
 
-pub loop-worker-preserved : goal.loop-worker-preserved
-loop-worker-preserved g c =
-    let On = IsOn {W = g.row.S-Worker.Denot} {J = g.row.S-Job.Denot} {E = g.row.S-End.Denot} c.args.queue.now.table.shared.table_id c.args.service.now in
-    let was = c.loop-worker.invariant in
-    let child = c.in-Ok-start_one.child in
-    let is = c.in-Ok-start_one.ensures in
+pub loop-station-preserved : goal.loop-station-preserved
+loop-station-preserved g c =
+    let On = IsOn {W = g.row.S-Worker.Denot} {J = g.row.S-Job.Denot} {K = g.row.K.Denot} c.args.queue.now.table.shared.table_id c.args.service.now in
+    let was = c.loop-station.invariant in
+    let child = c.in-Ok.child in
+    let station = c.in-Some.station in
+    let is = c.in-Ok.ensures in
+    let cut = c.in-Some.ensures.steps.0 in
+    let rest = into_iter_items c.next.new.self in
+    let firsts = map worker_of c.args.stations.items in
     let items = c.push_reserved.ensures.items ∙ ap (λ cs. cs ++ child ∷ []) c.reserve.ensures.items in (
       is.queue.0,
       is.queue.1,
-      subst (λ cs. Every On cs) (sym items) (all_snoc On c.loop-worker.children.items child was.2 is.child.0),
-      subst (λ cs. map state_before cs ++ into_iter_items c.next.new.self ≡ c.args.workers.items) (sym items) (started state_before c.loop-worker.children.items child c.in-Some.worker (into_iter_items c.loop-worker.worker-iterator) (into_iter_items c.next.new.self) c.args.workers.items is.child.1 c.in-Some.ensures.steps.0 was.3),
+      subst (λ cs. Every On cs) (sym items) (all_snoc On c.loop-station.children.items child was.2 is.child.0),
+      subst (λ cs. map state_before cs ++ map worker_of rest ≡ firsts) (sym items)
+          (started state_before c.loop-station.children.items child station.worker (map worker_of (into_iter_items c.loop-station.station-iterator)) (map worker_of rest) firsts is.child.1 (ap (λ ss. map worker_of ss) cut) was.3),
+      (subst (λ ss. Every (IsNew g.K.Sink.told g.K.Sink.has_room) ss) cut was.4).1,
     )
 
-pub loop-worker-init : goal.loop-worker-init
-loop-worker-init g c =
-    let On = IsOn {W = g.row.S-Worker.Denot} {J = g.row.S-Job.Denot} {E = g.row.S-End.Denot} c.args.queue.now.table.shared.table_id c.args.service.now in
-    let none = sym c.requires.none in (
+pub loop-station-init : goal.loop-station-init
+loop-station-init g c =
+    let On = IsOn {W = g.row.S-Worker.Denot} {J = g.row.S-Job.Denot} {K = g.row.K.Denot} c.args.queue.now.table.shared.table_id c.args.service.now in
+    let none = sym c.requires.none in
+    let all = c.into_iter-station-iterator.ensures.into_iter_gives.0 in (
       c.requires.queue.0,
       c.requires.queue.1,
       subst (λ cs. Every On cs) none tt,
-      subst (λ cs. map state_before cs ++ into_iter_items c.into_iter-worker-iterator.result ≡ c.args.workers.items) none c.into_iter-worker-iterator.ensures.into_iter_gives.0,
+      subst (λ cs. map state_before cs ++ map worker_of (into_iter_items c.into_iter-station-iterator.result) ≡ map worker_of c.args.stations.items) none (ap (λ ss. map worker_of ss) all),
+      subst (λ ss. Every (IsNew g.K.Sink.told g.K.Sink.has_room) ss) (sym all) c.requires.new,
     )
 
 pub returns-then-is_err-clause-queue : goal.returns-then-is_err-clause-queue
-returns-then-is_err-clause-queue g c = (c.loop-worker.invariant.0, c.loop-worker.invariant.1)
+returns-then-is_err-clause-queue g c = (c.loop-station.invariant.0, c.loop-station.invariant.1)
 
 pub returns-then-is_err-clause-children : goal.returns-then-is_err-clause-children
-returns-then-is_err-clause-children g c = rw c.reserve.ensures.items c.loop-worker.invariant.2
-
-pub returns-in_default-clause-queue : goal.returns-in_default-clause-queue
-returns-in_default-clause-queue g c = (c.loop-worker.invariant.0, c.loop-worker.invariant.1)
-
-pub returns-in_default-clause-children : goal.returns-in_default-clause-children
-returns-in_default-clause-children g c = rw c.reserve.ensures.items c.loop-worker.invariant.2
+returns-then-is_err-clause-children g c = rw c.reserve.ensures.items c.loop-station.invariant.2
 
 pub start_one-requires-clause-queue : goal.start_one-requires-clause-queue
-start_one-requires-clause-queue g c κs within = (c.loop-worker.invariant.0, c.loop-worker.invariant.1)
+start_one-requires-clause-queue g c κs within = (c.loop-station.invariant.0, c.loop-station.invariant.1)
 
 pub start_one-requires-clause-accepts : goal.start_one-requires-clause-accepts
 start_one-requires-clause-accepts g c κs within = c.requires.accepts
+
+pub start_one-requires-clause-new : goal.start_one-requires-clause-new
+start_one-requires-clause-new g c κs within = (subst (λ ss. Every (IsNew g.K.Sink.told g.K.Sink.has_room) ss) c.in-Some.ensures.steps.0 c.loop-station.invariant.4).0
 
 pub returns-in-Err-clause-queue : goal.returns-in-Err-clause-queue
 returns-in-Err-clause-queue g c = c.start_one.ensures.queue
 
 pub returns-in-Err-clause-children : goal.returns-in-Err-clause-children
-returns-in-Err-clause-children g c = rw c.reserve.ensures.items c.loop-worker.invariant.2
+returns-in-Err-clause-children g c = rw c.reserve.ensures.items c.loop-station.invariant.2
 
 pub returns-in-Err-clause-fault : goal.returns-in-Err-clause-fault
 returns-in-Err-clause-fault g c = c.in-Err.ensures.fault
 
 pub returns-clause-queue : goal.returns-clause-queue
-returns-clause-queue g c = (c.loop-worker.invariant.0, c.loop-worker.invariant.1)
+returns-clause-queue g c = (c.loop-station.invariant.0, c.loop-station.invariant.1)
 
 pub returns-clause-children : goal.returns-clause-children
-returns-clause-children g c = c.loop-worker.invariant.2
+returns-clause-children g c = c.loop-station.invariant.2

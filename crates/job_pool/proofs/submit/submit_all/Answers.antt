@@ -17,6 +17,7 @@ loop-preserved g c =
       ap (λ v. v.leads) step ∙ was.3,
       omega (arith, c.in-Some-checked_add.ensures, was.4, grown),
       subst (λ js. Gave g.G.Jobs.gives c.args.jobs.now js c.next-in-loop.new.self) (sym (ap (λ v. v.given) step)) (gave_more g.G.Jobs.gives c.args.jobs.now (view c.loop.pass).given c.loop.jobs c.in-Ok-Some.job c.next-in-loop.new.self was.5 more),
+      ap (λ v. v.taken) step ∙ was.6,
     )
 
 pub returns-in_default-clause-fault : goal.returns-in_default-clause-fault
@@ -30,7 +31,7 @@ pub loop-init : goal.loop-init
 loop-init g c =
     let none = ap (λ v. v.given) c.requires.queue.1 in
     let begun = subst (λ js. Gave g.G.Jobs.gives c.args.jobs.now js c.args.jobs.now) (sym none) refl in
-    (tt, tt, c.requires.queue.0, ap (λ v. v.leads) c.requires.queue.1, sym (ap length none), begun)
+    (tt, tt, c.requires.queue.0, ap (λ v. v.leads) c.requires.queue.1, sym (ap length none), begun, ap (λ v. v.taken) c.requires.queue.1)
 
 pub returns-in_default-clause-queue : goal.returns-in_default-clause-queue
 returns-in_default-clause-queue g c = (c.loop.invariant.2, c.loop.invariant.3)

@@ -1,6 +1,7 @@
-use Rattle.std.proofs.Common.{◌+◌, refl, sym, ap, subst, ◌∙◌}
+use Rattle.std.proofs.Common.{arith, ◌+◌, refl, sym, ap, subst, ◌∙◌}
 use Rattle.slab.specs.Slab.{slab_len}
 use Rattle.job_pool.specs.Desks.{SeatView, DeskView}
+use Rattle.job_pool.proofs.Counts.{one_counted}
 use Rattle.job_pool.proofs.Desks.{desk_refused, desk_opened}
 use Rattle.job_pool.proofs.desk.Desk.begin.Goals as goal
 
@@ -10,6 +11,8 @@ invariant_of-self g c =
       desk_refused (g.S.Service.serves was.service.now) was.service.now was.taken c.push.new.self (g.K.Sink.told was.sink) (g.K.Sink.told c.refuse.new.self) was.refused c.push-then-not-has_room.new.self was.first.value was.worker was.worker was.seats was.seats c.args.next
           c.push.ensures c.refuse.ensures.told refl c.self.invariant.0 c.args.next.number refl c.push-then-not-has_room.ensures refl,
       c.refuse.ensures.kept _ c.self.invariant.1,
+      one_counted was.taken c.push.new.self c.args.next was.took _ c.push.ensures c.self.invariant.2 (λ small. omega (arith, c.saturating_add-self-inside.ensures, small)),
+      one_counted was.refused c.push-then-not-has_room.new.self c.args.next.number was.away _ c.push-then-not-has_room.ensures c.self.invariant.3 (λ small. omega (arith, c.saturating_add-self-inside-then-not-has_room.ensures, small)),
     )
 
 pub invariant_of-self-in-Ok : goal.invariant_of-self-in-Ok
@@ -23,6 +26,8 @@ invariant_of-self-in-Ok g c =
           (ap (λ (v : SeatView g.row.S.Denot g.row.S-Job.Denot). v.service) is) (ap (λ (v : SeatView g.row.S.Denot g.row.S-Job.Denot). v.number) is) (ap (λ (v : SeatView g.row.S.Denot g.row.S-Job.Denot). v.job) is ∙ c.of-asked.ensures)
           c.insert_reserved.ensures.was_vacant c.insert_reserved.ensures.updates c.insert_reserved.ensures.len,
       subst (g.K.Sink.has_room was.sink) (sym c.insert_reserved.ensures.len) room,
+      one_counted was.taken c.push.new.self c.args.next was.took _ c.push.ensures c.self.invariant.2 (λ small. omega (arith, c.saturating_add-self-inside.ensures, small)),
+      c.self.invariant.3,
     )
 
 pub invariant_of-self-in-Err-1 : goal.invariant_of-self-in-Err-1
@@ -31,4 +36,6 @@ invariant_of-self-in-Err-1 g c =
       desk_refused (g.S.Service.serves was.service.now) was.service.now was.taken c.push.new.self (g.K.Sink.told was.sink) (g.K.Sink.told c.refuse-in-Err.new.self) was.refused c.push-in-Err.new.self was.first.value was.worker c.open.new.worker was.seats was.seats c.args.next
           c.push.ensures c.refuse-in-Err.ensures.told c.open.ensures.worker c.self.invariant.0 c.args.next.number refl c.push-in-Err.ensures refl,
       c.refuse-in-Err.ensures.kept _ c.self.invariant.1,
+      one_counted was.taken c.push.new.self c.args.next was.took _ c.push.ensures c.self.invariant.2 (λ small. omega (arith, c.saturating_add-self-inside.ensures, small)),
+      one_counted was.refused c.push-in-Err.new.self c.args.next.number was.away _ c.push-in-Err.ensures c.self.invariant.3 (λ small. omega (arith, c.saturating_add-self-inside-in-Err.ensures, small)),
     )

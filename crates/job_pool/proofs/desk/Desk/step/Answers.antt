@@ -12,6 +12,8 @@ invariant_of-self-in-Going g c =
     let Serves = g.S.Service.serves was.service.now in (
       desk_stepped Serves was.service.now was.taken (g.K.Sink.told was.sink) was.refused was.first.value was.worker c.step.new.worker was.seats c.args.slot c.in-Some.seat.now c.step.new.self found c.step.ensures.seat c.self.invariant.0 c.step.ensures.worker,
       subst (g.K.Sink.has_room was.sink) (sym (same_len Serves was.service.now was.taken (g.K.Sink.told was.sink) was.refused was.first.value was.worker c.step.new.worker was.seats c.args.slot c.in-Some.seat.now c.step.new.self found c.step.ensures.seat c.self.invariant.0)) c.self.invariant.1,
+      c.self.invariant.2,
+      c.self.invariant.3,
     )
 
 pub invariant_of-self-in-Waits : goal.invariant_of-self-in-Waits
@@ -21,6 +23,8 @@ invariant_of-self-in-Waits g c =
     let Serves = g.S.Service.serves was.service.now in (
       desk_stepped Serves was.service.now was.taken (g.K.Sink.told was.sink) was.refused was.first.value was.worker c.step.new.worker was.seats c.args.slot c.in-Some.seat.now c.step.new.self found c.step.ensures.seat c.self.invariant.0 c.step.ensures.worker,
       subst (g.K.Sink.has_room was.sink) (sym (same_len Serves was.service.now was.taken (g.K.Sink.told was.sink) was.refused was.first.value was.worker c.step.new.worker was.seats c.args.slot c.in-Some.seat.now c.step.new.self found c.step.ensures.seat c.self.invariant.0)) c.self.invariant.1,
+      c.self.invariant.2,
+      c.self.invariant.3,
     )
 
 pub tell-requires-clause-room : goal.tell-requires-clause-room
@@ -47,4 +51,6 @@ invariant_of-self-2 g c =
           (c.close-number.ensures.number ∙ ap (λ (v : SeatView g.row.S.Denot g.row.S-Job.Denot). v.number) is)
           c.tell.ensures.told c.remove-seat.ensures.updates c.remove-seat.ensures.len,
       c.tell.ensures.room (slab_len c.remove-seat.new.self) (subst (g.K.Sink.has_room was.sink) (sym (c.remove-seat.ensures.len ∙ len)) c.self.invariant.1),
+      c.self.invariant.2,
+      c.self.invariant.3,
     )

@@ -1,7 +1,7 @@
 use Rattle.std.proofs.Common.{◌≡◌, ◌∙◌, ◌++◌, Some, ap, sym, subst, map}
 use Rattle.std.specs.Vec.Iter.{into_iter_items}
 use Rattle.job_pool.proofs.Starting.{started}
-use Rattle.job_pool.proofs.collect.in_order.Goals as goal
+use Rattle.job_pool.proofs.order.each_end.Goals as goal
 
 pub loop-place-init : goal.loop-place-init
 loop-place-init g c =

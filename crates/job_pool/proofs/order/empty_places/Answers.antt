@@ -1,7 +1,7 @@
 use Rattle.std.proofs.Common.{◌≡◌, ◌+◌, ◌∙◌, None, ap, sym, subst, refl, length, length-append, arith}
 use Rattle.job_pool.specs.Lists.{Every}
 use Rattle.job_pool.proofs.Lists.{all_snoc}
-use Rattle.job_pool.proofs.collect.empty_places.Goals as goal
+use Rattle.job_pool.proofs.order.empty_places.Goals as goal
 
 pub loop-init : goal.loop-init
 loop-init g c =

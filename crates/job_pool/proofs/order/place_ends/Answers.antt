@@ -2,7 +2,7 @@ use Rattle.std.proofs.Common.{◌∙◌, Some, ap, sym, arith}
 use Rattle.std.specs.Vec.Iter.{into_iter_items}
 use Rattle.std.proofs.lemmas.List.{set_past}
 use Rattle.job_pool.specs.Ends.{placed}
-use Rattle.job_pool.proofs.collect.place_ends.Goals as goal
+use Rattle.job_pool.proofs.order.place_ends.Goals as goal
 
 pub loop-one-init : goal.loop-one-init
 loop-one-init g c = ap (λ ends. placed c.args.places.now.items ends) c.into_iter-one-iterator.ensures.into_iter_gives.0
