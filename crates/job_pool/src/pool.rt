@@ -15,6 +15,7 @@ use crate::lent::Lent;
 use crate::order::in_order;
 use crate::queue::{Accepts, JobQueue, QueuePass};
 use crate::readiness::{Bell, Readiness, Station};
+use crate::rooms::Rooms;
 use crate::rounds::stations_of;
 use crate::service::Service;
 use crate::sink::Sink;
@@ -115,10 +116,9 @@ fn run_on<'a, H, S, G, K, D, B, T>(
     service: &'a S,
     queue: &'a JobQueue<H, S::Job>,
     pass: QueuePass<S::Job>,
-    sleepers: Sleepers<B>,
+    rooms: Rooms<S::Worker, K, B>,
     jobs: G,
     stations: Vec<Station<S::Worker, K, D, B>>,
-    told: Told<S::Worker, K>,
 ) -> (G, Result<Joined<S::Worker, K>, RunFault>)
 where
     H: Accepts<S::Job> + Send + Sync,
@@ -132,7 +132,7 @@ where
     requires accepts { (job : S.Job) → H.accepts job → S.accepts service.now job }
     requires jobs { GivesOnly G.gives H.accepts jobs }
     requires new { Every (IsNew K.told K.has_room) stations.items }
-    requires told { IsEmpty told × HasPlaces told (length stations.items) }
+    requires told { IsEmpty rooms.told × HasPlaces rooms.told (length stations.items) }
     ensures told { IfOk result.1 (λ joined.
         TellsGiven (S.serves service.now) K.told G.gives jobs
         (map worker_of stations.items) joined.told joined.stopped result.0) }
@@ -147,7 +147,7 @@ where
             requires accepts { (job : S.Job) → H.accepts job → S.accepts service.now job }
             requires jobs { GivesOnly G.gives H.accepts jobs }
             requires new { Every (IsNew K.told K.has_room) stations.items }
-            requires told { IsEmpty told × HasPlaces told (length stations.items) }
+            requires told { IsEmpty rooms.told × HasPlaces rooms.told (length stations.items) }
             ensures told { IfOk result.1 (λ joined.
                 TellsGiven (S.serves service.entry.now) K.told G.gives jobs
                 (map worker_of stations.items) joined.told joined.stopped result.0) }
@@ -156,6 +156,7 @@ where
         {
             let mut mine = pass;
             let mut source = jobs;
+            let Rooms { sleepers, told } = rooms;
             let mut sleepers = sleepers;
             let mut children = Vec::new(alloc);
             let started = start_all(
@@ -216,19 +217,14 @@ where
     ensures own { IfErr result.1 IsOfRun }
 {
     let count = stations.len();
-    let Ok(told) = Told::with_places(alloc, count) else {
-        return (jobs, Err(RunFault::NoMemory));
-    };
-    let Ok(sleepers) = Sleepers::new(alloc, wakes) else {
+    let Ok(rooms) = Rooms::new(alloc, count, wakes) else {
         return (jobs, Err(RunFault::NoMemory));
     };
     let most = MAX_WAITING.max(count);
     let Ok((queue, pass)) = JobQueue::<H, S::Job>::ruled(alloc, most) else {
         return (jobs, Err(RunFault::NoMemory));
     };
-    run_on(
-        rt, alloc, service, &queue, pass, sleepers, jobs, stations, told,
-    )
+    run_on(rt, alloc, service, &queue, pass, rooms, jobs, stations)
 }
 
 /// A run over a source that is lent.

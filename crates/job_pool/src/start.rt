@@ -112,10 +112,10 @@ where
         map state_before children.new.items ≡ map worker_of stations.items) }
     ensures fault { IfErr result IsOfRun }
 {
+    let Ok(()) = children.reserve(stations.len()) else {
+        return Err(RunFault::NoMemory);
+    };
     for station in stations {
-        if children.reserve(1).is_err() {
-            return Err(RunFault::NoMemory);
-        }
         match start_one(scope, rt, alloc, service, queue, pass, sleepers, station) {
             Ok(child) => children.push_reserved(child),
             Err(fault) => return Err(fault),

@@ -1,47 +1,43 @@
-use Rattle.std.proofs.Common.{◌≡◌, ◌∙◌, ap, sym, subst, ◌∷◌, [], ◌++◌, map}
+use Rattle.std.proofs.Common.{arith, length, ◌≡◌, ◌∙◌, ap, sym, subst, ◌++◌, map}
 use Rattle.std.specs.Vec.Iter.{into_iter_items}
 use Rattle.job_pool.specs.Lists.{Every}
 use Rattle.job_pool.specs.Workers.{IsNew, IsOn, state_before, worker_of}
 use Rattle.job_pool.proofs.Lists.{all_snoc}
-use Rattle.job_pool.proofs.Starting.{started}
+use Rattle.job_pool.proofs.Starting.{room_left, started}
 use Rattle.job_pool.proofs.start.start_all.Goals as goal
 
 pub loop-station-preserved : goal.loop-station-preserved
 loop-station-preserved g c =
     let On = IsOn {W = g.row.S-Worker.Denot} {J = g.row.S-Job.Denot} {K = g.row.K.Denot} c.args.queue.now.table.shared.table_id c.args.service.now in
     let was = c.loop-station.invariant in
-    let child = c.in-Ok.child in
+    let child = c.in-Ok-start_one.child in
     let station = c.in-Some.station in
-    let is = c.in-Ok.ensures in
+    let is = c.in-Ok-start_one.ensures in
     let cut = c.in-Some.ensures.steps.0 in
     let rest = into_iter_items c.next.new.self in
     let firsts = map worker_of c.args.stations.items in
-    let items = c.push_reserved.ensures.items ∙ ap (λ cs. cs ++ child ∷ []) c.reserve.ensures.items in (
+    let items = c.push_reserved.ensures.items in (
       is.queue.0,
       is.queue.1,
       subst (λ cs. Every On cs) (sym items) (all_snoc On c.loop-station.children.items child was.2 is.child.0),
       subst (λ cs. map state_before cs ++ map worker_of rest ≡ firsts) (sym items)
           (started state_before c.loop-station.children.items child station.worker (map worker_of (into_iter_items c.loop-station.station-iterator)) (map worker_of rest) firsts is.child.1 (ap (λ ss. map worker_of ss) cut) was.3),
       (subst (λ ss. Every (IsNew g.K.Sink.told g.K.Sink.has_room) ss) cut was.4).1,
+      room_left _ _ station _ _ child _ _ cut items c.push_reserved.ensures.capacity was.5,
     )
 
 pub loop-station-init : goal.loop-station-init
 loop-station-init g c =
     let On = IsOn {W = g.row.S-Worker.Denot} {J = g.row.S-Job.Denot} {K = g.row.K.Denot} c.args.queue.now.table.shared.table_id c.args.service.now in
-    let none = sym c.requires.none in
+    let none = c.in-Ok.ensures.items ∙ c.requires.none in
     let all = c.into_iter-station-iterator.ensures.into_iter_gives.0 in (
       c.requires.queue.0,
       c.requires.queue.1,
-      subst (λ cs. Every On cs) none tt,
-      subst (λ cs. map state_before cs ++ map worker_of (into_iter_items c.into_iter-station-iterator.result) ≡ map worker_of c.args.stations.items) none (ap (λ ss. map worker_of ss) all),
+      subst (λ cs. Every On cs) (sym none) tt,
+      subst (λ cs. map state_before cs ++ map worker_of (into_iter_items c.into_iter-station-iterator.result) ≡ map worker_of c.args.stations.items) (sym none) (ap (λ ss. map worker_of ss) all),
       subst (λ ss. Every (IsNew g.K.Sink.told g.K.Sink.has_room) ss) (sym all) c.requires.new,
+      omega (arith, ap length all, ap length none, c.in-Ok.ensures.ok, c.len.ensures),
     )
-
-pub returns-then-is_err-clause-queue : goal.returns-then-is_err-clause-queue
-returns-then-is_err-clause-queue g c = (c.loop-station.invariant.0, c.loop-station.invariant.1)
-
-pub returns-then-is_err-clause-children : goal.returns-then-is_err-clause-children
-returns-then-is_err-clause-children g c = rw c.reserve.ensures.items c.loop-station.invariant.2
 
 pub start_one-requires-clause-queue : goal.start_one-requires-clause-queue
 start_one-requires-clause-queue g c κs within = (c.loop-station.invariant.0, c.loop-station.invariant.1)
@@ -56,7 +52,7 @@ pub returns-in-Err-clause-queue : goal.returns-in-Err-clause-queue
 returns-in-Err-clause-queue g c = c.start_one.ensures.queue
 
 pub returns-in-Err-clause-children : goal.returns-in-Err-clause-children
-returns-in-Err-clause-children g c = rw c.reserve.ensures.items c.loop-station.invariant.2
+returns-in-Err-clause-children g c = c.loop-station.invariant.2
 
 pub returns-in-Err-clause-fault : goal.returns-in-Err-clause-fault
 returns-in-Err-clause-fault g c = c.in-Err.ensures.fault

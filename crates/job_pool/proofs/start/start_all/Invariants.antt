@@ -1,4 +1,5 @@
-use Rattle.std.proofs.Common.{◌≡◌, ◌++◌, map}
+use Rattle.std.proofs.Common.{◌≡◌, ◌+◌, ◌≤◌, ◌++◌, length, map}
+use Rattle.std.specs.Prelude.{vec_capacity}
 use Rattle.std.specs.Vec.Iter.{into_iter_items}
 use Rattle.crossbeam_queue.specs.Passes.{view, IsPassOf}
 use Rattle.job_pool.specs.Lists.{Every}
@@ -12,3 +13,4 @@ invariant-loop-station g l =
     × Every (IsOn l.queue.table.shared.table_id l.service) l.children.items
     × (map state_before l.children.items ++ map worker_of (into_iter_items l.station-iterator) ≡ map worker_of l.fn.stations.items)
     × Every (IsNew g.K.Sink.told g.K.Sink.has_room) (into_iter_items l.station-iterator)
+    × (length (into_iter_items l.station-iterator) + length l.children.items ≤ vec_capacity l.children)

@@ -9,7 +9,7 @@ use Rattle.job_pool.proofs.pool.fn.run_on.scope.Goals as goal
 pub dispatch-joined-requires-clause-told : goal.dispatch-joined-requires-clause-told
 dispatch-joined-requires-clause-told g c κs within =
     let many = same_many state_before worker_of c.start_all-started.new.children.items c.captures.stations.items c.in_default.ensures.workers in
-    (c.requires.told.0, subst (HasPlaces c.captures.told) many c.requires.told.1)
+    (c.requires.told.0, subst (HasPlaces c.captures.rooms-told) many c.requires.told.1)
 
 pub returns : goal.returns
 returns g c =
