@@ -27,7 +27,7 @@ pub trait Readiness<S: Service> {
     fn after(&mut self, slot: usize, moved: Moved);
 
     /// Waits until a slot is ready, the bell is rung, or it is time to look. `is_idle` where no job is open. It returns at once where a turn is due,
-    /// or where the bell was rung since it last returned.
+    /// or where the bell was rung since it last returned. A worker that has its stop mark and no job open doesn't wait.
     fn wait<T: Wait>(&mut self, rt: &T, is_idle: bool);
 }
 

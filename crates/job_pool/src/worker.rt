@@ -136,8 +136,8 @@ fn take_turns<'a, S: Service, K: Sink<S> + Drop, D: Readiness<S>>(
     }
 }
 
-/// One round of a worker: it takes a task, where it is to take one, and gives each job that is ready a turn. It waits where it took none. Whether it
-/// has taken its stop mark.
+/// One round of a worker: it takes a task, where it is to take one, and gives each job that is ready a turn. It waits where it took none, unless it has
+/// its stop mark and no job open: then nothing would wake it. Whether it has taken its stop mark.
 fn work_once<'a, H, S, K, D, T>(
     rt: &T,
     alloc: Global,
@@ -173,7 +173,10 @@ where
         }
     }
     take_turns(alloc, desk, waits);
-    waits.wait(rt, desk.is_empty());
+    let is_idle = desk.is_empty();
+    if !is_stopped || !is_idle {
+        waits.wait(rt, is_idle);
+    }
     is_stopped
 }
 
