@@ -1,5 +1,5 @@
 -- What a worker's calls do with its open jobs.
-use Rattle.std.proofs.Common.{◌≡◌, ◌≢◌, ◌+◌, ℕ, zero, suc, List, [], ◌∷◌, ◌++◌, length, length-append, set, get_or, cond, count_by, is_some, Option, Some, None, refl, sym, ap, subst, ◌∙◌, inl, inr, arith}
+use Rattle.std.proofs.Common.{◌≡◌, ◌≢◌, ◌+◌, ℕ, zero, suc, List, [], ◌∷◌, ◌++◌, length, set, get_or, cond, count_by, is_some, Option, Some, None, refl, sym, ap, subst, ◌∙◌, inl, inr, arith}
 use Rattle.std.specs.Prelude.{IfSome, slice_get, slice_index_or}
 use Rattle.std.proofs.lemmas.Bool.{cases_eq}
 use Rattle.std.proofs.lemmas.List.{get_or-set_other}
@@ -114,11 +114,6 @@ module _ {S W J E : Type 0} (Serves : W → J → W → E → Type 0) (service :
     chained = w;
     each = subst (λ (l : List (NumberedEnd E)). Pairwise (IsTurnOfTaken {W = W} taken) [] l) (sym o) tt;
     seated = λ slot. subst (λ (l : List (Option (SeatView S J))). IfSome (slice_index_or l slot None) (IsSeated service taken)) (sym s) tt;
-    counted =
-        let open_none : slab_len seats ≡ 0 = ap (λ (l : List (Option (SeatView S J))). count_by is_some l) s in
-        let taken_none : length taken ≡ 0 = ap length t in
-        let refused_none : length refused ≡ 0 = ap length r in
-        omega (arith, open_none, taken_none, refused_none);
     once = λ wt.
         let a : weight_told wt told ≡ 0 = ap (weight_told wt) o in
         let b : weight_refused wt refused ≡ 0 = ap (weight_refused wt) r in
@@ -138,9 +133,6 @@ module _ {S W J E : Type 0} (Serves : W → J → W → E → Type 0) (service :
     abbrev still_seated : AreSeated service taken' seats
     still_seated = λ slot. subst (λ (l : List (NumberedJob J)). IfSome (get seats slot) (IsSeated service l)) (sym takes) (seated_if service taken (next ∷ []) (get seats slot) (p.seated slot))
 
-    abbrev one_more : length taken' ≡ length taken + 1
-    one_more = ap length takes ∙ length-append taken (next ∷ [])
-
     -- a job was taken, and refused
     abbrev more_taken_by : (wt : ℕ → ℕ) → weight_of wt taken' ≡ weight_of wt taken + (wt next.number + 0)
     more_taken_by wt = ap (weight_of wt) takes ∙ weights_join wt taken (next ∷ [])
@@ -151,10 +143,6 @@ module _ {S W J E : Type 0} (Serves : W → J → W → E → Type 0) (service :
       chained = subst (TurnChain Serves first p.turns) (sym same_worker) p.chained;
       each = still_each;
       seated = still_seated;
-      counted =
-          let count = p.counted in
-          let more : length refused' ≡ length refused + 1 = ap length r ∙ length-append refused (n ∷ []) in
-          omega (arith, count, more, one_more);
       once = λ wt.
           let before = p.once wt in
           let more = more_taken_by wt in
@@ -165,19 +153,15 @@ module _ {S W J E : Type 0} (Serves : W → J → W → E → Type 0) (service :
     })
 
     -- a job was taken, and opened
-    pub desk_opened : (slot : ℕ) (seat : SeatView S J) → refused' ≡ refused → seat.service ≡ service → seat.number ≡ next.number → seat.job ≡ next.job → get seats slot ≡ None → Updates seats seats' slot (Some seat) → slab_len seats' ≡ slab_len seats + 1
+    pub desk_opened : (slot : ℕ) (seat : SeatView S J) → refused' ≡ refused → seat.service ≡ service → seat.number ≡ next.number → seat.job ≡ next.job → get seats slot ≡ None → Updates seats seats' slot (Some seat)
         → DeskStands Serves service taken' told' refused' first last' seats'
-    desk_opened slot seat r of_service number job vacant updates len =
+    desk_opened slot seat r of_service number job vacant updates =
         let at : slice_get taken' (length taken) ≡ Some next = subst (λ (l : List (NumberedJob J)). slice_get l (length taken) ≡ Some next) (sym takes) (get-last taken next) in
         record {
           turns = p.turns;
           chained = subst (TurnChain Serves first p.turns) (sym same_worker) p.chained;
           each = still_each;
           seated = seated_now service taken' seats seats' slot (Some seat) updates (record { of_service = of_service; place = length taken; next = next; at = at; number = number; job = job }) still_seated;
-          counted =
-              let count = p.counted in
-              let same : length refused' ≡ length refused = ap length r in
-              omega (arith, count, same, one_more, len);
           once = λ wt.
               let before = p.once wt in
               let more = more_taken_by wt in
@@ -207,7 +191,6 @@ module _ {S W J E : Type 0} (Serves : W → J → W → E → Type 0) (service :
       chained = subst (TurnChain Serves first p.turns) (sym w) p.chained;
       each = p.each;
       seated = seated_now service taken seats (with_value seats slot now) slot (Some now) (Updates-with_value seats slot now (ap is_some found)) is_now p.seated;
-      counted = let count = p.counted in omega (arith, count, same_len);
       once = λ wt.
           let before = p.once wt in
           let updates = Updates-with_value seats slot now (ap is_some found) in
@@ -219,8 +202,8 @@ module _ {S W J E : Type 0} (Serves : W → J → W → E → Type 0) (service :
 
     -- and came to its end
     pub desk_ended : (mid : W) (after : Slab (SeatView S J)) (told' : List (NumberedEnd E)) (one : NumberedEnd E) → mid ≡ last → Serves mid now.job last' one.end → one.number ≡ now.number → told' ≡ told ++ one ∷ []
-        → Updates (with_value seats slot now) after slot None → slab_len after + 1 ≡ slab_len (with_value seats slot now) → DeskStands Serves service taken told' refused first last' after
-    desk_ended mid after told' one w serves number tells updates len =
+        → Updates (with_value seats slot now) after slot None → DeskStands Serves service taken told' refused first last' after
+    desk_ended mid after told' one w serves number tells updates =
         let s = is_now in
         let job : now.job ≡ s.next.job = s.job in
         let turn : ServedTurn W J E = record { before = mid; job = now.job; after = last'; end = one.end } in
@@ -230,10 +213,6 @@ module _ {S W J E : Type 0} (Serves : W → J → W → E → Type 0) (service :
           each = subst (λ (l : List (NumberedEnd E)). Pairwise (IsTurnOfTaken taken) (p.turns ++ turn ∷ []) l) (sym tells)
               (pairs_snoc (IsTurnOfTaken taken) p.turns told turn one p.each (record { place = s.place; next = s.next; at = s.at; number = number ∙ s.number; job = job; end = refl }));
           seated = seated_now service taken seats after slot None (removed seats after slot now updates) tt p.seated;
-          counted =
-              let count = p.counted in
-              let more : length (p.turns ++ turn ∷ []) ≡ length p.turns + 1 = length-append p.turns (turn ∷ []) in
-              omega (arith, count, more, len, same_len);
           once = λ wt.
               let before = p.once wt in
               let gone = removed seats after slot now updates in

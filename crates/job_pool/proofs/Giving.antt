@@ -22,22 +22,12 @@ module _ {G J F : Type 0} (Gives : G → Result (Option J) F → G → Type 0) w
   none_taken NoThread first h = refl
   none_taken JobsFailed first h = absurd h
 
-  -- behind this fault
-  pub stops : (fault : RunFault) (first : G) (jobs : List J) (last : G) → StoppedAfter Gives fault first jobs last → Leaves Gives fault first last
-  stops NoMemory first jobs last h = h
-  stops NoThread first jobs last h = absurd h
-  stops JobsFailed first jobs last h = (jobs, h)
-
   -- behind the last job, or behind a fault, memory was refused
   pub refused : (first : G) (jobs : List J) (last : G) (stopped : Result (Unit {0}) RunFault) → IfOk stopped (λ _. GaveAll Gives first jobs last) → IfErr stopped (λ fault. StoppedAfter Gives fault first jobs last) → Leaves Gives NoMemory first last
   refused first jobs last (Ok u) all h = (jobs, inr all)
   refused first jobs last (Err NoMemory) all h = h
   refused first jobs last (Err NoThread) all h = absurd h
   refused first jobs last (Err JobsFailed) all h = (jobs, inl (inr h))
-
-  -- the run's own fault isn't the source's
-  pub own_fault : {P : Type 0} (fault : RunFault) → IsOfRun fault → fault ≡ JobsFailed → P
-  own_fault fault h is = absurd (subst IsOfRun is h)
 
   module _ {W E K : Type 0} (Serves : W → J → W → E → Type 0) (told : K → List (NumberedEnd E)) (first : G) (firsts : List W) (done : Told W K) (last : G) where
     abbrev Telling : Result (Unit {0}) RunFault → Type 0
@@ -48,13 +38,6 @@ module _ {G J F : Type 0} (Gives : G → Result (Option J) F → G → Type 0) w
         → ToldOnce Serves told jobs firsts done.workers.items done.sinks.items done.given done.refused → Telling stopped
     told_all jobs (Ok u) all h once = (jobs, all, once)
     told_all jobs (Err fault) all h once = (jobs, h, once)
-
-    pub told_some : (stopped : Result (Unit {0}) RunFault) → Telling stopped → Leaves Gives NoMemory first last
-    told_some (Ok u) h = refused first h.0 last (Ok u) h.1 tt
-    told_some (Err fault) h = refused first h.0 last (Err fault) tt h.1
-
-    pub told_stopped : (fault : RunFault) → Telling (Err fault) → Leaves Gives fault first last
-    told_stopped fault h = stops fault first h.0 last h.1
 
     module _ (ends : List E) (order : AreInOrder done.given (told_by told done.sinks.items) ends) where
       pub told_served : (u : Unit {0}) → Telling (Ok u) → AllServedOnce Gives Serves first firsts ends done.workers.items last

@@ -86,7 +86,7 @@ module _ {W J E K : Type 0} (Serves : W → J → W → E → Type 0) (told : K 
         left = h.left;
         chained = h.chained;
         each = h.each;
-        once = λ w. h.once w ∙ known.all full w ∙ ap (weight_below w) many;
+        once = λ w. h.once w ∙ known.once full w ∙ ap (weight_below w) many;
         all = same ∙ is;
         others = away_is;
         counted = omega (arith, ones, away_is, took_is);

@@ -94,11 +94,6 @@ module _ {J : Type 0} where
     weights_snoc [] v = omega arith
     weights_snoc (u ∷ views) v = let rest = weights_snoc views v in omega (arith, rest)
 
-    weights_at : (views : List (Knowledge J)) (port : ℕ) (v : Knowledge J) → get_elem? views port ≡ some v → weight_of w v.taken ≤ weight_taken w views
-    weights_at [] port v at = absurd (some-ne-none v (sym at))
-    weights_at (x ∷ views) zero v at = let same : weight_of w x.taken ≡ weight_of w v.taken = ap (λ (y : Knowledge J). weight_of w y.taken) (some-injective x v at) in omega (arith, same)
-    weights_at (x ∷ views) (suc port) v at = let rest = weights_at views port v at in omega (arith, rest)
-
     pub weights_join : (xs ys : List (NumberedJob J)) → weight_of w (xs ++ ys) ≡ weight_of w xs + weight_of w ys
     weights_join [] ys = omega arith
     weights_join (x ∷ xs) ys = let rest = weights_join xs ys in omega (arith, rest)
@@ -194,8 +189,7 @@ module _ {J : Type 0} where
         record {
           numbered = subst (λ (jobs : List J). Every (IsNumbered jobs) v.taken) given mine.1;
           count = omega (arith, some_of, all, many);
-          once = λ w. let some = weights_at w views port v at in let before = h.5 w in let same : weight_below w (length h.1) ≡ weight_below w (length v.given) = ap (weight_below w) many in omega (arith, some, before, same);
-          all = λ full w.
+          once = λ full w.
               let none : waiting items ≡ 0 = omega (arith, some_of, all, many, full) in
               let here = all_weigh w views port v at (omega (arith, some_of, all, many, full)) in
               let left = none_waiting w items none in

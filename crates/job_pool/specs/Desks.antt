@@ -1,6 +1,6 @@
 -- The jobs that a worker has open.
-use Rattle.std.specs.Prelude.{◌≡◌, ◌+◌, ℕ, Bool, List, [], ◌∷◌, Option, Some, None, IfSome, length, slice_get}
-use Rattle.slab.specs.Slab.{Slab, get, slab_len}
+use Rattle.std.specs.Prelude.{◌≡◌, ◌+◌, ℕ, Bool, List, [], ◌∷◌, Option, Some, None, IfSome, slice_get}
+use Rattle.slab.specs.Slab.{Slab, get}
 use Rattle.job_pool.specs.Lists.{Pairwise}
 use Rattle.job_pool.specs.Turns.{ServedTurn, TurnChain}
 use Rattle.job_pool.specs.Ends.{IsTurnOfTaken, weight_told, weight_refused}
@@ -54,5 +54,4 @@ pub record DeskStands {S W J E : Type 0} (Serves : W → J → W → E → Type 
   pub chained : TurnChain Serves first turns last
   pub each : Pairwise (IsTurnOfTaken taken) turns told
   pub seated : AreSeated service taken seats
-  pub counted : length turns + length refused + slab_len seats ≡ length taken
   pub once : (w : ℕ → ℕ) → weight_told w told + weight_refused w refused + weight_seats w seats.slots ≡ weight_of w taken

@@ -93,10 +93,8 @@ module _ {J : Type 0} where
       × (taken_by views + waiting tasks ≡ length jobs)
       × ((w : ℕ → ℕ) → weight_taken w views + weight_waiting w tasks ≡ weight_below w (length jobs))
 
-  -- what this pass took are jobs that it gave, and no more than it gave, each at most once, whatever the numbers weigh; where it took as many
-  -- as it gave, each once
+  -- what this pass took are jobs that it gave, and no more than it gave; where it took as many, each once, whatever the numbers weigh
   pub record AreOfGiven (v : Knowledge J) : Type 0 where
     pub numbered : Every (IsNumbered v.given) v.taken
     pub count : length v.taken ≤ length v.given
-    pub once : (w : ℕ → ℕ) → weight_of w v.taken ≤ weight_below w (length v.given)
-    pub all : length v.taken ≡ length v.given → (w : ℕ → ℕ) → weight_of w v.taken ≡ weight_below w (length v.given)
+    pub once : length v.taken ≡ length v.given → (w : ℕ → ℕ) → weight_of w v.taken ≡ weight_below w (length v.given)

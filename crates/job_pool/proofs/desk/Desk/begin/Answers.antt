@@ -24,7 +24,7 @@ invariant_of-self-in-Ok g c =
       desk_opened (g.S.Service.serves was.service.now) was.service.now was.taken c.push.new.self (g.K.Sink.told was.sink) (g.K.Sink.told was.sink) was.refused was.refused was.first.value was.worker c.open.new.worker was.seats c.insert_reserved.new.self c.args.next
           c.push.ensures refl c.open.ensures.worker c.self.invariant.0 c.insert_reserved.result seat refl
           (ap (λ (v : SeatView g.row.S.Denot g.row.S-Job.Denot). v.service) is) (ap (λ (v : SeatView g.row.S.Denot g.row.S-Job.Denot). v.number) is) (ap (λ (v : SeatView g.row.S.Denot g.row.S-Job.Denot). v.job) is ∙ c.of-asked.ensures)
-          c.insert_reserved.ensures.was_vacant c.insert_reserved.ensures.updates c.insert_reserved.ensures.len,
+          c.insert_reserved.ensures.was_vacant c.insert_reserved.ensures.updates,
       subst (g.K.Sink.has_room was.sink) (sym c.insert_reserved.ensures.len) room,
       one_counted was.taken c.push.new.self c.args.next was.took _ c.push.ensures c.self.invariant.2 (λ small. omega (arith, c.saturating_add-self-inside.ensures, small)),
       c.self.invariant.3,

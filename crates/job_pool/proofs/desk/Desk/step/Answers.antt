@@ -49,7 +49,7 @@ invariant_of-self-2 g c =
           c.step.new.worker c.remove-seat.new.self (g.K.Sink.told c.tell.new.self) (record { number = c.close-number.result.0; end = c.close-number.result.2 }) c.step.ensures.worker
           (subst (λ (v : SeatView g.row.S.Denot g.row.S-Job.Denot). Serves c.step.new.worker v.job c.close-number.new.worker c.close-number.result.2) is c.close-number.ensures.serves)
           (c.close-number.ensures.number ∙ ap (λ (v : SeatView g.row.S.Denot g.row.S-Job.Denot). v.number) is)
-          c.tell.ensures.told c.remove-seat.ensures.updates c.remove-seat.ensures.len,
+          c.tell.ensures.told c.remove-seat.ensures.updates,
       c.tell.ensures.room (slab_len c.remove-seat.new.self) (subst (g.K.Sink.has_room was.sink) (sym (c.remove-seat.ensures.len ∙ len)) c.self.invariant.1),
       c.self.invariant.2,
       c.self.invariant.3,
