@@ -3,7 +3,7 @@ use Rattle.std.proofs.Common.{◌≡◌, List, [], ◌∷◌, ◌++◌, refl, su
 use Rattle.std.specs.Prelude.{Option, Some, Result, Ok, Err, IfOk, IfErr}
 use Rattle.job_pool.specs.declared.fault.RunFault.{RunFault}
 use Rattle.job_pool.specs.declared.fault.RunFault.TheVariants.{NoMemory, NoThread, JobsFailed}
-use Rattle.job_pool.specs.Giving.{Gave, GaveAll, AllServedOnce, Leaves, ServedThenFailed, StoppedAfter}
+use Rattle.job_pool.specs.Giving.{Gave, GaveAll, GaveFailed, AllServedOnce, Leaves, ServedThenFailed, StoppedAfter}
 use Rattle.job_pool.specs.Ends.{AreInOrder, told_by}
 use Rattle.job_pool.specs.Telling.{ToldOnce, TellsGiven}
 use Rattle.job_pool.specs.declared.told.Told.{Told}
@@ -38,6 +38,11 @@ module _ {G J F : Type 0} (Gives : G → Result (Option J) F → G → Type 0) w
         → ToldOnce Serves told jobs firsts done.workers.items done.sinks.items done.given done.refused → Telling stopped
     told_all jobs (Ok u) all h once = (jobs, all, once)
     told_all jobs (Err fault) all h once = (jobs, h, once)
+
+    -- also behind a fault of the source
+    pub told_failing : (fault : RunFault) → fault ≡ JobsFailed → Telling (Err fault)
+        → (jobs : List J) × GaveFailed Gives first jobs last × (left : Told W K) × ToldOnce Serves told jobs firsts left.workers.items left.sinks.items left.given left.refused
+    told_failing fault is h = (h.0, subst (λ f. StoppedAfter Gives f first h.0 last) is h.1, done, h.2)
 
     module _ (ends : List E) (order : AreInOrder done.given (told_by told done.sinks.items) ends) where
       pub told_served : (u : Unit {0}) → Telling (Ok u) → AllServedOnce Gives Serves first firsts ends done.workers.items last

@@ -2,7 +2,7 @@
 use Rattle.std.specs.Prelude.{◌≡◌, ◌+◌, ℕ, List, [], Option, Result, Ok, Err, length, map, vec_capacity, ◌≤◌}
 use Rattle.job_pool.specs.Lists.{Every, Pairwise}
 use Rattle.job_pool.specs.Turns.{WorkerTurns, IsChain, firsts_of, lasts_of}
-use Rattle.job_pool.specs.Giving.{GaveAll, StoppedAfter}
+use Rattle.job_pool.specs.Giving.{GaveAll, GaveFailed, StoppedAfter}
 use Rattle.job_pool.specs.Queue.{weight_below}
 use Rattle.job_pool.specs.Ends.{IsTold, told_by, weight_told, weight_refused}
 use Rattle.job_pool.specs.Workers.{worker_of}
@@ -40,8 +40,12 @@ module _ {W J E K : Type 0} (Serves : W → J → W → E → Type 0) (told : K 
     TellsGiven first firsts done (Ok u) last = (jobs : List J) × GaveAll Gives first jobs last × ToldOnce jobs firsts done.workers.items done.sinks.items done.given done.refused
     TellsGiven first firsts done (Err fault) last = (jobs : List J) × StoppedAfter Gives fault first jobs last × ToldOnce jobs firsts done.workers.items done.sinks.items done.given done.refused
 
--- all jobs until there was none, each of which was served in one turn of a worker, whose sink was told its end, or was refused
-abbrev pub TellsEachOnce : {G J F W E K D B : Type 0} → (G → Result (Option J) F → G → Type 0) → (W → J → W → E → Type 0) → (K → List (NumberedEnd E))
-    → G → List (Station W K D B) → Told W K → G → Type 0
-TellsEachOnce {J = J} Gives Serves told first stations done last =
-    (jobs : List J) × GaveAll Gives first jobs last × ToldOnce Serves told jobs (map worker_of stations) done.workers.items done.sinks.items done.given done.refused
+module _ {G J F W E K D B : Type 0} (Gives : G → Result (Option J) F → G → Type 0) (Serves : W → J → W → E → Type 0) (told : K → List (NumberedEnd E)) where
+  -- all jobs until there was none, each of which was served in one turn of a worker, whose sink was told its end, or was refused
+  abbrev pub TellsEachOnce : G → List (Station W K D B) → Told W K → G → Type 0
+  TellsEachOnce first stations done last = (jobs : List J) × GaveAll Gives first jobs last × ToldOnce Serves told jobs (map worker_of stations) done.workers.items done.sinks.items done.given done.refused
+
+  -- some jobs, of which the same holds with what the workers left, and then a fault
+  abbrev pub ToldThenFailed : G → List (Station W K D B) → G → Type 0
+  ToldThenFailed first stations last =
+      (jobs : List J) × GaveFailed Gives first jobs last × (done : Told W K) × ToldOnce Serves told jobs (map worker_of stations) done.workers.items done.sinks.items done.given done.refused

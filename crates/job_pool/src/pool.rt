@@ -4,7 +4,7 @@ ghost use Rattle.crossbeam_queue.specs.Passes.{view, IsPassOf};
 ghost use Rattle.job_pool.specs.Giving.{AllServedOnce, GivesOnly, Leaves, ServedThenFailed};
 ghost use Rattle.job_pool.specs.Lists.{Every};
 ghost use Rattle.job_pool.specs.Queue.{leader};
-ghost use Rattle.job_pool.specs.Telling.{HasPlaces, IsEmpty, TellsEachOnce, TellsGiven};
+ghost use Rattle.job_pool.specs.Telling.{HasPlaces, IsEmpty, TellsEachOnce, TellsGiven, ToldThenFailed};
 ghost use Rattle.job_pool.specs.Workers.{IsNew, IsOfRun, IsOn, state_before, worker_of};
 ghost use Rattle.job_pool.specs.declared.fault.RunFault.TheVariants.{JobsFailed};
 
@@ -328,11 +328,10 @@ where
 /// A worker takes the jobs for which its bell was rung; each is meant for the worker whose bell tells the least load, the first of these. It has many
 /// jobs open, as its readiness lets it.
 ///
-/// Where the run ends by a fault, the workers that were started have been joined, all jobs that they took were served or refused, and their states
-/// and sinks are let go:
+/// Where the run ends by a fault, the workers that were started have been joined, and their states and sinks are let go:
 ///
 /// - `NoThread`: the system refused a thread. No job was taken from the source.
-/// - `JobsFailed`: the source gave some jobs and then a fault.
+/// - `JobsFailed`: the source gave some jobs and then a fault. Each of the jobs that it gave was served or refused once.
 /// - `NoMemory`: memory was refused to the run, before it took a job from the source; or there were more jobs than can be counted.
 ///
 /// It waits for the workers, and they for jobs. It returns if each call of `next` does, and each job is over after finitely many turns.
@@ -356,6 +355,10 @@ where
     ensures told { IfOk result (λ done.
         TellsEachOnce G.gives (S.serves service.now) K.told jobs.old stations.items done jobs.new) }
     ensures fault { IfErr result (λ fault. Leaves G.gives fault jobs.old jobs.new) }
+
+    // Where the source failed, each job that it gave was told or refused once.
+    ensures failed { IfErr result (λ fault. fault ≡ JobsFailed
+        → ToldThenFailed G.gives (S.serves service.now) K.told jobs.old stations.items jobs.new) }
 {
     match run_lent(rt, alloc, service, jobs, stations, Wakes::LeastLoad) {
         Ok(joined) => {
