@@ -96,10 +96,10 @@ where
     ensures service { desk.new.service ≡ desk.old.service }
     ensures first { desk.new.first ≡ desk.old.first }
 {
-    let has_room = desk.reserve(alloc);
     match queue.pop_as::<Pop<H>, T>(rt, pass) {
         Some(Task::Serve(next)) => {
             to_leader.wake();
+            let has_room = desk.reserve(alloc);
             if let Some(slot) = desk.begin(alloc, next, has_room) {
                 if let Some(opened) = desk.opened(slot) {
                     waits.begin(slot, opened);
