@@ -1,6 +1,6 @@
 -- The lemmas of this crate.
 pub mod Keeping
-pub mod Sessions
+pub mod Closing
 pub mod Ends
 pub mod Faults
 pub mod Sources

@@ -7,6 +7,8 @@ use Rattle.node_session.specs.declared.ended.Ended.{Ended}
 use Rattle.node_session.specs.declared.fault.SessionFault.{SessionFault}
 use Rattle.node_session.specs.Answered.{AnsweredInput}
 use Rattle.node_session.specs.Session.{Given, IsInputEnd, Stops, IsTooManyReads, MadeReads}
+use Rattle.node_session.specs.Courses.{Came}
+use Rattle.stats_book.specs.Counting.{both, zeros}
 use Rattle.stats_book.specs.declared.totals.Totals.{Totals}
 use Rattle.gate_node.specs.Gates.{Gates}
 use Rattle.gate_node.specs.GateStep.{NodeOverGates, GateNodeStep}
@@ -14,6 +16,7 @@ use Rattle.gate_node.specs.Passes.{Sights, ArePassesOf}
 use Rattle.worker_pool.specs.declared.job.Job.{Job}
 use Rattle.worker_pool.specs.declared.job.End.{End}
 use Rattle.worker_pool.specs.declared.server.ServedJob.{ServedJob}
+use Rattle.worker_pool.specs.Sitting.{SittingView}
 
 module _ {I O : Type 0} where
   abbrev pub IsForGates : Gates → Job I O → Type 0
@@ -45,14 +48,14 @@ module _ {I O : Type 0} where
         × (IsTooManyReads fault → MadeReads (remaining job.reader) (remaining end.reader) shared.reads)
 
     -- between a node over these gates by the job's passes, which has met no full book, and one with what the end has,
-    -- whose passes are of the same gates
+    -- whose passes are of the same gates, and which has met none either where the end says so
     pub record Joins (job : Job I O) (served : ServedJob I O) (before after : NodeOverGates) : Type 0 where
       pub gates : before.shared ≡ shared
       pub passes : before.passes ≡ job.passes
       pub begins : before.count.book_full ≡ false
       pub left : after.passes ≡ served.end.passes
       pub kept : ArePassesOf shared served.end.passes
-      pub full : after.count.book_full ≡ served.book_full
+      pub full : served.book_full ≡ false → after.count.book_full ≡ false
       pub session : MatchResult served.end.result (EndsAtEnd job served.end before after) (EndsAtFault job served.end before after)
 
     -- a session of the job came to this end
@@ -64,7 +67,18 @@ module _ {I O : Type 0} where
     EndsWell job end = Serves job (counted_whole end)
 
   module _ (remaining : I → Option (List ℕ)) (contents : O → Option (List ℕ)) (shared : Gates) where
-    -- a session of the job over the gates counted on from the first numbers to the last, and came to this end
+    -- a session of the job over the gates came to this end; it counted from zero on, and where the book had room for all of that, a worker's
+    -- numbers rose by it from the first to the last
     abbrev pub CountsInSession : Totals → Job I O → Totals → ServedJob I O → Type 0
     CountsInSession first job last served = (before : NodeOverGates) × (after : NodeOverGates)
-        × (before.count.counted ≡ first) × (after.count.counted ≡ last) × Joins GateNodeStep remaining contents shared job served before after
+        × (before.count.counted ≡ zeros) × (served.book_full ≡ false → last ≡ both first after.count.counted)
+        × Joins GateNodeStep remaining contents shared job served before after
+
+    -- the session of the job has come so far, by a node over these gates by the job's passes, which had counted nothing
+    pub record StandsOver (job : Job I O) (sitting : SittingView NodeOverGates I O) : Type 0 where
+      pub first : NodeOverGates
+      pub gates : first.shared ≡ shared
+      pub by_passes : first.passes ≡ job.passes
+      pub unused : first.count ≡ record { counted = zeros; book_full = false }
+      pub reads : sitting.talk.most ≡ shared.reads
+      pub came : Came GateNodeStep first sitting.node (remaining job.reader) (remaining sitting.reader) (contents job.writer) (contents sitting.writer) sitting.stage sitting.talk

@@ -10,14 +10,15 @@
 //! What it costs: what a run of `job_pool` costs, the book's lock once for each answer that is counted, and a thread for each worker. A
 //! tally is one look under a right to read, and a comparison of two numbers for each end.
 //!
-//! How it is built: a worker is a service of `job_pool`, whose state is its share of the book. It makes a node of the job's passes and its
-//! share, serves the session, and takes both back. A share has no bytes; all shares together say what the book's numbers are. After the
+//! How it is built: a session in steps ([`Sitting`]) is a service of `job_pool`. It has a node of its own, over the job's passes and a share of the
+//! book that has counted nothing, and when it is over the worker takes the share back. So what a step changes is that session's alone, and
+//! a worker may have many open. A share has no bytes; all shares together say what the book's numbers are. After the
 //! workers were joined a new pass of each gate looks, and of two passes of a gate the one behind has seen a beginning of what the other has:
 //! so what that look shows is a history of which every session has seen a beginning.
 //!
 //! ```text
-//! jobs a, b, c; two workers                 each begins with a share that has counted nothing
-//! worker 1  serves a, c                     its share: 2 puts, 1 get
+//! jobs a, b, c; two workers                 each session begins with a share that has counted nothing
+//! worker 1  serves a, c                     their shares: 1 put, 1 put and 1 get
 //! worker 2  serves b                        its share: 1 put
 //! Pool::run returns                         ends of a, b, c; 3 puts, 1 get; the tally of each vnode: 3 writes in all
 //! ```
@@ -28,6 +29,8 @@ mod job;
 mod laws;
 mod pool;
 mod server;
+mod sitting;
+mod tray;
 
 pub use closed::Closed;
 pub use gate_node::{Open, Passes, PoolFault, Shared, Turnstile, replies_are_at_positions};
@@ -35,3 +38,4 @@ pub use job::{End, EndRead, EndWrite, Job};
 pub use job_pool::{JobFault, Jobs};
 pub use laws::pool_replies_are_legal;
 pub use pool::Pool;
+pub use sitting::Sitting;

@@ -1,7 +1,7 @@
 //! A run of the pool.
-ghost use Rattle.std.specs.Prelude.{◌≡◌, ◌≤◌, map, vec_len, IfOk, IfErr};
+ghost use Rattle.std.specs.Prelude.{◌≡◌, ◌≤◌, map, IfOk, IfErr};
 ghost use Rattle.job_pool.specs.Giving.{GivesOnly};
-ghost use Rattle.stats_book.specs.Counting.{sum_of};
+ghost use Rattle.stats_book.specs.Counting.{sum_of, zeros};
 ghost use Rattle.stats_book.specs.Holdings.{AllAre};
 ghost use Rattle.gate_node.specs.OneHistory.{ShareHistories};
 ghost use Rattle.worker_pool.specs.Serving.{IsForGates, WereOfRun, counted_whole, end_passes};
@@ -11,14 +11,18 @@ ghost use Rattle.worker_pool.specs.Leaving.{LeavesSource, IsFaultAfter, pool_fau
 use crate::closed::Closed;
 use crate::job::{End, EndRead, EndWrite, Job};
 use crate::server::{ServedJob, Server};
+use crate::tray::{Tray, stocks_of, trays_of};
 use gate_node::{PoolFault, Shared, Turnstile, tallies_of};
 use job_pool::{Finished, Jobs, RunFault};
-use stats_book::{Blanks, Book, Share, close};
+use stats_book::{Blanks, Book, Stock, close_stocks, open_stocks};
 use std::alloc::Global;
 use std::marker::{Brand, PhantomData};
 use std::sync::Wait;
 use std::sync::ledger::Ledger;
 use std::thread::Threads;
+
+/// How many shares the book of a run has: more than there are sessions.
+const SHARES: u64 = 18_446_744_073_709_551_615;
 
 /// Workers that serve connections over the gates of a run.
 pub struct Pool;
@@ -54,13 +58,14 @@ fn whole_ends<I: Drop, O: Drop>(
     Ok(ends)
 }
 
-/// What a run leaves whose workers were joined: the book is closed by all shares, and each vnode looked at.
+/// What a run leaves whose workers were joined: the book is closed by all its stocks, and each vnode looked at.
 fn finish<X, I, O, G, P, D, E, R>(
     rt: &X,
     alloc: Global,
     shared: &Shared,
     book: Book<G, P, D, E, R>,
-    finished: Finished<ServedJob<I, O>, Share<G, P, D, E, R>>,
+    rest: Stock<G, P, D, E, R>,
+    finished: Finished<ServedJob<I, O>, Tray<G, P, D, E, R>>,
 ) -> Result<Closed<I, O>, PoolFault>
 where
     X: Wait,
@@ -71,7 +76,7 @@ where
     D: Ledger,
     E: Ledger,
     R: Ledger,
-    requires all { AllAre (vec_len finished.workers) G.parts P.parts D.parts E.parts R.parts }
+    requires rest { rest ≡ zeros }
     requires passes { WereOfRun shared.now finished.ends.items }
     ensures ends { IfOk result (λ closed.
         map counted_whole closed.ends.items ≡ finished.ends.items) }
@@ -82,9 +87,14 @@ where
 {
     let Finished {
         ends: served,
-        workers: shares,
+        workers: trays,
     } = finished;
-    let totals = close(book, shares);
+    let Ok(stocks) = stocks_of(alloc, trays) else {
+        return Err(PoolFault::NoMemory);
+    };
+    let Some(totals) = close_stocks(book, rest, stocks) else {
+        return Err(PoolFault::NoMemory);
+    };
     let ends = match whole_ends(alloc, served) {
         Ok(ends) => ends,
         Err(fault) => return Err(fault),
@@ -128,14 +138,18 @@ where
     requires deletes { (blanks.deletes.name ≡ D.name) × (blanks.deletes.parts ≡ D.parts) }
     requires refusals { (blanks.refusals.name ≡ E.name) × (blanks.refusals.parts ≡ E.parts) }
     requires reaps { (blanks.reaps.name ≡ R.name) × (blanks.reaps.parts ≡ R.parts) }
-    requires parts { AllAre workers G.parts P.parts D.parts E.parts R.parts }
+    requires parts { AllAre SHARES G.parts P.parts D.parts E.parts R.parts }
     ensures served { IfOk result (λ closed.
         ServesSource I.remaining O.contents shared.now J.gives workers
         jobs.old closed jobs.new) }
     ensures fault { IfErr result (λ fault.
         LeavesSource J.gives I.remaining O.contents shared.now fault jobs.old jobs.new) }
 {
-    let Ok((book, shares)) = Book::<G, P, D, E, R>::new(alloc, workers, blanks) else {
+    let Ok((book, rest, stocks)) = open_stocks::<G, P, D, E, R>(alloc, workers, SHARES, blanks)
+    else {
+        return Err(PoolFault::NoMemory);
+    };
+    let Ok(trays) = trays_of(alloc, stocks) else {
         return Err(PoolFault::NoMemory);
     };
     let server = Server {
@@ -145,8 +159,8 @@ where
         turnstile,
         jobs: PhantomData,
     };
-    match job_pool::run(rt, alloc, &server, jobs, shares) {
-        Ok(finished) => finish(rt, alloc, shared, book, finished),
+    match job_pool::run(rt, alloc, &server, jobs, trays) {
+        Ok(finished) => finish(rt, alloc, shared, book, rest, finished),
         Err(fault) => Err(fault_of(fault)),
     }
 }
@@ -208,7 +222,7 @@ impl Pool {
             jobs,
             workers,
             turnstile,
-            Blanks::new(workers),
+            Blanks::of(SHARES),
         )
     }
 }

@@ -1,8 +1,12 @@
-//! A worker's service: the session of one job over the gates.
+//! A worker's service: sessions over the gates, in steps, each by a node of its own.
+ghost use Rattle.std.specs.Prelude.{◌≡◌, true, false};
+ghost use Rattle.gate_node.specs.Passes.{ArePassesOf};
+
 use crate::job::{End, EndRead, EndWrite, Job};
-use gate_node::{GateNode, Shared, Turnstile};
-use job_pool::Service;
-use node_session::serve;
+use crate::sitting::Sitting;
+use crate::tray::Tray;
+use gate_node::{GateNode, Passes, Shared, Turnstile};
+use job_pool::{Moved, Service};
 use stats_book::{Book, Share};
 use std::alloc::Global;
 use std::marker::PhantomData;
@@ -26,6 +30,18 @@ pub struct Server<'a, X, T, I, O, G: Ledger, P: Ledger, D: Ledger, E: Ledger, R:
     pub(crate) jobs: PhantomData<Job<I, O>>,
 }
 
+/// The share and the passes of a node whose session is over, and whether the book had no room for some of what it was to count.
+fn parts_of<X: Wait, T: Turnstile, G: Ledger, P: Ledger, D: Ledger, E: Ledger, R: Ledger>(
+    node: GateNode<'_, X, T, G, P, D, E, R>,
+) -> (Share<G, P, D, E, R>, Passes, bool)
+    ensures share { result.2 ≡ false → result.0 ≡ node.entry.count.counted }
+    ensures passes { result.1 ≡ node.entry.passes }
+    ensures gates { ArePassesOf node.entry.shared result.1 }
+    ensures full { result.2 ≡ false → node.entry.count.book_full ≡ false }
+{
+    node.parts()
+}
+
 impl<'a, X, T, I, O, G, P, D, E, R> Service for Server<'a, X, T, I, O, G, P, D, E, R>
 where
     X: Wait + Sync,
@@ -42,49 +58,74 @@ where
 
     type End = ServedJob<I, O>;
 
-    type Worker = Share<G, P, D, E, R>;
+    type Worker = Tray<G, P, D, E, R>;
 
-    ghost use Rattle.worker_pool.specs.Serving.{IsForGates, CountsInSession};
+    type Open = Sitting<GateNode<'a, X, T, G, P, D, E, R>, I, O>;
+
+    ghost use Rattle.node_session.specs.Courses.{IsOver};
+    ghost use Rattle.worker_pool.specs.Serving.{IsForGates, CountsInSession, StandsOver};
 
     ghost accepts = { λ server job. IsForGates server.shared.now job };
 
+    ghost stands = { λ server job opened.
+        StandsOver I.remaining O.contents server.shared.now job opened };
+
+    ghost is_over = { λ opened. IsOver opened.stage };
+
     ghost serves = { λ server. CountsInSession I.remaining O.contents server.shared.now };
 
-    fn serve(
+    fn open(
         &self,
         alloc: Global,
-        worker: Share<G, P, D, E, R>,
+        worker: &mut Tray<G, P, D, E, R>,
         job: Job<I, O>,
-    ) -> (Share<G, P, D, E, R>, ServedJob<I, O>) {
+    ) -> Result<Sitting<GateNode<'a, X, T, G, P, D, E, R>, I, O>, Job<I, O>> {
+        let Some(share) = worker.take() else {
+            return Err(job);
+        };
         let Job {
-            mut reader,
-            mut writer,
+            reader,
+            writer,
             passes,
         } = job;
-        let mut node = GateNode::new(
+        let node = GateNode::new(
             self.rt,
             self.shared,
             self.book,
-            worker,
+            share,
             passes,
             self.turnstile,
         );
-        let result = serve(
-            alloc,
-            &mut reader,
-            &mut writer,
-            &mut node,
-            self.shared.reads(),
-        );
+        let reads = self.shared.reads();
+        Ok(Sitting::new(alloc, node, reader, writer, reads))
+    }
+
+    fn step(
+        &self,
+        alloc: Global,
+        worker: &mut Tray<G, P, D, E, R>,
+        opened: &mut Sitting<GateNode<'a, X, T, G, P, D, E, R>, I, O>,
+        may_wait: bool,
+    ) -> Moved {
+        opened.step(alloc, &mut worker.piece, may_wait)
+    }
+
+    fn close(
+        &self,
+        worker: &mut Tray<G, P, D, E, R>,
+        opened: Sitting<GateNode<'a, X, T, G, P, D, E, R>, I, O>,
+    ) -> ServedJob<I, O> {
+        let (result, mut reader, mut writer, node) = opened.parts();
         reader.ended();
         writer.ended();
-        let (share, passes, book_full) = node.parts();
+        let (share, passes, book_full) = parts_of(node);
+        worker.give_back(share);
         let end = End {
             result,
             reader,
             writer,
             passes,
         };
-        (share, ServedJob { end, book_full })
+        ServedJob { end, book_full }
     }
 }

@@ -7,8 +7,5 @@ use Rattle.worker_pool.proofs.pool.finish.Goals as goal
 pub tallies_of-requires : goal.tallies_of-requires
 tallies_of-requires g c =
     let shared = c.args.shared.now in
-    let whole = subst (λ all. WereOfRun shared all) (sym c.in-Ok.ensures.ends) c.requires.passes in
-    subst (λ ends. CallersAreOfRun end_passes shared ends) (sym c.as_slice.ensures.value) (whole_of_run shared c.in-Ok.ends.items whole)
-
-pub returns-in-Ok-tallies_of-clause-totals : goal.returns-in-Ok-tallies_of-clause-totals
-returns-in-Ok-tallies_of-clause-totals g c = c.close-totals.ensures
+    let whole = subst (λ all. WereOfRun shared all) (sym c.in-Ok-whole_ends.ensures.ends) c.requires.passes in
+    subst (λ ends. CallersAreOfRun end_passes shared ends) (sym c.as_slice.ensures.value) (whole_of_run shared c.in-Ok-whole_ends.ends.items whole)
