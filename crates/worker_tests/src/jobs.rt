@@ -1,7 +1,7 @@
 //! What the services and the sources of the tests are, and one run with them.
 ghost use Rattle.std.specs.Prelude.{◌≡◌, ◌<◌};
 
-use job_pool::{Finished, JobFault, Jobs, RunFault, Service, run};
+use job_pool::{Finished, JobFault, Jobs, Moved, RunFault, Service, run};
 use std::alloc::{AllocError, Global};
 use std::sync::Wait;
 use std::test::*;
@@ -30,16 +30,36 @@ impl<'a> Service for Multiplier<'a> {
 
     type Worker = Tally;
 
+    type Open = u32;
+
     ghost use Rattle.std.specs.Prelude.{◌≡◌, ◌*◌, ◌≤◌, ◌%◌, ◌^◌, ⊤};
 
     ghost accepts = { λ service job. ⊤ };
 
+    ghost stands = { λ service job opened. opened ≡ job };
+
+    ghost is_over = { λ opened. ⊤ };
+
     ghost serves = { λ service first job last end. (first.served ≤ last.served)
         × (end ≡ (job * service.factor.now) % 2 ^ 64) };
 
-    fn serve(&self, _alloc: Global, worker: Tally, job: u32) -> (Tally, u64) {
-        let served = worker.served.saturating_add(1);
-        (Tally { served }, u64::from(job).wrapping_mul(*self.factor))
+    fn open(&self, _alloc: Global, _worker: &mut Tally, job: u32) -> Result<u32, u32> {
+        Ok(job)
+    }
+
+    fn step(
+        &self,
+        _alloc: Global,
+        _worker: &mut Tally,
+        _opened: &mut u32,
+        _may_wait: bool,
+    ) -> Moved {
+        Moved::Over
+    }
+
+    fn close(&self, worker: &mut Tally, opened: u32) -> u64 {
+        worker.served = worker.served.saturating_add(1);
+        u64::from(opened).wrapping_mul(*self.factor)
     }
 }
 

@@ -2,7 +2,7 @@
 ghost use Rattle.std.specs.Prelude.{◌≡◌};
 
 use crate::jobs::{Numbers, doubled};
-use job_pool::{JobFault, Jobs, RunFault, Service, run};
+use job_pool::{JobFault, Jobs, Moved, RunFault, Service, run};
 use std::alloc::Global;
 use std::process::Abort;
 use std::sync::Wait;
@@ -95,13 +95,23 @@ impl Service for Counter<'_> {
 
     type Worker = ();
 
+    type Open = u32;
+
     ghost use Rattle.std.specs.Prelude.{⊤};
 
     ghost accepts = { λ service job. ⊤ };
 
+    ghost stands = { λ service job opened. ⊤ };
+
+    ghost is_over = { λ opened. ⊤ };
+
     ghost serves = { λ service first job last end. ⊤ };
 
-    fn serve(&self, _alloc: Global, _worker: (), job: u32) -> ((), u32) {
+    fn open(&self, _alloc: Global, _worker: &mut (), job: u32) -> Result<u32, u32> {
+        Ok(job)
+    }
+
+    fn step(&self, _alloc: Global, _worker: &mut (), _opened: &mut u32, _may_wait: bool) -> Moved {
         for _ in 0..TURNS {
             if self.has_failed.load(Ordering::SeqCst) > 0 {
                 break;
@@ -111,8 +121,12 @@ impl Service for Counter<'_> {
         for _ in 0..TURNS_AFTER {
             thread::yield_now();
         }
+        Moved::Over
+    }
+
+    fn close(&self, _worker: &mut (), opened: u32) -> u32 {
         self.served.fetch_add(1, Ordering::SeqCst);
-        ((), job)
+        opened
     }
 }
 

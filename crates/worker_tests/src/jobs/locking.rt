@@ -1,6 +1,6 @@
 //! A service that waits for a lock, by a handle of its own.
 use crate::jobs::Numbers;
-use job_pool::{Service, run};
+use job_pool::{Moved, Service, run};
 use std::alloc::Global;
 use std::process::Abort;
 use std::sync::{Mutex, Wait};
@@ -21,16 +21,30 @@ impl<'a, T: Wait + Sync> Service for Adder<'a, T> {
 
     type Worker = ();
 
+    type Open = u32;
+
     ghost use Rattle.std.specs.Prelude.{◌≡◌, ⊤};
 
     ghost accepts = { λ service job. ⊤ };
 
+    ghost stands = { λ service job opened. opened ≡ job };
+
+    ghost is_over = { λ opened. ⊤ };
+
     ghost serves = { λ service first job last end. end ≡ job };
 
-    fn serve(&self, _alloc: Global, _worker: (), job: u32) -> ((), u32) {
+    fn open(&self, _alloc: Global, _worker: &mut (), job: u32) -> Result<u32, u32> {
+        Ok(job)
+    }
+
+    fn step(&self, _alloc: Global, _worker: &mut (), opened: &mut u32, _may_wait: bool) -> Moved {
         let mut sum = self.sum.lock(self.rt);
-        *sum = sum.saturating_add(u64::from(job));
-        ((), job)
+        *sum = sum.saturating_add(u64::from(*opened));
+        Moved::Over
+    }
+
+    fn close(&self, _worker: &mut (), opened: u32) -> u32 {
+        opened
     }
 }
 
