@@ -9,3 +9,4 @@ pub mod Histories
 pub mod InHistories
 pub mod Runs
 pub mod LegalRuns
+pub mod Tellers

@@ -25,17 +25,23 @@
 #![tactic(auto)]
 
 mod closed;
+mod end_sink;
+mod host;
 mod job;
 mod laws;
 mod pool;
 mod server;
 mod sitting;
+mod stream_readiness;
+mod teller;
 mod tray;
 
 pub use closed::Closed;
+pub use end_sink::{EndSink, SessionEnd};
 pub use gate_node::{Open, Passes, PoolFault, Shared, Turnstile, replies_are_at_positions};
 pub use job::{End, EndRead, EndWrite, Job};
 pub use job_pool::{JobFault, Jobs};
 pub use laws::pool_replies_are_legal;
 pub use pool::Pool;
 pub use sitting::Sitting;
+pub use stream_readiness::StreamReadiness;

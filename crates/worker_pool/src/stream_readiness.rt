@@ -1,0 +1,26 @@
+//! What a worker waits with that has sessions open.
+use crate::job::{EndRead, EndWrite};
+use job_pool::{Moved, Turn};
+use std::sync::Wait;
+
+/// What a worker of [`Pool::serve`](crate::Pool::serve) waits with, and which of its sessions have their turn: a [`job_pool::Readiness`] that is shown
+/// the streams of a session when it begins.
+///
+/// No clause speaks of that: whichever session has its turn, and when, each comes to the end that `serve` promises.
+pub trait StreamReadiness<R: EndRead, W: EndWrite> {
+    /// Whether a job is to be taken out of the queue now; `is_idle` where no session is open. A worker that has taken its stop mark isn't asked.
+    fn takes(&mut self, is_idle: bool) -> bool;
+
+    /// The session with these streams was opened in this slot, and is to have its first turn.
+    fn begin(&mut self, slot: usize, reader: &R, writer: &W);
+
+    /// The next slot that is to have a turn. None where all that are ready had one.
+    fn next(&mut self) -> Option<Turn>;
+
+    /// What came of the turn of a slot. Behind `Going` the slot is to have a further turn, and behind `Over` it is free.
+    fn after(&mut self, slot: usize, moved: Moved);
+
+    /// Waits until a slot is ready, the bell is rung, or it is time to look. `is_idle` where no session is open. It returns at once where a turn
+    /// is due, or where the bell was rung since it last returned.
+    fn wait<T: Wait>(&mut self, rt: &T, is_idle: bool);
+}
