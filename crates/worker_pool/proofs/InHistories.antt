@@ -50,7 +50,7 @@ module _ (histories : List GateHistory) {I O : Type 0} (remaining : I → Option
       h.1,
     )
 
-  joins_in : (job : Job I O) (served : ServedJob I O) (before after : NodeOverGates) → AllZip IsSeen histories served.end.passes.primaries → Joins GateNodeStep remaining contents shared job served before after → Joins In remaining contents shared job served before after
+  pub joins_in : (job : Job I O) (served : ServedJob I O) (before after : NodeOverGates) → AllZip IsSeen histories served.end.passes.primaries → Joins GateNodeStep remaining contents shared job served before after → Joins In remaining contents shared job served before after
   joins_in job served before after seen h =
       record {
         gates = h.gates;

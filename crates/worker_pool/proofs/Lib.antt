@@ -10,3 +10,6 @@ pub mod InHistories
 pub mod Runs
 pub mod LegalRuns
 pub mod Tellers
+pub mod Stations
+pub mod Gathering
+pub mod Told

@@ -4,15 +4,13 @@ use Rattle.std.proofs.lemmas.List.{map-append}
 use Rattle.std.specs.Prelude.{◌||◌}
 use Rattle.std.specs.List.{AllZip}
 use Rattle.rw_gate.proofs.Prefixes.{prefix_trans}
-use Rattle.rw_gate.specs.Views.{GateId}
-use Rattle.vnode_core.specs.Plans.{View}
 use Rattle.job_pool.specs.Lists.{Every}
 use Rattle.job_pool.specs.declared.worker.NumberedEnd.{NumberedEnd}
 use Rattle.gate_node.specs.Asked.{Sight}
 use Rattle.gate_node.specs.Gates.{Gates}
 use Rattle.gate_node.specs.Merging.{HasSeenAllOf, HaveSeenAllOf}
 use Rattle.gate_node.specs.OneHistory.{IsSeen}
-use Rattle.gate_node.specs.Passes.{ArePassesOf, AllFit}
+use Rattle.gate_node.specs.Passes.{AllFit}
 use Rattle.gate_node.specs.Tallies.{GateHistory}
 use Rattle.worker_pool.specs.declared.end_sink.SessionEnd.{SessionEnd}
 use Rattle.worker_pool.specs.declared.server.ServedJob.{ServedJob}
@@ -49,11 +47,11 @@ seen_less (history ∷ histories) [] less h k = absurd h
 seen_less (history ∷ histories) (p ∷ more) [] h k = absurd k
 seen_less (history ∷ histories) (p ∷ more) (q ∷ less) h k = (record { of_gate = k.0.of_gate ∙ h.0.of_gate; begins = prefix_trans q.prefix p.prefix history.events k.0.begins h.0.begins }, seen_less histories more less h.1 k.1)
 
-or_assoc : (a b c : Bool) → (a || (b || c)) ≡ ((a || b) || c)
+pub or_assoc : (a b c : Bool) → (a || (b || c)) ≡ ((a || b) || c)
 or_assoc true b c = refl
 or_assoc false b c = refl
 
-or_none : (a : Bool) → (a || false) ≡ a
+pub or_none : (a : Bool) → (a || false) ≡ a
 or_none true = refl
 or_none false = refl
 

@@ -35,8 +35,7 @@ impl OfGates for Brand {
 
 /// Serves the jobs of a run over the gates that `H` names, by [`Server`]. All workers share it.
 #[derive(Drop)]
-pub struct Host<'a, H: OfGates, X, T, I, O, G: Ledger, P: Ledger, D: Ledger, E: Ledger, R: Ledger>
-{
+pub struct Host<'a, H: OfGates, X, T, I, O, G: Ledger, P: Ledger, D: Ledger, E: Ledger, R: Ledger> {
     server: Server<'a, X, T, I, O, G, P, D, E, R>,
     of: PhantomData<H>,
 }
@@ -169,11 +168,7 @@ where
         self.streams.takes(is_idle)
     }
 
-    fn begin(
-        &mut self,
-        slot: usize,
-        opened: &Sitting<GateNode<'a, X, T, G, P, D, E, R>, I, O>,
-    ) {
+    fn begin(&mut self, slot: usize, opened: &Sitting<GateNode<'a, X, T, G, P, D, E, R>, I, O>) {
         self.streams.begin(slot, opened.reader(), opened.writer());
     }
 

@@ -22,13 +22,13 @@ use std::sync::ledger::Ledger;
 use std::thread::Threads;
 
 /// How many shares the book of a run has: more than there are sessions.
-const SHARES: u64 = 18_446_744_073_709_551_615;
+pub(crate) const SHARES: u64 = 18_446_744_073_709_551_615;
 
 /// Workers that serve connections over the gates of a run.
 pub struct Pool;
 
 /// The fault of the run below.
-fn fault_of(fault: RunFault) -> PoolFault
+pub(crate) fn fault_of(fault: RunFault) -> PoolFault
     ensures { result ≡ pool_fault fault }
 {
     match fault {

@@ -27,7 +27,7 @@ impl<G: Ledger, P: Ledger, D: Ledger, E: Ledger, R: Ledger> Model for Tray<G, P,
 
 impl<G: Ledger, P: Ledger, D: Ledger, E: Ledger, R: Ledger> Tray<G, P, D, E, R> {
     /// Of a worker that has served nothing, with this stock.
-    fn new(stock: Stock<G, P, D, E, R>) -> Tray<G, P, D, E, R>
+    pub(crate) fn new(stock: Stock<G, P, D, E, R>) -> Tray<G, P, D, E, R>
         ensures { result ≡ stock }
     {
         Tray {
