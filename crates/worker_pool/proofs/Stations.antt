@@ -23,9 +23,9 @@ every_replicate (suc n) x [] is = absurd (cc is)
 every_replicate (suc n) x (y ∷ xs) is = (cc is, every_replicate n x xs (cc is))
 
 module _ {S U T : Type 0} (Z : S → Type 0) (N : U → Type 0) (P Q : T → Type 0) where
-  -- so many stations stand, and so many seats are left
-  abbrev AreStarted : List S → List U → List T → ℕ → Type 0
-  AreStarted left seats stations count = Every Z left × Every N seats × Every P stations × Every Q stations × (length stations + length seats ≡ count)
+  -- so many stations stand, and for each seat that is left a stock is
+  abbrev pub AreStarted : List S → List U → List T → ℕ → Type 0
+  AreStarted left seats stations count = Every Z left × Every N seats × Every P stations × Every Q stations × (length left ≡ length seats) × (length stations + length seats ≡ count)
 
   pub started_more : (left left' : List S) (stock : S) (seats seats' : List U) (seat : U) (stations stations' : List T) (station : T) (count : ℕ)
       → left ≡ left' ++ stock ∷ [] → seats ≡ seat ∷ seats' → stations' ≡ stations ++ station ∷ [] → AreStarted left seats stations count → P station → (Z stock → Q station) → AreStarted left' seats' stations' count
@@ -33,12 +33,14 @@ module _ {S U T : Type 0} (Z : S → Type 0) (N : U → Type 0) (P Q : T → Typ
       let stocks = every_front Z left' stock (subst (Every Z) is h.0) in
       let rest = subst (Every N) next h.1 in
       let sizes : length stations' ≡ length stations + 1 = ap length more ∙ length-append stations (station ∷ []) in
-      let before : length seats ≡ length (seat ∷ seats') = ap length next in (
+      let before : length seats ≡ length (seat ∷ seats') = ap length next in
+      let stocks_before : length left ≡ length left' + 1 = ap length is ∙ length-append left' (stock ∷ []) in (
         stocks.0,
         rest.1,
         subst (Every P) (sym more) (every_more P stations station h.2 new),
         subst (Every Q) (sym more) (every_more Q stations station h.3 (worker stocks.1)),
-        omega (arith, sizes, before, h.4),
+        omega (arith, before, stocks_before, h.4),
+        omega (arith, sizes, before, h.5),
       )
 
 module _ {I O K : Type 0} (told : K → List (NumberedEnd (SessionEnd I O))) (gates : Gates) where

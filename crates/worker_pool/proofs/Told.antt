@@ -1,5 +1,5 @@
 -- What a run that keeps no ends comes to.
-use Rattle.std.proofs.Common.{◌≡◌, ◌∙◌, ◌+◌, ◌⊎◌, ℕ, List, [], ◌∷◌, length, map, refl, sym, ap, subst, inl, inr}
+use Rattle.std.proofs.Common.{arith, ◌≡◌, ◌∙◌, ◌+◌, ◌⊎◌, ℕ, List, [], ◌∷◌, length, map, refl, sym, ap, subst, inl, inr}
 use Rattle.std.proofs.lemmas.List.{map-append, length-map}
 use Rattle.std.proofs.lemmas.List.Elements.{All-head, All-tail}
 use Rattle.std.specs.Prelude.{◌||◌, Bool, true, false, Option, Some, Result, slice_get}
@@ -41,6 +41,12 @@ every_map f P (x ∷ xs) h = (h.0, every_map f P xs h.1)
 every_of_all : {A B : Type 0} (f : A → B) (P : B → Type 0) (xs : List A) → All P (map f xs) → Every (λ (x : A). P (f x)) xs
 every_of_all f P [] h = tt
 every_of_all f P (x ∷ xs) h = (All-head P (f x) (map f xs) h, every_of_all f P xs (All-tail P (f x) (map f xs) h))
+
+pairwise_length : {A B : Type 0} (R : A → B → Type 0) (xs : List A) (ys : List B) → Pairwise R xs ys → length xs ≡ length ys
+pairwise_length R [] [] h = refl
+pairwise_length R [] (y ∷ ys) h = absurd h
+pairwise_length R (x ∷ xs) [] h = absurd h
+pairwise_length R (x ∷ xs) (y ∷ ys) h = let rest = pairwise_length R xs ys h.1 in omega (arith, rest)
 
 or_true : (a b : Bool) → (a || b) ≡ true → (a ≡ true) ⊎ (b ≡ true)
 or_true true b h = inl refl
@@ -120,6 +126,13 @@ module _ {I O : Type 0} where
               totals = left.totals ∙ ap sum_of (sym once.left) ∙ gathered.sums;
             },
           )
+
+      -- there are as many sinks as workers were started
+      pub sinks_count : (host : Gates) (jobs : List (Job I O)) (firsts workers : List Totals) (tellers : List (TellerView I O K)) (given away : ℕ) → ToldOnce (CountsInSession remaining contents host) ends_told jobs firsts workers tellers given away
+          → (served : Served K) → Settles told shared workers tellers given away served → length served.sinks.items ≡ length firsts
+      sinks_count host jobs firsts workers tellers given away once served left =
+          ap length left.sinks ∙ length-map tellers sink_of ∙ sym (pairwise_length (IsTold ends_told jobs) once.shares tellers once.each)
+          ∙ sym (length-map once.shares (λ (share : WorkerTurns Totals (Job I O) (ServedJob I O)). share.first)) ∙ ap length once.began
 
       -- what is left of the source where the run of the workers ends by a fault
       pub leaves_by : (fault : RunFault) → Leaves Gives fault first last → LeavesTold Gives remaining contents shared (pool_fault fault) first last

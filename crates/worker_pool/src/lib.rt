@@ -44,7 +44,7 @@ pub use end_sink::{EndSink, SessionEnd};
 pub use gate_node::{Open, Passes, PoolFault, Shared, Turnstile, replies_are_at_positions};
 pub use job::{End, EndRead, EndWrite, Job};
 pub use job_pool::{JobFault, Jobs};
-pub use laws::pool_replies_are_legal;
+pub use laws::{pool_replies_are_legal, told_replies_are_legal};
 pub use pool::Pool;
 pub use seat::Seat;
 pub use served::Served;

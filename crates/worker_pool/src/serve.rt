@@ -101,6 +101,7 @@ where
     R: Ledger,
     requires of_run { shared.now ≡ H.gates }
     requires zeros { Every (λ stock. stock ≡ zeros) stocks.items }
+    requires count { length stocks.items ≡ length seats.items }
     requires new { Every (IsNewSeat K.told K.has_room) seats.items }
     ensures new { IfOk result (λ stations. Every (IsNew (λ teller. teller.told)
         (λ teller n. K.has_room teller.sink n)) stations.items) }
@@ -113,7 +114,7 @@ where
     let mut stations = Vec::new(alloc);
     for seat in seats {
         let Some(stock) = left.pop() else {
-            return Err(PoolFault::NoMemory);
+            unreachable!()
         };
         let Ok(station) = new_station(alloc, shared, stock, seat) else {
             return Err(PoolFault::NoMemory);
@@ -211,8 +212,8 @@ where
             totals,
             tallies: found.tallies,
             count_all: found.count_all,
-            accepted: given,
-            refused,
+            accepted: given as u64,
+            refused: refused as u64,
             sinks,
         }),
         Err(_) => Err(PoolFault::NoMemory),
@@ -257,11 +258,12 @@ where
     ensures served { IfOk result (λ served.
         TellsSource I.remaining O.contents K.told shared.now J.gives
         jobs.old served jobs.new) }
+    ensures sinks { IfOk result (λ served. length served.sinks.items ≡ length seats.items) }
     ensures fault { IfErr result (λ fault.
         LeavesTold J.gives I.remaining O.contents shared.now fault jobs.old jobs.new) }
 {
     let Ok(workers) = u16::try_from(seats.len()) else {
-        return Err(PoolFault::NoMemory);
+        unreachable!()
     };
     let Ok((book, rest, stocks)) = open_stocks::<G, P, D, E, R>(alloc, workers, SHARES, blanks)
     else {
@@ -331,6 +333,8 @@ impl Pool {
         ensures served { IfOk result (λ served.
             TellsSource I.remaining O.contents K.told shared.now J.gives
             jobs.old served jobs.new) }
+        ensures sinks { IfOk result (λ served.
+            length served.sinks.items ≡ length seats.items) }
         ensures fault { IfErr result (λ fault.
             LeavesTold J.gives I.remaining O.contents shared.now fault jobs.old jobs.new) }
     {

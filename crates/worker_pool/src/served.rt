@@ -12,9 +12,9 @@ pub struct Served<K> {
     /// Whether each of them counts as many commands as the primary's history has entries: then no partition was returned to.
     pub count_all: bool,
     /// How many jobs the source gave.
-    pub accepted: usize,
+    pub accepted: u64,
     /// How many of them were refused for want of memory. Each of the others was served, and a sink was told its end.
-    pub refused: usize,
+    pub refused: u64,
     /// What was told the ends, in the order of the seats.
     pub sinks: Vec<K>,
 }

@@ -1,16 +1,13 @@
-use Rattle.std.proofs.Common.{◌≡◌, ◌+◌, ℕ, length}
+use Rattle.std.proofs.Common.{◌≡◌, ℕ, length}
 use Rattle.std.specs.Vec.Iter.{into_iter_items}
-use Rattle.job_pool.specs.Lists.{Every}
 use Rattle.job_pool.specs.Workers.{IsNew}
 use Rattle.stats_book.specs.Counting.{zeros}
 use Rattle.stats_book.specs.declared.totals.Totals.{Totals}
 use Rattle.worker_pool.specs.Tellers.{IsNewSeat}
+use Rattle.worker_pool.proofs.Stations.{AreStarted}
 use Rattle.worker_pool.proofs.serve.stations_of.Given as goal
 
 abbrev pub invariant-loop-seat : goal.invariant-loop-seat
 invariant-loop-seat g l =
-    Every (λ (stock : Totals). stock ≡ zeros) l.left.items
-    × Every (IsNewSeat g.K.EndSink.told g.K.EndSink.has_room) (into_iter_items l.seat-iterator)
-    × Every (IsNew (λ teller. teller.told) (λ teller (n : ℕ). g.K.EndSink.has_room teller.sink n)) l.stations.items
-    × Every (λ station. station.worker ≡ zeros) l.stations.items
-    × (length l.stations.items + length (into_iter_items l.seat-iterator) ≡ length l.fn.seats.items)
+    AreStarted (λ (stock : Totals). stock ≡ zeros) (IsNewSeat g.K.EndSink.told g.K.EndSink.has_room) (IsNew (λ teller. teller.told) (λ teller (n : ℕ). g.K.EndSink.has_room teller.sink n)) (λ station. station.worker ≡ zeros)
+    l.left.items (into_iter_items l.seat-iterator) l.stations.items (length l.fn.seats.items)
